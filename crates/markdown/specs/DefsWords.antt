@@ -5,7 +5,7 @@
 unfoldable pub use Rattle.markdown_defs.specs.Folding.{case_folding}
 pub use Rattle.markdown_defs.specs.Folding.{Matches, is_match}
 -- definitions
-pub use Rattle.markdown_defs.specs.Definitions.{Labelled, look_up, add_first, HasOtherFolding, AreDistinct}
+pub use Rattle.markdown_defs.specs.Definitions.{Labelled, find_definition, add_first, HasOtherFolding, AreDistinct}
 unfoldable pub use Rattle.markdown_defs.specs.Definitions.{firsts}
 pub use Rattle.markdown_defs.specs.DefinitionsLeft.{definitions_left, with_text, values_of}
 pub use Rattle.markdown_defs.specs.declared.definitions.RefDefsIter.{RefDefsIter}

@@ -237,11 +237,11 @@ pub enum TagEnd {
 }
 
 impl<'a> Tag<'a> {
-    ghost use Rattle.markdown_base.specs.Event.{end_of};
+    ghost use Rattle.markdown_base.specs.Event.{tag_end};
 
     /// Returns what the `End` event of this tag closes.
     pub fn to_end(&self) -> TagEnd
-        ensures { result ≡ end_of (tag_view self.now) }
+        ensures { result ≡ tag_end (tag_view self.now) }
     {
         match self {
             Tag::Paragraph => TagEnd::Paragraph,

@@ -11,8 +11,8 @@ use Rattle.markdown_builder.specs.HeadingsHoldInline.{HeadingsHoldInline}
 use Rattle.markdown_blocks.specs.declared.blocks.Blocks.{Blocks}
 
 -- the text
-abbrev pub block_text : Blocks → List ℕ
-block_text b = b.text.now
+abbrev pub text_of_blocks : Blocks → List ℕ
+text_of_blocks b = b.text.now
 
 -- the options
 abbrev pub block_options : Blocks → Options
@@ -29,8 +29,8 @@ block_parts b = b.parts
 -- b has this text and these options, and is a well-formed block result that covers the text and whose headings hold
 -- inline items alone
 pub record IsOfText (text : List ℕ) (options : Options) (b : Blocks) : Type 0 where
-  pub holds_text : block_text b ≡ text
+  pub holds_text : text_of_blocks b ≡ text
   pub holds_options : block_options b ≡ options
-  pub well_formed : IsWellFormed (block_text b) (block_tree b).nodes (block_parts b)
-  pub covers : Covers (block_text b) (block_tree b).nodes (block_parts b)
+  pub well_formed : IsWellFormed (text_of_blocks b) (block_tree b).nodes (block_parts b)
+  pub covers : Covers (text_of_blocks b) (block_tree b).nodes (block_parts b)
   pub headings_hold_inline : HeadingsHoldInline (tree_of (block_tree b).nodes)

@@ -26,7 +26,7 @@ pub struct Blocks<'a> {
 }
 
 impl<'a> Blocks<'a> {
-    ghost use Rattle.markdown_blocks.specs.Blocks.{block_text, block_options, block_tree, block_parts, IsOfText};
+    ghost use Rattle.markdown_blocks.specs.Blocks.{text_of_blocks, block_options, block_tree, block_parts, IsOfText};
 
     /// Returns the block result that is passed in, if it is well formed: if it keeps nine rules.
     ///
@@ -59,10 +59,10 @@ impl<'a> Blocks<'a> {
         parts: BlockParts<'a>,
     ) -> Result<Blocks<'a>, Fault>
         ensures holds { IfOk result (λ b.
-            (block_text b ≡ text.now) × (block_options b ≡ options)
+            (text_of_blocks b ≡ text.now) × (block_options b ≡ options)
             × (block_tree b ≡ tree) × (block_parts b ≡ parts.entry)) }
         ensures rules { IfOk result (λ b.
-            IsWellFormed (block_text b) (block_tree b).nodes (block_parts b)) }
+            IsWellFormed (text_of_blocks b) (block_tree b).nodes (block_parts b)) }
 
         ensures refused { IfErr result (λ fault.
             fault ≡ Fault.Blocks → IsWellFormed text.now tree.nodes parts.entry → ⊥) }
@@ -87,7 +87,7 @@ impl<'a> Blocks<'a> {
 
     /// Returns the text, the options, the tree and the parts. Allocates nothing.
     pub fn into_parts(self) -> (&'a str, Options, Tree<Item>, BlockParts<'a>)
-        ensures parts { (result.0.now ≡ block_text self.entry) × (result.1 ≡ block_options self.entry)
+        ensures parts { (result.0.now ≡ text_of_blocks self.entry) × (result.1 ≡ block_options self.entry)
             × (result.2 ≡ block_tree self.entry) × (result.3 ≡ block_parts self.entry) }
         ensures rules { IsWellFormed result.0.now result.2.nodes result.3 }
     {

@@ -18,7 +18,7 @@ use Rattle.markdown_brackets.specs.BracketDecision.{closer_ends_at, first_item, 
 use Rattle.markdown_brackets.specs.ChainAhead.{begins_with_closer, first_start, numbers_past, reaches_closer, starts_from}
 use Rattle.markdown_brackets.specs.ChainHeld.{Holds, numbers_of}
 use Rattle.markdown_brackets.specs.Reference.{FoundLabel, reference, collapsed, shortcut, form_at, form_by_label, is_closer, is_opener}
-use Rattle.markdown_brackets.specs.Reference.{label_at, stands_at}
+use Rattle.markdown_brackets.specs.Reference.{bracket_label, stands_at}
 use Rattle.markdown_brackets.specs.WrittenView.{EndsBehind}
 use Rattle.markdown_brackets.specs.declared.footnote.FootnoteStyle.{FootnoteStyle}
 use Rattle.markdown_brackets.proofs.ChainAheadLemmas.{below_is, not_below_is, is_below, is_not_below}
@@ -147,7 +147,7 @@ form_behind style skipped in_table text at next after some =
     by (stands_at at is_opener next && stands_at (at + 1) is_closer after) (stands_at at (λ b. true) next)
   where
     by : (empty starts : Bool) → EndsBehind 0 (if empty then collapsed else if starts
-        then form_by_label at (label_at style skipped in_table (drop at text)) else shortcut)
+        then form_by_label at (bracket_label style skipped in_table (drop at text)) else shortcut)
     by true starts = tt
-    by false true = label_behind at (label_at style skipped in_table (drop at text)) some
+    by false true = label_behind at (bracket_label style skipped in_table (drop at text)) some
     by false false = tt

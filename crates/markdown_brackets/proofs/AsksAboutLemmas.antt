@@ -17,7 +17,7 @@ use Rattle.markdown_base.specs.declared.block_parts.LinkDef.{LinkDef}
 use Rattle.markdown_brackets.specs.BracketDecision.{Around, Becomes, Closing, Decision, Progress, Wikilink, Written, a_footnote, a_link}
 use Rattle.markdown_brackets.specs.BracketDecision.{a_text, a_wikilink, after_look_up, block_text, closer_ends_at, decided, decided_before}
 use Rattle.markdown_brackets.specs.BracketDecision.{first_item, footnote_label, footnote_tried, footnote_used, form_of, inline_link}
-use Rattle.markdown_brackets.specs.BracketDecision.{label_of_opener, lines, link_label, look_up_tried, no_link, one_decided, opener_tried}
+use Rattle.markdown_brackets.specs.BracketDecision.{label_of_opener, lines, link_reference, look_up_tried, no_link, one_decided, opener_tried}
 use Rattle.markdown_brackets.specs.BracketDecision.{own_written, past_second, question_at, reference_written, second_item, spent_by}
 use Rattle.markdown_brackets.specs.BracketDecision.{start_of_first_past, tail_or, target_tried, to_be, tried, wikilink_in, wikilink_opener}
 use Rattle.markdown_brackets.specs.BracketDecision.{wikilink_or_one, wikilink_tried, written}
@@ -28,7 +28,7 @@ use Rattle.markdown_brackets.specs.FootnoteUse.{is_reference}
 use Rattle.markdown_brackets.specs.LeftList.{Split, bracket_taken, inside, is_live, nearest, opens_bracket, wikilink_taken}
 use Rattle.markdown_brackets.specs.LinkTail.{LinkTail, link_tail}
 use Rattle.markdown_brackets.specs.Lookup.{LookedUp, asked, defined_or_asked, finds_nothing, look_up}
-use Rattle.markdown_brackets.specs.Reference.{Form, FoundLabel, collapsed, form_by_label, is_closer, is_opener, label_at}
+use Rattle.markdown_brackets.specs.Reference.{Form, FoundLabel, collapsed, form_by_label, is_closer, is_opener, bracket_label}
 use Rattle.markdown_brackets.specs.Reference.{reference, shortcut, stands_at}
 use Rattle.markdown_brackets.proofs.LabelPairLemmas.{IsLabelFrom, label_from}
 
@@ -57,10 +57,10 @@ look_up_asks defined asks limit answers q = by (limit == 0)
     or_asked None = if_asks asks
 
     by : (b : Bool)
-        → let found : LookedUp = defined_or_asked asks limit answers q (definitions.look_up q.reference defined) in
+        → let found : LookedUp = defined_or_asked asks limit answers q (definitions.find_definition q.reference defined) in
         AtMostOneTo q.span.end (cond b (finds_nothing limit answers []) found).questions
     by true = tt
-    by false = or_asked (definitions.look_up q.reference defined)
+    by false = or_asked (definitions.find_definition q.reference defined)
 
 -- what reading asked, which ends it used up, and what is left of the limit
 pub record Told : Type 0 where
@@ -86,7 +86,7 @@ module _ {A : Type 0} (w : Around) (c : Closing A) where
   abbrev Ways : Written → Type 0
   Ways no_link = Unit {0}
   Ways (inline_link t) = Unit {0}
-  Ways (link_label link_type label end next) = IsFull link_type end ⊎ IsOwn link_type end
+  Ways (link_reference link_type label end next) = IsFull link_type end ⊎ IsOwn link_type end
   Ways (footnote_label name) = Unit {0}
 
   own_ways : (link_type : LinkType) (next : ℕ) (own : Option FoundLabel)
@@ -95,7 +95,7 @@ module _ {A : Type 0} (w : Around) (c : Closing A) where
   own_ways link_type next None keeps could = tt
   own_ways link_type next (Some l) keeps could = by l.is_footnote
     where
-      by : (b : Bool) → Ways (if b then footnote_label l.name else link_label link_type l.name (end_of c.label) next)
+      by : (b : Bool) → Ways (if b then footnote_label l.name else link_reference link_type l.name (end_of c.label) next)
       by true = tt
       by false = inr (record { keeps = keeps; itself = refl; could = could })
 
@@ -103,7 +103,7 @@ module _ {A : Type 0} (w : Around) (c : Closing A) where
       → Ways (reference_written c.could_be_reference (end_of c.label) (λ i. closer_ends_at i c.rest) own form)
   reference_ways own (reference label to) e = by (closer_ends_at to c.rest)
     where
-      by : (b : Bool) → Ways (if b then link_label kind.Reference label to to else no_link)
+      by : (b : Bool) → Ways (if b then link_reference kind.Reference label to to else no_link)
       by true = inl (record { spends = λ spent. refl; label = label; form = e })
       by false = tt
   reference_ways own collapsed e = by c.could_be_reference refl
@@ -210,7 +210,7 @@ module _ {A : Type 0} (w : Around) (c : Closing A) where
   tried_told : (o : Split A) (x : Written) (p : Progress A) → Ways x → Asks (told_by p) (told_by (tried w o x p).progress)
   tried_told o no_link p h = asks_none (told_by p)
   tried_told o (inline_link t) p h = asks_none (told_by p)
-  tried_told o (link_label link_type label end next) p h = looked_told o link_type label end next p h
+  tried_told o (link_reference link_type label end next) p h = looked_told o link_type label end next p h
   tried_told o (footnote_label name) p h = subst (Asks (told_by p)) (sym (footnote_told o name p)) (asks_none (told_by p))
 
   opener_told : (o : Option (Split A)) (p : Progress A) → Asks (told_by p) (told_by (opener_tried w c o p).progress)
@@ -274,7 +274,7 @@ module _ {A : Type 0} (w : Around) (c : Closing A) where
       after = second_item c.rest
 
       found : Option FoundLabel
-      found = label_at (footnote_style w.setting.rules.options) (lines w) w.above.in_table (drop from (block_text w))
+      found = bracket_label (footnote_style w.setting.rules.options) (lines w) w.above.in_table (drop from (block_text w))
 
       by_label : (o : Option FoundLabel) → found ≡ o → form_by_label from o ≡ reference label end
           → IsLabelFrom (lines w) (block_text w) from end

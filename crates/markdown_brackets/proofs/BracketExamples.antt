@@ -10,7 +10,7 @@ use Rattle.markdown_base.specs.declared.item.ItemBody.TheVariants as body
 use Rattle.markdown_base.specs.declared.tag.LinkType.TheVariants as kind
 use Rattle.markdown_document.specs.Document.{Shape, leaf, enclosed, Plain, label_of}
 use Rattle.markdown_document.specs.Tables.{no_tables}
-use Rattle.markdown_brackets.specs.BracketDecision.{Around, Progress, used_once_more}
+use Rattle.markdown_brackets.specs.BracketDecision.{Around, Progress, uses_once_more}
 use Rattle.markdown_brackets.specs.ClosingBracket.{closed}
 use Rattle.markdown_brackets.specs.BracketDecision.{decided}
 use Rattle.markdown_brackets.specs.LeftList.{done, trees_onto}
@@ -161,7 +161,7 @@ unfolding read_chain closed decided
 footnote_ranges = refl
 
 -- uses are counted
-used_twice : (progress 4 false 100 [] (codes "[^a] [^a]")).known.uses ≡ used_once_more (codes "a") (used_once_more (codes "a") (λ name. 0))
+used_twice : (progress 4 false 100 [] (codes "[^a] [^a]")).known.uses ≡ uses_once_more (codes "a") (uses_once_more (codes "a") (λ name. 0))
 unfolding read_chain closed decided
 used_twice = refl
 

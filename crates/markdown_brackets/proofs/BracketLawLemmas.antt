@@ -15,14 +15,14 @@ use Rattle.markdown_base.specs.EnabledOptions.{wikilinks_on}
 use Rattle.markdown_brackets.specs.BracketOptions.{footnote_style}
 use Rattle.markdown_brackets.specs.BracketDecision.{Around, Closing, Progress, Wikilink, footnote_used, footnote_tried, target_tried}
 use Rattle.markdown_brackets.specs.BracketDecision.{after_look_up, look_up_tried, question_at, inline_target, spent_by, Written, no_link}
-use Rattle.markdown_brackets.specs.BracketDecision.{inline_link, link_label, footnote_label, written, tried, opener_tried, wikilink_in}
+use Rattle.markdown_brackets.specs.BracketDecision.{inline_link, link_reference, footnote_label, written, tried, opener_tried, wikilink_in}
 use Rattle.markdown_brackets.specs.BracketDecision.{past_second, wikilink_or_one, wikilink_tried, wikilink_opener, Decision, one_decided}
 use Rattle.markdown_brackets.specs.BracketDecision.{decided_before, decided, to_be, a_text, a_link, a_footnote}
 use Rattle.markdown_brackets.specs.ClosingBracket.{put_decided, closed}
 use Rattle.markdown_brackets.specs.FootnoteUse.{is_reference}
 use Rattle.markdown_brackets.specs.LeftList.{Entry, Split, is_live, nearest, opens_bracket, inside, bracket_taken, wikilink_taken}
 use Rattle.markdown_brackets.specs.Lookup.{LookedUp, look_up}
-use Rattle.markdown_brackets.specs.ReadChain.{Reader, opened, closing, read_as, read, read_past, read_chain}
+use Rattle.markdown_brackets.specs.ReadChain.{Reader, opened, closing_of, read_as, read, read_past, read_chain}
 use Rattle.markdown_brackets.specs.Reference.{is_closer}
 use Rattle.markdown_brackets.proofs.LookupLawsLemmas.{LooksOn, looks_on}
 
@@ -135,7 +135,7 @@ module _ {A : Type 0} (w : Around) (c : Closing A) where
   written_law : (o : Split A) (x : Written) (p : Progress A) → Asks (tried w o x) p
   written_law o no_link p = text_law p
   written_law o (inline_link t) p = link_law o (inline_target w t) t.ends t.ends p
-  written_law o (link_label link_type label end next) p = spent_law link_type label end next o p
+  written_law o (link_reference link_type label end next) p = spent_law link_type label end next o p
   written_law o (footnote_label name) p = footnote_law o name p
 
   opener_law : (o : Option (Split A)) (p : Progress A) → Asks (opener_tried w c o) p
@@ -222,7 +222,7 @@ module _ {A : Type 0} (w : Around) (others : Reader A) (rule : (a : Label A) (be
   read_as_law body.MaybeLinkOpen a below rest p = (asks_none (opened w false a rest) p refl refl (λ later. refl)).hands_on
   read_as_law body.MaybeImage a below rest p = (asks_none (opened w true a rest) p refl refl (λ later. refl)).hands_on
   read_as_law (body.MaybeLinkClose could) a below rest p =
-      let r = (closed_law w (closing could a rest p) p).hands_on in
+      let r = (closed_law w (closing_of could a rest p) p).hands_on in
       record { asks = r.asks; takes = r.takes; hands_on = r.hands_on }
   read_as_law other a below rest p = rule a below rest p
 

@@ -13,15 +13,15 @@ use Rattle.markdown_document.specs.Document.{Label, as_text}
 use Rattle.markdown_document.specs.Labels.{retag, retagged}
 use Rattle.markdown_document.specs.ChainRest.{begun_at, past_byte, start_of, end_of, open_body}
 use Rattle.markdown_brackets.specs.BracketDecision.{Around, Becomes, Closing, Decision, Progress, Wikilink, Written, a_footnote, a_link}
-use Rattle.markdown_brackets.specs.BracketDecision.{a_text, a_wikilink, after_look_up, block_text, children_of, closer_ends_at, decided}
+use Rattle.markdown_brackets.specs.BracketDecision.{a_text, a_wikilink, after_look_up, block_text, shown_children, closer_ends_at, decided}
 use Rattle.markdown_brackets.specs.BracketDecision.{decided_before, first_item, footnote_label, footnote_tried, footnote_used, form_of}
-use Rattle.markdown_brackets.specs.BracketDecision.{if_some, inline_link, is_next, lines, link_label, look_up_tried, no_link, one_decided}
+use Rattle.markdown_brackets.specs.BracketDecision.{if_some, inline_link, is_next, lines, link_reference, look_up_tried, no_link, one_decided}
 use Rattle.markdown_brackets.specs.BracketDecision.{opener_tried, past_second, question_at, reference_written, second_item, spent_by}
 use Rattle.markdown_brackets.specs.BracketDecision.{start_of_first_past, target_tried, to_be, tried, wikilink_by, wikilink_in}
 use Rattle.markdown_brackets.specs.BracketDecision.{wikilink_opener, wikilink_or_one, wikilink_tried, written, tail_or, label_of_opener}
 use Rattle.markdown_base.specs.EnabledOptions.{wikilinks_on}
 use Rattle.markdown_brackets.specs.BracketOptions.{footnote_style}
-use Rattle.markdown_brackets.specs.BracketTags.{Follows, TagLaw, retag_entry, retag_left, retag_progress}
+use Rattle.markdown_brackets.specs.BracketTags.{ReaderFollows, BracketTagLaw, retag_entry, retag_left, retag_progress}
 use Rattle.markdown_brackets.specs.ClosingBracket.{closed, footnote_onto, linked, put, put_decided, wikilink_target}
 use Rattle.markdown_brackets.specs.FootnoteUse.{is_reference}
 use Rattle.markdown_brackets.specs.LeftList.{Entry, Mark, Split, before_footnote, before_link, before_wikilink, behind, bracket_taken}
@@ -30,7 +30,7 @@ use Rattle.markdown_brackets.specs.LeftList.{opens_bracket, opens_wikilink, seco
 use Rattle.markdown_brackets.specs.LeftList.{without_bracket, without_wikilink}
 use Rattle.markdown_brackets.specs.LinkTail.{LinkTail, link_tail}
 use Rattle.markdown_brackets.specs.Lookup.{LookedUp, look_up}
-use Rattle.markdown_brackets.specs.ReadChain.{Reader, closing, opened, read, read_as, read_chain, read_past}
+use Rattle.markdown_brackets.specs.ReadChain.{Reader, closing_of, opened, read, read_as, read_chain, read_past}
 use Rattle.markdown_brackets.specs.Reference.{FoundLabel, Form, form_at, is_closer, is_opener}
 use Rattle.markdown_brackets.specs.Wikilink.{Shows, WikilinkBody, has_pothole, shows_from, shows_name, shows_nothing, wikilink_body}
 
@@ -221,7 +221,7 @@ module _ {A B : Type 0} (f : A → B) where
         ≡ retag_decision (tried w o x p)
     tried_retag o no_link p = refl
     tried_retag o (inline_link t) p = refl
-    tried_retag o (link_label link_type label end next) p = look_up_retag o link_type label end next
+    tried_retag o (link_reference link_type label end next) p = look_up_retag o link_type label end next
         (record p { spent = spent_by link_type end p.spent })
     tried_retag o (footnote_label name) p = footnote_retag o name p
 
@@ -252,7 +252,7 @@ module _ {A B : Type 0} (f : A → B) where
     if_some_retag (node a below after) = refl
 
     children_retag : (first : Label A) (trees : Forest (Label A)) (end : ℕ) (shows : Shows)
-        → children_of w (retag f first) (retagged f trees) end shows ≡ option_map (retagged f) (children_of w first trees end shows)
+        → shown_children w (retag f first) (retagged f trees) end shows ≡ option_map (retagged f) (shown_children w first trees end shows)
     children_retag first trees end shows_name = refl
     children_retag first trees end (shows_nothing at) = refl
     children_retag first trees end (shows_from at) = ap if_some (past_byte_retag at trees) ∙ if_some_retag (past_byte at trees)
@@ -267,7 +267,7 @@ module _ {A B : Type 0} (f : A → B) where
         ≡ option_map retag_wikilink (option_and_then (wikilink_by w first trees end) b)
     body_retag first trees end None = refl
     body_retag first trees end (Some b) =
-        ap (option_map (shown_as b)) (children_retag first trees end b.shows) ∙ shown_retag b (children_of w first trees end b.shows)
+        ap (option_map (shown_as b)) (children_retag first trees end b.shows) ∙ shown_retag b (shown_children w first trees end b.shows)
 
     pub wikilink_in_retag : (trees : Forest (Label A)) (end : ℕ) → wikilink_in w (retagged f trees) end
         ≡ option_map retag_wikilink (wikilink_in w trees end)
@@ -374,9 +374,9 @@ module _ {A B : Type 0} (f : A → B) where
 
     -- a `]` of a chain
     pub closing_retag : (could : Bool) (a : Label A) (rest : Forest (Label A)) (p : Progress A)
-        → closed w (closing could (retag f a) (retagged f rest) (retag_progress f p)) (retag_progress f p)
-        ≡ retag_progress f (closed w (closing could a rest p) p)
-    closing_retag could a rest p = closed_retag (closing could a rest p) p
+        → closed w (closing_of could (retag f a) (retagged f rest) (retag_progress f p)) (retag_progress f p)
+        ≡ retag_progress f (closed w (closing_of could a rest p) p)
+    closing_retag could a rest p = closed_retag (closing_of could a rest p) p
 
     pub opened_retag : (is_image : Bool) (a : Label A) (rest : Forest (Label A)) (p : Progress A)
         → opened w is_image (retag f a) (retagged f rest) (retag_progress f p) ≡ retag_progress f (opened w is_image a rest p)
@@ -392,13 +392,13 @@ module _ {A B : Type 0} (f : A → B) where
         }) (is_next_retag is_opener rest)
 
     -- a chain
-    module _ (others : Reader A) (others' : Reader B) (follows : Follows f others others') where
+    module _ (others : Reader A) (others' : Reader B) (follows : ReaderFollows f others others') where
       pub read_as_retag : (b : ItemBody) (a : Label A) (below rest : Forest (Label A)) (p : Progress A)
           → read_as w others' b (retag f a) (retagged f below) (retagged f rest) (retag_progress f p)
           ≡ retag_progress f (read_as w others b a below rest p)
       read_as_retag body.MaybeLinkOpen a below rest p = opened_retag false a rest p
       read_as_retag body.MaybeImage a below rest p = opened_retag true a rest p
-      read_as_retag (body.MaybeLinkClose could) a below rest p = closed_retag (closing could a rest p) p
+      read_as_retag (body.MaybeLinkClose could) a below rest p = closed_retag (closing_of could a rest p) p
       read_as_retag other a below rest p = follows a below rest p
 
       pub read_past_retag : (goes_on : Option ℕ) (a : Label A) (below rest : Forest (Label A)) (p : Progress A)
@@ -421,5 +421,5 @@ module _ {A B : Type 0} (f : A → B) where
           ap (read_chain w others' (retagged f rest)) (read_past_retag p.goes_on a below rest p)
           ∙ read_chain_retag rest (read_past w others p.goes_on a below rest p)
 
-pub tag_law : {A B : Type 0} → TagLaw A B
+pub tag_law : {A B : Type 0} → BracketTagLaw A B
 tag_law f w others others' follows chain p = read_chain_retag f w others others' follows chain p

@@ -11,7 +11,7 @@ use Rattle.markdown_document.specs.Document.{Label}
 use Rattle.markdown_document.specs.ChainRest.{begun_at, end_of, open_body, start_of}
 use Rattle.markdown_brackets.specs.BracketDecision.{Around, Becomes, Closing, Decision, Progress, Wikilink, Written, a_footnote, a_link}
 use Rattle.markdown_brackets.specs.BracketDecision.{a_text, a_wikilink, after_look_up, decided, decided_before, footnote_label}
-use Rattle.markdown_brackets.specs.BracketDecision.{footnote_tried, footnote_used, inline_link, link_label, look_up_tried, no_link}
+use Rattle.markdown_brackets.specs.BracketDecision.{footnote_tried, footnote_used, inline_link, link_reference, look_up_tried, no_link}
 use Rattle.markdown_brackets.specs.BracketDecision.{one_decided, opener_tried, past_second, question_at, spent_by, target_tried, to_be}
 use Rattle.markdown_brackets.specs.BracketDecision.{tried, wikilink_in, wikilink_opener, wikilink_or_one, wikilink_tried, written}
 use Rattle.markdown_base.specs.EnabledOptions.{wikilinks_on}
@@ -20,7 +20,7 @@ use Rattle.markdown_brackets.specs.ClosingBracket.{closed, put}
 use Rattle.markdown_brackets.specs.FootnoteUse.{is_reference}
 use Rattle.markdown_brackets.specs.LeftList.{Split, bracket_taken, inside, is_live, nearest, opens_bracket, wikilink_taken}
 use Rattle.markdown_brackets.specs.Lookup.{LookedUp, look_up}
-use Rattle.markdown_brackets.specs.ReadChain.{Reader, closing, opened, read, read_as, read_chain, read_past}
+use Rattle.markdown_brackets.specs.ReadChain.{Reader, closing_of, opened, read, read_as, read_chain, read_past}
 use Rattle.markdown_brackets.specs.Reference.{is_closer}
 
 -- what was asked is what was asked before, and then more
@@ -73,7 +73,7 @@ module _ {A : Type 0} (w : Around) (c : Closing A) where
   tried_asks : (o : Split A) (x : Written) (p : Progress A) → AsksMore (tried w o x p).progress p
   tried_asks o no_link p = asks_nothing p p refl
   tried_asks o (inline_link t) p = asks_nothing p p refl
-  tried_asks o (link_label link_type label end next) p = spent_asks o link_type label end next p
+  tried_asks o (link_reference link_type label end next) p = spent_asks o link_type label end next p
   tried_asks o (footnote_label name) p = footnote_asks o name p
 
   opener_asks : (o : Option (Split A)) (p : Progress A) → AsksMore (opener_tried w c o p).progress p
@@ -133,7 +133,7 @@ module _ {A : Type 0} (w : Around) (others : Reader A) (rule : (a : Label A) (be
       → AsksMore (read_as w others b a below rest p) p
   read_as_asks body.MaybeLinkOpen a below rest p = asks_nothing (opened w false a rest p) p refl
   read_as_asks body.MaybeImage a below rest p = asks_nothing (opened w true a rest p) p refl
-  read_as_asks (body.MaybeLinkClose could) a below rest p = closed_asks w (closing could a rest p) p
+  read_as_asks (body.MaybeLinkClose could) a below rest p = closed_asks w (closing_of could a rest p) p
   read_as_asks other a below rest p = rule a below rest p
 
   pub read_past_asks : (goes_on : Option ℕ) (a : Label A) (below rest : Forest (Label A)) (p : Progress A)

@@ -16,7 +16,7 @@ use Rattle.markdown_brackets.specs.ClosingBracket.{footnote_onto}
 use Rattle.markdown_brackets.specs.LeftList.{Entry, Mark, Split, before_footnote, before_link, behind, change_nearest, disabled_mark, done}
 use Rattle.markdown_brackets.specs.LeftList.{nearest, on_marks, opens_bracket, opens_wikilink, second_folded, trees_onto, waits}
 use Rattle.markdown_brackets.specs.LeftList.{without_bracket, without_wikilink}
-use Rattle.markdown_brackets.specs.ReadChain.{Reader, begun, closing, read, read_as, read_chain, read_past}
+use Rattle.markdown_brackets.specs.ReadChain.{Reader, begun, closing_of, read, read_as, read_chain, read_past}
 use Rattle.markdown_brackets.proofs.ClosingBracketLemmas.{Cases, in_each_case, some_of}
 
 -- what is added after a tree does not change how the trees begin: so a rule that adds more trees keeps the first one
@@ -132,7 +132,7 @@ module _ {A : Type 0} (w : Around) (test : Shape → Bool) (events : (e : EventV
     first_put body.MaybeLinkOpen a below rest known h = events _ _
     first_put body.MaybeImage a below rest known h = events _ _
     first_put (body.MaybeLinkClose could) a below rest known h =
-        in_each_case w (closing could a rest (begun known)) (First ⊤) (First ⊥) (first_cases (closing could a rest (begun known)))
+        in_each_case w (closing_of could a rest (begun known)) (First ⊤) (First ⊥) (first_cases (closing_of could a rest (begun known)))
         (begun known) tt
     first_put other a below rest known h = first-from_trees (others a below rest (begun known)).left nil (rule.puts a below rest known h)
 
@@ -142,7 +142,7 @@ module _ {A : Type 0} (w : Around) (test : Shape → Bool) (events : (e : EventV
     first_kept body.MaybeLinkOpen a below rest p h = first_or p.left (λ k. events _ _) h
     first_kept body.MaybeImage a below rest p h = first_or p.left (λ k. events _ _) h
     first_kept (body.MaybeLinkClose could) a below rest p h =
-        in_each_case w (closing could a rest p) (First ⊤) (First ⊥) (first_cases (closing could a rest p)) p (first_or p.left (λ k. tt) h)
+        in_each_case w (closing_of could a rest p) (First ⊤) (First ⊥) (first_cases (closing_of could a rest p)) p (first_or p.left (λ k. tt) h)
     first_kept other a below rest p h = first-from_trees (others a below rest p).left nil
         (rule.keeps a below rest p (first-trees p.left nil h))
 

@@ -10,7 +10,7 @@ use Rattle.markdown_base.specs.EnabledOptions.{wikilinks_on}
 use Rattle.markdown_brackets.specs.BracketOptions.{footnote_style}
 use Rattle.markdown_brackets.specs.BracketDecision.{Around, Closing, Progress, Wikilink, footnote_used, footnote_tried, target_tried}
 use Rattle.markdown_brackets.specs.BracketDecision.{after_look_up, look_up_tried, question_at, inline_target, spent_by, Written, no_link}
-use Rattle.markdown_brackets.specs.BracketDecision.{inline_link, link_label, footnote_label, written, tried, opener_tried, wikilink_in}
+use Rattle.markdown_brackets.specs.BracketDecision.{inline_link, link_reference, footnote_label, written, tried, opener_tried, wikilink_in}
 use Rattle.markdown_brackets.specs.BracketDecision.{past_second, wikilink_or_one, wikilink_tried, wikilink_opener, one_decided}
 use Rattle.markdown_brackets.specs.BracketDecision.{decided_before, decided, to_be, a_text, a_footnote}
 use Rattle.markdown_brackets.specs.ClosingBracket.{linked, footnote_onto, wikilink_target, put_decided, closed}
@@ -68,7 +68,7 @@ module _ {A : Type 0} (w : Around) (c : Closing A) (before after : List (Entry A
     after_written : (x : Written) (p : Progress A) → before p.left → after (put_decided w c (tried w o x p)).left
     after_written no_link p g = k.text p.left g
     after_written (inline_link t) p g = k.link left o (inline_target w t) t.ends h found live
-    after_written (link_label link_type label end next) p g =
+    after_written (link_reference link_type label end next) p g =
         after_looking_up link_type label end next (record p { spent = spent_by link_type end p.spent }) g
     after_written (footnote_label name) p g = after_footnote name p g
 

@@ -14,7 +14,7 @@ use Rattle.markdown_defs.specs.Footnotes as footnotes
 use Rattle.markdown_defs.specs.declared.footnotes.FootnoteDefs.{FootnoteDefs}
 use Rattle.markdown_brackets.specs.BracketDecision.{footnote_used, to_be, Around, Becomes, Decision, Progress, a_text, a_link, a_footnote}
 use Rattle.markdown_brackets.specs.BracketDecision.{after_look_up, inline_target, question_at, spent_by, target_tried, tried, no_link}
-use Rattle.markdown_brackets.specs.BracketDecision.{inline_link, link_label, footnote_label}
+use Rattle.markdown_brackets.specs.BracketDecision.{inline_link, link_reference, footnote_label}
 use Rattle.markdown_brackets.specs.BracketOptions.{footnote_style}
 use Rattle.markdown_brackets.specs.FootnoteUse.{is_reference}
 use Rattle.markdown_brackets.specs.declared.footnote.FootnoteStyle.{FootnoteStyle}
@@ -38,7 +38,7 @@ use Rattle.markdown_brackets.specs.declared.written.Written.TheVariants.{Nothing
 use Rattle.markdown_brackets.specs.LeftList.{Split}
 use Rattle.markdown_brackets.specs.LinkTail as scanned
 use Rattle.markdown_brackets.specs.Lookup.{LookedUp, answered, asked, defined_or_asked, finds_nothing, look_up, unknown}
-use Rattle.markdown_brackets.specs.LookupView.{LooksUp, question}
+use Rattle.markdown_brackets.specs.LookupView.{LooksUp, question_about}
 use Rattle.markdown_brackets.specs.TargetOrigins.{IsLookedUp, IsTargetFrom}
 use Rattle.markdown_brackets.specs.declared.closing_bracket.ClosedBracket.{ClosedBracket}
 use Rattle.markdown_brackets.specs.declared.closing_bracket.ClosedBracket.TheVariants.{Text, Link, Footnote as ClosedFootnote, Wikilinked}
@@ -82,9 +82,9 @@ none_inline defined asks limit answers q h = by_limit (limit == 0)
 
     by_limit : (none : Bool)
         → IsNoInline (if none then finds_nothing limit answers [] else defined_or_asked asks limit answers q
-        (definitions.look_up q.reference defined)).target
+        (definitions.find_definition q.reference defined)).target
     by_limit true = tt
-    by_limit false = by_definition (definitions.look_up q.reference defined)
+    by_limit false = by_definition (definitions.find_definition q.reference defined)
 
 -- so nothing is said of its title
 none_from : (source : List ℕ) (start end : ℕ) (target : Target) → IsLookedUp target.link_type → IsTargetFrom source start end target
@@ -155,7 +155,7 @@ module _ {C : Type 0} (step : C → Question → Option Answer → C → Type 0)
       → LooksUp step w.setting.rules.definitions w.setting.rules.asks (question_at o link_type label end) limit limit' callback callback'
       target
       → IsLinkOr (opener_of o) end next target found → IsLookedUp link_type
-      → ComesTo step w (tried w o (link_label link_type label end next)) (spent_by link_type end []) limit limit' uses uses callback
+      → ComesTo step w (tried w o (link_reference link_type label end next)) (spent_by link_type end []) limit limit' uses uses callback
       callback' found
   comes_to_reference link_type label end next limit' callback' target found looks is kind = record {
     answers = looks.answers;
@@ -252,7 +252,7 @@ module _ {C : Type 0} (step : C → Question → Option Answer → C → Type 0)
       → ComesTo step w (tried w o x) (spent_in x) limit limit uses uses callback callback Text
   comes_read_nothing no_link limit uses callback h = comes_to_text step w o limit uses callback
   comes_read_nothing (inline_link t) limit uses callback h = absurd h
-  comes_read_nothing (link_label a b d e) limit uses callback h = absurd h
+  comes_read_nothing (link_reference a b d e) limit uses callback h = absurd h
   comes_read_nothing (footnote_label a) limit uses callback h = absurd h
 
   pub comes_read_inline : (x : decision.Written) (limit : ℕ) (uses : List ℕ → ℕ) (callback : Option C) (tail : LinkTail)
@@ -262,7 +262,7 @@ module _ {C : Type 0} (step : C → Question → Option Answer → C → Type 0)
       → ComesTo step w (tried w o x) (spent_in x) limit limit uses uses callback callback found
   comes_read_inline no_link limit uses callback tail found h is = absurd h
   comes_read_inline (inline_link t) limit uses callback tail found h is = comes_to_inline step w o limit uses callback t found (is t h)
-  comes_read_inline (link_label a b d e) limit uses callback tail found h is = absurd h
+  comes_read_inline (link_reference a b d e) limit uses callback tail found h is = absurd h
   comes_read_inline (footnote_label a) limit uses callback tail found h is = absurd h
 
   pub comes_read_label : (x : decision.Written) (limit limit' : ℕ) (uses : List ℕ → ℕ) (callback callback' : Option C)
@@ -270,7 +270,7 @@ module _ {C : Type 0} (step : C → Question → Option Answer → C → Type 0)
       (target : Option LinkView) (found : ClosedBracket)
       → IsRead in_table x (Label link_type label end next)
       → w.setting.rules.definitions ≡ definitions → w.setting.rules.asks ≡ asks → opener ≡ opener_of o → start_of o.opener ≡ start
-      → LooksUp step definitions asks (question (record { start = start; end = end }) link_type label) limit limit' callback callback'
+      → LooksUp step definitions asks (question_about (record { start = start; end = end }) link_type label) limit limit' callback callback'
       target
       → IsLinkOr opener end next target found → IsLookedUp link_type
       → ComesTo step w (tried w o x) (spent_in x) limit limit' uses uses callback callback' found
@@ -279,7 +279,7 @@ module _ {C : Type 0} (step : C → Question → Option Answer → C → Type 0)
       absurd h
   comes_read_label (footnote_label a) limit limit' uses callback callback' lt l e n start opener d asks target found h hd ha ho hs looks is
       k = absurd h
-  comes_read_label (link_label kind label end next) limit limit' uses callback callback' lt l e n start opener d asks target found h hd ha
+  comes_read_label (link_reference kind label end next) limit limit' uses callback callback' lt l e n start opener d asks target found h hd ha
       ho hs looks is k =
       comes_to_reference step w o limit uses callback kind label end next limit' callback' target found
       (rw (hd, ha, hs, ← h.0, ← h.1, ← h.2) looks) (rw (← ho, ← h.2, ← h.3) is) (subst IsLookedUp h.0 k)
@@ -296,7 +296,7 @@ module _ {C : Type 0} (step : C → Question → Option Answer → C → Type 0)
       → ComesTo step w (tried w o x) (spent_in x) limit limit (uses_of old) (uses_of new) callback callback found
   comes_read_footnote no_link limit callback old new name how opener found h hd hs ho counted is = absurd h
   comes_read_footnote (inline_link t) limit callback old new name how opener found h hd hs ho counted is = absurd h
-  comes_read_footnote (link_label a b d e) limit callback old new name how opener found h hd hs ho counted is = absurd h
+  comes_read_footnote (link_reference a b d e) limit callback old new name how opener found h hd hs ho counted is = absurd h
   comes_read_footnote (footnote_label read) limit callback old new name how opener found h hd hs ho counted is =
       subst (λ n. ComesTo step w (tried w o (footnote_label n)) [] limit limit (uses_of old) (uses_of new) callback callback found) h
       (by (is_reference how (is_some (footnote_at old (text_of name)))) refl found is)

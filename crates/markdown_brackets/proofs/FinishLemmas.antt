@@ -197,8 +197,8 @@ second_gone nodes n (waits m a ∷ left) h =
     (far for_wikilink nodes n a.tag left h.2 h.0)
 
 -- openers with other flags
-disabled_held : (number : ℕ) (is_image : Bool) (f : Flag) (held held' : List Waiting) → held' ≡ map openers.disabled held
-    → held_as number is_image (if is_image then f else disabled_flag f) held' ≡ map openers.disabled (held_as number is_image f held)
+disabled_held : (number : ℕ) (is_image : Bool) (f : Flag) (held held' : List Waiting) → held' ≡ map openers.disabled_opener held
+    → held_as number is_image (if is_image then f else disabled_flag f) held' ≡ map openers.disabled_opener (held_as number is_image f held)
 disabled_held number true live held held' e = ap (held_as number true live) e
 disabled_held number true disabled held held' e = ap (held_as number true disabled) e
 disabled_held number true gone held held' e = e
@@ -206,25 +206,25 @@ disabled_held number false live held held' e = ap (held_as number false disabled
 disabled_held number false disabled held held' e = ap (held_as number false disabled) e
 disabled_held number false gone held held' e = e
 
-brackets_disabled : (left : List (Entry ℕ)) → brackets_of (on_marks disabled_mark left) ≡ map openers.disabled (brackets_of left)
+brackets_disabled : (left : List (Entry ℕ)) → brackets_of (on_marks disabled_mark left) ≡ map openers.disabled_opener (brackets_of left)
 brackets_disabled [] = refl
 brackets_disabled (done a below ∷ left) = brackets_disabled left
 brackets_disabled (waits m a ∷ left) = by m.is_image m.bracket m.wikilink (brackets_disabled left)
   where
-    by : (i : Bool) (b w : Flag) → brackets_of (on_marks disabled_mark left) ≡ map openers.disabled (brackets_of left)
+    by : (i : Bool) (b w : Flag) → brackets_of (on_marks disabled_mark left) ≡ map openers.disabled_opener (brackets_of left)
         → brackets_of (on_marks disabled_mark (waits (record { is_image = i; bracket = b; wikilink = w }) a ∷ left))
-        ≡ map openers.disabled (brackets_of (waits (record { is_image = i; bracket = b; wikilink = w }) a ∷ left))
+        ≡ map openers.disabled_opener (brackets_of (waits (record { is_image = i; bracket = b; wikilink = w }) a ∷ left))
     by true b w e = disabled_held a.tag true b (brackets_of left) (brackets_of (on_marks disabled_mark left)) e
     by false b w e = disabled_held a.tag false b (brackets_of left) (brackets_of (on_marks disabled_mark left)) e
 
-wikilinks_disabled : (left : List (Entry ℕ)) → wikilinks_of (on_marks disabled_mark left) ≡ map openers.disabled (wikilinks_of left)
+wikilinks_disabled : (left : List (Entry ℕ)) → wikilinks_of (on_marks disabled_mark left) ≡ map openers.disabled_opener (wikilinks_of left)
 wikilinks_disabled [] = refl
 wikilinks_disabled (done a below ∷ left) = wikilinks_disabled left
 wikilinks_disabled (waits m a ∷ left) = by m.is_image m.bracket m.wikilink (wikilinks_disabled left)
   where
-    by : (i : Bool) (b w : Flag) → wikilinks_of (on_marks disabled_mark left) ≡ map openers.disabled (wikilinks_of left)
+    by : (i : Bool) (b w : Flag) → wikilinks_of (on_marks disabled_mark left) ≡ map openers.disabled_opener (wikilinks_of left)
         → wikilinks_of (on_marks disabled_mark (waits (record { is_image = i; bracket = b; wikilink = w }) a ∷ left))
-        ≡ map openers.disabled (wikilinks_of (waits (record { is_image = i; bracket = b; wikilink = w }) a ∷ left))
+        ≡ map openers.disabled_opener (wikilinks_of (waits (record { is_image = i; bracket = b; wikilink = w }) a ∷ left))
     by true b w e = disabled_held a.tag true w (wikilinks_of left) (wikilinks_of (on_marks disabled_mark left)) e
     by false b w e = disabled_held a.tag false w (wikilinks_of left) (wikilinks_of (on_marks disabled_mark left)) e
 
@@ -300,17 +300,17 @@ module _ (nodes : List (Node Item)) (closer : ℕ) (left : List (Entry ℕ)) (c 
       ∙ sym (wikilinks_by (second_folded o.before))
 
   -- before a link or an image
-  link_brackets : (i : Bool) → (if i then before n (brackets_of left) else map openers.disabled (before n (brackets_of left)))
+  link_brackets : (i : Bool) → (if i then before n (brackets_of left) else map openers.disabled_opener (before n (brackets_of left)))
       ≡ brackets_of (before_link i o.before)
   link_brackets true = brackets_before ∙ sym (brackets_folded o.before)
   link_brackets false =
-      ap (map openers.disabled) (brackets_before ∙ sym (brackets_folded o.before)) ∙ sym (brackets_disabled (second_folded o.before))
+      ap (map openers.disabled_opener) (brackets_before ∙ sym (brackets_folded o.before)) ∙ sym (brackets_disabled (second_folded o.before))
 
   link_wikilinks : (i : Bool) → (let held = without_second nodes n (before n (wikilinks_of left)) in if i then before n held
-      else map openers.disabled (before n held))
+      else map openers.disabled_opener (before n held))
       ≡ wikilinks_of (before_link i o.before)
   link_wikilinks true = wikilinks_left
-  link_wikilinks false = ap (map openers.disabled) wikilinks_left ∙ sym (wikilinks_disabled (second_folded o.before))
+  link_wikilinks false = ap (map openers.disabled_opener) wikilinks_left ∙ sym (wikilinks_disabled (second_folded o.before))
 
   -- before a footnote reference
   footnote_brackets : (w : Around) (i : Bool) (name : List ℕ)
@@ -324,9 +324,9 @@ module _ (nodes : List (Node Item)) (closer : ℕ) (left : List (Entry ℕ)) (c 
   footnote_wikilinks w false name = wikilinks_left ∙ sym (same_wikilinks (second_folded o.before))
 
   -- before a wikilink
-  wikilink_brackets : map openers.disabled (before n (brackets_of left)) ≡ brackets_of (before_wikilink o.before)
+  wikilink_brackets : map openers.disabled_opener (before n (brackets_of left)) ≡ brackets_of (before_wikilink o.before)
   wikilink_brackets =
-      ap (map openers.disabled) brackets_before ∙ sym (brackets_disabled o.before) ∙ sym (same_brackets (on_marks disabled_mark o.before))
+      ap (map openers.disabled_opener) brackets_before ∙ sym (brackets_disabled o.before) ∙ sym (same_brackets (on_marks disabled_mark o.before))
 
   wikilink_wikilinks : [] ≡ wikilinks_of (before_wikilink o.before)
   wikilink_wikilinks = sym (no_wikilinks (on_marks disabled_mark o.before))
@@ -335,12 +335,12 @@ module _ (nodes : List (Node Item)) (closer : ℕ) (left : List (Entry ℕ)) (c 
 abbrev pub Finishes : List (Node Item) → ClosedBracket → (brackets wikilinks brackets' wikilinks' : List Waiting) → Type 0
 Finishes nodes Text brackets wikilinks brackets' wikilinks' = (brackets' ≡ brackets) × (wikilinks' ≡ wikilinks)
 Finishes nodes (Link opener target end next) brackets wikilinks brackets' wikilinks' =
-    (brackets' ≡ openers.before_link opener brackets)
-    × (wikilinks' ≡ openers.before_link opener (without_second nodes opener.node (before opener.node wikilinks)))
+    (brackets' ≡ openers.waiting_before_link opener brackets)
+    × (wikilinks' ≡ openers.waiting_before_link opener (without_second nodes opener.node (before opener.node wikilinks)))
 Finishes nodes (Footnote opener name) brackets wikilinks brackets' wikilinks' =
     (brackets' ≡ []) × (wikilinks' ≡ before opener.node (without_second nodes opener.node (before opener.node wikilinks)))
 Finishes nodes (Wikilinked opener name has_pothole shown end) brackets wikilinks brackets' wikilinks' =
-    (brackets' ≡ openers.before_wikilink opener.node brackets) × (wikilinks' ≡ [])
+    (brackets' ≡ openers.waiting_before_wikilink opener.node brackets) × (wikilinks' ≡ [])
 
 -- so they hold what is left
 pub finished : (nodes : List (Node Item)) (found : ClosedBracket) (brackets wikilinks brackets' wikilinks' : List Waiting)
@@ -353,10 +353,10 @@ finished nodes Text brackets wikilinks brackets' wikilinks' f w c closer left a_
     (f.0 ∙ eb ∙ ap brackets_of (sym ep), f.1 ∙ ew ∙ ap wikilinks_of (sym ep))
 finished nodes (Link opener target end next) brackets wikilinks brackets' wikilinks' f w c closer left (a_link o view to on) p s rises split
     is eb ew ep = (
-      f.0 ∙ ap (λ (at : Opener). openers.before_link at brackets) is.0 ∙ ap (openers.before_link (opener_of o)) eb
+      f.0 ∙ ap (λ (at : Opener). openers.waiting_before_link at brackets) is.0 ∙ ap (openers.waiting_before_link (opener_of o)) eb
           ∙ link_brackets nodes closer left c s rises o split o.mark.is_image,
-      f.1 ∙ ap (λ (at : Opener). openers.before_link at (without_second nodes at.node (before at.node wikilinks))) is.0
-          ∙ ap (λ (held : List Waiting). openers.before_link (opener_of o) (without_second nodes o.opener.tag (before o.opener.tag held)))
+      f.1 ∙ ap (λ (at : Opener). openers.waiting_before_link at (without_second nodes at.node (before at.node wikilinks))) is.0
+          ∙ ap (λ (held : List Waiting). openers.waiting_before_link (opener_of o) (without_second nodes o.opener.tag (before o.opener.tag held)))
           ew
           ∙ link_wikilinks nodes closer left c s rises o split o.mark.is_image,
     )
@@ -369,7 +369,7 @@ finished nodes (Footnote opener label) brackets wikilinks brackets' wikilinks' f
     )
 finished nodes (Wikilinked opener label has_pothole shown end) brackets wikilinks brackets' wikilinks' f w c closer left
     (a_wikilink o found to) p s rises split is eb ew ep = (
-      f.0 ∙ ap (λ (at : Opener). openers.before_wikilink at.node brackets) is.0 ∙ ap (openers.before_wikilink o.opener.tag) eb
+      f.0 ∙ ap (λ (at : Opener). openers.waiting_before_wikilink at.node brackets) is.0 ∙ ap (openers.waiting_before_wikilink o.opener.tag) eb
           ∙ wikilink_brackets nodes closer left c s rises o split,
       f.1 ∙ wikilink_wikilinks nodes closer left c s rises o split,
     )

@@ -11,7 +11,7 @@ use Rattle.markdown_defs.specs.Footnotes.{footnote_at}
 use Rattle.markdown_defs.specs.Footnotes as footnotes
 use Rattle.markdown_defs.specs.declared.footnotes.FootnoteDef.{FootnoteDef}
 use Rattle.markdown_defs.specs.declared.footnotes.FootnoteDefs.{FootnoteDefs}
-use Rattle.markdown_brackets.specs.BracketDecision.{used_once_more}
+use Rattle.markdown_brackets.specs.BracketDecision.{uses_once_more}
 
 -- names that match find the same footnote
 found_by_match : (held : FootnoteDefs) (name other : List ℕ) → is_match name other ≡ true → footnote_at held other ≡ footnote_at held name
@@ -34,7 +34,7 @@ module _ (old new : FootnoteDefs) (name : List ℕ)
   not_counted_in None e = refl
   not_counted_in (Some d) e = cc
 
-  pub uses_grow : is_some (footnote_at old name) ≡ true → uses_of new ≡ used_once_more name (uses_of old)
+  pub uses_grow : is_some (footnote_at old name) ≡ true → uses_of new ≡ uses_once_more name (uses_of old)
   uses_grow defined = fun_ext (λ other. ap use_count (counted other) ∙ by other (is_match name other) refl)
     where
       by : (other : List ℕ) (b : Bool) → is_match name other ≡ b

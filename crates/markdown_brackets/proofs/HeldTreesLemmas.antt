@@ -6,7 +6,7 @@ use Rattle.markdown_base.specs.Forest.{Forest, nil, node}
 use Rattle.markdown_base.proofs.ArenaForestLemmas.{height}
 use Rattle.markdown_base.specs.declared.item.Item.{Item}
 use Rattle.markdown_base.specs.declared.node.Node.{Node}
-use Rattle.markdown_document.specs.ChainRest.{joined}
+use Rattle.markdown_document.specs.ChainRest.{joined_chains}
 use Rattle.markdown_document.specs.Document.{Label}
 use Rattle.markdown_document.specs.Tables.{Tables}
 use Rattle.markdown_document.specs.Totals.{total}
@@ -28,7 +28,7 @@ total-onto count [] later = omega arith
 total-onto count (done a below ∷ left) later = omega (arith, total-onto count left (node a below later))
 total-onto count (waits m a ∷ left) later = omega (arith, total-onto count left (node a nil later))
 
-pub total-joined : (count : ℕ → ℕ) (f g : Forest (Label ℕ)) → total_of count (joined f g) ≡ total_of count f + total_of count g
+pub total-joined : (count : ℕ → ℕ) (f g : Forest (Label ℕ)) → total_of count (joined_chains f g) ≡ total_of count f + total_of count g
 total-joined count nil g = omega arith
 total-joined count (node a below after) g = omega (arith, total-joined count after g)
 

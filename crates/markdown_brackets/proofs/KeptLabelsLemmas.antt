@@ -13,7 +13,7 @@ use Rattle.markdown_brackets.specs.KeptShapes.{EachLeft}
 use Rattle.markdown_brackets.specs.LeftList.{Entry, Mark, Split, before_footnote, before_link, behind, change_nearest, disabled_mark, done}
 use Rattle.markdown_brackets.specs.LeftList.{inside, nearest, on_marks, opens_bracket, opens_wikilink, second_folded, trees_onto, waits}
 use Rattle.markdown_brackets.specs.LeftList.{without_bracket, without_wikilink}
-use Rattle.markdown_brackets.specs.ReadChain.{Reader, begun, closing, read, read_as, read_chain, read_past}
+use Rattle.markdown_brackets.specs.ReadChain.{Reader, begun, closing_of, read, read_as, read_chain, read_past}
 use Rattle.markdown_brackets.proofs.ClosingBracketLemmas.{Cases, in_each_case, some_of}
 use Rattle.markdown_brackets.proofs.NoLinkLemmas.{wikilink_keeps}
 use Rattle.markdown_document.specs.ChainRest.{begun_at, end_of, open_body, past_byte, start_of}
@@ -143,7 +143,7 @@ module _ {A : Type 0} {base p : Label A → Type 0} (k : KeepsLabels base p) whe
       each_as body.MaybeLinkOpen a below rest q here inner h = (k.text w.setting.text a here, h)
       each_as body.MaybeImage a below rest q here inner h = (k.text w.setting.text a here, h)
       each_as (body.MaybeLinkClose could) a below rest q here inner h =
-          in_each_case w (closing could a rest q) Left Left (each_case (closing could a rest q) here) q h
+          in_each_case w (closing_of could a rest q) Left Left (each_case (closing_of could a rest q) here) q h
       each_as other a below rest q here inner h = rule a below rest q here inner h
 
       each_read_past : (goes_on : Option ℕ) (a : Label A) (below rest : Forest (Label A)) (q : Progress A) → base a → All below

@@ -9,7 +9,7 @@ use Rattle.markdown_base.specs.Bytes.{backslash}
 use Rattle.markdown_scan.specs.Backslash.{is_bare}
 use Rattle.markdown_scan.specs.Label.{refused, body, fits_label, label_bytes, link_label, put_before, shown, collapse_whitespace, with_shown}
 use Rattle.markdown_scan.specs.LinePrefix.{prefix_after}
-use Rattle.markdown_brackets.specs.Reference.{FoundLabel, footnote_label, label_after, label_after_bracket, label_at}
+use Rattle.markdown_brackets.specs.Reference.{FoundLabel, footnote_label_in, label_after, label_after_bracket, bracket_label}
 use Rattle.markdown_brackets.specs.Reference.{label_past, of_length, on_one_line, own_label}
 use Rattle.markdown_brackets.specs.declared.footnote.FootnoteStyle.{FootnoteStyle}
 use Rattle.markdown_brackets.specs.declared.footnote.FootnoteStyle.TheVariants as style
@@ -85,13 +85,13 @@ module _ (in_table : Bool) where
       by false = tt
 
   footnote_fits : (s : FootnoteStyle) (skipped : List ℕ → Option ℕ) (bytes : List ℕ)
-      → IfSome (footnote_label s skipped in_table bytes) (Fits (suc (length bytes)))
+      → IfSome (footnote_label_in s skipped in_table bytes) (Fits (suc (length bytes)))
   footnote_fits style.Off skipped bytes = tt
   footnote_fits style.Gfm skipped bytes = caret_fits on_one_line bytes
   footnote_fits style.Old skipped bytes = caret_fits skipped bytes
 
   label_fits : (s : FootnoteStyle) (skipped : List ℕ → Option ℕ) (bytes : List ℕ)
-      → IfSome (label_at s skipped in_table bytes) (Fits (length bytes))
+      → IfSome (bracket_label s skipped in_table bytes) (Fits (length bytes))
   label_fits s skipped [] = tt
   label_fits s skipped (b ∷ bytes) = by (b == 91)
     where
@@ -102,14 +102,14 @@ module _ (in_table : Bool) where
 
       by : (opens : Bool) → IfSome (option_and_then (label_after_bracket s skipped in_table) (if opens then Some bytes else None))
           (Fits (suc (length bytes)))
-      by true = or_link (footnote_label s skipped in_table bytes) (footnote_fits s skipped bytes)
+      by true = or_link (footnote_label_in s skipped in_table bytes) (footnote_fits s skipped bytes)
       by false = tt
 
   pub no_label_past_block : (s : FootnoteStyle) (skipped : List ℕ → Option ℕ) (text : List ℕ) (block_end start end : ℕ) → block_end < end
       → own_label s skipped in_table (take block_end text) start end ≡ None
   unfolding Fits
   no_label_past_block s skipped text block_end start end past =
-      by (label_at s skipped in_table bytes) (label_fits s skipped bytes)
+      by (bracket_label s skipped in_table bytes) (label_fits s skipped bytes)
     where
       bytes : List ℕ
       bytes = slice_range (take block_end text) start end

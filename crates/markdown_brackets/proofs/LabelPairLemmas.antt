@@ -15,7 +15,7 @@ use Rattle.markdown_scan.specs.Label.{refused, body, fits_label, label_bytes, li
 use Rattle.markdown_scan.specs.Label.{collapse_whitespace, with_shown}
 use Rattle.markdown_scan.specs.LinePrefix.{ends_line, prefix_after}
 use Rattle.markdown_brackets.specs.QuestionEnds.{HoldsNoOpener}
-use Rattle.markdown_brackets.specs.Reference.{FoundLabel, footnote_label, label_after, label_after_bracket, label_at}
+use Rattle.markdown_brackets.specs.Reference.{FoundLabel, footnote_label_in, label_after, label_after_bracket, bracket_label}
 use Rattle.markdown_brackets.specs.Reference.{label_past, on_one_line}
 use Rattle.markdown_brackets.specs.declared.footnote.FootnoteStyle.{FootnoteStyle}
 use Rattle.markdown_brackets.specs.declared.footnote.FootnoteStyle.TheVariants as style
@@ -144,7 +144,7 @@ module _ (skipped : List ℕ → Option ℕ) (in_table : Bool) where
   past_is_footnote n None l e = absurd (none-some l e)
   past_is_footnote n (Some f) l e = sym (ap (λ (l : FoundLabel). l.is_footnote) (same_Some _ l e))
 
-  is_footnote : (s : FootnoteStyle) (bytes : List ℕ) (l : FoundLabel) → footnote_label s skipped in_table bytes ≡ Some l
+  is_footnote : (s : FootnoteStyle) (bytes : List ℕ) (l : FoundLabel) → footnote_label_in s skipped in_table bytes ≡ Some l
       → l.is_footnote ≡ true
   is_footnote style.Off bytes l e = absurd (none-some l e)
   is_footnote style.Gfm bytes l e = past_is_footnote 2 (label_after 94 on_one_line in_table bytes) l e
@@ -171,12 +171,12 @@ module _ (skipped : List ℕ → Option ℕ) (in_table : Bool) where
           (f.0, f.1, refl, omega (arith, size))
 
   -- a label that is no footnote's
-  of_bytes : (s : FootnoteStyle) (bytes : List ℕ) (l : FoundLabel) → label_at s skipped in_table bytes ≡ Some l → l.is_footnote ≡ false
+  of_bytes : (s : FootnoteStyle) (bytes : List ℕ) (l : FoundLabel) → bracket_label s skipped in_table bytes ≡ Some l → l.is_footnote ≡ false
       → IsLabel skipped bytes l.length
   of_bytes s [] l e plain = absurd (none-some l e)
   of_bytes s (b ∷ bytes) l e plain = by (b == 91) refl e
     where
-      or_link : (o : Option FoundLabel) → footnote_label s skipped in_table bytes ≡ o
+      or_link : (o : Option FoundLabel) → footnote_label_in s skipped in_table bytes ≡ o
           → option_or o (label_past false 1 (link_label skipped in_table bytes)) ≡ Some l
           → (place : ℕ) × (text : List ℕ) × (body false (label_bytes skipped 0 bytes) ≡ Some (place, text)) × (l.length ≡ place + 2)
       or_link None f e = link_found (body false (label_bytes skipped 0 bytes)) l e
@@ -190,11 +190,11 @@ module _ (skipped : List ℕ → Option ℕ) (in_table : Bool) where
           → IsLabel skipped (b ∷ bytes) l.length
       by false is e = absurd (none-some l e)
       by true is e =
-          let r = or_link (footnote_label s skipped in_table bytes) refl e in
+          let r = or_link (footnote_label_in s skipped in_table bytes) refl e in
           let byte : b ≡ 91 = grind (arith, nat_tests) in
           record { tail = bytes; opens = ap (λ (b : ℕ). b ∷ bytes) byte; place = r.0; shown = r.1; closes = r.2; ends = r.3 }
 
-  pub label_from : (s : FootnoteStyle) (text : List ℕ) (from : ℕ) (l : FoundLabel) → label_at s skipped in_table (drop from text) ≡ Some l
+  pub label_from : (s : FootnoteStyle) (text : List ℕ) (from : ℕ) (l : FoundLabel) → bracket_label s skipped in_table (drop from text) ≡ Some l
       → l.is_footnote ≡ false
       → IsLabelFrom skipped text from (from + l.length)
   label_from s text from l e plain =

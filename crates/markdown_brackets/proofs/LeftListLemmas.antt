@@ -7,19 +7,19 @@ use Rattle.markdown_brackets.specs.Openers.{Waiting}
 
 -- a `[` that is disabled is held so; an image's opener is held as it was
 held_disabled : (number : ℕ) (flag : Flag) (held : List Waiting)
-    → held_as number false (disabled_flag flag) (map openers.disabled held) ≡ map openers.disabled (held_as number false flag held)
+    → held_as number false (disabled_flag flag) (map openers.disabled_opener held) ≡ map openers.disabled_opener (held_as number false flag held)
 held_disabled number live held = refl
 held_disabled number disabled held = refl
 held_disabled number gone held = refl
 
 held_for_image : (number : ℕ) (flag : Flag) (held : List Waiting)
-    → held_as number true flag (map openers.disabled held) ≡ map openers.disabled (held_as number true flag held)
+    → held_as number true flag (map openers.disabled_opener held) ≡ map openers.disabled_opener (held_as number true flag held)
 held_for_image number live held = refl
 held_for_image number disabled held = refl
 held_for_image number gone held = refl
 
 -- to disable the openers of a left list is to disable those that a stack holds
-pub brackets_of-disabled : (left : List (Entry ℕ)) → brackets_of (on_marks disabled_mark left) ≡ map openers.disabled (brackets_of left)
+pub brackets_of-disabled : (left : List (Entry ℕ)) → brackets_of (on_marks disabled_mark left) ≡ map openers.disabled_opener (brackets_of left)
 brackets_of-disabled [] = refl
 brackets_of-disabled (done a below ∷ left) = brackets_of-disabled left
 brackets_of-disabled (waits m a ∷ left) =
@@ -28,12 +28,12 @@ brackets_of-disabled (waits m a ∷ left) =
   where
     here : (image : Bool) (b w : Flag)
         → held_as a.tag (disabled_mark (record { is_image = image; bracket = b; wikilink = w })).is_image
-        (disabled_mark (record { is_image = image; bracket = b; wikilink = w })).bracket (map openers.disabled (brackets_of left))
-        ≡ map openers.disabled (held_as a.tag image b (brackets_of left))
+        (disabled_mark (record { is_image = image; bracket = b; wikilink = w })).bracket (map openers.disabled_opener (brackets_of left))
+        ≡ map openers.disabled_opener (held_as a.tag image b (brackets_of left))
     here true b w = held_for_image a.tag b (brackets_of left)
     here false b w = held_disabled a.tag b (brackets_of left)
 
-pub wikilinks_of-disabled : (left : List (Entry ℕ)) → wikilinks_of (on_marks disabled_mark left) ≡ map openers.disabled (wikilinks_of left)
+pub wikilinks_of-disabled : (left : List (Entry ℕ)) → wikilinks_of (on_marks disabled_mark left) ≡ map openers.disabled_opener (wikilinks_of left)
 wikilinks_of-disabled [] = refl
 wikilinks_of-disabled (done a below ∷ left) = wikilinks_of-disabled left
 wikilinks_of-disabled (waits m a ∷ left) =
@@ -42,8 +42,8 @@ wikilinks_of-disabled (waits m a ∷ left) =
   where
     here : (image : Bool) (b w : Flag)
         → held_as a.tag (disabled_mark (record { is_image = image; bracket = b; wikilink = w })).is_image
-        (disabled_mark (record { is_image = image; bracket = b; wikilink = w })).wikilink (map openers.disabled (wikilinks_of left))
-        ≡ map openers.disabled (held_as a.tag image w (wikilinks_of left))
+        (disabled_mark (record { is_image = image; bracket = b; wikilink = w })).wikilink (map openers.disabled_opener (wikilinks_of left))
+        ≡ map openers.disabled_opener (held_as a.tag image w (wikilinks_of left))
     here true b w = held_for_image a.tag w (wikilinks_of left)
     here false b w = held_disabled a.tag w (wikilinks_of left)
 

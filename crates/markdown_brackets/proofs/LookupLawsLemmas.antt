@@ -15,8 +15,8 @@ cases : (limit : ℕ) (answers : Answers) (q : Question) (P : LookedUp → Type 
     → (defined : List Labelled) (asks : Bool) → P (look_up defined asks limit answers q)
 cases limit answers q P nothing found defined asks =
     cond_both (limit == 0) (finds_nothing limit answers [])
-    (defined_or_asked asks limit answers q (definitions.look_up q.reference defined)) P
-    (λ e. nothing) (λ e. found asks (definitions.look_up q.reference defined))
+    (defined_or_asked asks limit answers q (definitions.find_definition q.reference defined)) P
+    (λ e. nothing) (λ e. found asks (definitions.find_definition q.reference defined))
 
 pub asks_once : (defined : List Labelled) (asks : Bool) (limit : ℕ) (answers : Answers) (q : Question)
     → AsksOnceAtMost defined asks limit answers q
@@ -76,11 +76,11 @@ pub looks_on : (defined : List Labelled) (asks : Bool) (limit : ℕ) (q : Questi
 looks_on defined asks limit q answers later = by (limit == 0)
   where
     by : (b : Bool) → LooksOn answers later
-        (cond b (finds_nothing limit answers []) (defined_or_asked asks limit answers q (definitions.look_up q.reference defined)))
+        (cond b (finds_nothing limit answers []) (defined_or_asked asks limit answers q (definitions.find_definition q.reference defined)))
         (cond b (finds_nothing limit (answers ++ later) []) (defined_or_asked asks limit (answers ++ later) q
-        (definitions.look_up q.reference defined)))
+        (definitions.find_definition q.reference defined)))
     by true = record { once = omega arith; takes = omega arith; hands_on = λ e. refl }
-    by false = looks_on_in asks limit q (definitions.look_up q.reference defined) answers later
+    by false = looks_on_in asks limit q (definitions.find_definition q.reference defined) answers later
 
 -- with one answer for each question none is left
 none_left : (answers : Answers) → length answers ≡ 0 → answers ≡ []

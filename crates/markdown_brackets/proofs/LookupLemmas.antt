@@ -25,7 +25,7 @@ LooksUp-at_zero step defined asks q limit callback none = record {
 -- a definition
 pub LooksUp-defined : {C : Type 0} (step : C → Question → Option Answer → C → Type 0) (defined : List Labelled) (asks : Bool) (q : Question)
     (limit : ℕ) (callback : Option C) (d : LinkDef) (target : Option LinkView)
-    → (limit == 0) ≡ false → definitions.look_up q.reference defined ≡ Some d
+    → (limit == 0) ≡ false → definitions.find_definition q.reference defined ≡ Some d
     → target ≡ Some (defined_target q.link_type (definition_view d) q.reference)
     → LooksUp step defined asks q limit (limit_after limit target) callback callback target
 LooksUp-defined step defined asks q limit callback d target some found is = record {
@@ -33,7 +33,7 @@ LooksUp-defined step defined asks q limit callback d target some found is = reco
   questions = [];
   asked = refl;
   finds = λ later.
-      ap (λ b. cond b (finds_nothing limit later []) (defined_or_asked asks limit later q (definitions.look_up q.reference defined))) some
+      ap (λ b. cond b (finds_nothing limit later []) (defined_or_asked asks limit later q (definitions.find_definition q.reference defined))) some
       ∙ ap (defined_or_asked asks limit later q) found
       ∙ ap (λ (t : Option LinkView). record { target = t; questions = []; limit = limit_after limit t; answers = later }) (sym is);
 }
@@ -41,7 +41,7 @@ LooksUp-defined step defined asks q limit callback d target some found is = reco
 -- a question
 pub LooksUp-answered : {C : Type 0} (step : C → Question → Option Answer → C → Type 0) (defined : List Labelled) (q : Question) (limit : ℕ)
     (callback callback' : Option C) (target : Option LinkView)
-    → (limit == 0) ≡ false → definitions.look_up q.reference defined ≡ None
+    → (limit == 0) ≡ false → definitions.find_definition q.reference defined ≡ None
     → IsAnswered step q callback callback' target
     → LooksUp step defined (is_some callback) q limit (limit_after limit target) callback callback' target
 LooksUp-answered step defined q limit None callback' target some found answered = record {
@@ -49,7 +49,7 @@ LooksUp-answered step defined q limit None callback' target some found answered 
   questions = [];
   asked = sym answered.0;
   finds = λ later.
-      ap (λ b. cond b (finds_nothing limit later []) (defined_or_asked false limit later q (definitions.look_up q.reference defined))) some
+      ap (λ b. cond b (finds_nothing limit later []) (defined_or_asked false limit later q (definitions.find_definition q.reference defined))) some
       ∙ ap (defined_or_asked false limit later q) found
       ∙ ap (λ (t : Option LinkView). record { target = t; questions = []; limit = limit_after limit t; answers = later }) (sym answered.1);
 }
@@ -59,7 +59,7 @@ LooksUp-answered {C} step defined q limit (Some old) callback' target some found
   asked = (then, stepped, sym new);
   finds = λ later.
       ap (λ b. cond b (finds_nothing limit (answer ∷ later) []) (defined_or_asked true limit (answer ∷ later) q
-      (definitions.look_up q.reference defined))) some
+      (definitions.find_definition q.reference defined))) some
       ∙ ap (defined_or_asked true limit (answer ∷ later) q) found
       ∙ by_answer answer later
       ∙ ap (λ (t : Option LinkView). record { target = t; questions = q ∷ []; limit = limit_after limit t; answers = later }) (sym is);
@@ -80,12 +80,12 @@ pub LooksUp-found : {C : Type 0} (step : C → Question → Option Answer → C 
     (callback callback' : Option C) (target : Option LinkView)
     → 0 < limit → FindsTarget step defined q callback callback' target
     → LooksUp step defined (is_some callback) q limit (limit_after limit target) callback callback' target
-LooksUp-found {C} step defined q limit callback callback' target some found = by (definitions.look_up q.reference defined) refl found
+LooksUp-found {C} step defined q limit callback callback' target some found = by (definitions.find_definition q.reference defined) refl found
   where
     not_zero : (n : ℕ) → 0 < n → (n == 0) ≡ false
     not_zero n h = grind (arith, nat_tests)
 
-    by : (o : Option LinkDef) → definitions.look_up q.reference defined ≡ o
+    by : (o : Option LinkDef) → definitions.find_definition q.reference defined ≡ o
         → MatchOption o (IsAnswered step q callback callback' target) (λ d. (callback' ≡ callback)
         × (target ≡ Some (defined_target q.link_type (definition_view d) q.reference)))
         → LooksUp step defined (is_some callback) q limit (limit_after limit target) callback callback' target

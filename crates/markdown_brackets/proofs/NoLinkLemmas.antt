@@ -11,7 +11,7 @@ use Rattle.markdown_document.specs.Document.{Shape, leaf, enclosed, plain, backs
 use Rattle.markdown_document.specs.Setting.{Known}
 use Rattle.markdown_document.specs.ChainRest.{begun_at, past_byte, cut_shape, start_of, end_of, open_body}
 use Rattle.markdown_brackets.specs.BracketDecision.{Around, Closing, Progress, Wikilink, over, text_from, wikilink_in, wikilink_by}
-use Rattle.markdown_brackets.specs.BracketDecision.{children_of, if_some, past_second}
+use Rattle.markdown_brackets.specs.BracketDecision.{shown_children, if_some, past_second}
 use Rattle.markdown_brackets.specs.ClosingBracket.{footnote_onto, wikilink_target, closed}
 use Rattle.markdown_brackets.specs.LeftList.{Flag, live, disabled, gone, Mark, Entry, done, waits, is_live, trees_onto, Split, inside}
 use Rattle.markdown_brackets.specs.LeftList.{behind, nearest, change_nearest, opens_bracket, opens_wikilink, without_bracket}
@@ -20,7 +20,7 @@ use Rattle.markdown_brackets.specs.LeftList.{before_wikilink, before_footnote}
 use Rattle.markdown_brackets.proofs.ClosingBracketLemmas.{Cases, in_each_case, some_of}
 use Rattle.markdown_brackets.specs.NoLinkInLink.{IsNoLink, IsFreeOfLinks, ClosesOverNone, HasNoneBelow, HasNoLinkInLink, AreFreeTrees}
 use Rattle.markdown_brackets.specs.NoLinkInLink.{HasMoreTrees}
-use Rattle.markdown_brackets.specs.ReadChain.{Reader, begun, closing, read_as, read, read_past, read_chain}
+use Rattle.markdown_brackets.specs.ReadChain.{Reader, begun, closing_of, read_as, read, read_past, read_chain}
 use Rattle.markdown_brackets.specs.Wikilink.{WikilinkBody, Shows, shows_name, shows_nothing, shows_from, has_pothole, wikilink_body}
 
 or_left : (a b : Bool) → a ≡ true → (a || b) ≡ true
@@ -291,14 +291,14 @@ if_some_keeps p (node a below after) h = h
 module _ {A : Type 0} (w : Around) (p : Forest (Label A) → Type 0) (texts : (a : Label A) (i j : ℕ) → p (node (text_from w a i j) nil nil))
     (from : (i : ℕ) (f : Forest (Label A)) → p f → p (past_byte i f)) where
   shown_keeps : (first : Label A) (trees : Forest (Label A)) (end : ℕ) (shows : Shows) → p trees
-      → IfSome (children_of w first trees end shows) p
+      → IfSome (shown_children w first trees end shows) p
   shown_keeps first trees end shows_name h = texts first (start_of first) end
   shown_keeps first trees end (shows_nothing at) h = texts first at at
   shown_keeps first trees end (shows_from at) h = if_some_keeps p (past_byte at trees) (from at trees h)
 
   named_keeps : (first : Label A) (trees : Forest (Label A)) (end : ℕ) (b : WikilinkBody) → p trees
       → IfSome (wikilink_by w first trees end b) (λ found. p found.children)
-  named_keeps first trees end b h = by (children_of w first trees end b.shows) (shown_keeps first trees end b.shows h)
+  named_keeps first trees end b h = by (shown_children w first trees end b.shows) (shown_keeps first trees end b.shows h)
     where
       by : (o : Option (Forest (Label A))) → IfSome o p
           → IfSome (option_map (λ children. record { name = b.name; has_pothole = has_pothole b.shows; children = children }) o)
@@ -380,7 +380,7 @@ module _ {A : Type 0} (w : Around) (others : Reader A)
       → IsFreeOfLinks below → IsSound p.left → IsSound (read_as w others b a below rest p).left
   read_as_sound body.MaybeLinkOpen a below rest p f g s = (λ q. tt, tt, s)
   read_as_sound body.MaybeImage a below rest p f g s = (λ q. tt, tt, s)
-  read_as_sound (body.MaybeLinkClose could) a below rest p f g s = closed_sound w (closing could a rest p) p s
+  read_as_sound (body.MaybeLinkClose could) a below rest p f g s = closed_sound w (closing_of could a rest p) p s
   read_as_sound other a below rest p f g s =
       let more = rule a below rest p f g in
       subst IsSound (sym more.grown) (sound_more more.more p.left more.free s)

@@ -3,7 +3,7 @@ use Rattle.std.proofs.Common.{◌≡◌, ℕ, Bool, true, false, List, [], ◌�
 use Rattle.std.specs.Prelude.{IfSome, if◌then◌else◌}
 use Rattle.std.specs.Option.{option_map}
 use Rattle.markdown_base.specs.Forest.{Forest, nil, node}
-use Rattle.markdown_document.specs.ChainRest.{joined}
+use Rattle.markdown_document.specs.ChainRest.{joined_chains}
 use Rattle.markdown_document.specs.Document.{Label}
 use Rattle.markdown_brackets.specs.DecisionView.{opener_of}
 use Rattle.markdown_brackets.specs.LeftList.{Flag, live, disabled, gone, Mark, Entry, done, waits, is_live, trees_onto, Split, behind}
@@ -125,7 +125,7 @@ splits_at test (waits m a ∷ left) = by (test m) (splits_at test left)
     by true h = λ later. refl
     by false h = splits_behind_waits m a left (nearest test left) h
 
-pub onto_joined : (left : List (Entry ℕ)) (f g : Forest (Label ℕ)) → trees_onto left (joined f g) ≡ joined (trees_onto left f) g
+pub onto_joined : (left : List (Entry ℕ)) (f g : Forest (Label ℕ)) → trees_onto left (joined_chains f g) ≡ joined_chains (trees_onto left f) g
 onto_joined [] f g = refl
 onto_joined (done a below ∷ left) f g = onto_joined left (node a below f) g
 onto_joined (waits m a ∷ left) f g = onto_joined left (node a nil f) g

@@ -22,7 +22,7 @@ use Rattle.markdown_brackets.specs.BracketDecision.{Around, Closing, Progress, b
 use Rattle.markdown_brackets.specs.ClosingBracket.{closed}
 use Rattle.markdown_brackets.specs.QuestionEnds.{AsksAtMost, AsksNothing, EndApart, HoldsNoOpener, StandInLine, StandsInLine, closers_among}
 use Rattle.markdown_brackets.specs.QuestionEnds.{closes_bracket}
-use Rattle.markdown_brackets.specs.ReadChain.{Reader, among, begun, closing, opened, read, read_as, read_chain, read_past}
+use Rattle.markdown_brackets.specs.ReadChain.{Reader, among, begun, closing_of, opened, read, read_as, read_chain, read_past}
 use Rattle.markdown_brackets.specs.Reference.{is_closer}
 use Rattle.markdown_brackets.proofs.AsksAboutLemmas.{Asks, AsksFull, AsksNone, AsksOwn, AtMostOneTo, Told, closed_told, full_label, told_by}
 use Rattle.markdown_brackets.proofs.LabelPairLemmas.{IsLabelFrom, first_byte, labels_apart}
@@ -90,7 +90,7 @@ module _ {A : Type 0} (w : Around) (others : Reader A) (nothing : AsksNothing ot
   read_as_more body.MaybeLinkOpen a below rest p = no_more 0 (told_by p) (told_by (opened w false a rest p)) refl
   read_as_more body.MaybeImage a below rest p = no_more 0 (told_by p) (told_by (opened w true a rest p)) refl
   read_as_more (body.MaybeLinkClose could) a below rest p =
-      let c : Closing A = closing could a rest p in
+      let c : Closing A = closing_of could a rest p in
       closer_more w c (told_by p) (told_by (closed w c p)) (closed_told w c p)
   read_as_more other a below rest p =
       no_more (one_if (is_closer other)) (told_by p) (told_by (others a below rest p)) (other_told a below rest p)
@@ -330,7 +330,7 @@ module _ {A : Type 0} (w : Around) (others : Reader A) (nothing : AsksNothing ot
   read_as_told body.MaybeLinkOpen a below rest p last l at so = told_later w last (end_of a) (told_by p) l so
   read_as_told body.MaybeImage a below rest p last l at so = told_later w last (end_of a) (told_by p) l so
   read_as_told (body.MaybeLinkClose could) a below rest p last l at so =
-      let c : Closing A = closing could a rest p in
+      let c : Closing A = closing_of could a rest p in
       let unused = unused_then could (among (end_of a) p.spent) in
       closer_told w none c last at (told_by p) (told_by (closed w c p)) so unused (closed_told w c p)
   read_as_told other a below rest p last l at so =

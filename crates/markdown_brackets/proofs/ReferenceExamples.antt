@@ -5,7 +5,7 @@ use Rattle.markdown_base.specs.declared.item.Item.{Item}
 use Rattle.markdown_base.specs.declared.item.ItemBody.TheVariants.{MaybeLinkOpen, MaybeLinkClose}
 use Rattle.markdown_base.specs.declared.tag.LinkType.TheVariants.{Shortcut, ShortcutUnknown}
 use Rattle.markdown_brackets.specs.Lookup as lookup
-use Rattle.markdown_brackets.specs.Reference.{label_at, own_label, form_at, reference, collapsed, shortcut}
+use Rattle.markdown_brackets.specs.Reference.{bracket_label, own_label, form_at, reference, collapsed, shortcut}
 use Rattle.markdown_brackets.specs.declared.footnote.FootnoteStyle.TheVariants.{Off, Gfm, Old}
 
 abbrev no_prefix : List ℕ → Option ℕ
@@ -23,22 +23,22 @@ past_block : own_label Off no_prefix false (take 2 (codes "[a]")) 0 3 ≡ None
 past_block = refl
 
 -- footnotes, on one line as GitHub writes them
-no_footnotes : label_at Off no_prefix false (codes "[^a]") ≡ Some (record { is_footnote = false; length = 4; name = codes "^a" })
+no_footnotes : bracket_label Off no_prefix false (codes "[^a]") ≡ Some (record { is_footnote = false; length = 4; name = codes "^a" })
 no_footnotes = refl
 
-footnote : label_at Gfm no_prefix false (codes "[^a]") ≡ Some (record { is_footnote = true; length = 4; name = codes "a" })
+footnote : bracket_label Gfm no_prefix false (codes "[^a]") ≡ Some (record { is_footnote = true; length = 4; name = codes "a" })
 footnote = refl
 
-blank_name : label_at Gfm no_prefix false (codes "[^ ]") ≡ Some (record { is_footnote = false; length = 4; name = codes "^" })
+blank_name : bracket_label Gfm no_prefix false (codes "[^ ]") ≡ Some (record { is_footnote = false; length = 4; name = codes "^" })
 blank_name = refl
 
-empty_name : label_at Old no_prefix false (codes "[^]") ≡ Some (record { is_footnote = false; length = 3; name = codes "^" })
+empty_name : bracket_label Old no_prefix false (codes "[^]") ≡ Some (record { is_footnote = false; length = 3; name = codes "^" })
 empty_name = refl
 
-name_of_two_lines : label_at Gfm no_prefix false (codes "[^a\nb]") ≡ Some (record { is_footnote = false; length = 6; name = codes "^a b" })
+name_of_two_lines : bracket_label Gfm no_prefix false (codes "[^a\nb]") ≡ Some (record { is_footnote = false; length = 6; name = codes "^a b" })
 name_of_two_lines = refl
 
-name_of_two_lines_old : label_at Old no_prefix false (codes "[^a\nb]")
+name_of_two_lines_old : bracket_label Old no_prefix false (codes "[^a\nb]")
     ≡ Some (record { is_footnote = true; length = 6; name = codes "a b" })
 name_of_two_lines_old = refl
 

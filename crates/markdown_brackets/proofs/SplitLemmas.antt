@@ -6,7 +6,7 @@ use Rattle.markdown_base.specs.Event.{LinkView}
 use Rattle.markdown_base.specs.Forest.{node, nil}
 use Rattle.markdown_base.specs.declared.tag.LinkType.{LinkType}
 use Rattle.markdown_brackets.specs.BracketDecision.{Around, Closing, Progress, Written, a_footnote, a_text, after_look_up, footnote_label}
-use Rattle.markdown_brackets.specs.BracketDecision.{footnote_tried, footnote_used, inline_link, link_label, look_up_tried, no_link}
+use Rattle.markdown_brackets.specs.BracketDecision.{footnote_tried, footnote_used, inline_link, link_reference, look_up_tried, no_link}
 use Rattle.markdown_brackets.specs.BracketDecision.{opener_tried, question_at, spent_by, target_tried, to_be, tried, written}
 use Rattle.markdown_brackets.specs.BracketOptions.{footnote_style}
 use Rattle.markdown_brackets.specs.Finish.{IsSplit, SplitsAs}
@@ -74,7 +74,7 @@ module _ (w : Around) (c : Closing ℕ) (left : List (Entry ℕ)) where
   tried_splits : (o : Split ℕ) (x : Written) (p : Progress ℕ) → IsSplit left o → SplitsAs left (tried w o x p).becomes
   tried_splits o no_link p h = tt
   tried_splits o (inline_link t) p h = h
-  tried_splits o (link_label link_type label end next) p h = look_up_splits o link_type label end next
+  tried_splits o (link_reference link_type label end next) p h = look_up_splits o link_type label end next
       (record p { spent = spent_by link_type end p.spent }) h
   tried_splits o (footnote_label name) p h = footnote_splits o name p h
 

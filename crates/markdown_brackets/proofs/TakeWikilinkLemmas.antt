@@ -9,7 +9,7 @@ use Rattle.markdown_base.specs.Forest.{Forest, nil, node}
 use Rattle.markdown_base.specs.declared.item.Item.{Item}
 use Rattle.markdown_base.specs.declared.node.Node.{Node}
 use Rattle.markdown_base.proofs.ArenaForestLemmas.{height}
-use Rattle.markdown_document.specs.ChainRest.{start_of, end_of, joined, open_body}
+use Rattle.markdown_document.specs.ChainRest.{start_of, end_of, joined_chains, open_body}
 use Rattle.markdown_document.specs.Document.{Label}
 use Rattle.markdown_document.specs.Totals.{same}
 use Rattle.markdown_document.proofs.TablesLemmas.{same-refl}
@@ -24,7 +24,7 @@ use Rattle.markdown_brackets.specs.LeftList.{Entry, Split, inside, is_live, near
 use Rattle.markdown_brackets.specs.LeftList.{without_wikilink, bracket_taken, wikilink_taken, brackets_of, wikilinks_of, trees_onto}
 use Rattle.markdown_brackets.specs.Openers.{Waiting}
 use Rattle.markdown_brackets.specs.Reference.{is_closer}
-use Rattle.markdown_brackets.specs.StandsAt.{FindsWikilink, IsWikilink, StandsBetween, TriesWikilink}
+use Rattle.markdown_brackets.specs.StandsAt.{FindsWikilink, IsWikilink, HoldsInside, TriesWikilink}
 use Rattle.markdown_brackets.specs.declared.closing_bracket.ClosedBracket.{ClosedBracket}
 use Rattle.markdown_brackets.specs.declared.closing_bracket.ClosedBracket.TheVariants.{Text, Link, Footnote, Wikilinked}
 use Rattle.markdown_brackets.specs.declared.openers.Opener.{Opener}
@@ -98,14 +98,14 @@ module _ (nodes : List (Node Item)) (closer : ℕ) (left : List (Entry ℕ)) (c 
         subst (λ f. height (numbers_of f) ≤ length nodes) onto low in
         omega (arith, whole, height-later o.before (node o.opener nil (trees_onto o.after behind_left)))
 
-    pub between : (opener : Opener) → opener ≡ opener_of o → StandsBetween nodes closer opener c o
+    pub between : (opener : Opener) → opener ≡ opener_of o → HoldsInside nodes closer opener c o
     between opener e =
         let n : opener.node ≡ o.opener.tag = ap (λ (p : Opener). p.node) e in
-        let after : trees_onto o.after behind_left ≡ joined (inside o) behind_left = onto_joined o.after nil behind_left in
+        let after : trees_onto o.after behind_left ≡ joined_chains (inside o) behind_left = onto_joined o.after nil behind_left in
         let low_after : height (numbers_of (trees_onto o.after behind_left)) ≤ length nodes = omega (arith, opener_low) in
         let all : Found s.source s.tables nodes (sibling_of nodes o.opener.tag) (trees_onto o.after behind_left) =
         record { holds = opener_holds.4; low = low_after } in
-        let there : Found s.source s.tables nodes (sibling_of nodes opener.node) (joined (inside o) behind_left) =
+        let there : Found s.source s.tables nodes (sibling_of nodes opener.node) (joined_chains (inside o) behind_left) =
         subst (λ f. Found s.source s.tables nodes (sibling_of nodes opener.node) f) after
         (subst (λ m. Found s.source s.tables nodes (sibling_of nodes m) (trees_onto o.after behind_left)) (sym n) all) in
         let once = s.once c.label.tag in
@@ -117,7 +117,7 @@ module _ (nodes : List (Node Item)) (closer : ℕ) (left : List (Entry ℕ)) (c 
           source = s.source;
           tables = s.tables;
           holds = there.holds;
-          found = found_at s.source s.tables nodes (sibling_of nodes opener.node) (joined (inside o) behind_left) there;
+          found = found_at s.source s.tables nodes (sibling_of nodes opener.node) (joined_chains (inside o) behind_left) there;
           apart = omega (arith, once, counted, first, second, third, same-refl c.label.tag);
           number = s.number;
           starts = subst (λ m. (item_at nodes m).start ≡ start_of c.label) s.number (same_start s.source s.tables nodes c.label

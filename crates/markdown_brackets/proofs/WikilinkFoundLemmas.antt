@@ -9,7 +9,7 @@ use Rattle.markdown_base.specs.BlockTree.{item_at}
 use Rattle.markdown_base.specs.Forest.{Forest, nil, node, first_root}
 use Rattle.markdown_base.specs.declared.item.Item.{Item}
 use Rattle.markdown_base.specs.declared.node.Node.{Node}
-use Rattle.markdown_document.specs.ChainRest.{start_of, end_of, joined, past_byte}
+use Rattle.markdown_document.specs.ChainRest.{start_of, end_of, joined_chains, past_byte}
 use Rattle.markdown_document.specs.Document.{Label}
 use Rattle.markdown_document.specs.Tables.{Tables}
 use Rattle.markdown_scan.specs.WikilinkPipe.{wikilink_pipe}
@@ -92,7 +92,7 @@ module _ (source : List ℕ) (tables : Tables) (nodes : List (Node Item)) (w : A
 
   -- what it shows
   shows_so : (f : Label ℕ) (below after : Forest (Label ℕ)) (l : Option ℕ)
-      → Found source tables nodes l (joined (node f below after) (node closer nil rest))
+      → Found source tables nodes l (joined_chains (node f below after) (node closer nil rest))
       → times_of closer.tag (node f below after) ≡ 0 → l ≡ Some f.tag → (name : List ℕ) (shows : Shows)
       → StartsBefore (start_of closer) shows
       → (r : Option ClosedBracket)
@@ -123,7 +123,7 @@ module _ (source : List ℕ) (tables : Tables) (nodes : List (Node Item)) (w : A
   none_at_all trees (Some x) h = absurd h
 
   -- the wikilink of these trees
-  pub wikilink_is : (trees : Forest (Label ℕ)) (l : Option ℕ) → Found source tables nodes l (joined trees (node closer nil rest))
+  pub wikilink_is : (trees : Forest (Label ℕ)) (l : Option ℕ) → Found source tables nodes l (joined_chains trees (node closer nil rest))
       → times_of closer.tag trees ≡ 0
       → (r : Option ClosedBracket)
       → IsWikilinkAt opener end (option_and_then (wikilink_from nodes w.setting.text w.above.block_end closer.tag) (link_to trees)) r
@@ -156,10 +156,10 @@ low_of nodes l f e = subst (λ g. height g ≤ length nodes) e (height_found (li
 module _ (source : List ℕ) (tables : Tables) (nodes : List (Node Item)) (closer : Label ℕ) (rest : Forest (Label ℕ)) where
   pub record PastSecond (trees : Forest (Label ℕ)) : Type 0 where
     pub link : Option ℕ
-    pub found : Found source tables nodes link (joined (past_second trees) (node closer nil rest))
+    pub found : Found source tables nodes link (joined_chains (past_second trees) (node closer nil rest))
     pub apart : times_of closer.tag (past_second trees) ≡ 0
 
-  pub past_second_found : (l : Option ℕ) (trees : Forest (Label ℕ)) → Found source tables nodes l (joined trees (node closer nil rest))
+  pub past_second_found : (l : Option ℕ) (trees : Forest (Label ℕ)) → Found source tables nodes l (joined_chains trees (node closer nil rest))
       → times_of closer.tag trees ≡ 0
       → PastSecond trees
   past_second_found l nil s apart = record { link = l; found = s; apart = apart }
@@ -187,7 +187,7 @@ finds_live nodes w end closer opener live c None r e h t = absurd t
 finds_live nodes w end closer opener live c (Some o) r e h t =
     let s = t.stands in
     let alive : is_live o.mark.wikilink ≡ true = sym t.live ∙ e in
-    let all : Found s.source s.tables nodes (sibling_of nodes opener.node) (joined (inside o) (node c.label nil c.rest)) =
+    let all : Found s.source s.tables nodes (sibling_of nodes opener.node) (joined_chains (inside o) (node c.label nil c.rest)) =
     record { holds = s.holds; low = low_of nodes _ _ s.found } in
     let past = past_second_found s.source s.tables nodes c.label c.rest (sibling_of nodes opener.node) (inside o) all s.apart in
     let begins : body_start nodes opener.node c.label.tag ≡ link_to (past_second (inside o)) =

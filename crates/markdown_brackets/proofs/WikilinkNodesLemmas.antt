@@ -7,7 +7,7 @@ use Rattle.markdown_base.specs.Arena.{sibling_of}
 use Rattle.markdown_base.specs.Forest.{Forest, nil, node, first_root}
 use Rattle.markdown_base.specs.declared.item.Item.{Item}
 use Rattle.markdown_base.specs.declared.node.Node.{Node}
-use Rattle.markdown_document.specs.ChainRest.{end_of, begun_at, joined, past_byte}
+use Rattle.markdown_document.specs.ChainRest.{end_of, begun_at, joined_chains, past_byte}
 use Rattle.markdown_document.specs.Document.{Label}
 use Rattle.markdown_document.specs.Tables.{Tables}
 use Rattle.markdown_document.specs.Totals.{same}
@@ -42,7 +42,7 @@ apart_after k a below after none = omega (arith, none)
 
 module _ (source : List ℕ) (tables : Tables) (nodes : List (Node Item)) (closer : Label ℕ) (below_closer rest : Forest (Label ℕ)) where
   abbrev Up : Forest (Label ℕ) → Forest (Label ℕ)
-  Up f = joined f (node closer below_closer rest)
+  Up f = joined_chains f (node closer below_closer rest)
 
   -- the link to what precedes the `]`
   unless_closer : (l : Option ℕ) (f : Forest (Label ℕ)) → Holds source tables nodes l (Up f) → times_of closer.tag f ≡ 0

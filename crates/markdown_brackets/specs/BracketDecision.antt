@@ -130,20 +130,20 @@ closer_ends_at i (node a below after) =
     if nat_lt (end_of a) i then closer_ends_at i after else is_closer (open_body a.part.shape) && (end_of a == i)
 
 -- the number of uses of each footnote, after one more use of this one
-abbrev pub used_once_more : List ℕ → (List ℕ → ℕ) → (List ℕ → ℕ)
-used_once_more name uses = λ other. if is_match name other then min (uses other + 1) (2 ^ 64 - 1) else uses other
+abbrev pub uses_once_more : List ℕ → (List ℕ → ℕ) → (List ℕ → ℕ)
+uses_once_more name uses = λ other. if is_match name other then min (uses other + 1) (2 ^ 64 - 1) else uses other
 
 -- one more use of a footnote is counted, if it is defined
 abbrev pub footnote_used : {A : Type 0} → (is_defined : Bool) → List ℕ → Step A
 footnote_used false name p = p
-footnote_used true name p = record p { known = record p.known { uses = used_once_more name p.known.uses } }
+footnote_used true name p = record p { known = record p.known { uses = uses_once_more name p.known.uses } }
 
 -- what is written at an opener and its `]`: no link; an inline link, with its tail; a reference, with its type, its
 -- link label, the byte offset where it ends and the one where the chain continues; or a footnote label
 pub data Written : Type 0 where
   no_link : Written
   inline_link : LinkTail → Written
-  link_label : LinkType → List ℕ → (end next : ℕ) → Written
+  link_reference : LinkType → List ℕ → (end next : ℕ) → Written
   footnote_label : List ℕ → Written
 
 -- the label from the opener's `[` to this `]`, if the bytes between are exactly one label in the block
@@ -156,7 +156,7 @@ label_of_opener w c o =
 abbrev pub own_written : LinkType → (end next : ℕ) → Option FoundLabel → Written
 own_written link_type end next None = no_link
 own_written link_type end next (Some l) =
-    if l.is_footnote then footnote_label l.name else link_label link_type l.name end next
+    if l.is_footnote then footnote_label l.name else link_reference link_type l.name end next
 
 -- the form of a reference at a `]`
 abbrev pub form_of : {A : Type 0} → Around → Closing A → Form
@@ -168,7 +168,7 @@ form_of w c =
 -- shortcut, if the bytes from the opener to the `]` are a label
 abbrev pub reference_written : (could_be : Bool) → (end : ℕ) → (closes : ℕ → Bool) → Option FoundLabel → Form → Written
 reference_written could_be end closes own (reference label to) =
-    if closes to then link_label kind.Reference label to to else no_link
+    if closes to then link_reference kind.Reference label to to else no_link
 reference_written could_be end closes own collapsed =
     if could_be then own_written kind.Collapsed end (end + 2) own else no_link
 reference_written could_be end closes own shortcut =
@@ -238,7 +238,7 @@ spent_by other end spent = spent
 abbrev pub tried : {A : Type 0} → Around → Split A → Written → Try A
 tried w o no_link p = to_be a_text p
 tried w o (inline_link t) p = to_be (a_link o (inline_target w t) t.ends t.ends) p
-tried w o (link_label link_type label end next) p =
+tried w o (link_reference link_type label end next) p =
     look_up_tried w o link_type label end next (record p { spent = spent_by link_type end p.spent })
 tried w o (footnote_label name) p = footnote_tried w o name p
 
@@ -258,18 +258,18 @@ if_some (node a below after) = Some (node a below after)
 
 -- what a wikilink shows: its name, or the text after its pipe, which must not be empty if the body does not end at the
 -- pipe
-abbrev pub children_of : {A : Type 0} → Around → Label A → Forest (Label A) → (end : ℕ) → Shows
+abbrev pub shown_children : {A : Type 0} → Around → Label A → Forest (Label A) → (end : ℕ) → Shows
     → Option (Forest (Label A))
-children_of w first trees end shows_name = Some (node (text_from w first (start_of first) end) nil nil)
-children_of w first trees end (shows_nothing at) = Some (node (text_from w first at at) nil nil)
-children_of w first trees end (shows_from at) = if_some (past_byte at trees)
+shown_children w first trees end shows_name = Some (node (text_from w first (start_of first) end) nil nil)
+shown_children w first trees end (shows_nothing at) = Some (node (text_from w first at at) nil nil)
+shown_children w first trees end (shows_from at) = if_some (past_byte at trees)
 
 -- the wikilink with this body, if it shows anything
 abbrev pub wikilink_by : {A : Type 0} → Around → Label A → Forest (Label A) → (end : ℕ) → WikilinkBody
     → Option (Wikilink A)
 wikilink_by w first trees end b = option_map
     (λ children. record { name = b.name; has_pothole = has_pothole b.shows; children = children })
-    (children_of w first trees end b.shows)
+    (shown_children w first trees end b.shows)
 
 -- the wikilink whose body consists of these trees and ends at a byte offset
 abbrev pub wikilink_in : {A : Type 0} → Around → Forest (Label A) → (end : ℕ) → Option (Wikilink A)

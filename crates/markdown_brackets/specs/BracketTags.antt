@@ -28,13 +28,13 @@ retag_progress f p = record {
 }
 
 -- two rules for items other than brackets do the same, one of them with other tags
-abbrev pub Follows : {A B : Type 0} → (A → B) → Reader A → Reader B → Type 0
-Follows {A} f others others' = (a : Label A) (below rest : Forest (Label A)) (p : Progress A)
+abbrev pub ReaderFollows : {A B : Type 0} → (A → B) → Reader A → Reader B → Type 0
+ReaderFollows {A} f others others' = (a : Label A) (below rest : Forest (Label A)) (p : Progress A)
     → others' (retag f a) (retagged f below) (retagged f rest) (retag_progress f p)
     ≡ retag_progress f (others a below rest p)
 
 -- then reading a chain by these rules does the same, with other tags
-abbrev pub TagLaw : Type 0 → Type 0 → Type 0
-TagLaw A B = (f : A → B) (w : Around) (others : Reader A) (others' : Reader B) → Follows f others others'
+abbrev pub BracketTagLaw : Type 0 → Type 0 → Type 0
+BracketTagLaw A B = (f : A → B) (w : Around) (others : Reader A) (others' : Reader B) → ReaderFollows f others others'
     → (chain : Forest (Label A)) (p : Progress A)
     → read_chain w others' (retagged f chain) (retag_progress f p) ≡ retag_progress f (read_chain w others chain p)

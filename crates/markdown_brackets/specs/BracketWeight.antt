@@ -11,20 +11,20 @@ use Rattle.markdown_brackets.specs.LeftList.{Entry, done, waits, trees_onto}
 use Rattle.markdown_brackets.specs.ReadChain.{Reader, begun, read_chain}
 
 -- the weight of a label
-abbrev pub weight_at : {A : Type 0} → Label A → ℕ
-weight_at a = weight_if (is_unresolved a.part.shape)
+abbrev pub label_weight : {A : Type 0} → Label A → ℕ
+label_weight a = weight_if (is_unresolved a.part.shape)
 
 -- the weight of a left list
 abbrev pub weight_left : {A : Type 0} → List (Entry A) → ℕ
 weight_left [] = 0
-weight_left (done a below ∷ left) = (weight_at a + weight below) + weight_left left
-weight_left (waits m a ∷ left) = weight_at a + weight_left left
+weight_left (done a below ∷ left) = (label_weight a + weight below) + weight_left left
+weight_left (waits m a ∷ left) = label_weight a + weight_left left
 
 -- reading does not increase the weight of a chain, if the rule for items other than brackets adds at most the weight of
 -- its item
 abbrev pub BracketWeightLaw : Type 0 → Type 0
 BracketWeightLaw A = (w : Around) (others : Reader A)
     → ((a : Label A) (below rest : Forest (Label A)) (p : Progress A)
-    → weight_left (others a below rest p).left ≤ weight_left p.left + (weight_at a + weight below))
+    → weight_left (others a below rest p).left ≤ weight_left p.left + (label_weight a + weight below))
     → (chain : Forest (Label A)) (known : Known)
     → weight (trees_onto (read_chain w others chain (begun known)).left nil) ≤ weight chain

@@ -13,7 +13,7 @@ use Rattle.markdown_defs.specs.Footnotes.{footnote_at}
 use Rattle.markdown_defs.specs.declared.footnotes.FootnoteDefs.{FootnoteDefs}
 use Rattle.markdown_brackets.specs.BracketDecision.{Around, Becomes, a_text, a_link, a_footnote, a_wikilink, Progress}
 use Rattle.markdown_brackets.specs.BracketDecision.{Try}
-use Rattle.markdown_brackets.specs.BracketDecision.{past_second, spent_by, text_from, link_label}
+use Rattle.markdown_brackets.specs.BracketDecision.{past_second, spent_by, text_from, link_reference}
 use Rattle.markdown_brackets.specs.BracketDecision as decision
 use Rattle.markdown_brackets.specs.BracketOptions.{footnote_style}
 use Rattle.markdown_brackets.specs.declared.footnote.FootnoteStyle.{FootnoteStyle}
@@ -104,7 +104,7 @@ knowing limit answers uses p = record p { known = record { limit = limit; answer
 
 -- the ends of `]` that what is written uses up
 abbrev pub spent_in : decision.Written → List ℕ
-spent_in (link_label link_type label end next) = spent_by link_type end []
+spent_in (link_reference link_type label end next) = spent_by link_type end []
 spent_in other = []
 
 -- the result of a step of the decision: the callback answered these questions, at most one, and the result is what the

@@ -75,4 +75,4 @@ defined_or_asked asks limit answers q None =
 abbrev pub look_up : List Labelled → Bool → ℕ → Answers → Question → LookedUp
 look_up defined asks limit answers q =
     if limit == 0 then finds_nothing limit answers []
-    else defined_or_asked asks limit answers q (definitions.look_up q.reference defined)
+    else defined_or_asked asks limit answers q (definitions.find_definition q.reference defined)

@@ -14,8 +14,8 @@ use Rattle.markdown_brackets.specs.Lookup.{look_up, answered_target, defined_tar
 use Rattle.markdown_brackets.specs.declared.look_up.Target.{Target}
 
 -- the question about a link label
-abbrev pub question : Range ℕ → LinkType → CowStr → Question
-question span link_type label = record { span = span; link_type = link_type; reference = text_of label }
+abbrev pub question_about : Range ℕ → LinkType → CowStr → Question
+question_about span link_type label = record { span = span; link_type = link_type; reference = text_of label }
 
 -- a target, by the bytes of its texts
 abbrev pub target_view : Target → LinkView
@@ -43,7 +43,7 @@ IsAnswered {C} step q (Some old) new target =
 abbrev pub FindsTarget : {C : Type 0} → (C → Question → Option Answer → C → Type 0) → List Labelled → Question
     → Option C → Option C → Option LinkView → Type 0
 FindsTarget step defined q old new target =
-    MatchOption (definitions.look_up q.reference defined) (IsAnswered step q old new target)
+    MatchOption (definitions.find_definition q.reference defined) (IsAnswered step q old new target)
     (λ d. (new ≡ old) × (target ≡ Some (defined_target q.link_type (definition_view d) q.reference)))
 
 -- the target of a look-up: the callback answered the questions asked, and the result is the defined one whatever

@@ -33,8 +33,8 @@ among n [] = false
 among n (m ∷ others) = (n == m) || among n others
 
 -- a `]` that ends the label of an earlier reference cannot be a reference
-abbrev pub closing : {A : Type 0} → (could_be_reference : Bool) → Label A → Forest (Label A) → Progress A → Closing A
-closing could_be_reference a rest p =
+abbrev pub closing_of : {A : Type 0} → (could_be_reference : Bool) → Label A → Forest (Label A) → Progress A → Closing A
+closing_of could_be_reference a rest p =
     record { label = a; could_be_reference = could_be_reference && not (among (end_of a) p.spent); rest = rest }
 
 -- the effect of an item, from its label, the trees below it and the chain after it
@@ -46,7 +46,7 @@ abbrev pub read_as : {A : Type 0} → Around → Reader A → ItemBody → Reade
 read_as w others body.MaybeLinkOpen a below rest p = opened w false a rest p
 read_as w others body.MaybeImage a below rest p = opened w true a rest p
 read_as w others (body.MaybeLinkClose could_be_reference) a below rest p =
-    closed w (closing could_be_reference a rest p) p
+    closed w (closing_of could_be_reference a rest p) p
 read_as w others other a below rest p = others a below rest p
 
 -- the effect of an item

@@ -37,19 +37,19 @@ abbrev pub label_after : ℕ → (List ℕ → Option ℕ) → Bool → List ℕ
 label_after byte skipped in_table bytes = option_and_then (link_label skipped in_table) (stripped byte bytes)
 
 -- the footnote label, `[^name]`, that these bytes continue after its `[`; in GitHub's style, it is on one line
-abbrev pub footnote_label : FootnoteStyle → (List ℕ → Option ℕ) → Bool → List ℕ → Option FoundLabel
-footnote_label style.Off skipped in_table bytes = None
-footnote_label style.Gfm skipped in_table bytes = label_past true 2 (label_after caret on_one_line in_table bytes)
-footnote_label style.Old skipped in_table bytes = label_past true 2 (label_after caret skipped in_table bytes)
+abbrev pub footnote_label_in : FootnoteStyle → (List ℕ → Option ℕ) → Bool → List ℕ → Option FoundLabel
+footnote_label_in style.Off skipped in_table bytes = None
+footnote_label_in style.Gfm skipped in_table bytes = label_past true 2 (label_after caret on_one_line in_table bytes)
+footnote_label_in style.Old skipped in_table bytes = label_past true 2 (label_after caret skipped in_table bytes)
 
 -- the footnote label or else the link label that these bytes continue after its `[`
 abbrev pub label_after_bracket : FootnoteStyle → (List ℕ → Option ℕ) → Bool → List ℕ → Option FoundLabel
 label_after_bracket style skipped in_table bytes =
-    option_or (footnote_label style skipped in_table bytes) (label_past false 1 (link_label skipped in_table bytes))
+    option_or (footnote_label_in style skipped in_table bytes) (label_past false 1 (link_label skipped in_table bytes))
 
 -- the label that the bytes begin with, from its `[` on
-abbrev pub label_at : FootnoteStyle → (List ℕ → Option ℕ) → Bool → List ℕ → Option FoundLabel
-label_at style skipped in_table bytes =
+abbrev pub bracket_label : FootnoteStyle → (List ℕ → Option ℕ) → Bool → List ℕ → Option FoundLabel
+bracket_label style skipped in_table bytes =
     option_and_then (label_after_bracket style skipped in_table) (stripped open_bracket bytes)
 
 -- a label, if it has exactly n bytes
@@ -60,7 +60,7 @@ of_length n (Some l) = if l.length == n then Some l else None
 -- the bytes from an opener's `[` at `start` through its `]`, which ends at `end`, if they are exactly one label
 abbrev pub own_label : FootnoteStyle → (List ℕ → Option ℕ) → Bool → List ℕ → ℕ → ℕ → Option FoundLabel
 own_label style skipped in_table text start end =
-    of_length (end - start) (label_at style skipped in_table (slice_range text start end))
+    of_length (end - start) (bracket_label style skipped in_table (slice_range text start end))
 
 -- the form of a reference: `[text][label]`, with the link label and the byte offset after it; `[label][]`; or `[label]`
 pub data Form : Type 0 where
@@ -92,5 +92,5 @@ form_by_label p (Some l) = if l.is_footnote then shortcut else reference l.name 
 abbrev pub form_at : FootnoteStyle → (List ℕ → Option ℕ) → Bool → List ℕ → ℕ → Option Item → Option Item → Form
 form_at style skipped in_table text p next after =
     if stands_at p is_opener next && stands_at (p + 1) is_closer after then collapsed
-    else if stands_at p (λ b. true) next then form_by_label p (label_at style skipped in_table (drop p text))
+    else if stands_at p (λ b. true) next then form_by_label p (bracket_label style skipped in_table (drop p text))
     else shortcut

@@ -8,7 +8,7 @@ use Rattle.markdown_base.specs.declared.item.Item.{Item}
 use Rattle.markdown_base.specs.declared.node.Node.{Node}
 use Rattle.markdown_document.specs.ChainRest.{start_of, end_of}
 use Rattle.markdown_document.specs.Tables.{Tables}
-use Rattle.markdown_document.specs.ChainRest.{joined}
+use Rattle.markdown_document.specs.ChainRest.{joined_chains}
 use Rattle.markdown_document.specs.Document.{Label}
 use Rattle.markdown_base.specs.Forest.{Forest, nil, node}
 use Rattle.markdown_brackets.specs.BracketDecision.{Around, Closing, Wikilink, opener_tried, past_second, wikilink_in}
@@ -85,13 +85,13 @@ IsWikilink w opener end trees (Some v) (Some (Wikilinked found_opener name potho
 IsWikilink w opener end trees (Some v) found = ⊥
 
 -- an arena contains the trees between an opener and the `]` of a node, and the chain after that
-pub record StandsBetween (nodes : List (Node Item)) (closer : ℕ) (opener : Opener) (c : Closing ℕ) (o : Split ℕ) : Type
+pub record HoldsInside (nodes : List (Node Item)) (closer : ℕ) (opener : Opener) (c : Closing ℕ) (o : Split ℕ) : Type
     0 where
   pub source : List ℕ
   pub tables : Tables
-  pub holds : Holds source tables nodes (sibling_of nodes opener.node) (joined (inside o) (node c.label nil c.rest))
+  pub holds : Holds source tables nodes (sibling_of nodes opener.node) (joined_chains (inside o) (node c.label nil c.rest))
   pub found : forest_at (links_of nodes) (sibling_of nodes opener.node)
-      ≡ numbers_of (joined (inside o) (node c.label nil c.rest))
+      ≡ numbers_of (joined_chains (inside o) (node c.label nil c.rest))
   pub apart : times_of c.label.tag (inside o) ≡ 0
   pub number : c.label.tag ≡ closer
   pub starts : (item_at nodes closer).start ≡ start_of c.label
@@ -102,7 +102,7 @@ pub record IsTakenBefore (nodes : List (Node Item)) (closer : ℕ) (t : Opener �
     : Type 0 where
   pub opener : t.0 ≡ opener_of o
   pub live : t.1 ≡ is_live o.mark.wikilink
-  pub stands : StandsBetween nodes closer t.0 c o
+  pub stands : HoldsInside nodes closer t.0 c o
 
 -- the opener with which a wikilink is tried, if any, is that of the split
 abbrev pub TriesWikilink : List (Node Item) → (closer : ℕ) → Option (Opener × Bool) → Closing ℕ → Option (Split ℕ)

@@ -8,7 +8,7 @@ use Rattle.markdown_base.specs.CowText.{text_of}
 use Rattle.markdown_base.specs.declared.item.Item.{Item}
 use Rattle.markdown_base.specs.declared.tag.LinkType.TheVariants as kind
 use Rattle.markdown_base.specs.declared.node.Node.{Node}
-use Rattle.markdown_brackets.specs.BracketDecision.{no_link, inline_link, link_label, footnote_label, reference_written}
+use Rattle.markdown_brackets.specs.BracketDecision.{no_link, inline_link, link_reference, footnote_label, reference_written}
 use Rattle.markdown_brackets.specs.BracketDecision.{tail_or}
 use Rattle.markdown_brackets.specs.BracketDecision as decision
 use Rattle.markdown_brackets.specs.BracketOptions.{footnote_style}
@@ -27,7 +27,7 @@ use Rattle.markdown_brackets.specs.declared.written.Written.TheVariants.{Nothing
 abbrev pub IsRead : (in_table : Bool) → decision.Written → Written → Type 0
 IsRead in_table no_link Nothing = Unit {0}
 IsRead in_table (inline_link t) (Inline found) = IsTail in_table t found
-IsRead in_table (link_label kind label end next) (Label found_kind found found_end found_next) =
+IsRead in_table (link_reference kind label end next) (Label found_kind found found_end found_next) =
     (found_kind ≡ kind) × (text_of found ≡ label) × (found_end ≡ end) × (found_next ≡ next)
 IsRead in_table (footnote_label name) (Footnote found) = text_of found ≡ name
 IsRead in_table other found = ⊥

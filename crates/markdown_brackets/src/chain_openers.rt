@@ -1,7 +1,7 @@
 //! The openers of a chain: those of brackets and those of wikilinks, and what is left of them after a finished link,
 //! image, wikilink or footnote reference.
 ghost use Rattle.std.specs.Prelude.{◌≡◌, []};
-ghost use Rattle.markdown_brackets.specs.Openers.{before, before_link, before_wikilink};
+ghost use Rattle.markdown_brackets.specs.Openers.{before, waiting_before_link, waiting_before_wikilink};
 
 use crate::openers::{Opener, OpenerStack};
 use std::alloc::Global;
@@ -37,8 +37,8 @@ impl ChainOpeners {
     /// Removes this opener and all later ones, after a link or an image was found from it on. After a link, but not
     /// after an image, no earlier `[` can become a link.
     pub fn finish_link(&mut self, opener: Opener)
-        ensures brackets { self.new.brackets ≡ before_link opener self.old.brackets }
-        ensures wikilinks { self.new.wikilinks ≡ before_link opener self.old.wikilinks }
+        ensures brackets { self.new.brackets ≡ waiting_before_link opener self.old.brackets }
+        ensures wikilinks { self.new.wikilinks ≡ waiting_before_link opener self.old.wikilinks }
     {
         self.brackets.drop_from(opener.node);
         self.wikilinks.drop_from(opener.node);
@@ -51,7 +51,7 @@ impl ChainOpeners {
     /// Removes the opener with this node number and all later ones, after a wikilink was found from it on, as a link or
     /// as an image. No earlier `[` can become a link, and no earlier opener can become a wikilink.
     pub fn finish_wikilink(&mut self, node: usize)
-        ensures brackets { self.new.brackets ≡ before_wikilink node self.old.brackets }
+        ensures brackets { self.new.brackets ≡ waiting_before_wikilink node self.old.brackets }
         ensures wikilinks { self.new.wikilinks ≡ [] }
     {
         self.brackets.drop_from(node);

@@ -19,7 +19,7 @@ ghost use Rattle.markdown_brackets.specs.SpentEnds.{is_spent};
 ghost use Rattle.markdown_brackets.specs.LeftList.{Split};
 ghost use Rattle.markdown_brackets.specs.LinkTail as scanned;
 ghost use Rattle.markdown_brackets.specs.LinkTailView.{IsTail};
-ghost use Rattle.markdown_brackets.specs.LookupView.{LooksUp, question};
+ghost use Rattle.markdown_brackets.specs.LookupView.{LooksUp, question_about};
 ghost use Rattle.markdown_brackets.specs.WrittenView.{IsRead, WrittenIsFrom};
 ghost use Rattle.markdown_brackets.specs.declared.written.Written.TheVariants.{Inline};
 
@@ -112,7 +112,7 @@ fn find_reference<'a, F: BrokenLinkCallback<'a>>(
 ) -> Result<ClosedBracket<'a>, Fault>
     requires { IfSome callback.old F.can_ask }
     ensures finds { IfOk result (λ found. (target : Option LinkView)
-        × LooksUp F.answers definitions.now (is_some callback.old) (question span link_type label.entry)
+        × LooksUp F.answers definitions.now (is_some callback.old) (question_about span link_type label.entry)
         limit.old limit.new callback.old callback.new target × IsLinkOr opener span.end next target found) }
 
     ensures again { IfSome callback.new F.can_ask }

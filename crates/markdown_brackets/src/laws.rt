@@ -4,7 +4,7 @@ ghost use Rattle.markdown_base.specs.Questions.{Question, Answers};
 ghost use Rattle.markdown_brackets.specs.NoLinkInLink.{NoLinkLaw};
 ghost use Rattle.markdown_defs.specs.Definitions.{Labelled};
 ghost use Rattle.markdown_brackets.specs.BracketLaws.{ClosedLaw, ChainLaw};
-ghost use Rattle.markdown_brackets.specs.BracketTags.{TagLaw};
+ghost use Rattle.markdown_brackets.specs.BracketTags.{BracketTagLaw};
 ghost use Rattle.markdown_brackets.specs.BracketWeight.{BracketWeightLaw};
 ghost use Rattle.markdown_brackets.specs.ChainBegins.{BeginsLaw};
 ghost use Rattle.markdown_brackets.specs.KeptShapes.{KeptShapesLaw};
@@ -79,7 +79,7 @@ pub fn brackets_leave_nothing_open()
 /// States that brackets do not depend on tags: a chain without its tags is read as the chain is, except for the tags,
 /// if this holds for the rule for items other than brackets.
 pub fn tags_say_nothing_to_brackets()
-    ensures { TagLaw ℕ ⊤ }
+    ensures { BracketTagLaw ℕ ⊤ }
 {}
 
 /// States that a chain whose first item is open, once it is read, begins with a tree that passes any test that each

@@ -6,7 +6,7 @@ ghost use Rattle.markdown_base.specs.CowText.{text_of};
 ghost use Rattle.markdown_base.specs.declared.fault.Fault.{Fault};
 ghost use Rattle.markdown_defs.specs.Callback.{answer_of};
 ghost use Rattle.markdown_brackets.specs.Lookup as lookup;
-ghost use Rattle.markdown_brackets.specs.LookupView.{question, target_view, target_by};
+ghost use Rattle.markdown_brackets.specs.LookupView.{question_about, target_view, target_by};
 ghost use Rattle.markdown_brackets.specs.LookupView.{FindsTarget, IsAnswered, LooksUp};
 
 use markdown_base::block_parts::LinkDef;
@@ -76,7 +76,7 @@ fn answered_target<'a>(
     id: CowStr<'a>,
 ) -> Option<Target<'a>>
     ensures { (span : _) → option_map target_view result
-        ≡ target_by (question span link_type id.entry) (answer_of answer.entry) }
+        ≡ target_by (question_about span link_type id.entry) (answer_of answer.entry) }
 {
     match answer {
         Some((destination, title)) => Some(Target {
@@ -103,7 +103,7 @@ fn ask<'a, F: BrokenLinkCallback<'a>>(
 ) -> Result<Option<Target<'a>>, Fault>
     requires { IfSome callback.old F.can_ask }
     ensures answered { IfOk result (λ target.
-        IsAnswered F.answers (question span link_type id.entry) callback.old callback.new
+        IsAnswered F.answers (question_about span link_type id.entry) callback.old callback.new
         (option_map target_view target)) }
     ensures again { IfSome callback.new F.can_ask }
     ensures refused { IfErr result (λ fault. fault ≡ Fault.Memory) }
@@ -134,7 +134,7 @@ fn find_target<'a, F: BrokenLinkCallback<'a>>(
 ) -> Result<Option<Target<'a>>, Fault>
     requires { IfSome callback.old F.can_ask }
     ensures finds { IfOk result (λ target.
-        FindsTarget F.answers definitions.now (question span link_type label.entry) callback.old callback.new
+        FindsTarget F.answers definitions.now (question_about span link_type label.entry) callback.old callback.new
         (option_map target_view target)) }
     ensures again { IfSome callback.new F.can_ask }
     ensures refused { IfErr result (λ fault. fault ≡ Fault.Memory) }
@@ -174,7 +174,7 @@ pub fn look_up_label<'a, F: BrokenLinkCallback<'a>>(
 ) -> Result<Option<Target<'a>>, Fault>
     requires { IfSome callback.old F.can_ask }
     ensures looks_up { IfOk result (λ target.
-        LooksUp F.answers definitions.now (is_some callback.old) (question span link_type label.entry)
+        LooksUp F.answers definitions.now (is_some callback.old) (question_about span link_type label.entry)
         limit.old limit.new callback.old callback.new (option_map target_view target)) }
 
     ensures again { IfSome callback.new F.can_ask }

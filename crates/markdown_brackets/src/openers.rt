@@ -1,7 +1,7 @@
 //! Openers that wait for a `]`.
 ghost use Rattle.std.specs.Prelude.{◌≡◌, ◌≤◌, ℕ, length, take};
 ghost use Rattle.markdown_brackets.specs.Openers.{before};
-ghost use Rattle.markdown_brackets.specs.OpenerStack.{waiting};
+ghost use Rattle.markdown_brackets.specs.OpenerStack.{waiting_openers};
 
 use markdown_base::fault::Fault;
 use std::alloc::Global;
@@ -28,7 +28,7 @@ pub struct OpenerStack {
 // Returns the number of openers before the nearest ones with node numbers of at least `node`.
 fn count_before(openers: &[Opener], node: usize) -> usize
     ensures within { result ≤ length openers.now }
-    ensures value { (n : ℕ) → before node (waiting n openers.now) ≡ waiting n (take result openers.now) }
+    ensures value { (n : ℕ) → before node (waiting_openers n openers.now) ≡ waiting_openers n (take result openers.now) }
 {
     let mut left = openers.len();
     'openers: while left > 0 {
@@ -43,11 +43,11 @@ fn count_before(openers: &[Opener], node: usize) -> usize
 impl Model for OpenerStack {
     ghost use Rattle.std.specs.Prelude.{List, length, ◌≤◌};
     ghost use Rattle.markdown_brackets.specs.Openers.{Waiting};
-    ghost use Rattle.markdown_brackets.specs.OpenerStack.{waiting};
+    ghost use Rattle.markdown_brackets.specs.OpenerStack.{waiting_openers};
 
     ghost Value = { List Waiting };
 
-    ghost view = { λ s. waiting s.live_from s.openers.items };
+    ghost view = { λ s. waiting_openers s.live_from s.openers.items };
 
     ghost invariant = { λ s. s.live_from ≤ length s.openers.items };
 }
@@ -55,7 +55,7 @@ impl Model for OpenerStack {
 impl OpenerStack {
     ghost use Rattle.std.specs.Prelude.{◌≡◌, ◌∷◌, [], map, OnOk, OnErr, IfErr, MatchOption};
     ghost use Rattle.markdown_base.specs.declared.fault.Fault.{Fault};
-    ghost use Rattle.markdown_brackets.specs.Openers.{live, disabled, before, first_opener};
+    ghost use Rattle.markdown_brackets.specs.Openers.{live_opener, disabled_opener, before, first_opener};
 
     /// Returns an empty stack.
     pub fn new(alloc: Global) -> OpenerStack
@@ -69,7 +69,7 @@ impl OpenerStack {
 
     /// Adds an opener as the nearest one. The only error is `Fault::Memory`, after which nothing has changed.
     pub fn push(&mut self, opener: Opener) -> Result<(), Fault>
-        ensures put { OnOk result (self.new ≡ live opener ∷ self.old) }
+        ensures put { OnOk result (self.new ≡ live_opener opener ∷ self.old) }
         ensures refused { IfErr result (λ fault. fault ≡ Fault.Memory) }
         ensures unchanged { OnErr result (self.new ≡ self.old) }
     {
@@ -100,7 +100,7 @@ impl OpenerStack {
 
     /// Prevents each `[` on the stack from becoming a link.
     pub fn disable_brackets(&mut self)
-        ensures { self.new ≡ map disabled self.old }
+        ensures { self.new ≡ map disabled_opener self.old }
     {
         self.live_from = self.openers.len();
     }

@@ -98,7 +98,7 @@ fn scan_footnote_label<'t, R: LineRule>(
 ) -> Result<Option<FoundLabel<'t>>, AllocError>
     requires { 1 + length text.now < 2 ^ 64 }
     ensures value { IfOk result (λ found.
-        option_map label_view found ≡ def.footnote_label style (R.skipped rule.now) in_table text.now) }
+        option_map label_view found ≡ def.footnote_label_in style (R.skipped rule.now) in_table text.now) }
     ensures borrowed { IfOk result (λ found. IfSome found (BorrowsLabel 2 (drop 1 text.now))) }
     ensures kind { IfOk result (λ found. IfSome found (λ l. l.is_footnote ≡ true)) }
     ensures within { IfOk result (λ found. IfSome found (λ l. l.length ≤ 1 + length text.now)) }
@@ -121,7 +121,7 @@ pub fn scan_label<'t, R: LineRule>(
     in_table: bool,
 ) -> Result<Option<FoundLabel<'t>>, AllocError>
     ensures value { IfOk result (λ found.
-        option_map label_view found ≡ def.label_at style (R.skipped rule.now) in_table text.now) }
+        option_map label_view found ≡ def.bracket_label style (R.skipped rule.now) in_table text.now) }
     ensures borrowed { IfOk result (λ found. IfSome found (BorrowsName text.now)) }
     ensures within { IfOk result (λ found. IfSome found (λ l. l.length ≤ length text.now)) }
 {

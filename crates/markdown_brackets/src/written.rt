@@ -5,7 +5,7 @@ ghost use Rattle.std.specs.Str.{IsCharBoundary};
 ghost use Rattle.markdown_base.specs.BlockTree.{item_at};
 ghost use Rattle.markdown_base.specs.CowText.{text_of};
 ghost use Rattle.markdown_base.specs.declared.tag.LinkType.TheVariants as kind;
-ghost use Rattle.markdown_brackets.specs.BracketDecision.{link_label, no_link, own_written};
+ghost use Rattle.markdown_brackets.specs.BracketDecision.{link_reference, no_link, own_written};
 ghost use Rattle.markdown_base.specs.EnabledOptions.{wikilinks_on};
 ghost use Rattle.markdown_brackets.specs.BracketOptions.{footnote_style};
 ghost use Rattle.markdown_brackets.specs.ChainAhead.{IsChain, reaches_closer};
@@ -123,7 +123,7 @@ fn read_full<'t>(
     requires chain { IsChain tree.now.nodes next }
     requires some { 0 < end }
     ensures read { (in_table : Bool) → IsRead in_table
-        (if reaches_closer tree.now.nodes end next then link_label kind.Reference (text_of label.entry) end end
+        (if reaches_closer tree.now.nodes end next then link_reference kind.Reference (text_of label.entry) end end
         else no_link) result }
     ensures from { (source : List ℕ) (at : ℕ) → WrittenIsFrom source at result }
 {

@@ -45,15 +45,15 @@ abbrev pub IsOutlineOutcome : (text : List ℕ) → Options → Result (List ℕ
 IsOutlineOutcome text options outcome = IsLinesOutcome IsOutlineJsonOf text options outcome
 
 -- the status of a refusal: -1, -2 and -3
-abbrev pub status_of : Refusal → ℤ
-status_of NotUtf8 = negsuc 0
-status_of Memory = negsuc 1
-status_of Depth = negsuc 2
+abbrev pub refusal_status : Refusal → ℤ
+refusal_status NotUtf8 = negsuc 0
+refusal_status Memory = negsuc 1
+refusal_status Depth = negsuc 2
 
 -- the number that is returned: the length of the text to write, or a status
-abbrev pub number_of : Result (List ℕ) Refusal → ℤ
-number_of (Ok whole) = pos (length whole)
-number_of (Err refusal) = status_of refusal
+abbrev pub returned_number : Result (List ℕ) Refusal → ℤ
+returned_number (Ok whole) = pos (length whole)
+returned_number (Err refusal) = refusal_status refusal
 
 -- what the buffer then holds: the text to write at the front, where it fits, and otherwise what it held before
 abbrev pub buffer_after : (old : List ℕ) → Result (List ℕ) Refusal → List ℕ

@@ -1,6 +1,6 @@
 //! The result of a call: what is written to the caller's buffer, and the number that is returned.
 ghost use Rattle.std.specs.Prelude.{◌≡◌, Ok, pos, length};
-ghost use Rattle.markdown_c.specs.CallsFromC.{bytes_of, number_of, buffer_after, status_of};
+ghost use Rattle.markdown_c.specs.CallsFromC.{bytes_of, returned_number, buffer_after, refusal_status};
 
 use crate::readings::Refusal;
 
@@ -18,7 +18,7 @@ fn fill(whole: &str, out: &mut [u8]) -> i64
 
 /// Returns the status of a refusal.
 fn status(refusal: Refusal) -> i64
-    ensures { result ≡ status_of refusal }
+    ensures { result ≡ refusal_status refusal }
 {
     match refusal {
         Refusal::NotUtf8 => -1,
@@ -29,7 +29,7 @@ fn status(refusal: Refusal) -> i64
 
 /// Returns the number for an outcome, and writes the bytes to the front of `out`, if there are any and they fit.
 pub(crate) fn answer(outcome: Result<String, Refusal>, out: &mut [u8]) -> i64
-    ensures number { result ≡ number_of (bytes_of outcome) }
+    ensures number { result ≡ returned_number (bytes_of outcome) }
     ensures buffer { out.new ≡ buffer_after out.old (bytes_of outcome) }
 {
     match outcome {

@@ -1,7 +1,7 @@
 //! The functions that C calls. A slice is passed as a pointer and a length, and the allocator is not passed.
 ghost use Rattle.std.specs.Prelude.{◌≡◌, ℕ, List, Result};
 ghost use Rattle.markdown_render.specs.Words.{of_bits};
-ghost use Rattle.markdown_c.specs.CallsFromC.{IsHtmlOutcome, IsJsonOutcome, IsOutlineOutcome, number_of, buffer_after};
+ghost use Rattle.markdown_c.specs.CallsFromC.{IsHtmlOutcome, IsJsonOutcome, IsOutlineOutcome, returned_number, buffer_after};
 ghost use Rattle.markdown_c.specs.declared.readings.Refusal.{Refusal};
 
 use crate::buffer::answer;
@@ -18,7 +18,7 @@ use std::alloc::Global;
 #[unsafe(no_mangle)]
 pub extern "C" fn markdown_to_html(alloc: Global, text: &[u8], options: u32, out: &mut [u8]) -> i64
     ensures { (outcome : Result (List ℕ) Refusal) × IsHtmlOutcome text.now (of_bits options) outcome
-        × (result ≡ number_of outcome) × (out.new ≡ buffer_after out.old outcome) }
+        × (result ≡ returned_number outcome) × (out.new ≡ buffer_after out.old outcome) }
 {
     answer(html_of(alloc, text, options), out)
 }
@@ -33,7 +33,7 @@ pub extern "C" fn markdown_to_html(alloc: Global, text: &[u8], options: u32, out
 #[unsafe(no_mangle)]
 pub extern "C" fn markdown_to_json(alloc: Global, text: &[u8], options: u32, out: &mut [u8]) -> i64
     ensures { (outcome : Result (List ℕ) Refusal) × IsJsonOutcome text.now (of_bits options) outcome
-        × (result ≡ number_of outcome) × (out.new ≡ buffer_after out.old outcome) }
+        × (result ≡ returned_number outcome) × (out.new ≡ buffer_after out.old outcome) }
 {
     answer(json_of(alloc, text, options), out)
 }
@@ -53,7 +53,7 @@ pub extern "C" fn markdown_to_outline(
     out: &mut [u8],
 ) -> i64
     ensures { (outcome : Result (List ℕ) Refusal) × IsOutlineOutcome text.now (of_bits options) outcome
-        × (result ≡ number_of outcome) × (out.new ≡ buffer_after out.old outcome) }
+        × (result ≡ returned_number outcome) × (out.new ≡ buffer_after out.old outcome) }
 {
     answer(outline_of(alloc, text, options), out)
 }

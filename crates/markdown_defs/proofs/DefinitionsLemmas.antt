@@ -8,7 +8,7 @@ use Rattle.std.proofs.lemmas.List.{append-nil}
 use Rattle.std.proofs.lemmas.List.Quantifiers.{all_pairs_push}
 use Rattle.std.proofs.lemmas.Slice.Eq.{bytes_eq-Decides}
 use Rattle.markdown_base.specs.CowText.{text_of}
-use Rattle.markdown_defs.specs.Definitions.{Labelled, has_folding, first_at, look_up, add_first, firsts, HasOtherFolding, AreDistinct}
+use Rattle.markdown_defs.specs.Definitions.{Labelled, has_folding, first_at, find_definition, add_first, firsts, HasOtherFolding, AreDistinct}
 use Rattle.markdown_defs.specs.Folding.{case_folding}
 use Rattle.markdown_defs.proofs.PlaceLemmas.{find_in_both, none_at}
 
@@ -42,7 +42,7 @@ unfolding firsts
 first_of_firsts folded ds = first_of_firsts_from folded ds []
 
 -- a key finds the same in the definitions that can be found as in all
-pub look_up_firsts : (key : List ℕ) (ds : List Labelled) → look_up key (firsts ds) ≡ look_up key ds
+pub look_up_firsts : (key : List ℕ) (ds : List Labelled) → find_definition key (firsts ds) ≡ find_definition key ds
 look_up_firsts key ds = ap (option_map (λ d. d.1)) (first_of_firsts (case_folding key) ds)
 
 distinct_add : (kept : List Labelled) (d : Labelled) → AreDistinct kept → AreDistinct (add_first kept d)

@@ -6,14 +6,14 @@ use Rattle.std.specs.Str.{bytes_eq}
 use Rattle.std.proofs.lemmas.Bool.{cases_Bool, false_from_ne_true}
 use Rattle.std.proofs.lemmas.Slice.Eq.{bytes_eq-Decides}
 use Rattle.markdown_base.specs.CowText.{text_of}
-use Rattle.markdown_defs.specs.Definitions.{Labelled, has_folding, first_at, look_up, add_first}
+use Rattle.markdown_defs.specs.Definitions.{Labelled, has_folding, first_at, find_definition, add_first}
 use Rattle.markdown_defs.specs.Folding.{case_folding}
 use Rattle.markdown_defs.specs.DefinitionsIndex.{place_of}
 use Rattle.markdown_defs.proofs.FoldingLemmas.{encoded_eq}
 use Rattle.markdown_defs.proofs.PlaceLemmas.{find_at_no_place, find_at_place, same_presence, place_pushed}
 
 -- a key whose folding has no place finds nothing
-pub not_found : (key : List ℕ) (ds : List Labelled) → place_of (case_folding key) ds ≡ None → None ≡ look_up key ds
+pub not_found : (key : List ℕ) (ds : List Labelled) → place_of (case_folding key) ds ≡ None → None ≡ find_definition key ds
 not_found key ds e = sym (ap (option_map (λ d. d.1)) (find_at_no_place (has_folding (case_folding key)) 0 ds e))
 
 -- a place is one of the list
@@ -22,7 +22,7 @@ in_range folded ds place e = omega (arith, (find_at_place (has_folding folded) 0
 
 -- a key whose folding has a place finds the definition at that place
 pub found_at : (key : List ℕ) (ds : List Labelled) (place : ℕ) (x : Labelled) → place_of (case_folding key) ds ≡ Some place
-    → x ≡ get_or ds place x → Some (x.1) ≡ look_up key ds
+    → x ≡ get_or ds place x → Some (x.1) ≡ find_definition key ds
 found_at key ds place x e here =
     let whole : place - 0 ≡ place = omega arith in
     let found = rw whole at ((find_at_place (has_folding (case_folding key)) 0 ds place e).element x) in

@@ -8,7 +8,7 @@ use Rattle.std.proofs.lemmas.Bool.{cases_Bool}
 use Rattle.std.proofs.lemmas.List.Folds.{Any-from_list_any, list_any-from_Any}
 use Rattle.std.proofs.lemmas.Slice.Eq.{bytes_eq-Decides}
 use Rattle.markdown_base.specs.CowText.{text_of}
-use Rattle.markdown_defs.specs.Definitions.{Labelled, has_folding, first_at, look_up}
+use Rattle.markdown_defs.specs.Definitions.{Labelled, has_folding, first_at, find_definition}
 use Rattle.markdown_defs.specs.Folding.{case_folding, Matches, is_match}
 use Rattle.markdown_defs.specs.Footnotes.{unused, unused_at}
 use Rattle.markdown_defs.specs.LookUpLaws.{NoneMatches, IsFirstMatch, FindsFirstMatch, MatchingKeysAgree, TestsMatching, IsAmongNames}
@@ -28,10 +28,10 @@ matching_keys_agree a b definitions same = ap (λ folded. option_map (λ d. d.1)
 
 -- the first match of a list that begins with a label that does not match
 later_match : (key : List ℕ) (d : Labelled) (ds : List Labelled) → (Matches key (text_of d.0) → ⊥)
-    → MatchOption (look_up key ds) (NoneMatches key ds) (IsFirstMatch key ds)
-    → MatchOption (look_up key ds) (NoneMatches key (d ∷ ds)) (IsFirstMatch key (d ∷ ds))
+    → MatchOption (find_definition key ds) (NoneMatches key ds) (IsFirstMatch key ds)
+    → MatchOption (find_definition key ds) (NoneMatches key (d ∷ ds)) (IsFirstMatch key (d ∷ ds))
 later_match key d ds other found =
-    elim (look_up key ds) as (λ o. MatchOption o (NoneMatches key ds) (IsFirstMatch key ds)
+    elim (find_definition key ds) as (λ o. MatchOption o (NoneMatches key ds) (IsFirstMatch key ds)
     → MatchOption o (NoneMatches key (d ∷ ds)) (IsFirstMatch key (d ∷ ds))) [
       | None ↦ λ none. (other, none)
       | Some x ↦ λ m. record {
@@ -48,7 +48,7 @@ later_match key d ds other found =
 pub finds_first_match : FindsFirstMatch
 finds_first_match key [] = tt
 finds_first_match key (d ∷ ds) =
-    elim (cases_Bool (has_folding (case_folding key) d)) as (λ _. MatchOption (look_up key (d ∷ ds)) (NoneMatches key (d ∷ ds))
+    elim (cases_Bool (has_folding (case_folding key) d)) as (λ _. MatchOption (find_definition key (d ∷ ds)) (NoneMatches key (d ∷ ds))
     (IsFirstMatch key (d ∷ ds))) [
       | inl hit ↦ rw hit (record {
         before = [];

@@ -13,7 +13,7 @@ use Rattle.markdown_base.specs.declared.index.LinkIndex.{LinkIndex}
 use Rattle.markdown_base.specs.declared.tag.Alignment.{Alignment}
 use Rattle.markdown_base.specs.declared.tag.LinkType.{LinkType}
 use Rattle.markdown_base.specs.declared.tag.LinkType.TheVariants.{ShortcutUnknown}
-use Rattle.markdown_defs.specs.Definitions.{Labelled, firsts, look_up}
+use Rattle.markdown_defs.specs.Definitions.{Labelled, firsts, find_definition}
 use Rattle.markdown_defs.specs.Footnotes.{footnote_at, unused_at}
 use Rattle.markdown_defs.specs.declared.footnotes.FootnoteDefs.{FootnoteDefs}
 
@@ -92,7 +92,7 @@ pub record LeavesEmptyAlignment (old new : Allocated) (ix : AlignmentIndex) : Ty
 pub record HoldsParts (parts : BlockParts) (held : Allocated) : Type 0 where
   pub definitions : held.refdefs ≡ firsts parts.definitions.items
   -- so a key finds the first definition of the block result with its folding
-  pub found : (key : List ℕ) → look_up key held.refdefs ≡ look_up key parts.definitions.items
+  pub found : (key : List ℕ) → find_definition key held.refdefs ≡ find_definition key parts.definitions.items
   pub footnotes : (name : List ℕ) → footnote_at held.footdefs name ≡ unused_at parts.footnotes.items name
   pub cows : held.cows ≡ parts.cows.items
   pub links : held.links ≡ []

@@ -22,8 +22,8 @@ abbrev pub first_at : List ℕ → List Labelled → Option Labelled
 first_at folded definitions = find (has_folding folded) definitions
 
 -- what a key finds: the first definition whose label has the key's folding
-abbrev pub look_up : List ℕ → List Labelled → Option LinkDef
-look_up key definitions = option_map (λ d. d.1) (first_at (case_folding key) definitions)
+abbrev pub find_definition : List ℕ → List Labelled → Option LinkDef
+find_definition key definitions = option_map (λ d. d.1) (first_at (case_folding key) definitions)
 
 -- the definitions so far with one more, unless they contain one of equal folding
 abbrev pub add_first : List Labelled → Labelled → List Labelled

@@ -3,7 +3,7 @@ use Rattle.std.specs.Prelude.{◌≡◌, ◌↔◌, ℕ, List, [], ◌∷◌, �
 use Rattle.markdown_base.specs.CowText.{text_of}
 use Rattle.markdown_base.specs.declared.block_parts.LinkDef.{LinkDef}
 use Rattle.markdown_base.specs.declared.cow_str.CowStr.{CowStr}
-use Rattle.markdown_defs.specs.Definitions.{Labelled, look_up}
+use Rattle.markdown_defs.specs.Definitions.{Labelled, find_definition}
 use Rattle.markdown_defs.specs.Folding.{Matches, is_match}
 use Rattle.markdown_defs.specs.Footnotes.{footnote_at, unused, unused_at}
 use Rattle.markdown_defs.specs.declared.footnotes.FootnoteDefs.{FootnoteDefs}
@@ -25,12 +25,12 @@ pub record IsFirstMatch (key : List ℕ) (definitions : List Labelled) (found : 
 -- a key finds the first definition whose label matches it, and nothing if none does
 abbrev pub FindsFirstMatch : Type 0
 FindsFirstMatch = (key : List ℕ) (definitions : List Labelled)
-    → MatchOption (look_up key definitions) (NoneMatches key definitions) (IsFirstMatch key definitions)
+    → MatchOption (find_definition key definitions) (NoneMatches key definitions) (IsFirstMatch key definitions)
 
 -- keys that match find the same definition
 abbrev pub MatchingKeysAgree : Type 0
 MatchingKeysAgree = (a b : List ℕ) (definitions : List Labelled)
-    → Matches a b → look_up a definitions ≡ look_up b definitions
+    → Matches a b → find_definition a definitions ≡ find_definition b definitions
 
 -- the test by which footnotes are counted and written is default caseless matching
 abbrev pub TestsMatching : Type 0

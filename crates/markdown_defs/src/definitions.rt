@@ -2,7 +2,7 @@
 ghost use Rattle.std.specs.Prelude.{◌≡◌, IfErr, IfOk, OnOk, map};
 ghost use Rattle.std.specs.Option.{option_copied};
 ghost use Rattle.markdown_base.specs.declared.fault.Fault.{Fault};
-ghost use Rattle.markdown_defs.specs.Definitions.{AreDistinct, add_first, firsts, look_up};
+ghost use Rattle.markdown_defs.specs.Definitions.{AreDistinct, add_first, firsts, find_definition};
 ghost use Rattle.markdown_defs.specs.DefinitionsIndex.{IsIndex};
 ghost use Rattle.markdown_defs.specs.DefinitionsLeft.{definitions_left, with_text};
 
@@ -66,7 +66,7 @@ impl<'a> RefDefs<'a> {
     /// compared with grows as the logarithm of the number of definitions, whatever their labels. The only error is
     /// `Fault::Memory`.
     pub fn get(&self, key: &str) -> Result<Option<&LinkDef<'a>>, Fault>
-        ensures found { IfOk result (λ found. option_copied found ≡ look_up key.now self.now) }
+        ensures found { IfOk result (λ found. option_copied found ≡ find_definition key.now self.now) }
         ensures refused { IfErr result (λ fault. fault ≡ Fault.Memory) }
     {
         let folded = fold(*self.definitions.allocator(), key)?;

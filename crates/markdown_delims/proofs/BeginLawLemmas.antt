@@ -12,10 +12,10 @@ use Rattle.markdown_delims.specs.declared.run.Delimiter.{Delimiter}
 use Rattle.markdown_delims.specs.declared.run.Run.{Run}
 use Rattle.markdown_delims.specs.Layers.{marks_of, layer_of_one, layer_of_two, spanned, run_of_shape, run_of}
 use Rattle.markdown_delims.specs.MayPair.{delimiter_of, may_pair}
-use Rattle.markdown_delims.specs.Pairing.{Read, done, waiting, texts_before, all_done, read_trees, FoundOpener, nearest_opener, drop_read}
+use Rattle.markdown_delims.specs.Pairing.{Read, done_read, waiting, texts_before, characters_done, read_trees, FoundOpener, nearest_opener, drop_read}
 use Rattle.markdown_delims.specs.Pairing.{Layers, layers, trees_done, still_waiting, last_first, opened_if, left_over}
 use Rattle.markdown_delims.specs.Pairing.{after_layers, closed_by, run_read, first_texts, after_tree, reads_from, runs_paired, paired}
-use Rattle.markdown_delims.specs.PairingLaws.{BeginsLaw}
+use Rattle.markdown_delims.specs.PairingLaws.{PairingBeginsLaw}
 use Rattle.markdown_delims.specs.Quotes.{kind_of_shape, is_closed_later, is_end, first_turn, quotes_after, with_quotes}
 use Rattle.markdown_delims.proofs.LayerLawLemmas.{one-gives, two-gives, gives-first, turn-made}
 use Rattle.markdown_delims.proofs.StepLawLemmas.{StaysTrue, found-if, reads-stay}
@@ -38,14 +38,14 @@ module _ {A : Type 0} where
 
   trees_begin : (rs : List (Read A)) (f g : Forest (Label A)) → (Begins f → Begins g) → Begins (read_trees rs f) → Begins (read_trees rs g)
   trees_begin [] f g h k = h k
-  trees_begin (done a below ∷ rs) f g h k = trees_begin rs (node a below f) (node a below g) (λ b. b) k
+  trees_begin (done_read a below ∷ rs) f g h k = trees_begin rs (node a below f) (node a below g) (λ b. b) k
   trees_begin (waiting dropped run xs ∷ rs) f g h k = trees_begin rs (texts_before xs f) (texts_before xs g) (λ b. texts_begin xs f g h b) k
 
   added : (rs : List (Read A)) (f : Forest (Label A)) → Begins (read_trees rs nil) → Begins (read_trees rs f)
   added rs f k = trees_begin rs nil f (λ b. absurd b) k
 
   done_begins : (xs : List (Label A)) (rs : List (Read A)) (f : Forest (Label A)) → Begins (read_trees rs (texts_before xs f))
-      → Begins (read_trees (all_done xs rs) f)
+      → Begins (read_trees (characters_done xs rs) f)
   done_begins [] rs f h = h
   done_begins (x ∷ xs) rs f h = done_begins xs rs (node x nil f) h
 
@@ -57,7 +57,7 @@ module _ {A : Type 0} where
   dropped_begins : (d : Delimiter) (rs : List (Read A)) (f : Forest (Label A)) → Begins (read_trees rs f)
       → Begins (read_trees (map (drop_read d) rs) f)
   dropped_begins d [] f h = h
-  dropped_begins d (done a below ∷ rs) f h = dropped_begins d rs (node a below f) h
+  dropped_begins d (done_read a below ∷ rs) f h = dropped_begins d rs (node a below f) h
   dropped_begins d (waiting dropped run xs ∷ rs) f h = dropped_begins d rs (texts_before xs f) h
 
   left_begins : (closer : Run) (vs : List (Label A)) (rs : List (Read A))
@@ -71,7 +71,7 @@ module _ {A : Type 0} where
   nearest_begins : (closer : Run) (rs : List (Read A)) (inside : Forest (Label A)) → Begins (read_trees rs inside)
       → IfSome (nearest_opener closer rs inside) FoundBegins
   nearest_begins closer [] inside h = tt
-  nearest_begins closer (done a below ∷ rs) inside h = nearest_begins closer rs (node a below inside) h
+  nearest_begins closer (done_read a below ∷ rs) inside h = nearest_begins closer rs (node a below inside) h
   nearest_begins closer (waiting dropped run xs ∷ rs) inside h =
       found-if FoundBegins (not dropped && may_pair run closer) (record { inside = inside; run = run; characters = xs; before = rs })
       (nearest_opener closer rs (texts_before xs inside)) h
@@ -79,7 +79,7 @@ module _ {A : Type 0} where
 
   done_trees_begin : (f : Forest (Label A)) (rs : List (Read A)) → Begins (read_trees rs f) → Begins (read_trees (trees_done f rs) nil)
   done_trees_begin nil rs h = h
-  done_trees_begin (node a below after) rs h = done_trees_begin after (done a below ∷ rs) h
+  done_trees_begin (node a below after) rs h = done_trees_begin after (done_read a below ∷ rs) h
 
   still_begins : (run : Run) (xs : List (Label A)) (rs : List (Read A)) (f : Forest (Label A)) → Begins (read_trees rs (texts_before xs f))
       → Begins (read_trees (still_waiting run xs rs) f)
@@ -152,13 +152,13 @@ module _ {A : Type 0} where
         → is_plain a.part.shape ≡ false → IfSome o (λ run. 0 < run.length)
         → ((skip : ℕ) (rs : List (Read A)) → Begins (read_trees rs nil) → Begins (read_trees (go_on skip rs) nil))
         → Begins (read_trees (after_tree s go_on a below after [] o) nil)
-    first_tree go_on a below after None p l h = h 0 (done (as_closed s.text a) below ∷ []) (text_gives (is_unresolved a.part.shape) a refl
+    first_tree go_on a below after None p l h = h 0 (done_read (as_closed s.text a) below ∷ []) (text_gives (is_unresolved a.part.shape) a refl
         p)
     first_tree go_on a below after (Some run) p l h =
         h (run.length - 1) (run_read s run.can_close run (first_texts s.text run.length (node a below after)) [])
         (of_length run.length run a below after l)
 
-pub begins-law : {A : Type 0} → BeginsLaw A
+pub begins-law : {A : Type 0} → PairingBeginsLaw A
 unfolding paired runs_paired with_quotes reads_from
 begins-law {A} s a below after p =
     let first : Label A = shaped (first_turn a after false false).made a in

@@ -11,7 +11,7 @@ use Rattle.markdown_delims.specs.declared.run.Run.{Run}
 use Rattle.markdown_delims.specs.declared.run.Characters.{Characters}
 use Rattle.markdown_delims.specs.declared.bounds.CharacterBounds.{CharacterBounds}
 use Rattle.markdown_delims.specs.declared.bounds.LowerBounds.{LowerBounds}
-use Rattle.markdown_delims.specs.MayPair.{both, may_pair, needs_equal_length, is_tilde_or_caret}
+use Rattle.markdown_delims.specs.MayPair.{can_do_both, may_pair, needs_equal_length, is_tilde_or_caret}
 use Rattle.markdown_delims.specs.Bounds.{IsOutOfStep, IsOfBoth, BoundCharacter, BoundStack, remainder_bound, character_bound_for, bound_at}
 use Rattle.markdown_delims.specs.Bounds.{bound_for, character_raised_for, raised_at, raised_for, character_lowered, lowered, no_bounds}
 use Rattle.markdown_delims.specs.Bounds.{zero_bounds, drop_bound}
@@ -74,7 +74,7 @@ module _ (closer : Run) (stack : List Characters) (b : CharacterBounds) where
       → BoundCharacter closer.delimiter stack b → BoundCharacter closer.delimiter stack (character_raised_for closer (length stack) b)
   BoundCharacter-raised n h i =
       record {
-        cannot_open_within = cond_both (both closer) b.cannot_open (length stack) (λ m. m ≤ length stack) (λ _. i.cannot_open_within)
+        cannot_open_within = cond_both (can_do_both closer) b.cannot_open (length stack) (λ m. m ≤ length stack) (λ _. i.cannot_open_within)
             (λ _. omega arith);
         zero_within = cond_both (closer.length % 3 == 0) (length stack) b.remainder_zero (λ m. m ≤ length stack) (λ _. omega arith)
             (λ _. i.zero_within);
@@ -83,7 +83,7 @@ module _ (closer : Run) (stack : List Characters) (b : CharacterBounds) where
         two_within = cond_both (closer.length % 3 == 2) (length stack) b.remainder_two (λ m. m ≤ length stack) (λ _. omega arith)
             (λ _. i.two_within);
         cannot_open =
-            cond_both (both closer) b.cannot_open (length stack) (λ m. All (IsOfBoth closer.delimiter) (take m stack)) (λ _. i.cannot_open)
+            cond_both (can_do_both closer) b.cannot_open (length stack) (λ m. All (IsOfBoth closer.delimiter) (take m stack)) (λ _. i.cannot_open)
             (λ e. All-whole (IsOfBoth closer.delimiter) stack (λ k x l. IsOfBoth-failed (get_or stack k x) closer n e (h k x l)));
         remainder_zero =
             cond_both (closer.length % 3 == 0) (length stack) b.remainder_zero (λ m. All (IsOutOfStep closer.delimiter 0) (take m stack))
@@ -118,7 +118,7 @@ module _ (closer : Run) (stack : List Characters) (b : CharacterBounds) where
   pub NonePairs-below : BoundCharacter closer.delimiter stack b
       → All (λ c. may_pair c.run closer ≡ false) (take (character_bound_for closer b) stack)
   NonePairs-below i =
-      cond_both (both closer) (remainder_bound (closer.length % 3) b) (min (remainder_bound (closer.length % 3) b) b.cannot_open)
+      cond_both (can_do_both closer) (remainder_bound (closer.length % 3) b) (min (remainder_bound (closer.length % 3) b) b.cannot_open)
       (λ m. All (λ c. may_pair c.run closer ≡ false) (take m stack))
       (λ e k x l. may_pair-fails (get_or (take (remainder_bound (closer.length % 3) b) stack) k x) closer (below_remainder i k x l)
       (λ f. cc))
@@ -243,7 +243,7 @@ within_character : (closer : Run) (d : Delimiter) (stack : List Characters) (b :
     → character_bound_for closer b ≤ length stack
 within_character closer d stack b h =
     let w : remainder_bound (closer.length % 3) b ≤ length stack = within_remainder (closer.length % 3) d stack b h in
-    cond_both (both closer) (remainder_bound (closer.length % 3) b) (min (remainder_bound (closer.length % 3) b) b.cannot_open)
+    cond_both (can_do_both closer) (remainder_bound (closer.length % 3) b) (min (remainder_bound (closer.length % 3) b) b.cannot_open)
     (λ m. m ≤ length stack) (λ _. w) (λ _. omega arith)
 
 -- the bound of a closer lies within the stack

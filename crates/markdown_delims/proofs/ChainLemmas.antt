@@ -18,8 +18,8 @@ use Rattle.markdown_delims.specs.Entries.{Entry, flat, read_back, paired_from}
 use Rattle.markdown_delims.specs.Enclosing.{AllTouched}
 use Rattle.markdown_delims.specs.Views.{View, view_of, Holds, Between, Rises, Cut, next_number}
 use Rattle.markdown_delims.specs.ChainStanding.{Chain, Stands}
-use Rattle.markdown_delims.specs.RunReading.{delimiters_of, ReadFurther, ReadsTree, CanReadTree}
-use Rattle.markdown_delims.specs.ChainForest.{RisesFrom, among, NoneBelow, chain_of, IsChain, IsPaired}
+use Rattle.markdown_delims.specs.RunReading.{delimiters_of, ReadFurther, ReadsTreeAt, CanReadTree}
+use Rattle.markdown_delims.specs.ChainForest.{RisesFrom, is_among, NoneBelow, chain_of, IsChainAt, IsPaired}
 use Rattle.markdown_delims.proofs.CutLemmas.{Rises-lower, step_left}
 use Rattle.markdown_delims.proofs.EncloseLemmas.{next_number-from, kept_none, kept_both}
 use Rattle.markdown_delims.proofs.PairLemmas.{CutSomewhere}
@@ -84,17 +84,17 @@ rising_numbers own lo nil hi r = tt
 rising_numbers own lo (node a below after) hi r = (r.0, rising_numbers own (suc a.number) after hi r.2)
 
 -- each number of a forest is among its numbers
-among_more : (x : ℕ) (xs ys : List ℕ) → AllByRecursion (λ ix. among xs ix ≡ true) ys → AllByRecursion (λ ix. among (x ∷ xs) ix ≡ true) ys
+among_more : (x : ℕ) (xs ys : List ℕ) → AllByRecursion (λ ix. is_among xs ix ≡ true) ys → AllByRecursion (λ ix. is_among (x ∷ xs) ix ≡ true) ys
 among_more x xs [] h = tt
-among_more x xs (y ∷ ys) h = (or_right (x == y) (among xs y) h.0, among_more x xs ys h.1)
+among_more x xs (y ∷ ys) h = (or_right (x == y) (is_among xs y) h.0, among_more x xs ys h.1)
   where
     or_right : (a b : Bool) → b ≡ true → (a || b) ≡ true
     or_right true b e = refl
     or_right false b e = e
 
-pub among_all : (xs : List ℕ) → AllByRecursion (λ ix. among xs ix ≡ true) xs
+pub among_all : (xs : List ℕ) → AllByRecursion (λ ix. is_among xs ix ≡ true) xs
 among_all [] = tt
-among_all (x ∷ xs) = (ap (λ b. b || among xs x) (eq-eqb x x refl), among_more x xs xs (among_all xs))
+among_all (x ∷ xs) = (ap (λ b. b || is_among xs x) (eq-eqb x x refl), among_more x xs xs (among_all xs))
 
 pub touched_from_list : (touched : ℕ → Bool) (nodes : List (Node Item)) (f : Forest ℕ) → AllByRecursion (λ ix. touched ix ≡ true) (roots f)
     → AllTouched touched (chain_of nodes f)
@@ -114,9 +114,9 @@ nothing_left t nil h = refl
 nothing_left t (node b below after) h = let no : None ≡ Some b.number = h.0 in cc
 
 -- nothing is read yet
-module _ (m : Marks) (text : List ℕ) (s : Arena Item) (first : ℕ) (f : Forest ℕ) (c : IsChain text s.nodes first f) where
+module _ (m : Marks) (text : List ℕ) (s : Arena Item) (first : ℕ) (f : Forest ℕ) (c : IsChainAt text s.nodes first f) where
   pub whole_chain : Chain
-  whole_chain = record { touched = among (roots f); first = Some first; bound = length s.nodes }
+  whole_chain = record { touched = is_among (roots f); first = Some first; bound = length s.nodes }
 
   pub starts_chain : Stands whole_chain s [] None (Some first) (chain_of s.nodes f)
   unfolding whole_chain
@@ -127,11 +127,11 @@ module _ (m : Marks) (text : List ℕ) (s : Arena Item) (first : ℕ) (f : Fores
           right = holds_spelled s.nodes (Some first) f c.spelled;
           rises_left = tt;
           rises_right = rises_chain
-              (among (roots f)) s.nodes (Some first) f 0 (omega arith) c.spelled c.rising c.apart;
+              (is_among (roots f)) s.nodes (Some first) f 0 (omega arith) c.spelled c.rising c.apart;
         };
         last_is = refl;
         left_touched = tt;
-        rest_touched = touched_from_list (among (roots f)) s.nodes f (among_all (roots f));
+        rest_touched = touched_from_list (is_among (roots f)) s.nodes f (among_all (roots f));
       }
 
   pub starts_reading : (o : Openers) → o.runs ≡ [] → ReadFurther m text whole_chain s s [] (chain_of s.nodes f) o o None (Some first) 0
@@ -140,18 +140,18 @@ module _ (m : Marks) (text : List ℕ) (s : Arena Item) (first : ℕ) (f : Fores
       record {
         es = [];
         rest = chain_of s.nodes f;
-        is_read = record { reads = record { stands = starts_chain; kept = kept_none (among (roots f)) s }; runs_are = e };
+        is_read = record { reads = record { stands = starts_chain; kept = kept_none (is_among (roots f)) s }; runs_are = e };
         whole = c.whole;
         same = refl;
         paid = omega arith;
         found = omega arith;
-        further = rises_chain (among (roots f)) s.nodes (Some first) f 0 (omega arith) c.spelled c.rising c.apart;
+        further = rises_chain (is_among (roots f)) s.nodes (Some first) f 0 (omega arith) c.spelled c.rising c.apart;
       }
 
   -- a tree more
   pub reads_more : (t u : Arena Item) (old now new : Openers) (last last' l : Option ℕ) (ix : ℕ)
       → ReadFurther m text whole_chain s t [] (chain_of s.nodes f) old now last (Some ix) 0
-      → ReadsTree m text ix last t u now new last' l
+      → ReadsTreeAt m text ix last t u now new last' l
       → ReadFurther m text whole_chain s u [] (chain_of s.nodes f) old new last' l 0
   reads_more t u old now new last last' l ix a step =
       let b = step whole_chain a.es a.rest a.is_read.reads.stands a.whole a.is_read.runs_are in
@@ -195,16 +195,16 @@ module _ (m : Marks) (text : List ℕ) (s : Arena Item) (first : ℕ) (f : Fores
   unfolding whole_chain paired_from
   all_read t old new last a =
       let none = nothing_left t a.rest a.is_read.reads.stands.cut.right in
-      let cut = subst (λ r. Cut (among (roots f)) (view_of t.nodes) (Some first) (flat a.es) None r (length s.nodes)) none
+      let cut = subst (λ r. Cut (is_among (roots f)) (view_of t.nodes) (Some first) (flat a.es) None r (length s.nodes)) none
       a.is_read.reads.stands.cut in
-      let r = over_all (among (roots f)) (view_of t.nodes) (Some first) (flat a.es) None nil (length s.nodes) cut in
+      let r = over_all (is_among (roots f)) (view_of t.nodes) (Some first) (flat a.es) None nil (length s.nodes) cut in
       let holds = subst (λ l. Holds (view_of t.nodes) l (read_back (flat a.es) nil)) r.cut.left r.cut.right in
       let es : a.es ≡ paired_from m text 0 (chain_of s.nodes f) [] = ap (λ g. paired_from m text 0 g a.es) (sym none) ∙ a.same in
       record {
         forest = numbers_of (read_back (flat a.es) nil);
         spelled = spelled_holds t.nodes (Some first) (read_back (flat a.es) nil) holds;
         pairs = labels_hold t.nodes (Some first) (read_back (flat a.es) nil) holds ∙ ap (λ fs. read_back (flat fs) nil) es;
-        rising = rising_numbers (among (roots f)) 0 (read_back (flat a.es) nil) (length s.nodes) r.cut.rises_right;
+        rising = rising_numbers (is_among (roots f)) 0 (read_back (flat a.es) nil) (length s.nodes) r.cut.rises_right;
         kept = a.is_read.reads.kept;
       }
 

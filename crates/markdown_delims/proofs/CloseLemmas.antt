@@ -11,7 +11,7 @@ use Rattle.markdown_delims.specs.declared.marks.Marks.{Marks}
 use Rattle.markdown_delims.specs.declared.run.Characters.{Characters}
 use Rattle.markdown_delims.specs.declared.run.Delimiter.{Delimiter}
 use Rattle.markdown_delims.specs.declared.run.Run.{Run}
-use Rattle.markdown_delims.specs.MayPair.{OpenRun, Found, may_take, nearest, drop_run, dropped_by}
+use Rattle.markdown_delims.specs.MayPair.{OpenRun, Found, may_take, nearest_run, drop_run, dropped_by}
 use Rattle.markdown_delims.specs.Entries.{Entry, settled, lone, waiting, character, characters, characters_after, flat, open_of, Taken}
 use Rattle.markdown_delims.specs.Entries.{search, enclosed, rest_open, without_last, entries_dropped, kept}
 use Rattle.markdown_delims.specs.Views.{View, view_of, Cut, top}
@@ -28,8 +28,8 @@ pub record TakenAs (closer : Run) (es : List Entry) (inside : Forest Numbered) (
   pub before_is : open_of taken.before ≡ f.before
 
 taken_if : (closer : Run) (b : Bool) (start : ℕ) (r : OpenRun) (es : List Entry) (inside : Forest Numbered) (f : Found)
-    → (nearest closer (open_of es) ≡ Some f → TakenAs closer es (characters r.opener.number start r.opener.count inside) f)
-    → may_take closer r ≡ b → nearest closer (open_of (waiting start r ∷ es)) ≡ Some f
+    → (nearest_run closer (open_of es) ≡ Some f → TakenAs closer es (characters r.opener.number start r.opener.count inside) f)
+    → may_take closer r ≡ b → nearest_run closer (open_of (waiting start r ∷ es)) ≡ Some f
     → TakenAs closer (waiting start r ∷ es) inside f
 taken_if closer true start r es inside f rest e h =
     let here : Some (record { opener = r.opener; before = open_of es }) ≡ Some f = rw e at h in
@@ -43,7 +43,7 @@ taken_if closer false start r es inside f rest e h =
     let t = rest (rw e at h) in
     record { taken = t.taken; finds = rw e t.finds; opener_is = t.opener_is; before_is = t.before_is }
 
-pub taken_as : (closer : Run) (es : List Entry) (inside : Forest Numbered) (f : Found) → nearest closer (open_of es) ≡ Some f
+pub taken_as : (closer : Run) (es : List Entry) (inside : Forest Numbered) (f : Found) → nearest_run closer (open_of es) ≡ Some f
     → TakenAs closer es inside f
 taken_as closer [] inside f h = cc
 taken_as closer (settled a below ∷ es) inside f h =
@@ -57,14 +57,14 @@ taken_as closer (waiting start r ∷ es) inside f h =
     refl h
 
 none_if : (closer : Run) (b : Bool) (start : ℕ) (r : OpenRun) (es : List Entry) (inside : Forest Numbered)
-    → (nearest closer (open_of es) ≡ None → search closer es (characters r.opener.number start r.opener.count inside) ≡ None)
-    → may_take closer r ≡ b → nearest closer (open_of (waiting start r ∷ es)) ≡ None → search closer (waiting start r ∷ es) inside ≡ None
+    → (nearest_run closer (open_of es) ≡ None → search closer es (characters r.opener.number start r.opener.count inside) ≡ None)
+    → may_take closer r ≡ b → nearest_run closer (open_of (waiting start r ∷ es)) ≡ None → search closer (waiting start r ∷ es) inside ≡ None
 none_if closer true start r es inside rest e h =
     let first : Found = record { opener = r.opener; before = open_of es } in
     let here : Some first ≡ None = rw e at h in cc
 none_if closer false start r es inside rest e h = rw e (rest (rw e at h))
 
-pub taken_none : (closer : Run) (es : List Entry) (inside : Forest Numbered) → nearest closer (open_of es) ≡ None
+pub taken_none : (closer : Run) (es : List Entry) (inside : Forest Numbered) → nearest_run closer (open_of es) ≡ None
     → search closer es inside ≡ None
 taken_none closer [] inside h = refl
 taken_none closer (settled a below ∷ es) inside h = taken_none closer es (node a below inside) h

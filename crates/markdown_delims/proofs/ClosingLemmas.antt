@@ -8,7 +8,7 @@ use Rattle.markdown_base.specs.BlockTree.{Numbered}
 use Rattle.markdown_base.specs.Forest.{Forest, nil}
 use Rattle.markdown_delims.specs.declared.marks.Marks.{Marks}
 use Rattle.markdown_delims.specs.declared.run.Characters.{Characters}
-use Rattle.markdown_delims.specs.MayPair.{OpenRun, nearest, dropped_by}
+use Rattle.markdown_delims.specs.MayPair.{OpenRun, nearest_run, dropped_by}
 use Rattle.markdown_delims.specs.Entries.{Entry, characters, open_of, Taken, search, rest_open, with_pair, without_last, without_first}
 use Rattle.markdown_delims.specs.Entries.{entries_dropped, kept, after_search, closed_in}
 use Rattle.markdown_delims.specs.Views.{View, view_of, Holds, Kept}
@@ -84,7 +84,7 @@ module _ (m : Marks) (start : ℕ) (met : Characters) (h : Chain) (begun : List 
         }
 
     -- where the search finds none, what is left is kept
-    pub closing_none : (t' : Arena Item) (dropped runs' : List OpenRun) (last' l : Option ℕ) → nearest closer.run runs ≡ None
+    pub closing_none : (t' : Arena Item) (dropped runs' : List OpenRun) (last' l : Option ℕ) → nearest_run closer.run runs ≡ None
         → dropped ≡ dropped_by closer.run runs
         → ReadsOn (λ es. kept at closer es) at closer last t t' dropped runs' last' l
         → IsRead h s t' (closed_in m met.count start met begun) runs' last' l after
@@ -101,11 +101,11 @@ module _ (m : Marks) (start : ℕ) (met : Characters) (h : Chain) (begun : List 
               r.runs_are;
         })
 
-    module _ (opener : Characters) (before : List OpenRun) (found : nearest closer.run runs
+    module _ (opener : Characters) (before : List OpenRun) (found : nearest_run closer.run runs
         ≡ Some (record { opener = opener; before = before })) (some_open : 0 < opener.count) where
       pub taken_here : TakenAs closer.run a.es nil (record { opener = opener; before = before })
       taken_here = taken_as closer.run a.es nil (record { opener = opener; before = before })
-          (subst (λ rs. nearest closer.run rs ≡ Some (record { opener = opener; before = before })) a.runs_are found)
+          (subst (λ rs. nearest_run closer.run rs ≡ Some (record { opener = opener; before = before })) a.runs_are found)
 
       count_is : taken_here.taken.opener.count ≡ opener.count
       count_is = ap (λ o. o.count) taken_here.opener_is

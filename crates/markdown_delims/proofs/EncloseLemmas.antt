@@ -9,7 +9,7 @@ use Rattle.markdown_base.specs.BlockTree.{Numbered, item_at}
 use Rattle.markdown_base.specs.Forest.{Forest, nil, node}
 use Rattle.markdown_delims.specs.declared.marks.Marks.{Marks}
 use Rattle.markdown_delims.specs.declared.run.Characters.{Characters}
-use Rattle.markdown_delims.specs.MarkBodies.{layer_of_one, layer_of_two}
+use Rattle.markdown_delims.specs.MarkBodies.{body_of_one, body_of_two}
 use Rattle.markdown_delims.specs.Entries.{Entry, settled, labelled, character, characters_after, flat, enclosed}
 use Rattle.markdown_delims.specs.Views.{View, view_of, Writes, Wrote, Holds, LeftHolds, next_number, Rises, LeftRises, Cut, Kept}
 use Rattle.markdown_delims.specs.Enclosing.{Around, AllTouched, Encloses, IsEnclosed}
@@ -181,13 +181,13 @@ module _ (m : Marks) (opener : Characters) (count end : ℕ) (outer : Option ℕ
   enclosed_more : (n reached left : ℕ) (chain : Forest Numbered) → 2 < left
       → enclosed m opener.run.delimiter opener.number g.start n reached left chain
       ≡ enclosed m opener.run.delimiter opener.number g.start (n - 2) (reached + 2) (left - 2)
-      (node (labelled (opener.number + (n - 2)) (g.start + (n - 2)) (reached + 2) (layer_of_two m opener.run.delimiter)) chain nil)
+      (node (labelled (opener.number + (n - 2)) (g.start + (n - 2)) (reached + 2) (body_of_two m opener.run.delimiter)) chain nil)
   enclosed_more n reached zero chain h = absurd (omega arith)
   enclosed_more n reached (suc zero) chain h = absurd (omega arith)
   enclosed_more n reached (suc (suc zero)) chain h = absurd (omega arith)
   enclosed_more n reached (suc (suc (suc k))) chain h =
       ap (λ j. enclosed m opener.run.delimiter opener.number g.start (n - 2) (reached + 2) j
-      (node (labelled (opener.number + (n - 2)) (g.start + (n - 2)) (reached + 2) (layer_of_two m opener.run.delimiter)) chain nil))
+      (node (labelled (opener.number + (n - 2)) (g.start + (n - 2)) (reached + 2) (body_of_two m opener.run.delimiter)) chain nil))
       (let e : suc k ≡ suc (suc (suc k)) - 2 = omega arith in e)
 
   -- one layer more
@@ -197,18 +197,18 @@ module _ (m : Marks) (opener : Characters) (count end : ℕ) (outer : Option ℕ
         start = (item_at t.nodes (opener.number + (n - 2))).start;
         end = reached
             + 2;
-        body = layer_of_two m opener.run.delimiter;
+        body = body_of_two m opener.run.delimiter;
       }) inner None
       → LayersAt m opener count end outer g s u (n - 2) (left - 2) (reached + 2) (Some (opener.number + (n - 2)))
   layers_more t u n left reached inner h l a w =
       let c = a.stands.cut in
       let p = peel_two g.touched (view_of t.nodes) g.first opener.number g.start g.before inner a.chain g.hi n (omega arith) c in
-      let x = wrote_layer t u n (n - 2) (reached + 2) (layer_of_two m opener.run.delimiter) inner None p.item w in
+      let x = wrote_layer t u n (n - 2) (reached + 2) (body_of_two m opener.run.delimiter) inner None p.item w in
       let low : suc (opener.number + (n - 2)) ≤ g.hi = Rises-le g.touched (suc (opener.number + (n - 2))) a.chain g.hi p.rises in
       let root : g.touched (opener.number + (n - 2)) ≡ true = touched_at g.touched opener.number g.start (n - 2) n g.before (omega arith)
       a.stands.left_touched in
       record {
-        chain = node (labelled (opener.number + (n - 2)) (g.start + (n - 2)) (reached + 2) (layer_of_two m opener.run.delimiter)) a.chain
+        chain = node (labelled (opener.number + (n - 2)) (g.start + (n - 2)) (reached + 2) (body_of_two m opener.run.delimiter)) a.chain
             nil;
         stands = record {
           cut = layer_inside g.touched (view_of t.nodes) (view_of u.nodes) g.first opener.number g.start (n - 2) g.before inner a.chain g.hi
@@ -257,13 +257,13 @@ module _ (m : Marks) (opener : Characters) (count end : ℕ) (outer : Option ℕ
         start = (item_at t.nodes (opener.number + (n - 2))).start;
         end = reached
             + 2;
-        body = layer_of_two m opener.run.delimiter;
+        body = body_of_two m opener.run.delimiter;
       }) inner outer
       → IsEnclosed g s u (enclosed m opener.run.delimiter opener.number g.start opener.count end count g.inside) es (opener.number
       + (n - 2)) outer
   layers_two t u n reached inner es h o a w =
       let p = peel_two g.touched (view_of t.nodes) g.first opener.number g.start g.before inner a.chain g.hi n h a.stands.cut in
-      rw (← a.same) (layers_end t u n 2 2 reached (layer_of_two m opener.run.delimiter) inner es (omega arith) o a p w)
+      rw (← a.same) (layers_end t u n 2 2 reached (body_of_two m opener.run.delimiter) inner es (omega arith) o a p w)
 
   pub layers_one : (t u : Arena Item) (n reached : ℕ) (inner : Option ℕ) (es : List Entry) → 1 ≤ n
       → flat es ≡ characters_after opener.number g.start (n - 1) g.before
@@ -272,13 +272,13 @@ module _ (m : Marks) (opener : Characters) (count end : ℕ) (outer : Option ℕ
         start = (item_at t.nodes (opener.number + (n - 1))).start;
         end = reached
             + 1;
-        body = layer_of_one m opener.run.delimiter;
+        body = body_of_one m opener.run.delimiter;
       }) inner outer
       → IsEnclosed g s u (enclosed m opener.run.delimiter opener.number g.start opener.count end count g.inside) es (opener.number
       + (n - 1)) outer
   layers_one t u n reached inner es h o a w =
       let p = peel_one g.touched (view_of t.nodes) g.first opener.number g.start g.before inner a.chain g.hi n h a.stands.cut in
-      rw (← a.same) (layers_end t u n 1 1 reached (layer_of_one m opener.run.delimiter) inner es (omega arith) o a p w)
+      rw (← a.same) (layers_end t u n 1 1 reached (body_of_one m opener.run.delimiter) inner es (omega arith) o a p w)
 
 -- a link to a chain leads to a node
 pub link_within : (k : View) (l : Option ℕ) (f : Forest Numbered) → Holds k l f → IfSome l (λ ix. ix < k.size)

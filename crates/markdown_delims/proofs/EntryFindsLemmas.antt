@@ -3,21 +3,21 @@ use Rattle.std.proofs.Common.{◌≡◌, ℕ, suc, ◌+◌, ◌-◌, ◌<◌, �
 use Rattle.std.specs.Prelude.{if◌then◌else◌}
 use Rattle.std.proofs.lemmas.Bool.{lt-ltb, le-ltb}
 use Rattle.markdown_delims.specs.declared.run.Run.{Run}
-use Rattle.markdown_delims.specs.MayPair.{OpenRun, Found, nearest}
+use Rattle.markdown_delims.specs.MayPair.{OpenRun, Found, nearest_run}
 use Rattle.markdown_delims.specs.EntryFinds.{search_finds, closer_finds, run_finds}
 
 -- one turn of a closer
 module _ (k : ℕ) (closer : Run) (count : ℕ) (runs : List OpenRun) where
-  pub finds_none : nearest closer runs ≡ None → closer_finds (suc k) closer count runs ≡ 0
+  pub finds_none : nearest_run closer runs ≡ None → closer_finds (suc k) closer count runs ≡ 0
   unfolding closer_finds
   finds_none e = ap (search_finds (λ left others. closer_finds k closer left others) count) e
 
-  pub finds_more : (f : Found) → nearest closer runs ≡ Some f → f.opener.count < count → closer_finds (suc k) closer count runs
+  pub finds_more : (f : Found) → nearest_run closer runs ≡ Some f → f.opener.count < count → closer_finds (suc k) closer count runs
       ≡ suc (closer_finds k closer (count - f.opener.count) f.before)
   unfolding closer_finds
   finds_more f e h = ap (search_finds (λ left others. closer_finds k closer left others) count) e ∙ rw (lt-ltb f.opener.count count h) refl
 
-  pub finds_last : (f : Found) → nearest closer runs ≡ Some f → count ≤ f.opener.count → closer_finds (suc k) closer count runs ≡ 1
+  pub finds_last : (f : Found) → nearest_run closer runs ≡ Some f → count ≤ f.opener.count → closer_finds (suc k) closer count runs ≡ 1
   unfolding closer_finds
   finds_last f e h = ap (search_finds (λ left others. closer_finds k closer left others) count) e ∙ rw (le-ltb f.opener.count count h) refl
 
@@ -42,7 +42,7 @@ module _ (whole examined : ℕ) (closer : Run) (count : ℕ) (runs : List OpenRu
   turn = ap (λ k. closer_finds k closer count runs) (let e : a.turns ≡ suc (a.turns - 1) = omega (arith, a.enough) in e)
 
   -- a search found, and the closer has characters left
-  pub finding_more : (f : Found) → nearest closer runs ≡ Some f → 0 < f.opener.count → f.opener.count < count → examined < now
+  pub finding_more : (f : Found) → nearest_run closer runs ≡ Some f → 0 < f.opener.count → f.opener.count < count → examined < now
       → StillFinds whole now closer (count - f.opener.count) f.before
   finding_more f e opens more counted =
       record {
@@ -58,9 +58,9 @@ module _ (whole examined : ℕ) (closer : Run) (count : ℕ) (runs : List OpenRu
       }
 
   -- or has none left
-  pub finding_last : (f : Found) → nearest closer runs ≡ Some f → count ≤ f.opener.count → examined < now → whole ≤ now
+  pub finding_last : (f : Found) → nearest_run closer runs ≡ Some f → count ≤ f.opener.count → examined < now → whole ≤ now
   finding_last f e all counted = omega (arith, a.found, turn, finds_last (a.turns - 1) closer count runs f e all)
 
   -- a search found none
-  pub finding_none : nearest closer runs ≡ None → examined ≤ now → whole ≤ now
+  pub finding_none : nearest_run closer runs ≡ None → examined ≤ now → whole ≤ now
   finding_none e counted = omega (arith, a.found, turn, finds_none (a.turns - 1) closer count runs e)

@@ -11,7 +11,7 @@ use Rattle.markdown_base.specs.Item.{LiesIn, is_open}
 use Rattle.markdown_base.specs.WellFormed.{RunCharacter, run_character, byte_of}
 use Rattle.markdown_base.specs.declared.item.Item.{Item}
 use Rattle.markdown_base.specs.declared.item.ItemBody.{ItemBody}
-use Rattle.markdown_document.specs.ItemRules.{StandsBefore, KeepsItemRules}
+use Rattle.markdown_document.specs.ItemRules.{ComesBefore, KeepsItemRules}
 use Rattle.markdown_document.proofs.ItemRulesLemmas.{keeps-closed}
 use Rattle.markdown_delims.specs.declared.marks.Marks.{Marks}
 use Rattle.markdown_delims.specs.declared.run.Delimiter.{Delimiter}
@@ -20,11 +20,11 @@ use Rattle.markdown_delims.specs.declared.run.Characters.{Characters}
 use Rattle.markdown_delims.specs.Entries.{Entry, settled, lone, waiting, labelled, characters, flat, read_back, Taken, search}
 use Rattle.markdown_delims.specs.Entries.{entries_dropped, enclosed, without_first, rest_open, with_pair, kept, after_search, closed_in}
 use Rattle.markdown_delims.specs.Entries.{with_run, all_of_run, after_tree, paired_from, paired}
-use Rattle.markdown_delims.specs.MarkBodies.{layer_of_two, run_if, run_of}
+use Rattle.markdown_delims.specs.MarkBodies.{body_of_two, run_if, item_run}
 use Rattle.markdown_delims.specs.MayPair.{delimiter_of, may_take}
 use Rattle.markdown_delims.specs.PairedChain.{HasNoBlock}
 use Rattle.markdown_delims.specs.QuoteBodies.{turn_at, quoted_after}
-use Rattle.markdown_delims.specs.RunReading.{StandsWhole, IsWhole}
+use Rattle.markdown_delims.specs.RunReading.{StandsWhole, HasWholeRuns}
 use Rattle.markdown_delims.specs.Views.{top}
 use Rattle.markdown_delims.proofs.LabelLemmas.{before_back}
 use Rattle.markdown_delims.proofs.NodeLemmas.{one_made, two_made, taken_if}
@@ -101,7 +101,7 @@ module _ (text : List ℕ) where
 
   -- each tree of a chain in order in which nothing is open keeps the rules
   before_first : (p : ItemBody → Type 0) (a : Numbered) (after : Forest Numbered) → InOrder p text a.item.end (suc a.number) after
-      → StandsBefore a (first_root after)
+      → ComesBefore a (first_root after)
   before_first p a nil h = tt
   before_first p a (node b below after) h = λ x y. record { ends = h.0; numbers = omega (arith, h.1) }
 
@@ -203,14 +203,14 @@ module _ (text : List ℕ) where
     g,
   )
   enclosed_stands m d number start top end (suc (suc (suc k))) inside es i n some few apart numbers ends opens closes h g =
-      let layer = made_sound (number + (top - 2)) (start + (top - 2)) (end + 2) (layer_of_two m d) inside (omega arith)
+      let layer = made_sound (number + (top - 2)) (start + (top - 2)) (end + 2) (body_of_two m d) inside (omega arith)
       (opens (top - 2) (omega arith)) (closes 2 (omega arith)) (two_made m d).4 h in
       let further : (l : ℕ) → l ≤ suc k → IsCharBoundary text ((end + 2) + l) =
       λ l x. subst (λ j. IsCharBoundary text j) (let e : end + (2 + l) ≡ (end + 2) + l = omega arith in e) (closes (2 + l) (omega arith)) in
       enclosed_stands m d number start (top - 2) (end + 2) (suc k)
-      (node (labelled (number + (top - 2)) (start + (top - 2)) (end + 2) (layer_of_two m d)) inside nil) es i n
+      (node (labelled (number + (top - 2)) (start + (top - 2)) (end + 2) (body_of_two m d)) inside nil) es i n
       (omega arith) (omega arith) (omega arith) (omega arith) (omega arith) (λ l x. opens l (omega arith)) further
-      (all_right 0 0 (node (labelled (number + (top - 2)) (start + (top - 2)) (end + 2) (layer_of_two m d)) inside nil)
+      (all_right 0 0 (node (labelled (number + (top - 2)) (start + (top - 2)) (end + 2) (body_of_two m d)) inside nil)
       (omega arith, omega arith, layer, tt))
       (later (start + (top - suc (suc (suc k)))) (start + ((top - 2) - suc k)) (number + (top - suc (suc (suc k)))) (number
       + ((top - 2) - suc k)) es (omega arith) (omega arith) g)
@@ -314,7 +314,7 @@ module _ (text : List ℕ) where
   -- the characters of a run are in order, and so is the rest after them
   run_lies : (more : ℕ) (opens closes : Bool) (i n : ℕ) (a : Numbered) (below after : Forest Numbered)
       → run_character a.item.body ≡ Some (record { count = suc more; can_open = opens; can_close = closes })
-      → IsWhole text (node a below after) → InOrder AnyBody text i n (node a below after) → RunLies text a.item.start (suc more)
+      → HasWholeRuns text (node a below after) → InOrder AnyBody text i n (node a below after) → RunLies text a.item.start (suc more)
       × Follows more (a.item.start + suc more) (a.number + suc more) after
   run_lies zero opens closes i n a below after e w h =
       let x : StandsWhole text a below after (record { count = suc zero; can_open = opens; can_close = closes }) =
@@ -344,9 +344,9 @@ module _ (text : List ℕ) where
   -- a tree is read
   tree_stands : (m : Marks) (go_on : ℕ → List Entry → List Entry) (i n : ℕ) (a : Numbered) (below after : Forest Numbered) (es : List Entry)
       → ((skip j k : ℕ) (fs : List Entry) → Follows skip j k after → Stand text fs j k → StandSomewhere text (go_on skip fs))
-      → IsWhole text (node a below after) → HasRunsOnly (node a below after)
+      → HasWholeRuns text (node a below after) → HasRunsOnly (node a below after)
       → InOrder AnyBody text i n (node a below after) → Stand text es i n → (o : Option RunCharacter) → run_character a.item.body ≡ o
-      → StandSomewhere text (after_tree m go_on (run_of text a.item) a below es)
+      → StandSomewhere text (after_tree m go_on (item_run text a.item) a below es)
   tree_stands m go_on i n a below after es next w r h k None e =
       let closed : IsSound IsClosed text a below = record { lies = h.2.lies; holds = r.0 e; right = h.2.right } in
       let here : Stand text (settled a below ∷ es) a.item.end (suc a.number) = (
@@ -362,7 +362,7 @@ module _ (text : List ℕ) where
       let x : StandsWhole text a below after c = subst (λ o. IfSome o (StandsWhole text a below after)) e w.0 in
       let d = delimiter_some (byte_of text a.item) x.stands.delimiter in
       let run : Run = record { delimiter = d.0; length = c.count; can_open = c.can_open; can_close = c.can_close } in
-      let is : run_of text a.item ≡ Some run = ap (λ o. run_if o (delimiter_of (byte_of text a.item))) e ∙ ap (run_if (Some c)) d.1 in
+      let is : item_run text a.item ≡ Some run = ap (λ o. run_if o (delimiter_of (byte_of text a.item))) e ∙ ap (run_if (Some c)) d.1 in
       let some : 0 < c.count = count_some text a c.count c.can_open c.can_close (first_root after) x.stands.goes_on in
       let one : suc (c.count - 1) ≡ c.count = omega arith in
       let first : run_character a.item.body ≡ Some (record { count = suc (c.count - 1); can_open = c.can_open; can_close = c.can_close }) =
@@ -375,7 +375,7 @@ module _ (text : List ℕ) where
       subst (λ o. StandSomewhere text (after_tree m go_on o a below es)) (sym is)
       (next (c.count - 1) (a.item.start + c.count) (a.number + c.count) (with_run m a.item.start (all_of_run run a.number) es) lies.1 here)
 
-  reads_stand : (m : Marks) (skip i n : ℕ) (f : Forest Numbered) (es : List Entry) → IsWhole text f → HasRunsOnly f → Follows skip i n f
+  reads_stand : (m : Marks) (skip i n : ℕ) (f : Forest Numbered) (es : List Entry) → HasWholeRuns text f → HasRunsOnly f → Follows skip i n f
       → Stand text es i n → StandSomewhere text (paired_from m text skip f es)
   unfolding paired_from
   reads_stand m skip i n nil es w r h k = record { byte = i; number = n; stand = k }
@@ -385,7 +385,7 @@ module _ (text : List ℕ) where
       w.1 r.1 g q) w r h k (run_character a.item.body) refl
 
   -- the whole chain
-  pub paired_right : (m : Marks) (f : Forest Numbered) → IsWhole text f → HasRunsOnly f → InOrder AnyBody text 0 0 f
+  pub paired_right : (m : Marks) (f : Forest Numbered) → HasWholeRuns text f → HasRunsOnly f → InOrder AnyBody text 0 0 f
       → AllStandRight text (paired m text f)
   paired_right m f w r h =
       let end = reads_stand m 0 0 0 f [] w r h tt in

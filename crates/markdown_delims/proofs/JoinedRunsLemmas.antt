@@ -16,7 +16,7 @@ use Rattle.markdown_delims.specs.declared.run.Run.{Run}
 use Rattle.markdown_delims.specs.JoinedRuns.{HasCharacter, IsMadeOfRun, JoinedLaw, JoinsRuns}
 use Rattle.markdown_delims.specs.Layers.{marks_of, layer_of_one, layer_of_two, run_of, spanned}
 use Rattle.markdown_delims.specs.MayPair.{may_pair}
-use Rattle.markdown_delims.specs.Pairing.{Read, done, waiting, texts_before, all_done, read_trees, FoundOpener, nearest_opener, drop_read}
+use Rattle.markdown_delims.specs.Pairing.{Read, done_read, waiting, texts_before, characters_done, read_trees, FoundOpener, nearest_opener, drop_read}
 use Rattle.markdown_delims.specs.Pairing.{Layers, layers, trees_done, still_waiting, last_first, opened_if, left_over, after_layers}
 use Rattle.markdown_delims.specs.Pairing.{first_texts, reads_from, runs_paired, paired}
 use Rattle.markdown_delims.specs.PairingLaws.{RunAt, further, no_run, run_at, with_runs}
@@ -70,7 +70,7 @@ module _ (whole : Forest Character) where
   -- what was read
   abbrev AllRead : List (Read MaybeRun) → Type 0
   AllRead [] = ⊤
-  AllRead (done a below ∷ rs) = IsTree a below × AllRead rs
+  AllRead (done_read a below ∷ rs) = IsTree a below × AllRead rs
   AllRead (waiting dropped run xs ∷ rs) = (run.can_open ≡ true) × AreOf run xs × AllRead rs
 
   -- what is still to be read
@@ -91,11 +91,11 @@ module _ (whole : Forest Character) where
   trees_join : (rs : List (Read MaybeRun)) (chain : Forest Character) → AllRead rs → JoinsRuns whole chain
       → JoinsRuns whole (read_trees rs chain)
   trees_join [] chain r h = h
-  trees_join (done a below ∷ rs) chain r h = trees_join rs (node a below chain) r.1 (r.0.0, r.0.1, h)
+  trees_join (done_read a below ∷ rs) chain r h = trees_join rs (node a below chain) r.1 (r.0.0, r.0.1, h)
   trees_join (waiting dropped run xs ∷ rs) chain r h = trees_join rs (texts_before xs chain) r.2 (texts_join r.1.at xs chain r.1.all h)
 
   done_join : (p : RunAt) (xs : List Character) (rs : List (Read MaybeRun)) → AllByRecursion (IsOf p) xs → AllRead rs
-      → AllRead (all_done xs rs)
+      → AllRead (characters_done xs rs)
   done_join p [] rs a r = r
   done_join p (x ∷ xs) rs a r = (stays_text p x a.0, done_join p xs rs a.1 r)
 
@@ -117,7 +117,7 @@ module _ (whole : Forest Character) where
 
   dropped_join : (d : Delimiter) (rs : List (Read MaybeRun)) → AllRead rs → AllRead (map (drop_read d) rs)
   dropped_join d [] r = r
-  dropped_join d (done a below ∷ rs) r = (r.0, dropped_join d rs r.1)
+  dropped_join d (done_read a below ∷ rs) r = (r.0, dropped_join d rs r.1)
   dropped_join d (waiting dropped run xs ∷ rs) r = (r.0, r.1, dropped_join d rs r.2)
 
   still_join : (run : Run) (xs : List Character) (rs : List (Read MaybeRun)) → run.can_open ≡ true → AreOf run xs → AllRead rs
@@ -127,7 +127,7 @@ module _ (whole : Forest Character) where
 
   trees_read : (f : Forest Character) (rs : List (Read MaybeRun)) → JoinsRuns whole f → AllRead rs → AllRead (trees_done f rs)
   trees_read nil rs h r = r
-  trees_read (node a below after) rs h r = trees_read after (done a below ∷ rs) h.2 ((h.0, h.1), r)
+  trees_read (node a below after) rs h r = trees_read after (done_read a below ∷ rs) h.2 ((h.0, h.1), r)
 
   -- an opener that was found
   abbrev FoundJoins : FoundOpener MaybeRun → Type 0
@@ -136,7 +136,7 @@ module _ (whole : Forest Character) where
   nearest_found : (closer : Run) (rs : List (Read MaybeRun)) (inside : Forest Character) → AllRead rs → JoinsRuns whole inside
       → IfSome (nearest_opener closer rs inside) FoundJoins
   nearest_found closer [] inside r h = tt
-  nearest_found closer (done a below ∷ rs) inside r h = nearest_found closer rs (node a below inside) r.1 (r.0.0, r.0.1, h)
+  nearest_found closer (done_read a below ∷ rs) inside r h = nearest_found closer rs (node a below inside) r.1 (r.0.0, r.0.1, h)
   nearest_found closer (waiting dropped run xs ∷ rs) inside r h =
       found-if FoundJoins (not dropped && may_pair run closer) (record { inside = inside; run = run; characters = xs; before = rs })
       (nearest_opener closer rs (texts_before xs inside)) (r.0, r.1, r.2, h)
@@ -246,7 +246,7 @@ module _ (whole : Forest Character) where
     closed_tree false a below e h = (subst (λ t. IsMadeOfRun whole t a.part.range below) (sym e) tt, h)
 
     tree_holds : (a : Character) (below after : Forest Character) (rs : List (Read MaybeRun)) → run_of s.text a.part ≡ None
-        → HoldsOf [] rs (node a below after) → HoldsOf [] (done (as_closed s.text a) below ∷ rs) after
+        → HoldsOf [] rs (node a below after) → HoldsOf [] (done_read (as_closed s.text a) below ∷ rs) after
     tree_holds a below after rs e h =
         let tag : a.tag ≡ None = h.1.0 ∙ ap (run_at a.part.range.start) e in (
           (closed_tree (is_unresolved a.part.shape) a below tag h.2.1, h.0),

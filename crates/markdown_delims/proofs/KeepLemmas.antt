@@ -12,7 +12,7 @@ use Rattle.markdown_delims.specs.declared.run.Delimiter.{Delimiter}
 use Rattle.markdown_delims.specs.declared.run.Run.{Run}
 use Rattle.markdown_delims.specs.Layers.{marks_of, layer_of_one, layer_of_two, spanned}
 use Rattle.markdown_delims.specs.MayPair.{may_pair}
-use Rattle.markdown_delims.specs.Pairing.{Read, done, waiting, texts_before, all_done, read_trees, FoundOpener, nearest_opener, drop_read}
+use Rattle.markdown_delims.specs.Pairing.{Read, done_read, waiting, texts_before, characters_done, read_trees, FoundOpener, nearest_opener, drop_read}
 use Rattle.markdown_delims.specs.Pairing.{Layers, layers, trees_done, still_waiting, last_first, opened_if, after_layers}
 use Rattle.markdown_delims.specs.Pairing.{first_texts, reads_from, runs_paired, paired}
 use Rattle.markdown_delims.specs.Quotes.{with_quotes}
@@ -40,7 +40,7 @@ module _ {A : Type 0} (c : Label A → Type 0) (t : Label A → Forest (Label A)
   -- what was read
   abbrev pub EachRead : List (Read A) → Type 0
   EachRead [] = ⊤
-  EachRead (done a below ∷ rs) = t a below × EachRead rs
+  EachRead (done_read a below ∷ rs) = t a below × EachRead rs
   EachRead (waiting dropped run xs ∷ rs) = AllByRecursion c xs × EachRead rs
 
   abbrev pub EachFound : FoundOpener A → Type 0
@@ -57,17 +57,17 @@ module _ {A : Type 0} (c : Label A → Type 0) (t : Label A → Forest (Label A)
 
     trees_keep : (rs : List (Read A)) (after : Forest (Label A)) → EachRead rs → EachTree t after → EachTree t (read_trees rs after)
     trees_keep [] after h k = k
-    trees_keep (done a below ∷ rs) after h k = trees_keep rs (node a below after) h.1 (h.0, k)
+    trees_keep (done_read a below ∷ rs) after h k = trees_keep rs (node a below after) h.1 (h.0, k)
     trees_keep (waiting dropped run xs ∷ rs) after h k = trees_keep rs (texts_before xs after) h.1 (texts_keep xs after h.0 k)
 
-    done_keeps : (xs : List (Label A)) (rs : List (Read A)) → AllByRecursion c xs → EachRead rs → EachRead (all_done xs rs)
+    done_keeps : (xs : List (Label A)) (rs : List (Read A)) → AllByRecursion c xs → EachRead rs → EachRead (characters_done xs rs)
     done_keeps [] rs h k = k
     done_keeps (x ∷ xs) rs h k = (makes.text x h.0, done_keeps xs rs h.1 k)
 
     pub nearest-keeps : (closer : Run) (rs : List (Read A)) (inside : Forest (Label A)) → EachRead rs → EachTree t inside
         → IfSome (nearest_opener closer rs inside) EachFound
     nearest-keeps closer [] inside h k = tt
-    nearest-keeps closer (done a below ∷ rs) inside h k = nearest-keeps closer rs (node a below inside) h.1 (h.0, k)
+    nearest-keeps closer (done_read a below ∷ rs) inside h k = nearest-keeps closer rs (node a below inside) h.1 (h.0, k)
     nearest-keeps closer (waiting dropped run xs ∷ rs) inside h k =
         found-if EachFound (not dropped && may_pair run closer) (record { inside = inside; run = run; characters = xs; before = rs })
         (nearest_opener closer rs (texts_before xs inside)) (k, h.0, h.1)
@@ -75,7 +75,7 @@ module _ {A : Type 0} (c : Label A → Type 0) (t : Label A → Forest (Label A)
 
     dropped_keep : (d : Delimiter) (rs : List (Read A)) → EachRead rs → EachRead (map (drop_read d) rs)
     dropped_keep d [] h = h
-    dropped_keep d (done a below ∷ rs) h = (h.0, dropped_keep d rs h.1)
+    dropped_keep d (done_read a below ∷ rs) h = (h.0, dropped_keep d rs h.1)
     dropped_keep d (waiting dropped run xs ∷ rs) h = (h.0, dropped_keep d rs h.1)
 
     layers_keep : (d : Delimiter) (xs vs : List (Label A)) (inside : Forest (Label A)) → AllByRecursion c xs → AllByRecursion c vs
@@ -90,7 +90,7 @@ module _ {A : Type 0} (c : Label A → Type 0) (t : Label A → Forest (Label A)
 
     done_trees_keep : (f : Forest (Label A)) (rs : List (Read A)) → EachTree t f → EachRead rs → EachRead (trees_done f rs)
     done_trees_keep nil rs h k = k
-    done_trees_keep (node a below after) rs h k = done_trees_keep after (done a below ∷ rs) h.1 (h.0, k)
+    done_trees_keep (node a below after) rs h k = done_trees_keep after (done_read a below ∷ rs) h.1 (h.0, k)
 
     still_keeps : (run : Run) (xs : List (Label A)) (rs : List (Read A)) → AllByRecursion c xs → EachRead rs
         → EachRead (still_waiting run xs rs)

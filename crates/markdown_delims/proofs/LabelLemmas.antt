@@ -21,7 +21,7 @@ use Rattle.markdown_delims.specs.Entries.{flat, read_back, Taken, search, entrie
 use Rattle.markdown_delims.specs.Layers.{enclosed_if, marks_of, layer_of_one, layer_of_two, spanned}
 use Rattle.markdown_delims.specs.MarkBodies.{whole_text, layer_of_one as body_of_one, layer_of_two as body_of_two}
 use Rattle.markdown_delims.specs.MayPair.{drops, may_take}
-use Rattle.markdown_delims.specs.Pairing.{Read, done, waiting, texts_before, all_done, read_trees, FoundOpener, found_if, nearest_opener}
+use Rattle.markdown_delims.specs.Pairing.{Read, done_read, waiting, texts_before, characters_done, read_trees, FoundOpener, found_if, nearest_opener}
 use Rattle.markdown_delims.specs.Pairing.{drop_read, Layers, layers, trees_done, still_waiting, last_first, opened_if}
 use Rattle.markdown_delims.specs.Pairing.{left_over}
 use Rattle.markdown_delims.proofs.PairLemmas.{characters-last}
@@ -110,8 +110,8 @@ module _ {A : Type 0} (tag : ℕ → A) (tables : Tables) (s : Setting) where
   -- what was read
   abbrev pub seen : List Entry → List (Read A)
   seen [] = []
-  seen (settled a below ∷ es) = done (look a) (trees below) ∷ seen es
-  seen (lone number start n ∷ es) = all_done (lasts number start n) (seen es)
+  seen (settled a below ∷ es) = done_read (look a) (trees below) ∷ seen es
+  seen (lone number start n ∷ es) = characters_done (lasts number start n) (seen es)
   seen (open_entry start r ∷ es) = waiting r.dropped r.opener.run (lasts r.opener.number start r.opener.count) ∷ seen es
 
   texts_seen : (number start n : ℕ) (after : Forest Numbered) → texts_before (lasts number start n) (trees after)
@@ -120,7 +120,7 @@ module _ {A : Type 0} (tag : ℕ → A) (tables : Tables) (s : Setting) where
   texts_seen number start (suc n) after = texts_seen number start n (node (character (number + n) (start + n)) nil after)
       ∙ ap trees (characters-last number start n after)
 
-  done_trees : (xs : List (Label A)) (rs : List (Read A)) (after : Forest (Label A)) → read_trees (all_done xs rs) after
+  done_trees : (xs : List (Label A)) (rs : List (Read A)) (after : Forest (Label A)) → read_trees (characters_done xs rs) after
       ≡ read_trees rs (texts_before xs after)
   done_trees [] rs after = refl
   done_trees (x ∷ xs) rs after = done_trees xs rs (node x nil after)
@@ -150,7 +150,7 @@ module _ {A : Type 0} (tag : ℕ → A) (tables : Tables) (s : Setting) where
   })
 
   done_search : (closer : Run) (xs : List (Label A)) (rs : List (Read A)) (inside : Forest (Label A))
-      → nearest_opener closer (all_done xs rs) inside ≡ nearest_opener closer rs (texts_before xs inside)
+      → nearest_opener closer (characters_done xs rs) inside ≡ nearest_opener closer rs (texts_before xs inside)
   done_search closer [] rs inside = refl
   done_search closer (x ∷ xs) rs inside = done_search closer xs rs (node x nil inside)
 
@@ -187,16 +187,16 @@ module _ {A : Type 0} (tag : ℕ → A) (tables : Tables) (s : Setting) where
       (search closer es (characters r.opener.number start r.opener.count inside))
 
   -- runs that are dropped
-  drop_done : (d : Delimiter) (xs : List (Label A)) (rs : List (Read A)) → map (drop_read d) (all_done xs rs)
-      ≡ all_done xs (map (drop_read d) rs)
+  drop_done : (d : Delimiter) (xs : List (Label A)) (rs : List (Read A)) → map (drop_read d) (characters_done xs rs)
+      ≡ characters_done xs (map (drop_read d) rs)
   drop_done d [] rs = refl
-  drop_done d (x ∷ xs) rs = ap (λ (os : List (Read A)). done x nil ∷ os) (drop_done d xs rs)
+  drop_done d (x ∷ xs) rs = ap (λ (os : List (Read A)). done_read x nil ∷ os) (drop_done d xs rs)
 
   pub dropped_seen : (closer : Run) (es : List Entry) → map (drop_read closer.delimiter) (seen es) ≡ seen (entries_dropped closer es)
   dropped_seen closer [] = refl
-  dropped_seen closer (settled a below ∷ es) = ap (λ (os : List (Read A)). done (look a) (trees below) ∷ os) (dropped_seen closer es)
+  dropped_seen closer (settled a below ∷ es) = ap (λ (os : List (Read A)). done_read (look a) (trees below) ∷ os) (dropped_seen closer es)
   dropped_seen closer (lone number start n ∷ es) =
-      drop_done closer.delimiter (lasts number start n) (seen es) ∙ ap (all_done (lasts number start n)) (dropped_seen closer es)
+      drop_done closer.delimiter (lasts number start n) (seen es) ∙ ap (characters_done (lasts number start n)) (dropped_seen closer es)
   dropped_seen closer (open_entry start r ∷ es) =
       ap (λ (os : List (Read A)). waiting (r.dropped || drops closer.delimiter r.opener.run.delimiter) r.opener.run
       (lasts r.opener.number start r.opener.count) ∷ os) (dropped_seen closer es)

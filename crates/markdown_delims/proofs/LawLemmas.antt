@@ -8,10 +8,10 @@ use Rattle.markdown_document.specs.Setting.{Setting}
 use Rattle.markdown_document.specs.Waiting.{text_if, as_closed}
 use Rattle.markdown_delims.specs.declared.run.Run.{Run}
 use Rattle.markdown_delims.specs.MayPair.{may_pair}
-use Rattle.markdown_delims.specs.Pairing.{Read, done, waiting, texts_before, FoundOpener, found_if, nearest_opener, paired}
+use Rattle.markdown_delims.specs.Pairing.{Read, done_read, waiting, texts_before, FoundOpener, found_if, nearest_opener, paired}
 use Rattle.markdown_delims.specs.Layers.{marks_of}
-use Rattle.markdown_delims.specs.PairingLaws.{NothingOpen, below_trees, NonePairs, ClosedLaw, OrderLaw, JoinsLaw, MissesNoneLaw, KeepsLaw}
-use Rattle.markdown_delims.specs.PairingLaws.{TagLaw}
+use Rattle.markdown_delims.specs.PairingLaws.{NothingOpen, below_trees, NonePairs, PairingClosedLaw, PairingOrderLaw, JoinsLaw, MissesNoneLaw, KeepsLaw}
+use Rattle.markdown_delims.specs.PairingLaws.{PairingTagLaw}
 use Rattle.markdown_delims.specs.Quotes.{first_turn, quotes_after, with_quotes}
 use Rattle.markdown_delims.proofs.KeepLemmas.{EachTree, MakesTrees, IsReadable, runs-keep, IsClosedTree, as_closed-closed, paired-closed}
 use Rattle.markdown_delims.proofs.LayerLawLemmas.{one-closed, two-closed}
@@ -21,7 +21,7 @@ closed_nothing : {A : Type 0} (f : Forest (Label A)) → EachTree IsClosedTree f
 closed_nothing nil h = tt
 closed_nothing (node a below after) h = (h.0, closed_nothing after h.1)
 
-pub closed-law : {A : Type 0} → ClosedLaw A
+pub closed-law : {A : Type 0} → PairingClosedLaw A
 closed-law s chain = closed_nothing (paired s chain) (paired-closed s chain)
 
 -- a change below each tree, and no other
@@ -30,7 +30,7 @@ below_same : {A : Type 0} (change : Forest (Label A) → Forest (Label A)) (f : 
 below_same change nil = refl
 below_same change (node a below after) = ap (node a (change below)) (below_same change after)
 
-pub order-law : {A : Type 0} → OrderLaw A
+pub order-law : {A : Type 0} → PairingOrderLaw A
 order-law s change none stays chain =
     ap (paired s) (sym (below_same change chain)) ∙ paired-deep (λ x. x) change s none (λ f h. stays f (closed_nothing f h)
     ∙ sym (below_same change f)) chain ∙ below_same change (paired s chain)
@@ -40,7 +40,7 @@ tags_same : {A B : Type 0} (f : A → B) (g : Forest (Label A)) → deep f (reta
 tags_same f nil = refl
 tags_same f (node a below after) = ap (node (retag f a) (retagged f below)) (tags_same f after)
 
-pub tag-law : {A B : Type 0} → TagLaw A B
+pub tag-law : {A B : Type 0} → PairingTagLaw A B
 tag-law f s chain = ap (paired s) (sym (tags_same f chain)) ∙ paired-deep f (retagged f) s refl (λ g h. sym (tags_same f g)) chain
     ∙ tags_same f (paired s chain)
 
@@ -107,7 +107,7 @@ joins_if closer false f o false e h = h
 
 pub joins-law : {A : Type 0} → JoinsLaw A
 joins-law closer [] inside = tt
-joins-law closer (done a below ∷ rs) inside = joins-law closer rs (node a below inside)
+joins-law closer (done_read a below ∷ rs) inside = joins-law closer rs (node a below inside)
 joins-law closer (waiting dropped run xs ∷ rs) inside =
     joins_if closer dropped (record { inside = inside; run = run; characters = xs; before = rs })
     (nearest_opener closer rs (texts_before xs inside)) (may_pair run closer) refl
@@ -127,7 +127,7 @@ misses_if closer run false rs f (Some g) false e h = tt
 
 pub misses-law : {A : Type 0} → MissesNoneLaw A
 misses-law closer [] inside = tt
-misses-law closer (done a below ∷ rs) inside = misses-law closer rs (node a below inside)
+misses-law closer (done_read a below ∷ rs) inside = misses-law closer rs (node a below inside)
 misses-law closer (waiting dropped run xs ∷ rs) inside =
     misses_if closer run dropped rs (record { inside = inside; run = run; characters = xs; before = rs })
     (nearest_opener closer rs (texts_before xs inside)) (may_pair run closer) refl

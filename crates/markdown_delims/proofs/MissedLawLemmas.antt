@@ -16,7 +16,7 @@ use Rattle.markdown_delims.specs.declared.run.Delimiter.TheVariants.{Star, Under
 use Rattle.markdown_delims.specs.declared.run.Run.{Run}
 use Rattle.markdown_delims.specs.Layers.{marks_of, layer_of_one, layer_of_two, run_of_shape, run_of}
 use Rattle.markdown_delims.specs.MayPair.{delimiter_of, drops, is_tilde_or_caret, may_pair}
-use Rattle.markdown_delims.specs.Pairing.{paired, Read, done, waiting, texts_before, all_done, read_trees, FoundOpener, nearest_opener}
+use Rattle.markdown_delims.specs.Pairing.{paired, Read, done_read, waiting, texts_before, characters_done, read_trees, FoundOpener, nearest_opener}
 use Rattle.markdown_delims.specs.Pairing.{drop_read, Layers, layers, trees_done, still_waiting, last_first, opened_if}
 use Rattle.markdown_delims.specs.Pairing.{left_over, after_layers, after_search, closed_by, run_read, first_texts, after_tree, reads_from}
 use Rattle.markdown_delims.specs.Pairing.{runs_paired}
@@ -25,7 +25,7 @@ use Rattle.markdown_delims.specs.Quotes.{with_quotes}
 use Rattle.markdown_delims.specs.declared.quotes.Kind.TheVariants as kind
 use Rattle.markdown_base.specs.declared.item.ItemBody.TheVariants as body
 use Rattle.markdown_delims.specs.PairingLaws.{NonePairs, RunAt, run_at, further, no_run, with_runs, run_if_text, kept_run, DoNotPair}
-use Rattle.markdown_delims.specs.PairingLaws.{NonePairsLater, NoneMissed, untagged, NoneMissedLaw}
+use Rattle.markdown_delims.specs.PairingLaws.{NonePairsLater, NoneMissed, without_tags, NoneMissedLaw}
 use Rattle.markdown_delims.proofs.BeginLawLemmas.{some-long}
 use Rattle.markdown_delims.proofs.LawLemmas.{misses-law, tag-law}
 use Rattle.markdown_delims.proofs.LayerLawLemmas.{turn-made}
@@ -84,7 +84,7 @@ tilde_shut p e star opens = differ (sym e ∙ star)
 -- a run that is later than what was read
 abbrev NoneEarlier : MaybeRun → List (Read MaybeRun) → Type 0
 NoneEarlier k [] = ⊤
-NoneEarlier k (done a below ∷ rs) = DoNotPair (kept_run a) k × NoneEarlier k rs
+NoneEarlier k (done_read a below ∷ rs) = DoNotPair (kept_run a) k × NoneEarlier k rs
 NoneEarlier k (waiting dropped run xs ∷ rs) = AllByRecursion (λ (x : Character). DoNotPair x.tag k) xs × NoneEarlier k rs
 
 -- characters of one run, and that there are some
@@ -106,7 +106,7 @@ record IsLeft (run : Run) (xs : List Character) (before : List (Read MaybeRun)) 
 -- what was read: only runs that are open may pair with one that comes
 abbrev Fine : List (Read MaybeRun) → Type 0
 Fine [] = ⊤
-Fine (done a below ∷ rs) = Shut (kept_run a) × NoneEarlier (kept_run a) rs × NoneMissed below × Fine rs
+Fine (done_read a below ∷ rs) = Shut (kept_run a) × NoneEarlier (kept_run a) rs × NoneMissed below × Fine rs
 Fine (waiting dropped run xs ∷ rs) = (dropped ≡ true → is_tilde_or_caret run.delimiter ≡ true) × IsLeft run xs rs × Fine rs
 
 each_apart : (k : MaybeRun) → ((r : MaybeRun) → DoNotPair r k) → (xs : List Character)
@@ -116,7 +116,7 @@ each_apart k h (x ∷ xs) = (h x.tag, each_apart k h xs)
 
 all_earlier : (k : MaybeRun) → ((r : MaybeRun) → DoNotPair r k) → (rs : List (Read MaybeRun)) → NoneEarlier k rs
 all_earlier k h [] = tt
-all_earlier k h (done a below ∷ rs) = (h (kept_run a), all_earlier k h rs)
+all_earlier k h (done_read a below ∷ rs) = (h (kept_run a), all_earlier k h rs)
 all_earlier k h (waiting dropped run xs ∷ rs) = (each_apart k h xs, all_earlier k h rs)
 
 text_earlier : (shape : Shape) (r : MaybeRun) (rs : List (Read MaybeRun)) → NoneEarlier r rs → NoneEarlier (run_if_text shape r) rs
@@ -163,7 +163,7 @@ abbrev AllLater : List (Read MaybeRun) → Forest Character → Type 0
 AllLater rs nil = ⊤
 AllLater rs (node a below after) = NoneEarlier (kept_run a) rs × AllLater rs after
 
-after_done : (a : Character) (below : Forest Character) (rs : List (Read MaybeRun)) (f : Forest Character) → AllLater (done a below ∷ rs) f
+after_done : (a : Character) (below : Forest Character) (rs : List (Read MaybeRun)) (f : Forest Character) → AllLater (done_read a below ∷ rs) f
     → NonePairsLater (kept_run a) f × AllLater rs f
 after_done a below rs nil h = (tt, tt)
 after_done a below rs (node b under after) h =
@@ -187,7 +187,7 @@ texts_fine p rs (x ∷ xs) f a e m n l =
 
 trees_fine : (rs : List (Read MaybeRun)) (f : Forest Character) → Fine rs → NoneMissed f → AllLater rs f → NoneMissed (read_trees rs f)
 trees_fine [] f h m l = m
-trees_fine (done a below ∷ rs) f h m l =
+trees_fine (done_read a below ∷ rs) f h m l =
     let k = after_done a below rs f l in trees_fine rs (node a below f) h.3 (k.0, h.2, m) (h.1, k.1)
 trees_fine (waiting dropped run xs ∷ rs) f h m l =
     let k = after_waiting dropped run xs rs h.1 f l in
@@ -200,7 +200,7 @@ FoundFine f = IsLeft f.run f.characters f.before × Fine f.before × NoneMissed 
 nearest_fine : (closer : Run) (rs : List (Read MaybeRun)) (inside : Forest Character) → Fine rs → NoneMissed inside → AllLater rs inside
     → IfSome (nearest_opener closer rs inside) FoundFine
 nearest_fine closer [] inside h m l = tt
-nearest_fine closer (done a below ∷ rs) inside h m l =
+nearest_fine closer (done_read a below ∷ rs) inside h m l =
     let k = after_done a below rs inside l in nearest_fine closer rs (node a below inside) h.3 (k.0, h.2, m) (h.1, k.1)
 nearest_fine closer (waiting dropped run xs ∷ rs) inside h m l =
     let k = after_waiting dropped run xs rs h.1 inside l in
@@ -220,14 +220,14 @@ open_apart false run closer q p e g d m n star opens closes = ap (λ r. may_pair
 none_found : (closer : Run) (p : RunAt) → p.run ≡ closer → (rs : List (Read MaybeRun)) → Fine rs → NonePairs closer rs
     → NoneEarlier (Some p) rs
 none_found closer p e [] h m = tt
-none_found closer p e (done a below ∷ rs) h m = (shut_apart (kept_run a) (Some p) h.0, none_found closer p e rs h.3 m)
+none_found closer p e (done_read a below ∷ rs) h m = (shut_apart (kept_run a) (Some p) h.0, none_found closer p e rs h.3 m)
 none_found closer p e (waiting dropped run xs ∷ rs) h m =
     (all_first h.1.at (Some p) xs h.1.all (open_apart dropped run closer h.1.at p h.1.same e h.0 m.0), none_found closer p e rs h.2 m.1)
 
 -- runs are dropped
 drop_earlier : (d : Delimiter) (k : MaybeRun) (rs : List (Read MaybeRun)) → NoneEarlier k rs → NoneEarlier k (map (drop_read d) rs)
 drop_earlier d k [] h = tt
-drop_earlier d k (done a below ∷ rs) h = (h.0, drop_earlier d k rs h.1)
+drop_earlier d k (done_read a below ∷ rs) h = (h.0, drop_earlier d k rs h.1)
 drop_earlier d k (waiting dropped run xs ∷ rs) h = (h.0, drop_earlier d k rs h.1)
 
 -- no `*` and no `_` is dropped
@@ -250,7 +250,7 @@ drop_tilde false d e h k = drops_tilde d e k
 
 drop_fine : (d : Delimiter) (rs : List (Read MaybeRun)) → Fine rs → Fine (map (drop_read d) rs)
 drop_fine d [] h = tt
-drop_fine d (done a below ∷ rs) h = (h.0, drop_earlier d (kept_run a) rs h.1, h.2, drop_fine d rs h.3)
+drop_fine d (done_read a below ∷ rs) h = (h.0, drop_earlier d (kept_run a) rs h.1, h.2, drop_fine d rs h.3)
 drop_fine d (waiting dropped run xs ∷ rs) h = (
   drop_tilde dropped d run.delimiter h.0,
   record { at = h.1.at; same = h.1.same; all = h.1.all; some = h.1.some; earlier = drop_earlier d (Some h.1.at) rs h.1.earlier },
@@ -260,11 +260,11 @@ drop_fine d (waiting dropped run xs ∷ rs) h = (
 -- characters that do not pair, of a run p
 module _ (p : RunAt) where
   done_fine : (xs : List Character) (rs : List (Read MaybeRun)) → AreOf p xs → Shut (Some p) → Fine rs → NoneEarlier (Some p) rs
-      → Fine (all_done xs rs) × NoneEarlier (Some p) (all_done xs rs)
+      → Fine (characters_done xs rs) × NoneEarlier (Some p) (characters_done xs rs)
   done_fine [] rs a s h e = (h, e)
   done_fine (x ∷ xs) rs a s h e =
       let k = done_fine xs rs a.1 s h e in
-      ((is_shut p x a.0 s, is_earlier p x a.0 (all_done xs rs) k.1, tt, k.0), (is_first p x a.0 (Some p) (same_run p), k.1))
+      ((is_shut p x a.0 s, is_earlier p x a.0 (characters_done xs rs) k.1, tt, k.0), (is_first p x a.0 (Some p) (same_run p), k.1))
 
   turned_of : (xs ys : List Character) → AreOf p xs → AreOf p ys → AreOf p (last_first xs ys)
   turned_of [] ys a b = b
@@ -476,7 +476,7 @@ module _ (s : Setting) where
     tree_fine go_on start a below after rs None n h k =
         let label : Character = as_closed s.text (retag (λ _. None) a) in
         let none = of_none label rs (closed_tag (is_unresolved a.part.shape) (retag (λ _. None) a)) in
-        h None (done label (retagged no_run below) ∷ rs) (none.0, none.1, below_fine below, k)
+        h None (done_read label (retagged no_run below) ∷ rs) (none.0, none.1, below_fine below, k)
     tree_fine go_on start a below after rs (Some run) n h k =
         let p : RunAt = record { start = start; run = run } in
         let vs : List Character = first_texts s.text run.length (with_run s (Some p) (run.length - 1) a below after) in
@@ -536,13 +536,13 @@ module _ {A : Type 0} (s : Setting) where
       ∙ ap (λ (f : Forest Character). node (retag (λ _. r) (shaped (first_turn a after single double).made a)) (retagged no_run below) f)
       (h (first_turn a after single double).single (first_turn a after single double).double)
 
-  untagged_node : (r : MaybeRun) (more : ℕ) (a : Label A) (below after : Forest (Label A)) → untagged (with_runs s more r after)
-      ≡ untagged after
-      → untagged (with_run s r more a below after) ≡ untagged (node a below after)
+  untagged_node : (r : MaybeRun) (more : ℕ) (a : Label A) (below after : Forest (Label A)) → without_tags (with_runs s more r after)
+      ≡ without_tags after
+      → without_tags (with_run s r more a below after) ≡ without_tags (node a below after)
   untagged_node r more a below after h =
       let here : Plain = retag (λ _. tt) a in
-      ap (λ (f : Forest Plain). node here f (untagged (with_runs s more r after))) (relabelled-relabelled (retag no_run) (retag (λ _. tt))
-      below) ∙ ap (λ (f : Forest Plain). node here (untagged below) f) h
+      ap (λ (f : Forest Plain). node here f (without_tags (with_runs s more r after))) (relabelled-relabelled (retag no_run) (retag (λ _. tt))
+      below) ∙ ap (λ (f : Forest Plain). node here (without_tags below) f) h
 
   pub quotes_told : (more : ℕ) (before : MaybeRun) (chain : Forest (Label A)) (single double : Bool)
       → quotes_after single double (with_runs s more before chain) ≡ with_runs s more before (quotes_after single double chain)
@@ -560,7 +560,7 @@ module _ {A : Type 0} (s : Setting) where
 
 -- runs in the tags change nothing else
 told_untagged : {A : Type 0} (s : Setting) (more : ℕ) (before : MaybeRun) (chain : Forest (Label A))
-    → untagged (with_runs s more before chain) ≡ untagged chain
+    → without_tags (with_runs s more before chain) ≡ without_tags chain
 told_untagged s more before nil = refl
 told_untagged {A} s (suc more) before (node a below after) = untagged_node s before more a below after (told_untagged s more before after)
 told_untagged {A} s zero before (node a below after) =

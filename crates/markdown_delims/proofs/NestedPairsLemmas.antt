@@ -4,7 +4,7 @@ use Rattle.std.proofs.Common.{◌≡◌, ℕ, zero, suc, ◌≤◌, Bool, true, 
 use Rattle.std.specs.Prelude.{IfSome, not, ◌&&◌}
 use Rattle.std.proofs.lemmas.Option.{IfSome_then}
 use Rattle.markdown_base.specs.Forest.{Forest, nil, node, Each}
-use Rattle.markdown_document.specs.ChainRest.{start_of, end_of, joined}
+use Rattle.markdown_document.specs.ChainRest.{start_of, end_of, joined_chains}
 use Rattle.markdown_document.specs.Document.{Shape, Label, is_unresolved}
 use Rattle.markdown_document.specs.Setting.{Setting}
 use Rattle.markdown_document.specs.Waiting.{text_if, as_closed}
@@ -13,7 +13,7 @@ use Rattle.markdown_delims.specs.declared.run.Run.{Run}
 use Rattle.markdown_delims.specs.Layers.{marks_of, layer_of_one, layer_of_two, spanned}
 use Rattle.markdown_delims.specs.MayPair.{may_pair}
 use Rattle.markdown_delims.specs.NestedPairs.{LieInOrder, NestOrLieApart, NestLaw}
-use Rattle.markdown_delims.specs.Pairing.{Read, done, waiting, texts_before, all_done, read_trees, FoundOpener, nearest_opener, drop_read}
+use Rattle.markdown_delims.specs.Pairing.{Read, done_read, waiting, texts_before, characters_done, read_trees, FoundOpener, nearest_opener, drop_read}
 use Rattle.markdown_delims.specs.Pairing.{Layers, layers, trees_done, still_waiting, last_first, opened_if, after_layers}
 use Rattle.markdown_delims.specs.Pairing.{first_texts, runs_paired, paired}
 use Rattle.markdown_delims.specs.Quotes.{first_turn, quotes_after, with_quotes}
@@ -69,7 +69,7 @@ module _ {A : Type 0} where
     first : LieInOrder i at f
     rest : LieInOrder at k g
 
-  cut : (i k : ℕ) (f g : Forest (Label A)) → LieInOrder i k (joined f g) → IsCut i k f g
+  cut : (i k : ℕ) (f g : Forest (Label A)) → LieInOrder i k (joined_chains f g) → IsCut i k f g
   cut i k nil g h = let same : i ≤ i = omega arith in record { at = i; first = same; rest = h }
   cut i k (node a below after) g h =
       let c = cut (end_of a) k after g h.2 in record { at = c.at; first = (h.0, h.1, c.first); rest = c.rest }
@@ -88,7 +88,7 @@ module _ {A : Type 0} where
 
   behind_read : (k : ℕ) (rs : List (Read A)) (f g : Forest (Label A)) → Lies k f g → Lies k (read_trees rs f) (read_trees rs g)
   behind_read k [] f g l = l
-  behind_read k (done a below ∷ rs) f g l = behind_read k rs (node a below f) (node a below g) (behind_tree k a below f g l)
+  behind_read k (done_read a below ∷ rs) f g l = behind_read k rs (node a below f) (node a below g) (behind_tree k a below f g l)
   behind_read k (waiting dropped run xs ∷ rs) f g l =
       behind_read k rs (texts_before xs f) (texts_before xs g) (behind_texts k xs f g l)
 
@@ -113,7 +113,7 @@ module _ {A : Type 0} where
       wider i (end_of v) k k chain (omega (arith, h.0, own)) (omega arith) (without_texts k vs chain (end_of v) h.2)
 
   -- what is added to what was read precedes the chain
-  done_before : (xs : List (Label A)) (rs : List (Read A)) (chain : Forest (Label A)) → read_trees (all_done xs rs) chain
+  done_before : (xs : List (Label A)) (rs : List (Read A)) (chain : Forest (Label A)) → read_trees (characters_done xs rs) chain
       ≡ read_trees rs (texts_before xs chain)
   done_before [] rs chain = refl
   done_before (x ∷ xs) rs chain = done_before xs rs (node x nil chain)
@@ -129,28 +129,28 @@ module _ {A : Type 0} where
   still_before run (x ∷ xs) rs chain = refl
 
   trees_before : (f : Forest (Label A)) (rs : List (Read A)) (chain : Forest (Label A)) → read_trees (trees_done f rs) chain
-      ≡ read_trees rs (joined f chain)
+      ≡ read_trees rs (joined_chains f chain)
   trees_before nil rs chain = refl
-  trees_before (node a below after) rs chain = trees_before after (done a below ∷ rs) chain
+  trees_before (node a below after) rs chain = trees_before after (done_read a below ∷ rs) chain
 
   dropped_before : (d : Delimiter) (rs : List (Read A)) (chain : Forest (Label A)) → read_trees (map (drop_read d) rs) chain
       ≡ read_trees rs chain
   dropped_before d [] chain = refl
-  dropped_before d (done a below ∷ rs) chain = dropped_before d rs (node a below chain)
+  dropped_before d (done_read a below ∷ rs) chain = dropped_before d rs (node a below chain)
   dropped_before d (waiting dropped run xs ∷ rs) chain = dropped_before d rs (texts_before xs chain)
 
-  texts_joined : (xs : List (Label A)) (f g : Forest (Label A)) → texts_before xs (joined f g) ≡ joined (texts_before xs f) g
+  texts_joined : (xs : List (Label A)) (f g : Forest (Label A)) → texts_before xs (joined_chains f g) ≡ joined_chains (texts_before xs f) g
   texts_joined [] f g = refl
   texts_joined (x ∷ xs) f g = texts_joined xs (node x nil f) g
 
   -- with the run that a search finds in its place
   abbrev FoundLies : (i k : ℕ) → Forest (Label A) → FoundOpener A → Type 0
-  FoundLies i k rest f = LieInOrder i k (read_trees f.before (texts_before f.characters (joined f.inside rest)))
+  FoundLies i k rest f = LieInOrder i k (read_trees f.before (texts_before f.characters (joined_chains f.inside rest)))
 
   nearest_lies : (i k : ℕ) (rest : Forest (Label A)) (closer : Run) (rs : List (Read A)) (inside : Forest (Label A))
-      → LieInOrder i k (read_trees rs (joined inside rest)) → IfSome (nearest_opener closer rs inside) (FoundLies i k rest)
+      → LieInOrder i k (read_trees rs (joined_chains inside rest)) → IfSome (nearest_opener closer rs inside) (FoundLies i k rest)
   nearest_lies i k rest closer [] inside h = tt
-  nearest_lies i k rest closer (done a below ∷ rs) inside h = nearest_lies i k rest closer rs (node a below inside) h
+  nearest_lies i k rest closer (done_read a below ∷ rs) inside h = nearest_lies i k rest closer rs (node a below inside) h
   nearest_lies i k rest closer (waiting dropped run xs ∷ rs) inside h =
       found-if (FoundLies i k rest) (not dropped && may_pair run closer)
       (record { inside = inside; run = run; characters = xs; before = rs }) (nearest_opener closer rs (texts_before xs inside)) h
@@ -160,7 +160,7 @@ module _ {A : Type 0} where
   module _ (s : Setting) where
     -- a layer extends from its opener to its closer, over what lies between them
     layer_lies : (shape : List ℕ → Shape) (k : ℕ) (x v : Label A) (inside rest : Forest (Label A))
-        → Lies k (node x nil (joined inside (node v nil rest))) (node (spanned s.text shape x v) inside rest)
+        → Lies k (node x nil (joined_chains inside (node v nil rest))) (node (spanned s.text shape x v) inside rest)
     layer_lies shape k x v inside rest i h =
         let c = cut (end_of x) k inside (node v nil rest) h.2 in
         let own : start_of v ≤ end_of v = c.rest.1 in (
@@ -171,7 +171,7 @@ module _ {A : Type 0} where
 
     -- one of two characters on each side
     two_lie : (d : Delimiter) (k : ℕ) (x y v w : Label A) (inside rest : Forest (Label A))
-        → Lies k (node y nil (node x nil (joined inside (node v nil (node w nil rest)))))
+        → Lies k (node y nil (node x nil (joined_chains inside (node v nil (node w nil rest)))))
         (node (spanned s.text (layer_of_two (marks_of s.rules.options) d) y w) inside rest)
     two_lie d k x y v w inside rest i h =
         let shape : List ℕ → Shape = layer_of_two (marks_of s.rules.options) d in
@@ -186,7 +186,7 @@ module _ {A : Type 0} where
     -- all layers of a pair
     abbrev LayersLie : ℕ → (xs vs : List (Label A)) → (inside rest : Forest (Label A)) → Layers A → Type 0
     LayersLie k xs vs inside rest made =
-        Lies k (texts_before xs (joined inside (forward vs rest))) (texts_before made.opening (joined made.whole (forward made.closing rest)))
+        Lies k (texts_before xs (joined_chains inside (forward vs rest))) (texts_before made.opening (joined_chains made.whole (forward made.closing rest)))
 
     layers_lie : (d : Delimiter) (k : ℕ) (xs vs : List (Label A)) (inside rest : Forest (Label A))
         → LayersLie k xs vs inside rest (layers s d xs vs inside)
@@ -196,12 +196,12 @@ module _ {A : Type 0} where
         layer_lies (layer_of_one (marks_of s.rules.options) d) k x v inside (forward vs rest) i h
     layers_lie d k (x ∷ y ∷ xs) (v ∷ []) inside rest i h =
         let one : Label A = spanned s.text (layer_of_one (marks_of s.rules.options) d) x v in
-        behind_texts k (y ∷ xs) (node x nil (joined inside (node v nil rest))) (node one inside rest)
+        behind_texts k (y ∷ xs) (node x nil (joined_chains inside (node v nil rest))) (node one inside rest)
         (layer_lies (layer_of_one (marks_of s.rules.options) d) k x v inside rest) i h
     layers_lie d k (x ∷ y ∷ xs) (v ∷ w ∷ vs) inside rest i h =
         let two : Label A = spanned s.text (layer_of_two (marks_of s.rules.options) d) y w in
         layers_lie d k xs vs (node two inside nil) rest i
-        (behind_texts k xs (node y nil (node x nil (joined inside (node v nil (node w nil (forward vs rest))))))
+        (behind_texts k xs (node y nil (node x nil (joined_chains inside (node v nil (node w nil (forward vs rest))))))
         (node two inside (forward vs rest)) (two_lie d k x y v w inside (forward vs rest)) i h)
 
     -- what was read, the characters of a closer, and what is still to be read
@@ -215,9 +215,9 @@ module _ {A : Type 0} where
         let made : Layers A = layers s f.run.delimiter f.characters vs f.inside in
         let after : Forest (Label A) = forward made.closing rest in
         subst (LieInOrder i k) (sym (trees_before made.whole (still_waiting f.run made.opening f.before) after))
-        (subst (LieInOrder i k) (sym (still_before f.run made.opening f.before (joined made.whole after)))
-        (behind_read k f.before (texts_before f.characters (joined f.inside (forward vs rest)))
-        (texts_before made.opening (joined made.whole after)) (layers_lie f.run.delimiter k f.characters vs f.inside rest) i h))
+        (subst (LieInOrder i k) (sym (still_before f.run made.opening f.before (joined_chains made.whole after)))
+        (behind_read k f.before (texts_before f.characters (joined_chains f.inside (forward vs rest)))
+        (texts_before made.opening (joined_chains made.whole after)) (layers_lie f.run.delimiter k f.characters vs f.inside rest) i h))
 
     firsts_lie : (k n : ℕ) (chain : Forest (Label A)) → Lies k chain (forward (first_texts s.text n chain) (later n chain))
     firsts_lie k zero chain i h = h

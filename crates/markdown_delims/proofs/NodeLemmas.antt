@@ -18,7 +18,7 @@ use Rattle.markdown_delims.specs.declared.run.Characters.{Characters}
 use Rattle.markdown_delims.specs.Entries.{Entry, settled, lone, waiting, labelled, characters, characters_after, flat, read_back, Taken}
 use Rattle.markdown_delims.specs.Entries.{search, entries_dropped, enclosed, rest_open, without_last, without_first, with_pair}
 use Rattle.markdown_delims.specs.Entries.{kept, after_search, closed_in, with_run, all_of_run, after_tree, paired_from, paired}
-use Rattle.markdown_delims.specs.MarkBodies.{whole_text, layer_of_one, layer_of_two, run_of}
+use Rattle.markdown_delims.specs.MarkBodies.{whole_text, body_of_one, body_of_two, item_run}
 use Rattle.markdown_delims.specs.MayPair.{may_take}
 use Rattle.markdown_delims.specs.QuoteBodies.{kind_of, is_closed_later, is_nil, with_body, turn_of, turn_at, quoted_after, quoted}
 
@@ -30,13 +30,13 @@ mark_made : (x : Bool) (b c : ItemBody) → IsMade b → IsMade c → IsMade (if
 mark_made true b c e f = e
 mark_made false b c e f = f
 
-pub two_made : (m : Marks) (d : Delimiter) → IsMade (layer_of_two m d)
+pub two_made : (m : Marks) (d : Delimiter) → IsMade (body_of_two m d)
 two_made m Star = (refl, refl, refl, refl, refl)
 two_made m Underscore = (refl, refl, refl, refl, refl)
 two_made m Tilde = mark_made m.strikethrough body.Strikethrough whole_text (refl, refl, refl, refl, refl) (refl, refl, refl, refl, refl)
 two_made m Caret = mark_made m.superscript body.Superscript whole_text (refl, refl, refl, refl, refl) (refl, refl, refl, refl, refl)
 
-pub one_made : (m : Marks) (d : Delimiter) → IsMade (layer_of_one m d)
+pub one_made : (m : Marks) (d : Delimiter) → IsMade (body_of_one m d)
 one_made m Star = (refl, refl, refl, refl, refl)
 one_made m Underscore = (refl, refl, refl, refl, refl)
 one_made m Tilde = mark_made m.subscript body.Subscript _ (refl, refl, refl, refl, refl) (mark_made m.strikethrough body.Strikethrough
@@ -114,12 +114,12 @@ module _ (p : Numbered → Type 0) (made : (number start end : ℕ) (b : ItemBod
   each_enclosed : (m : Marks) (d : Delimiter) (number start top end k : ℕ) (inside : Forest Numbered) (es : List Entry) → Each p inside
       → EachEntry es → EachEntry (enclosed m d number start top end k inside ∷ es)
   each_enclosed m d number start top end zero inside es h e = (made number start end whole_text (refl, refl, refl, refl, refl), h, e)
-  each_enclosed m d number start top end (suc zero) inside es h e = (made _ _ _ (layer_of_one m d) (one_made m d), h, e)
-  each_enclosed m d number start top end (suc (suc zero)) inside es h e = (made _ _ _ (layer_of_two m d) (two_made m d), h, e)
+  each_enclosed m d number start top end (suc zero) inside es h e = (made _ _ _ (body_of_one m d) (one_made m d), h, e)
+  each_enclosed m d number start top end (suc (suc zero)) inside es h e = (made _ _ _ (body_of_two m d) (two_made m d), h, e)
   each_enclosed m d number start top end (suc (suc (suc k))) inside es h e =
       each_enclosed m d number start (top - 2) (end + 2) (suc k)
-      (node (labelled (number + (top - 2)) (start + (top - 2)) (end + 2) (layer_of_two m d)) inside nil) es
-      (made _ _ _ (layer_of_two m d) (two_made m d), h, tt) e
+      (node (labelled (number + (top - 2)) (start + (top - 2)) (end + 2) (body_of_two m d)) inside nil) es
+      (made _ _ _ (body_of_two m d) (two_made m d), h, tt) e
 
   rest_if : (b : Bool) (n : ℕ) (t : Taken) → EachEntry t.before
       → EachEntry (if b then waiting t.start (record { dropped = false; opener = without_last n t.opener }) ∷ t.before else t.before)
@@ -185,7 +185,7 @@ module _ (p : Numbered → Type 0) (made : (number start end : ℕ) (b : ItemBod
   each_read m text skip nil es h e = e
   each_read m text (suc skip) (node a below after) es h e = each_read m text skip after es h.2 e
   each_read m text zero (node a below after) es h e =
-      each_tree m (λ skip fs. paired_from m text skip after fs) (run_of text a.item) a below es (λ skip fs k. each_read m text skip after fs
+      each_tree m (λ skip fs. paired_from m text skip after fs) (item_run text a.item) a below es (λ skip fs k. each_read m text skip after fs
       h.2 k) h.0 h.1 e
 
   quote_if : (a : Numbered) (b : ItemBody) → (IsMade b) ⊎ (b ≡ a.item.body) → p a → p (with_body b a)

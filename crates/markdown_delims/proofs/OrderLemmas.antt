@@ -13,7 +13,7 @@ use Rattle.markdown_delims.specs.declared.run.Delimiter.{Delimiter}
 use Rattle.markdown_delims.specs.declared.run.Run.{Run}
 use Rattle.markdown_delims.specs.Layers.{marks_of, layer_of_one, layer_of_two, spanned, run_of}
 use Rattle.markdown_delims.specs.MayPair.{drops, may_pair}
-use Rattle.markdown_delims.specs.Pairing.{Read, done, waiting, texts_before, all_done, read_trees, FoundOpener, found_if, nearest_opener}
+use Rattle.markdown_delims.specs.Pairing.{Read, done_read, waiting, texts_before, characters_done, read_trees, FoundOpener, found_if, nearest_opener}
 use Rattle.markdown_delims.specs.Pairing.{drop_read, Layers, layers, trees_done, still_waiting, last_first, opened_if}
 use Rattle.markdown_delims.specs.Pairing.{left_over, after_layers, after_search, closed_by, run_read, first_texts, after_tree, reads_from}
 use Rattle.markdown_delims.specs.Pairing.{runs_paired, paired}
@@ -45,7 +45,7 @@ module _ {A B : Type 0} (to : A → B) (within : Forest (Label A) → Forest (La
 
   abbrev deep_reads : List (Read A) → List (Read B)
   deep_reads [] = []
-  deep_reads (done a below ∷ rs) = done (retag to a) (within below) ∷ deep_reads rs
+  deep_reads (done_read a below ∷ rs) = done_read (retag to a) (within below) ∷ deep_reads rs
   deep_reads (waiting dropped run xs ∷ rs) = waiting dropped run (moved xs) ∷ deep_reads rs
 
   abbrev deep_opener : FoundOpener A → FoundOpener B
@@ -66,15 +66,15 @@ module _ {A B : Type 0} (to : A → B) (within : Forest (Label A) → Forest (La
 
     trees_deep : (rs : List (Read A)) (after : Forest (Label A)) → read_trees (deep_reads rs) (deep after) ≡ deep (read_trees rs after)
     trees_deep [] after = refl
-    trees_deep (done a below ∷ rs) after = trees_deep rs (node a below after)
+    trees_deep (done_read a below ∷ rs) after = trees_deep rs (node a below after)
     trees_deep (waiting dropped run xs ∷ rs) after = ap (read_trees (deep_reads rs)) (texts_deep xs after)
         ∙ trees_deep rs (texts_before xs after)
 
-    done_deep : (xs : List (Label A)) (rs : List (Read A)) → all_done (moved xs) (deep_reads rs) ≡ deep_reads (all_done xs rs)
+    done_deep : (xs : List (Label A)) (rs : List (Read A)) → characters_done (moved xs) (deep_reads rs) ≡ deep_reads (characters_done xs rs)
     done_deep [] rs = refl
     done_deep (x ∷ xs) rs =
-        ap (λ (f : Forest (Label B)). done (retag to x) f ∷ all_done (moved xs) (deep_reads rs)) (sym within_nil)
-        ∙ ap (λ (os : List (Read B)). done (retag to x) (within nil) ∷ os) (done_deep xs rs)
+        ap (λ (f : Forest (Label B)). done_read (retag to x) f ∷ characters_done (moved xs) (deep_reads rs)) (sym within_nil)
+        ∙ ap (λ (os : List (Read B)). done_read (retag to x) (within nil) ∷ os) (done_deep xs rs)
 
     found_deep : (b : Bool) (f : FoundOpener A) (o : Option (FoundOpener A)) → found_if b (deep_opener f) (deep_found o)
         ≡ deep_found (found_if b f o)
@@ -84,7 +84,7 @@ module _ {A B : Type 0} (to : A → B) (within : Forest (Label A) → Forest (La
     nearest_deep : (closer : Run) (rs : List (Read A)) (inside : Forest (Label A)) → nearest_opener closer (deep_reads rs) (deep inside)
         ≡ deep_found (nearest_opener closer rs inside)
     nearest_deep closer [] inside = refl
-    nearest_deep closer (done a below ∷ rs) inside = nearest_deep closer rs (node a below inside)
+    nearest_deep closer (done_read a below ∷ rs) inside = nearest_deep closer rs (node a below inside)
     nearest_deep closer (waiting dropped run xs ∷ rs) inside =
         let f : FoundOpener A = record { inside = inside; run = run; characters = xs; before = rs } in
         ap (found_if (not dropped && may_pair run closer) (deep_opener f)) (ap (nearest_opener closer (deep_reads rs))
@@ -93,7 +93,7 @@ module _ {A B : Type 0} (to : A → B) (within : Forest (Label A) → Forest (La
 
     dropped_deep : (d : Delimiter) (rs : List (Read A)) → map (drop_read d) (deep_reads rs) ≡ deep_reads (map (drop_read d) rs)
     dropped_deep d [] = refl
-    dropped_deep d (done a below ∷ rs) = ap (λ (os : List (Read B)). done (retag to a) (within below) ∷ os) (dropped_deep d rs)
+    dropped_deep d (done_read a below ∷ rs) = ap (λ (os : List (Read B)). done_read (retag to a) (within below) ∷ os) (dropped_deep d rs)
     dropped_deep d (waiting dropped run xs ∷ rs) = ap (λ (os : List (Read B)). waiting (dropped || drops d run.delimiter) run
         (moved xs) ∷ os) (dropped_deep d rs)
 
@@ -125,7 +125,7 @@ module _ {A B : Type 0} (to : A → B) (within : Forest (Label A) → Forest (La
 
     done_trees_deep : (f : Forest (Label A)) (rs : List (Read A)) → trees_done (deep f) (deep_reads rs) ≡ deep_reads (trees_done f rs)
     done_trees_deep nil rs = refl
-    done_trees_deep (node a below after) rs = done_trees_deep after (done a below ∷ rs)
+    done_trees_deep (node a below after) rs = done_trees_deep after (done_read a below ∷ rs)
 
     still_deep : (run : Run) (xs : List (Label A)) (rs : List (Read A)) → still_waiting run (moved xs) (deep_reads rs)
         ≡ deep_reads (still_waiting run xs rs)
@@ -204,8 +204,8 @@ module _ {A B : Type 0} (to : A → B) (within : Forest (Label A) → Forest (La
         → Good rs → after_tree s go_on' (retag to a) (within below) (deep after) (deep_reads rs) o
         ≡ deep_reads (after_tree s go_on a below after rs o)
     tree_deep go_on' go_on a below after rs None h k =
-        ap (λ (l : Label B). go_on' 0 (done l (within below) ∷ deep_reads rs)) (text_deep (is_unresolved a.part.shape) a)
-        ∙ h 0 (done (as_closed s.text a) below ∷ rs) (as_closed-closed s.text a, k)
+        ap (λ (l : Label B). go_on' 0 (done_read l (within below) ∷ deep_reads rs)) (text_deep (is_unresolved a.part.shape) a)
+        ∙ h 0 (done_read (as_closed s.text a) below ∷ rs) (as_closed-closed s.text a, k)
     tree_deep go_on' go_on a below after rs (Some run) h k =
         let vs : List (Label A) = first_texts s.text run.length (node a below after) in
         let closed : AreClosed vs = (firsts-keep IsClosed IsClosedTree s (makes-closed s) run.length (node a below after)

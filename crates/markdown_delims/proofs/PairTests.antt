@@ -4,7 +4,7 @@ use Rattle.std.specs.Prelude.{not, ◌&&◌, ◌||◌, ◌==◌}
 use Rattle.std.proofs.Math.Nat.{add-mod-mod, mod-mod}
 use Rattle.markdown_delims.specs.declared.run.Run.{Run}
 use Rattle.markdown_delims.specs.declared.run.Characters.{Characters}
-use Rattle.markdown_delims.specs.MayPair.{both, lengths_agree, may_pair, needs_equal_length}
+use Rattle.markdown_delims.specs.MayPair.{can_do_both, lengths_agree, may_pair, needs_equal_length}
 use Rattle.markdown_delims.specs.Bounds.{IsOutOfStep, IsOfBoth}
 
 -- only the remainder of the closer's length counts
@@ -40,17 +40,17 @@ module _ (opener : Characters) (closer : Run) where
       → IsOutOfStep closer.delimiter (closer.length % 3) opener
   IsOutOfStep-failed n h s =
       lengths_agree-mod opener.run.length closer.length
-      ∙ failed_by_length _ (both opener.run) (both closer) _ (opener.run.length == closer.length) (rw n at h) s
+      ∙ failed_by_length _ (can_do_both opener.run) (can_do_both closer) _ (opener.run.length == closer.length) (rw n at h) s
 
   -- one that failed against a closer that cannot open can do both
-  pub IsOfBoth-failed : needs_equal_length closer.delimiter ≡ false → both closer ≡ false → may_pair opener.run closer ≡ false
+  pub IsOfBoth-failed : needs_equal_length closer.delimiter ≡ false → can_do_both closer ≡ false → may_pair opener.run closer ≡ false
       → IsOfBoth closer.delimiter opener
   IsOfBoth-failed n b h s =
-      failed_by_flags _ (both opener.run) (both closer) (lengths_agree opener.run.length closer.length) (opener.run.length == closer.length)
+      failed_by_flags _ (can_do_both opener.run) (can_do_both closer) (lengths_agree opener.run.length closer.length) (opener.run.length == closer.length)
       b (rw n at h) s
 
   -- one that is out of step with a closer, or can do both where the closer cannot, may not pair with it
-  pub may_pair-fails : IsOutOfStep closer.delimiter (closer.length % 3) opener → (both closer ≡ false → IsOfBoth closer.delimiter opener)
+  pub may_pair-fails : IsOutOfStep closer.delimiter (closer.length % 3) opener → (can_do_both closer ≡ false → IsOfBoth closer.delimiter opener)
       → may_pair opener.run closer ≡ false
   may_pair-fails l b =
-      fails _ (both opener.run) (both closer) _ _ (λ s. sym (lengths_agree-mod opener.run.length closer.length) ∙ l s) b
+      fails _ (can_do_both opener.run) (can_do_both closer) _ _ (λ s. sym (lengths_agree-mod opener.run.length closer.length) ∙ l s) b

@@ -23,14 +23,14 @@ use Rattle.markdown_document.proofs.PlaceLemmas.{shape-open}
 use Rattle.markdown_delims.specs.declared.marks.Marks.{Marks}
 use Rattle.markdown_delims.specs.declared.quotes.Kind.{Kind}
 use Rattle.markdown_delims.specs.declared.quotes.Kind.TheVariants as kind
-use Rattle.markdown_delims.specs.ChainForest.{among, NoneBelow, chain_of, IsChain}
+use Rattle.markdown_delims.specs.ChainForest.{is_among, NoneBelow, chain_of, IsChainAt}
 use Rattle.markdown_delims.specs.Layers.{marks_of}
 use Rattle.markdown_delims.specs.PairedChain.{WaitsForPairing, CanPair, PairsChain}
 use Rattle.markdown_document.specs.Waiting.{waits_for_pairing}
 use Rattle.markdown_delims.specs.Pairing.{runs_paired, paired}
 use Rattle.markdown_delims.specs.QuoteBodies.{kind_of, is_closed_later as later_of, turn_of, is_nil, turn_at, quoted_after, quoted}
 use Rattle.markdown_delims.specs.Quoting.{IsSpelled, IsResolved}
-use Rattle.markdown_delims.specs.RunReading.{IsWhole, counts_one, delimiters_of}
+use Rattle.markdown_delims.specs.RunReading.{HasWholeRuns, counts_one, delimiters_of}
 use Rattle.markdown_delims.specs.Views.{Rises}
 use Rattle.markdown_delims.proofs.ChainLemmas.{rises_chain}
 use Rattle.markdown_delims.proofs.LabelLemmas.{look, trees}
@@ -55,11 +55,11 @@ times_parted : (n : ℕ) (f : Forest ℕ) → total (same n) f ≡ root_times n 
 times_parted n nil = refl
 times_parted n (node ix below after) = omega (arith, times_parted n after)
 
-root_some : (n : ℕ) (f : Forest ℕ) → among (roots f) n ≡ true → 1 ≤ root_times n f
+root_some : (n : ℕ) (f : Forest ℕ) → is_among (roots f) n ≡ true → 1 ≤ root_times n f
 root_some n nil h = cc
 root_some n (node ix below after) h = here (λ k. root_some n after k) (ix == n) refl h
   where
-    here : (among (roots after) n ≡ true → 1 ≤ root_times n after) → (b : Bool) → (ix == n) ≡ b → (b || among (roots after) n) ≡ true
+    here : (is_among (roots after) n ≡ true → 1 ≤ root_times n after) → (b : Bool) → (ix == n) ≡ b → (b || is_among (roots after) n) ≡ true
         → 1 ≤ root_times n (node ix below after)
     here rest true e h = let is : n ≡ ix = sym (eqb-true ix n e) in let one : same n ix ≡ 1 = ap (same n) (sym is) ∙ same-refl n
         in omega (arith, one)
@@ -67,28 +67,28 @@ root_some n (node ix below after) h = here (λ k. root_some n after k) (ix == n)
 
 -- if no number occurs twice, none of the chain's own numbers occurs below
 module _ (f : Forest ℕ) (once : (n : ℕ) → total (same n) f ≤ 1) where
-  own_if : (j : ℕ) (b : Bool) → among (roots f) j ≡ b → 1 ≤ below_times j f → among (roots f) j ≡ false
+  own_if : (j : ℕ) (b : Bool) → is_among (roots f) j ≡ b → 1 ≤ below_times j f → is_among (roots f) j ≡ false
   own_if j false e l = e
   own_if j true e l = absurd (omega (arith, root_some j f e, l, once j, times_parted j f))
 
-  not_own : (h : Forest ℕ) → ((n : ℕ) → total (same n) h ≤ below_times n f) → Each (λ n. among (roots f) n ≡ false) h
+  not_own : (h : Forest ℕ) → ((n : ℕ) → total (same n) h ≤ below_times n f) → Each (λ n. is_among (roots f) n ≡ false) h
   not_own nil l = tt
   not_own (node j below after) l = (
-    own_if j (among (roots f) j) refl (omega (arith, l j, same-refl j)),
+    own_if j (is_among (roots f) j) refl (omega (arith, l j, same-refl j)),
     not_own below (λ n. omega (arith, l n)),
     not_own after (λ n. omega (arith, l n)),
   )
 
-  none_below : (g : Forest ℕ) → ((n : ℕ) → below_times n g ≤ below_times n f) → NoneBelow (among (roots f)) g
+  none_below : (g : Forest ℕ) → ((n : ℕ) → below_times n g ≤ below_times n f) → NoneBelow (is_among (roots f)) g
   none_below nil l = tt
   none_below (node ix below after) l = (not_own below (λ n. omega (arith, l n)), none_below after (λ n. omega (arith, l n)))
 
-  pub apart : NoneBelow (among (roots f)) f
+  pub apart : NoneBelow (is_among (roots f)) f
   apart = none_below f (λ n. omega arith)
 
 -- a chain as its lemmas know it
 pub chain_is : (text : List ℕ) (nodes : List (Node Item)) (first : ℕ) → CanPair text nodes first
-    → IsChain text nodes first (forest_at (links_of nodes) (Some first))
+    → IsChainAt text nodes first (forest_at (links_of nodes) (Some first))
 chain_is text nodes first c = record {
   spelled = c.spelled;
   rising = c.rising;
@@ -117,7 +117,7 @@ pub few_delimiters : (nodes : List (Node Item)) (first : ℕ) (f : Forest ℕ) �
 few_delimiters nodes first f c =
     omega (
       arith,
-      count_bound (among (roots f)) 0 (chain_of nodes f) (length nodes) (rises_chain (among (roots f)) nodes (Some first) f 0
+      count_bound (is_among (roots f)) 0 (chain_of nodes f) (length nodes) (rises_chain (is_among (roots f)) nodes (Some first) f 0
           (omega arith) c.spelled c.rising c.apart),
     )
 
@@ -183,7 +183,7 @@ labels_of tag tables s nodes f = relabelled-relabelled (numbered nodes) (look ta
 
 -- a chain paired in place, with any tags
 pub paired_labels : {A : Type 0} (tag : ℕ → A) (tables : Tables) (s : Setting) (old new : Arena Item) (first : ℕ) (f : Forest ℕ)
-    → IsWhole s.text (chain_of old.nodes f) → WaitsForPairing (chain_of old.nodes f)
+    → HasWholeRuns s.text (chain_of old.nodes f) → WaitsForPairing (chain_of old.nodes f)
     → (p : IsResolved (marks_of s.rules.options) s.text old new first f) → trees tag tables s (chain_of new.nodes p.forest)
     ≡ paired s (trees tag tables s (chain_of old.nodes f))
 unfolding paired
@@ -228,7 +228,7 @@ weight_sum s nodes (node ix below after) =
     omega (arith, here, weight_sum s nodes below, weight_sum s nodes after)
 
 -- a number that does not occur in a chain is not one of its own
-outside_if : (n : ℕ) (f : Forest ℕ) (b : Bool) → among (roots f) n ≡ b → total (same n) f ≡ 0 → among (roots f) n ≡ false
+outside_if : (n : ℕ) (f : Forest ℕ) (b : Bool) → is_among (roots f) n ≡ b → total (same n) f ≡ 0 → is_among (roots f) n ≡ false
 outside_if n f false e none = e
 outside_if n f true e none = absurd (omega (arith, root_some n f e, times_parted n f, none))
 
@@ -284,7 +284,7 @@ pairs_chain s old new first c p =
       rising = rw is p.rising;
       same_size = p.kept.size;
       outside = λ n none.
-          let same_at = p.kept.others n (outside_if n f (among (roots f) n) refl none) in
+          let same_at = p.kept.others n (outside_if n f (is_among (roots f) n) refl none) in
           record { child = same_at.child; next = same_at.next; item = same_at.item };
       placed = λ tables blocks reaches. record {
         spelled = rw is p.spelled;

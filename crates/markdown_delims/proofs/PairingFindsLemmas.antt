@@ -23,12 +23,12 @@ use Rattle.markdown_delims.specs.EntryFinds.{search_finds as entry_search_finds,
 use Rattle.markdown_delims.specs.EntryFinds.{tree_finds as entry_tree_finds, finds_from as entry_finds_from}
 use Rattle.markdown_delims.specs.Layers.{marks_of, run_of}
 use Rattle.markdown_delims.specs.MarkBodies.{run_if, run_of as run_of_item}
-use Rattle.markdown_delims.specs.MayPair.{delimiter_of, Found, nearest}
+use Rattle.markdown_delims.specs.MayPair.{delimiter_of, Found, nearest_run}
 use Rattle.markdown_delims.specs.PairedChain.{CanPair}
-use Rattle.markdown_delims.specs.Pairing.{Read, done, nearest_opener, layers, run_read}
+use Rattle.markdown_delims.specs.Pairing.{Read, done_read, nearest_opener, layers, run_read}
 use Rattle.markdown_delims.specs.PairingFinds.{search_finds, closer_finds, run_finds, tree_finds, finds_from, finds_in}
 use Rattle.markdown_delims.specs.QuoteBodies.{quoted}
-use Rattle.markdown_delims.specs.RunReading.{StandsWhole, IsWhole}
+use Rattle.markdown_delims.specs.RunReading.{StandsWhole, HasWholeRuns}
 use Rattle.markdown_delims.proofs.CloseLemmas.{taken_as, taken_none, open_of-enclosed, open_of-rest_used}
 use Rattle.markdown_delims.proofs.LabelLemmas.{look, trees, firsts, lasts, seen, seen_taken, search_seen}
 use Rattle.markdown_delims.proofs.PairedChainLemmas.{labels_of, runs_only}
@@ -107,7 +107,7 @@ module _ {A : Type 0} (tag : ℕ → A) (tables : Tables) (s : Setting) where
 
   -- a search, by what it finds among the open runs
   search_counts : (turns start : ℕ) (c : Characters) (es : List Entry) → 0 < c.count → AllCounted es → FindsOn turns c.run
-      → (o : Option Found) → nearest c.run (open_of es) ≡ o
+      → (o : Option Found) → nearest_run c.run (open_of es) ≡ o
       → search_finds s (λ left others. closer_finds s turns c.run left others) (firsts tag tables s c.number start c.count)
       (nearest_opener c.run (seen tag tables s es) nil)
       ≡ entry_search_finds (λ left others. entry_closer_finds turns c.run left others) c.count o
@@ -137,9 +137,9 @@ module _ {A : Type 0} (tag : ℕ → A) (tables : Tables) (s : Setting) where
   closer_counts (suc turns) run start c es e some h =
       ap (λ x. closer_finds s (suc turns) x (firsts tag tables s c.number start c.count) (seen tag tables s es)) (sym e)
       ∙ some_firsts turns c.run c.number start c.count (seen tag tables s es) some
-      ∙ search_counts turns start c es some h (subst (λ x. FindsOn turns x) (sym e) (closer_counts turns run)) (nearest c.run (open_of es))
+      ∙ search_counts turns start c es some h (subst (λ x. FindsOn turns x) (sym e) (closer_counts turns run)) (nearest_run c.run (open_of es))
       refl
-      ∙ ap (λ x. entry_search_finds (λ left others. entry_closer_finds turns x left others) c.count (nearest x (open_of es))) e
+      ∙ ap (λ x. entry_search_finds (λ left others. entry_closer_finds turns x left others) c.count (nearest_run x (open_of es))) e
 
   -- a run
   run_counts : (b : Bool) (start : ℕ) (c : Characters) (es : List Entry) → 0 < c.count → AllCounted es
@@ -157,7 +157,7 @@ module _ {A : Type 0} (tag : ℕ → A) (tables : Tables) (s : Setting) where
   -- a tree
   tree_counts : (go_on' : ℕ → List (Read A) → ℕ) (go_on : ℕ → List Entry → ℕ) (a : Numbered) (below after : Forest Numbered)
       (es : List Entry) → NextCounts go_on' go_on
-      → IsWhole s.text (node a below after) → HasRunsOnly (node a below after) → AllCounted es → (o : Option RunCharacter)
+      → HasWholeRuns s.text (node a below after) → HasRunsOnly (node a below after) → AllCounted es → (o : Option RunCharacter)
       → run_character a.item.body ≡ o
       → tree_finds s go_on' (look tag tables s a) (trees tag tables s below) (trees tag tables s after) (seen tag tables s es)
       (run_of s.text (look tag tables s a).part)
@@ -166,7 +166,7 @@ module _ {A : Type 0} (tag : ℕ → A) (tables : Tables) (s : Setting) where
       let closed = closed_shape tables (slice_range s.text a.item.start a.item.end) a.item.body (r.0 e) in
       ap (tree_finds s go_on' (look tag tables s a) (trees tag tables s below) (trees tag tables s after) (seen tag tables s es))
       (run_of_closed _ _ closed)
-      ∙ ap (λ (b : Bool). go_on' 0 (done (text_if b s.text (look tag tables s a)) (trees tag tables s below) ∷ seen tag tables s es)) closed
+      ∙ ap (λ (b : Bool). go_on' 0 (done_read (text_if b s.text (look tag tables s a)) (trees tag tables s below) ∷ seen tag tables s es)) closed
       ∙ next 0 (settled a below ∷ es) h
       ∙ ap (λ o. entry_tree_finds m go_on o a below es) (sym (ap (λ o. run_if o (delimiter_of (slice_index s.text a.item.start))) e))
   tree_counts go_on' go_on a below after es next w r h (Some c) e =
@@ -191,7 +191,7 @@ module _ {A : Type 0} (tag : ℕ → A) (tables : Tables) (s : Setting) where
       (ap (go_on' (run.length - 1)) reads.0 ∙ next (run.length - 1) (with_run m a.item.start (all_of_run run a.number) es) reads.1)
       ∙ ap (λ o. entry_tree_finds m go_on o a below es) (sym item)
 
-  reads_count : (skip : ℕ) (f : Forest Numbered) (es : List Entry) → IsWhole s.text f → HasRunsOnly f → AllCounted es
+  reads_count : (skip : ℕ) (f : Forest Numbered) (es : List Entry) → HasWholeRuns s.text f → HasRunsOnly f → AllCounted es
       → finds_from s skip (trees tag tables s f) (seen tag tables s es) ≡ entry_finds_from m s.text skip f es
   unfolding finds_from entry_finds_from
   reads_count skip nil es w r h = refl

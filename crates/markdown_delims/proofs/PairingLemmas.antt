@@ -26,9 +26,9 @@ use Rattle.markdown_delims.specs.Layers.{marks_of, run_of_shape, run_of}
 use Rattle.markdown_delims.specs.MarkBodies.{run_if, run_of as run_of_item}
 use Rattle.markdown_delims.specs.MayPair.{delimiter_of, may_take}
 use Rattle.markdown_document.specs.Waiting.{text_if}
-use Rattle.markdown_delims.specs.Pairing.{Read, done, read_trees, nearest_opener, Layers, layers, trees_done, still_waiting, left_over}
+use Rattle.markdown_delims.specs.Pairing.{Read, done_read, read_trees, nearest_opener, Layers, layers, trees_done, still_waiting, left_over}
 use Rattle.markdown_delims.specs.Pairing.{after_layers, after_search, closed_by, run_read, first_texts, after_tree, reads_from, runs_paired}
-use Rattle.markdown_delims.specs.RunReading.{StandsWhole, IsWhole}
+use Rattle.markdown_delims.specs.RunReading.{StandsWhole, HasWholeRuns}
 use Rattle.markdown_delims.proofs.LabelLemmas.{look, trees, firsts, lasts, seen, seen_trees, seen_taken, search_seen, dropped_seen}
 use Rattle.markdown_delims.proofs.LabelLemmas.{left_seen, tree_of_entry, layers_seen, IsTree, enclosed_tree, entry_seen, rest_seen}
 use Rattle.markdown_delims.proofs.NodeLemmas.{taken_if}
@@ -283,7 +283,7 @@ module _ {A : Type 0} (tag : ℕ → A) (tables : Tables) (s : Setting) where
   -- so are all of a run
   pub texts_of_run : (n : ℕ) (opens closes : Bool) (a : Numbered) (below after : Forest Numbered)
       → run_character a.item.body ≡ Some (record { count = n; can_open = opens; can_close = closes })
-      → IsWhole s.text (node a below after) → first_texts s.text n (trees tag tables s (node a below after))
+      → HasWholeRuns s.text (node a below after) → first_texts s.text n (trees tag tables s (node a below after))
       ≡ firsts tag tables s a.number a.item.start n
   texts_of_run zero opens closes a below after e w = refl
   texts_of_run (suc zero) opens closes a below after e w =
@@ -372,7 +372,7 @@ module _ {A : Type 0} (tag : ℕ → A) (tables : Tables) (s : Setting) where
   -- a tree is read
   tree_seen : (go_on' : ℕ → List (Read A) → List (Read A)) (go_on : ℕ → List Entry
       → List Entry) (a : Numbered) (below after : Forest Numbered) (es : List Entry) → NextSeen go_on' go_on
-      → IsWhole s.text (node a below after) → HasRunsOnly (node a below after) → AllCounted es → (o : Option RunCharacter)
+      → HasWholeRuns s.text (node a below after) → HasRunsOnly (node a below after) → AllCounted es → (o : Option RunCharacter)
       → run_character a.item.body ≡ o
       → after_tree s go_on' (look tag tables s a) (trees tag tables s below) (trees tag tables s after) (seen tag tables s es)
       (run_of s.text (look tag tables s a).part)
@@ -381,7 +381,7 @@ module _ {A : Type 0} (tag : ℕ → A) (tables : Tables) (s : Setting) where
       let closed = closed_shape tables (slice_range s.text a.item.start a.item.end) a.item.body (r.0 e) in
       ap (after_tree s go_on' (look tag tables s a) (trees tag tables s below) (trees tag tables s after) (seen tag tables s es))
       (run_of_closed _ _ closed)
-      ∙ ap (λ (b : Bool). go_on' 0 (done (text_if b s.text (look tag tables s a)) (trees tag tables s below) ∷ seen tag tables s es)) closed
+      ∙ ap (λ (b : Bool). go_on' 0 (done_read (text_if b s.text (look tag tables s a)) (trees tag tables s below) ∷ seen tag tables s es)) closed
       ∙ next 0 (settled a below ∷ es) h
       ∙ ap (λ o. seen tag tables s (entries_with (marks_of s.rules.options) go_on o a below es))
       (sym (ap (λ o. run_if o (delimiter_of (slice_index s.text a.item.start))) e))
@@ -403,7 +403,7 @@ module _ {A : Type 0} (tag : ℕ → A) (tables : Tables) (s : Setting) where
       ∙ next (run.length - 1) (with_run (marks_of s.rules.options) a.item.start (all_of_run run a.number) es) reads.1
       ∙ ap (λ o. seen tag tables s (entries_with (marks_of s.rules.options) go_on o a below es)) (sym item)
 
-  reads_seen : (skip : ℕ) (f : Forest Numbered) (es : List Entry) → IsWhole s.text f → HasRunsOnly f → AllCounted es
+  reads_seen : (skip : ℕ) (f : Forest Numbered) (es : List Entry) → HasWholeRuns s.text f → HasRunsOnly f → AllCounted es
       → reads_from s skip (trees tag tables s f) (seen tag tables s es)
       ≡ seen tag tables s (paired_from (marks_of s.rules.options) s.text skip f es)
   unfolding reads_from paired_from
@@ -415,7 +415,7 @@ module _ {A : Type 0} (tag : ℕ → A) (tables : Tables) (s : Setting) where
       (λ skip fs k. reads_seen skip after fs w.1 r.1 k) w r h (run_character a.item.body) refl
 
   -- the whole chain
-  pub runs_seen : (f : Forest Numbered) → IsWhole s.text f → HasRunsOnly f → runs_paired s (trees tag tables s f)
+  pub runs_seen : (f : Forest Numbered) → HasWholeRuns s.text f → HasRunsOnly f → runs_paired s (trees tag tables s f)
       ≡ trees tag tables s (paired_nodes (marks_of s.rules.options) s.text f)
   unfolding runs_paired
   runs_seen f w r =

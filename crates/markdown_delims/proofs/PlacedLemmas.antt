@@ -12,7 +12,7 @@ use Rattle.markdown_base.specs.declared.item.Item.{Item}
 use Rattle.markdown_base.specs.declared.item.ItemBody.{ItemBody}
 use Rattle.markdown_base.specs.declared.node.Node.{Node}
 use Rattle.markdown_document.specs.Document.{Label, block_of}
-use Rattle.markdown_document.specs.ItemRules.{StandsBefore, KeepsItemRules}
+use Rattle.markdown_document.specs.ItemRules.{ComesBefore, KeepsItemRules}
 use Rattle.markdown_document.specs.Places.{HasSlices, IsPlaced}
 use Rattle.markdown_document.proofs.PlaceLemmas.{slices-unnamed}
 use Rattle.markdown_document.specs.Setting.{Setting}
@@ -21,7 +21,7 @@ use Rattle.markdown_delims.specs.ChainForest.{chain_of}
 use Rattle.markdown_delims.specs.Entries.{paired}
 use Rattle.markdown_delims.specs.PairedChain.{HasNoBlock}
 use Rattle.markdown_delims.specs.QuoteBodies.{quoted}
-use Rattle.markdown_delims.specs.RunReading.{IsWhole}
+use Rattle.markdown_delims.specs.RunReading.{HasWholeRuns}
 use Rattle.markdown_delims.specs.Views.{top}
 use Rattle.markdown_delims.specs.declared.marks.Marks.{Marks}
 use Rattle.markdown_delims.proofs.InOrderLemmas.{AllStandRight, paired_right, quoted_in_order, chain_in_order}
@@ -94,7 +94,7 @@ any_first (node a below after) = (omega arith, omega arith)
 
 -- so the items of a chain that is paired in place are placed, where those of the chain were
 pub items_placed : (m : Marks) (text : List ℕ) (tables : Tables) (old new : List (Node Item)) (l k : Option ℕ) (f g : Forest ℕ)
-    → IsWhole text (chain_of old f) → HasRunsOnly (quoted (chain_of old f)) → HasNoBlock (chain_of old f)
+    → HasWholeRuns text (chain_of old f) → HasRunsOnly (quoted (chain_of old f)) → HasNoBlock (chain_of old f)
     → Spells (links_of old) l f → Each (IsPlaced text tables old) f → Spells (links_of new) k g
     → chain_of new g ≡ paired m text (quoted (chain_of old f)) → Each (IsPlaced text tables new) g
 items_placed m text tables old new l k f g whole runs blocks s h t is =
@@ -156,7 +156,7 @@ block_was true false x h e = absurd (omega (arith, h))
 -- so the first item of a chain that is paired still follows what it followed
 pub still_before : (s : Setting) (old new : List (Node Item)) (first : ℕ) (g : Forest ℕ) → Spells (links_of new) (Some first) g
     → sum_of (moved old) (trees (λ n. n) no_tables s (chain_of new g)) ≤ 0
-    → (a : Numbered) → StandsBefore a (Some (numbered old first)) → StandsBefore a (Some (numbered new first))
+    → (a : Numbered) → ComesBefore a (Some (numbered old first)) → ComesBefore a (Some (numbered new first))
 still_before s old new first nil t none a h = cc
 still_before s old new first (node ix below after) t none a h =
     λ inline other.

@@ -9,7 +9,7 @@ use Rattle.markdown_delims.specs.declared.run.Run.{Run}
 use Rattle.markdown_delims.specs.declared.run.Characters.{Characters}
 use Rattle.markdown_delims.specs.declared.bounds.CharacterBounds.{CharacterBounds}
 use Rattle.markdown_delims.specs.declared.bounds.LowerBounds.{LowerBounds}
-use Rattle.markdown_delims.specs.MayPair.{both}
+use Rattle.markdown_delims.specs.MayPair.{can_do_both}
 use Rattle.markdown_delims.specs.Bounds.{BoundCharacter, BoundStack, character_bound_for, bound_at, bound_for, character_raised_for}
 use Rattle.markdown_delims.specs.Bounds.{raised_at, raised_for, character_lowered, lowered, character_above, above_bounds}
 
@@ -84,7 +84,7 @@ raised_above false false false false n c z o w h = let e : false ≡ true = h re
 character_above-raised : (closer : Run) (n : ℕ) (b : CharacterBounds) → character_above n (character_raised_for closer n b)
     + (n - character_bound_for closer b) ≤ character_above n b
 character_above-raised closer n b =
-    raised_above (both closer) (closer.length % 3 == 0) (closer.length % 3 == 1) (closer.length % 3 == 2) n b.cannot_open b.remainder_zero
+    raised_above (can_do_both closer) (closer.length % 3 == 0) (closer.length % 3 == 1) (closer.length % 3 == 2) n b.cannot_open b.remainder_zero
     b.remainder_one b.remainder_two
     (λ f g.
     let ne0 : closer.length % 3 ≡ 0 → ⊥ = eqb-false (closer.length % 3) 0 f in

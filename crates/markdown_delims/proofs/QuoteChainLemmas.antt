@@ -14,12 +14,12 @@ use Rattle.markdown_base.specs.WellFormed.{RunCharacter, run_character, RunGoesO
 use Rattle.markdown_delims.specs.declared.marks.Marks.{Marks}
 use Rattle.markdown_delims.specs.declared.quotes.Kind.{Kind}
 use Rattle.markdown_delims.specs.declared.quotes.Kind.TheVariants as kind
-use Rattle.markdown_delims.specs.ChainForest.{among, chain_of, IsChain, IsPaired}
+use Rattle.markdown_delims.specs.ChainForest.{is_among, chain_of, IsChainAt, IsPaired}
 use Rattle.markdown_delims.specs.Entries.{read_back, paired}
 use Rattle.markdown_delims.specs.QuoteBodies.{left_single, right_single, left_double, right_double, Turn, kind_of, is_closed_later, is_nil}
 use Rattle.markdown_delims.specs.QuoteBodies.{with_body, turn_of, turn_at, quoted_after, quoted}
 use Rattle.markdown_delims.specs.Quoting.{remembered_as, quoted_from, QuotesOn, QuotesTree, CanQuote, IsSpelled, IsQuoted, IsResolved}
-use Rattle.markdown_delims.specs.RunReading.{StandsWhole, IsWhole, counts_one, delimiters_of}
+use Rattle.markdown_delims.specs.RunReading.{StandsWhole, HasWholeRuns, counts_one, delimiters_of}
 use Rattle.markdown_delims.specs.ChainStanding.{Chain}
 use Rattle.markdown_delims.specs.Views.{View, view_of, Holds, Cut}
 use Rattle.markdown_delims.proofs.EncloseLemmas.{kept_none, kept_both}
@@ -52,7 +52,7 @@ none_at_end k (Some x) (node a below after) h = refl
 
 module _ (s : Arena Item) (first : ℕ) (f : Forest ℕ) (c : IsSpelled s.nodes first f) where
   pub quote_whole : Chain
-  quote_whole = record { touched = among (roots f); first = Some first; bound = length s.nodes }
+  quote_whole = record { touched = is_among (roots f); first = Some first; bound = length s.nodes }
 
   pub quotes_begin : QuotesSoFar quote_whole s s (chain_of s.nodes f) None false (Some first)
   unfolding quote_whole
@@ -67,13 +67,13 @@ module _ (s : Arena Item) (first : ℕ) (f : Forest ℕ) (c : IsSpelled s.nodes 
               right = holds_spelled s.nodes (Some first) f c.spelled;
               rises_left = tt;
               rises_right = rises_chain
-                  (among (roots f)) s.nodes (Some first) f 0 (omega arith) c.spelled c.rising c.apart;
+                  (is_among (roots f)) s.nodes (Some first) f 0 (omega arith) c.spelled c.rising c.apart;
             };
             remembered = tt;
             left_touched = tt;
-            rest_touched = touched_from_list (among (roots f)) s.nodes f (among_all (roots f));
+            rest_touched = touched_from_list (is_among (roots f)) s.nodes f (among_all (roots f));
           };
-          kept = kept_none (among (roots f)) s;
+          kept = kept_none (is_among (roots f)) s;
           same = refl;
         };
       }
@@ -139,8 +139,8 @@ module _ (s : Arena Item) (first : ℕ) (f : Forest ℕ) (c : IsSpelled s.nodes 
   unfolding quote_whole
   quotes_done t single double a =
       let none = nothing_left t a.rest a.on.stands.cut.right in
-      let cut = subst (λ r. Cut (among (roots f)) (view_of t.nodes) (Some first) a.on.read None r (length s.nodes)) none a.on.stands.cut in
-      let r = over_all (among (roots f)) (view_of t.nodes) (Some first) a.on.read None nil (length s.nodes) cut in
+      let cut = subst (λ r. Cut (is_among (roots f)) (view_of t.nodes) (Some first) a.on.read None r (length s.nodes)) none a.on.stands.cut in
+      let r = over_all (is_among (roots f)) (view_of t.nodes) (Some first) a.on.read None nil (length s.nodes) cut in
       let holds = subst (λ l. Holds (view_of t.nodes) l (read_back a.on.read nil)) r.cut.left r.cut.right in
       let is : read_back a.on.read nil ≡ quoted (chain_of s.nodes f) =
       ap (λ g. read_back g nil) (sym (never_closed single a.on.read)) ∙ sym (ap (quoted_from single double a.on.read) none) ∙ a.on.same in
@@ -242,8 +242,8 @@ whole_if text a below after single double (Some x) e h =
     (subst (λ o. IfSome o (StandsWhole text a below (quoted_after (turn_at a after single double).single
     (turn_at a after single double).double after))) (sym e) here)
 
-pub whole_quoted : (text : List ℕ) (f : Forest Numbered) (single double : Bool) → IsWhole text f
-    → IsWhole text (quoted_after single double f)
+pub whole_quoted : (text : List ℕ) (f : Forest Numbered) (single double : Bool) → HasWholeRuns text f
+    → HasWholeRuns text (quoted_after single double f)
 whole_quoted text nil single double w = w
 whole_quoted text (node a below after) single double w = (
   whole_if text a below after single double (run_character a.item.body) refl w.0,
@@ -260,17 +260,17 @@ delimiters_quoted (node a below after) single double =
     (turn_at a after single double).double)
 
 -- a chain with its quotes is a chain
-module _ (text : List ℕ) (s t : Arena Item) (first : ℕ) (f : Forest ℕ) (c : IsChain text s.nodes first f) where
+module _ (text : List ℕ) (s t : Arena Item) (first : ℕ) (f : Forest ℕ) (c : IsChainAt text s.nodes first f) where
   pub spelled_chain : IsSpelled s.nodes first f
   spelled_chain = record { spelled = c.spelled; rising = c.rising; apart = c.apart }
 
-  pub quoted_chain : IsQuoted s t first f → IsChain text t.nodes first f
+  pub quoted_chain : IsQuoted s t first f → IsChainAt text t.nodes first f
   quoted_chain q =
       record {
         spelled = q.spelled;
         rising = c.rising;
         apart = c.apart;
-        whole = subst (λ g. IsWhole text g) (sym q.quotes) (whole_quoted text (chain_of s.nodes f) false false c.whole);
+        whole = subst (λ g. HasWholeRuns text g) (sym q.quotes) (whole_quoted text (chain_of s.nodes f) false false c.whole);
       }
 
   pub quoted_delimiters : IsQuoted s t first f → delimiters_of (chain_of t.nodes f) ≡ delimiters_of (chain_of s.nodes f)
@@ -283,5 +283,5 @@ module _ (text : List ℕ) (s t : Arena Item) (first : ℕ) (f : Forest ℕ) (c 
         spelled = p.spelled;
         resolves = p.pairs ∙ ap (paired m text) q.quotes;
         rising = p.rising;
-        kept = kept_both (among (roots f)) s t u q.kept p.kept;
+        kept = kept_both (is_among (roots f)) s t u q.kept p.kept;
       }

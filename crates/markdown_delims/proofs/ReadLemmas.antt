@@ -16,11 +16,11 @@ use Rattle.markdown_delims.specs.declared.run.Run.{Run}
 use Rattle.markdown_delims.specs.EntryFinds.{run_finds, finds_from, tree_finds}
 use Rattle.markdown_delims.specs.MayPair.{OpenRun}
 use Rattle.markdown_delims.specs.OpenRuns.{Openers}
-use Rattle.markdown_delims.specs.MarkBodies.{run_if, run_of}
+use Rattle.markdown_delims.specs.MarkBodies.{run_if, item_run}
 use Rattle.markdown_delims.specs.Entries.{Entry, settled, flat, open_of, with_run, all_of_run, after_tree, paired_from}
 use Rattle.markdown_delims.specs.Views.{view_of, Rises}
 use Rattle.markdown_delims.specs.ChainStanding.{Chain, Stands, ReadsOn, CanRead}
-use Rattle.markdown_delims.specs.RunReading.{StandsWhole, IsWhole, BeginsRun, counts_one, delimiters_of, Settles, CanSettle, ReadFurther}
+use Rattle.markdown_delims.specs.RunReading.{StandsWhole, HasWholeRuns, BeginsRun, counts_one, delimiters_of, Settles, CanSettle, ReadFurther}
 use Rattle.markdown_delims.specs.RunReading.{CanReadTree}
 use Rattle.markdown_delims.proofs.CutLemmas.{Rises-lower, step_right}
 use Rattle.markdown_delims.proofs.EncloseLemmas.{kept_none, kept_both}
@@ -50,12 +50,12 @@ pub record RunBegins (text : List ℕ) (number start n : ℕ) (chain : Forest Nu
   pub begins : BeginsRun number n chain rest
   pub some : 0 < n
   pub bytes : start + n ≤ length text
-  pub whole : IsWhole text rest
+  pub whole : HasWholeRuns text rest
   pub fewer : suc (delimiters_of rest) ≤ delimiters_of chain
 
 pub run_begins : (text : List ℕ) (n : ℕ) (opens closes : Bool) (a : Numbered) (below after : Forest Numbered)
     → run_character a.item.body ≡ Some (record { count = n; can_open = opens; can_close = closes })
-    → IsWhole text (node a below after) → RunBegins text a.number a.item.start n (node a below after)
+    → HasWholeRuns text (node a below after) → RunBegins text a.number a.item.start n (node a below after)
 run_begins text zero opens closes a below after e w =
     let x : StandsWhole text a below after (record { count = zero; can_open = opens; can_close = closes }) =
     subst (λ o. IfSome o (StandsWhole text a below after)) e w.0 in
@@ -102,13 +102,13 @@ skip_run m text number zero chain rest es b = ap (λ f. paired_from m text 0 f e
 skip_run m text number (suc n) nil rest es b = absurd b
 skip_run m text number (suc n) (node a below after) rest es b = skip_run m text (suc number) n after rest es b.2
 
-paired_none : (m : Marks) (text : List ℕ) (a : Numbered) (below after : Forest Numbered) (es : List Entry) → run_of text a.item ≡ None
+paired_none : (m : Marks) (text : List ℕ) (a : Numbered) (below after : Forest Numbered) (es : List Entry) → item_run text a.item ≡ None
     → paired_from m text 0 (node a below after) es ≡ paired_from m text 0 after (settled a below ∷ es)
 unfolding paired_from
 paired_none m text a below after es e = ap (λ o. after_tree m (λ skip fs. paired_from m text skip after fs) o a below es) e
 
 paired_some : (m : Marks) (text : List ℕ) (a : Numbered) (below after : Forest Numbered) (es : List Entry) (run : Run)
-    → run_of text a.item ≡ Some run
+    → item_run text a.item ≡ Some run
     → paired_from m text 0 (node a below after) es ≡ paired_from m text (run.length - 1) after
     (with_run m a.item.start (all_of_run run a.number) es)
 unfolding paired_from
@@ -122,13 +122,13 @@ skip_finds m text number zero chain rest es b = ap (λ f. finds_from m text 0 f 
 skip_finds m text number (suc n) nil rest es b = absurd b
 skip_finds m text number (suc n) (node a below after) rest es b = skip_finds m text (suc number) n after rest es b.2
 
-finds_at_none : (m : Marks) (text : List ℕ) (a : Numbered) (below after : Forest Numbered) (es : List Entry) → run_of text a.item ≡ None
+finds_at_none : (m : Marks) (text : List ℕ) (a : Numbered) (below after : Forest Numbered) (es : List Entry) → item_run text a.item ≡ None
     → finds_from m text 0 (node a below after) es ≡ finds_from m text 0 after (settled a below ∷ es)
 unfolding finds_from
 finds_at_none m text a below after es e = ap (λ o. tree_finds m (λ skip fs. finds_from m text skip after fs) o a below es) e
 
 finds_at_some : (m : Marks) (text : List ℕ) (a : Numbered) (below after : Forest Numbered) (es : List Entry) (run : Run)
-    → run_of text a.item ≡ Some run
+    → item_run text a.item ≡ Some run
     → finds_from m text 0 (node a below after) es ≡ run_finds run run.length (open_of es) + finds_from m text (run.length - 1) after
     (with_run m a.item.start (all_of_run run a.number) es)
 unfolding finds_from
@@ -159,15 +159,15 @@ module _ (m : Marks) (text : List ℕ) (h : Chain) (s : Arena Item) (es : List E
   head_within (node a below after) st = let here : Some ix ≡ Some a.number = st.cut.right.0 in let e : ix ≡ a.number = cc
       in omega (arith, st.cut.right.1, e)
 
-  pub read_none : (chain : Forest Numbered) (o : Openers) → Stands h s es last (Some ix) chain → IsWhole text chain → o.runs ≡ open_of es
-      → run_of text (item_at s.nodes ix) ≡ None
+  pub read_none : (chain : Forest Numbered) (o : Openers) → Stands h s es last (Some ix) chain → HasWholeRuns text chain → o.runs ≡ open_of es
+      → item_run text (item_at s.nodes ix) ≡ None
       → ReadFurther m text h s s es chain o o (Some ix) (sibling_of s.nodes ix) (suc ix)
   read_none nil o st w r e = let no : Some ix ≡ None = st.cut.right in cc
   read_none (node a below after) o st w r e =
       let here : Some ix ≡ Some a.number = st.cut.right.0 in
       let same : ix ≡ a.number = cc in
       let item : item_at s.nodes ix ≡ a.item = ap (item_at s.nodes) same ∙ st.cut.right.2 in
-      let none : run_of text a.item ≡ None = ap (run_of text) (sym item) ∙ e in
+      let none : item_run text a.item ≡ None = ap (item_run text) (sym item) ∙ e in
       record {
         es = settled a below ∷ es;
         rest = after;
@@ -199,14 +199,14 @@ module _ (m : Marks) (text : List ℕ) (h : Chain) (s : Arena Item) (es : List E
         → finds_from m text 0 chain fs ≡ run_finds run run.length (open_of fs) + finds_from m text 0 begins.rest goes_on
     pub rises : Rises h.touched (suc ix) begins.rest h.bound
 
-  pub run_here : (run : Run) (chain : Forest Numbered) → Stands h s es last (Some ix) chain → IsWhole text chain
-      → run_of text (item_at s.nodes ix) ≡ Some run → RunHere run chain
+  pub run_here : (run : Run) (chain : Forest Numbered) → Stands h s es last (Some ix) chain → HasWholeRuns text chain
+      → item_run text (item_at s.nodes ix) ≡ Some run → RunHere run chain
   run_here run nil st w e = let no : Some ix ≡ None = st.cut.right in cc
   run_here run (node a below after) st w e =
       let here : Some ix ≡ Some a.number = st.cut.right.0 in
       let same : a.number ≡ ix = cc in
       let item : a.item ≡ item_at s.nodes ix = sym (ap (item_at s.nodes) (sym same) ∙ st.cut.right.2) in
-      let is : run_of text a.item ≡ Some run = ap (run_of text) item ∙ e in
+      let is : item_run text a.item ≡ Some run = ap (item_run text) item ∙ e in
       let b0 = run_begins text run.length run.can_open run.can_close a below after (run_parts _ _ run is) w in
       let b1 = subst (λ i. RunBegins text i a.item.start run.length (node a below after)) same b0 in
       let b = subst (λ (i : Item). RunBegins text ix i.start run.length (node a below after)) item b1 in
@@ -284,14 +284,14 @@ module _ (m : Marks) (text : List ℕ) (h : Chain) (s : Arena Item) (es : List E
 
 -- the same for a chain that can be read, at its next item
 pub met_here : (m : Marks) (text : List ℕ) (s : Arena Item) (ix : ℕ) (last : Option ℕ) (runs : List OpenRun) (cost : ℕ)
-    (p : CanReadTree text ix last s runs cost) (item : Item) (run : Run) → item ≡ item_at s.nodes ix → Some run ≡ run_of text item
+    (p : CanReadTree text ix last s runs cost) (item : Item) (run : Run) → item ≡ item_at s.nodes ix → Some run ≡ item_run text item
     → RunHere m text p.chain s p.es last ix run p.rest
 met_here m text s ix last runs cost p item run i e = run_here m text p.chain s p.es last ix run p.rest p.stands p.whole
-    (ap (run_of text) (sym i) ∙ sym e)
+    (ap (item_run text) (sym i) ∙ sym e)
 
 -- its characters lie in the text
 pub run_bytes : (m : Marks) (text : List ℕ) (s : Arena Item) (ix : ℕ) (last : Option ℕ) (runs : List OpenRun) (cost : ℕ)
-    (p : CanReadTree text ix last s runs cost) (item : Item) (run : Run) → item ≡ item_at s.nodes ix → Some run ≡ run_of text item
+    (p : CanReadTree text ix last s runs cost) (item : Item) (run : Run) → item ≡ item_at s.nodes ix → Some run ≡ item_run text item
     → item.start + run.length ≤ length text
 run_bytes m text s ix last runs cost p item run i e = subst (λ (x : Item). x.start + run.length ≤ length text) (sym i)
     (met_here m text s ix last runs cost p item run i e).begins.bytes

@@ -9,7 +9,7 @@ use Rattle.markdown_delims.specs.declared.run.Delimiter.TheVariants.{Star, Under
 use Rattle.markdown_delims.specs.declared.run.Run.{Run}
 use Rattle.markdown_delims.specs.declared.run.Characters.{Characters}
 use Rattle.markdown_delims.specs.declared.bounds.LowerBounds.{LowerBounds}
-use Rattle.markdown_delims.specs.MayPair.{same_delimiter, is_tilde_or_caret, drops, may_pair, may_take, OpenRun, nearest, drop_run, dropped_by}
+use Rattle.markdown_delims.specs.MayPair.{same_delimiter, is_tilde_or_caret, drops, may_pair, may_take, OpenRun, nearest_run, drop_run, dropped_by}
 use Rattle.markdown_delims.specs.Bounds.{BoundStack, bound_at, bound_for, raised_at, raised_for, lowered, drop_bound}
 use Rattle.markdown_delims.specs.OpenRuns.{open_run, open_runs_from, open_runs}
 use Rattle.markdown_delims.proofs.BoundLaws.{below_bound_fails, bound_at-within}
@@ -146,15 +146,15 @@ drops_at closer t i c l =
 
 -- one step down the stack, past a run that is not taken
 pub nearest-passed : (closer : Run) (t : LowerBounds) (stack : List Characters) (i : ℕ) (x : Characters) → i < length stack
-    → may_take closer (open_run t i (get_or stack i x)) ≡ false → nearest closer (open_runs t (take (i + 1) stack))
-    ≡ nearest closer (open_runs t (take i stack))
+    → may_take closer (open_run t i (get_or stack i x)) ≡ false → nearest_run closer (open_runs t (take (i + 1) stack))
+    ≡ nearest_run closer (open_runs t (take i stack))
 nearest-passed closer t stack i x l h =
     let e : length (take i stack) ≡ i = length-take-le i stack (omega arith) in
     rw (take_more stack i x l, open_runs-push t (take i stack) (get_or stack i x), e, h) refl
 
 -- and at one that is taken
 pub nearest-taken : (closer : Run) (t : LowerBounds) (stack : List Characters) (i : ℕ) (x : Characters) → i < length stack
-    → may_take closer (open_run t i (get_or stack i x)) ≡ true → nearest closer (open_runs t (take (i + 1) stack))
+    → may_take closer (open_run t i (get_or stack i x)) ≡ true → nearest_run closer (open_runs t (take (i + 1) stack))
     ≡ Some (record { opener = get_or stack i x; before = open_runs t (take i stack) })
 nearest-taken closer t stack i x l h =
     let e : length (take i stack) ≡ i = length-take-le i stack (omega arith) in
@@ -162,18 +162,18 @@ nearest-taken closer t stack i x l h =
 
 none_upto : (closer : Run) (t : LowerBounds) (stack : List Characters) (n : ℕ) → n ≤ length stack
     → ((i : ℕ) (x : Characters) → i < n → may_take closer (open_run t i (get_or stack i x)) ≡ false)
-    → nearest closer (open_runs t (take n stack)) ≡ None
+    → nearest_run closer (open_runs t (take n stack)) ≡ None
 unfolding open_runs
 none_upto closer t stack zero h f = refl
 none_upto closer t [] (suc n) h f = refl
 none_upto closer t (c ∷ cs) (suc n) h f =
-    subst (λ m. nearest closer (open_runs t (take m (c ∷ cs))) ≡ None) (add-one n)
+    subst (λ m. nearest_run closer (open_runs t (take m (c ∷ cs))) ≡ None) (add-one n)
     (nearest-passed closer t (c ∷ cs) n c (omega arith) (f n c (omega arith)) ∙ none_upto closer t (c ∷ cs) n (omega arith)
     (λ i x l. f i x (omega arith)))
 
 -- below its bound a closer finds none
 pub nearest-below : (closer : Run) (stack : List Characters) (b : LowerBounds) → BoundStack stack b
-    → nearest closer (open_runs b (take (bound_for closer b) stack)) ≡ None
+    → nearest_run closer (open_runs b (take (bound_for closer b) stack)) ≡ None
 nearest-below closer stack b h =
     none_upto closer b stack (bound_for closer b) (bound_at-within closer.delimiter closer stack b h)
     (λ i x l.

@@ -8,7 +8,7 @@ use Rattle.markdown_delims.specs.Entries.{Entry, character, characters, characte
 use Rattle.markdown_delims.specs.Enclosing.{AllTouched}
 use Rattle.markdown_delims.specs.Views.{View, view_of, Writes, Wrote, Holds, LeftHolds, next_number, Cut, Kept}
 use Rattle.markdown_delims.specs.ChainStanding.{Chain, Stands}
-use Rattle.markdown_delims.specs.RunReading.{BeginsRun, IsSettled}
+use Rattle.markdown_delims.specs.RunReading.{BeginsRun, SettlesRun}
 use Rattle.markdown_delims.proofs.CutLemmas.{Rises-lower, Holds-write_before, enclosing}
 use Rattle.markdown_delims.proofs.EncloseLemmas.{kept_none, kept_more}
 use Rattle.markdown_delims.proofs.PairLemmas.{characters-last, over_characters}
@@ -122,7 +122,7 @@ touched_back touched number start (suc n) before after h a =
 -- all of them
 pub settling_done : (h : Chain) (s t : Arena Item) (es : List Entry) (number start n i : ℕ) (last : Option ℕ) (chain rest : Forest Numbered)
     → 0 < n → i ≡ n → Stands h s es last (Some number) chain
-    → SettlingAt h s t es number start n i rest → IsSettled h s t es number start n last rest
+    → SettlingAt h s t es number start n i rest → SettlesRun h s t es number start n last rest
 settling_done h s t es number start n i last chain rest some e st a0 =
     let a = subst (λ x. SettlingAt h s t es number start n x rest) e a0 in
     let none : n - n ≡ 0 = omega arith in

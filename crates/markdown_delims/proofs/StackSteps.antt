@@ -7,7 +7,7 @@ use Rattle.markdown_document.specs.Counts.{comparisons_per_delimiter}
 use Rattle.markdown_delims.specs.declared.run.Run.{Run}
 use Rattle.markdown_delims.specs.declared.run.Characters.{Characters}
 use Rattle.markdown_delims.specs.declared.bounds.LowerBounds.{LowerBounds}
-use Rattle.markdown_delims.specs.MayPair.{may_pair, nearest}
+use Rattle.markdown_delims.specs.MayPair.{may_pair, nearest_run}
 use Rattle.markdown_delims.specs.Bounds.{bound_for, raised_for, lowered, above_bounds}
 use Rattle.markdown_delims.specs.OpenRuns.{open_runs, openers_of, potential_of, IsSound}
 use Rattle.markdown_delims.proofs.BoundLaws.{BoundStack-push, BoundStack-cut, BoundStack-raised, bound_at-within, drop_bound-within}
@@ -88,8 +88,8 @@ module _ (stack : List Characters) (examined : ℕ) (b : LowerBounds) (sound : I
   -- the search from here on is the whole search
   pub found_at : (closer : Run) (i : ℕ) (opener : Characters) → bound_for closer b ≤ i → i < length stack → opener ≡ get_or stack i opener
       → may_pair opener.run closer ≡ true
-      → nearest closer (open_runs b (take (i + 1) stack)) ≡ nearest closer (open_runs b stack)
-      → nearest closer (open_runs b stack) ≡ Some (record { opener = opener; before = open_runs (lowered i b) (take i stack) })
+      → nearest_run closer (open_runs b (take (i + 1) stack)) ≡ nearest_run closer (open_runs b stack)
+      → nearest_run closer (open_runs b stack) ≡ Some (record { opener = opener; before = open_runs (lowered i b) (take i stack) })
   found_at closer i opener l h read pairs same =
       let p : may_pair (get_or stack i opener).run closer ≡ true = subst (λ c. may_pair c.run closer ≡ true) read pairs in
       let t : length (take i stack) ≤ i = omega (arith, length-take-le i stack (omega arith)) in
@@ -99,13 +99,13 @@ module _ (stack : List Characters) (examined : ℕ) (b : LowerBounds) (sound : I
       ∙ ap (λ rs. Some (record { opener = opener; before = rs })) (sym (open_runs-lowered b i (take i stack) t))
 
   pub passed_at : (closer : Run) (i : ℕ) (x : Characters) → i < length stack → may_pair (get_or stack i x).run closer ≡ false
-      → nearest closer (open_runs b (take (i + 1) stack)) ≡ nearest closer (open_runs b stack)
-      → nearest closer (open_runs b (take i stack)) ≡ nearest closer (open_runs b stack)
+      → nearest_run closer (open_runs b (take (i + 1) stack)) ≡ nearest_run closer (open_runs b stack)
+      → nearest_run closer (open_runs b (take i stack)) ≡ nearest_run closer (open_runs b stack)
   passed_at closer i x h fails same =
       sym (nearest-passed closer b stack i x h (may_take-fails closer b i (get_or stack i x) fails)) ∙ same
 
   pub missed_at : (closer : Run) (i : ℕ) → i ≡ bound_for closer b
-      → nearest closer (open_runs b (take i stack)) ≡ nearest closer (open_runs b stack)
-      → nearest closer (open_runs b stack) ≡ None
+      → nearest_run closer (open_runs b (take i stack)) ≡ nearest_run closer (open_runs b stack)
+      → nearest_run closer (open_runs b stack) ≡ None
   missed_at closer i e same =
-      sym same ∙ ap (λ j. nearest closer (open_runs b (take j stack))) e ∙ nearest-below closer stack b sound.bound
+      sym same ∙ ap (λ j. nearest_run closer (open_runs b (take j stack))) e ∙ nearest-below closer stack b sound.bound

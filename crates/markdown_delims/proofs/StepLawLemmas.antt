@@ -9,7 +9,7 @@ use Rattle.markdown_document.specs.Waiting.{as_closed}
 use Rattle.markdown_delims.specs.declared.run.Delimiter.{Delimiter}
 use Rattle.markdown_delims.specs.declared.run.Run.{Run}
 use Rattle.markdown_delims.specs.Layers.{run_of}
-use Rattle.markdown_delims.specs.Pairing.{Read, done, FoundOpener, found_if, nearest_opener, drop_read, layers, left_over, after_layers}
+use Rattle.markdown_delims.specs.Pairing.{Read, done_read, FoundOpener, found_if, nearest_opener, drop_read, layers, left_over, after_layers}
 use Rattle.markdown_delims.specs.Pairing.{after_search, closed_by, run_read, first_texts, after_tree, reads_from}
 
 -- a chain without its first trees
@@ -23,7 +23,7 @@ later (suc n) (node a below after) = later n after
 -- characters are left open or as text, and when they pair with a run that was found
 pub record StaysTrue {A : Type 0} (s : Setting) (i : List (Label A) → List (Read A) → Forest (Label A) → Type 0) : Type 0 where
   pub tree : (a : Label A) (below after : Forest (Label A)) (rs : List (Read A)) → i [] rs (node a below after)
-      → i [] (done (as_closed s.text a) below ∷ rs) after
+      → i [] (done_read (as_closed s.text a) below ∷ rs) after
   pub skip : (a : Label A) (below after : Forest (Label A)) (rs : List (Read A)) → i [] rs (node a below after) → i [] rs after
   pub texts : (n : ℕ) (chain : Forest (Label A)) (rs : List (Read A)) → i [] rs chain → i (first_texts s.text n chain) rs (later n chain)
   pub dropped : (d : Delimiter) (vs : List (Label A)) (rs : List (Read A)) (rest : Forest (Label A)) → i vs rs rest
@@ -45,7 +45,7 @@ found-if p false f o h k = k
 pub record StaysTrueOf {A : Type 0} (s : Setting) (g : Run → List (Label A) → Type 0)
     (i : List (Label A) → List (Read A) → Forest (Label A) → Type 0) : Type 0 where
   pub tree : (a : Label A) (below after : Forest (Label A)) (rs : List (Read A)) → run_of s.text a.part ≡ None
-      → i [] rs (node a below after) → i [] (done (as_closed s.text a) below ∷ rs) after
+      → i [] rs (node a below after) → i [] (done_read (as_closed s.text a) below ∷ rs) after
   pub run : (run : Run) (a : Label A) (below after : Forest (Label A)) (rs : List (Read A)) → run_of s.text a.part ≡ Some run
       → i [] rs (node a below after)
       → g run (first_texts s.text run.length (node a below after))
@@ -100,7 +100,7 @@ module _ {A : Type 0} (s : Setting) (g : Run → List (Label A) → Type 0) (i :
       (o : Option Run) → run_of s.text a.part ≡ o
       → ((skip : ℕ) (others : List (Read A)) → i [] others (later skip after) → i [] (go_on skip others) nil) → i [] rs (node a below after)
       → i [] (after_tree s go_on a below after rs o) nil
-  tree_stays go_on a below after rs None e h k = h 0 (done (as_closed s.text a) below ∷ rs) (stays.tree a below after rs e k)
+  tree_stays go_on a below after rs None e h k = h 0 (done_read (as_closed s.text a) below ∷ rs) (stays.tree a below after rs e k)
   tree_stays go_on a below after rs (Some run) e h k =
       let r = stays.run run a below after rs e k in
       h (run.length - 1) (run_read s run.can_close run (first_texts s.text run.length (node a below after)) rs)

@@ -11,7 +11,7 @@ use Rattle.markdown_delims.specs.declared.run.Run.{Run}
 use Rattle.markdown_delims.specs.Layers.{marks_of, layer_of_one, layer_of_two, spanned}
 use Rattle.markdown_delims.specs.MayPair.{may_pair}
 use Rattle.markdown_document.specs.Waiting.{text_if}
-use Rattle.markdown_delims.specs.Pairing.{Read, done, waiting, texts_before, all_done, read_trees, FoundOpener, nearest_opener, drop_read}
+use Rattle.markdown_delims.specs.Pairing.{Read, done_read, waiting, texts_before, characters_done, read_trees, FoundOpener, nearest_opener, drop_read}
 use Rattle.markdown_delims.specs.Pairing.{Layers, layers, trees_done, still_waiting, last_first, opened_if, left_over}
 use Rattle.markdown_delims.specs.Pairing.{after_layers, first_texts, reads_from, runs_paired, paired}
 use Rattle.markdown_delims.specs.Quotes.{first_turn, quotes_after, with_quotes}
@@ -36,7 +36,7 @@ pub record CountsNoMore {A : Type 0} (s : Setting) (g : Label A → ℕ) : Type 
 module _ {A : Type 0} (s : Setting) (g : Label A → ℕ) (no_more : CountsNoMore s g) where
   abbrev sum_read : List (Read A) → ℕ
   sum_read [] = 0
-  sum_read (done a below ∷ rs) = g a + (sum_of g below + sum_read rs)
+  sum_read (done_read a below ∷ rs) = g a + (sum_of g below + sum_read rs)
   sum_read (waiting dropped run xs ∷ rs) = sum_all g xs + sum_read rs
 
   sum_texts : (xs : List (Label A)) (chain : Forest (Label A)) → sum_of g (texts_before xs chain) ≡ sum_all g xs + sum_of g chain
@@ -45,10 +45,10 @@ module _ {A : Type 0} (s : Setting) (g : Label A → ℕ) (no_more : CountsNoMor
 
   sum_trees : (rs : List (Read A)) (after : Forest (Label A)) → sum_of g (read_trees rs after) ≡ sum_read rs + sum_of g after
   sum_trees [] after = omega arith
-  sum_trees (done a below ∷ rs) after = omega (arith, sum_trees rs (node a below after))
+  sum_trees (done_read a below ∷ rs) after = omega (arith, sum_trees rs (node a below after))
   sum_trees (waiting dropped run xs ∷ rs) after = omega (arith, sum_trees rs (texts_before xs after), sum_texts xs after)
 
-  sum_done : (xs : List (Label A)) (rs : List (Read A)) → sum_read (all_done xs rs) ≡ sum_all g xs + sum_read rs
+  sum_done : (xs : List (Label A)) (rs : List (Read A)) → sum_read (characters_done xs rs) ≡ sum_all g xs + sum_read rs
   sum_done [] rs = omega arith
   sum_done (x ∷ xs) rs = omega (arith, sum_done xs rs)
 
@@ -59,7 +59,7 @@ module _ {A : Type 0} (s : Setting) (g : Label A → ℕ) (no_more : CountsNoMor
   sum_nearest : (closer : Run) (rs : List (Read A)) (inside : Forest (Label A)) (n : ℕ) → sum_read rs + sum_of g inside ≡ n
       → IfSome (nearest_opener closer rs inside) (Splits n)
   sum_nearest closer [] inside n e = tt
-  sum_nearest closer (done a below ∷ rs) inside n e = sum_nearest closer rs (node a below inside) n (omega (arith, e))
+  sum_nearest closer (done_read a below ∷ rs) inside n e = sum_nearest closer rs (node a below inside) n (omega (arith, e))
   sum_nearest closer (waiting dropped run xs ∷ rs) inside n e =
       found-if (Splits n) (not dropped && may_pair run closer) (record { inside = inside; run = run; characters = xs; before = rs })
       (nearest_opener closer rs (texts_before xs inside)) (omega (arith, e))
@@ -67,7 +67,7 @@ module _ {A : Type 0} (s : Setting) (g : Label A → ℕ) (no_more : CountsNoMor
 
   sum_dropped : (d : Delimiter) (rs : List (Read A)) → sum_read (map (drop_read d) rs) ≡ sum_read rs
   sum_dropped d [] = refl
-  sum_dropped d (done a below ∷ rs) = ap (λ n. g a + (sum_of g below + n)) (sum_dropped d rs)
+  sum_dropped d (done_read a below ∷ rs) = ap (λ n. g a + (sum_of g below + n)) (sum_dropped d rs)
   sum_dropped d (waiting dropped run xs ∷ rs) = ap (λ n. sum_all g xs + n) (sum_dropped d rs)
 
   abbrev LayersSum : ℕ → Layers A → Type 0
@@ -85,7 +85,7 @@ module _ {A : Type 0} (s : Setting) (g : Label A → ℕ) (no_more : CountsNoMor
 
   sum_trees_done : (f : Forest (Label A)) (rs : List (Read A)) → sum_read (trees_done f rs) ≡ sum_of g f + sum_read rs
   sum_trees_done nil rs = omega arith
-  sum_trees_done (node a below after) rs = omega (arith, sum_trees_done after (done a below ∷ rs))
+  sum_trees_done (node a below after) rs = omega (arith, sum_trees_done after (done_read a below ∷ rs))
 
   sum_still : (run : Run) (xs : List (Label A)) (rs : List (Read A)) → sum_read (still_waiting run xs rs) ≡ sum_all g xs + sum_read rs
   sum_still run [] rs = omega arith

@@ -8,7 +8,7 @@ use Rattle.markdown_document.specs.Setting.{Setting}
 use Rattle.markdown_document.specs.Totals.{weight_if}
 use Rattle.markdown_document.proofs.PlaceLemmas.{some_weight}
 use Rattle.markdown_delims.specs.Layers.{marks_of}
-use Rattle.markdown_delims.specs.PairingLaws.{WeightLaw}
+use Rattle.markdown_delims.specs.PairingLaws.{PairingWeightLaw}
 use Rattle.markdown_delims.specs.Pairing.{paired}
 use Rattle.markdown_delims.specs.Quotes.{kind_of_shape, is_closed_later, is_end}
 use Rattle.markdown_delims.proofs.LayerLawLemmas.{one-closed, two-closed, turn-made}
@@ -38,5 +38,5 @@ weight_sum : {A : Type 0} (f : Forest (Label A)) → weight f ≡ sum_of weighs 
 weight_sum nil = refl
 weight_sum (node a below after) = omega (arith, weight_sum below, weight_sum after)
 
-pub weight-law : {A : Type 0} → WeightLaw A
+pub weight-law : {A : Type 0} → PairingWeightLaw A
 weight-law s chain = omega (arith, weight_sum (paired s chain), weight_sum chain, sum-paired s weighs (weights-count s) chain)

@@ -7,7 +7,7 @@ use Rattle.markdown_delims.specs.declared.run.Run.{Run}
 use Rattle.markdown_delims.specs.declared.run.Characters.{Characters}
 use Rattle.markdown_delims.specs.declared.bounds.CharacterBounds.{CharacterBounds}
 use Rattle.markdown_delims.specs.declared.bounds.LowerBounds.{LowerBounds}
-use Rattle.markdown_delims.specs.MayPair.{same_delimiter, drops, both, lengths_agree}
+use Rattle.markdown_delims.specs.MayPair.{same_delimiter, drops, can_do_both, lengths_agree}
 
 -- the bounds of one character before any search
 abbrev pub no_bounds : CharacterBounds
@@ -24,7 +24,7 @@ remainder_bound r b = if r == 0 then b.remainder_zero else if r == 1 then b.rema
 -- the bound for a closer, among those of its character
 abbrev pub character_bound_for : Run → CharacterBounds → ℕ
 character_bound_for closer b =
-    if both closer then remainder_bound (closer.length % 3) b
+    if can_do_both closer then remainder_bound (closer.length % 3) b
     else min (remainder_bound (closer.length % 3) b) b.cannot_open
 
 -- the bound for a closer of this character
@@ -43,7 +43,7 @@ bound_for closer b = bound_at closer.delimiter closer b
 abbrev pub character_raised_for : Run → ℕ → CharacterBounds → CharacterBounds
 character_raised_for closer len b =
     record {
-      cannot_open = if both closer then b.cannot_open else len;
+      cannot_open = if can_do_both closer then b.cannot_open else len;
       remainder_zero = if closer.length % 3 == 0 then len else b.remainder_zero;
       remainder_one = if closer.length % 3 == 1 then len else b.remainder_one;
       remainder_two = if closer.length % 3 == 2 then len else b.remainder_two;
@@ -107,7 +107,7 @@ IsOutOfStep d r c = same_delimiter c.run.delimiter d ≡ true → lengths_agree 
 
 -- a run can both open and close, if it is of this character
 abbrev pub IsOfBoth : Delimiter → Characters → Type 0
-IsOfBoth d c = same_delimiter c.run.delimiter d ≡ true → both c.run ≡ true
+IsOfBoth d c = same_delimiter c.run.delimiter d ≡ true → can_do_both c.run ≡ true
 
 -- what the bounds of one character say about the stack
 pub record BoundCharacter (d : Delimiter) (stack : List Characters) (b : CharacterBounds) : Type 0 where

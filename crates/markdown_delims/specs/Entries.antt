@@ -9,7 +9,7 @@ use Rattle.markdown_delims.specs.declared.marks.Marks.{Marks}
 use Rattle.markdown_delims.specs.declared.run.Delimiter.{Delimiter}
 use Rattle.markdown_delims.specs.declared.run.Run.{Run}
 use Rattle.markdown_delims.specs.declared.run.Characters.{Characters}
-use Rattle.markdown_delims.specs.MarkBodies.{whole_text, layer_of_one, layer_of_two, run_of}
+use Rattle.markdown_delims.specs.MarkBodies.{whole_text, body_of_one, body_of_two, item_run}
 use Rattle.markdown_delims.specs.MayPair.{OpenRun, drop_run, may_take}
 
 -- what was read of a chain: a tree; characters that remain text; or a run that is still open, dropped or not.
@@ -89,12 +89,12 @@ entries_dropped closer es = map (drop_entry closer.delimiter) es
 abbrev pub enclosed : Marks → Delimiter → ℕ → ℕ → ℕ → ℕ → ℕ → Forest Numbered → Entry
 enclosed m d number start top end zero inside = settled (labelled number start end whole_text) inside
 enclosed m d number start top end (suc zero) inside =
-    settled (labelled (number + (top - 1)) (start + (top - 1)) (end + 1) (layer_of_one m d)) inside
+    settled (labelled (number + (top - 1)) (start + (top - 1)) (end + 1) (body_of_one m d)) inside
 enclosed m d number start top end (suc (suc zero)) inside =
-    settled (labelled (number + (top - 2)) (start + (top - 2)) (end + 2) (layer_of_two m d)) inside
+    settled (labelled (number + (top - 2)) (start + (top - 2)) (end + 2) (body_of_two m d)) inside
 enclosed m d number start top end (suc (suc (suc n))) inside =
     enclosed m d number start (top - 2) (end + 2) (suc n)
-    (node (labelled (number + (top - 2)) (start + (top - 2)) (end + 2) (layer_of_two m d)) inside nil)
+    (node (labelled (number + (top - 2)) (start + (top - 2)) (end + 2) (body_of_two m d)) inside nil)
 
 -- the characters of an opener without its last n
 abbrev pub without_last : ℕ → Characters → Characters
@@ -157,7 +157,7 @@ unfoldable pub paired_from : Marks → List ℕ → ℕ → Forest Numbered → 
 paired_from m text skip nil es = es
 paired_from m text (suc skip) (node a below after) es = paired_from m text skip after es
 paired_from m text zero (node a below after) es = after_tree m (λ skip fs. paired_from m text skip after fs)
-    (run_of text a.item) a below es
+    (item_run text a.item) a below es
 
 -- a chain with its runs paired: at its end all open runs become text
 abbrev pub paired : Marks → List ℕ → Forest Numbered → Forest Numbered

@@ -4,8 +4,8 @@ use Rattle.markdown_base.specs.BlockTree.{Numbered}
 use Rattle.markdown_base.specs.Forest.{Forest, nil, node}
 use Rattle.markdown_delims.specs.declared.marks.Marks.{Marks}
 use Rattle.markdown_delims.specs.declared.run.Run.{Run}
-use Rattle.markdown_delims.specs.MarkBodies.{run_of}
-use Rattle.markdown_delims.specs.MayPair.{OpenRun, Found, nearest}
+use Rattle.markdown_delims.specs.MarkBodies.{item_run}
+use Rattle.markdown_delims.specs.MayPair.{OpenRun, Found, nearest_run}
 use Rattle.markdown_delims.specs.Entries.{Entry, settled, open_of, with_run, all_of_run}
 
 -- a search that finds an opener counts one; if the closer has characters left, it searches again with those
@@ -18,7 +18,7 @@ search_finds again count (Some f) =
 unfoldable pub closer_finds : (turns : ℕ) → Run → (count : ℕ) → List OpenRun → ℕ
 closer_finds zero closer count runs = 0
 closer_finds (suc turns) closer count runs =
-    search_finds (λ left others. closer_finds turns closer left others) count (nearest closer runs)
+    search_finds (λ left others. closer_finds turns closer left others) count (nearest_run closer runs)
 
 -- the number of successful searches by `count` characters of a run
 abbrev pub run_finds : Run → (count : ℕ) → List OpenRun → ℕ
@@ -36,4 +36,4 @@ unfoldable pub finds_from : Marks → List ℕ → ℕ → Forest Numbered → L
 finds_from m text skip nil es = 0
 finds_from m text (suc skip) (node a below after) es = finds_from m text skip after es
 finds_from m text zero (node a below after) es =
-    tree_finds m (λ skip fs. finds_from m text skip after fs) (run_of text a.item) a below es
+    tree_finds m (λ skip fs. finds_from m text skip after fs) (item_run text a.item) a below es

@@ -42,8 +42,8 @@ needs_equal_length Tilde = true
 needs_equal_length _ = false
 
 -- a run can both open and close
-abbrev pub both : Run → Bool
-both run = run.can_open && run.can_close
+abbrev pub can_do_both : Run → Bool
+can_do_both run = run.can_open && run.can_close
 
 -- the rule of three, for the lengths of an opener and a closer
 abbrev pub lengths_agree : ℕ → ℕ → Bool
@@ -53,7 +53,7 @@ lengths_agree opener closer = not ((opener + closer) % 3 == 0) || (closer % 3 ==
 abbrev pub may_pair : Run → Run → Bool
 may_pair opener closer =
     same_delimiter opener.delimiter closer.delimiter
-    && ((not (both opener) && not (both closer)) || lengths_agree opener.length closer.length)
+    && ((not (can_do_both opener) && not (can_do_both closer)) || lengths_agree opener.length closer.length)
     && (not (needs_equal_length closer.delimiter) || (opener.length == closer.length))
 
 -- a run that is still open, dropped or not
@@ -71,10 +71,10 @@ pub record Found : Type 0 where
   pub before : List OpenRun
 
 -- the nearest open run that is not dropped and may pair; the nearest comes first in the list
-abbrev pub nearest : Run → List OpenRun → Option Found
-nearest closer [] = None
-nearest closer (r ∷ rs) = if may_take closer r then Some (record { opener = r.opener; before = rs })
-    else nearest closer rs
+abbrev pub nearest_run : Run → List OpenRun → Option Found
+nearest_run closer [] = None
+nearest_run closer (r ∷ rs) = if may_take closer r then Some (record { opener = r.opener; before = rs })
+    else nearest_run closer rs
 
 -- an open run after a failed search by a closer of this character
 abbrev pub drop_run : Delimiter → OpenRun → OpenRun

@@ -8,14 +8,14 @@ use Rattle.markdown_base.specs.Item.{is_block, is_open}
 use Rattle.markdown_document.specs.Tables.{Tables, Named}
 use Rattle.markdown_base.specs.declared.item.Item.{Item}
 use Rattle.markdown_base.specs.declared.node.Node.{Node}
-use Rattle.markdown_document.specs.ItemRules.{StandsBefore}
+use Rattle.markdown_document.specs.ItemRules.{ComesBefore}
 use Rattle.markdown_document.specs.Places.{IsPlaced, IsSameAt, trees_from}
 use Rattle.markdown_document.specs.Setting.{Setting}
 use Rattle.markdown_document.specs.Stages.{times_in, named_in, weight_in}
 use Rattle.markdown_document.specs.Waiting.{waits_for_pairing}
 use Rattle.markdown_delims.specs.ChainForest.{RisesFrom}
 use Rattle.markdown_delims.specs.Pairing.{paired}
-use Rattle.markdown_delims.specs.RunReading.{IsWhole}
+use Rattle.markdown_delims.specs.RunReading.{HasWholeRuns}
 
 -- each open item of a chain waits for pairing
 abbrev pub WaitsForPairing : Forest Numbered → Type 0
@@ -34,7 +34,7 @@ pub record CanPair (text : List ℕ) (nodes : List (Node Item)) (first : ℕ) : 
   pub spelled : Spells (links_of nodes) (Some first) (forest_at (links_of nodes) (Some first))
   pub once : (n : ℕ) → times_in nodes (Some first) n ≤ 1
   pub rising : RisesFrom 0 (roots (forest_at (links_of nodes) (Some first)))
-  pub whole : IsWhole text (trees_at nodes (Some first))
+  pub whole : HasWholeRuns text (trees_at nodes (Some first))
   pub waits : WaitsForPairing (trees_at nodes (Some first))
 
 -- the chain from `first` on was paired in place
@@ -53,7 +53,7 @@ pub record PairsChain (s : Setting) (first : ℕ) (old new : List (Node Item)) :
   pub placed : (tables : Tables) → HasNoBlock (trees_at old (Some first))
       → Reaches (links_of old) (IsPlaced s.text tables old) (Some first)
       → Reaches (links_of new) (IsPlaced s.text tables new) (Some first)
-  pub before : (a : Numbered) → StandsBefore a (Some (numbered old first)) → StandsBefore a (Some (numbered new first))
+  pub before : (a : Numbered) → ComesBefore a (Some (numbered old first)) → ComesBefore a (Some (numbered new first))
   -- no entry is referred to more often, and its weight is not greater
   pub named : (n : Named) → named_in new (Some first) n ≤ named_in old (Some first) n
   pub no_heavier : weight_in new (Some first) ≤ weight_in old (Some first)

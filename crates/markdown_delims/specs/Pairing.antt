@@ -15,7 +15,7 @@ use Rattle.markdown_delims.specs.Quotes.{with_quotes}
 -- what was read of a chain: a tree; or a run that is still open, dropped or not, with its characters that are not
 -- paired, the last one first
 pub data Read (A : Type 0) : Type 0 where
-  done : Label A → Forest (Label A) → Read A
+  done_read : Label A → Forest (Label A) → Read A
   waiting : (dropped : Bool) → Run → List (Label A) → Read A
 
 -- characters that remain text, the last one first, before a chain: each is a tree of its own
@@ -24,14 +24,14 @@ texts_before [] chain = chain
 texts_before (x ∷ xs) chain = texts_before xs (node x nil chain)
 
 -- the characters as trees that were read, before what was read already: they no longer open
-abbrev pub all_done : {A : Type 0} → List (Label A) → List (Read A) → List (Read A)
-all_done [] rs = rs
-all_done (x ∷ xs) rs = done x nil ∷ all_done xs rs
+abbrev pub characters_done : {A : Type 0} → List (Label A) → List (Read A) → List (Read A)
+characters_done [] rs = rs
+characters_done (x ∷ xs) rs = done_read x nil ∷ characters_done xs rs
 
 -- the chain that was read, the nearest tree first, followed by another chain; a run that is still open becomes text
 abbrev pub read_trees : {A : Type 0} → List (Read A) → Forest (Label A) → Forest (Label A)
 read_trees [] after = after
-read_trees (done a below ∷ rs) after = read_trees rs (node a below after)
+read_trees (done_read a below ∷ rs) after = read_trees rs (node a below after)
 read_trees (waiting dropped run xs ∷ rs) after = read_trees rs (texts_before xs after)
 
 -- an opener that was found, with what lies between it and its closer, and what precedes it
@@ -49,14 +49,14 @@ found_if false found further = further
 -- the nearest open run that is not dropped and may pair; `inside` is what the search has passed already
 abbrev pub nearest_opener : {A : Type 0} → Run → List (Read A) → Forest (Label A) → Option (FoundOpener A)
 nearest_opener closer [] inside = None
-nearest_opener closer (done a below ∷ rs) inside = nearest_opener closer rs (node a below inside)
+nearest_opener closer (done_read a below ∷ rs) inside = nearest_opener closer rs (node a below inside)
 nearest_opener closer (waiting dropped run xs ∷ rs) inside =
     found_if (not dropped && may_pair run closer) (record { inside = inside; run = run; characters = xs; before = rs })
     (nearest_opener closer rs (texts_before xs inside))
 
 -- a part of what was read, after a failed search by a closer of this character
 abbrev pub drop_read : {A : Type 0} → Delimiter → Read A → Read A
-drop_read d (done a below) = done a below
+drop_read d (done_read a below) = done_read a below
 drop_read d (waiting dropped run xs) = waiting (dropped || drops d run.delimiter) run xs
 
 -- layers around a chain, and the characters of the opener and of the closer that are left
@@ -86,7 +86,7 @@ layers s d (x ∷ y ∷ xs) (v ∷ w ∷ vs) inside =
 -- the trees of a chain, added to what was read
 abbrev pub trees_done : {A : Type 0} → Forest (Label A) → List (Read A) → List (Read A)
 trees_done nil rs = rs
-trees_done (node a below after) rs = trees_done after (done a below ∷ rs)
+trees_done (node a below after) rs = trees_done after (done_read a below ∷ rs)
 
 -- the opener's characters that did not pair stay open
 abbrev pub still_waiting : {A : Type 0} → Run → List (Label A) → List (Read A) → List (Read A)
@@ -101,7 +101,7 @@ last_first (x ∷ xs) others = last_first xs (x ∷ others)
 -- characters that cannot close, or whose search failed, open if they can, and otherwise become text
 abbrev pub opened_if : {A : Type 0} → (opens : Bool) → Run → List (Label A) → List (Read A) → List (Read A)
 opened_if true run xs rs = waiting false run xs ∷ rs
-opened_if false run xs rs = all_done xs rs
+opened_if false run xs rs = characters_done xs rs
 
 -- what is left of a run that closes nothing more: it opens if it can
 abbrev pub left_over : {A : Type 0} → Run → List (Label A) → List (Read A) → List (Read A)
@@ -143,7 +143,7 @@ first_texts source (suc n) (node a below after) = as_text source a ∷ first_tex
 -- a Text
 abbrev pub after_tree : {A : Type 0} → Setting → (go_on : ℕ → List (Read A) → List (Read A)) → Label A
     → (below after : Forest (Label A)) → List (Read A) → Option Run → List (Read A)
-after_tree s go_on a below after rs None = go_on 0 (done (as_closed s.text a) below ∷ rs)
+after_tree s go_on a below after rs None = go_on 0 (done_read (as_closed s.text a) below ∷ rs)
 after_tree s go_on a below after rs (Some run) =
     go_on (run.length - 1) (run_read s run.can_close run (first_texts s.text run.length (node a below after)) rs)
 

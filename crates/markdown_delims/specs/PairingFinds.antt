@@ -6,7 +6,7 @@ use Rattle.markdown_document.specs.Setting.{Setting}
 use Rattle.markdown_document.specs.Waiting.{as_closed}
 use Rattle.markdown_delims.specs.declared.run.Run.{Run}
 use Rattle.markdown_delims.specs.Layers.{run_of}
-use Rattle.markdown_delims.specs.Pairing.{Read, done, FoundOpener, nearest_opener, layers, after_layers}
+use Rattle.markdown_delims.specs.Pairing.{Read, done_read, FoundOpener, nearest_opener, layers, after_layers}
 use Rattle.markdown_delims.specs.Pairing.{run_read, first_texts}
 use Rattle.markdown_delims.specs.Quotes.{with_quotes}
 
@@ -33,7 +33,7 @@ run_finds s false run vs rs = 0
 -- the number of successful searches from a tree on, which may begin a run
 abbrev pub tree_finds : {A : Type 0} → Setting → (go_on : ℕ → List (Read A) → ℕ) → Label A
     → (below after : Forest (Label A)) → List (Read A) → Option Run → ℕ
-tree_finds s go_on a below after rs None = go_on 0 (done (as_closed s.text a) below ∷ rs)
+tree_finds s go_on a below after rs None = go_on 0 (done_read (as_closed s.text a) below ∷ rs)
 tree_finds s go_on a below after rs (Some run) =
     run_finds s run.can_close run (first_texts s.text run.length (node a below after)) rs
     + go_on (run.length - 1) (run_read s run.can_close run (first_texts s.text run.length (node a below after)) rs)

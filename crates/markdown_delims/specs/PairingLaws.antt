@@ -8,7 +8,7 @@ use Rattle.markdown_document.specs.Setting.{Setting}
 use Rattle.markdown_delims.specs.declared.run.Run.{Run}
 use Rattle.markdown_delims.specs.Layers.{run_of}
 use Rattle.markdown_delims.specs.MayPair.{is_tilde_or_caret, may_pair}
-use Rattle.markdown_delims.specs.Pairing.{Read, done, waiting, nearest_opener, paired}
+use Rattle.markdown_delims.specs.Pairing.{Read, done_read, waiting, nearest_opener, paired}
 
 -- no tree of a chain is open
 abbrev pub NothingOpen : {A : Type 0} → Forest (Label A) → Type 0
@@ -21,13 +21,13 @@ below_trees change nil = nil
 below_trees change (node a below after) = node a (change below) (below_trees change after)
 
 -- pairing leaves nothing of its chain open
-abbrev pub ClosedLaw : Type 0 → Type 0
-ClosedLaw A = (s : Setting) (chain : Forest (Label A)) → NothingOpen (paired s chain)
+abbrev pub PairingClosedLaw : Type 0 → Type 0
+PairingClosedLaw A = (s : Setting) (chain : Forest (Label A)) → NothingOpen (paired s chain)
 
 -- a chain and the chains below it may be resolved in either order, if a change of a chain in which nothing is open
 -- changes only what is below its trees
-abbrev pub OrderLaw : Type 0 → Type 0
-OrderLaw A =
+abbrev pub PairingOrderLaw : Type 0 → Type 0
+PairingOrderLaw A =
     (s : Setting) (change : Forest (Label A) → Forest (Label A)) → change nil ≡ nil
     → ((f : Forest (Label A)) → NothingOpen f → change f ≡ below_trees change f)
     → (chain : Forest (Label A)) → paired s (below_trees change chain) ≡ below_trees change (paired s chain)
@@ -41,7 +41,7 @@ JoinsLaw A =
 -- no open run that is not dropped may pair with a closer
 abbrev pub NonePairs : {A : Type 0} → Run → List (Read A) → Type 0
 NonePairs closer [] = ⊤
-NonePairs closer (done a below ∷ rs) = NonePairs closer rs
+NonePairs closer (done_read a below ∷ rs) = NonePairs closer rs
 NonePairs closer (waiting dropped run xs ∷ rs) = (dropped ≡ false → may_pair run closer ≡ false) × NonePairs closer rs
 
 -- no open run that is not dropped may pair with a closer whose search finds nothing
@@ -80,8 +80,8 @@ with_runs s zero before (node a below after) =
     node (retag (λ _. here) a) (retagged no_run below) (with_runs s (further here) here after)
 
 -- a chain without its tags
-abbrev pub untagged : {A : Type 0} → Forest (Label A) → Forest Plain
-untagged chain = retagged (λ _. tt) chain
+abbrev pub without_tags : {A : Type 0} → Forest (Label A) → Forest Plain
+without_tags chain = retagged (λ _. tt) chain
 
 -- the run of a tree that is a character that remained text
 abbrev pub run_if_text : Shape → Option RunAt → Option RunAt
@@ -114,7 +114,7 @@ abbrev pub NoneMissedLaw : Type 0 → Type 0
 NoneMissedLaw A =
     (s : Setting) (chain : Forest (Label A))
     → NoneMissed (paired s (with_runs s 0 None chain))
-    × (untagged (paired s (with_runs s 0 None chain)) ≡ untagged (paired s chain))
+    × (without_tags (paired s (with_runs s 0 None chain)) ≡ without_tags (paired s chain))
 
 -- each label that is made has the block of a label of the chain, and is not open: so a test that such labels pass holds
 -- for each label at every depth, if it held before
@@ -127,16 +127,16 @@ KeepsLaw A =
     → Each (λ a. passes a ≡ true) chain → Each (λ a. passes a ≡ true) (paired s chain)
 
 -- a chain whose first tree reads as more than what is below it begins with an event once it is paired
-abbrev pub BeginsLaw : Type 0 → Type 0
-BeginsLaw A =
+abbrev pub PairingBeginsLaw : Type 0 → Type 0
+PairingBeginsLaw A =
     (s : Setting) (a : Label A) (below after : Forest (Label A)) → is_plain a.part.shape ≡ false
     → Begins (paired s (node a below after))
 
 -- pairing does not increase the weight of a chain
-abbrev pub WeightLaw : Type 0 → Type 0
-WeightLaw A = (s : Setting) (chain : Forest (Label A)) → weight (paired s chain) ≤ weight chain
+abbrev pub PairingWeightLaw : Type 0 → Type 0
+PairingWeightLaw A = (s : Setting) (chain : Forest (Label A)) → weight (paired s chain) ≤ weight chain
 
 -- pairing does not depend on tags
-abbrev pub TagLaw : Type 0 → Type 0 → Type 0
-TagLaw A B =
+abbrev pub PairingTagLaw : Type 0 → Type 0 → Type 0
+PairingTagLaw A B =
     (f : A → B) (s : Setting) (chain : Forest (Label A)) → paired s (retagged f chain) ≡ retagged f (paired s chain)

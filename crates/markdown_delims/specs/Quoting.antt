@@ -8,7 +8,7 @@ use Rattle.markdown_base.specs.ArenaForest.{links_of, Spells}
 use Rattle.markdown_base.specs.BlockTree.{Numbered, item_at}
 use Rattle.markdown_base.specs.Forest.{Forest, nil, node, roots}
 use Rattle.markdown_delims.specs.declared.quotes.Kind.{Kind}
-use Rattle.markdown_delims.specs.ChainForest.{RisesFrom, among, NoneBelow, chain_of}
+use Rattle.markdown_delims.specs.ChainForest.{RisesFrom, is_among, NoneBelow, chain_of}
 use Rattle.markdown_delims.specs.declared.marks.Marks.{Marks}
 use Rattle.markdown_delims.specs.Entries.{read_back, paired}
 use Rattle.markdown_delims.specs.Enclosing.{AllTouched}
@@ -81,13 +81,13 @@ pub record CanQuote (ix : ℕ) (s : Arena Item) (single : Option ℕ) : Type 0 w
 pub record IsSpelled (nodes : List (Node Item)) (first : ℕ) (f : Forest ℕ) : Type 0 where
   pub spelled : Spells (links_of nodes) (Some first) f
   pub rising : RisesFrom 0 (roots f)
-  pub apart : NoneBelow (among (roots f)) f
+  pub apart : NoneBelow (is_among (roots f)) f
 
 -- the links still lead through the same nodes, with their quotes replaced, and no other node has changed
 pub record IsQuoted (s t : Arena Item) (first : ℕ) (f : Forest ℕ) : Type 0 where
   pub spelled : Spells (links_of t.nodes) (Some first) f
   pub quotes : chain_of t.nodes f ≡ quoted (chain_of s.nodes f)
-  pub kept : Kept (among (roots f)) s t
+  pub kept : Kept (is_among (roots f)) s t
 
 -- the links from `first` on now lead through the chain with its quotes, its last break and its runs resolved: some of
 -- its nodes, in their order; and no other node has changed
@@ -96,4 +96,4 @@ pub record IsResolved (m : Marks) (text : List ℕ) (s t : Arena Item) (first : 
   pub spelled : Spells (links_of t.nodes) (Some first) forest
   pub resolves : chain_of t.nodes forest ≡ paired m text (quoted (chain_of s.nodes f))
   pub rising : RisesFrom 0 (roots forest)
-  pub kept : Kept (among (roots f)) s t
+  pub kept : Kept (is_among (roots f)) s t

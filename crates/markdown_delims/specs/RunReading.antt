@@ -20,10 +20,10 @@ pub record StandsWhole (text : List ℕ) (a : Numbered) (below after : Forest Nu
   pub childless : below ≡ nil
 
 -- each run of a chain is whole. Chains at greater depth are not restricted.
-abbrev pub IsWhole : List ℕ → Forest Numbered → Type 0
-IsWhole text nil = Unit {0}
-IsWhole text (node a below after) = IfSome (run_character a.item.body) (StandsWhole text a below after)
-    × IsWhole text after
+abbrev pub HasWholeRuns : List ℕ → Forest Numbered → Type 0
+HasWholeRuns text nil = Unit {0}
+HasWholeRuns text (node a below after) = IfSome (run_character a.item.body) (StandsWhole text a below after)
+    × HasWholeRuns text after
 
 -- a chain begins with n nodes of consecutive numbers without children, which the rest follows
 abbrev pub BeginsRun : ℕ → ℕ → Forest Numbered → Forest Numbered → Type 0
@@ -43,7 +43,7 @@ delimiters_of nil = 0
 delimiters_of (node a below after) = counts_one (run_character a.item.body) + delimiters_of after
 
 -- the next n characters of the chain became Texts
-pub record IsSettled (h : Chain) (s t : Arena Item) (es : List Entry) (number start n : ℕ) (last : Option ℕ)
+pub record SettlesRun (h : Chain) (s t : Arena Item) (es : List Entry) (number start n : ℕ) (last : Option ℕ)
     (rest : Forest Numbered) : Type 0 where
   pub stands : Stands h t es last (Some number) (characters number start n rest)
   pub kept : Kept h.touched s t
@@ -53,7 +53,7 @@ abbrev pub Settles : ℕ → ℕ → ℕ → Arena Item → Arena Item → Type 
 Settles number start n s t =
     (h : Chain) (es : List Entry) (last : Option ℕ) (chain rest : Forest Numbered)
     → Stands h s es last (Some number) chain → BeginsRun number n chain rest
-    → IsSettled h s t es number start n last rest
+    → SettlesRun h s t es number start n last rest
 
 -- there are n such nodes
 pub record CanSettle (number n : ℕ) (s : Arena Item) : Type 0 where
@@ -71,24 +71,24 @@ pub record ReadFurther (m : Marks) (text : List ℕ) (h : Chain) (s t : Arena It
   pub es : List Entry
   pub rest : Forest Numbered
   pub is_read : IsRead h s t es new.runs last' l rest
-  pub whole : IsWhole text rest
+  pub whole : HasWholeRuns text rest
   pub same : paired_from m text 0 rest es ≡ paired_from m text 0 chain begun
   pub paid : new.potential + comparisons_per_delimiter * delimiters_of rest ≤ old.potential + comparisons_per_delimiter * delimiters_of chain
   pub found : old.examined + finds_from m text 0 chain begun ≤ new.examined + finds_from m text 0 rest es
   pub further : Rises h.touched from rest h.bound
 
 -- a tree is read: the first of the rest, or all characters of a run
-abbrev pub ReadsTree : Marks → List ℕ → ℕ → Option ℕ → Arena Item → Arena Item → Openers → Openers → Option ℕ → Option ℕ
+abbrev pub ReadsTreeAt : Marks → List ℕ → ℕ → Option ℕ → Arena Item → Arena Item → Openers → Openers → Option ℕ → Option ℕ
     → Type 0
-ReadsTree m text ix last s t old new last' l =
-    (h : Chain) (es : List Entry) (chain : Forest Numbered) → Stands h s es last (Some ix) chain → IsWhole text chain
+ReadsTreeAt m text ix last s t old new last' l =
+    (h : Chain) (es : List Entry) (chain : Forest Numbered) → Stands h s es last (Some ix) chain → HasWholeRuns text chain
     → old.runs ≡ open_of es
     → ReadFurther m text h s t es chain old new last' l (suc ix)
 
 -- memory was refused: no more comparisons were made than the delimiter characters of the rest allow
 abbrev pub PaysForTree : List ℕ → ℕ → Option ℕ → Arena Item → Openers → Openers → Type 0
 PaysForTree text ix last s old new =
-    (h : Chain) (es : List Entry) (chain : Forest Numbered) → Stands h s es last (Some ix) chain → IsWhole text chain
+    (h : Chain) (es : List Entry) (chain : Forest Numbered) → Stands h s es last (Some ix) chain → HasWholeRuns text chain
     → new.potential ≤ old.potential + comparisons_per_delimiter * delimiters_of chain
 
 -- there is such a tree
@@ -98,6 +98,6 @@ pub record CanReadTree (text : List ℕ) (ix : ℕ) (last : Option ℕ) (s : Are
   pub es : List Entry
   pub rest : Forest Numbered
   pub stands : Stands chain s es last (Some ix) rest
-  pub whole : IsWhole text rest
+  pub whole : HasWholeRuns text rest
   pub runs_are : runs ≡ open_of es
   pub room : cost + comparisons_per_delimiter * delimiters_of rest < 2 ^ 128

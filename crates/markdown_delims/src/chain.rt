@@ -10,7 +10,7 @@ ghost use Rattle.markdown_delims.specs.EntryFinds.{finds_from};
 ghost use Rattle.markdown_delims.specs.PairingFinds.{finds_in};
 ghost use Rattle.markdown_delims.specs.RunReading.{counts_one, delimiters_of};
 ghost use Rattle.markdown_delims.specs.Quoting.{IsSpelled};
-ghost use Rattle.markdown_delims.specs.ChainForest.{IsChain, IsPaired, IsEmptied, CanPairAll, chain_of};
+ghost use Rattle.markdown_delims.specs.ChainForest.{IsChainAt, IsPaired, IsEmptied, CanPairAll, chain_of};
 ghost use Rattle.markdown_delims.specs.PairedChain.{CanPair, PairsChain, ExaminesAtMost};
 ghost use Rattle.markdown_document.specs.Counts.{RisesAtLeast, comparisons_per_delimiter};
 
@@ -65,13 +65,13 @@ fn pair_runs(
 ) -> Result<(), AllocError>
     requires emptied { IsEmptied openers.old }
     requires chain { CanPairAll text.now tree.old.nodes first openers.old }
-    ensures pairs { OnOk result ((f : Forest ℕ) → IsChain text.now tree.old.nodes first f
+    ensures pairs { OnOk result ((f : Forest ℕ) → IsChainAt text.now tree.old.nodes first f
         → IsPaired marks text.now tree.old tree.new first f) }
-    ensures found { OnOk result ((f : Forest ℕ) → IsChain text.now tree.old.nodes first f
+    ensures found { OnOk result ((f : Forest ℕ) → IsChainAt text.now tree.old.nodes first f
         → openers.old.examined + finds_from marks text.now 0 (chain_of tree.old.nodes f) [] ≤ openers.new.examined) }
 
     // whatever comes
-    ensures paid { (f : Forest ℕ) → IsChain text.now tree.old.nodes first f
+    ensures paid { (f : Forest ℕ) → IsChainAt text.now tree.old.nodes first f
         → openers.new.potential ≤ openers.old.potential + comparisons_per_delimiter * delimiters_of (chain_of tree.old.nodes f) }
 {
     let mut last = None;

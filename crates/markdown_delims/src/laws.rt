@@ -2,17 +2,17 @@
 ghost use Rattle.std.specs.Prelude.{ℕ, ⊤};
 ghost use Rattle.markdown_delims.specs.JoinedRuns.{JoinedLaw};
 ghost use Rattle.markdown_delims.specs.NestedPairs.{NestLaw};
-ghost use Rattle.markdown_delims.specs.PairingLaws.{ClosedLaw, OrderLaw, JoinsLaw, MissesNoneLaw, NoneMissedLaw};
-ghost use Rattle.markdown_delims.specs.PairingLaws.{KeepsLaw, BeginsLaw, WeightLaw, TagLaw};
+ghost use Rattle.markdown_delims.specs.PairingLaws.{PairingClosedLaw, PairingOrderLaw, JoinsLaw, MissesNoneLaw, NoneMissedLaw};
+ghost use Rattle.markdown_delims.specs.PairingLaws.{KeepsLaw, PairingBeginsLaw, PairingWeightLaw, PairingTagLaw};
 
 /// States that pairing leaves nothing of its chain open.
 pub fn pairing_leaves_nothing_open()
-    ensures { ClosedLaw ℕ × ClosedLaw ⊤ }
+    ensures { PairingClosedLaw ℕ × PairingClosedLaw ⊤ }
 {}
 
 /// States that a chain and the chains below it may be resolved in either order.
 pub fn order_of_chains_is_free()
-    ensures { OrderLaw ℕ × OrderLaw ⊤ }
+    ensures { PairingOrderLaw ℕ × PairingOrderLaw ⊤ }
 {}
 
 /// States that a closer pairs only with a run with which it may pair.
@@ -48,15 +48,15 @@ pub fn pairing_keeps_blocks()
 
 /// States that a chain whose first tree reads as more than what is below it begins with an event once it is paired.
 pub fn paired_chain_begins()
-    ensures { BeginsLaw ℕ × BeginsLaw ⊤ }
+    ensures { PairingBeginsLaw ℕ × PairingBeginsLaw ⊤ }
 {}
 
 /// States that pairing does not increase the weight of a chain.
 pub fn paired_chain_is_no_heavier()
-    ensures { WeightLaw ℕ × WeightLaw ⊤ }
+    ensures { PairingWeightLaw ℕ × PairingWeightLaw ⊤ }
 {}
 
 /// States that pairing does not depend on the numbers of nodes.
 pub fn tags_say_nothing()
-    ensures { TagLaw ℕ ⊤ }
+    ensures { PairingTagLaw ℕ ⊤ }
 {}

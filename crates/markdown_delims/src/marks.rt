@@ -1,6 +1,6 @@
 //! What paired characters become, by the enabled marks.
 ghost use Rattle.std.specs.Prelude.{◌≡◌};
-ghost use Rattle.markdown_delims.specs.MarkBodies.{layer_of_one, layer_of_two, run_of};
+ghost use Rattle.markdown_delims.specs.MarkBodies.{body_of_one, body_of_two, item_run};
 ghost use Rattle.markdown_delims.specs.MayPair.{delimiter_of};
 
 use crate::run::{Delimiter, Run};
@@ -31,7 +31,7 @@ impl Marks {
 
     /// Returns the body of a layer of two characters.
     pub fn layer_of_two(self, delimiter: Delimiter) -> ItemBody
-        ensures { result ≡ layer_of_two self delimiter }
+        ensures { result ≡ body_of_two self delimiter }
     {
         let whole_text = ItemBody::Text {
             backslash_escaped: false,
@@ -53,7 +53,7 @@ impl Marks {
 
     /// Returns the body of a layer of one character.
     pub fn layer_of_one(self, delimiter: Delimiter) -> ItemBody
-        ensures { result ≡ layer_of_one self delimiter }
+        ensures { result ≡ body_of_one self delimiter }
     {
         let whole_text = ItemBody::Text {
             backslash_escaped: false,
@@ -93,7 +93,7 @@ pub fn delimiter_of(byte: u8) -> Option<Delimiter>
 
 /// Returns the delimiter run that an item's character begins; `None` if the item is not a character of a run.
 pub fn run_of(text: &[u8], item: Item) -> Option<Run>
-    ensures { result ≡ run_of text.now item }
+    ensures { result ≡ item_run text.now item }
 {
     match item.body {
         ItemBody::MaybeEmphasis(length, can_open, can_close) => {

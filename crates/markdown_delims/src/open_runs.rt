@@ -2,7 +2,7 @@
 ghost use Rattle.std.specs.Prelude.{false, ◌≡◌, ℕ, ◌+◌, ◌^◌, ◌<◌, ◌≤◌, [], ◌∷◌, IfSome, IfNone, OnOk, OnErr};
 ghost use Rattle.std.specs.Prelude.{slice_index_or, vec_len};
 ghost use Rattle.markdown_document.specs.Counts.{comparisons_per_delimiter};
-ghost use Rattle.markdown_delims.specs.MayPair.{may_pair, nearest, dropped_by};
+ghost use Rattle.markdown_delims.specs.MayPair.{may_pair, nearest_run, dropped_by};
 ghost use Rattle.markdown_delims.specs.declared.run.Characters.{Characters as CharactersValue};
 
 use crate::bounds::LowerBounds;
@@ -99,9 +99,9 @@ impl OpenRuns {
     /// Removes the nearest open run with which a closer may pair, and all nearer ones, and returns that run. If there
     /// is none, returns `None`, and the open runs that the closer drops are dropped.
     pub fn take_nearest(&mut self, closer: &Run) -> Option<Characters>
-        ensures found { IfSome result (λ opener. nearest closer.now self.old.runs
+        ensures found { IfSome result (λ opener. nearest_run closer.now self.old.runs
             ≡ Some (record { opener = opener; before = self.new.runs })) }
-        ensures missed { IfNone result ((nearest closer.now self.old.runs ≡ None)
+        ensures missed { IfNone result ((nearest_run closer.now self.old.runs ≡ None)
             × (self.new.runs ≡ dropped_by closer.now self.old.runs)) }
         ensures some { IfSome result (λ opener. 0 < opener.count) }
         ensures counted { IfSome result (λ _. self.old.examined < self.new.examined) }

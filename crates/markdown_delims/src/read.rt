@@ -1,6 +1,6 @@
 //! Reading a chain, tree by tree.
 ghost use Rattle.std.specs.Prelude.{◌≡◌, ◌+◌, ◌*◌, ◌^◌, ◌<◌, ◌≤◌, List, IfErr, IfOk};
-ghost use Rattle.markdown_delims.specs.RunReading.{CanSettle, Settles, CanReadTree, PaysForTree, ReadsTree};
+ghost use Rattle.markdown_delims.specs.RunReading.{CanSettle, Settles, CanReadTree, PaysForTree, ReadsTreeAt};
 
 use crate::close::read_run;
 use crate::marks::{Marks, run_of};
@@ -46,7 +46,7 @@ pub fn read_tree(
     last: Option<usize>,
 ) -> Result<(Option<usize>, Option<usize>), AllocError>
     requires stands { CanReadTree text.now ix last tree.old openers.old.runs openers.old.potential }
-    ensures ok { IfOk result (λ r. ReadsTree marks text.now ix last tree.old tree.new openers.old openers.new r.0 r.1) }
+    ensures ok { IfOk result (λ r. ReadsTreeAt marks text.now ix last tree.old tree.new openers.old openers.new r.0 r.1) }
     ensures paid { IfErr result (λ _. PaysForTree text.now ix last tree.old openers.old openers.new) }
 {
     // bounds the byte offsets

@@ -1,6 +1,6 @@
 //! Delimiter runs (CommonMark 6.2), and their characters that are not paired yet.
 ghost use Rattle.std.specs.Prelude.{◌≡◌};
-ghost use Rattle.markdown_delims.specs.MayPair.{may_pair, both, same_delimiter};
+ghost use Rattle.markdown_delims.specs.MayPair.{may_pair, can_do_both, same_delimiter};
 
 #[derive(Clone, Copy)]
 pub enum Delimiter {
@@ -43,7 +43,7 @@ impl Delimiter {
 
 impl Run {
     pub fn is_both(&self) -> bool
-        ensures { result ≡ both self.now }
+        ensures { result ≡ can_do_both self.now }
     {
         self.can_open && self.can_close
     }

@@ -5,7 +5,7 @@ use Rattle.markdown_base.specs.Item.{is_open}
 use Rattle.markdown_base.specs.WellFormed.{StandsOverMarkup, run_character, source_of}
 use Rattle.markdown_base.specs.declared.item.ItemBody.{ItemBody}
 use Rattle.markdown_base.specs.declared.item.ItemBody.TheVariants as body
-use Rattle.markdown_document.specs.ItemRules.{StandsBefore, KeepsItemRules}
+use Rattle.markdown_document.specs.ItemRules.{ComesBefore, KeepsItemRules}
 
 -- what is not open is not a character of a delimiter run, and needs no markup
 run-closed : (b : ItemBody) → is_open b ≡ false → run_character b ≡ None
@@ -24,7 +24,7 @@ markup-closed source other h = tt
 
 -- so it keeps the rules wherever it precedes what follows it
 pub keeps-closed : (text : List ℕ) (a : Numbered) (child : Option ℕ) (next : Option Numbered) → is_open a.item.body ≡ false
-    → StandsBefore a next → KeepsItemRules text a child next
+    → ComesBefore a next → KeepsItemRules text a child next
 keeps-closed text a child next h before = record {
   in_order = before;
   markup_is_there = markup-closed (source_of text a.item) a.item.body h;

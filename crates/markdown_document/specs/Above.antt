@@ -21,9 +21,9 @@ abbrev pub no_blocks : List ℕ → Above
 no_blocks source = record { block_end = length source; in_table = false; bodies = [] }
 
 -- inside a tree over a range: only a block counts, and not inline markup such as a link or emphasis
-abbrev pub inside : Option ItemBody → Range ℕ → Above → Above
-inside None range above = above
-inside (Some block) range above = record {
+abbrev pub inside_block : Option ItemBody → Range ℕ → Above → Above
+inside_block None range above = above
+inside_block (Some block) range above = record {
   block_end = range.end;
   in_table = is_table_cell block;
   bodies = above.bodies ++ block ∷ [];
@@ -31,11 +31,11 @@ inside (Some block) range above = record {
 
 -- the blocks above the children of a label
 abbrev pub inside_label : {A : Type 0} → Label A → Above → Above
-inside_label a above = inside a.part.block a.part.range above
+inside_label a above = inside_block a.part.block a.part.range above
 
 -- the blocks above the children of an item
 abbrev pub inside_item : Item → Above → Above
-inside_item item above = inside (block_of item.body) (range_of item) above
+inside_item item above = inside_block (block_of item.body) (range_of item) above
 
 -- the blocks above the children of the last node of a spine, which has the outermost node first
 abbrev pub inside_all : List (Node Item) → List ℕ → Above → Above

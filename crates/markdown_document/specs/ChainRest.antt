@@ -18,9 +18,9 @@ abbrev pub end_of : {A : Type 0} → Label A → ℕ
 end_of a = a.part.range.end
 
 -- one chain after another
-abbrev pub joined : {A : Type 0} → Forest A → Forest A → Forest A
-joined nil others = others
-joined (node a below after) others = node a below (joined after others)
+abbrev pub joined_chains : {A : Type 0} → Forest A → Forest A → Forest A
+joined_chains nil others = others
+joined_chains (node a below after) others = node a below (joined_chains after others)
 
 -- the body of a shape as the rules read it: what is not open counts as a Text
 abbrev pub open_body : Shape → ItemBody

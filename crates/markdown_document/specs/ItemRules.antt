@@ -9,12 +9,12 @@ use Rattle.markdown_base.specs.OneWay.{StandsOverMarkup-prop, StandsInRun-prop}
 use Rattle.markdown_base.specs.WellFormed.{Precedes, MarkupIsThere, RunsAreWhole, source_of}
 
 -- of two neighbours that are not blocks, the first precedes the second, in the text and by its number
-abbrev pub StandsBefore : Numbered → Option Numbered → Type 0
-StandsBefore a next = IfSome next (λ b. is_block a.item.body ≡ false → is_block b.item.body ≡ false → Precedes a b)
+abbrev pub ComesBefore : Numbered → Option Numbered → Type 0
+ComesBefore a next = IfSome next (λ b. is_block a.item.body ≡ false → is_block b.item.body ≡ false → Precedes a b)
 
 -- the rules of an item, with its first child and the item after it
 pub record KeepsItemRules (text : List ℕ) (a : Numbered) (child : Option ℕ) (next : Option Numbered) : Type 0 where
-  pub in_order : StandsBefore a next
+  pub in_order : ComesBefore a next
   pub markup_is_there : MarkupIsThere text a.item
   pub runs_are_whole : RunsAreWhole text a next
   -- an open item has no children

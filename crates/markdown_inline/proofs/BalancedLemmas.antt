@@ -1,7 +1,7 @@
 -- The events of a forest in which no leaf is a Start or an End are balanced.
 use Rattle.std.proofs.Common.{◌≡◌, ℕ, List, [], ◌∷◌, ◌++◌, refl, sym, subst, append_assoc, append-nil, arith}
 use Rattle.std.specs.declared.ops.Range.{Range}
-use Rattle.markdown_base.specs.Event.{EventView, start, end, end_of}
+use Rattle.markdown_base.specs.Event.{EventView, start, end, tag_end}
 use Rattle.markdown_base.specs.Forest.{Forest, nil, node}
 use Rattle.markdown_document.specs.Document.{Shape, leaf, enclosed, plain, backslash_break, unresolved, Label}
 use Rattle.markdown_delims.proofs.SumLemmas.{sum_of}
@@ -27,8 +27,8 @@ goes_on : (shape : Shape) (range : Range ℕ) (es fs : List Ranged) → total (a
 goes_on (leaf e origins) range es fs lone inside after awaited rest h =
     lone_turn e range awaited (λ awaited. AreBalancedFrom awaited (fs ++ rest)) lone (after awaited rest h)
 goes_on (enclosed tag) range es fs lone inside after awaited rest h =
-    subst (λ xs. AreBalancedFrom ((end_of tag, range) ∷ awaited) xs) (sym (append_assoc es ((end (end_of tag), range) ∷ fs) rest))
-    (inside ((end_of tag, range) ∷ awaited) ((end (end_of tag), range) ∷ (fs ++ rest)) (refl, refl, after awaited rest h))
+    subst (λ xs. AreBalancedFrom ((tag_end tag, range) ∷ awaited) xs) (sym (append_assoc es ((end (tag_end tag), range) ∷ fs) rest))
+    (inside ((tag_end tag, range) ∷ awaited) ((end (tag_end tag), range) ∷ (fs ++ rest)) (refl, refl, after awaited rest h))
 goes_on plain range es fs lone inside after awaited rest h =
     subst (λ xs. AreBalancedFrom awaited xs) (sym (append_assoc es fs rest)) (inside awaited (fs ++ rest) (after awaited rest h))
 goes_on backslash_break range es fs lone inside after awaited rest h = after awaited rest h

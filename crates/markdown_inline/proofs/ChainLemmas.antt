@@ -14,8 +14,8 @@ use Rattle.markdown_inline.specs.Counts.{no_chain, counts_ahead}
 use Rattle.markdown_inline.proofs.CountLemmas.{begins-none}
 use Rattle.markdown_document.specs.Above.{above_at, no_blocks}
 use Rattle.markdown_document.specs.Setting.{Known, Setting}
-use Rattle.markdown_inline.specs.Elements.{Element, question, Reading, nothing, then_reads}
-use Rattle.markdown_base.specs.Event.{start, end, end_of, hard_break}
+use Rattle.markdown_inline.specs.Elements.{Element, question, Reading, nothing_read, then_reads}
+use Rattle.markdown_base.specs.Event.{start, end, tag_end, hard_break}
 use Rattle.markdown_base.specs.Forest.{Forest, nil, node}
 use Rattle.markdown_base.specs.Item.{is_open}
 use Rattle.markdown_base.specs.declared.item.Item.{Item}
@@ -26,8 +26,8 @@ use Rattle.markdown_document.specs.Stages.{Stage, known_at, chain_at, times_in}
 use Rattle.markdown_resolver.specs.ChainCounts.{chain_counts}
 use Rattle.markdown_resolver.specs.Chains.{AreAbove, ResolvesFrom, CanResolve, StopsIn}
 use Rattle.markdown_inline.specs.Moves.{BeginsWithEvent}
-use Rattle.markdown_inline.specs.Reading.{opened, settled_reading, then_resolved, chain_reading, reading}
-use Rattle.markdown_inline.specs.Walk.{around, left_of}
+use Rattle.markdown_inline.specs.Reading.{reading_opened, settled_reading, then_resolved, chain_reading, reading}
+use Rattle.markdown_inline.specs.Walk.{after_chain, left_of}
 use Rattle.markdown_document.specs.Places.{label_at, trees_from, IsPlaced}
 use Rattle.markdown_resolver.specs.PassOne.{Outcome}
 use Rattle.markdown_resolver.specs.Resolved.{resolved, all_paired}
@@ -77,12 +77,12 @@ gives-closed tables source b true e g = absurd (rw (shape-open tables source b e
 gives-closed tables source b false e g = refl
 
 opened-begins : (shape : Shape) (range : Range ℕ) (inside : Reading → Reading) (after whole : Reading) (known : Known) → GivesFirst shape
-    → BeginsWithEvent (opened shape range inside after whole known)
+    → BeginsWithEvent (reading_opened shape range inside after whole known)
 opened-begins (leaf e origins) range inside after whole known h = record { first = (e, range, origins); rest = after known; is = refl }
 opened-begins (enclosed tag) range inside after whole known h = record {
   first = (start tag, range, []);
   rest =
-      inside (then_reads (end (end_of tag), range, []) after) known;
+      inside (then_reads (end (tag_end tag), range, []) after) known;
   is = refl;
 }
 opened-begins plain range inside after whole known h = absurd h
@@ -190,7 +190,7 @@ moves_chain step s first spine old new w e r =
     let made = trees_from s.text new.tables new.nodes (Some first) in
     let chain = trees_from s.text old.tables old.nodes (Some first) in
     let blocks = above_at s.text old.nodes spine in
-    let after = around s (no_blocks s.text) old.tables old.nodes spine nothing in
+    let after = after_chain s (no_blocks s.text) old.tables old.nodes spine nothing_read in
     let settled : IsSettled made = rw (r.resolves []) at (resolved-settled s plain_tags blocks chain (known_at old (r.answers ++ []))
     ready.quiet_below) in
     let begins : Begins made =
@@ -200,9 +200,9 @@ moves_chain step s first spine old new w e r =
     (ap is_unresolved open_shape)) in
     let before : reading s plain_tags blocks chain after ≡ chain_reading s plain_tags blocks chain after =
     rw o.here (opened-open (label_at s.text old.tables old.nodes first).part.shape _ _ _ _ (ap is_unresolved open_shape)) in
-    let now : reading s plain_tags (above_at s.text new.nodes spine) made (around s (no_blocks s.text) new.tables new.nodes spine nothing)
+    let now : reading s plain_tags (above_at s.text new.nodes spine) made (after_chain s (no_blocks s.text) new.tables new.nodes spine nothing_read)
     ≡ settled_reading (all_paired s made) after =
-    rw (above.blocks (no_blocks s.text), above.around (no_blocks s.text) nothing) (reading-settled s blocks made after settled) in
+    rw (above.blocks (no_blocks s.text), above.around (no_blocks s.text) nothing_read) (reading-settled s blocks made after settled) in
     let n = opens (links_of new.nodes) (IsPlaced s.text new.tables new.nodes) first r.changes.reaches in
     let item = item_at new.nodes first in
     let closed : is_open item.body ≡ false = gives-closed new.tables (slice_range s.text item.start item.end) item.body (is_open item.body)
@@ -236,14 +236,14 @@ moves_chain step s first spine old new w e r =
 before_chain : (s : Setting) (tables : Tables) (nodes : List (Node Item)) (first : ℕ) (spine : List ℕ) (known : Known)
     → Stands s.text tables nodes (Some first) spine → is_open (item_at nodes first).body ≡ true
     → left_of s tables nodes (Some first) spine known ≡ then_resolved s plain_tags (resolved s plain_tags (above_at s.text nodes spine)
-    (trees_from s.text tables nodes (Some first)) known) (around s (no_blocks s.text) tables nodes spine nothing)
+    (trees_from s.text tables nodes (Some first)) known) (after_chain s (no_blocks s.text) tables nodes spine nothing_read)
 unfolding left_of
 before_chain s tables nodes first spine known w e =
     let o = opens (links_of nodes) (IsPlaced s.text tables nodes) first w.walk.here in
     let open_shape = shape-open tables (slice_range s.text (item_at nodes first).start (item_at nodes first).end) (item_at nodes first).body
     e in
     let blocks = above_at s.text nodes spine in
-    let after = around s (no_blocks s.text) tables nodes spine nothing in
+    let after = after_chain s (no_blocks s.text) tables nodes spine nothing_read in
     let whole : reading s plain_tags blocks (trees_from s.text tables nodes (Some first)) after
     ≡ chain_reading s plain_tags blocks (trees_from s.text tables nodes (Some first)) after =
     rw o.here (opened-open (label_at s.text tables nodes first).part.shape _ _ _ _ (ap is_unresolved open_shape)) in
@@ -267,4 +267,4 @@ stops_chain step s first spine old d work work' w e r later =
     let known = known_at old (r.answers ++ later) in
     rw (before_chain s old.tables old.nodes first spine known w e)
     (more_questions s (resolved s plain_tags (above_at s.text old.nodes spine) (chain_at s.text old (Some first)) known)
-    (around s (no_blocks s.text) old.tables old.nodes spine nothing) r.questions b.0 b.1)
+    (after_chain s (no_blocks s.text) old.tables old.nodes spine nothing_read) r.questions b.0 b.1)

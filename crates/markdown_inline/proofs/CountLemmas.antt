@@ -19,12 +19,12 @@ use Rattle.markdown_document.specs.Setting.{Setting}
 use Rattle.markdown_document.specs.Tables.{Tables}
 use Rattle.markdown_resolver.specs.ChainCounts.{RisesInPart}
 use Rattle.markdown_inline.specs.Counts.{Counting, no_chain, before_event, first_counts, unless_ended, counts_around, counts_ahead}
-use Rattle.markdown_inline.specs.Walk.{closing}
+use Rattle.markdown_inline.specs.Walk.{end_of_body}
 
 -- the node that was entered last is left first
 pub counts_around-snoc : (s : Setting) (above : Above) (tables : Tables) (nodes : List (Node Item)) (spine : List ℕ) (ix : ℕ)
     (after : Counting) → counts_around s above tables nodes (spine ++ ix ∷ []) after
-    ≡ unless_ended (closing (item_at nodes ix).body)
+    ≡ unless_ended (end_of_body (item_at nodes ix).body)
     (first_counts s plain_tags (inside_all nodes spine above) (trees_from s.text tables nodes (sibling_of nodes ix))
     (counts_around s above tables nodes spine after))
 counts_around-snoc s above tables nodes [] ix after = refl

@@ -34,8 +34,8 @@ use Rattle.markdown_inline.specs.CountsLaw.{AreBelowGreatest, Calls, CountsLaw, 
 use Rattle.markdown_inline.specs.Elements.{Placed}
 use Rattle.markdown_inline.specs.NextGives.{NextGives, IsEventOf, IsPlacedOf}
 use Rattle.markdown_inline.specs.ParserLeft.{parser_counts, parser_known, parser_setting, parser_steps, parser_work}
-use Rattle.markdown_inline.specs.Walk.{closing}
-use Rattle.markdown_inline.specs.WalkTotals.{climbed, left_total, weight_left}
+use Rattle.markdown_inline.specs.Walk.{end_of_body}
+use Rattle.markdown_inline.specs.WalkTotals.{climbed, left_total, weight_to_come}
 use Rattle.markdown_inline.specs.declared.walk.Parser.{Parser}
 
 -- counts of a chain that are no greater than a number
@@ -143,7 +143,7 @@ around-few s above tables nodes [] after known most h = few-more (after known) m
 around-few s above tables nodes (ix ∷ deeper) after known most h =
     let trees = trees_from s.text tables nodes (sibling_of nodes ix) in
     let here : Counting = first_counts s plain_tags above trees after in
-    let ends = closing (item_at nodes ix).body in
+    let ends = end_of_body (item_at nodes ix).body in
     let same = weight-placed s.text tables nodes (forest_at (links_of nodes) (sibling_of nodes ix)) in
     let whole : Counting = counts_around s (inside_item (item_at nodes ix) above) tables nodes deeper (unless_ended ends here) in
     few-more (whole known) (climbed (λ ix. 1) (weight_at nodes) (links_of nodes) deeper + (weight trees + most))
@@ -153,7 +153,7 @@ around-few s above tables nodes (ix ∷ deeper) after known most h =
 
 -- the counts of a walk are few, by the weight of what is left of it
 ahead-few : (s : Setting) (tables : Tables) (nodes : List (Node Item)) (l : Option ℕ) (spine : List ℕ) (known : Known)
-    → AreFew (counts_ahead s tables nodes l spine known) (weight_left nodes l spine)
+    → AreFew (counts_ahead s tables nodes l spine known) (weight_to_come nodes l spine)
 unfolding counts_ahead left_total
 ahead-few s tables nodes l spine known =
     let trees = trees_from s.text tables nodes l in
@@ -169,7 +169,7 @@ ahead-few s tables nodes l spine known =
 
 parser-few : {F : Type 0} (p : Parser F) (answers : Answers) → AreFew (parser_counts p answers) (parser_steps p)
 parser-few p answers =
-    few-more (parser_counts p answers) (weight_left p.tree.nodes p.tree.cursor p.tree.spine) (parser_steps p) (omega arith)
+    few-more (parser_counts p answers) (weight_to_come p.tree.nodes p.tree.cursor p.tree.spine) (parser_steps p) (omega arith)
     (ahead-few (parser_setting p) (tables_of p.resolver.tables) p.tree.nodes p.tree.cursor p.tree.spine (parser_known p answers))
 
 -- counts, with what the steps to come may still add to them, are small

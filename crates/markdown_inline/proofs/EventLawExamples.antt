@@ -1,7 +1,7 @@
 -- Small examples of events that keep the laws of a whole document, and of events that break one.
 use Rattle.std.proofs.Common.{◌≡◌, ℕ, List, [], ◌∷◌, ◌++◌, codes, refl, ap, arith}
 use Rattle.std.specs.declared.ops.Range.{Range}
-use Rattle.markdown_base.specs.Event.{LinkView, TagView, start, end, end_of, text, emphasis, link, image}
+use Rattle.markdown_base.specs.Event.{LinkView, TagView, start, end, tag_end, text, emphasis, link, image}
 use Rattle.markdown_base.specs.declared.tag.LinkType.{LinkType}
 use Rattle.markdown_base.specs.declared.tag.LinkType.TheVariants as kind
 use Rattle.markdown_base.specs.declared.tag.TagEnd.TheVariants as closes
@@ -18,7 +18,7 @@ leads k = record { kind = k; destination = codes "c"; title = []; label = [] }
 
 -- what a tag opens over bytes i up to j, round other events
 abbrev round : TagView → ℕ → ℕ → Ranged → List Ranged
-round tag i j e = (start tag, from_to i j) ∷ e ∷ (end (end_of tag), from_to i j) ∷ []
+round tag i j e = (start tag, from_to i j) ∷ e ∷ (end (tag_end tag), from_to i j) ∷ []
 
 -- `*a*`
 paired_is_balanced : AreBalanced (round emphasis 0 3 (text (codes "a"), from_to 1 2))

@@ -3,11 +3,11 @@ use Rattle.std.proofs.Common.{◌≡◌, ℕ, ◌<◌, ◌≤◌, List, [], ◌�
 use Rattle.markdown_base.specs.Arena.{sibling_of}
 use Rattle.markdown_base.specs.ArenaForest.{links_of, forest_at}
 use Rattle.markdown_base.specs.ArenaWalk.{AllReach}
-use Rattle.markdown_inline.specs.Elements.{Reading, nothing}
+use Rattle.markdown_inline.specs.Elements.{Reading, nothing_read}
 use Rattle.markdown_base.specs.declared.item.Item.{Item}
 use Rattle.markdown_base.specs.declared.node.Node.{Node}
 use Rattle.markdown_document.specs.Places.{IsSameAt, IsPlaced}
-use Rattle.markdown_inline.specs.Walk.{around, left_of}
+use Rattle.markdown_inline.specs.Walk.{after_chain, left_of}
 use Rattle.markdown_inline.specs.Counts.{Counting, no_chain, counts_around, counts_ahead}
 use Rattle.markdown_document.specs.Above.{Above, no_blocks, inside_all}
 use Rattle.markdown_document.specs.Setting.{Setting}
@@ -27,7 +27,7 @@ pub record AboveFramed (s : Setting) (tables tables' : Tables) (nodes nodes' : L
   pub naming : (n : Named) → climbed (λ ix. 0) (naming nodes' n) (links_of nodes') spine
       ≡ climbed (λ ix. 0) (naming nodes n) (links_of nodes) spine
   pub steps : climbed (λ ix. 1) (weight_at nodes') (links_of nodes') spine ≡ climbed (λ ix. 1) (weight_at nodes) (links_of nodes) spine
-  pub around : (above : Above) (after : Reading) → around s above tables' nodes' spine after ≡ around s above tables nodes spine after
+  pub around : (above : Above) (after : Reading) → after_chain s above tables' nodes' spine after ≡ after_chain s above tables nodes spine after
   pub blocks : (above : Above) → inside_all nodes' spine above ≡ inside_all nodes spine above
   pub ahead : (above : Above) (after : Counting) → counts_around s above tables' nodes' spine after
       ≡ counts_around s above tables nodes spine after
@@ -96,6 +96,6 @@ left_framed s tables tables' nodes nodes' l spine z y w h t =
         above_kept = above.kept;
         spine_lies = above.lies;
       };
-      left = rw (here.trees, above.blocks (no_blocks s.text), above.around (no_blocks s.text) nothing) refl;
+      left = rw (here.trees, above.blocks (no_blocks s.text), above.around (no_blocks s.text) nothing_read) refl;
       ahead = rw (here.trees, above.blocks (no_blocks s.text), above.ahead (no_blocks s.text) no_chain) refl;
     }

@@ -2,9 +2,9 @@
 -- and where the sums before each are below a limit, all but the last sum to less than the limit.
 use Rattle.std.proofs.Common.{◌≡◌, ℕ, ◌+◌, ◌<◌, ◌≤◌, List, [], ◌∷◌, ◌++◌, refl, sym, subst, append_assoc, append-nil, arith, map}
 use Rattle.std.specs.declared.ops.Range.{Range}
-use Rattle.markdown_base.specs.Event.{EventView, start, end, end_of}
+use Rattle.markdown_base.specs.Event.{EventView, start, end, tag_end}
 use Rattle.markdown_base.specs.Forest.{Forest, nil, node}
-use Rattle.markdown_blocks.specs.Blocks.{block_text}
+use Rattle.markdown_blocks.specs.Blocks.{text_of_blocks}
 use Rattle.markdown_document.specs.Document.{Shape, leaf, enclosed, plain, backslash_break, unresolved, Label}
 use Rattle.markdown_delims.proofs.SumLemmas.{sum_of}
 use Rattle.markdown_brackets.specs.Lookup.{size_of}
@@ -45,9 +45,9 @@ module _ {A : Type 0} where
       let last : List ℕ = tag_expansion tag ++ ends later (expansions_from opened rest) in
       let after : List ℕ = tag_expansion tag ++ expansions_from opened (fs ++ rest) in
       subst (λ (events : List Ranged). IsWithin (expansions_from (tag_expansion tag ∷ opened) events) (ends below last))
-      (sym (append_assoc es ((end (end_of tag), range) ∷ fs) rest))
-      (within_trans (expansions_from (tag_expansion tag ∷ opened) (es ++ (end (end_of tag), range) ∷ (fs ++ rest))) (ends below after)
-      (ends below last) (i (tag_expansion tag ∷ opened) ((end (end_of tag), range) ∷ (fs ++ rest)))
+      (sym (append_assoc es ((end (tag_end tag), range) ∷ fs) rest))
+      (within_trans (expansions_from (tag_expansion tag ∷ opened) (es ++ (end (tag_end tag), range) ∷ (fs ++ rest))) (ends below after)
+      (ends below last) (i (tag_expansion tag ∷ opened) ((end (tag_end tag), range) ∷ (fs ++ rest)))
       (ends_mono expansion_at below after last (keep_list (tag_expansion tag) (expansions_from opened (fs ++ rest))
       (ends later (expansions_from opened rest)) (h opened rest))))
   tree_lists plain range below later es fs lone i h opened rest =
@@ -80,7 +80,7 @@ pub limit-law : LimitLaw
 limit-law blocks asks answers =
     let r = whole_such blocks asks answers in
     let trees = (resolved_blocks blocks asks answers).trees in
-    let limit : ℕ = expansion_limit (block_text blocks) in
+    let limit : ℕ = expansion_limit (text_of_blocks blocks) in
     let within = lists_in trees r.lone [] [] in
     let below : ExpandsBelow limit (ranged_in trees ++ []) = below_limit limit (expansions (ranged_in trees ++ [])) (omega arith)
     (within.fits limit 0 0 (omega arith) r.spent.fits) in
@@ -89,5 +89,5 @@ limit-law blocks asks answers =
 -- of all that look-ups found
 pub look_up-law : LookUpLaw
 look_up-law blocks asks answers =
-    let limit : ℕ = expansion_limit (block_text blocks) in
+    let limit : ℕ = expansion_limit (text_of_blocks blocks) in
     below_limit limit (map size_of (resolved_blocks blocks asks answers).found) (omega arith) (whole_such blocks asks answers).found.fits

@@ -10,7 +10,7 @@ use Rattle.markdown_document.specs.Document.{text_over}
 use Rattle.markdown_document.specs.ChainRest.{open_body}
 use Rattle.markdown_document.specs.Setting.{Setting, Known}
 use Rattle.markdown_document.specs.Waiting.{text_if, is_quiet}
-use Rattle.markdown_spans.specs.AfterLess.{Markup, autolink, html}
+use Rattle.markdown_spans.specs.AfterLess.{Markup, autolink, html_markup}
 use Rattle.markdown_spans.specs.Finds.{Find, SpanText, code_span, code_trees, find, is_escaped, markup, markup_trees, math_span, nothing}
 use Rattle.markdown_spans.specs.Finds.{read_tree, read_unless, trees_for}
 use Rattle.markdown_delims.specs.Layers.{enclosed_if, layer_of_one, layer_of_two, marks_of}
@@ -224,8 +224,8 @@ module _ {A : Type 0} where
 
   free_markup : (s : Setting) (new : A) (a : Label A) (m : Markup) → IsFreeOfLinks (markup_trees s new a m)
   free_markup s new a (autolink end uri) = (refl, (tt, tt, tt), tt)
-  free_markup s new a (html end None) = (tt, tt, tt)
-  free_markup s new a (html end (Some bytes)) = (tt, tt, tt)
+  free_markup s new a (html_markup end None) = (tt, tt, tt)
+  free_markup s new a (html_markup end (Some bytes)) = (tt, tt, tt)
 
   free_find : (s : Setting) (new : A) (a : Label A) (found : Find A) → IsFreeOfLinks (trees_for s new a found)
   free_find s new a (code_span t closer) = free_code s (is_escaped (open_body a.part.shape)) a t closer

@@ -16,7 +16,7 @@ use Rattle.markdown_document.specs.Document.{Tags, Label}
 use Rattle.markdown_document.specs.Setting.{Setting, Known}
 use Rattle.markdown_brackets.specs.BracketDecision.{Around, Becomes, Closing, Decision, Progress, Wikilink, Written, a_footnote, a_link}
 use Rattle.markdown_brackets.specs.BracketDecision.{a_text, a_wikilink, after_look_up, decided, decided_before, footnote_label}
-use Rattle.markdown_brackets.specs.BracketDecision.{footnote_tried, footnote_used, inline_link, link_label, look_up_tried, no_link}
+use Rattle.markdown_brackets.specs.BracketDecision.{footnote_tried, footnote_used, inline_link, link_reference, look_up_tried, no_link}
 use Rattle.markdown_brackets.specs.BracketDecision.{one_decided, opener_tried, past_second, question_at, spent_by, target_tried, to_be}
 use Rattle.markdown_brackets.specs.BracketDecision.{tried, wikilink_in, wikilink_opener, wikilink_or_one, wikilink_tried, written}
 use Rattle.markdown_brackets.specs.BracketOptions.{footnote_style}
@@ -24,7 +24,7 @@ use Rattle.markdown_brackets.specs.ClosingBracket.{closed, put}
 use Rattle.markdown_brackets.specs.FootnoteUse.{is_reference}
 use Rattle.markdown_brackets.specs.LeftList.{Split, bracket_taken, inside, is_live, nearest, opens_bracket, wikilink_taken}
 use Rattle.markdown_brackets.specs.Lookup.{LookedUp, look_up, size_of}
-use Rattle.markdown_brackets.specs.ReadChain.{begun, closing, read, read_as, read_chain, read_past}
+use Rattle.markdown_brackets.specs.ReadChain.{begun, closing_of, read, read_as, read_chain, read_past}
 use Rattle.markdown_brackets.specs.Reference.{is_closer}
 use Rattle.markdown_inline.specs.LookUps.{found_as, found_by, found_past, is_looked_up, look_ups_from}
 use Rattle.markdown_inline.specs.ResolvedDocument.{resolved_chain}
@@ -77,7 +77,7 @@ module _ {A : Type 0} where
     written_spent : (o : Split A) (x : Written) (p : Progress A) → IsSpent p.known.limit (tried w o x p)
     written_spent o no_link p = spent_none p.known.limit
     written_spent o (inline_link t) p = spent_none p.known.limit
-    written_spent o (link_label link_type label end next) p =
+    written_spent o (link_reference link_type label end next) p =
         look_up_spent o link_type label end next (record p { spent = spent_by link_type end p.spent })
     written_spent o (footnote_label name) p = footnote_spent o name p
 
@@ -132,7 +132,7 @@ module _ {A : Type 0} where
         (read_as (around s above) (read_other s tags above) b a below rest p).known.limit
     as_spent body.MaybeLinkOpen a below rest p = spent_none p.known.limit
     as_spent body.MaybeImage a below rest p = spent_none p.known.limit
-    as_spent (body.MaybeLinkClose could) a below rest p = closed_spent (around s above) (closing could a rest p) p
+    as_spent (body.MaybeLinkClose could) a below rest p = closed_spent (around s above) (closing_of could a rest p) p
     as_spent other a below rest p = spent_none p.known.limit
 
     past_spent : (goes_on : Option ℕ) (a : Label A) (below rest : Forest (Label A)) (p : Progress A)

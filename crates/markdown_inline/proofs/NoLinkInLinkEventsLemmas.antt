@@ -2,7 +2,7 @@
 -- link.
 use Rattle.std.proofs.Common.{◌≡◌, ℕ, suc, ◌≤◌, true, List, [], ◌∷◌, ◌++◌, refl, sym, subst, append_assoc, append-nil, arith}
 use Rattle.std.specs.declared.ops.Range.{Range}
-use Rattle.markdown_base.specs.Event.{EventView, TagView, start, end, end_of, link}
+use Rattle.markdown_base.specs.Event.{EventView, TagView, start, end, tag_end, link}
 use Rattle.markdown_base.specs.Forest.{Forest, nil, node}
 use Rattle.markdown_base.specs.declared.tag.LinkType.{LinkType}
 use Rattle.markdown_base.specs.declared.tag.LinkType.TheVariants as kind
@@ -34,13 +34,13 @@ Goes es free = (within : ℕ) (rest : List Ranged) → (1 ≤ within → free) �
 tag_goes : {A : Type 0} (tag : TagView) (range : Range ℕ) (below : Forest (Label A)) (es fs : List Ranged) (within : ℕ)
     → ClosesOverNone tag below → (1 ≤ within → OpensNoLink tag × IsFreeOfLinks below)
     → Goes es (IsFreeOfLinks below) → NoLinkInLinkFrom within fs
-    → NoLinkInLinkFrom within ((start tag, range) ∷ (es ++ (end (end_of tag), range) ∷ fs))
+    → NoLinkInLinkFrom within ((start tag, range) ∷ (es ++ (end (tag_end tag), range) ∷ fs))
 tag_goes (link v) range below es fs within over free inside h = (
   λ some. autolink_is v.kind (free some).0,
   inside (suc within)
-      ((end (end_of (link v)), range) ∷ fs) (λ some. over) h,
+      ((end (tag_end (link v)), range) ∷ fs) (λ some. over) h,
 )
-tag_goes other range below es fs within over free inside h = inside within ((end (end_of other), range) ∷ fs) (λ some. (free some).1) h
+tag_goes other range below es fs within over free inside h = inside within ((end (tag_end other), range) ∷ fs) (λ some. (free some).1) h
 
 -- a tree before others
 goes_on : {A : Type 0} (shape : Shape) (range : Range ℕ) (below : Forest (Label A)) (es fs : List Ranged) (free : Type 0)
@@ -49,7 +49,7 @@ goes_on : {A : Type 0} (shape : Shape) (range : Range ℕ) (below : Forest (Labe
 goes_on (leaf e origins) range below es fs free lone apart inside after within rest freed h =
     lone_stays e within (λ within. NoLinkInLinkFrom within (fs ++ rest)) lone (after within rest (λ some. (freed some).2) h)
 goes_on (enclosed tag) range below es fs free lone apart inside after within rest freed h =
-    subst (λ xs. NoLinkInLinkFrom within ((start tag, range) ∷ xs)) (sym (append_assoc es ((end (end_of tag), range) ∷ fs) rest))
+    subst (λ xs. NoLinkInLinkFrom within ((start tag, range) ∷ xs)) (sym (append_assoc es ((end (tag_end tag), range) ∷ fs) rest))
     (tag_goes tag range below es (fs ++ rest) within apart (λ some. ((freed some).0, (freed some).1)) inside
     (after within rest (λ some. (freed some).2) h))
 goes_on plain range below es fs free lone apart inside after within rest freed h =

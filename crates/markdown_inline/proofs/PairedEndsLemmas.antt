@@ -11,7 +11,7 @@ use Rattle.markdown_document.specs.Setting.{Setting}
 use Rattle.markdown_document.specs.Waiting.{as_closed, text_if}
 use Rattle.markdown_delims.specs.Layers.{enclosed_if, layer_of_one, layer_of_two, marks_of, spanned}
 use Rattle.markdown_delims.specs.MayPair.{may_pair}
-use Rattle.markdown_delims.specs.Pairing.{FoundOpener, Layers, Read, after_layers, all_done, done, drop_read, first_texts}
+use Rattle.markdown_delims.specs.Pairing.{FoundOpener, Layers, Read, after_layers, characters_done, done_read, drop_read, first_texts}
 use Rattle.markdown_delims.specs.Pairing.{last_first, layers, left_over, nearest_opener, opened_if, paired, read_trees, reads_from}
 use Rattle.markdown_delims.specs.Pairing.{runs_paired, still_waiting, texts_before, trees_done, waiting}
 use Rattle.markdown_delims.specs.Quotes.{first_turn, is_closed_later, is_end, kind_of_shape, quotes_after, with_quotes}
@@ -88,7 +88,7 @@ module _ (own : Shape → List ℕ) (numbers : NumbersNoMarks own) where
 
     abbrev ends_read : List (Read A) → List ℕ → List ℕ
     ends_read [] rest = rest
-    ends_read (done a below ∷ rs) rest = ends_read rs (ends below (of a ++ rest))
+    ends_read (done_read a below ∷ rs) rest = ends_read rs (ends below (of a ++ rest))
     ends_read (waiting dropped run xs ∷ rs) rest = ends_read rs (backward xs rest)
 
     -- where a list is within another, so it is with these numbers before both
@@ -98,7 +98,7 @@ module _ (own : Shape → List ℕ) (numbers : NumbersNoMarks own) where
 
     mono_read : (rs : List (Read A)) (ns ms : List ℕ) → IsWithin ns ms → IsWithin (ends_read rs ns) (ends_read rs ms)
     mono_read [] ns ms w = w
-    mono_read (done a below ∷ rs) ns ms w = mono_read rs (ends below (of a ++ ns)) (ends below (of a ++ ms))
+    mono_read (done_read a below ∷ rs) ns ms w = mono_read rs (ends below (of a ++ ns)) (ends below (of a ++ ms))
         (ends_mono own below (of a ++ ns) (of a ++ ms) (keep_list (of a) ns ms w))
     mono_read (waiting dropped run xs ∷ rs) ns ms w = mono_read rs (backward xs ns) (backward xs ms) (mono_backward xs ns ms w)
 
@@ -113,11 +113,11 @@ module _ (own : Shape → List ℕ) (numbers : NumbersNoMarks own) where
 
     ends_trees : (rs : List (Read A)) (after : Forest (Label A)) (t : List ℕ) → ends (read_trees rs after) t ≡ ends_read rs (ends after t)
     ends_trees [] after t = refl
-    ends_trees (done a below ∷ rs) after t = ends_trees rs (node a below after) t
+    ends_trees (done_read a below ∷ rs) after t = ends_trees rs (node a below after) t
     ends_trees (waiting dropped run xs ∷ rs) after t = ends_trees rs (texts_before xs after) t
         ∙ ap (λ (l : List ℕ). ends_read rs l) (ends_texts xs after t)
 
-    ends_done : (xs : List (Label A)) (rs : List (Read A)) (t : List ℕ) → ends_read (all_done xs rs) t ≡ ends_read rs (backward xs t)
+    ends_done : (xs : List (Label A)) (rs : List (Read A)) (t : List ℕ) → ends_read (characters_done xs rs) t ≡ ends_read rs (backward xs t)
     ends_done [] rs t = refl
     ends_done (x ∷ xs) rs t = ends_done xs rs (of x ++ t)
 
@@ -128,7 +128,7 @@ module _ (own : Shape → List ℕ) (numbers : NumbersNoMarks own) where
     ends_nearest : (closer : Run) (rs : List (Read A)) (inside : Forest (Label A)) (whole : List ℕ → List ℕ)
         → ((t : List ℕ) → ends_read rs (ends inside t) ≡ whole t) → IfSome (nearest_opener closer rs inside) (Splits whole)
     ends_nearest closer [] inside whole e = tt
-    ends_nearest closer (done a below ∷ rs) inside whole e = ends_nearest closer rs (node a below inside) whole e
+    ends_nearest closer (done_read a below ∷ rs) inside whole e = ends_nearest closer rs (node a below inside) whole e
     ends_nearest closer (waiting dropped run xs ∷ rs) inside whole e =
         found-if (Splits whole) (not dropped && may_pair run closer) (record { inside = inside; run = run; characters = xs; before = rs })
         (nearest_opener closer rs (texts_before xs inside)) e
@@ -137,7 +137,7 @@ module _ (own : Shape → List ℕ) (numbers : NumbersNoMarks own) where
     -- numbers do not depend on whether a run is dropped
     ends_dropped : (d : Delimiter) (rs : List (Read A)) (t : List ℕ) → ends_read (map (drop_read d) rs) t ≡ ends_read rs t
     ends_dropped d [] t = refl
-    ends_dropped d (done a below ∷ rs) t = ends_dropped d rs (ends below (of a ++ t))
+    ends_dropped d (done_read a below ∷ rs) t = ends_dropped d rs (ends below (of a ++ t))
     ends_dropped d (waiting dropped run xs ∷ rs) t = ends_dropped d rs (backward xs t)
 
     -- a layer round a chain
@@ -176,7 +176,7 @@ module _ (own : Shape → List ℕ) (numbers : NumbersNoMarks own) where
     -- trees that are done, and characters that stay open or are left over
     ends_trees_done : (f : Forest (Label A)) (rs : List (Read A)) (t : List ℕ) → ends_read (trees_done f rs) t ≡ ends_read rs (ends f t)
     ends_trees_done nil rs t = refl
-    ends_trees_done (node a below after) rs t = ends_trees_done after (done a below ∷ rs) t
+    ends_trees_done (node a below after) rs t = ends_trees_done after (done_read a below ∷ rs) t
 
     ends_still : (run : Run) (xs : List (Label A)) (rs : List (Read A)) (t : List ℕ) → ends_read (still_waiting run xs rs) t
         ≡ ends_read rs (backward xs t)

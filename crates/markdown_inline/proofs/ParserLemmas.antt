@@ -34,7 +34,7 @@ use Rattle.markdown_document.specs.Above.{above_cursor}
 use Rattle.markdown_document.specs.Setting.{Setting, rules_from, setting_of}
 use Rattle.markdown_document.specs.Tables.{tables_of}
 use Rattle.markdown_inline.specs.Walk.{left_of}
-use Rattle.markdown_inline.specs.WalkSteps.{HasEnded, TreeStands, Went, Gives, Passed, OpensWith, IsRefused, IsBefore, tree_left}
+use Rattle.markdown_inline.specs.WalkSteps.{HasEnded, TreeStands, Went, Gives, PassedBeginning, OpensWith, IsRefused, IsBeforeChain, tree_left}
 use Rattle.markdown_inline.specs.WalkSteps.{way_at}
 use Rattle.markdown_inline.specs.declared.bodies.Way.{Way}
 use Rattle.markdown_inline.specs.declared.walk.Parser.{Parser}
@@ -96,7 +96,7 @@ took_same s t u item k took = record {
 
 -- what is given of a step past the beginning of an item
 past_gives : {F : Type 0} (s t u : Parser F) (item : Item) (e : Event)
-    → Passed t.resolver.text.now s.tree t.tree t.resolver.tables item → Took t u item
+    → PassedBeginning t.resolver.text.now s.tree t.tree t.resolver.tables item → Took t u item
     → OpensWith (parser_text t) (range_of item) (shape_in t item) e
     → Gives t.resolver.text.now s.tree u.tree t.resolver.tables u.resolver.tables e (range_of item)
 past_gives s t u item e p took o = record {
@@ -115,7 +115,7 @@ same_gives x y s t a b held e range p q g = rw (← p, ← q) g
 
 -- past the beginning of an item
 pub moved_past : {F : Type 0} (s t : Parser F) (item : Item) (w : Way) → SameBut s t → t.resolver.tables ≡ s.resolver.tables
-    → Passed t.resolver.text.now s.tree t.tree t.resolver.tables item × (way_at item.body ≡ w) → WentPast s t item w
+    → PassedBeginning t.resolver.text.now s.tree t.tree t.resolver.tables item × (way_at item.body ≡ w) → WentPast s t item w
 moved_past s t item w k same p = record {
   ready = record { can = p.0.can; stands = p.0.stands; goes = p.1 };
   gave = λ u e took o. (moved_give s u e (range_of item) (took_same s t u item k took)
@@ -159,18 +159,18 @@ moved_skip step s t k w =
 
 -- before a chain a resolver may be called
 pub before_chain : (source : List ℕ) (s : Arena Item) (held : Allocated) (first : ℕ) → TreeStands source (tables_of held) s
-    → IsBefore s first → CanResolve source (tables_of held) s.nodes (Some first)
+    → IsBeforeChain s first → CanResolve source (tables_of held) s.nodes (Some first)
 before_chain source s held first w b = can_resolve source (tables_of held) s.nodes first s.spine (rw b.cursor at w) b.is_open
 
 -- the nodes that were entered stay when it is resolved
 pub above_chain : (source : List ℕ) (s : Arena Item) (held : Allocated) (first : ℕ) → TreeStands source (tables_of held) s
-    → IsBefore s first → AreAbove source s.nodes (Some first) s.spine
+    → IsBeforeChain s first → AreAbove source s.nodes (Some first) s.spine
 above_chain source s held first w b = are_above source (tables_of held) s.nodes first s.spine (rw b.cursor at w)
 
 -- what a resolved chain is for the walk
 chain_moves : {C : Type 0} (step : C → Question → Option Answer → C → Type 0) (g : Setting) (s t : Arena Item) (held held' : Allocated)
     (first limit limit' : ℕ) (c d : Option C) (work work' : Work)
-    → TreeStands g.text (tables_of held) s → IsBefore s first → (r : ResolvesChain step g first s t held held' limit limit' c d work work')
+    → TreeStands g.text (tables_of held) s → IsBeforeChain s first → (r : ResolvesChain step g first s t held held' limit limit' c d work work')
     → ChainMoves g (tables_of held) (tables_of held') s.nodes t.nodes first s.spine (known_at (stage s held limit c))
     (known_at (stage t held' limit' d)) r.chain.questions r.chain.answers
 chain_moves step g s t held held' first limit limit' c d work work' w b r =
@@ -178,7 +178,7 @@ chain_moves step g s t held held' first limit limit' c d work work' w b r =
 
 pub stands_chain : {C : Type 0} (step : C → Question → Option Answer → C → Type 0) (g : Setting) (s t : Arena Item) (held held' : Allocated)
     (first limit limit' : ℕ) (c d : Option C) (work work' : Work)
-    → TreeStands g.text (tables_of held) s → IsBefore s first → ResolvesChain step g first s t held held' limit limit' c d work work'
+    → TreeStands g.text (tables_of held) s → IsBeforeChain s first → ResolvesChain step g first s t held held' limit limit' c d work work'
     → TreeStands g.text (tables_of held') t
 stands_chain step g s t held held' first limit limit' c d work work' w b r =
     rw (r.tree, b.cursor) (chain_moves step g s t held held' first limit limit' c d work work' w b r).stands
@@ -211,7 +211,7 @@ setting_kept s t x o some tables names =
 -- a chain that is resolved: its questions, and then an event
 pub moved_chain : {F : Type 0} (step : F → Question → Option Answer → F → Type 0) (s t : Parser F) (first : ℕ)
     → t.resolver.text ≡ s.resolver.text → t.resolver.options ≡ s.resolver.options
-    → TreeStands s.resolver.text.now (tables_of s.resolver.tables) s.tree → IsBefore s.tree first
+    → TreeStands s.resolver.text.now (tables_of s.resolver.tables) s.tree → IsBeforeChain s.tree first
     → ResolvesChain step (parser_setting s) first s.tree t.tree s.resolver.tables t.resolver.tables s.resolver.limit t.resolver.limit
     s.resolver.callback t.resolver.callback
     s.resolver.work t.resolver.work
@@ -283,7 +283,7 @@ moved_refused step s t after c k r e = record {
 
 -- a chain at which memory was refused
 pub moved_stopped : {F : Type 0} (step : F → Question → Option Answer → F → Type 0) (s t : Parser F) (first : ℕ)
-    → TreeStands s.resolver.text.now (tables_of s.resolver.tables) s.tree → IsBefore s.tree first
+    → TreeStands s.resolver.text.now (tables_of s.resolver.tables) s.tree → IsBeforeChain s.tree first
     → StopsIn step (parser_setting s) (above_cursor s.resolver.text.now s.tree) first (stage s.tree s.resolver.tables s.resolver.limit
     s.resolver.callback) t.resolver.callback s.resolver.work t.resolver.work → HasEnded t.tree → Failed step s t
 moved_stopped step s t first w b r e = record {

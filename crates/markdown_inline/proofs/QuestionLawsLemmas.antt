@@ -4,7 +4,7 @@ use Rattle.std.proofs.Common.{length-append}
 use Rattle.std.specs.Prelude.{count_by, slice_range}
 use Rattle.std.proofs.lemmas.List.Sums.{sum_by-append, sum_by-cons}
 use Rattle.markdown_base.specs.BlockTree.{Numbered, tree_of}
-use Rattle.markdown_base.specs.Event.{end, end_of}
+use Rattle.markdown_base.specs.Event.{end, tag_end}
 use Rattle.markdown_base.specs.Forest.{Forest, nil, node, preorder, relabelled, roots}
 use Rattle.markdown_base.specs.WellFormed.{IsWellFormed}
 use Rattle.markdown_base.specs.declared.block_parts.BlockParts.{BlockParts}
@@ -20,9 +20,9 @@ use Rattle.markdown_document.specs.Document.{Label, Plain, Shape, backslash_brea
 use Rattle.markdown_document.specs.Document.{plain, plain_tags, shape_of, unresolved}
 use Rattle.markdown_document.specs.Setting.{Known, Rules, Setting, setting_of}
 use Rattle.markdown_document.specs.Tables.{Tables}
-use Rattle.markdown_inline.specs.Elements.{Reading, nothing, questions_of, then_reads}
+use Rattle.markdown_inline.specs.Elements.{Reading, nothing_read, questions_of, then_reads}
 use Rattle.markdown_inline.specs.QuestionLaws.{AsksApart, closers_of, document_reading}
-use Rattle.markdown_inline.specs.Reading.{chain_reading, opened, reading, settled_reading}
+use Rattle.markdown_inline.specs.Reading.{chain_reading, reading_opened, reading, settled_reading}
 use Rattle.markdown_inline.proofs.RunLemmas.{questions_of-questions}
 use Rattle.markdown_resolver.specs.ChainQuestions.{EachChain}
 use Rattle.markdown_resolver.specs.PassOne.{Outcome}
@@ -41,10 +41,10 @@ more_few n m r l h = record { once = λ known. omega (arith, h.once known, l); s
 module _ {A : Type 0} where
   settled_tree : (a : Label A) (most : ℕ) (inside : Reading → Reading) (after : Reading)
       → ((inner : Reading) → Few most inner → Few most (inside inner)) → Few most after
-      → (shape : Shape) → Few most (opened shape a.part.range inside after after)
+      → (shape : Shape) → Few most (reading_opened shape a.part.range inside after after)
   settled_tree a most inside after within h (leaf e origins) = record { once = h.once; silent = h.silent }
   settled_tree a most inside after within h (enclosed tag) =
-      let inner = within (then_reads (end (end_of tag), a.part.range, []) after) (record { once = h.once; silent = h.silent }) in
+      let inner = within (then_reads (end (tag_end tag), a.part.range, []) after) (record { once = h.once; silent = h.silent }) in
       record { once = inner.once; silent = inner.silent }
   settled_tree a most inside after within h plain = within after h
   settled_tree a most inside after within h backslash_break = record { once = h.once; silent = h.silent }
@@ -73,11 +73,11 @@ roots_few (node a below after) =
 -- the questions of a tree: at most those of what is below it and of what follows, or those of the chain from it on
 opened_few : (a : Plain) (all few : ℕ) (inside : Reading → Reading) (after whole : Reading)
     → ((inner : Reading) → Few few inner → Few all (inside inner)) → Few few after → few ≤ all → Few all whole
-    → (shape : Shape) → Few all (opened shape a.part.range inside after whole)
+    → (shape : Shape) → Few all (reading_opened shape a.part.range inside after whole)
 opened_few a all few inside after whole within h l rest (leaf e origins) =
     let k = more_few few all after l h in record { once = k.once; silent = k.silent }
 opened_few a all few inside after whole within h l rest (enclosed tag) =
-    let inner = within (then_reads (end (end_of tag), a.part.range, []) after) (record { once = h.once; silent = h.silent }) in
+    let inner = within (then_reads (end (tag_end tag), a.part.range, []) after) (record { once = h.once; silent = h.silent }) in
     record { once = inner.once; silent = inner.silent }
 opened_few a all few inside after whole within h l rest plain = within after h
 opened_few a all few inside after whole within h l rest backslash_break =
@@ -152,8 +152,8 @@ pub document_asks : (source : List ℕ) (nodes : List (Node Item)) (tables : Tab
     → AsksAtMost (closers_of nodes) known.limit (questions_of (document_reading source nodes tables rules known))
 document_asks source nodes tables rules known =
     let s = setting_of source rules in
-    let none : Few 0 nothing = record { once = λ known. omega arith; silent = λ known z. refl } in
-    let few = reading_few s (document source tables nodes) (no_blocks source) 0 nothing none in
+    let none : Few 0 nothing_read = record { once = λ known. omega arith; silent = λ known z. refl } in
+    let few = reading_few s (document source tables nodes) (no_blocks source) 0 nothing_read none in
     record { once = omega (arith, few.once known, closers_seen source tables (tree_of nodes)); silent = few.silent known }
 
 -- what holds of each chain, where one thing follows from another

@@ -4,9 +4,9 @@ use Rattle.std.proofs.Common.{◌≡◌, ℕ, Bool, true, false, [], refl, ap, �
 use Rattle.std.proofs.Math.Path.{fun_ext}
 use Rattle.std.specs.declared.ops.Range.{Range}
 use Rattle.markdown_inline.specs.Elements.{Reading, then_reads}
-use Rattle.markdown_base.specs.Event.{start, end, end_of, hard_break}
+use Rattle.markdown_base.specs.Event.{start, end, tag_end, hard_break}
 use Rattle.markdown_base.specs.Forest.{Forest, nil, node}
-use Rattle.markdown_inline.specs.Reading.{opened, settled_reading, chain_reading, reading}
+use Rattle.markdown_inline.specs.Reading.{reading_opened, settled_reading, chain_reading, reading}
 use Rattle.markdown_document.specs.Above.{Above, inside_label}
 use Rattle.markdown_document.specs.Setting.{Setting}
 use Rattle.markdown_delims.specs.Pairing.{paired}
@@ -21,7 +21,7 @@ chain-quiet : (s : Setting) (above : Above) (chain : Forest Plain) (after : Read
 chain-quiet s above chain after q = fun_ext (λ known. rw (resolved-quiet s plain_tags above chain known q, all_paired-paired s chain) refl)
 
 pub opened-open : (shape : Shape) (range : Range ℕ) (inside : Reading → Reading) (after whole : Reading) → is_unresolved shape ≡ true
-    → opened shape range inside after whole ≡ whole
+    → reading_opened shape range inside after whole ≡ whole
 opened-open (leaf e origins) range inside after whole h = cc h
 opened-open (enclosed tag) range inside after whole h = cc h
 opened-open plain range inside after whole h = cc h
@@ -30,13 +30,13 @@ opened-open (unresolved b) range inside after whole h = refl
 
 pub opened-settled : (shape : Shape) (range : Range ℕ) (inside inside' : Reading → Reading) (after after' whole whole' : Reading)
     → is_unresolved shape ≡ false
-    → ((inner : Reading) → inside inner ≡ inside' inner) → after ≡ after' → opened shape range inside after whole
-    ≡ opened shape range inside' after' whole'
+    → ((inner : Reading) → inside inner ≡ inside' inner) → after ≡ after' → reading_opened shape range inside after whole
+    ≡ reading_opened shape range inside' after' whole'
 opened-settled (leaf e origins) range inside inside' after after' whole whole' h i a = ap (λ (r : Reading). then_reads (e, range, origins)
     r) a
 opened-settled (enclosed tag) range inside inside' after after' whole whole' h i a =
     ap (λ (r : Reading). then_reads (start tag, range, []) r) (i _
-    ∙ ap (λ (r : Reading). inside' (then_reads (end (end_of tag), range, []) r)) a)
+    ∙ ap (λ (r : Reading). inside' (then_reads (end (tag_end tag), range, []) r)) a)
 opened-settled plain range inside inside' after after' whole whole' h i a = i after ∙ ap inside' a
 opened-settled backslash_break range inside inside' after after' whole whole' h i a =
     ap (λ (r : Reading). then_reads (hard_break, range, []) r) a

@@ -21,13 +21,13 @@ use Rattle.markdown_document.specs.ChainRest.{begun_at, cut_shape, end_of, open_
 use Rattle.markdown_document.specs.Document.{made, sliced, Tags, Shape, leaf, enclosed, Label, math}
 use Rattle.markdown_document.specs.Setting.{Setting, Known}
 use Rattle.markdown_document.specs.Waiting.{is_quiet}
-use Rattle.markdown_spans.specs.AfterLess.{Markup, autolink, html}
+use Rattle.markdown_spans.specs.AfterLess.{Markup, autolink, html_markup}
 use Rattle.markdown_spans.specs.Finds.{Find, SpanText, address, code_span, code_trees, find, is_escaped, markup, markup_trees, math_span}
 use Rattle.markdown_spans.specs.Finds.{nothing, read_tree, read_unless, trees_for}
 use Rattle.markdown_delims.specs.Pairing.{paired}
 use Rattle.markdown_brackets.specs.BracketDecision.{Around, a_wikilink, Closing, Progress, Wikilink, Written, after_look_up, a_footnote}
 use Rattle.markdown_brackets.specs.BracketDecision.{a_link, a_text, decided, decided_before, footnote_label, footnote_tried, footnote_used}
-use Rattle.markdown_brackets.specs.BracketDecision.{inline_link, inline_target, link_label, look_up_tried, no_link, one_decided}
+use Rattle.markdown_brackets.specs.BracketDecision.{inline_link, inline_target, link_reference, look_up_tried, no_link, one_decided}
 use Rattle.markdown_brackets.specs.BracketDecision.{opener_tried, past_second, question_at, spent_by, target_tried, to_be, tried}
 use Rattle.markdown_brackets.specs.BracketDecision.{wikilink_in, wikilink_opener, wikilink_or_one, wikilink_tried, written}
 use Rattle.markdown_base.specs.EnabledOptions.{wikilinks_on}
@@ -40,7 +40,7 @@ use Rattle.markdown_brackets.specs.LeftList.{opens_wikilink, second_folded, tree
 use Rattle.markdown_brackets.specs.LeftList.{without_wikilink}
 use Rattle.markdown_brackets.specs.Lookup.{LookedUp, answered, defined_or_asked, finds_nothing, look_up, size_of}
 use Rattle.markdown_brackets.specs.QuietItems.{all_done}
-use Rattle.markdown_brackets.specs.ReadChain.{begun, closing, read, read_as, read_chain, read_past}
+use Rattle.markdown_brackets.specs.ReadChain.{begun, closing_of, read, read_as, read_chain, read_past}
 use Rattle.markdown_brackets.specs.Reference.{is_closer}
 use Rattle.markdown_brackets.proofs.ClosingBracketLemmas.{some_of}
 use Rattle.markdown_brackets.proofs.NoLinkLemmas.{wikilink_keeps}
@@ -92,8 +92,8 @@ pub takes_from : (defined : List Labelled) (asks : Bool) (limit : ℕ) (answers 
     → TakesFrom limit (look_up defined asks limit answers q)
 takes_from defined asks limit answers q =
     cond_both (limit == 0) (finds_nothing limit answers [])
-    (defined_or_asked asks limit answers q (definitions.look_up q.reference defined)) (TakesFrom limit) (λ e. refl)
-    (λ e. takes_if_found asks limit answers q (definitions.look_up q.reference defined) (some_left limit e))
+    (defined_or_asked asks limit answers q (definitions.find_definition q.reference defined)) (TakesFrom limit) (λ e. refl)
+    (λ e. takes_if_found asks limit answers q (definitions.find_definition q.reference defined) (some_left limit e))
 
 -- math stands for itself, displayed or not
 lone_math : (display : Bool) (bytes : List ℕ) → IsMadeEvent (math display bytes)
@@ -372,7 +372,7 @@ module _ {A : Type 0} (own : Shape → List ℕ) (holds : List ℕ → (limit : 
     written_try : (o : Split A) (x : Written) (p : Progress A) → IsPart p.left o → Holds p → Holds (put_decided w c (tried w o x p))
     written_try o no_link p part h = as_text_holds p h
     written_try o (inline_link t) p part h = link_holds o (inline_target w t) t.ends t.ends p refl part h
-    written_try o (link_label link_type label end next) p part h =
+    written_try o (link_reference link_type label end next) p part h =
         look_up_try o link_type label end next (record p { spent = spent_by link_type end p.spent }) part h
     written_try o (footnote_label name) p part h = footnote_try o name p part h
 
@@ -476,8 +476,8 @@ module _ {A : Type 0} (own : Shape → List ℕ) (holds : List ℕ → (limit : 
     (text_none own keeps.numbers (slice_range s.text (end_of a) (end - 1)), tt, tt),
     tt,
   )
-  markup_none s new a (html end None) = (keeps.numbers.lone (inline_html (slice_range s.text (start_of a) end)) (sliced ∷ []) tt, tt, tt)
-  markup_none s new a (html end (Some bytes)) = (keeps.numbers.lone (inline_html bytes) (made ∷ []) tt, tt, tt)
+  markup_none s new a (html_markup end None) = (keeps.numbers.lone (inline_html (slice_range s.text (start_of a) end)) (sliced ∷ []) tt, tt, tt)
+  markup_none s new a (html_markup end (Some bytes)) = (keeps.numbers.lone (inline_html bytes) (made ∷ []) tt, tt, tt)
 
   find_none : (s : Setting) (new : A) (a : Label A) (found : Find A) → HasNone (trees_for s new a found)
   find_none s new a (code_span t closer) = code_none s (is_escaped (open_body a.part.shape)) a t closer
@@ -520,7 +520,7 @@ module _ {A : Type 0} (own : Shape → List ℕ) (holds : List ℕ → (limit : 
         → Holds (read_as (around s above) (read_other s tags above) b a below rest p)
     as_holds body.MaybeLinkOpen a below rest p e i h = opener_holds a p.left p.known.limit h
     as_holds body.MaybeImage a below rest p e i h = opener_holds a p.left p.known.limit h
-    as_holds (body.MaybeLinkClose could) a below rest p e i h = closed_holds (around s above) (closing could a rest p) p h
+    as_holds (body.MaybeLinkClose could) a below rest p e i h = closed_holds (around s above) (closing_of could a rest p) p h
     as_holds other a below rest p e i h = other_holds a below rest p e i h
 
     past_holds : (goes_on : Option ℕ) (a : Label A) (below rest : Forest (Label A)) (p : Progress A) → own a.part.shape ≡ [] → HasNone below

@@ -18,7 +18,7 @@ use Rattle.std.proofs.lemmas.Map.Keys.{IsDistinct-tail}
 use Rattle.markdown_base.specs.Arena.{Arena, child_of, sibling_of}
 use Rattle.markdown_base.specs.ArenaForest.{links_of, Spells, numbers_below}
 use Rattle.std.specs.Option.{option_map}
-use Rattle.markdown_document.specs.ItemRules.{StandsBefore}
+use Rattle.markdown_document.specs.ItemRules.{ComesBefore}
 use Rattle.markdown_base.specs.BlockTree.{Numbered, numbered, item_at, tree_of}
 use Rattle.markdown_base.specs.Forest.{Forest, nil, node, Each, Throughout, preorder, first_root, relabelled}
 use Rattle.markdown_base.specs.Item.{alignments_named, is_childless, is_inline, is_open, is_resolved, text_named}
@@ -30,7 +30,7 @@ use Rattle.markdown_base.specs.declared.item.ItemBody.{ItemBody}
 use Rattle.markdown_base.specs.declared.node.Node.{Node}
 use Rattle.markdown_base.proofs.ForestLemmas.{Throughout-weaker, relabelled-Throughout, relabelled-relabelled}
 use Rattle.markdown_base.specs.Questions.{Answers}
-use Rattle.markdown_blocks.specs.Blocks.{block_text, block_options, block_tree, block_parts, IsOfText}
+use Rattle.markdown_blocks.specs.Blocks.{text_of_blocks, block_options, block_tree, block_parts, IsOfText}
 use Rattle.markdown_blocks.specs.declared.blocks.Blocks.{Blocks}
 use Rattle.markdown_inline.specs.ParserLeft.{elements, rules_of, reading_of, expansion_limit, ReadsBlocks, ReadsText}
 use Rattle.markdown_inline.specs.ParserLeft.{block_definitions, parser_definitions}
@@ -132,7 +132,7 @@ AllKept source counts trees = Throughout (λ a below after. KeepsRules source co
 
 in_order_from : (source : List ℕ) (counts : PartCounts) (a : Numbered) (after : Forest Numbered) → is_resolved a.item.body ≡ false
     → AllKept source counts after → InlineInOrder a (first_root after)
-    → StandsBefore a (first_root after)
+    → ComesBefore a (first_root after)
 in_order_from source counts a nil r w h = tt
 in_order_from source counts a (node b below after) r w h = λ x y. h (inline_from (is_inline a.item.body) (is_resolved a.item.body) x r)
     (inline_from (is_inline b.item.body) (is_resolved b.item.body) y w.0.nothing_resolved)
@@ -287,10 +287,10 @@ uses_held blocks held h =
     same
 
 -- at the start what is left is the whole reading
-pub starts_left : {F : Type 0} (blocks : Blocks) (p : Parser F) (answers : Answers) → p.resolver.text.now ≡ block_text blocks
+pub starts_left : {F : Type 0} (blocks : Blocks) (p : Parser F) (answers : Answers) → p.resolver.text.now ≡ text_of_blocks blocks
     → p.resolver.options ≡ block_options blocks → HoldsParts (block_parts blocks) p.resolver.tables
     → (tree : Arena Item) → tree ≡ block_tree blocks → p.tree ≡ record tree { spine = []; cursor = child_of tree.nodes 0 }
-    → p.resolver.limit ≡ expansion_limit (block_text blocks)
+    → p.resolver.limit ≡ expansion_limit (text_of_blocks blocks)
     → elements p answers ≡ reading_of blocks (is_some p.resolver.callback) answers
 unfolding left_of
 starts_left blocks p answers text options held tree same reset limit =
@@ -304,7 +304,7 @@ starts_left blocks p answers text options held tree same reset limit =
       uses_held blocks p.resolver.tables held,
       rules_held blocks p.resolver.tables p.resolver.options (is_some p.resolver.callback) held options,
       ← document-trees
-          (block_text blocks) (tables_at_start (block_parts blocks)) (block_tree blocks).nodes,
+          (text_of_blocks blocks) (tables_at_start (block_parts blocks)) (block_tree blocks).nodes,
     ) refl
 
 -- a parser of a block result of a text is one of some block result of the text

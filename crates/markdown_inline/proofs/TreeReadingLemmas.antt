@@ -2,21 +2,21 @@
 -- chain, and a whole document.
 use Rattle.std.proofs.Common.{◌≡◌, ℕ, Bool, List, [], ◌∷◌, ◌++◌, map, refl, sym, subst, ap, ◌∙◌, append_assoc, append-nil}
 use Rattle.std.specs.declared.ops.Range.{Range}
-use Rattle.markdown_base.specs.Event.{start, end, end_of, hard_break}
+use Rattle.markdown_base.specs.Event.{start, end, tag_end, hard_break}
 use Rattle.markdown_base.specs.Forest.{Forest, nil, node}
 use Rattle.markdown_base.specs.Questions.{Answers, Question}
-use Rattle.markdown_blocks.specs.Blocks.{block_parts, block_text, block_tree}
+use Rattle.markdown_blocks.specs.Blocks.{block_parts, text_of_blocks, block_tree}
 use Rattle.markdown_blocks.specs.declared.blocks.Blocks.{Blocks}
 use Rattle.markdown_delims.specs.PairingLaws.{NothingOpen}
 use Rattle.markdown_document.specs.Above.{Above, inside_label, no_blocks}
-use Rattle.markdown_document.specs.ChainRest.{joined}
+use Rattle.markdown_document.specs.ChainRest.{joined_chains}
 use Rattle.markdown_document.specs.Document.{Shape, leaf, enclosed, plain, backslash_break, unresolved, Plain}
 use Rattle.markdown_document.specs.Document.{document, plain_tags}
 use Rattle.markdown_document.specs.Setting.{Known, Setting, setting_of}
 use Rattle.markdown_document.specs.Tables.{tables_at_start}
-use Rattle.markdown_inline.specs.Elements.{Element, Placed, Reading, event, events_of, nothing, question, questions_of, then_reads}
+use Rattle.markdown_inline.specs.Elements.{Element, Placed, Reading, event, events_of, nothing_read, question, questions_of, then_reads}
 use Rattle.markdown_inline.specs.ParserLeft.{known_at_start, reading_of, rules_of}
-use Rattle.markdown_inline.specs.Reading.{chain_reading, opened, reading, settled_reading}
+use Rattle.markdown_inline.specs.Reading.{chain_reading, reading_opened, reading, settled_reading}
 use Rattle.markdown_inline.specs.ResolvedDocument.{Resolution, Resolving, resolved_blocks, resolved_chain, resolved_document}
 use Rattle.markdown_inline.specs.ResolvedDocument.{resolved_tree}
 use Rattle.markdown_inline.specs.TreeReading.{SplitLaw, TreeLaw, events_in, tree_events}
@@ -29,7 +29,7 @@ use Rattle.markdown_resolver.specs.Resolved.{all_paired, resolved}
 record Reads (reads : Reading → Reading) (known : Known) (es : List Placed) (qs : List Question) (later : Known) : Type 0 where
   events : (after : Reading) → events_of (reads after known) ≡ es ++ events_of (after later)
   questions : (after : Reading) → questions_of (reads after known) ≡ qs ++ questions_of (after later)
-  goes_on : (after : Reading) → reads after known ≡ reads nothing known ++ after later
+  goes_on : (after : Reading) → reads after known ≡ reads nothing_read known ++ after later
 
 reads_nothing : (known : Known) → Reads (λ after. after) known [] [] known
 reads_nothing known = record { events = λ after. refl; questions = λ after. refl; goes_on = λ after. refl }
@@ -52,9 +52,9 @@ both_read below after known middle later es fs qs ps b a = record {
       ∙ sym (append_assoc es fs (events_of (rest later)));
   questions = λ rest. b.questions (after rest) ∙ ap (λ (l : List Question). qs ++ l) (a.questions rest)
       ∙ sym (append_assoc qs ps (questions_of (rest later)));
-  goes_on = λ rest. b.goes_on (after rest) ∙ ap (λ (l : List Element). below nothing known ++ l) (a.goes_on rest)
-      ∙ sym (append_assoc (below nothing known) (after nothing middle) (rest later))
-      ∙ ap (λ (l : List Element). l ++ rest later) (sym (b.goes_on (after nothing)));
+  goes_on = λ rest. b.goes_on (after rest) ∙ ap (λ (l : List Element). below nothing_read known ++ l) (a.goes_on rest)
+      ∙ sym (append_assoc (below nothing_read known) (after nothing_read middle) (rest later))
+      ∙ ap (λ (l : List Element). l ++ rest later) (sym (b.goes_on (after nothing_read)));
 }
 
 -- a tree that encloses what is below it
@@ -69,10 +69,10 @@ enclosed_reads first last below after known middle later es fs qs ps b a =
 -- a resolved forest
 settled_by : (shape : Shape) (range : Range ℕ) (under rest : Reading → Reading) (known : Known) (es fs : List Placed)
     → Reads under known es [] known → Reads rest known fs [] known
-    → Reads (λ after. opened shape range under (rest after) (rest after)) known (tree_events shape range es fs) [] known
+    → Reads (λ after. reading_opened shape range under (rest after) (rest after)) known (tree_events shape range es fs) [] known
 settled_by (leaf e origins) range under rest known es fs i b = one_reads (e, range, origins) rest known known fs [] b
 settled_by (enclosed tag) range under rest known es fs i b =
-    enclosed_reads (start tag, range, []) (end (end_of tag), range, []) under rest known known known es fs [] [] i b
+    enclosed_reads (start tag, range, []) (end (tag_end tag), range, []) under rest known known known es fs [] [] i b
 settled_by plain range under rest known es fs i b = both_read under rest known known known es fs [] [] i b
 settled_by backslash_break range under rest known es fs i b = one_reads (hard_break, range, []) rest known known fs [] b
 settled_by (unresolved x) range under rest known es fs i b = b
@@ -100,14 +100,14 @@ module _ (s : Setting) where
         questions = λ after. questions_of-questions r.questions (settled_reading f after r.known)
             ∙ ap (λ (l : List Question). r.questions ++ l) (h.questions after);
         goes_on = λ after. ap (λ (l : List Element). map question r.questions ++ l) (h.goes_on after)
-            ∙ sym (append_assoc (map question r.questions) (settled_reading f nothing r.known) (after r.known));
+            ∙ sym (append_assoc (map question r.questions) (settled_reading f nothing_read r.known) (after r.known));
       }
 
   -- a tree, by its shape
   tree_reads : (shape : Shape) (a : Plain) (under rest whole : Reading → Reading) (below after chain : Resolving (Unit {0}))
       → a.part.shape ≡ shape → ((known : Known) → ReadsAs under known (below known)) → ((known : Known) → ReadsAs rest known (after known))
       → ((known : Known) → ReadsAs whole known (chain known)) → (known : Known)
-      → ReadsAs (λ later. opened shape a.part.range under (rest later) (whole later)) known (resolved_tree shape a below after chain known)
+      → ReadsAs (λ later. reading_opened shape a.part.range under (rest later) (whole later)) known (resolved_tree shape a below after chain known)
   tree_reads (leaf e origins) a under rest whole below after chain is b r w known =
       let shows : tree_events (leaf e origins) a.part.range [] (events_in (after known).trees)
       ≡ tree_events a.part.shape a.part.range [] (events_in (after known).trees) =
@@ -118,7 +118,7 @@ module _ (s : Setting) where
   tree_reads (enclosed tag) a under rest whole below after chain is b r w known =
       let middle : Known = (below known).known in
       let first : Placed = (start tag, a.part.range, []) in
-      let last : Placed = (end (end_of tag), a.part.range, []) in
+      let last : Placed = (end (tag_end tag), a.part.range, []) in
       let inside : List Placed = events_in (below known).trees in
       let behind : List Placed = events_in (after middle).trees in
       subst (λ (l : List Placed). Reads (λ later. then_reads first (under (then_reads last (rest later)))) known l
@@ -156,13 +156,13 @@ module _ (s : Setting) where
 
   -- the first trees of a document, where none is open, and then the others
   parts_read : (above : Above) (first others : Forest Plain) (after : Reading) → NothingOpen first
-      → reading s plain_tags above (joined first others) after ≡ reading s plain_tags above first (reading s plain_tags above others after)
+      → reading s plain_tags above (joined_chains first others) after ≡ reading s plain_tags above first (reading s plain_tags above others after)
   parts_read above nil others after h = refl
   parts_read above (node a below later) others after h =
       opened-settled a.part.shape a.part.range (λ inner. reading s plain_tags (inside_label a above) below inner)
-      (λ inner. reading s plain_tags (inside_label a above) below inner) (reading s plain_tags above (joined later others) after)
+      (λ inner. reading s plain_tags (inside_label a above) below inner) (reading s plain_tags above (joined_chains later others) after)
       (reading s plain_tags above later (reading s plain_tags above others after))
-      (chain_reading s plain_tags above (node a below (joined later others)) after)
+      (chain_reading s plain_tags above (node a below (joined_chains later others)) after)
       (chain_reading s plain_tags above (node a below later) (reading s plain_tags above others after)) h.0 (λ inner. refl)
       (parts_read above later others after h.1)
 
@@ -181,9 +181,9 @@ pub blocks_read : (blocks : Blocks) (asks : Bool) (answers : Answers)
     → (events_of (reading_of blocks asks answers) ≡ events_in (resolved_blocks blocks asks answers).trees)
     × (questions_of (reading_of blocks asks answers) ≡ (resolved_blocks blocks asks answers).questions)
 blocks_read blocks asks answers =
-    let source : List ℕ = block_text blocks in
+    let source : List ℕ = text_of_blocks blocks in
     let r = document_reads (setting_of source (rules_of blocks asks)) (no_blocks source)
     (document source (tables_at_start (block_parts blocks)) (block_tree blocks).nodes) (known_at_start source answers) in (
-      r.events nothing ∙ append-nil (events_in (resolved_blocks blocks asks answers).trees),
-      r.questions nothing ∙ append-nil (resolved_blocks blocks asks answers).questions,
+      r.events nothing_read ∙ append-nil (events_in (resolved_blocks blocks asks answers).trees),
+      r.questions nothing_read ∙ append-nil (resolved_blocks blocks asks answers).questions,
     )

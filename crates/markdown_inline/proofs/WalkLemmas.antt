@@ -6,13 +6,13 @@ use Rattle.markdown_base.specs.Arena.{child_of, sibling_of}
 use Rattle.markdown_base.specs.ArenaForest.{Links, links_of, forest_at}
 use Rattle.markdown_base.specs.ArenaWalk.{Reaches, AllReach}
 use Rattle.markdown_base.specs.BlockTree.{item_at}
-use Rattle.markdown_inline.specs.Elements.{Placed, Reading, event, nothing, then_reads}
+use Rattle.markdown_inline.specs.Elements.{Placed, Reading, event, nothing_read, then_reads}
 use Rattle.markdown_inline.specs.Counts.{Counting, no_chain, counts_around, counts_ahead, first_counts, unless_ended, LeavesAhead}
 use Rattle.markdown_inline.proofs.CountLemmas.{counts_around-snoc, event-none}
 use Rattle.markdown_document.specs.Above.{Above, no_blocks, inside_item, inside_all, above_at}
 use Rattle.markdown_document.specs.Setting.{Known, Setting}
 use Rattle.std.specs.declared.ops.Range.{Range}
-use Rattle.markdown_base.specs.Event.{EventView, TagView, start, end_of, hard_break}
+use Rattle.markdown_base.specs.Event.{EventView, TagView, start, tag_end, hard_break}
 use Rattle.markdown_base.specs.Item.{LiesIn, range_of, is_open}
 use Rattle.markdown_base.specs.declared.item.Item.{Item}
 use Rattle.markdown_base.specs.declared.item.ItemBody.{ItemBody}
@@ -20,8 +20,8 @@ use Rattle.markdown_base.specs.declared.node.Node.{Node}
 use Rattle.markdown_base.proofs.ArenaForestLemmas.{opens, forest_at-none}
 use Rattle.markdown_base.proofs.ArenaLemmas.{All-front}
 use Rattle.markdown_base.proofs.ForestLemmas.{All-append}
-use Rattle.markdown_inline.specs.Reading.{opened, reading}
-use Rattle.markdown_inline.specs.Walk.{ended, around, left_of, closing}
+use Rattle.markdown_inline.specs.Reading.{reading_opened, reading}
+use Rattle.markdown_inline.specs.Walk.{ended, after_chain, left_of, end_of_body}
 use Rattle.markdown_document.specs.Places.{label_at, trees_from, IsPlaced}
 use Rattle.markdown_document.specs.Totals.{total, same, naming, weight_at}
 use Rattle.markdown_document.specs.Tables.{Tables, Named}
@@ -85,10 +85,10 @@ AboveKept-last source tables nodes (j ∷ js) ix a = AboveKept-last source table
 
 -- the node that was entered last ends first
 around-snoc : (s : Setting) (above : Above) (tables : Tables) (nodes : List (Node Item)) (spine : List ℕ) (ix : ℕ) (after : Reading)
-    → around s above tables nodes (spine ++ ix ∷ []) after
-    ≡ ended (closing (item_at nodes ix).body) (range_of (item_at nodes ix))
+    → after_chain s above tables nodes (spine ++ ix ∷ []) after
+    ≡ ended (end_of_body (item_at nodes ix).body) (range_of (item_at nodes ix))
     (reading s plain_tags (inside_all nodes spine above) (trees_from s.text tables nodes (sibling_of nodes ix))
-    (around s above tables nodes spine after))
+    (after_chain s above tables nodes spine after))
 around-snoc s above tables nodes [] ix after = refl
 around-snoc s above tables nodes (j ∷ js) ix after = around-snoc s (inside_item (item_at nodes j) above) tables nodes js ix _
 
@@ -105,14 +105,14 @@ climbed-snoc gone count k (j ∷ js) ix = omega (arith, climbed-snoc gone count 
 
 -- how a tree ends depends on its body alone
 closing-enclosed : (tables : Tables) (source : List ℕ) (body : ItemBody) (tag : TagView) → shape_of tables source body ≡ enclosed tag
-    → closing body ≡ Some (end_of tag)
+    → end_of_body body ≡ Some (tag_end tag)
 closing-enclosed tables source body.Paragraph tag h = cc h
 closing-enclosed tables source body.TightParagraph tag h = cc h
 closing-enclosed tables source (body.HardBreak true) tag h = cc h
 closing-enclosed tables source (body.HardBreak false) tag h = cc h
 closing-enclosed tables source other tag h = cc h
 
-closing-plain : (tables : Tables) (source : List ℕ) (body : ItemBody) → shape_of tables source body ≡ plain → closing body ≡ None
+closing-plain : (tables : Tables) (source : List ℕ) (body : ItemBody) → shape_of tables source body ≡ plain → end_of_body body ≡ None
 closing-plain tables source body.Paragraph h = cc h
 closing-plain tables source body.TightParagraph h = refl
 closing-plain tables source (body.HardBreak true) h = cc h
@@ -122,7 +122,7 @@ closing-plain tables source other h = cc h
 -- a tree that reads as one event
 reads-event : (shape : Shape) (range : Range ℕ) (inside : Reading → Reading) (after whole : Reading) (e : EventView) (origins : List Origin)
     → event_of_shape shape ≡ Some (e, origins)
-    → opened shape range inside after whole ≡ then_reads (e, range, origins) after
+    → reading_opened shape range inside after whole ≡ then_reads (e, range, origins) after
 reads-event (leaf d origins') range inside after whole e origins h =
     let same : (d, origins') ≡ (e, origins) = cc h in ap (λ (x : EventView × List Origin). then_reads (x.0, range, x.1) after) same
 reads-event (enclosed tag) range inside after whole e origins h = cc h
@@ -196,7 +196,7 @@ moves_in s tables nodes ix spine tag w h =
       };
       left = λ known. rw (
         o.here,
-        around-snoc s (no_blocks s.text) tables nodes spine ix nothing,
+        around-snoc s (no_blocks s.text) tables nodes spine ix nothing_read,
         inside_all-snoc nodes spine ix
             (no_blocks s.text),
         c,
@@ -233,7 +233,7 @@ moves_in_plain s tables nodes ix spine w h =
       };
       left = λ known. rw (
         o.here,
-        around-snoc s (no_blocks s.text) tables nodes spine ix nothing,
+        around-snoc s (no_blocks s.text) tables nodes spine ix nothing_read,
         inside_all-snoc nodes spine ix
             (no_blocks s.text),
         c,
@@ -254,9 +254,9 @@ moves_in_plain s tables nodes ix spine w h =
 -- out of a node that ends like this
 pub moves_out : (s : Setting) (tables : Tables) (nodes : List (Node Item)) (ix : ℕ) (spine : List ℕ) (given : List Placed)
     → Stands s.text tables nodes None (spine ++ ix ∷ [])
-    → ((after : Reading) (known : Known) → ended (closing (item_at nodes ix).body) (range_of (item_at nodes ix)) after known
+    → ((after : Reading) (known : Known) → ended (end_of_body (item_at nodes ix).body) (range_of (item_at nodes ix)) after known
     ≡ map event given ++ after known)
-    → ((after : Counting) (known : Known) → LeavesAhead given (unless_ended (closing (item_at nodes ix).body) after known) (after known))
+    → ((after : Counting) (known : Known) → LeavesAhead given (unless_ended (end_of_body (item_at nodes ix).body) after known) (after known))
     → Moves s tables nodes None (spine ++ ix ∷ []) (sibling_of nodes ix) spine given
 unfolding left_of left_total counts_ahead
 moves_out s tables nodes ix spine given w h a =
@@ -273,9 +273,9 @@ moves_out s tables nodes ix spine given w h a =
         above_kept = AboveKept-front s.text tables nodes spine ix w.above_kept;
         spine_lies = All-front (λ n. LiesIn s.text (item_at nodes n)) spine ix w.spine_lies;
       };
-      left = λ known. rw (forest_at-none (links_of nodes), around-snoc s (no_blocks s.text) tables nodes spine ix nothing)
+      left = λ known. rw (forest_at-none (links_of nodes), around-snoc s (no_blocks s.text) tables nodes spine ix nothing_read)
           (h (reading s plain_tags (above_at s.text nodes spine) (trees_from s.text tables nodes (sibling_of nodes ix))
-          (around s (no_blocks s.text) tables nodes spine nothing)) known);
+          (after_chain s (no_blocks s.text) tables nodes spine nothing_read)) known);
       ahead = λ known. rw (forest_at-none (links_of nodes), counts_around-snoc s (no_blocks s.text) tables nodes spine ix no_chain)
           (a (first_counts s plain_tags (above_at s.text nodes spine) (trees_from s.text tables nodes (sibling_of nodes ix))
           (counts_around s (no_blocks s.text) tables nodes spine no_chain)) known);

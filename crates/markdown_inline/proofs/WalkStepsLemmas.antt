@@ -17,14 +17,14 @@ use Rattle.markdown_base.proofs.ArenaForestLemmas.{opens}
 use Rattle.markdown_defs.specs.Allocations.{Allocated}
 use Rattle.markdown_inline.specs.Counts.{Counting, no_chain, counts_ahead, tree_counts, unless_ended, LeavesAhead}
 use Rattle.markdown_inline.proofs.CountLemmas.{counts-end}
-use Rattle.markdown_inline.specs.Walk.{ended, left_of, closing}
+use Rattle.markdown_inline.specs.Walk.{ended, left_of, end_of_body}
 use Rattle.markdown_document.specs.Totals.{same, naming}
 use Rattle.markdown_inline.specs.WalkTotals.{named_left}
 use Rattle.markdown_document.specs.Places.{IsPlaced}
 use Rattle.markdown_inline.specs.Standing.{Stands}
 use Rattle.markdown_document.specs.Document.{Origin, Shape, leaf, enclosed, plain, backslash_break, unresolved, shape_of, event_of_shape}
 use Rattle.markdown_document.specs.Tables.{Tables, Named, tables_of}
-use Rattle.markdown_inline.specs.WalkSteps.{TreeStands, HasEnded, Went, Passed, CanBegin, IsRefused, TakesOnly, tree_left, tree_steps}
+use Rattle.markdown_inline.specs.WalkSteps.{TreeStands, HasEnded, Went, PassedBeginning, CanBegin, IsRefused, TakesOnly, tree_left, tree_steps}
 use Rattle.markdown_inline.specs.WalkSteps.{beginning, way_at, way_at_shape}
 use Rattle.markdown_inline.proofs.TakingLemmas.{leaf_shape, some_leaf, some_tag, plain_shape, way-shape, takes_nothing}
 use Rattle.markdown_inline.proofs.LeftFrameLemmas.{left_framed}
@@ -132,7 +132,7 @@ can_begin source s held ix item w a h =
 -- past an item that is one event
 pub passed_over : (source : List ℕ) (s t : Arena Item) (held : Allocated) (ix : ℕ) (item : Item) → TreeStands source (tables_of held) s
     → s.cursor ≡ Some ix → item ≡ item_at s.nodes ix → way_at item.body ≡ way.Leaf → t ≡ record s { cursor = sibling_of s.nodes ix }
-    → Passed source s t held item
+    → PassedBeginning source s t held item
 passed_over source s t held ix item w a h goes c =
     let shape = shape_of (tables_of held) (over source item) item.body in
     let is : way_at_shape shape ≡ way.Leaf = sym (way-shape (tables_of held) (over source item) item.body) ∙ goes in
@@ -158,7 +158,7 @@ start_begins (unresolved other) tag e origins h b = cc h
 -- into an item by a Start
 pub passed_in : (source : List ℕ) (s t : Arena Item) (held : Allocated) (ix : ℕ) (item : Item) → TreeStands source (tables_of held) s
     → s.cursor ≡ Some ix → item ≡ item_at s.nodes ix → way_at item.body ≡ way.Start
-    → t ≡ record s { spine = s.spine ++ ix ∷ []; cursor = child_of s.nodes ix } → Passed source s t held item
+    → t ≡ record s { spine = s.spine ++ ix ∷ []; cursor = child_of s.nodes ix } → PassedBeginning source s t held item
 passed_in source s t held ix item w a h goes c =
     let shape = shape_of (tables_of held) (over source item) item.body in
     let is : way_at_shape shape ≡ way.Start = sym (way-shape (tables_of held) (over source item) item.body) ∙ goes in
@@ -183,9 +183,9 @@ passed_plain source s t held ix item w a h goes c =
 
 went_out : (source : List ℕ) (s t : Arena Item) (held : Allocated) (ix : ℕ) (up : List ℕ) (given : List Placed)
     → TreeStands source (tables_of held) s → s.cursor ≡ None → s.spine ≡ up ++ ix ∷ []
-    → ((after : Reading) (known : Known) → ended (closing (item_at s.nodes ix).body) (range_of (item_at s.nodes ix)) after known
+    → ((after : Reading) (known : Known) → ended (end_of_body (item_at s.nodes ix).body) (range_of (item_at s.nodes ix)) after known
     ≡ map event given ++ after known)
-    → ((after : Counting) (known : Known) → LeavesAhead given (unless_ended (closing (item_at s.nodes ix).body) after known) (after known))
+    → ((after : Counting) (known : Known) → LeavesAhead given (unless_ended (end_of_body (item_at s.nodes ix).body) after known) (after known))
     → t ≡ record s { spine = up; cursor = sibling_of s.nodes ix } → Went source s t held held given
 went_out source s t held ix up given w a sp cl ahead c =
     let st = stands_at source (tables_of held) s None (up ++ ix ∷ []) a sp w in
@@ -202,7 +202,7 @@ went_out source s t held ix up given w a sp cl ahead c =
 -- out of a node that gives an End
 pub went_out_end : (source : List ℕ) (s t : Arena Item) (held : Allocated) (ix : ℕ) (item : Item) (up : List ℕ) (e : TagEnd)
     → TreeStands source (tables_of held) s → s.cursor ≡ None → s.spine ≡ up ++ ix ∷ []
-    → item ≡ item_at s.nodes ix → closing item.body ≡ Some e → t ≡ record s { spine = up; cursor = sibling_of s.nodes ix }
+    → item ≡ item_at s.nodes ix → end_of_body item.body ≡ Some e → t ≡ record s { spine = up; cursor = sibling_of s.nodes ix }
     → Went source s t held held ((end e, range_of item, []) ∷ [])
 went_out_end source s t held ix item up e w a sp h cl c =
     rw h (went_out source s t held ix up ((end e, range_of (item_at s.nodes ix), []) ∷ []) w a sp (λ after known. rw (rw h at cl) refl)
@@ -211,7 +211,7 @@ went_out_end source s t held ix item up e w a sp h cl c =
 -- out of a node that gives no End
 pub went_out_plain : (source : List ℕ) (s t : Arena Item) (held : Allocated) (ix : ℕ) (item : Item) (up : List ℕ)
     → TreeStands source (tables_of held) s → s.cursor ≡ None → s.spine ≡ up ++ ix ∷ []
-    → item ≡ item_at s.nodes ix → closing item.body ≡ None → t ≡ record s { spine = up; cursor = sibling_of s.nodes ix }
+    → item ≡ item_at s.nodes ix → end_of_body item.body ≡ None → t ≡ record s { spine = up; cursor = sibling_of s.nodes ix }
     → Went source s t held held []
 went_out_plain source s t held ix item up w a sp h cl c =
     went_out source s t held ix up [] w a sp (λ after known. rw (rw h at cl) refl) (λ after known. rw (rw h at cl) refl) c

@@ -11,7 +11,7 @@ use Rattle.markdown_base.specs.declared.node.Node.{Node}
 use Rattle.markdown_document.specs.Places.{IsPlaced}
 use Rattle.markdown_document.specs.Tables.{Tables}
 use Rattle.markdown_document.specs.Totals.{total, same, weight_if, weight_at}
-use Rattle.markdown_inline.specs.WalkTotals.{climbed, left_total, times_left, weight_left, one_if, steps_of}
+use Rattle.markdown_inline.specs.WalkTotals.{climbed, left_total, times_left, weight_to_come, one_if, steps_of}
 use Rattle.markdown_inline.specs.Standing.{Stands}
 
 -- the sum of the counts of the numbers below n
@@ -76,7 +76,7 @@ node-few false = (omega arith, omega arith)
 
 -- no node counts twice, so what is left weighs at most four for each
 weight_left-few : (source : List ℕ) (tables : Tables) (nodes : List (Node Item)) (l : Option ℕ) (spine : List ℕ)
-    → Stands source tables nodes l spine → weight_left nodes l spine ≤ 4 * length nodes
+    → Stands source tables nodes l spine → weight_to_come nodes l spine ≤ 4 * length nodes
 unfolding left_total
 weight_left-few source tables nodes l spine w =
     let k = links_of nodes in

@@ -6,14 +6,14 @@ use Rattle.std.specs.Prelude.{⊤, if◌then◌else◌}
 use Rattle.std.proofs.lemmas.List.{map-append}
 use Rattle.std.specs.declared.ops.Range.{Range}
 use Rattle.markdown_base.specs.BlockTree.{Numbered, tree_of}
-use Rattle.markdown_base.specs.Event.{EventView, TagView, start, end, end_of, link, image, hard_break}
+use Rattle.markdown_base.specs.Event.{EventView, TagView, start, end, tag_end, link, image, hard_break}
 use Rattle.markdown_base.specs.Forest.{Forest, nil, node, Each, relabelled}
 use Rattle.markdown_base.specs.Item.{is_resolved}
 use Rattle.markdown_base.specs.Questions.{Answers}
 use Rattle.markdown_base.specs.WellFormed.{AllKeepRules, PartCounts, counts_of}
 use Rattle.markdown_base.specs.declared.item.ItemBody.{ItemBody}
 use Rattle.markdown_base.specs.declared.item.ItemBody.TheVariants as body
-use Rattle.markdown_blocks.specs.Blocks.{block_parts, block_text, block_tree}
+use Rattle.markdown_blocks.specs.Blocks.{block_parts, text_of_blocks, block_tree}
 use Rattle.markdown_blocks.specs.declared.blocks.Blocks.{Blocks}
 use Rattle.markdown_document.specs.Above.{Above, inside_label, no_blocks}
 use Rattle.markdown_document.specs.ChainRest.{cut_event, cut_shape, without_first}
@@ -43,7 +43,7 @@ use Rattle.markdown_inline.proofs.TreeReadingLemmas.{blocks_read}
 -- the events of a forest of which nothing is open
 abbrev pub opened_events : Shape → Range ℕ → (inside after : List Ranged) → List Ranged
 opened_events (leaf e origins) range inside after = (e, range) ∷ after
-opened_events (enclosed tag) range inside after = (start tag, range) ∷ (inside ++ (end (end_of tag), range) ∷ after)
+opened_events (enclosed tag) range inside after = (start tag, range) ∷ (inside ++ (end (tag_end tag), range) ∷ after)
 opened_events plain range inside after = inside ++ after
 opened_events backslash_break range inside after = (hard_break, range) ∷ after
 opened_events (unresolved b) range inside after = after
@@ -57,7 +57,7 @@ ranged_tree : (shape : Shape) (range : Range ℕ) (es fs : List Placed)
     → ranged (tree_events shape range es fs) ≡ opened_events shape range (ranged es) (ranged fs)
 ranged_tree (leaf e origins) range es fs = refl
 ranged_tree (enclosed tag) range es fs =
-    ap (λ (l : List Ranged). (start tag, range) ∷ l) (map-append (λ (e : Placed). (e.0, e.1)) es ((end (end_of tag), range, []) ∷ fs))
+    ap (λ (l : List Ranged). (start tag, range) ∷ l) (map-append (λ (e : Placed). (e.0, e.1)) es ((end (tag_end tag), range, []) ∷ fs))
 ranged_tree plain range es fs = map-append (λ (e : Placed). (e.0, e.1)) es fs
 ranged_tree backslash_break range es fs = refl
 ranged_tree (unresolved b) range es fs = refl
@@ -278,12 +278,12 @@ block_shapes source tables counts (node a below after) h = (
 
 -- the whole
 pub whole_such : (blocks : Blocks) (asks : Bool) (answers : Answers)
-    → IsSuch (known_at_start (block_text blocks) answers) (resolved_blocks blocks asks answers)
+    → IsSuch (known_at_start (text_of_blocks blocks) answers) (resolved_blocks blocks asks answers)
 whole_such blocks asks answers =
-    document_such (setting_of (block_text blocks) (rules_of blocks asks)) (no_blocks (block_text blocks))
-    (document (block_text blocks) (tables_at_start (block_parts blocks)) (block_tree blocks).nodes)
-    (known_at_start (block_text blocks) answers)
-    (block_shapes (block_text blocks) (tables_at_start (block_parts blocks)) (counts_of (block_parts blocks))
+    document_such (setting_of (text_of_blocks blocks) (rules_of blocks asks)) (no_blocks (text_of_blocks blocks))
+    (document (text_of_blocks blocks) (tables_at_start (block_parts blocks)) (block_tree blocks).nodes)
+    (known_at_start (text_of_blocks blocks) answers)
+    (block_shapes (text_of_blocks blocks) (tables_at_start (block_parts blocks)) (counts_of (block_parts blocks))
     (tree_of (block_tree blocks).nodes) blocks.well_formed.rules)
 
 -- its events

@@ -5,7 +5,7 @@ use Rattle.std.specs.Prelude.{is_some}
 use Rattle.std.specs.declared.ops.Range.{Range}
 use Rattle.markdown_base.specs.Questions.{Question, Answer, Answers}
 use Rattle.markdown_base.specs.declared.event.Event.{Event}
-use Rattle.markdown_blocks.specs.Blocks.{block_text, block_tree, block_parts}
+use Rattle.markdown_blocks.specs.Blocks.{text_of_blocks, block_tree, block_parts}
 use Rattle.markdown_blocks.specs.declared.blocks.Blocks.{Blocks}
 use Rattle.markdown_document.specs.Above.{Above}
 use Rattle.markdown_document.specs.Document.{document, plain_tags}
@@ -37,7 +37,7 @@ viewed-ranged source (e ∷ given) (p ∷ events) h =
 
 -- the three laws, of a reading
 whole_reading : (blocks : Blocks) (asks : Bool) (answers : Answers)
-    → IsWhole (block_text blocks) (ranged (events_of (reading_of blocks asks answers)))
+    → IsWhole (text_of_blocks blocks) (ranged (events_of (reading_of blocks asks answers)))
 whole_reading blocks asks answers =
     record {
       balanced = balanced-law blocks asks answers;
@@ -49,7 +49,7 @@ whole_reading blocks asks answers =
 -- what a reading asks
 asks_once : (blocks : Blocks) (asks : Bool) (answers : Answers) → AsksOnce blocks asks (questions_of (reading_of blocks asks answers))
 asks_once blocks asks answers =
-    let source = block_text blocks in
+    let source = text_of_blocks blocks in
     let nodes = (block_tree blocks).nodes in
     let tables = tables_at_start (block_parts blocks) in
     let rules = rules_of blocks asks in
@@ -71,7 +71,7 @@ whole_run step p given callback r blocks reads =
     let same : viewed given ≡ ranged (events_of (reading_of blocks asks answers)) =
     viewed-ranged _ given r.events r.are ∙ ap ranged (sym (r.left [])) ∙ ap (λ es. ranged (events_of es)) (reads answers) in
     record {
-      events = subst (IsWhole (block_text blocks)) (sym same) (whole_reading blocks asks answers);
+      events = subst (IsWhole (text_of_blocks blocks)) (sym same) (whole_reading blocks asks answers);
       questions = questions_of (elements p r.answers);
       answers = r.answers;
       asked = r.asked;

@@ -2,7 +2,7 @@
 -- range.
 use Rattle.std.specs.Prelude.{◌≡◌, ℕ, Bool, List, [], ◌∷◌, map}
 use Rattle.std.specs.declared.ops.Range.{Range}
-use Rattle.markdown_base.specs.Event.{EventView, start, end, end_of}
+use Rattle.markdown_base.specs.Event.{EventView, start, end, tag_end}
 use Rattle.markdown_base.specs.Questions.{Answers}
 use Rattle.markdown_base.specs.declared.tag.TagEnd.{TagEnd}
 use Rattle.markdown_blocks.specs.declared.blocks.Blocks.{Blocks}
@@ -24,7 +24,7 @@ Awaited = TagEnd × Range ℕ
 -- the condition on an event before which these Ends are awaited, the nearest first, and on what follows it, by the Ends
 -- that are awaited then: an End is the nearest of them, with its range
 abbrev pub EndsInTurn : EventView → Range ℕ → List Awaited → (rest : List Awaited → Type 0) → Type 0
-EndsInTurn (start tag) range awaited rest = rest ((end_of tag, range) ∷ awaited)
+EndsInTurn (start tag) range awaited rest = rest ((tag_end tag, range) ∷ awaited)
 EndsInTurn (end e) range [] rest = ⊥
 EndsInTurn (end e) range (nearest ∷ awaited) rest = (e ≡ nearest.0) × (range ≡ nearest.1) × rest awaited
 EndsInTurn other range awaited rest = rest awaited

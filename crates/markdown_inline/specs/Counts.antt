@@ -17,7 +17,7 @@ use Rattle.markdown_document.specs.Tables.{Tables}
 use Rattle.markdown_document.specs.declared.work.Work.{Work}
 use Rattle.markdown_resolver.specs.ChainCounts.{chain_counts}
 use Rattle.markdown_inline.specs.Elements.{Placed}
-use Rattle.markdown_inline.specs.Walk.{closing}
+use Rattle.markdown_inline.specs.Walk.{end_of_body}
 
 -- the counts before any chain is resolved
 abbrev pub no_work : Work
@@ -60,7 +60,7 @@ abbrev pub counts_around : Setting → Above → Tables → List (Node Item) →
 counts_around s above tables nodes [] after = after
 counts_around s above tables nodes (ix ∷ deeper) after =
     counts_around s (inside_item (item_at nodes ix) above) tables nodes deeper
-    (unless_ended (closing (item_at nodes ix).body)
+    (unless_ended (end_of_body (item_at nodes ix).body)
     (first_counts s plain_tags above (trees_from s.text tables nodes (sibling_of nodes ix)) after))
 
 -- the counts of the chain that a walk resolves before its next event; none where it resolves no chain

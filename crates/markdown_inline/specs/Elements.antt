@@ -20,8 +20,8 @@ abbrev pub Reading : Type 0
 Reading = Known → List Element
 
 -- the empty reading
-abbrev pub nothing : Reading
-nothing known = []
+abbrev pub nothing_read : Reading
+nothing_read known = []
 
 -- one event, and then another reading
 abbrev pub then_reads : Placed → Reading → Reading

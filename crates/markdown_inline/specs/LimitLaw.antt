@@ -3,7 +3,7 @@
 use Rattle.std.specs.Prelude.{ℕ, ◌+◌, ◌<◌, Bool, if◌then◌else◌, List, [], ◌∷◌, ◌++◌, map}
 use Rattle.markdown_base.specs.Event.{TagView, link, image, LinkView, EventView, start, end}
 use Rattle.markdown_base.specs.Questions.{Answers}
-use Rattle.markdown_blocks.specs.Blocks.{block_text}
+use Rattle.markdown_blocks.specs.Blocks.{text_of_blocks}
 use Rattle.markdown_blocks.specs.declared.blocks.Blocks.{Blocks}
 use Rattle.markdown_brackets.specs.Lookup.{size_of}
 use Rattle.markdown_inline.specs.Balanced.{Ranged, ranged}
@@ -54,9 +54,9 @@ ExpandsBelow limit events = sum_but_last (expansions events) < limit
 -- text's length in bytes and 100,000
 abbrev pub LimitLaw : Type 0
 LimitLaw = (blocks : Blocks) (asks : Bool) (answers : Answers)
-    → ExpandsBelow (expansion_limit (block_text blocks)) (ranged (events_of (reading_of blocks asks answers)))
+    → ExpandsBelow (expansion_limit (text_of_blocks blocks)) (ranged (events_of (reading_of blocks asks answers)))
 
 -- and so it is of all that look-ups found in resolving its tree, including what no event shows
 abbrev pub LookUpLaw : Type 0
 LookUpLaw = (blocks : Blocks) (asks : Bool) (answers : Answers)
-    → sum_but_last (map size_of (resolved_blocks blocks asks answers).found) < expansion_limit (block_text blocks)
+    → sum_but_last (map size_of (resolved_blocks blocks asks answers).found) < expansion_limit (text_of_blocks blocks)

@@ -7,7 +7,7 @@ use Rattle.markdown_base.specs.declared.item.ItemBody.TheVariants as body
 use Rattle.markdown_base.specs.declared.tag.LinkType.{LinkType}
 use Rattle.markdown_base.specs.declared.tag.LinkType.TheVariants as kind
 use Rattle.markdown_brackets.specs.BracketDecision.{Around, Becomes, Progress, a_link, decided}
-use Rattle.markdown_brackets.specs.ReadChain.{closing, read_past}
+use Rattle.markdown_brackets.specs.ReadChain.{closing_of, read_past}
 use Rattle.markdown_document.specs.Above.{Above}
 use Rattle.markdown_document.specs.ChainRest.{begun_at, end_of, open_body}
 use Rattle.markdown_document.specs.Document.{Tags, Label}
@@ -33,7 +33,7 @@ found_by other = []
 abbrev pub found_as : {A : Type 0} → Around → ItemBody → Label A → (rest : Forest (Label A)) → Progress A
     → List LinkView
 found_as w (body.MaybeLinkClose could_be_reference) a rest p =
-    found_by (decided w (closing could_be_reference a rest p) p).becomes
+    found_by (decided w (closing_of could_be_reference a rest p) p).becomes
 found_as w other a rest p = []
 
 -- the same where pass one has read up to a byte offset: nothing is found at an item that ends there or before

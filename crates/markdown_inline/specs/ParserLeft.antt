@@ -7,7 +7,7 @@ use Rattle.markdown_base.specs.CowText.{text_of}
 use Rattle.markdown_base.specs.Questions.{Answers}
 use Rattle.markdown_base.specs.declared.item.Item.{Item}
 use Rattle.markdown_base.specs.declared.options.Options.{Options}
-use Rattle.markdown_blocks.specs.Blocks.{block_text, block_options, block_tree, block_parts, IsOfText}
+use Rattle.markdown_blocks.specs.Blocks.{text_of_blocks, block_options, block_tree, block_parts, IsOfText}
 use Rattle.markdown_defs.specs.Definitions.{Labelled, firsts}
 use Rattle.markdown_defs.specs.Folding.{is_match}
 use Rattle.markdown_blocks.specs.declared.blocks.Blocks.{Blocks}
@@ -15,7 +15,7 @@ use Rattle.markdown_document.specs.Above.{no_blocks}
 use Rattle.markdown_document.specs.Document.{plain_tags, document}
 use Rattle.markdown_document.specs.Counts.{ChainCounts}
 use Rattle.markdown_inline.specs.Counts.{tree_counts}
-use Rattle.markdown_inline.specs.Elements.{Element, nothing}
+use Rattle.markdown_inline.specs.Elements.{Element, nothing_read}
 use Rattle.markdown_inline.specs.Reading.{reading}
 use Rattle.markdown_document.specs.Setting.{Rules, Setting, Known, rules_from, setting_of, uses_of}
 use Rattle.markdown_document.specs.Tables.{tables_of, tables_at_start}
@@ -48,9 +48,9 @@ rules_of blocks asks = record {
 -- the reading of a block result, for these answers, with or without a callback
 abbrev pub reading_of : Blocks → Bool → Answers → List Element
 reading_of blocks asks answers =
-    reading (setting_of (block_text blocks) (rules_of blocks asks)) plain_tags (no_blocks (block_text blocks))
-    (document (block_text blocks) (tables_at_start (block_parts blocks)) (block_tree blocks).nodes) nothing
-    (known_at_start (block_text blocks) answers)
+    reading (setting_of (text_of_blocks blocks) (rules_of blocks asks)) plain_tags (no_blocks (text_of_blocks blocks))
+    (document (text_of_blocks blocks) (tables_at_start (block_parts blocks)) (block_tree blocks).nodes) nothing_read
+    (known_at_start (text_of_blocks blocks) answers)
 
 -- the text that a parser reads
 abbrev pub parser_text : {F : Type 0} → Parser F → List ℕ

@@ -13,7 +13,7 @@ use Rattle.markdown_document.specs.Above.{Above, no_blocks}
 use Rattle.markdown_document.specs.Document.{Plain, document, plain_tags}
 use Rattle.markdown_document.specs.Setting.{Known, Rules, Setting, setting_of}
 use Rattle.markdown_document.specs.Tables.{Tables}
-use Rattle.markdown_inline.specs.Elements.{Element, nothing, questions_of}
+use Rattle.markdown_inline.specs.Elements.{Element, nothing_read, questions_of}
 use Rattle.markdown_inline.specs.Reading.{reading}
 use Rattle.markdown_resolver.specs.ChainQuestions.{EachChain}
 use Rattle.markdown_resolver.specs.Resolved.{resolved}
@@ -25,7 +25,7 @@ closers_of nodes = count_by (λ n. is_closer n.item.body) (preorder (tree_of nod
 -- the reading of a document, by its rules and what is known before it
 abbrev pub document_reading : List ℕ → List (Node Item) → Tables → Rules → Known → List Element
 document_reading source nodes tables rules known =
-    reading (setting_of source rules) plain_tags (no_blocks source) (document source tables nodes) nothing known
+    reading (setting_of source rules) plain_tags (no_blocks source) (document source tables nodes) nothing_read known
 
 -- at most one question is asked for each `]`, and none at a limit of 0
 abbrev pub DocumentCountLaw : Type 0

@@ -2,7 +2,7 @@
 -- them.
 use Rattle.std.specs.Prelude.{ℕ, List, [], ◌++◌, map}
 use Rattle.std.specs.declared.ops.Range.{Range}
-use Rattle.markdown_base.specs.Event.{start, end, end_of, hard_break}
+use Rattle.markdown_base.specs.Event.{start, end, tag_end, hard_break}
 use Rattle.markdown_base.specs.Forest.{Forest, nil, node}
 use Rattle.markdown_document.specs.Document.{Tags, Shape, leaf, enclosed, plain, backslash_break, unresolved, Label}
 use Rattle.markdown_inline.specs.Elements.{Element, question, Reading, then_reads}
@@ -13,19 +13,19 @@ use Rattle.markdown_document.specs.Setting.{Setting}
 
 -- the reading of a tree with this range: `inside` reads what is below the tree and then what follows, `after` is the
 -- reading of what follows the tree, and `whole` that of the chain from this tree on, where the tree is open
-abbrev pub opened : Shape → Range ℕ → (inside : Reading → Reading) → (after whole : Reading) → Reading
-opened (leaf e origins) range inside after whole = then_reads (e, range, origins) after
-opened (enclosed tag) range inside after whole = then_reads (start tag, range, [])
-    (inside (then_reads (end (end_of tag), range, []) after))
-opened plain range inside after whole = inside after
-opened backslash_break range inside after whole = then_reads (hard_break, range, []) after
-opened (unresolved b) range inside after whole = whole
+abbrev pub reading_opened : Shape → Range ℕ → (inside : Reading → Reading) → (after whole : Reading) → Reading
+reading_opened (leaf e origins) range inside after whole = then_reads (e, range, origins) after
+reading_opened (enclosed tag) range inside after whole = then_reads (start tag, range, [])
+    (inside (then_reads (end (tag_end tag), range, []) after))
+reading_opened plain range inside after whole = inside after
+reading_opened backslash_break range inside after whole = then_reads (hard_break, range, []) after
+reading_opened (unresolved b) range inside after whole = whole
 
 -- the reading of a forest without open items, and of what comes after it
 abbrev pub settled_reading : {A : Type 0} → Forest (Label A) → Reading → Reading
 settled_reading nil after = after
 settled_reading (node a below later) after =
-    opened a.part.shape a.part.range (λ inner. settled_reading below inner) (settled_reading later after)
+    reading_opened a.part.shape a.part.range (λ inner. settled_reading below inner) (settled_reading later after)
     (settled_reading later after)
 
 -- the questions of a chain, then the reading of the forest that it is resolved to, and then what comes after it, with
@@ -42,6 +42,6 @@ chain_reading s tags above chain after known = then_resolved s tags (resolved s 
 abbrev pub reading : {A : Type 0} → Setting → Tags A → Above → Forest (Label A) → Reading → Reading
 reading s tags above nil after = after
 reading s tags above (node a below later) after =
-    opened a.part.shape a.part.range (λ inner. reading s tags (inside_label a above) below inner)
+    reading_opened a.part.shape a.part.range (λ inner. reading s tags (inside_label a above) below inner)
     (reading s tags above later after)
     (chain_reading s tags above (node a below later) after)

@@ -5,7 +5,7 @@ use Rattle.std.specs.Prelude.{Bool, List, [], ◌++◌}
 use Rattle.markdown_base.specs.Event.{LinkView}
 use Rattle.markdown_base.specs.Forest.{Forest, nil, node}
 use Rattle.markdown_base.specs.Questions.{Question, Answers}
-use Rattle.markdown_blocks.specs.Blocks.{block_parts, block_text, block_tree}
+use Rattle.markdown_blocks.specs.Blocks.{block_parts, text_of_blocks, block_tree}
 use Rattle.markdown_blocks.specs.declared.blocks.Blocks.{Blocks}
 use Rattle.markdown_brackets.specs.ReadChain.{begun}
 use Rattle.markdown_document.specs.Above.{Above, inside_label, no_blocks}
@@ -76,6 +76,6 @@ resolved_document s tags above (node a below after) known =
 -- the trees of a block result, for these answers, with or without a callback
 abbrev pub resolved_blocks : Blocks → (asks : Bool) → Answers → Resolution (Unit {0})
 resolved_blocks blocks asks answers =
-    resolved_document (setting_of (block_text blocks) (rules_of blocks asks)) plain_tags (no_blocks (block_text blocks))
-    (document (block_text blocks) (tables_at_start (block_parts blocks)) (block_tree blocks).nodes)
-    (known_at_start (block_text blocks) answers)
+    resolved_document (setting_of (text_of_blocks blocks) (rules_of blocks asks)) plain_tags (no_blocks (text_of_blocks blocks))
+    (document (text_of_blocks blocks) (tables_at_start (block_parts blocks)) (block_tree blocks).nodes)
+    (known_at_start (text_of_blocks blocks) answers)

@@ -1,17 +1,17 @@
 -- The reading of a document is the reading of its resolved tree, and it can be read in parts.
 use Rattle.std.specs.Prelude.{◌≡◌, ℕ, ⊤, Bool, List, [], ◌∷◌, ◌++◌}
 use Rattle.std.specs.declared.ops.Range.{Range}
-use Rattle.markdown_base.specs.Event.{EventView, start, end, end_of, hard_break}
+use Rattle.markdown_base.specs.Event.{EventView, start, end, tag_end, hard_break}
 use Rattle.markdown_base.specs.Forest.{Forest, nil, node, Each}
 use Rattle.markdown_base.specs.Questions.{Answers}
 use Rattle.markdown_blocks.specs.declared.blocks.Blocks.{Blocks}
 use Rattle.markdown_delims.specs.PairingLaws.{NothingOpen}
 use Rattle.markdown_document.specs.Above.{Above}
-use Rattle.markdown_document.specs.ChainRest.{joined}
+use Rattle.markdown_document.specs.ChainRest.{joined_chains}
 use Rattle.markdown_document.specs.Document.{Shape, leaf, enclosed, plain, backslash_break, unresolved, Label, Plain}
 use Rattle.markdown_document.specs.Document.{plain_tags}
 use Rattle.markdown_document.specs.Setting.{Known, Setting}
-use Rattle.markdown_inline.specs.Elements.{Placed, Reading, events_of, nothing, questions_of}
+use Rattle.markdown_inline.specs.Elements.{Placed, Reading, events_of, nothing_read, questions_of}
 use Rattle.markdown_inline.specs.ParserLeft.{reading_of}
 use Rattle.markdown_inline.specs.Reading.{reading}
 use Rattle.markdown_inline.specs.ResolvedDocument.{resolved_blocks, resolved_document}
@@ -20,7 +20,7 @@ use Rattle.markdown_inline.specs.ResolvedDocument.{resolved_blocks, resolved_doc
 abbrev pub tree_events : Shape → Range ℕ → (inside after : List Placed) → List Placed
 tree_events (leaf e origins) range inside after = (e, range, origins) ∷ after
 tree_events (enclosed tag) range inside after =
-    (start tag, range, []) ∷ (inside ++ (end (end_of tag), range, []) ∷ after)
+    (start tag, range, []) ∷ (inside ++ (end (tag_end tag), range, []) ∷ after)
 tree_events plain range inside after = inside ++ after
 tree_events backslash_break range inside after = (hard_break, range, []) ∷ after
 tree_events (unresolved b) range inside after = after
@@ -40,7 +40,7 @@ pub record ReadsTree (s : Setting) (above : Above) (f : Forest Plain) (known : K
       ≡ (resolved_document s plain_tags above f known).questions
       ++ questions_of (after (resolved_document s plain_tags above f known).known)
   pub goes_on : reading s plain_tags above f after known
-      ≡ reading s plain_tags above f nothing known
+      ≡ reading s plain_tags above f nothing_read known
       ++ after (resolved_document s plain_tags above f known).known
 
 -- this is true of each document
@@ -53,8 +53,8 @@ TreeLaw = (s : Setting) (above : Above) (f : Forest Plain) (known : Known) (afte
 abbrev pub SplitLaw : Type 0
 SplitLaw = (s : Setting) (above : Above) (first others : Forest Plain) (known : Known) (after : Reading)
     → NothingOpen first
-    → reading s plain_tags above (joined first others) after known
-    ≡ reading s plain_tags above first nothing known
+    → reading s plain_tags above (joined_chains first others) after known
+    ≡ reading s plain_tags above first nothing_read known
     ++ reading s plain_tags above others after (resolved_document s plain_tags above first known).known
 
 -- the event is neither a Start nor an End

@@ -3,7 +3,7 @@ use Rattle.std.specs.Prelude.{ℕ, List, [], ◌∷◌, Option, Some, None}
 use Rattle.std.specs.declared.ops.Range.{Range}
 use Rattle.markdown_base.specs.Arena.{sibling_of}
 use Rattle.markdown_base.specs.BlockTree.{item_at}
-use Rattle.markdown_base.specs.Event.{end, end_of}
+use Rattle.markdown_base.specs.Event.{end, tag_end}
 use Rattle.markdown_base.specs.Item.{range_of}
 use Rattle.markdown_base.specs.declared.item.Item.{Item}
 use Rattle.markdown_base.specs.declared.item.ItemBody.{ItemBody}
@@ -11,7 +11,7 @@ use Rattle.markdown_base.specs.declared.node.Node.{Node}
 use Rattle.markdown_base.specs.declared.tag.TagEnd.{TagEnd}
 use Rattle.markdown_document.specs.Document.{plain_tags, Shape, leaf, enclosed, plain, backslash_break, unresolved}
 use Rattle.markdown_document.specs.Document.{shape_of}
-use Rattle.markdown_inline.specs.Elements.{Reading, nothing, then_reads}
+use Rattle.markdown_inline.specs.Elements.{Reading, nothing_read, then_reads}
 use Rattle.markdown_inline.specs.Reading.{reading}
 use Rattle.markdown_document.specs.Above.{Above, no_blocks, inside_item, above_at}
 use Rattle.markdown_document.specs.Setting.{Setting}
@@ -21,14 +21,14 @@ use Rattle.markdown_document.specs.Tables.{Tables, no_tables}
 -- the End of a tree of this shape that was begun
 abbrev pub end_of_shape : Shape → Option TagEnd
 end_of_shape (leaf e origins) = None
-end_of_shape (enclosed tag) = Some (end_of tag)
+end_of_shape (enclosed tag) = Some (tag_end tag)
 end_of_shape plain = None
 end_of_shape backslash_break = None
 end_of_shape (unresolved b) = None
 
 -- the End depends on the body alone: what the Start referred to has been taken by then
-abbrev pub closing : ItemBody → Option TagEnd
-closing b = end_of_shape (shape_of no_tables [] b)
+abbrev pub end_of_body : ItemBody → Option TagEnd
+end_of_body b = end_of_shape (shape_of no_tables [] b)
 
 -- the End, where there is one, and then what comes after it
 abbrev pub ended : Option TagEnd → Range ℕ → Reading → Reading
@@ -37,15 +37,15 @@ ended (Some e) range after = then_reads (end e, range, []) after
 
 -- what comes after the chain at hand, where these blocks are open above the spine: each tree that was begun ends, the
 -- innermost first, and the trees after it are read
-abbrev pub around : Setting → Above → Tables → List (Node Item) → List ℕ → Reading → Reading
-around s above tables nodes [] after = after
-around s above tables nodes (ix ∷ deeper) after =
-    around s (inside_item (item_at nodes ix) above) tables nodes deeper
-    (ended (closing (item_at nodes ix).body) (range_of (item_at nodes ix))
+abbrev pub after_chain : Setting → Above → Tables → List (Node Item) → List ℕ → Reading → Reading
+after_chain s above tables nodes [] after = after
+after_chain s above tables nodes (ix ∷ deeper) after =
+    after_chain s (inside_item (item_at nodes ix) above) tables nodes deeper
+    (ended (end_of_body (item_at nodes ix).body) (range_of (item_at nodes ix))
     (reading s plain_tags above (trees_from s.text tables nodes (sibling_of nodes ix)) after))
 
 -- what is left of a walk
 unfoldable pub left_of : Setting → Tables → List (Node Item) → Option ℕ → List ℕ → Reading
 left_of s tables nodes cursor spine =
     reading s plain_tags (above_at s.text nodes spine) (trees_from s.text tables nodes cursor)
-    (around s (no_blocks s.text) tables nodes spine nothing)
+    (after_chain s (no_blocks s.text) tables nodes spine nothing_read)

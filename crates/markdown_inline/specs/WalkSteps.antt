@@ -24,7 +24,7 @@ use Rattle.markdown_document.specs.Totals.{times_named}
 use Rattle.markdown_document.specs.Tables.{Tables, Named, NamesEntries, tables_of, no_tables, IsSameEntry, IsNoShorter}
 use Rattle.markdown_inline.specs.WalkTotals.{steps_of}
 use Rattle.markdown_inline.specs.Counts.{tree_counts, LeavesAhead}
-use Rattle.markdown_inline.specs.Walk.{left_of, closing}
+use Rattle.markdown_inline.specs.Walk.{left_of, end_of_body}
 use Rattle.markdown_inline.specs.declared.bodies.Way.{Way}
 use Rattle.markdown_inline.specs.declared.step.Step.{Step}
 
@@ -63,7 +63,7 @@ pub record CanBegin (source : List ℕ) (tables : Tables) (item : Item) : Type 0
 
 -- a tree with this body at its root ends with this End, or without one
 abbrev pub ClosesTo : ItemBody → Option TagEnd → Type 0
-ClosesTo body e = closing body ≡ e
+ClosesTo body e = end_of_body body ≡ e
 
 -- only the entry that a body refers to may have changed
 pub record TakesOnly (body : ItemBody) (old new : Allocated) : Type 0 where
@@ -109,7 +109,7 @@ pub record Gives (source : List ℕ) (s t : Arena Item) (held held' : Allocated)
 
 -- a step went past the beginning of an item, whose event is not made yet: the event is given once it is made, whatever
 -- remains of the entry that the item refers to
-pub record Passed (source : List ℕ) (s t : Arena Item) (held : Allocated) (item : Item) : Type 0 where
+pub record PassedBeginning (source : List ℕ) (s t : Arena Item) (held : Allocated) (item : Item) : Type 0 where
   pub can : CanBegin source (tables_of held) item
   pub stays : TreeStands source (tables_of held) t
   pub stands : (held' : Allocated) → TakesOnly item.body held held' → TreeStands source (tables_of held') t
@@ -124,7 +124,7 @@ pub record IsRefused (s t : Arena Item) : Type 0 where
   pub steps : 0 < tree_steps s
 
 -- the walk is before a chain, at its first open item
-pub record IsBefore (s : Arena Item) (first : ℕ) : Type 0 where
+pub record IsBeforeChain (s : Arena Item) (first : ℕ) : Type 0 where
   pub cursor : s.cursor ≡ Some first
   pub is_open : is_open (item_at s.nodes first).body ≡ true
 
@@ -132,7 +132,7 @@ pub record IsBefore (s : Arena Item) (first : ℕ) : Type 0 where
 abbrev pub StepGives : List ℕ → Arena Item → Arena Item → Allocated → Step → Type 0
 StepGives source s t held step.Done = HasEnded s × (t ≡ s)
 StepGives source s t held step.Skip = Went source s t held held []
-StepGives source s t held (step.Leaf item) = Passed source s t held item × (way_at item.body ≡ way.Leaf)
-StepGives source s t held (step.Start item) = Passed source s t held item × (way_at item.body ≡ way.Start)
+StepGives source s t held (step.Leaf item) = PassedBeginning source s t held item × (way_at item.body ≡ way.Leaf)
+StepGives source s t held (step.Start item) = PassedBeginning source s t held item × (way_at item.body ≡ way.Start)
 StepGives source s t held (step.End e item) = Gives source s t held held (events.End e) (range_of item)
-StepGives source s t held (step.Chain first) = IsBefore s first × (t ≡ s)
+StepGives source s t held (step.Chain first) = IsBeforeChain s first × (t ≡ s)

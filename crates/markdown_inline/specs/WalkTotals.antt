@@ -28,8 +28,8 @@ abbrev pub named_left : List (Node Item) → Option ℕ → List ℕ → Named �
 named_left nodes l spine n = left_total (λ ix. 0) (naming nodes n) (links_of nodes) l spine
 
 -- the weight of what is left: of a node that was entered, only the move out of it is left
-abbrev pub weight_left : List (Node Item) → Option ℕ → List ℕ → ℕ
-weight_left nodes l spine = left_total (λ ix. 1) (weight_at nodes) (links_of nodes) l spine
+abbrev pub weight_to_come : List (Node Item) → Option ℕ → List ℕ → ℕ
+weight_to_come nodes l spine = left_total (λ ix. 1) (weight_at nodes) (links_of nodes) l spine
 
 -- 1 where the condition is true, and otherwise 0
 abbrev pub one_if : Bool → ℕ
@@ -43,4 +43,4 @@ waits_at nodes (Some ix) = one_if (is_open (item_at nodes ix).body)
 
 -- a bound on the steps of a walk: resolving a chain is a step of its own, so it need not make what is left lighter
 abbrev pub steps_of : List (Node Item) → Option ℕ → List ℕ → ℕ
-steps_of nodes l spine = 2 * weight_left nodes l spine + waits_at nodes l
+steps_of nodes l spine = 2 * weight_to_come nodes l spine + waits_at nodes l

@@ -5,7 +5,7 @@ use Rattle.markdown_base.specs.Event.{event_view}
 use Rattle.markdown_base.specs.Forest.{Forest, roots}
 use Rattle.markdown_base.specs.Questions.{Question, Answer, Answers}
 use Rattle.markdown_base.specs.declared.event.Event.{Event}
-use Rattle.markdown_blocks.specs.Blocks.{block_text, block_tree, block_parts}
+use Rattle.markdown_blocks.specs.Blocks.{text_of_blocks, block_tree, block_parts}
 use Rattle.markdown_blocks.specs.declared.blocks.Blocks.{Blocks}
 use Rattle.markdown_brackets.specs.QuestionEnds.{AsksAtMost, EndApart, closers_among}
 use Rattle.markdown_defs.specs.Callback.{Asks}
@@ -40,15 +40,15 @@ pub record AsksApartAndOnce (s : Setting) (above : Above) (known : Known) (chain
 
 -- this is true of each chain of a block result, and in all no more questions are asked than it has `]`
 pub record AsksOnce (blocks : Blocks) (asks : Bool) (questions : List Question) : Type 0 where
-  pub at_most : AsksAtMost (closers_of (block_tree blocks).nodes) (expansion_limit (block_text blocks)) questions
+  pub at_most : AsksAtMost (closers_of (block_tree blocks).nodes) (expansion_limit (text_of_blocks blocks)) questions
   pub in_chains : EachChain (λ (chain : Forest Plain). (above : Above) (known : Known)
-      → AsksApartAndOnce (setting_of (block_text blocks) (rules_of blocks asks)) above known chain)
-      (document (block_text blocks) (tables_at_start (block_parts blocks)) (block_tree blocks).nodes)
+      → AsksApartAndOnce (setting_of (text_of_blocks blocks) (rules_of blocks asks)) above known chain)
+      (document (text_of_blocks blocks) (tables_at_start (block_parts blocks)) (block_tree blocks).nodes)
 
 -- these events keep the laws of the whole document of a block result, and the callback was asked questions that do
 pub record IsWholeRun {F : Type 0} (step : F → Question → Option Answer → F → Type 0) (blocks : Blocks) (p : Parser F)
     (given : List (Event × Range ℕ)) (callback : Option F) : Type 0 where
-  pub events : IsWhole (block_text blocks) (viewed given)
+  pub events : IsWhole (text_of_blocks blocks) (viewed given)
   pub questions : List Question
   pub answers : Answers
   pub asked : Asks step (parser_callback p) questions answers callback

@@ -342,7 +342,7 @@ impl<'input> Parser<'input, DefaultBrokenLinkCallback> {
 
 impl<'input, F: BrokenLinkCallback<'input>> Parser<'input, F> {
     ghost use Rattle.std.specs.Prelude.{◌≡◌, IfOk, IfErr, IfSome};
-    ghost use Rattle.markdown_blocks.specs.Blocks.{block_text};
+    ghost use Rattle.markdown_blocks.specs.Blocks.{text_of_blocks};
     ghost use Rattle.markdown_inline.specs.Counts.{no_work};
     ghost use Rattle.markdown_inline.specs.CountsLaw.{CountsLaw, RisesPlainly};
     ghost use Rattle.markdown_inline.specs.ParserLeft.{ReadsText, ReadsBlocks, parser_text, parser_callback};
@@ -373,7 +373,7 @@ impl<'input, F: BrokenLinkCallback<'input>> Parser<'input, F> {
         callback: Option<F>,
     ) -> Result<Self, Fault>
         ensures left { IfOk result (ReadsBlocks blocks.entry) }
-        ensures text { IfOk result (λ p. parser_text p ≡ block_text blocks.entry) }
+        ensures text { IfOk result (λ p. parser_text p ≡ text_of_blocks blocks.entry) }
         ensures definitions { IfOk result (λ p. parser_definitions p ≡ block_definitions blocks.entry) }
         ensures callback { IfOk result (λ p. parser_callback p ≡ callback) }
         ensures work { IfOk result (λ p. parser_work p ≡ no_work) }

@@ -12,7 +12,7 @@ use Rattle.markdown_base.specs.declared.tag.CodeBlockKind.{CodeBlockKind}
 use Rattle.markdown_base.specs.declared.tag.CodeBlockKind.TheVariants as code_block
 use Rattle.markdown_out.specs.ByteLists.{AppendsPrefix}
 use Rattle.markdown_out.proofs.ByteListsLemmas.{append-more, prefix-after, prefix-first, joined-flat_map}
-use Rattle.markdown_json.specs.Json.{string, optional, array, further, attribute_json, heading_json, level_json, tag_json, variant, event_json, line_json}
+use Rattle.markdown_json.specs.Json.{string, optional_value, array, after_comma, attribute_json, heading_json, level_json, tag_json, variant, event_json, line_json}
 use Rattle.markdown_json.specs.JsonParts.{text_json, pair_json, heading_of, code_block_json, range_json}
 use Rattle.markdown_json.specs.JsonPieces.{piece_json, spelled}
 use Rattle.markdown_json.specs.declared.heading.Heading.{Heading}
@@ -33,34 +33,34 @@ pub spelled-flat_map : (pieces : List Piece) → flat_map piece_json pieces ≡ 
 spelled-flat_map pieces = sym (flat_map-map (λ part. part) piece_json pieces) ∙ joined-flat_map (map piece_json pieces)
 
 -- a value that may be missing is written as its view
-optional_same : {A B : Type 0} (f : B → List ℕ) (g : A → B) (o : Option A) → optional f (option_map g o) ≡ optional (λ x. f (g x)) o
+optional_same : {A B : Type 0} (f : B → List ℕ) (g : A → B) (o : Option A) → optional_value f (option_map g o) ≡ optional_value (λ x. f (g x)) o
 optional_same f g None = refl
 optional_same f g (Some x) = refl
 
 -- a list is written as that of its items' views
 array_same : {A B : Type 0} (f : B → List ℕ) (g : A → B) (xs : List A) → array f (map g xs) ≡ array (λ x. f (g x)) xs
 array_same f g [] = refl
-array_same f g (x ∷ xs) = rw (flat_map-map (further f) g xs) refl
+array_same f g (x ∷ xs) = rw (flat_map-map (after_comma f) g xs) refl
 
 -- an attribute, field by field
 pub attribute_parts : (a : CowStr × Option CowStr) → attribute_json (attribute_view a)
-    ≡ (codes "[" ++ text_json a.0) ++ ((codes "," ++ optional text_json a.1) ++ codes "]")
+    ≡ (codes "[" ++ text_json a.0) ++ ((codes "," ++ optional_value text_json a.1) ++ codes "]")
 attribute_parts a = rw (optional_same string text_of a.1) refl
 
 -- an attribute whose fields were appended one after another
 pub attribute_appended : (old named valued new : List ℕ) (a : CowStr × Option CowStr)
     → named ≡ old ++ (codes "[" ++ text_json a.0)
-    → valued ≡ named ++ (codes "," ++ optional text_json a.1) → new ≡ valued ++ codes "]"
+    → valued ≡ named ++ (codes "," ++ optional_value text_json a.1) → new ≡ valued ++ codes "]"
     → new ≡ old ++ attribute_json (attribute_view a)
 attribute_appended old named valued new a name value end =
-    append-more old named new (codes "[" ++ text_json a.0) ((codes "," ++ optional text_json a.1) ++ codes "]") name
-    (append-more named valued new (codes "," ++ optional text_json a.1) (codes "]") value end)
+    append-more old named new (codes "[" ++ text_json a.0) ((codes "," ++ optional_value text_json a.1) ++ codes "]") name
+    (append-more named valued new (codes "," ++ optional_value text_json a.1) (codes "]") value end)
     ∙ ap (λ x. old ++ x) (sym (attribute_parts a))
 
 -- a heading, field by field
 pub heading_parts : (h : Heading) → heading_json (heading_of h)
     ≡ (codes "{\"level\":" ++ level_json h.level)
-    ++ ((codes ",\"id\":" ++ optional text_json h.id.now)
+    ++ ((codes ",\"id\":" ++ optional_value text_json h.id.now)
     ++ ((codes ",\"classes\":" ++ array text_json h.classes.now.items)
     ++ ((codes ",\"attrs\":" ++ array pair_json h.attributes.now.items) ++ codes "}")))
 heading_parts h =
@@ -73,14 +73,14 @@ heading_parts h =
 -- a heading whose fields were appended one after another
 pub heading_appended : (s0 s1 s2 s3 s4 new : List ℕ) (h : Heading)
     → s1 ≡ s0 ++ (codes "{\"level\":" ++ level_json h.level)
-    → s2 ≡ s1 ++ (codes ",\"id\":" ++ optional text_json h.id.now)
+    → s2 ≡ s1 ++ (codes ",\"id\":" ++ optional_value text_json h.id.now)
     → s3 ≡ s2 ++ (codes ",\"classes\":" ++ array text_json h.classes.now.items)
     → s4 ≡ s3 ++ (codes ",\"attrs\":" ++ array pair_json h.attributes.now.items)
     → new ≡ s4 ++ codes "}" → new ≡ s0 ++ heading_json (heading_of h)
 heading_appended s0 s1 s2 s3 s4 new h level id classes attributes end =
     let rest = codes ",\"attrs\":" ++ array pair_json h.attributes.now.items in
     let more = codes ",\"classes\":" ++ array text_json h.classes.now.items in
-    let most = codes ",\"id\":" ++ optional text_json h.id.now in
+    let most = codes ",\"id\":" ++ optional_value text_json h.id.now in
     append-more s0 s1 new (codes "{\"level\":" ++ level_json h.level) (most ++ (more ++ (rest ++ codes "}"))) level
     (append-more s1 s2 new most (more ++ (rest ++ codes "}")) id
     (append-more s2 s3 new more (rest ++ codes "}") classes (append-more s3 s4 new rest (codes "}") attributes end)))

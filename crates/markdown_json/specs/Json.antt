@@ -50,19 +50,19 @@ abbrev pub variant : List ℕ → List ℕ → List ℕ
 variant name value = joined (codes "{\"" ∷ name ∷ codes "\":" ∷ value ∷ codes "}" ∷ [])
 
 -- a value that may be missing
-abbrev pub optional : {A : Type 0} → (A → List ℕ) → Option A → List ℕ
-optional of_value None = codes "null"
-optional of_value (Some value) = of_value value
+abbrev pub optional_value : {A : Type 0} → (A → List ℕ) → Option A → List ℕ
+optional_value of_value None = codes "null"
+optional_value of_value (Some value) = of_value value
 
 -- a value after a comma
-abbrev pub further : {A : Type 0} → (A → List ℕ) → A → List ℕ
-further of_value value = codes "," ++ of_value value
+abbrev pub after_comma : {A : Type 0} → (A → List ℕ) → A → List ℕ
+after_comma of_value value = codes "," ++ of_value value
 
 -- a list of values, as an array
 abbrev pub array : {A : Type 0} → (A → List ℕ) → List A → List ℕ
 array of_value [] = codes "[]"
 array of_value (first ∷ others) =
-    joined (codes "[" ∷ of_value first ∷ flat_map (further of_value) others ∷ codes "]" ∷ [])
+    joined (codes "[" ∷ of_value first ∷ flat_map (after_comma of_value) others ∷ codes "]" ∷ [])
 
 abbrev pub boolean : Bool → List ℕ
 boolean true = codes "true"
@@ -109,11 +109,11 @@ link_type_json (written.WikiLink false) = codes "{\"WikiLink\":{\"has_pothole\":
 -- an attribute of a heading: its name and its value
 abbrev pub attribute_json : List ℕ × Option (List ℕ) → List ℕ
 attribute_json a =
-    joined (codes "[" ∷ string a.0 ∷ codes "," ∷ optional string a.1 ∷ codes "]" ∷ [])
+    joined (codes "[" ∷ string a.0 ∷ codes "," ∷ optional_value string a.1 ∷ codes "]" ∷ [])
 
 abbrev pub heading_json : HeadingView → List ℕ
 heading_json h = joined (codes "{\"level\":" ∷ level_json h.level
-    ∷ codes ",\"id\":" ∷ optional string h.id
+    ∷ codes ",\"id\":" ∷ optional_value string h.id
     ∷ codes ",\"classes\":" ∷ array string h.classes
     ∷ codes ",\"attrs\":" ∷ array attribute_json h.attributes ∷ codes "}" ∷ [])
 
@@ -126,11 +126,11 @@ link_json l = joined (codes "{\"link_type\":" ∷ link_type_json l.kind
 abbrev pub tag_json : TagView → List ℕ
 tag_json event.paragraph = codes "\"Paragraph\""
 tag_json (event.heading h) = variant (codes "Heading") (heading_json h)
-tag_json (event.block_quote kind) = variant (codes "BlockQuote") (optional quote_json kind)
+tag_json (event.block_quote kind) = variant (codes "BlockQuote") (optional_value quote_json kind)
 tag_json event.indented_code = variant (codes "CodeBlock") (codes "\"Indented\"")
 tag_json (event.fenced_code info) = variant (codes "CodeBlock") (variant (codes "Fenced") (string info))
 tag_json event.html_block = codes "\"HtmlBlock\""
-tag_json (event.list first) = variant (codes "List") (optional decimal first)
+tag_json (event.list first) = variant (codes "List") (optional_value decimal first)
 tag_json event.list_item = codes "\"Item\""
 tag_json (event.footnote_definition name) = variant (codes "FootnoteDefinition") (string name)
 tag_json event.definition_list = codes "\"DefinitionList\""
@@ -152,7 +152,7 @@ tag_json (event.metadata_block kind) = variant (codes "MetadataBlock") (metadata
 abbrev pub tag_end_json : TagEnd → List ℕ
 tag_end_json closes.Paragraph = codes "\"Paragraph\""
 tag_end_json (closes.Heading level) = variant (codes "Heading") (level_json level)
-tag_end_json (closes.BlockQuote kind) = variant (codes "BlockQuote") (optional quote_json kind)
+tag_end_json (closes.BlockQuote kind) = variant (codes "BlockQuote") (optional_value quote_json kind)
 tag_end_json closes.CodeBlock = codes "\"CodeBlock\""
 tag_end_json closes.HtmlBlock = codes "\"HtmlBlock\""
 tag_end_json (closes.List ordered) = variant (codes "List") (boolean ordered)

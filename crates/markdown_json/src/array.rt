@@ -2,7 +2,7 @@
 ghost use Rattle.std.specs.Prelude.{OnOk, OnErr};
 ghost use Rattle.std.specs.List.{flat_map};
 ghost use Rattle.markdown_out.specs.ByteLists.{Appends, AppendsPart};
-ghost use Rattle.markdown_json.specs.Json.{array, further};
+ghost use Rattle.markdown_json.specs.Json.{array, after_comma};
 
 use crate::pieces::push_raw;
 use crate::value::{Value, push_field};
@@ -10,8 +10,8 @@ use std::alloc::AllocError;
 
 /// Appends values, each after a comma.
 fn push_others<T: Value>(s: &mut String, values: &[T]) -> Result<(), AllocError>
-    ensures ok { OnOk result (Appends s.old s.new (flat_map (further T.json) values.now)) }
-    ensures err { OnErr result (AppendsPart s.old s.new (flat_map (further T.json) values.now)) }
+    ensures ok { OnOk result (Appends s.old s.new (flat_map (after_comma T.json) values.now)) }
+    ensures err { OnErr result (AppendsPart s.old s.new (flat_map (after_comma T.json) values.now)) }
 {
     for value in values {
         push_field(s, ",", value)?;

@@ -7,7 +7,7 @@ ghost use Rattle.markdown_base.specs.declared.fault.Fault.TheVariants.{Memory};
 ghost use Rattle.markdown_out.specs.ByteLists.{Appends, AppendsPart};
 ghost use Rattle.markdown_json.specs.Json.{line_json};
 ghost use Rattle.markdown_json.specs.JsonParts.{range_json};
-ghost use Rattle.markdown_json.specs.JsonLines.{IsWritten, StopsAtError, IsCutShort, line_of};
+ghost use Rattle.markdown_json.specs.JsonLines.{IsWritten, StopsAtError, IsCutShort, json_line};
 
 use crate::pieces::{Piece, push_pieces};
 use crate::value::push_field;
@@ -47,8 +47,8 @@ fn push_line(s: &mut String, event: &Event<'_>, start: usize, end: usize) -> Res
 
 /// Appends the line of an event with its range, and drops the event.
 fn push_placed<'a>(s: &mut String, placed: (Event<'a>, Range<usize>)) -> Result<(), AllocError>
-    ensures ok { OnOk result (Appends s.old s.new (line_of placed.entry)) }
-    ensures err { OnErr result (AppendsPart s.old s.new (line_of placed.entry)) }
+    ensures ok { OnOk result (Appends s.old s.new (json_line placed.entry)) }
+    ensures err { OnErr result (AppendsPart s.old s.new (json_line placed.entry)) }
 {
     let (event, range) = placed;
     let done = push_line(s, &event, range.start, range.end);

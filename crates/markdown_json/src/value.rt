@@ -54,9 +54,9 @@ impl Value for CowStr<'_> {
 }
 
 impl<T: Value> Value for Option<T> {
-    ghost use Rattle.markdown_json.specs.Json.{optional};
+    ghost use Rattle.markdown_json.specs.Json.{optional_value};
 
-    ghost json = { optional T.json };
+    ghost json = { optional_value T.json };
 
     fn push(&self, s: &mut String) -> Result<(), AllocError> {
         match self {

@@ -4,12 +4,12 @@ use Rattle.std.proofs.lemmas.Bool.Decides.{nat_tests}
 use Rattle.std.specs.List.{list_all, prefix_len}
 use Rattle.std.specs.Prelude.{nat_le}
 use Rattle.markdown_lines.specs.declared.fence.Fence.{Fence}
-use Rattle.markdown_lines.specs.CodeFences.{run_of, opens_fence, opening_fence_at, closes_fence}
+use Rattle.markdown_lines.specs.CodeFences.{run_length, opens_fence, opening_fence_at, closes_fence}
 use Rattle.markdown_lines.specs.Lines.{is_space_or_tab}
 use Rattle.markdown_lines.specs.LineBytes.{without_end}
 
 pub fence_is : (text : List ℕ) (at stop byte indent : ℕ) (line rest inner : List ℕ) (count white size from to : ℕ)
-    → line ≡ slice_range text at stop → rest ≡ drop count line → inner ≡ drop white rest → count ≡ run_of byte line
+    → line ≡ slice_range text at stop → rest ≡ drop count line → inner ≡ drop white rest → count ≡ run_length byte line
     → opens_fence byte count rest ≡ true → white ≡ prefix_len is_space_or_tab rest
     → size ≡ length (without_end is_space_or_tab inner) → from ≡ at + count + white → to ≡ from + size
     → Some (record { fence = record { byte = byte; length = count; indent = indent }; from = from; to = to })
@@ -27,7 +27,7 @@ le_test a b h = grind (arith, nat_tests)
 
 -- a fence that is long enough closes one where only white space follows
 pub closes_is : (text : List ℕ) (at stop : ℕ) (opening : Fence) (line rest : List ℕ) (count : ℕ) (white : Bool)
-    → line ≡ slice_range text at stop → rest ≡ drop count line → count ≡ run_of opening.byte line
+    → line ≡ slice_range text at stop → rest ≡ drop count line → count ≡ run_length opening.byte line
     → opening.length ≤ count → white ≡ list_all is_space_or_tab rest → white ≡ closes_fence text at stop opening
 closes_is text at stop opening line rest count white l r n h w =
     rw (← l, ← n, ← r, le_test opening.length count h) w

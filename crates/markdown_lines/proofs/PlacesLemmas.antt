@@ -4,7 +4,7 @@ use Rattle.std.proofs.Common.{slice_range, length-drop, refl, sym, ◌∙◌, ap
 use Rattle.std.proofs.lemmas.Bool.Decides.{nat_tests}
 use Rattle.std.proofs.lemmas.List.{length-take}
 use Rattle.markdown_base.proofs.ByteListLemmas.{neither, byte_of_part}
-use Rattle.markdown_scan.specs.LineStart.{LineLeft, space_width, column_after, space, space_from, wider, no_space}
+use Rattle.markdown_scan.specs.LineStart.{LineLeft, space_width, column_after, leading_space, space_from, wider, no_space}
 use Rattle.markdown_scan.specs.LineStart as scan
 use Rattle.markdown_scan.specs.LineSteps.{width_next, past_white}
 use Rattle.markdown_scan.proofs.LineStartLemmas.{eq_test_false, space_zero, space_unowed}
@@ -101,11 +101,11 @@ none_from (suc k) scanned column byte bytes e = rw (eq_test_false (suc k) (omega
 -- where another byte comes, no space does
 quiet : (text : List ℕ) (stop n byte : ℕ) (place : Place) → place.at < stop → place.at < length text
     → byte ≡ get_or text place.at 0 → is_space_or_tab byte ≡ false → place.owed ≡ 0
-    → space n (left_from text place stop) ≡ no_space (left_from text place stop)
+    → leading_space n (left_from text place stop) ≡ no_space (left_from text place stop)
 quiet text stop n byte place before within is other none =
     let started = left_is text stop place none in
     let cut = part_from text place.at stop byte before within is in
-    ap (space n) started
+    ap (leading_space n) started
     ∙ (space_unowed n place.at place.column (slice_range text place.at stop)
     ∙ (ap (space_from n place.at place.column) cut
     ∙ (none_from n place.at place.column byte (slice_range text (place.at + 1) stop) (no_width place.column byte other)
@@ -115,7 +115,7 @@ quiet text stop n byte place before within is other none =
 -- what was read is all, where nothing more is
 all_read : (text : List ℕ) (place : Place) (stop most : ℕ) (found : Space) (rest : scan.Space)
     → rest ≡ no_space (left_from text found.behind stop)
-    → space most (left_from text place stop) ≡ wider found.columns rest → IsSpaceAt text place stop most found
+    → leading_space most (left_from text place stop) ≡ wider found.columns rest → IsSpaceAt text place stop most found
 all_read text place stop most found rest none value =
     let whole = value ∙ ap (wider found.columns) none in
     record {
@@ -125,22 +125,22 @@ all_read text place stop most found rest none value =
 
 -- as many columns were read as may be
 pub none_more : (text : List ℕ) (place : Place) (stop most : ℕ) (found : Space) → found.columns ≡ most
-    → space most (left_from text place stop)
-    ≡ wider found.columns (space (most - found.columns) (left_from text found.behind stop))
+    → leading_space most (left_from text place stop)
+    ≡ wider found.columns (leading_space (most - found.columns) (left_from text found.behind stop))
     → IsSpaceAt text place stop most found
 none_more text place stop most found full value =
     let none : most - found.columns ≡ 0 = omega (arith, full) in
     let left = left_from text found.behind stop in
-    all_read text place stop most found (space (most - found.columns) left)
-    (ap (λ n. space n left) none ∙ space_zero left) value
+    all_read text place stop most found (leading_space (most - found.columns) left)
+    (ap (λ n. leading_space n left) none ∙ space_zero left) value
 
 -- another byte comes
 pub other_next : (text : List ℕ) (place : Place) (stop most byte : ℕ) (found : Space) → found.behind.at < stop
     → found.behind.at < length text → byte ≡ get_or text found.behind.at 0 → is_space_or_tab byte ≡ false
     → found.behind.owed ≡ 0
-    → space most (left_from text place stop)
-    ≡ wider found.columns (space (most - found.columns) (left_from text found.behind stop))
+    → leading_space most (left_from text place stop)
+    ≡ wider found.columns (leading_space (most - found.columns) (left_from text found.behind stop))
     → IsSpaceAt text place stop most found
 other_next text place stop most byte found before within is other none value =
-    all_read text place stop most found (space (most - found.columns) (left_from text found.behind stop))
+    all_read text place stop most found (leading_space (most - found.columns) (left_from text found.behind stop))
     (quiet text stop (most - found.columns) byte found.behind before within is other none) value

@@ -9,8 +9,8 @@ use Rattle.markdown_lines.specs.Lines.{is_space_or_tab}
 use Rattle.markdown_lines.specs.LineBytes.{without_end}
 
 -- the length of the run of a byte that bytes begin with
-abbrev pub run_of : ℕ → List ℕ → ℕ
-run_of byte bytes = prefix_len (λ b. b == byte) bytes
+abbrev pub run_length : ℕ → List ℕ → ℕ
+run_length byte bytes = prefix_len (λ b. b == byte) bytes
 
 -- a byte is a backtick
 abbrev pub is_backtick : ℕ → Bool
@@ -25,7 +25,7 @@ opens_fence byte count rest = nat_le 3 count && (not (is_backtick byte) || not (
 abbrev pub opening_fence_at : List ℕ → ℕ → ℕ → ℕ → ℕ → Option OpeningFence
 opening_fence_at text at stop byte indent =
     let line = slice_range text at stop in
-    let count = run_of byte line in
+    let count = run_length byte line in
     let rest = drop count line in
     let white = prefix_len is_space_or_tab rest in
     if opens_fence byte count rest then Some (record {
@@ -39,5 +39,5 @@ opening_fence_at text at stop byte indent =
 abbrev pub closes_fence : List ℕ → ℕ → ℕ → Fence → Bool
 closes_fence text at stop opening =
     let line = slice_range text at stop in
-    let count = run_of opening.byte line in
+    let count = run_length opening.byte line in
     nat_le opening.length count && list_all is_space_or_tab (drop count line)

@@ -6,15 +6,15 @@ use Rattle.markdown_lines.specs.declared.html_kind.HtmlKind.{HtmlKind}
 use Rattle.markdown_lines.specs.declared.html_kind.HtmlKind.TheVariants as kind
 
 -- bytes begin with others, ignoring the case of letters
-abbrev pub begins_with : List ℕ → List ℕ → Bool
-begins_with bytes beginning =
+abbrev pub begins_ignoring_case : List ℕ → List ℕ → Bool
+begins_ignoring_case bytes beginning =
     nat_le (length beginning) (length bytes)
     && bytes_eq (map to_ascii_lowercase (take (length beginning) bytes)) (map to_ascii_lowercase beginning)
 
 -- bytes contain others, ignoring the case of letters
 abbrev pub holds : List ℕ → List ℕ → Bool
 holds [] others = false
-holds (byte ∷ bytes) others = begins_with (byte ∷ bytes) others || holds bytes others
+holds (byte ∷ bytes) others = begins_ignoring_case (byte ∷ bytes) others || holds bytes others
 
 -- a block of this kind ends before a blank line
 abbrev pub ends_at_blank : HtmlKind → Bool

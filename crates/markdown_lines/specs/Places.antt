@@ -1,7 +1,7 @@
 -- White space from a place in a line on, by columns (CommonMark 2.2), as `LineStart` reads it at the beginning of a
 -- line where the same bytes follow, at the same number of columns after the last tab stop.
 use Rattle.std.specs.Prelude.{◌≡◌, ℕ, List, slice_range}
-use Rattle.markdown_scan.specs.LineStart.{LineLeft, space}
+use Rattle.markdown_scan.specs.LineStart.{LineLeft, leading_space}
 use Rattle.markdown_lines.specs.declared.place.Place.{Place}
 use Rattle.markdown_lines.specs.declared.space.Space.{Space}
 
@@ -12,5 +12,5 @@ left_from text place stop =
 
 -- the white space read at a place, of at most `most` columns: its columns, and what is left of the line after it
 pub record IsSpaceAt (text : List ℕ) (place : Place) (stop most : ℕ) (read : Space) : Type 0 where
-  pub columns : read.columns ≡ (space most (left_from text place stop)).columns
-  pub behind : left_from text read.behind stop ≡ (space most (left_from text place stop)).after
+  pub columns : read.columns ≡ (leading_space most (left_from text place stop)).columns
+  pub behind : left_from text read.behind stop ≡ (leading_space most (left_from text place stop)).after

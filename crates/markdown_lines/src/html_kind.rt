@@ -1,7 +1,7 @@
 //! The kinds of HTML blocks, by how they begin and end (CommonMark 4.6).
 ghost use Rattle.std.specs.Prelude.{◌≡◌, ◌≤◌, length, IfOk};
 ghost use Rattle.std.specs.List.{list_any};
-ghost use Rattle.markdown_lines.specs.HtmlKinds.{begins_with, ends_at_blank, ends_in, holds};
+ghost use Rattle.markdown_lines.specs.HtmlKinds.{begins_ignoring_case, ends_at_blank, ends_in, holds};
 ghost use Rattle.markdown_lines.specs.HtmlBeginnings as spec;
 
 use crate::bytes::{bytes_from, is_white};
@@ -62,7 +62,7 @@ impl HtmlKind {
 
 /// Returns whether bytes begin with others, ignoring the case of letters.
 fn begins_with(bytes: &[u8], beginning: &[u8]) -> bool
-    ensures { result ≡ begins_with bytes.now beginning.now }
+    ensures { result ≡ begins_ignoring_case bytes.now beginning.now }
 {
     beginning.len() <= bytes.len() && bytes[..beginning.len()].eq_ignore_ascii_case(beginning)
 }
@@ -184,7 +184,7 @@ fn is_block_tag(name: &[u8]) -> bool
 
 /// Returns the name that bytes begin with: ASCII letters and digits.
 fn tag_name(bytes: &[u8]) -> &[u8]
-    ensures value { result.now ≡ spec.tag_name bytes.now }
+    ensures value { result.now ≡ spec.name_at_start bytes.now }
     ensures within { length result.now ≤ length bytes.now }
 {
     for at in 0..bytes.len() {

@@ -12,7 +12,7 @@ use Rattle.std.specs.Map.{lookup}
 use Rattle.std.proofs.lemmas.Bool.Decides.{nat_tests}
 use Rattle.std.proofs.lemmas.Map.Text.{is_eq-slice_cmp}
 use Rattle.markdown_base.specs.CowText.{text_of}
-use Rattle.markdown_out.specs.LookBacks.{is_same_name, with_name}
+use Rattle.markdown_out.specs.LookBacks.{are_same_names, with_name}
 use Rattle.markdown_out.specs.FootnoteNames.{name_cmp, name_at, first_names, names_in, IsNumbered}
 use Rattle.markdown_out.specs.declared.html.names.Name.{Name}
 
@@ -226,17 +226,17 @@ none-any false n h = refl
 
 -- a name that the map does not have is not among the names, and one that it has is at its place
 pub new_name : (k : Name) (es : Entries) → IsNumbered es → IsAbsent k es
-    → list_any (is_same_name (text_of k.text)) (names_in es) ≡ false
+    → list_any (are_same_names (text_of k.text)) (names_in es) ≡ false
 new_name k es s h =
-    let t = is_same_name (text_of k.text) in
+    let t = are_same_names (text_of k.text) in
     none-any (list_any t (names_in es)) (0 + position_or_len t (names_in es))
     (sym (position_from-is t 0 (names_in es)) ∙ (sym (s.found k) ∙ h))
 
 -- a name that is not among the names is not in the map
 pub absent_name : (k : Name) (es : Entries) → IsNumbered es
-    → list_any (is_same_name (text_of k.text)) (names_in es) ≡ false → IsAbsent k es
+    → list_any (are_same_names (text_of k.text)) (names_in es) ≡ false → IsAbsent k es
 absent_name k es s h =
-    let t = is_same_name (text_of k.text) in
+    let t = are_same_names (text_of k.text) in
     s.found k ∙ (position_from-is t 0 (names_in es)
     ∙ ap (λ b. cond b (Some (0 + position_or_len t (names_in es))) None) h)
 
@@ -258,23 +258,23 @@ pub length-names_in : (es : Entries) → length (names_in es) ≡ length es
 length-names_in es = length-first_names (length es) es
 
 -- a name that is known adds nothing, and a new one is added after all
-pub with_known : (name : List ℕ) (names : List (List ℕ)) → list_any (is_same_name name) names ≡ true → with_name name names ≡ names
+pub with_known : (name : List ℕ) (names : List (List ℕ)) → list_any (are_same_names name) names ≡ true → with_name name names ≡ names
 with_known name names e = ap (λ b. if b then names else names ++ name ∷ []) e
 
-pub with_new : (name : List ℕ) (names : List (List ℕ)) → list_any (is_same_name name) names ≡ false
+pub with_new : (name : List ℕ) (names : List (List ℕ)) → list_any (are_same_names name) names ≡ false
     → with_name name names ≡ names ++ name ∷ []
 with_new name names e = ap (λ b. if b then names else names ++ name ∷ []) e
 
 -- a name is among the names, at this place
 pub record IsKnown (k : Name) (es : Entries) (p : ℕ) : Type 0 where
-  pub known : list_any (is_same_name (text_of k.text)) (names_in es) ≡ true
-  pub place : p ≡ position_or_len (is_same_name (text_of k.text)) (names_in es)
+  pub known : list_any (are_same_names (text_of k.text)) (names_in es) ≡ true
+  pub place : p ≡ position_or_len (are_same_names (text_of k.text)) (names_in es)
   pub small : p ≤ length es
 
 pub known_name : (k : Name) (es : Entries) (p : ℕ) → IsNumbered es
     → lookup (is_at (name_cmp k)) es ≡ Some p → IsKnown k es p
 known_name k es p s h =
-    let t = is_same_name (text_of k.text) in
+    let t = are_same_names (text_of k.text) in
     let parts = some-any (list_any t (names_in es)) (0 + position_or_len t (names_in es)) p
     (sym (position_from-is t 0 (names_in es)) ∙ (sym (s.found k) ∙ h)) in
     let plain : 0 + position_or_len t (names_in es) ≡ position_or_len t (names_in es) = omega arith in
@@ -288,8 +288,8 @@ known_name k es p s h =
 
 -- a name is new, and its place is after all
 pub record IsNew (k : Name) (es : Entries) : Type 0 where
-  pub new : list_any (is_same_name (text_of k.text)) (names_in es) ≡ false
-  pub place : length es ≡ position_or_len (is_same_name (text_of k.text)) (names_in es)
+  pub new : list_any (are_same_names (text_of k.text)) (names_in es) ≡ false
+  pub place : length es ≡ position_or_len (are_same_names (text_of k.text)) (names_in es)
 
 pub new_place : (k : Name) (es : Entries) → IsNumbered es → IsAbsent k es → IsNew k es
 new_place k es s h =
@@ -297,7 +297,7 @@ new_place k es s h =
     record {
       new = new;
       place = sym (length-names_in es)
-          ∙ sym (position_or_len-none (is_same_name (text_of k.text)) (names_in es) new);
+          ∙ sym (position_or_len-none (are_same_names (text_of k.text)) (names_in es) new);
     }
 
 keeps : (a : Bool) (m : ℕ) (o : Option ℕ) → o ≡ cond a (Some m) None → o ≡ cond a o None
@@ -313,11 +313,11 @@ by_case false a n l m o h e f = keeps a m o h
 -- what is found, once the name is in the map
 found_more : (k q : Name) (es : Entries) → IsNumbered es → IsAbsent k es
     → cond (is_at (name_cmp k) q) (Some (length es)) (lookup (is_at (name_cmp q)) es)
-    ≡ position_from (is_same_name (text_of q.text)) 0 (names_in es ++ text_of k.text ∷ [])
+    ≡ position_from (are_same_names (text_of q.text)) 0 (names_in es ++ text_of k.text ∷ [])
 found_more k q es s h =
     let tk = text_of k.text in
     let tq = text_of q.text in
-    let t = is_same_name tq in
+    let t = are_same_names tq in
     let names = names_in es in
     let count : 0 + length names ≡ length es = omega (arith, length-names_in es) in
     let test : is_at (name_cmp k) q ≡ pointwise nat_eq tq tk =
@@ -326,7 +326,7 @@ found_more k q es s h =
     ∙ (ap (λ o. cond (pointwise nat_eq tq tk) (Some (length es)) o) (s.found q)
     ∙ (by_case (pointwise nat_eq tq tk) (list_any t names) (length es) (0 + length names)
     (0 + position_or_len t names) (position_from t 0 names) (position_from-is t 0 names) count
-    (λ e. subst (λ x. list_any (is_same_name x) names ≡ false) (sym (same_text tq tk (sym e)))
+    (λ e. subst (λ x. list_any (are_same_names x) names ≡ false) (sym (same_text tq tk (sym e)))
     (new_name k es s h))
     ∙ sym (position_from-push t 0 names tk)))
 
@@ -341,6 +341,6 @@ IsNumbered-inserted k es after s h e finds = record {
       (subst (λ n. IsTrue (below n (insert_entry name_cmp es k (length es))))
       (sym (length-inserted k (length es) es h)) (below-inserted k (length es) es s.small));
   found = λ q. finds q ∙ (found_more k q es s h
-      ∙ ap (position_from (is_same_name (text_of q.text)) 0)
+      ∙ ap (position_from (are_same_names (text_of q.text)) 0)
       (sym (ap names_in e ∙ names_in-inserted k es s h)));
 }

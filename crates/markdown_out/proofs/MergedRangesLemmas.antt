@@ -11,7 +11,7 @@ use Rattle.markdown_out.specs.Merge.{Item, PlacedText, text_item, text_of_item, 
 use Rattle.markdown_out.specs.Merge.{unless_empty, run_items, merged}
 use Rattle.markdown_out.specs.MergeNext.{item_view}
 use Rattle.markdown_out.specs.OutLaws.{RangedEvent, event_item, item_events, item_ranged, merged_events, merged_ranged, ranged_item}
-use Rattle.markdown_out.specs.Places.{nowhere, ranged, through_ranges}
+use Rattle.markdown_out.specs.Places.{nowhere, with_range, through_ranges}
 use Rattle.markdown_out.proofs.MergeLawsLemmas.{IsText, text_or_none}
 
 -- an item, a Text and a run without their places
@@ -109,7 +109,7 @@ merged_ranged-events es =
 abbrev pub ranged_view : Event × Range ℕ → RangedEvent
 ranged_view e = (event_view e.0, e.1)
 
-pub views-ranged : (es : List (Event × Range ℕ)) → map (item_view ranged) (items es) ≡ map ranged_item (map ranged_view es)
+pub views-ranged : (es : List (Event × Range ℕ)) → map (item_view with_range) (items es) ≡ map ranged_item (map ranged_view es)
 views-ranged [] = refl
 views-ranged (e ∷ es) = ap (λ xs. ranged_item (ranged_view e) ∷ xs) (views-ranged es)
 
@@ -119,7 +119,7 @@ events-ranged (e ∷ es) = ap (λ xs. e ∷ xs) (events-ranged es)
 
 -- where a merge of events gave events, these are the merge
 pub merges-ranged : (es given : List (Event × Range ℕ))
-    → merged through_ranges (map (item_view ranged) (items es)) ≡ map (item_view ranged) (items given)
+    → merged through_ranges (map (item_view with_range) (items es)) ≡ map (item_view with_range) (items given)
     → merged_ranged (map ranged_view es) ≡ map ranged_view given
 merges-ranged es given e =
     ap (λ xs. flat_map item_ranged (merged through_ranges xs)) (sym (views-ranged es))

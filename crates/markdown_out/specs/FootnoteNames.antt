@@ -9,7 +9,7 @@ use Rattle.std.specs.Map.{lookup}
 use Rattle.std.specs.Ordering.{nat_cmp}
 use Rattle.std.specs.declared.cmp.Ordering.{Ordering}
 use Rattle.markdown_base.specs.CowText.{text_of}
-use Rattle.markdown_out.specs.LookBacks.{is_same_name}
+use Rattle.markdown_out.specs.LookBacks.{are_same_names}
 use Rattle.markdown_out.specs.declared.html.names.Name.{Name}
 
 -- names are ordered by their bytes
@@ -34,4 +34,4 @@ names_in es = first_names (length es) es
 pub record IsNumbered (es : List (Name × ℕ)) : Type 0 where
   pub small : IsTrue (list_all (λ e. nat_lt e.1 (length es)) es)
   pub found : (name : Name) → lookup (is_at (name_cmp name)) es
-      ≡ position_from (is_same_name (text_of name.text)) 0 (names_in es)
+      ≡ position_from (are_same_names (text_of name.text)) 0 (names_in es)

@@ -89,17 +89,17 @@ alignments_before (e ∷ before) =
     unless_inside alignments_after (image_before before) (alignments_before before) e
 
 -- two names are equal
-abbrev pub is_same_name : List ℕ → List ℕ → Bool
-is_same_name = pointwise nat_eq
+abbrev pub are_same_names : List ℕ → List ℕ → Bool
+are_same_names = pointwise nat_eq
 
 -- the position of a name among the names, or their number where it is new
 abbrev pub place : List ℕ → List (List ℕ) → ℕ
-place name names = position_or_len (is_same_name name) names
+place name names = position_or_len (are_same_names name) names
 
 -- the names, followed by this one where it is new
 abbrev pub with_name : List ℕ → List (List ℕ) → List (List ℕ)
 with_name name names =
-    if list_any (is_same_name name) names then names else names ++ name ∷ []
+    if list_any (are_same_names name) names then names else names ++ name ∷ []
 
 -- the names after an event, which may be inside an image
 abbrev pub names_after : Option OpenImageView → List (List ℕ) → EventView → List (List ℕ)

@@ -12,8 +12,8 @@ abbrev pub nowhere : Unit {0} → Unit {0} → Unit {0}
 nowhere first last = first
 
 -- an event with its range
-abbrev pub ranged : Event × Range ℕ → Event × Range ℕ
-ranged placed = placed
+abbrev pub with_range : Event × Range ℕ → Event × Range ℕ
+with_range placed = placed
 
 -- from the start of the first range to the end of the last
 abbrev pub through_ranges : Range ℕ → Range ℕ → Range ℕ

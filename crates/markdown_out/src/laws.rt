@@ -14,7 +14,7 @@ ghost use Rattle.markdown_out.specs.MergeState.{stream_state, offset_state};
 ghost use Rattle.markdown_out.specs.OutLaws.{HasNoNeighbours, MergingKeepsHtml, StaysEnded};
 ghost use Rattle.markdown_out.specs.OutLaws.{IsNewMerge, GivesTheMerge, merge_steps};
 ghost use Rattle.markdown_out.specs.OutLaws.{GoesTooDeepMerged, IsRenderedMerged, StopsAtErrorMerged, IsRefusedMerged};
-ghost use Rattle.markdown_out.specs.Places.{bare, nowhere, ranged, through_ranges};
+ghost use Rattle.markdown_out.specs.Places.{bare, nowhere, with_range, through_ranges};
 
 use crate::merge::{TextMergeStream, TextMergeWithOffset};
 use markdown_base::event::Event;
@@ -31,13 +31,13 @@ pub fn an_image_has_the_html_of_its_parts()
 /// States that no two merged texts are neighbours.
 pub fn merged_texts_are_no_neighbours()
     ensures events { (items : List (Item (Unit {0}))) → HasNoNeighbours (merged nowhere items) }
-    ensures ranged { (items : List (Item (Range ℕ))) → HasNoNeighbours (merged through_ranges items) }
+    ensures with_range { (items : List (Item (Range ℕ))) → HasNoNeighbours (merged through_ranges items) }
 {}
 
 /// States that merging twice is merging once.
 pub fn merging_twice_is_merging_once()
     ensures events { (items : List (Item (Unit {0}))) → merged nowhere (merged nowhere items) ≡ merged nowhere items }
-    ensures ranged { (items : List (Item (Range ℕ))) →
+    ensures with_range { (items : List (Item (Range ℕ))) →
         merged through_ranges (merged through_ranges items) ≡ merged through_ranges items }
 {}
 
@@ -61,7 +61,7 @@ pub fn a_stream_with_offsets_gives_the_merge<
     I: Iterator<Item = Result<(Event<'a>, Range<usize>), Fault>>,
 >(merge: &TextMergeWithOffset<'a, I>)
     ensures { StaysEnded I.next_gives (offset_state merge.now).iter → IsNewMerge (offset_state merge.now)
-        → GivesTheMerge through_ranges (item_view ranged) I.next_gives I.can_next I.remaining offset_state merge.now }
+        → GivesTheMerge through_ranges (item_view with_range) I.next_gives I.can_next I.remaining offset_state merge.now }
 {}
 
 /// States that a mapped iterator can be merged where its source stays ended and can be merged, and the closure may be

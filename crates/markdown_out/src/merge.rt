@@ -106,11 +106,11 @@ impl<'a, I: Iterator<Item = Result<(Event<'a>, Range<usize>), Fault>>> Iterator
     ghost use Rattle.std.specs.Iterator.{at_most};
     ghost use Rattle.markdown_out.specs.MergeNext.{CanMerge, CallsMerge, item_view, left_count};
     ghost use Rattle.markdown_out.specs.MergeState.{offset_state};
-    ghost use Rattle.markdown_out.specs.Places.{ranged, through_ranges};
+    ghost use Rattle.markdown_out.specs.Places.{with_range, through_ranges};
 
     ghost can_next = { λ m. CanMerge I.next_gives I.can_next I.remaining (offset_state m).iter };
 
-    ghost next_gives = { λ m r t. CallsMerge through_ranges (item_view ranged) I.next_gives I.can_next I.remaining
+    ghost next_gives = { λ m r t. CallsMerge through_ranges (item_view with_range) I.next_gives I.can_next I.remaining
         (offset_state m) r (offset_state t) };
 
     ghost remaining = { λ m. at_most (left_count I.remaining (offset_state m)) };

@@ -12,7 +12,7 @@ use Rattle.markdown_out.specs.Merge.{Item, PlacedText, text_item, text_of_item, 
 use Rattle.markdown_out.specs.Merge.{unless_empty, run_items, merged}
 use Rattle.markdown_out.specs.MergeNext.{MergeState, PassesOn, item_view}
 use Rattle.markdown_out.specs.OutLaws.{StaysEnded, IsNewMerge, merge_steps}
-use Rattle.markdown_out.specs.Places.{ranged, through_ranges}
+use Rattle.markdown_out.specs.Places.{with_range, through_ranges}
 use Rattle.markdown_out.proofs.DrainedMergeLemmas.{gives_the_merge}
 use Rattle.markdown_out.proofs.MergeLawsLemmas.{IsText, text_or_none}
 use Rattle.markdown_outline.specs.Outline.{Ranged, EntryView, entries_of}
@@ -27,7 +27,7 @@ abbrev Raw : Type 0
 Raw = Result (Event × R) Fault
 
 abbrev view : Raw → Item R
-view = item_view ranged
+view = item_view with_range
 
 -- ---- the merge of items has an error where the items have one
 

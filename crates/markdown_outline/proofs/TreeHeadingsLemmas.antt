@@ -10,7 +10,7 @@ use Rattle.markdown_base.specs.Questions.{Answers}
 use Rattle.markdown_base.specs.WellFormed.{AllKeepRules, PartCounts, all_inline, counts_of, has_open}
 use Rattle.markdown_base.specs.declared.item.ItemBody.{ItemBody}
 use Rattle.markdown_base.specs.declared.item.ItemBody.TheVariants as body
-use Rattle.markdown_blocks.specs.Blocks.{block_parts, block_text, block_tree, IsOfText}
+use Rattle.markdown_blocks.specs.Blocks.{block_parts, text_of_blocks, block_tree, IsOfText}
 use Rattle.markdown_blocks.specs.declared.blocks.Blocks.{Blocks}
 use Rattle.markdown_builder.specs.HeadingsHoldInline.{is_heading_block, HeadingsHoldInline}
 use Rattle.markdown_document.specs.Above.{Above, inside_label, no_blocks}
@@ -202,7 +202,7 @@ module _ (source : List ℕ) (tables : Tables) (counts : PartCounts) where
 pub blocks_apart : (blocks : Blocks) (asks : Bool) (answers : Answers) → HeadingsApart blocks
     → AllApart (resolved_blocks blocks asks answers).trees
 blocks_apart blocks asks answers p =
-    let source = block_text blocks in
+    let source = text_of_blocks blocks in
     let parts = block_parts blocks in
     let tree = tree_of (block_tree blocks).nodes in
     document_apart (setting_of source (rules_of blocks asks)) (no_blocks source)

@@ -4,7 +4,7 @@ use Rattle.std.proofs.Common.{append_assoc, append-nil}
 use Rattle.std.specs.Prelude.{IsTrue, is_some, not, if◌then◌else◌}
 use Rattle.std.specs.declared.ops.Range.{Range}
 use Rattle.std.proofs.lemmas.List.{map-append}
-use Rattle.markdown_base.specs.Event.{EventView, start, end, end_of, TagView, heading}
+use Rattle.markdown_base.specs.Event.{EventView, start, end, tag_end, TagView, heading}
 use Rattle.markdown_base.specs.Forest.{Forest, nil, node, Throughout, Each}
 use Rattle.markdown_document.specs.Document.{Shape, leaf, enclosed, plain, backslash_break, unresolved, Label}
 use Rattle.markdown_inline.specs.Balanced.{ranged}
@@ -46,11 +46,11 @@ no_level None h = refl
 no_level (Some l) h = cc h
 
 -- the End of a heading ends one, and no other End does
-ends_one : (tag : TagView) (l : ℕ) → tag_level tag ≡ Some l → is_heading (end_of tag) ≡ true
+ends_one : (tag : TagView) (l : ℕ) → tag_level tag ≡ Some l → is_heading (tag_end tag) ≡ true
 ends_one (heading h) l e = refl
 ends_one other l e = cc e
 
-ends_none : (tag : TagView) → tag_level tag ≡ None → is_heading (end_of tag) ≡ false
+ends_none : (tag : TagView) → tag_level tag ≡ None → is_heading (tag_end tag) ≡ false
 ends_none (heading h) e = cc e
 ends_none other e = refl
 
@@ -83,12 +83,12 @@ tree_stays : (shape : Shape) (range : Range ℕ) (inside after : List Placed) �
     → Stays inside → Stays after → Stays (tree_events shape range inside after)
 tree_stays (leaf e origins) range inside after n g i l rest = rw (lone_ends_none e g, l rest) refl
 tree_stays (enclosed tag) range inside after n g i l rest =
-    let close : Placed = (end (end_of tag), range, []) in
+    let close : Placed = (end (tag_end tag), range, []) in
     let none = ends_none tag (no_level (tag_level tag) n) in
-    let goes_on : up_to_end ((end (end_of tag), range) ∷ (ranged after ++ rest))
-    ≡ (end (end_of tag), range) ∷ (ranged after ++ up_to_end rest) = rw (none, l rest) refl in
+    let goes_on : up_to_end ((end (tag_end tag), range) ∷ (ranged after ++ rest))
+    ≡ (end (tag_end tag), range) ∷ (ranged after ++ up_to_end rest) = rw (none, l rest) refl in
     ap (λ (es : List Ranged). (start tag, range) ∷ es)
-    (ap up_to_end (parted inside (close ∷ after) rest) ∙ i ((end (end_of tag), range) ∷ (ranged after ++ rest))
+    (ap up_to_end (parted inside (close ∷ after) rest) ∙ i ((end (tag_end tag), range) ∷ (ranged after ++ rest))
     ∙ ap (λ (es : List Ranged). ranged inside ++ es) goes_on ∙ sym (parted inside (close ∷ after) (up_to_end rest)))
 tree_stays plain range inside after n g i l rest =
     ap up_to_end (parted inside after rest) ∙ i (ranged after ++ rest) ∙ ap (λ (es : List Ranged). ranged inside ++ es) (l rest)
@@ -100,10 +100,10 @@ tree_silent : (shape : Shape) (range : Range ℕ) (inside after : List Placed) �
     → Silent inside → Silent after → Silent (tree_events shape range inside after)
 tree_silent (leaf e origins) range inside after n g i l rest = rw (entries_from, lone_ends_none e g) (l rest)
 tree_silent (enclosed tag) range inside after n g i l rest =
-    let close : Placed = (end (end_of tag), range, []) in
+    let close : Placed = (end (tag_end tag), range, []) in
     let none = ends_none tag (no_level (tag_level tag) n) in
-    let goes_on : entries_from true ((end (end_of tag), range) ∷ (ranged after ++ rest)) ≡ entries_from true rest = rw (entries_from, none) (l rest) in
-    ap (entries_from true) (parted inside (close ∷ after) rest) ∙ i ((end (end_of tag), range) ∷ (ranged after ++ rest)) ∙ goes_on
+    let goes_on : entries_from true ((end (tag_end tag), range) ∷ (ranged after ++ rest)) ≡ entries_from true rest = rw (entries_from, none) (l rest) in
+    ap (entries_from true) (parted inside (close ∷ after) rest) ∙ i ((end (tag_end tag), range) ∷ (ranged after ++ rest)) ∙ goes_on
 tree_silent plain range inside after n g i l rest =
     ap (entries_from true) (parted inside after rest) ∙ i (ranged after ++ rest) ∙ l rest
 tree_silent backslash_break range inside after n g i l rest = l rest
@@ -143,25 +143,25 @@ enclosed_has : {A : Type 0} (tag : TagView) (o : Option ℕ) (range : Range ℕ)
     (others : List EntryView) → tag_level tag ≡ o → (is_some o ≡ true → NoHeading below) → BelowHas below → Have after others
     → Have (tree_events (enclosed tag) range (events_in below) after) (own_entry o range below ++ (tree_entries below ++ others))
 enclosed_has tag None range below after others t n b l rest =
-    let close : Placed = (end (end_of tag), range, []) in
+    let close : Placed = (end (tag_end tag), range, []) in
     let outside : entries_from false (ranged (events_in below ++ close ∷ after) ++ rest)
     ≡ (tree_entries below ++ others) ++ entries_from false rest =
     ap (entries_from false) (parted (events_in below) (close ∷ after) rest)
-    ∙ b.entries ((end (end_of tag), range) ∷ (ranged after ++ rest))
+    ∙ b.entries ((end (tag_end tag), range) ∷ (ranged after ++ rest))
     ∙ ap (λ (es : List EntryView). tree_entries below ++ es) (l rest)
     ∙ sym (append_assoc (tree_entries below) others (entries_from false rest)) in
     rw t outside
 enclosed_has tag (Some level) range below after others t n b l rest =
-    let close : Placed = (end (end_of tag), range, []) in
+    let close : Placed = (end (tag_end tag), range, []) in
     let later : List Ranged = ranged after ++ rest in
     let one = ends_one tag level t in
-    let stops : up_to_end ((end (end_of tag), range) ∷ later) ≡ [] = rw one refl in
-    let leaves : entries_from true ((end (end_of tag), range) ∷ later) ≡ entries_from false later = rw (entries_from, one) refl in
+    let stops : up_to_end ((end (tag_end tag), range) ∷ later) ≡ [] = rw one refl in
+    let leaves : entries_from true ((end (tag_end tag), range) ∷ later) ≡ entries_from false later = rw (entries_from, one) refl in
     let within : up_to_end (ranged (events_in below ++ close ∷ after) ++ rest) ≡ ranged (events_in below) =
-    ap up_to_end (parted (events_in below) (close ∷ after) rest) ∙ b.stays (n refl) ((end (end_of tag), range) ∷ later)
+    ap up_to_end (parted (events_in below) (close ∷ after) rest) ∙ b.stays (n refl) ((end (tag_end tag), range) ∷ later)
     ∙ ap (λ (es : List Ranged). ranged (events_in below) ++ es) stops ∙ append-nil (ranged (events_in below)) in
     let behind : entries_from true (ranged (events_in below ++ close ∷ after) ++ rest) ≡ others ++ entries_from false rest =
-    ap (entries_from true) (parted (events_in below) (close ∷ after) rest) ∙ b.silent (n refl) ((end (end_of tag), range) ∷ later)
+    ap (entries_from true) (parted (events_in below) (close ∷ after) rest) ∙ b.silent (n refl) ((end (tag_end tag), range) ∷ later)
     ∙ leaves ∙ l rest in
     rw (t, within, behind, no_entries below (n refl)) refl
 

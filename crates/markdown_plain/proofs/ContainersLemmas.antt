@@ -4,7 +4,7 @@ use Rattle.std.proofs.Common.{refl, sym, ◌∙◌, ap, arith, Bool, false, ◌&
 use Rattle.std.proofs.lemmas.Bool.Decides.{nat_tests}
 use Rattle.std.proofs.lemmas.List.{drop_all, drop-drop, drop-take}
 use Rattle.markdown_scan.specs.Beginnings.{begins_with}
-use Rattle.markdown_scan.specs.LineStart.{LineLeft, next_column, past_byte, past_marker, space}
+use Rattle.markdown_scan.specs.LineStart.{LineLeft, next_column, past_one_byte, past_marker, leading_space}
 use Rattle.markdown_scan.specs.LineStart as scan
 use Rattle.markdown_lines.specs.declared.place.Place.{Place}
 use Rattle.markdown_lines.specs.declared.space.Space.{Space}
@@ -36,7 +36,7 @@ past_bytes_is text place behind stop count within at column owed =
 -- the rest after one byte
 pub past_byte_is : (text : List ℕ) (place behind : Place) (stop : ℕ) → place.at < stop → behind.at ≡ place.at + 1
     → behind.column ≡ (place.column + 1) % 4 → behind.owed ≡ 0
-    → left_from text behind stop ≡ past_byte (left_from text place stop)
+    → left_from text behind stop ≡ past_one_byte (left_from text place stop)
 past_byte_is text place behind stop more at column owed =
     let bytes = ap (λ n. slice_range text n stop) at ∙ sym (rest_of_part text place.at stop 1 (omega (arith, more))) in
     let columns = column ∙ column_is place.column place.before_stop in
@@ -44,12 +44,12 @@ past_byte_is text place behind stop more at column owed =
 
 -- the rest after that and a column of space
 pub past_marker_is : (text read_in : List ℕ) (here after : Place) (stop : ℕ) (read : Space) → read_in ≡ text
-    → left_from text after stop ≡ past_byte (left_from text here stop) → IsSpaceAt read_in after stop 1 read
+    → left_from text after stop ≡ past_one_byte (left_from text here stop) → IsSpaceAt read_in after stop 1 read
     → left_from text read.behind stop ≡ past_marker (left_from text here stop)
-past_marker_is text read_in here after stop read same past space =
+past_marker_is text read_in here after stop read same past leading_space =
     ap (λ (t : List ℕ). left_from t read.behind stop) (sym same)
-    ∙ (space.behind
-    ∙ (ap (λ (t : List ℕ). (scan.space 1 (left_from t after stop)).after) same ∙ ap (λ (l : LineLeft). (scan.space 1 l).after) past))
+    ∙ (leading_space.behind
+    ∙ (ap (λ (t : List ℕ). (scan.leading_space 1 (left_from t after stop)).after) same ∙ ap (λ (l : LineLeft). (scan.leading_space 1 l).after) past))
 
 -- the rest after the space that follows a marker of a list
 pub past_item_is : (text read_in : List ℕ) (place behind inside : Place) (stop count : ℕ) → read_in ≡ text
@@ -65,12 +65,12 @@ past_item_is text read_in place behind inside stop count same past content =
 -- the rest after the marker of a block quote and the space that is a part of it
 pub marker_behind_is : (text : List ℕ) (before : scan.Space) (columns : ℕ) (place after : Place) (stop : ℕ) (read : Space)
     → columns ≡ before.columns → left_from text place stop ≡ before.after → columns < 4
-    → begins_with (codes ">") (slice_range text place.at stop) ≡ true → left_from text after stop ≡ past_byte (left_from text place stop)
+    → begins_with (codes ">") (slice_range text place.at stop) ≡ true → left_from text after stop ≡ past_one_byte (left_from text place stop)
     → IsSpaceAt text after stop 1 read → marker_behind before ≡ Some (left_from text read.behind stop)
-marker_behind_is text before columns place after stop read c left few marker past space =
+marker_behind_is text before columns place after stop read c left few marker past leading_space =
     let test : nat_lt before.columns 4 ≡ true = grind (arith, nat_tests) in
     let begins = ap (λ (l : LineLeft). begins_with (codes ">") l.bytes) (sym left) ∙ marker in
-    let behind : past_marker before.after ≡ left_from text read.behind stop = ap (λ (l : LineLeft). past_marker l) (sym left) ∙ (ap (λ (l : LineLeft). (scan.space 1 l).after) (sym past) ∙ sym space.behind) in
+    let behind : past_marker before.after ≡ left_from text read.behind stop = ap (λ (l : LineLeft). past_marker l) (sym left) ∙ (ap (λ (l : LineLeft). (scan.leading_space 1 l).after) (sym past) ∙ sym leading_space.behind) in
     rw (test, begins) (ap (λ (l : LineLeft). Some l) behind)
 
 -- open blocks from a number on are the block with it, and those inside that

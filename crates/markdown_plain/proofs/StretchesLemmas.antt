@@ -8,7 +8,7 @@ use Rattle.std.proofs.Math.Seq.{take-append_seam}
 use Rattle.markdown_base.specs.declared.item.ItemBody.{ItemBody}
 use Rattle.markdown_base.specs.declared.item.ItemBody.TheVariants as body
 use Rattle.markdown_builder.specs.declared.open_block.OpenBlock.{OpenBlock}
-use Rattle.markdown_scan.specs.LineStart.{LineLeft, space}
+use Rattle.markdown_scan.specs.LineStart.{LineLeft, leading_space}
 use Rattle.markdown_plain.specs.declared.stretches.Stretches.{Stretches}
 use Rattle.markdown_plain.specs.declared.stretches.Taking.{Taking}
 use Rattle.markdown_plain.specs.declared.stretches.Taking.TheVariants as takes
@@ -181,7 +181,7 @@ stretches_replaced now blocks new block becomes known =
 
 -- the space of an empty rest of a line
 space_of_nothing : (indent scanned column : ℕ)
-    → (space indent (record { scanned = scanned; owed = 0; column = column; bytes = [] })).after
+    → (leading_space indent (record { scanned = scanned; owed = 0; column = column; bytes = [] })).after
     ≡ record { scanned = scanned; owed = 0; column = column; bytes = [] }
 space_of_nothing zero scanned column = refl
 space_of_nothing (suc indent) scanned column =

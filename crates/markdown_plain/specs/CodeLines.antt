@@ -1,6 +1,6 @@
 -- Lines of code and HTML blocks: what is left of a line from a place on, and where it ends.
 use Rattle.std.specs.Prelude.{ℕ, max, Bool, ◌==◌, ◌&&◌, nat_lt, List, codes, slice_range, if◌then◌else◌}
-use Rattle.markdown_scan.specs.LineStart.{LineLeft, space}
+use Rattle.markdown_scan.specs.LineStart.{LineLeft, leading_space}
 use Rattle.markdown_lines.specs.declared.fence.Fence.{Fence}
 use Rattle.markdown_lines.specs.declared.held_line.HeldLine.{HeldLine}
 use Rattle.markdown_lines.specs.declared.html_kind.HtmlKind.{HtmlKind}
@@ -16,7 +16,7 @@ behind_line start next = max start next
 
 -- the rest of a line after at most this many columns of space, from a place on
 abbrev pub code_behind : List ℕ → Place → Line → ℕ → LineLeft
-code_behind text place line columns = (space columns (left_from text place line.stop)).after
+code_behind text place line columns = (leading_space columns (left_from text place line.stop)).after
 
 -- a line that is held back, with this rest
 abbrev pub held : Line → LineLeft → HeldLine
@@ -25,7 +25,7 @@ held line left = record { start = left.scanned; stop = line.stop; next = line.ne
 -- a fence that closes a code block follows less than four columns of space, from a place on
 abbrev pub is_closed_at : List ℕ → Place → Line → Fence → Bool
 is_closed_at text place line fence =
-    nat_lt (space 4 (left_from text place line.stop)).columns 4
+    nat_lt (leading_space 4 (left_from text place line.stop)).columns 4
     && closes_fence text (code_behind text place line 4).scanned line.stop fence
 
 -- the columns that a partly read tab owes, one to three, as spaces

@@ -7,7 +7,7 @@ use Rattle.markdown_base.specs.declared.item.ItemBody.{ItemBody}
 use Rattle.markdown_base.specs.declared.item.ItemBody.TheVariants as body
 use Rattle.markdown_builder.specs.declared.open_block.OpenBlock.{OpenBlock}
 use Rattle.markdown_scan.specs.Beginnings.{begins_with}
-use Rattle.markdown_scan.specs.LineStart.{LineLeft, Space, space, past_marker}
+use Rattle.markdown_scan.specs.LineStart.{LineLeft, Space, leading_space, past_marker}
 use Rattle.markdown_lines.specs.declared.line.Line.{Line}
 use Rattle.markdown_lines.specs.declared.place.Place.{Place}
 use Rattle.markdown_lines.specs.Lines.{is_space_or_tab}
@@ -35,12 +35,12 @@ marker_behind before =
 
 -- the rest after such a marker, with at most one column of space after it
 abbrev pub past_quote : LineLeft → Option LineLeft
-past_quote left = marker_behind (space 4 left)
+past_quote left = marker_behind (leading_space 4 left)
 
 -- the rest after `indent` columns of space, or after at most as many in a blank line
 abbrev pub past_indent : ℕ → Bool → LineLeft → Option LineLeft
 past_indent indent blank left =
-    if blank || ((space indent left).columns == indent) then Some (space indent left).after else None
+    if blank || ((leading_space indent left).columns == indent) then Some (leading_space indent left).after else None
 
 -- the rest after what a footnote definition takes: four columns, or in the old style nothing of a line that is not
 -- blank

@@ -7,7 +7,7 @@ use Rattle.markdown_base.specs.declared.item.ItemBody.{ItemBody}
 use Rattle.markdown_base.specs.declared.item.ItemBody.TheVariants as body
 use Rattle.markdown_builder.specs.declared.open_block.OpenBlock.{OpenBlock}
 use Rattle.markdown_scan.specs.Beginnings.{begins_with}
-use Rattle.markdown_scan.specs.LineStart.{LineLeft, Space, space}
+use Rattle.markdown_scan.specs.LineStart.{LineLeft, Space, leading_space}
 use Rattle.markdown_scan.specs.Label.{link_label}
 use Rattle.markdown_lines.specs.declared.list_marker.ListMarker.{ListMarker}
 use Rattle.markdown_lines.specs.declared.place.Place.{Place}
@@ -43,8 +43,8 @@ past_bytes count left = record {
 -- blank line or with indented code
 abbrev pub item_space : ℕ → LineLeft → Space
 item_space stop left =
-    if nat_lt (space 5 left).after.scanned stop && nat_lt 0 (space 5 left).columns && nat_lt (space 5 left).columns 5
-    then space 5 left else record { columns = 1; after = (space 1 left).after }
+    if nat_lt (leading_space 5 left).after.scanned stop && nat_lt 0 (leading_space 5 left).columns && nat_lt (leading_space 5 left).columns 5
+    then leading_space 5 left else record { columns = 1; after = (leading_space 1 left).after }
 
 -- a colon comes next
 abbrev pub is_colon : Option ℕ → Bool

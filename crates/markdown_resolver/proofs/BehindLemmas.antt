@@ -10,7 +10,7 @@ use Rattle.markdown_base.specs.declared.node.Node.{Node}
 use Rattle.markdown_base.proofs.ArenaForestLemmas.{opens}
 use Rattle.markdown_brackets.specs.ChainHeld.{times_of}
 use Rattle.markdown_brackets.specs.LeftList.{Entry, trees_onto}
-use Rattle.markdown_document.specs.ChainRest.{joined}
+use Rattle.markdown_document.specs.ChainRest.{joined_chains}
 use Rattle.markdown_document.specs.Document.{Label, Plain}
 use Rattle.markdown_document.specs.Places.{IsPlaced, IsSameAt}
 use Rattle.markdown_document.specs.Stages.{times_in}
@@ -108,25 +108,25 @@ module _ (source : List ℕ) (old new : List (Node Item)) (tables tables' : Tabl
   pub record Behind (ix : ℕ) (head : Forest (Label ℕ)) (l : Option ℕ) : Type 0 where
     pub changes : ChangesChain source l old new tables tables'
     pub runs : RunsGoOn source old new l
-    pub trees : numbered_from source tables' new l ≡ joined head (numbered_from source tables' new (Some ix))
+    pub trees : numbered_from source tables' new l ≡ joined_chains head (numbered_from source tables' new (Some ix))
 
   pub behind : (ix : ℕ) (head : Forest (Label ℕ)) (l : Option ℕ) → 0 < length old → ChangesChain source (Some ix) old new tables tables'
       → RunsGoOn source old new (Some ix)
-      → Stands source tables old l → numbered_from source tables old l ≡ joined head (numbered_from source tables old (Some ix))
+      → Stands source tables old l → numbered_from source tables old l ≡ joined_chains head (numbered_from source tables old (Some ix))
       → Behind ix head l
   behind ix nil l some c runs s e =
       let here : Some ix ≡ l = sym (same_link source tables old l (Some ix) some e) in
       subst (λ (k : Option ℕ). Behind ix nil k) here (record { changes = c; runs = runs; trees = refl })
   behind ix (node a below after) None some c runs s e =
-      let q : nil ≡ node a below (joined after (numbered_from source tables old (Some ix))) = sym (numbered_none source tables old) ∙ e in
+      let q : nil ≡ node a below (joined_chains after (numbered_from source tables old (Some ix))) = sym (numbered_none source tables old) ∙ e in
       absurd (cc q)
   behind ix (node a below after) (Some n) some c runs s e =
       let q : node (numbered_label source tables old n) (numbered_from source tables old (child_of old n))
       (numbered_from source tables old (sibling_of old n))
-      ≡ node a below (joined after (numbered_from source tables old (Some ix))) = sym (numbered_opens source tables old n s) ∙ e in
+      ≡ node a below (joined_chains after (numbered_from source tables old (Some ix))) = sym (numbered_opens source tables old n s) ∙ e in
       let is_label : numbered_label source tables old n ≡ a = cc q in
       let is_below : numbered_from source tables old (child_of old n) ≡ below = cc q in
-      let is_after : numbered_from source tables old (sibling_of old n) ≡ joined after (numbered_from source tables old (Some ix)) = cc q in
+      let is_after : numbered_from source tables old (sibling_of old n) ≡ joined_chains after (numbered_from source tables old (Some ix)) = cc q in
       let r = behind ix after (sibling_of old n) some c runs (first_leaves source n old tables s).stands is_after in
       let more = further n s r.changes r.runs in
       record {
@@ -175,11 +175,11 @@ puts_behind source first ix next before trees rest old new tables tables' h p =
     let b = behind source old new tables tables' ix head (Some first) (some_nodes source tables old first (Some ix) before h) p.changes
     p.runs
     (stands_from source tables old first (Some ix) before h) r.whole in
-    let whole : numbered_from source tables' new (Some first) ≡ joined head (joined p.standing later) = b.trees
-    ∙ ap (λ (g : Forest (Label ℕ)). joined head g) p.stands in
+    let whole : numbered_from source tables' new (Some first) ≡ joined_chains head (joined_chains p.standing later) = b.trees
+    ∙ ap (λ (g : Forest (Label ℕ)). joined_chains head g) p.stands in
     let quiet : IsQuiet p.standing = quiet_untagged (λ n. tt) p.standing (subst (λ (g : Forest Plain). IsQuiet g) (sym p.reads) p.quiet) in
-    let all : IsQuietBelow (joined head (joined p.standing later)) =
-    below_joined head (joined p.standing later) (quiet_is_below head h.quiet)
+    let all : IsQuietBelow (joined_chains head (joined_chains p.standing later)) =
+    below_joined head (joined_chains p.standing later) (quiet_is_below head h.quiet)
     (below_joined p.standing later (quiet_is_below p.standing quiet) (quiet_numbered source tables' new next p.ready.quiet_below)) in
     record {
       changes = b.changes;
@@ -191,10 +191,10 @@ puts_behind source first ix next before trees rest old new tables tables' h p =
           named_once = b.changes.named_once;
           quiet_below = quiet_plain source tables' new (Some first) (subst (λ (g : Forest (Label ℕ)). IsQuietBelow g) (sym whole) all);
         };
-        stands = whole ∙ sym (onto_split before (joined p.standing later)) ∙ sym (done_onto p.standing before later);
+        stands = whole ∙ sym (onto_split before (joined_chains p.standing later)) ∙ sym (done_onto p.standing before later);
         quiet = subst (λ (g : Forest (Label ℕ)). IsQuiet g)
-            (sym (done_onto p.standing before nil ∙ onto_split before (joined p.standing nil)))
-            (quiet_joined head (joined p.standing nil) h.quiet (quiet_joined p.standing nil quiet tt));
+            (sym (done_onto p.standing before nil ∙ onto_split before (joined_chains p.standing nil)))
+            (quiet_joined head (joined_chains p.standing nil) h.quiet (quiet_joined p.standing nil quiet tt));
         waiting = waits_done (IsOpener source new) p.standing before (openers_stay source tables tables' old new first ix before h
             p.changes);
       };

@@ -13,7 +13,7 @@ use Rattle.markdown_base.specs.declared.item.Item.{Item}
 use Rattle.markdown_base.specs.declared.item.ItemBody.{ItemBody}
 use Rattle.markdown_base.specs.declared.node.Node.{Node}
 use Rattle.markdown_base.proofs.ArenaForestLemmas.{opens}
-use Rattle.markdown_document.specs.ItemRules.{StandsBefore}
+use Rattle.markdown_document.specs.ItemRules.{ComesBefore}
 use Rattle.markdown_document.specs.Places.{IsSameAt, IsPlaced, label_at}
 use Rattle.markdown_document.specs.Tables.{Tables}
 use Rattle.markdown_document.specs.Totals.{total, same}
@@ -39,7 +39,7 @@ no_block false b h = refl
 -- the item after one is past it
 next_past : (source : List ℕ) (tables : Tables) (nodes : List (Node Item)) (ix : ℕ) (l : Option ℕ) (f : Forest ℕ)
     → is_block (item_at nodes ix).body ≡ false → Spells (links_of nodes) l f
-    → IsQuietBelow (relabelled (label_at source tables nodes) f) → StandsBefore (numbered nodes ix) (option_map (numbered nodes) l)
+    → IsQuietBelow (relabelled (label_at source tables nodes) f) → ComesBefore (numbered nodes ix) (option_map (numbered nodes) l)
     → IfSome l (λ n. StandsPast nodes ix (item_at nodes ix).end n)
 next_past source tables nodes ix l nil here s quiet h = rw s tt
 next_past source tables nodes ix l (node jx below after) here s quiet h =

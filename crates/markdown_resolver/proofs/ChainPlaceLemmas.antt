@@ -14,7 +14,7 @@ use Rattle.markdown_base.specs.declared.item.ItemBody.{ItemBody}
 use Rattle.markdown_base.specs.declared.item.ItemBody.TheVariants as body
 use Rattle.markdown_base.specs.declared.node.Node.{Node}
 use Rattle.markdown_base.specs.Item.{is_table_cell}
-use Rattle.markdown_document.specs.Above.{Above, inside, inside_all, inside_item, no_blocks, above_cursor}
+use Rattle.markdown_document.specs.Above.{Above, inside_block, inside_all, inside_item, no_blocks, above_cursor}
 use Rattle.markdown_document.specs.Document.{block_of}
 use Rattle.markdown_document.specs.Setting.{Setting}
 use Rattle.markdown_spans.specs.BlocksAbove.{HasBlocks}
@@ -45,7 +45,7 @@ bodies_inside nodes [] above = sym (append-nil above.bodies)
 bodies_inside nodes (ix ∷ deeper) above =
     bodies_inside nodes deeper (inside_item (item_at nodes ix) above) ∙ added (block_of (item_at nodes ix).body)
   where
-    added : (block : Option ItemBody) → (inside block (range_of (item_at nodes ix)) above).bodies ++ blocks_in nodes deeper ≡ above.bodies
+    added : (block : Option ItemBody) → (inside_block block (range_of (item_at nodes ix)) above).bodies ++ blocks_in nodes deeper ≡ above.bodies
         ++ with_block block (blocks_in nodes deeper)
     added None = refl
     added (Some block) = append_assoc above.bodies (block ∷ []) (blocks_in nodes deeper)
@@ -134,10 +134,10 @@ lies_above source nodes l (ix ∷ deeper) (suc i) above h = lies_above source no
 read_next : (nodes : List (Node Item)) (spine : List ℕ) (i : ℕ) (above : Above) (block : Option ItemBody) → i < length spine
     → block_of (item_at nodes (get_or spine i 0)).body ≡ block
     → inside_all nodes (drop i spine) above ≡ inside_all nodes (drop (i + 1) spine)
-    (inside block (range_of (item_at nodes (get_or spine i 0))) above)
+    (inside_block block (range_of (item_at nodes (get_or spine i 0))) above)
 read_next nodes spine i above block within is =
     ap (λ (rest : List ℕ). inside_all nodes rest above) (drop_more spine i 0 within)
-    ∙ ap (λ (b : Option ItemBody). inside_all nodes (drop (i + 1) spine) (inside b (range_of (item_at nodes (get_or spine i 0))) above)) is
+    ∙ ap (λ (b : Option ItemBody). inside_all nodes (drop (i + 1) spine) (inside_block b (range_of (item_at nodes (get_or spine i 0))) above)) is
 
 -- one more block: the place is that of its end
 pub block_read : (source : List ℕ) (place place' : ChainPlace) (nodes : List (Node Item)) (l : Option ℕ) (spine : List ℕ) (i : ℕ)

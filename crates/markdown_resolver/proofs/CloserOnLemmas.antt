@@ -14,7 +14,7 @@ use Rattle.markdown_brackets.specs.ClosingBracket.{closed, put, put_decided}
 use Rattle.markdown_brackets.specs.Decides.{Decides}
 use Rattle.markdown_brackets.specs.LeftList.{Entry, brackets_of, wikilinks_of}
 use Rattle.markdown_brackets.specs.Openers.{Waiting}
-use Rattle.markdown_brackets.specs.ReadChain.{closing}
+use Rattle.markdown_brackets.specs.ReadChain.{closing_of}
 use Rattle.markdown_brackets.specs.declared.closing_bracket.ClosedBracket.{ClosedBracket}
 use Rattle.markdown_brackets.specs.declared.spent_ends.SpentEnds.{SpentEnds}
 use Rattle.markdown_brackets.proofs.BracketTagLemmas.{closing_retag}
@@ -106,11 +106,11 @@ module _ {C : Type 0} (step : C → Question → Option Answer → C → Type 0)
       let rest = trees_from s.text old.tables old.nodes (sibling_of old.nodes ix) in
       let from : Progress (Unit {0}) = at_left left old (d.answers ++ later) p in
       let by_number : Progress ℕ = numbered p (d.answers ++ later) in
-      let same : closing could_be c.label c.rest by_number ≡ c =
+      let same : closing_of could_be c.label c.rest by_number ≡ c =
       ap (λ (x : Bool). let k : Closing ℕ = record { label = c.label; could_be_reference = could_be && not x; rest = c.rest } in k)
       (sym (are (end_of c.label))) in
-      let closes : closed w (closing could_be a rest from) from ≡ retag_progress (λ n. tt) (put w c d.becomes (after_decision d p later)) =
-      ap (λ (f : Forest Plain). closed w (closing could_be a f from) from)
+      let closes : closed w (closing_of could_be a rest from) from ≡ retag_progress (λ n. tt) (put w c d.becomes (after_decision d p later)) =
+      ap (λ (f : Forest Plain). closed w (closing_of could_be a f from) from)
       (sym (trees_unnumbered s.text old.tables old.nodes (sibling_of old.nodes ix)))
       ∙ closing_retag (λ n. tt) w could_be c.label c.rest by_number
       ∙ ap (λ (k : Closing ℕ). retag_progress (λ n. tt) (closed w k by_number)) same

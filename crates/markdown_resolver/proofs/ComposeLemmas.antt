@@ -15,7 +15,7 @@ use Rattle.markdown_base.specs.declared.item.ItemBody.{ItemBody}
 use Rattle.markdown_base.specs.declared.node.Node.{Node}
 use Rattle.markdown_base.proofs.ArenaForestLemmas.{opens}
 use Rattle.markdown_document.specs.Document.{label_of}
-use Rattle.markdown_document.specs.ItemRules.{StandsBefore}
+use Rattle.markdown_document.specs.ItemRules.{ComesBefore}
 use Rattle.markdown_document.specs.Places.{HasSlices, IsSameAt, IsPlaced, label_at, trees_from}
 use Rattle.markdown_document.specs.Stages.{times_in, named_in, weight_in}
 use Rattle.markdown_document.specs.Tables.{Tables, Named, number_of, size_for, NamesEntries, IsNoShorter, HasGrown}
@@ -66,7 +66,7 @@ changes_move source l old new tables tables' c = record {
 
 pub moves_change : (source : List ℕ) (l : Option ℕ) (old new : List (Node Item)) (tables tables' : Tables)
     → Moves source l l old new tables tables'
-    → ((a : Numbered) → StandsBefore a (option_map (numbered old) l) → StandsBefore a (option_map (numbered new) l))
+    → ((a : Numbered) → ComesBefore a (option_map (numbered old) l) → ComesBefore a (option_map (numbered new) l))
     → ChangesChain source l old new tables tables'
 moves_change source l old new tables tables' m before = record {
   reaches = m.stands.reaches;
@@ -287,7 +287,7 @@ module _ (source : List ℕ) (ix : ℕ) (old mid new : List (Node Item)) (tables
       (cases_lt (number_of n) (size_for tables n))
 
   -- its item is placed, if it directly precedes what follows it
-  head_placed : StandsBefore (numbered mid ix) (option_map (numbered new) (sibling_of mid ix))
+  head_placed : ComesBefore (numbered mid ix) (option_map (numbered new) (sibling_of mid ix))
       → RunsAreWhole source (numbered mid ix) (option_map (numbered new) (sibling_of mid ix)) → IsPlaced source later new ix
   head_placed follows goes_on = record {
     lies = rw head_stays.item h.lies;
@@ -320,7 +320,7 @@ module _ (source : List ℕ) (ix : ℕ) (old mid new : List (Node Item)) (tables
       let apart : times_in mid (sibling_of old ix) n ≡ 0 = rw a.rest.forest (omega (arith, x)) in
       same_trans old mid new n (h.others n l other) (m.outside n (omega (arith, l, size)) apart)
 
-  pub head_moves : StandsBefore (numbered mid ix) (option_map (numbered new) (sibling_of mid ix))
+  pub head_moves : ComesBefore (numbered mid ix) (option_map (numbered new) (sibling_of mid ix))
       → RunsAreWhole source (numbered mid ix) (option_map (numbered new) (sibling_of mid ix))
       → HeadMoved source ix old mid new tables tables' later
   head_moves follows goes_on =

@@ -9,7 +9,7 @@ use Rattle.markdown_base.specs.declared.node.Node.{Node}
 use Rattle.markdown_base.specs.declared.tag.LinkType.{LinkType}
 use Rattle.markdown_brackets.specs.BracketDecision.{Around, Becomes, Closing, Decision, Progress, Wikilink, Written, a_footnote, a_text}
 use Rattle.markdown_brackets.specs.BracketDecision.{after_look_up, decided, decided_before, footnote_label, footnote_tried, footnote_used}
-use Rattle.markdown_brackets.specs.BracketDecision.{inline_link, link_label, look_up_tried, no_link, one_decided, opener_tried, past_second}
+use Rattle.markdown_brackets.specs.BracketDecision.{inline_link, link_reference, look_up_tried, no_link, one_decided, opener_tried, past_second}
 use Rattle.markdown_brackets.specs.BracketDecision.{question_at, spent_by, target_tried, to_be, tried, wikilink_in, wikilink_opener}
 use Rattle.markdown_brackets.specs.BracketDecision.{wikilink_or_one, wikilink_tried, written}
 use Rattle.markdown_base.specs.EnabledOptions.{wikilinks_on}
@@ -61,7 +61,7 @@ module _ {A : Type 0} (w : Around) (c : Closing A) (p : List (Entry A) → Type 
   tried_left : (o : Split A) (x : Written) (q : Progress A) → p q.left → left_of (tried w o x q)
   tried_left o no_link q h = h
   tried_left o (inline_link t) q h = h
-  tried_left o (link_label link_type label end next) q h = look_up_left o link_type label end next
+  tried_left o (link_reference link_type label end next) q h = look_up_left o link_type label end next
       (record q { spent = spent_by link_type end q.spent }) h
   tried_left o (footnote_label name) q h = footnote_left o name q h
 

@@ -20,7 +20,7 @@ use Rattle.markdown_base.specs.declared.tag.LinkType.TheVariants as kind
 use Rattle.markdown_brackets.specs.BracketDecision.{Around, Becomes, a_footnote, a_text, Closing, Decision, Progress, Wikilink, Written}
 use Rattle.markdown_brackets.specs.BracketDecision.{after_look_up, block_text, closer_ends_at, decided}
 use Rattle.markdown_brackets.specs.BracketDecision.{decided_before, first_item, footnote_label, footnote_tried, footnote_used, form_of}
-use Rattle.markdown_brackets.specs.BracketDecision.{inline_link, label_of_opener, lines, link_label, look_up_tried}
+use Rattle.markdown_brackets.specs.BracketDecision.{inline_link, label_of_opener, lines, link_reference, look_up_tried}
 use Rattle.markdown_brackets.specs.BracketDecision.{no_link, one_decided, opener_tried, own_written, past_second, question_at}
 use Rattle.markdown_brackets.specs.BracketDecision.{reference_written, second_item, spent_by, start_of_first_past, tail_or}
 use Rattle.markdown_brackets.specs.BracketDecision.{target_tried, to_be, tried, wikilink_in, wikilink_opener, wikilink_or_one}
@@ -32,7 +32,7 @@ use Rattle.markdown_brackets.specs.LeftList.{Entry, Split, bracket_taken, inside
 use Rattle.markdown_brackets.specs.LeftList.{trees_onto, wikilink_taken, without_bracket}
 use Rattle.markdown_brackets.specs.LinkTail.{LinkTail, link_tail}
 use Rattle.markdown_brackets.specs.Lookup.{LookedUp, answered, asked, defined_or_asked, finds_nothing, look_up, unknown}
-use Rattle.markdown_brackets.specs.Reference.{FoundLabel, Form, collapsed, form_at, form_by_label, is_closer, is_opener, label_at}
+use Rattle.markdown_brackets.specs.Reference.{FoundLabel, Form, collapsed, form_at, form_by_label, is_closer, is_opener, bracket_label}
 use Rattle.markdown_brackets.specs.Reference.{reference, shortcut, stands_at}
 use Rattle.markdown_brackets.specs.declared.footnote.FootnoteStyle.{FootnoteStyle}
 use Rattle.markdown_brackets.proofs.OpenerHeldLemmas.{trees_stay}
@@ -70,12 +70,12 @@ collapsed_stands style skipped in_table text p next after = by (stands_at p is_o
         in_style false e = cc e
 
     by : (opens closes follows : Bool)
-        → (if opens && closes then collapsed else if follows then form_by_label p (label_at style skipped in_table (drop p text))
+        → (if opens && closes then collapsed else if follows then form_by_label p (bracket_label style skipped in_table (drop p text))
         else shortcut) ≡ collapsed → closes ≡ true
     by true true follows e = refl
-    by true false true e = absurd (labelled (label_at style skipped in_table (drop p text)) e)
+    by true false true e = absurd (labelled (bracket_label style skipped in_table (drop p text)) e)
     by true false false e = absurd (cc e)
-    by false closes true e = absurd (labelled (label_at style skipped in_table (drop p text)) e)
+    by false closes true e = absurd (labelled (bracket_label style skipped in_table (drop p text)) e)
     by false closes false e = absurd (cc e)
 
 -- the byte offsets at which the chain after a `]` can continue
@@ -99,7 +99,7 @@ EndsSo source c end next = CanGoOn source c next × IsCharBoundary source end ×
 WrittenWell : List ℕ → Closing ℕ → Written → Type 0
 WrittenWell source c no_link = ⊤
 WrittenWell source c (inline_link t) = CanGoOn source c t.ends
-WrittenWell source c (link_label link_type label end next) = EndsSo source c end next × (destination_origin link_type ≡ made)
+WrittenWell source c (link_reference link_type label end next) = EndsSo source c end next × (destination_origin link_type ≡ made)
 WrittenWell source c (footnote_label name) = ⊤
 
 -- the link that a look-up finds is of the label's type, or of the one whose label a callback knew
@@ -137,9 +137,9 @@ looked_up_made defined asks limit answers q e = by_limit (limit == 0)
 
     by_limit : (none : Bool)
         → IsNoSlice (if none then finds_nothing limit answers [] else defined_or_asked asks limit answers q
-        (definitions.look_up q.reference defined)).target
+        (definitions.find_definition q.reference defined)).target
     by_limit true = tt
-    by_limit false = by_definition (definitions.look_up q.reference defined)
+    by_limit false = by_definition (definitions.find_definition q.reference defined)
 
 module _ (source : List ℕ) (w : Around) (c : Closing ℕ) (may : MayGoOn source w c) where
   ends_so : (i : ℕ) → CanGoOn source c i → EndsSo source c i i
@@ -154,7 +154,7 @@ module _ (source : List ℕ) (w : Around) (c : Closing ℕ) (may : MayGoOn sourc
   own_well link_type next (Some l) h k = by l.is_footnote
     where
       by : (is_footnote : Bool) → WrittenWell source c (if is_footnote then footnote_label l.name
-          else link_label link_type l.name (end_of c.label) next)
+          else link_reference link_type l.name (end_of c.label) next)
       by true = tt
       by false = (h, k)
 
@@ -170,7 +170,7 @@ module _ (source : List ℕ) (w : Around) (c : Closing ℕ) (may : MayGoOn sourc
   unfolding WrittenWell EndsSo
   reference_well could_be own (reference label to) e = by (closer_ends_at to c.rest) refl
     where
-      by : (closes : Bool) → closer_ends_at to c.rest ≡ closes → WrittenWell source c (if closes then link_label kind.Reference label to to
+      by : (closes : Bool) → closer_ends_at to c.rest ≡ closes → WrittenWell source c (if closes then link_reference kind.Reference label to to
           else no_link)
       by true h = (ends_so to (may.labelled to h), refl)
       by false h = tt
@@ -219,7 +219,7 @@ module _ (source : List ℕ) (w : Around) (c : Closing ℕ) (may : MayGoOn sourc
   unfolding WrittenWell EndsSo
   tried_well o no_link p h = tt
   tried_well o (inline_link t) p h = let so = ends_so t.ends h in (so.0, so.1, so.2, so.3, refl)
-  tried_well o (link_label link_type label end next) p h = look_up_well o link_type label end next
+  tried_well o (link_reference link_type label end next) p h = look_up_well o link_type label end next
       (record p { spent = spent_by link_type end p.spent }) h.0 h.1
   tried_well o (footnote_label name) p h = footnote_well o name p
 

@@ -14,7 +14,7 @@ use Rattle.markdown_base.specs.Item.{is_block}
 use Rattle.markdown_base.specs.declared.item.Item.{Item}
 use Rattle.markdown_base.specs.declared.node.Node.{Node}
 use Rattle.markdown_base.proofs.ArenaForestLemmas.{opens}
-use Rattle.markdown_document.specs.ItemRules.{StandsBefore}
+use Rattle.markdown_document.specs.ItemRules.{ComesBefore}
 use Rattle.markdown_document.specs.Places.{IsPlaced, label_at, trees_from}
 use Rattle.markdown_document.specs.Stages.{items_from}
 use Rattle.markdown_document.specs.Tables.{Tables}
@@ -37,7 +37,7 @@ followers nodes ix = roots (forest_at (links_of nodes) (sibling_of nodes ix))
 
 next_after : (source : List ℕ) (tables : Tables) (nodes : List (Node Item)) (ix : ℕ) (l : Option ℕ) (f : Forest ℕ)
     → Spells (links_of nodes) l f → is_block (item_at nodes ix).body ≡ false
-    → IsQuietBelow (relabelled (label_at source tables nodes) f) → StandsBefore (numbered nodes ix) (option_map (numbered nodes) l)
+    → IsQuietBelow (relabelled (label_at source tables nodes) f) → ComesBefore (numbered nodes ix) (option_map (numbered nodes) l)
     → IfSome l (λ n. (item_at nodes ix).end ≤ (item_at nodes n).start)
 next_after source tables nodes ix l nil s b q stands = rw s tt
 next_after source tables nodes ix l (node j below after) s b q stands =

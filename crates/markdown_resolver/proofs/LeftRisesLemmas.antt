@@ -16,7 +16,7 @@ use Rattle.markdown_brackets.specs.ChainHeld.{Holds, numbers_of}
 use Rattle.markdown_brackets.specs.Decides.{StandsBefore}
 use Rattle.markdown_brackets.specs.Finish.{AreBehind, AreRising, LeftRises}
 use Rattle.markdown_brackets.specs.LeftList.{Entry, trees_onto}
-use Rattle.markdown_document.specs.ChainRest.{joined}
+use Rattle.markdown_document.specs.ChainRest.{joined_chains}
 use Rattle.markdown_document.specs.Document.{Label}
 use Rattle.markdown_document.specs.Places.{IsPlaced, label_at}
 use Rattle.markdown_document.specs.Tables.{Tables}
@@ -57,7 +57,7 @@ left_rises source tables nodes first at left h =
     let f = forest_at (links_of nodes) (Some first) in
     let head = trees_onto left nil in
     let later = numbered_from source tables nodes at in
-    let whole : f ≡ joined (numbers_of head) (numbers_of later) =
+    let whole : f ≡ joined_chains (numbers_of head) (numbers_of later) =
     sym (numbers_are source tables nodes f) ∙ ap (λ (g : Forest (Label ℕ)). numbers_of g) (rest_of source tables nodes first at left
     h).whole ∙ relabelled_joined (λ a. a.tag) head later in
     let rising = rising_along source tables nodes (Some first) f h.ready.reaches.spelled h.ready.reaches.each h.ready.quiet_below in

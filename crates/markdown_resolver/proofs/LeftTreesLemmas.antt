@@ -10,7 +10,7 @@ use Rattle.markdown_brackets.specs.LeftList.{on_marks, second_folded, trees_onto
 use Rattle.markdown_brackets.specs.Openers.{Waiting}
 use Rattle.markdown_brackets.specs.QuietItems.{all_done}
 use Rattle.markdown_brackets.proofs.OpenerHeldLemmas.{onto_joined}
-use Rattle.markdown_document.specs.ChainRest.{joined}
+use Rattle.markdown_document.specs.ChainRest.{joined_chains}
 use Rattle.markdown_document.specs.Document.{Label}
 use Rattle.markdown_document.specs.Labels.{retagged}
 use Rattle.markdown_document.specs.Totals.{total, same}
@@ -19,19 +19,19 @@ use Rattle.markdown_resolver.specs.Kept.{IsQuiet, IsQuietBelow}
 use Rattle.markdown_resolver.specs.ReadOn.{EachWaits}
 
 -- two chains, one after the other, with other labels
-pub relabelled_joined : {A B : Type 0} (h : A → B) (f g : Forest A) → relabelled h (joined f g) ≡ joined (relabelled h f) (relabelled h g)
+pub relabelled_joined : {A B : Type 0} (h : A → B) (f g : Forest A) → relabelled h (joined_chains f g) ≡ joined_chains (relabelled h f) (relabelled h g)
 relabelled_joined h nil g = refl
 relabelled_joined h (node a below after) g = ap (λ rest. node (h a) (relabelled h below) rest) (relabelled_joined h after g)
 
-total_joined : (count : ℕ → ℕ) (f g : Forest ℕ) → total count (joined f g) ≡ total count f + total count g
+total_joined : (count : ℕ → ℕ) (f g : Forest ℕ) → total count (joined_chains f g) ≡ total count f + total count g
 total_joined count nil g = omega arith
 total_joined count (node ix below after) g = omega (arith, total_joined count after g)
 
 -- the trees of a left list precede those that are put onto it
-pub onto_split : (left : List (Entry ℕ)) (later : Forest (Label ℕ)) → trees_onto left later ≡ joined (trees_onto left nil) later
+pub onto_split : (left : List (Entry ℕ)) (later : Forest (Label ℕ)) → trees_onto left later ≡ joined_chains (trees_onto left nil) later
 onto_split left later = onto_joined left nil later
 
-pub times_joined : (n : ℕ) (f g : Forest (Label ℕ)) → times_of n (joined f g) ≡ times_of n f + times_of n g
+pub times_joined : (n : ℕ) (f g : Forest (Label ℕ)) → times_of n (joined_chains f g) ≡ times_of n f + times_of n g
 times_joined n f g = ap (λ (h : Forest ℕ). total (same n) h) (relabelled_joined (λ a. a.tag) f g)
     ∙ total_joined (same n) (numbers_of f) (numbers_of g)
 
@@ -41,16 +41,16 @@ times_onto n left later = ap (λ (h : Forest (Label ℕ)). times_of n h) (onto_s
 
 -- trees that are done are put before what is put onto them
 pub done_onto : (trees : Forest (Label ℕ)) (left : List (Entry ℕ)) (later : Forest (Label ℕ)) → trees_onto (all_done trees left) later
-    ≡ trees_onto left (joined trees later)
+    ≡ trees_onto left (joined_chains trees later)
 done_onto nil left later = refl
 done_onto (node a below after) left later = done_onto after (done a below ∷ left) later
 
 -- nothing is open in two chains joined, nor in either of them
-pub quiet_joined : {A : Type 0} (f g : Forest (Label A)) → IsQuiet f → IsQuiet g → IsQuiet (joined f g)
+pub quiet_joined : {A : Type 0} (f g : Forest (Label A)) → IsQuiet f → IsQuiet g → IsQuiet (joined_chains f g)
 quiet_joined nil g h k = k
 quiet_joined (node a below after) g h k = (h.0, h.1, h.2, quiet_joined after g h.3 k)
 
-pub quiet_first : {A : Type 0} (f g : Forest (Label A)) → IsQuiet (joined f g) → IsQuiet f
+pub quiet_first : {A : Type 0} (f g : Forest (Label A)) → IsQuiet (joined_chains f g) → IsQuiet f
 quiet_first nil g h = tt
 quiet_first (node a below after) g h = (h.0, h.1, h.2, quiet_first after g h.3)
 
@@ -58,11 +58,11 @@ pub quiet_is_below : {A : Type 0} (f : Forest (Label A)) → IsQuiet f → IsQui
 quiet_is_below nil h = tt
 quiet_is_below (node a below after) h = (h.1, h.2, quiet_is_below after h.3)
 
-pub below_joined : {A : Type 0} (f g : Forest (Label A)) → IsQuietBelow f → IsQuietBelow g → IsQuietBelow (joined f g)
+pub below_joined : {A : Type 0} (f g : Forest (Label A)) → IsQuietBelow f → IsQuietBelow g → IsQuietBelow (joined_chains f g)
 below_joined nil g h k = k
 below_joined (node a below after) g h k = (h.0, h.1, below_joined after g h.2 k)
 
-pub below_second : {A : Type 0} (f g : Forest (Label A)) → IsQuietBelow (joined f g) → IsQuietBelow g
+pub below_second : {A : Type 0} (f g : Forest (Label A)) → IsQuietBelow (joined_chains f g) → IsQuietBelow g
 below_second nil g h = h
 below_second (node a below after) g h = below_second after g h.2
 
@@ -156,10 +156,10 @@ pub behind_all : (n m : ℕ) (numbers : List ℕ) → n < m → AreBehind m numb
 behind_all n m [] l h = tt
 behind_all n m (k ∷ numbers) l h = (omega (arith, l, h.0), behind_all n m numbers l h.1)
 
-behind_first : (n : ℕ) (f g : Forest ℕ) → AreBehind n (roots (joined f g)) → AreBehind n (roots f)
+behind_first : (n : ℕ) (f g : Forest ℕ) → AreBehind n (roots (joined_chains f g)) → AreBehind n (roots f)
 behind_first n nil g h = tt
 behind_first n (node ix below after) g h = (h.0, behind_first n after g h.1)
 
-pub rising_first : (f g : Forest ℕ) → AreRising (roots (joined f g)) → AreRising (roots f)
+pub rising_first : (f g : Forest ℕ) → AreRising (roots (joined_chains f g)) → AreRising (roots f)
 rising_first nil g h = tt
 rising_first (node ix below after) g h = (behind_first ix after g h.0, rising_first after g h.1)

@@ -24,7 +24,7 @@ use Rattle.markdown_base.proofs.ArenaForestLemmas.{opens}
 use Rattle.markdown_document.specs.Origins.{IsSliceWithin}
 use Rattle.markdown_document.specs.Places.{IsPlaced}
 use Rattle.markdown_document.specs.Tables.{Tables}
-use Rattle.markdown_spans.specs.AfterLess.{Markup, autolink, html, declared_end, html_at, markup_at, unbroken}
+use Rattle.markdown_spans.specs.AfterLess.{Markup, autolink, html_markup, declared_end, html_at, markup_at, unbroken}
 use Rattle.markdown_spans.specs.Autolink.{begins_scheme, closed_uri, uri_length, uri_autolink}
 use Rattle.markdown_spans.specs.Finds.{end_of_markup}
 use Rattle.markdown_spans.proofs.SliceLemmas.{slice_between, slice_wider}
@@ -205,7 +205,7 @@ uri_slice text at = by (closed_uri (drop at text))
 -- an autolink has bytes after its `<`, of which its URI is a slice
 abbrev pub EndsPast : List ℕ → ℕ → Markup → Type 0
 EndsPast text at (autolink end uri) = (at < end) × IsSliceWithin text at end uri
-EndsPast text at (html end bytes) = Unit {0}
+EndsPast text at (html_markup end bytes) = Unit {0}
 
 pub record MarkupEnds (text : List ℕ) (start at : ℕ) (m : Markup) : Type 0 where
   pub ends : EndsClosed text start (end_of_markup m)
@@ -223,7 +223,7 @@ markup_ends skipped text start at m later within e =
     first_of : (uri : Option (ℕ × List ℕ)) (tag : Option (ℕ × Option (List ℕ))) → IfSome uri (λ found. EndsClosed text at found.0)
         → IfSome uri (λ found. IsSliceWithin text at found.0 found.1)
         → EndsAt text start tag
-        → IfSome (option_or (option_map (λ found. autolink found.0 found.1) uri) (option_map (λ found. html found.0 found.1) tag))
+        → IfSome (option_or (option_map (λ found. autolink found.0 found.1) uri) (option_map (λ found. html_markup found.0 found.1) tag))
         (MarkupEnds text start at)
     first_of (Some found) tag h u k =
         record { ends = record { after = omega (arith, h.after, later); within = h.within; closed = h.closed }; address = (h.after, u) }

@@ -19,7 +19,7 @@ use Rattle.markdown_base.specs.declared.index.LinkIndex.{LinkIndex}
 use Rattle.markdown_base.specs.declared.item.Item.{Item}
 use Rattle.markdown_base.specs.declared.node.Node.{Node}
 use Rattle.markdown_base.proofs.ArenaForestLemmas.{opens}
-use Rattle.markdown_document.specs.ChainRest.{joined, past}
+use Rattle.markdown_document.specs.ChainRest.{joined_chains, past}
 use Rattle.markdown_document.specs.Document.{Plain}
 use Rattle.markdown_document.specs.LinkOrigins.{IsLinkFrom}
 use Rattle.markdown_document.specs.Origins.{IsSliceWithin, Origin, sliced}
@@ -28,7 +28,7 @@ use Rattle.markdown_document.specs.Setting.{Rules, setting_of}
 use Rattle.markdown_document.specs.Tables.{HasGrown, Named, Tables, link_at, link_origins_at, link_view, number_of, size_for, some_alignments}
 use Rattle.markdown_document.specs.Tables.{link_origins, some_link, some_text, tables_of}
 use Rattle.markdown_document.specs.Totals.{times_named}
-use Rattle.markdown_spans.specs.AfterLess.{Markup, autolink, html, markup_at}
+use Rattle.markdown_spans.specs.AfterLess.{Markup, autolink, html_markup, markup_at}
 use Rattle.markdown_spans.specs.Finds.{address, markup_trees}
 use Rattle.markdown_raw_html.specs.HtmlTag.{html_tag}
 use Rattle.markdown_raw_html.specs.TagSource.{tag_at, tag_lengths, tag_of}
@@ -37,7 +37,7 @@ use Rattle.markdown_raw_html.proofs.TagSourceLemmas.{Closes-html_tag}
 use Rattle.markdown_defs.specs.Allocations.{Allocated, LinkParts, with_link}
 use Rattle.markdown_resolver.specs.Chains.{CanResolve}
 use Rattle.markdown_resolver.specs.MarkupItems.{IsAddress, address_to, item_to, standing_for}
-use Rattle.markdown_resolver.specs.Rewritten.{CanPut, CanPutParent, Puts, Standing, one, parent, replaced}
+use Rattle.markdown_resolver.specs.Rewritten.{CanPut, CanPutParent, Puts, Standing, one_item, parent, replaced}
 use Rattle.markdown_resolver.proofs.FollowersLemmas.{opens_chain}
 use Rattle.markdown_resolver.proofs.CodeSpanLemmas.{PutsText, same_below}
 use Rattle.markdown_resolver.proofs.MarkupEndLemmas.{EndsClosed}
@@ -238,15 +238,15 @@ ReadsFor source rules tables nodes ix trees m =
     ≡ standing_for source rules m (label_at source tables nodes ix) (trees_from source tables nodes (child_of nodes ix))
 
 pub html_trees : (source : List ℕ) (rules : Rules) (tables tables' : Tables) (nodes : List (Node Item)) (ix end : ℕ)
-    → ReadsFor source rules tables nodes ix (one source tables' (item_to nodes ix end body.InlineHtml)) (html end None)
+    → ReadsFor source rules tables nodes ix (one_item source tables' (item_to nodes ix end body.InlineHtml)) (html_markup end None)
 html_trees source rules tables tables' nodes ix end = refl
 
 pub owned_trees : (source : List ℕ) (rules : Rules) (tables tables' : Tables) (number : CowIndex) (bytes : List ℕ)
     (nodes : List (Node Item)) (ix end : ℕ) → PutsText tables tables' number bytes
-    → ReadsFor source rules tables nodes ix (one source tables' (item_to nodes ix end (body.OwnedInlineHtml number)))
-    (html end (Some bytes))
+    → ReadsFor source rules tables nodes ix (one_item source tables' (item_to nodes ix end (body.OwnedInlineHtml number)))
+    (html_markup end (Some bytes))
 owned_trees source rules tables tables' number bytes nodes ix end put =
-    ap (λ (xs : List ℕ). markup_trees (setting_of source rules) tt (label_at source tables nodes ix) (html end (Some xs))) put.found
+    ap (λ (xs : List ℕ). markup_trees (setting_of source rules) tt (label_at source tables nodes ix) (html_markup end (Some xs))) put.found
 
 pub autolink_trees : (source : List ℕ) (rules : Rules) (tables tables' : Tables) (number : LinkIndex) (uri : List ℕ)
     (nodes : List (Node Item)) (ix end : ℕ) → PutsLink source end tables tables' number (address uri)
@@ -258,8 +258,8 @@ autolink_trees source rules tables tables' number uri nodes ix end put = rw put.
 one_markup : (source : List ℕ) (rules : Rules) (m : Markup) (a : Plain) (below : Forest Plain)
     → length (roots (standing_for source rules m a below)) ≡ 1
 one_markup source rules (autolink end uri) a below = refl
-one_markup source rules (html end None) a below = refl
-one_markup source rules (html end (Some bytes)) a below = refl
+one_markup source rules (html_markup end None) a below = refl
+one_markup source rules (html_markup end (Some bytes)) a below = refl
 
 -- so what was put in place replaces it
 pub puts_standing : (source : List ℕ) (rules : Rules) (m : Markup) (ix : ℕ) (trees : Standing) (goes_on next : Option ℕ)
@@ -287,7 +287,7 @@ puts_standing source rules m ix trees goes_on next old new tables tables' ready 
     alike rule =
         let after = trees_from source tables old (sibling_of old ix) in
         let first = (opens_chain source tables old ix ready).trees in
-        ap (replaced trees goes_on rule) first ∙ ap (λ (f : Forest Plain). joined f (rule (past goes_on after))) same
+        ap (replaced trees goes_on rule) first ∙ ap (λ (f : Forest Plain). joined_chains f (rule (past goes_on after))) same
         ∙ ap (replaced (standing_for source rules m) goes_on rule) (sym first)
 
 -- what was found lies in the text

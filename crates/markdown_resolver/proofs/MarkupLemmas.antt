@@ -22,7 +22,7 @@ use Rattle.markdown_document.specs.Origins.{IsSliceWithin}
 use Rattle.markdown_document.specs.Places.{IsPlaced, label_at, trees_from}
 use Rattle.markdown_document.specs.Setting.{Rules, Setting, setting_of}
 use Rattle.markdown_document.specs.Tables.{Tables, tables_of}
-use Rattle.markdown_spans.specs.AfterLess.{Markup, autolink, html, markup_at}
+use Rattle.markdown_spans.specs.AfterLess.{Markup, autolink, html_markup, markup_at}
 use Rattle.markdown_base.specs.EnabledOptions.{gfm_footnotes_on}
 use Rattle.markdown_spans.specs.Finds.{Find, Passed, end_of_markup, markup, markup_found, markup_or_nothing, nothing, passed}
 use Rattle.markdown_spans.specs.Finds.{prefix_below}
@@ -220,7 +220,7 @@ scan_ends place tree held ix prefix m is =
 has_address : (place : ChainPlace) (tree : Arena Item) (held : Allocated) (ix : ℕ) (m : Markup) → CanReadItem place tree held ix
     → MarkupEnds (take place.block_end place.text.now) (item_at tree.nodes ix).start (item_at tree.nodes ix).end m
     → HasAddress place.text.now tree.nodes ix m
-has_address place tree held ix (html end bytes) can ends = tt
+has_address place tree held ix (html_markup end bytes) can ends = tt
 has_address place tree held ix (autolink end uri) can ends = record {
   some = ends.address.0;
   lies = address_lies place.text.now (tables_of held) tree.nodes ix place.block_end end can.ready

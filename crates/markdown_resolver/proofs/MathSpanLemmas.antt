@@ -24,7 +24,7 @@ use Rattle.markdown_document.specs.Setting.{Setting}
 use Rattle.markdown_document.specs.Tables.{Named, Tables, number_of, size_for, some_alignments, some_link, some_text, text_at}
 use Rattle.markdown_document.specs.Totals.{times_named}
 use Rattle.markdown_spans.specs.ChainInArena.{LeadsThrough}
-use Rattle.markdown_spans.specs.Closers.{Dollar, MathClose, can_close, can_open, closed_by, context_of, display_close, dollar_next}
+use Rattle.markdown_spans.specs.Closers.{Dollar, MathClose, can_close, can_open, math_closed_by, context_of, display_close, dollar_next}
 use Rattle.markdown_spans.specs.Closers.{first_dollar, inline_close, is_dollar, is_dollar_of, math_close, math_close_from, searched_for_math}
 use Rattle.markdown_spans.specs.Finds.{find_by, math_found, math_text_start, text_between, origin_between}
 use Rattle.markdown_spans.specs.MathOpening.{dollar_at}
@@ -33,7 +33,7 @@ use Rattle.markdown_spans.specs.declared.span_closers.FoundMath.{FoundMath}
 use Rattle.markdown_spans.specs.declared.span_text.SpanKind.TheVariants.{Math}
 use Rattle.markdown_spans.proofs.SliceLemmas.{sliced_wider}
 use Rattle.markdown_resolver.specs.Chains.{CanResolve}
-use Rattle.markdown_resolver.specs.Rewritten.{CanPut, IsFoundAt, one, settled}
+use Rattle.markdown_resolver.specs.Rewritten.{CanPut, IsFoundAt, one_item, settled}
 use Rattle.markdown_resolver.specs.StoredText.{CanCut, StoresText}
 use Rattle.markdown_resolver.proofs.FollowersLemmas.{InOrder, OpenedChain, each_root, followers, opens_chain, order_around}
 use Rattle.markdown_resolver.proofs.CodeSpanLemmas.{found_at, same_below}
@@ -144,7 +144,7 @@ pub math_reads : (s : Setting) (above : Above) (tables tables' : Tables) (nodes 
     → ClosesMath nodes ix (Some m)
     → text_at tables'.cows cow.0 ≡ text_between s above Math (text_start nodes ix) (item_at nodes m.closer).start
     → origin_at tables'.cows cow.0 ≡ origin_between s above (text_start nodes ix) (item_at nodes m.closer).start
-    → ReadsAs s above tables nodes ix (one s.text tables' (math_item nodes ix m cow)) (Some (item_at nodes m.last).end)
+    → ReadsAs s above tables nodes ix (one_item s.text tables' (math_item nodes ix m cow)) (Some (item_at nodes m.last).end)
 math_reads s above tables tables' nodes ix m opens closes context cow ready is closed text origin =
     let e = read_opener s above tables nodes ix (body.MaybeMath opens closes context) is refl refl in
     let found = math_read s above tables nodes ix opens closes context (Some m) ready is closed in
@@ -265,7 +265,7 @@ display_stands nodes i context second (x ∷ ys) m ordered next closes = by (fir
 
     here : (d : Dollar ℕ) → first_dollar (item_at nodes) context ys ≡ Some d → (after : List ℕ) → d.after ≡ after → (last : Option ℕ)
         → dollar_next (item_at nodes) after ≡ last
-        → closed_by d.dollar last ≡ Some (close_of m) → MathStands nodes i context (x ∷ ys) m
+        → math_closed_by d.dollar last ≡ Some (close_of m) → MathStands nodes i context (x ∷ ys) m
     here d first after a None l e = cc e
     here d first [] a (Some last) l e = cc l
     here d first (z ∷ zs) a (Some last) l e =

@@ -28,7 +28,7 @@ use Rattle.markdown_brackets.specs.QuietItems.{all_done}
 use Rattle.markdown_brackets.specs.declared.spent_ends.SpentEnds.{SpentEnds}
 use Rattle.markdown_base.proofs.ArenaForestLemmas.{forest_at-none}
 use Rattle.markdown_document.specs.Above.{Above}
-use Rattle.markdown_document.specs.ChainRest.{joined, open_body}
+use Rattle.markdown_document.specs.ChainRest.{joined_chains, open_body}
 use Rattle.markdown_document.specs.Document.{Label, Part, Plain, Shape, as_text, is_unresolved, plain_tags, shape_of, text_over, unresolved}
 use Rattle.markdown_document.specs.Labels.{retag}
 use Rattle.markdown_document.specs.Places.{label_at, trees_from}
@@ -152,7 +152,7 @@ opener_next source tables nodes (Some n) ready =
 
 -- a stack holds an opener that is live
 held_if : (b : Bool) (ix : ℕ) (is_image : Bool) (held : List Waiting)
-    → (if b then waiting.live (record { node = ix; is_image = is_image }) ∷ held else held) ≡ held_as ix is_image (if b then live else gone)
+    → (if b then waiting.live_opener (record { node = ix; is_image = is_image }) ∷ held else held) ≡ held_as ix is_image (if b then live else gone)
     held
 held_if true ix is_image held = refl
 held_if false ix is_image held = refl
@@ -220,7 +220,7 @@ settled_at source tables old new first ix next left is_image h is puts =
     } in
     let next_trees = numbered_from source tables new next in
     let here : numbered_from source tables new (Some ix) ≡ node one.label nil next_trees = p.stands
-    ∙ ap (λ (f : Forest (Label ℕ)). joined f next_trees) one.is in
+    ∙ ap (λ (f : Forest (Label ℕ)). joined_chains f next_trees) one.is in
     let opened : node (numbered_label source tables new ix) (numbered_from source tables new (child_of new ix))
     (numbered_from source tables new (sibling_of new ix)) ≡ node one.label nil next_trees =
     sym (numbered_opens source tables new ix s) ∙ here in
@@ -230,7 +230,7 @@ settled_at source tables old new first ix next left is_image h is puts =
       reads = ap (λ (c : Label ℕ). retag (λ n. tt) c) (sym label) ∙ one.reads;
       behind_is = puts_behind source first ix next left (node t nil nil) rest old new tables tables h p;
       stands =
-          b.trees ∙ ap (λ (f : Forest (Label ℕ)). joined (trees_onto left nil) f) (here ∙ ap (λ (c : Label ℕ). node c nil next_trees) label)
+          b.trees ∙ ap (λ (f : Forest (Label ℕ)). joined_chains (trees_onto left nil) f) (here ∙ ap (λ (c : Label ℕ). node c nil next_trees) label)
           ∙ sym (onto_split left (node (numbered_label source tables new ix) nil next_trees));
       childless = same_link source tables new (child_of new ix) None (omega (arith, some, p.changes.more_nodes)) (child
           ∙ sym (numbered_none source tables new));
@@ -244,10 +244,10 @@ pub reads_on_opener : {C : Type 0} (step : C → Question → Option Answer → 
     → StandsTo s.text old.tables old.nodes first (Some ix) left → AreHeld brackets wikilinks left
     → (item_at old.nodes ix).body ≡ opener_body is_image
     → Puts s.text ix (settled s.text) None next old.nodes new.nodes old.tables old.tables
-    → brackets' ≡ waiting.live (record { node = ix; is_image = is_image }) ∷ brackets
+    → brackets' ≡ waiting.live_opener (record { node = ix; is_image = is_image }) ∷ brackets
     → wikilinks' ≡ (if wikilinks_on s.rules.options && option_map_or (λ n. is_opener (item_at old.nodes n).body) (sibling_of old.nodes ix)
     false
-    then waiting.live (record { node = ix; is_image = is_image }) ∷ wikilinks else wikilinks)
+    then waiting.live_opener (record { node = ix; is_image = is_image }) ∷ wikilinks else wikilinks)
     → ReadsOn step s above first (Some ix) next left old new spent spent brackets' wikilinks'
 reads_on_opener {C} step s above first ix next left is_image old new spent brackets wikilinks brackets' wikilinks' same stands held is puts
     brackets_are wikilinks_are =
@@ -311,13 +311,13 @@ reads_on_opener {C} step s above first ix next left is_image old new spent brack
       left_then = left_then;
       stands = subst (λ (t : Tables). StandsTo s.text t new.nodes first next left_then) (sym tables) stands_then;
       held = record {
-        brackets_are = brackets_are ∙ ap (λ (held : List Waiting). waiting.live (record { node = ix; is_image = is_image }) ∷ held)
+        brackets_are = brackets_are ∙ ap (λ (held : List Waiting). waiting.live_opener (record { node = ix; is_image = is_image }) ∷ held)
             held.brackets_are;
         wikilinks_are =
             wikilinks_are
-            ∙ ap (λ (b : Bool). if wikilinks_on s.rules.options && b then waiting.live (record { node = ix; is_image = is_image })
+            ∙ ap (λ (b : Bool). if wikilinks_on s.rules.options && b then waiting.live_opener (record { node = ix; is_image = is_image })
             ∷ wikilinks else wikilinks) (sym is_next_opener)
-            ∙ ap (λ (held : List Waiting). if follows then waiting.live (record { node = ix; is_image = is_image }) ∷ held else held)
+            ∙ ap (λ (held : List Waiting). if follows then waiting.live_opener (record { node = ix; is_image = is_image }) ∷ held else held)
             held.wikilinks_are
             ∙ held_if follows ix is_image (wikilinks_of left);
       };

@@ -84,10 +84,10 @@ pub reads_opener : {C E : Type 0} (step : C → Question → Option Answer → C
     (tree tree' : Arena Item) (old : Resolver C) (openers : ChainOpeners) (r : Result (Option ℕ) E)
     → CanReadNode place tree old ix → kind_of (item_at tree.nodes ix).body ≡ Some (Opener is_image)
     → IfOk r (λ next. IsOpened tree tree' ix next) → IfOk r (λ next. tree' ≡ record tree { nodes = tree'.nodes })
-    → OnOk r (openers.brackets ≡ waiting.live (record { node = ix; is_image = is_image }) ∷ old.openers.brackets)
+    → OnOk r (openers.brackets ≡ waiting.live_opener (record { node = ix; is_image = is_image }) ∷ old.openers.brackets)
     → OnOk r (openers.wikilinks
     ≡ (if wikilinks_on old.options && option_map_or (λ n. is_opener (item_at tree.nodes n).body) (sibling_of tree.nodes ix) false
-    then waiting.live (record { node = ix; is_image = is_image }) ∷ old.openers.wikilinks else old.openers.wikilinks))
+    then waiting.live_opener (record { node = ix; is_image = is_image }) ∷ old.openers.wikilinks else old.openers.wikilinks))
     → IfOk r (λ next. ReadsBracket step place ix next tree tree' old (record old { openers = openers }))
 reads_opener step place ix is_image tree tree' old openers (Ok next) can kind puts place_is brackets_are wikilinks_are =
     let ready = ready_here can.was_read in

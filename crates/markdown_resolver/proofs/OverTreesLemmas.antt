@@ -4,7 +4,7 @@ use Rattle.std.proofs.Common.{◌≡◌, ℕ, suc, List, length, Option, Some, a
 use Rattle.markdown_base.specs.Forest.{Forest, node, roots}
 use Rattle.markdown_base.specs.declared.item.Item.{Item}
 use Rattle.markdown_base.specs.declared.node.Node.{Node}
-use Rattle.markdown_document.specs.ChainRest.{joined, past}
+use Rattle.markdown_document.specs.ChainRest.{joined_chains, past}
 use Rattle.markdown_document.specs.Document.{Plain}
 use Rattle.markdown_document.specs.Places.{trees_from}
 use Rattle.markdown_document.specs.Tables.{Tables}
@@ -30,7 +30,7 @@ over_trees source opener closer inside trees goes_on standing next old new table
     let k = length inside in
     let r = puts.whole (λ f. f) new tables' (rewrites_none source next new tables' (stands_ready source tables' new next puts.leaves.ready))
     in
-    let whole : trees_from source tables' new (Some opener) ≡ joined (trees a (first_trees k after))
+    let whole : trees_from source tables' new (Some opener) ≡ joined_chains (trees a (first_trees k after))
     (past (Some goes_on) (trees_past (suc k) after)) =
     r.rewritten ∙ ap (λ (f : Forest Plain). closed_over k trees goes_on (λ g. g) f) reads in
     puts_trees source opener next (trees a (first_trees k after)) (past (Some goes_on) (trees_past (suc k) after)) standing old new tables

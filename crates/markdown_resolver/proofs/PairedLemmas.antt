@@ -17,7 +17,7 @@ use Rattle.markdown_base.specs.declared.node.Node.{Node}
 use Rattle.markdown_document.specs.Above.{Above}
 use Rattle.markdown_document.specs.Document.{plain_tags, Plain, Shape, leaf, enclosed, plain, backslash_break, unresolved, is_unresolved}
 use Rattle.markdown_document.specs.Document.{shape_of, block_of}
-use Rattle.markdown_document.specs.ItemRules.{StandsBefore}
+use Rattle.markdown_document.specs.ItemRules.{ComesBefore}
 use Rattle.markdown_document.specs.Labels.{counts_delimiter, counts_shape, delimiters_in}
 use Rattle.markdown_document.specs.Places.{IsPlaced, label_at, trees_from}
 use Rattle.markdown_document.specs.Setting.{Setting}
@@ -28,7 +28,7 @@ use Rattle.markdown_document.specs.Waiting.{waits_for_pairing, is_quiet}
 use Rattle.markdown_document.proofs.PlaceLemmas.{shape-open}
 use Rattle.markdown_delims.specs.ChainForest.{RisesFrom}
 use Rattle.markdown_delims.specs.PairedChain.{WaitsForPairing, HasNoBlock, CanPair, PairsChain}
-use Rattle.markdown_delims.specs.RunReading.{StandsWhole, IsWhole, counts_one, delimiters_of}
+use Rattle.markdown_delims.specs.RunReading.{StandsWhole, HasWholeRuns, counts_one, delimiters_of}
 use Rattle.markdown_delims.proofs.PairingLemmas.{closed_shape}
 use Rattle.markdown_resolver.specs.ChainCounts.{RisesInPart, chain_counts}
 use Rattle.markdown_resolver.specs.Chains.{ChangesChain, ResolvesFrom, StopsIn}
@@ -79,7 +79,7 @@ nothing_below nodes l (node ix below after) s e = cc (s.0, e)
 -- the numbers of a chain rise, since each item precedes the next one
 rises_next : (nodes : List (Node Item)) (ix : ℕ) (l : Option ℕ) (f : Forest ℕ) → Spells (links_of nodes) l f
     → is_block (item_at nodes ix).body ≡ false → HasNoBlock (relabelled (numbered nodes) f)
-    → StandsBefore (numbered nodes ix) (option_map (numbered nodes) l) → IfSome l (λ n. suc ix ≤ n)
+    → ComesBefore (numbered nodes ix) (option_map (numbered nodes) l) → IfSome l (λ n. suc ix ≤ n)
 rises_next nodes ix l nil s b h stands = rw s tt
 rises_next nodes ix l (node j below after) s b h stands = rw s.0 (let p = (rw s.0 at stands) b h.0 in omega (arith, p.numbers))
 
@@ -105,7 +105,7 @@ whole_if source a below after next None e h none = tt
 whole_if source a below after next (Some c) e h none = record { stands = rw (← e) h; childless = none c refl }
 
 all_whole : (source : List ℕ) (tables : Tables) (nodes : List (Node Item)) (l : Option ℕ) (f : Forest ℕ) → Spells (links_of nodes) l f
-    → Each (IsPlaced source tables nodes) f → IsWhole source (relabelled (numbered nodes) f)
+    → Each (IsPlaced source tables nodes) f → HasWholeRuns source (relabelled (numbered nodes) f)
 all_whole source tables nodes l nil s p = tt
 all_whole source tables nodes l (node ix below after) s p =
     let keeps = p.0.keeps in (

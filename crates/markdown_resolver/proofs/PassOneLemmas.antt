@@ -11,12 +11,12 @@ use Rattle.markdown_base.specs.declared.item.ItemBody.TheVariants as body
 use Rattle.markdown_brackets.specs.BracketDecision.{Around, Progress}
 use Rattle.markdown_brackets.specs.BracketLaws.{HandsOn}
 use Rattle.markdown_brackets.specs.BracketTags.{Follows as RetagsTo, retag_left, retag_progress}
-use Rattle.markdown_brackets.specs.BracketWeight.{weight_at, weight_left}
+use Rattle.markdown_brackets.specs.BracketWeight.{label_weight, weight_left}
 use Rattle.markdown_brackets.specs.ChainBegins.{BeginsSo, BeginsWith}
 use Rattle.markdown_brackets.specs.ClosingBracket.{closed}
 use Rattle.markdown_brackets.specs.LeftList.{Entry, done, trees_onto}
 use Rattle.markdown_brackets.specs.QuietItems.{LeavesQuiet, WaitsAtMost, all_done}
-use Rattle.markdown_brackets.specs.ReadChain.{Reader, begun, closing, opened, read, read_as, read_chain, read_past}
+use Rattle.markdown_brackets.specs.ReadChain.{Reader, begun, closing_of, opened, read, read_as, read_chain, read_past}
 use Rattle.markdown_brackets.proofs.BracketLawLemmas.{asks_none, chain_law}
 use Rattle.markdown_brackets.proofs.BracketTagLemmas.{onto_retag, read_chain_retag}
 use Rattle.markdown_brackets.proofs.BracketWeightLemmas.{no_heavier}
@@ -141,10 +141,10 @@ module _ {A : Type 0} (s : Setting) (tags : Tags A) (above : Above) where
   pub reads_closer : (could_be : Bool) (a : Label A) (below rest : Forest (Label A)) (p : Progress A) → p.goes_on ≡ None
       → open_body a.part.shape ≡ body.MaybeLinkClose could_be
       → whole_read (node a below rest) p
-      ≡ (let q : Progress A = closed (around s above) (closing could_be a rest p) p
+      ≡ (let q : Progress A = closed (around s above) (closing_of could_be a rest p) p
       in whole_read (past q.goes_on rest) (record q { goes_on = None }))
   reads_closer could_be a below rest p none e =
-      let q : Progress A = closed (around s above) (closing could_be a rest p) p in
+      let q : Progress A = closed (around s above) (closing_of could_be a rest p) p in
       ap (λ (q : Progress A). record q { goes_on = None }) (reads_as (body.MaybeLinkClose could_be) a below rest p none e)
       ∙ reads_past_all q.goes_on rest q
 
@@ -256,7 +256,7 @@ module _ {A : Type 0} where
 
     -- what is left of a chain is no heavier
     other_weight : (a : Label A) (below rest : Forest (Label A)) (p : Progress A)
-        → weight_left (read_other s tags above a below rest p).left ≤ weight_left p.left + (weight_at a + weight below)
+        → weight_left (read_other s tags above a below rest p).left ≤ weight_left p.left + (label_weight a + weight below)
     other_weight a below rest p =
         let put = all_done_weight (read_tree s tags above p.made a below rest).trees p.left in
         let read = read_weight s tags above p.made a below rest in

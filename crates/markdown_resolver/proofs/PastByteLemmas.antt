@@ -22,7 +22,7 @@ use Rattle.markdown_base.specs.Event.{code}
 use Rattle.markdown_document.specs.Origins.{Origin, inlined, made, origin_at, sliced}
 use Rattle.markdown_document.specs.ChainRest.{begun_at, end_of, cut_shape, past_byte}
 use Rattle.markdown_document.specs.Document.{Label, Plain, block_of, label_of, shape_of, leaf, math}
-use Rattle.markdown_document.specs.ItemRules.{StandsBefore, KeepsItemRules}
+use Rattle.markdown_document.specs.ItemRules.{ComesBefore, KeepsItemRules}
 use Rattle.markdown_document.specs.Places.{IsPlaced, label_at, trees_from}
 use Rattle.markdown_document.specs.Stages.{items_from}
 use Rattle.markdown_document.specs.Tables.{Tables, text_at}
@@ -149,8 +149,8 @@ label_begun source tables i item le ordered =
     } in a) e
 
 -- it keeps the rules of items, where it is not cut if it is open
-stands_begun : (ix i : ℕ) (item : Item) (next : Option Numbered) → StandsBefore (record { number = ix; item = item }) next
-    → StandsBefore (record { number = ix; item = begun_item i item }) next
+stands_begun : (ix i : ℕ) (item : Item) (next : Option Numbered) → ComesBefore (record { number = ix; item = item }) next
+    → ComesBefore (record { number = ix; item = begun_item i item }) next
 stands_begun ix i item None h = tt
 stands_begun ix i item (Some b) h = λ x y. let p = h x y in record { ends = p.ends; numbers = p.numbers }
 

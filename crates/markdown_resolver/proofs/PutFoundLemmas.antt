@@ -13,7 +13,7 @@ use Rattle.markdown_base.specs.declared.item.Item.{Item}
 use Rattle.markdown_base.specs.declared.node.Node.{Node}
 use Rattle.markdown_base.proofs.ArenaForestLemmas.{opens, forest_at-none}
 use Rattle.markdown_base.proofs.ArenaLemmas.{length-changed_at}
-use Rattle.markdown_document.specs.ChainRest.{joined, past_byte}
+use Rattle.markdown_document.specs.ChainRest.{joined_chains, past_byte}
 use Rattle.markdown_document.specs.Document.{Plain, label_of}
 use Rattle.markdown_document.specs.Places.{HasSlices, IsSameAt, IsPlaced, label_at, trees_from}
 use Rattle.markdown_document.specs.Stages.{times_in}
@@ -25,7 +25,7 @@ use Rattle.markdown_document.proofs.ItemRulesLemmas.{keeps-closed}
 use Rattle.markdown_document.proofs.PlaceLemmas.{times-past, slices-none}
 use Rattle.markdown_document.proofs.TablesLemmas.{same-apart, grown-longer, entries-longer}
 use Rattle.markdown_resolver.specs.Chains.{CanResolve}
-use Rattle.markdown_resolver.specs.Rewritten.{Standing, Rewrites, replaced, first_past, one, parent, IsFoundAt, CanPut, CanPutParent, Puts}
+use Rattle.markdown_resolver.specs.Rewritten.{Standing, Rewrites, replaced, first_past, one_item, parent, IsFoundAt, CanPut, CanPutParent, Puts}
 use Rattle.markdown_resolver.specs.Settling.{IsWritten, begun_from}
 use Rattle.markdown_resolver.proofs.ChainOrderLemmas.{rest_past}
 use Rattle.markdown_resolver.proofs.ComposeLemmas.{same_trans, Stands, stands_ready, Moves, changes_move, moves_twice, HeadWritten}
@@ -118,7 +118,7 @@ put_written source ix item next old mid tables t inside trees finds puts starts 
     whole_put source ix old mid new tables t later trees (Some item.end) rule finds.ready w.head hm
     (λ x stands. before_closed ix old mid x closes stands) (runs_closed source ix old mid closes)
     (tree_same _ _ _ _ _ _ (ap (λ x. label_of source t x) w.item_is) b.reads after
-    ∙ ap (λ (f : Forest Plain). joined f (rule rest))
+    ∙ ap (λ (f : Forest Plain). joined_chains f (rule rest))
     (sym (stand (label_at source tables old ix) (trees_from source tables old (child_of old ix))))) in
     let all = whole (λ f. f) place t (rewrites_none source next place t p.moves.stands) in
     record {
@@ -135,13 +135,13 @@ pub found_puts : (source : List ℕ) (ix : ℕ) (item : Item) (next : Option ℕ
     → HasGrown tables t
     → IsFoundAt source tables old ix item.end → CanPut source tables t item → item.start ≡ (item_at old ix).start
     → next ≡ first_past old item.end (roots (forest_at (links_of old) (sibling_of old ix))) → IsWritten old mid ix item next
-    → Puts source ix (one source t item) (Some item.end) next old (begun_from next item.end mid) tables t
+    → Puts source ix (one_item source t item) (Some item.end) next old (begun_from next item.end mid) tables t
 found_puts source ix item next old mid tables t grown finds puts starts link w =
     let s = stands_ready source tables old (Some ix) finds.ready in
     let size = w.size in
     let h = closed_head source ix item old mid tables t grown puts.closed puts.lies puts.named puts.slices puts.new_names w.item_is
     (omega (arith, size)) (λ n l d. w.others n d) in
-    put_written source ix item next old mid tables t nil (one source t item) finds puts starts link
+    put_written source ix item next old mid tables t nil (one_item source t item) finds puts starts link
     (record {
       item_is = w.item_is;
       next_is = w.next_is;

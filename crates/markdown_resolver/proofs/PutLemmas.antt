@@ -17,9 +17,9 @@ use Rattle.markdown_base.specs.declared.item.ItemBody.TheVariants as body
 use Rattle.markdown_base.specs.declared.node.Node.{Node}
 use Rattle.markdown_base.proofs.ArenaForestLemmas.{opens}
 use Rattle.markdown_base.proofs.ArenaLemmas.{length-changed_at}
-use Rattle.markdown_document.specs.ChainRest.{begun_at, end_of, joined, past, past_byte}
+use Rattle.markdown_document.specs.ChainRest.{begun_at, end_of, joined_chains, past, past_byte}
 use Rattle.markdown_document.specs.Document.{Plain, label_of}
-use Rattle.markdown_document.specs.ItemRules.{StandsBefore}
+use Rattle.markdown_document.specs.ItemRules.{ComesBefore}
 use Rattle.markdown_document.specs.Places.{IsSameAt, IsPlaced, label_at, trees_from}
 use Rattle.markdown_document.specs.Stages.{items_from, times_in, weight_in}
 use Rattle.markdown_document.specs.Tables.{Tables}
@@ -148,11 +148,11 @@ leaves_rest source ix old mid new tables t tables' next goes_on ready h m reads 
 pub whole_put : (source : List ℕ) (ix : ℕ) (old mid new : List (Node Item)) (tables t later : Tables) (trees : Standing)
     (goes_on : Option ℕ) (rule : Forest Plain → Forest Plain)
     → CanResolve source tables old (Some ix) → HeadWritten source ix old mid tables t → HeadMoved source ix old mid new tables t later
-    → ((a : Numbered) → StandsBefore a (Some (numbered old ix)) → StandsBefore a (Some (numbered mid ix)))
+    → ((a : Numbered) → ComesBefore a (Some (numbered old ix)) → ComesBefore a (Some (numbered mid ix)))
     → RunsGoOn source old mid (Some ix)
     → node (label_of source t (item_at mid ix)) (trees_from source later new (child_of mid ix))
     (trees_from source later new (sibling_of mid ix))
-    ≡ joined (trees (label_at source tables old ix) (trees_from source tables old (child_of old ix)))
+    ≡ joined_chains (trees (label_at source tables old ix) (trees_from source tables old (child_of old ix)))
     (rule (past goes_on (trees_from source tables old (sibling_of old ix))))
     → Rewrites source (replaced trees goes_on rule) (Some ix) old new tables later
 whole_put source ix old mid new tables t later trees goes_on rule ready h hm before runs reads =
@@ -174,8 +174,8 @@ pub record ClosesAt (ix : ℕ) (old mid : List (Node Item)) : Type 0 where
   pub closed : is_open (item_at mid ix).body ≡ false
   pub starts : (item_at mid ix).start ≡ (item_at old ix).start
 
-pub before_closed : (ix : ℕ) (old mid : List (Node Item)) (a : Numbered) → ClosesAt ix old mid → StandsBefore a (Some (numbered old ix))
-    → StandsBefore a (Some (numbered mid ix))
+pub before_closed : (ix : ℕ) (old mid : List (Node Item)) (a : Numbered) → ClosesAt ix old mid → ComesBefore a (Some (numbered old ix))
+    → ComesBefore a (Some (numbered mid ix))
 before_closed ix old mid a c stands = λ x y.
     let p = stands x (open-no-block (item_at old ix).body c.was_open) in
     record { ends = rw c.starts p.ends; numbers = p.numbers }
@@ -282,13 +282,13 @@ rest_same source ix old mid tables t s h n l k =
 pub record RestPast (source : List ℕ) (ix i : ℕ) (old mid : List (Node Item)) (tables t : Tables) (next : Option ℕ) : Type 0 where
   pub moves : Moves source (sibling_of old ix) next mid (begun_from next i mid) t t
   pub reads : trees_from source t (begun_from next i mid) next ≡ past_byte i (trees_from source tables old (sibling_of old ix))
-  pub follows : (a : Numbered) → a.number ≡ ix → a.item.end ≤ i → StandsBefore a (option_map (numbered (begun_from next i mid)) next)
+  pub follows : (a : Numbered) → a.number ≡ ix → a.item.end ≤ i → ComesBefore a (option_map (numbered (begun_from next i mid)) next)
   pub leads : (low : ℕ) (chain : List Numbered) → LeadsThrough old low (sibling_of old ix) chain
       → LeadsThrough (begun_from next i mid) low next (numbered_past_byte i chain)
 
 follows_at : (nodes : List (Node Item)) (i ix : ℕ) (next : Option ℕ) (a : Numbered)
     → ((n : ℕ) → next ≡ Some n → (ix < n) × (n < length nodes)) → a.number ≡ ix → a.item.end ≤ i
-    → StandsBefore a (option_map (numbered (begun_from next i nodes)) next)
+    → ComesBefore a (option_map (numbered (begun_from next i nodes)) next)
 follows_at nodes i ix None a places e le = tt
 follows_at nodes i ix (Some n) a places e le = λ x y.
     let p = places n refl in

@@ -15,7 +15,7 @@ use Rattle.markdown_base.specs.declared.node.Node.{Node}
 use Rattle.markdown_base.proofs.ArenaForestLemmas.{opens}
 use Rattle.markdown_document.specs.ChainRest.{past_byte}
 use Rattle.markdown_document.specs.Document.{Plain, label_of}
-use Rattle.markdown_document.specs.ItemRules.{StandsBefore}
+use Rattle.markdown_document.specs.ItemRules.{ComesBefore}
 use Rattle.markdown_document.specs.Places.{IsSameAt, IsPlaced, label_at, trees_from}
 use Rattle.markdown_document.specs.Stages.{weight_in}
 use Rattle.markdown_document.specs.Tables.{Tables, HasGrown}
@@ -126,7 +126,7 @@ first_no_block source tables nodes ix ready =
 
 pub before_text : (ix : ℕ) (old new : List (Node Item)) (a : Numbered) → is_block (item_at old ix).body ≡ false
     → (item_at new ix).start ≡ (item_at old ix).start
-    → StandsBefore a (Some (numbered old ix)) → StandsBefore a (Some (numbered new ix))
+    → ComesBefore a (Some (numbered old ix)) → ComesBefore a (Some (numbered new ix))
 before_text ix old new a plain starts h = λ x y. let p = h x plain in record { ends = rw starts p.ends; numbers = p.numbers }
 
 pub runs_text : (source : List ℕ) (ix : ℕ) (old new : List (Node Item)) → is_open (item_at old ix).body ≡ false

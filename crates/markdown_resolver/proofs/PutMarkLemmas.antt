@@ -13,7 +13,7 @@ use Rattle.markdown_base.specs.declared.node.Node.{Node}
 use Rattle.markdown_base.proofs.ArenaForestLemmas.{opens, Opened, forest_at-none}
 use Rattle.markdown_document.specs.ChainRest.{past_byte}
 use Rattle.markdown_document.specs.Document.{Plain, label_of}
-use Rattle.markdown_document.specs.ItemRules.{StandsBefore}
+use Rattle.markdown_document.specs.ItemRules.{ComesBefore}
 use Rattle.markdown_document.specs.Places.{IsSameAt, IsPlaced, trees_from}
 use Rattle.markdown_document.specs.Stages.{weight_in}
 use Rattle.markdown_document.specs.Tables.{Tables, HasGrown}
@@ -157,7 +157,7 @@ module _ (source : List ℕ) (opener closer : ℕ) (mark item : Item) (inside : 
         let m = moves_twice source l (Some closer) (Some closer) mid mid new tables tables later skipped_there.moves h.moved.moves in
         let kept = below_kept source opener old mid new tables tables later (Some closer) stands head m v.child_is
         (rw mark_closed (some_weight (is_open (item_at old opener).body))) in
-        let follows : StandsBefore (numbered mid opener) (Some (numbered new closer)) =
+        let follows : ComesBefore (numbered mid opener) (Some (numbered new closer)) =
         λ x y. record { ends = rw (v.item_is, h.moved.item, w.item_is) over.in_order; numbers = number } in
         let hm = head_moves source opener old mid new tables tables later stands head (rw v.next_is m) kept.below (rw v.next_is follows)
         (no_run_here source (numbered mid opener) (option_map (numbered new) (sibling_of mid opener)) mark_closed) in

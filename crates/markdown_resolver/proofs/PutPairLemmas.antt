@@ -16,7 +16,7 @@ use Rattle.markdown_base.proofs.ArenaForestLemmas.{opens, forest_at-none}
 use Rattle.markdown_document.proofs.PlaceLemmas.{slices-none}
 use Rattle.markdown_document.specs.ChainRest.{past_byte}
 use Rattle.markdown_document.specs.Document.{Plain, label_of}
-use Rattle.markdown_document.specs.ItemRules.{StandsBefore}
+use Rattle.markdown_document.specs.ItemRules.{ComesBefore}
 use Rattle.markdown_document.specs.Places.{IsPlaced, label_at, trees_from}
 use Rattle.markdown_document.specs.Stages.{times_in}
 use Rattle.markdown_document.specs.Tables.{Tables, Named, some_text, some_link, some_alignments, NamesEntries, HasGrown}
@@ -321,7 +321,7 @@ module _ (source : List ℕ) (ix closer : ℕ) (first second : Item) (next : Opt
       let m = moves_twice source l (Some closer) (Some closer) mid mid new tables tables later begun.skips.moves second_moved.moves in
       let b = none_below source ix old mid new tables tables later (Some closer) opener_stands begun.head m finds.was_open opener_closed
       v.child_is in
-      let follows : StandsBefore (numbered mid ix) (Some (numbered new closer)) =
+      let follows : ComesBefore (numbered mid ix) (Some (numbered new closer)) =
       λ x y. record { ends = rw (v.item_is, second_moved.item, w.item_is) can.in_order; numbers = begun.number } in
       let hm = head_moves source ix old mid new tables tables later opener_stands begun.head (rw v.next_is m) b.below (rw v.next_is follows)
       (no_run_here source (numbered mid ix) (option_map (numbered new) (sibling_of mid ix)) opener_closed) in

@@ -7,7 +7,7 @@ use Rattle.markdown_base.specs.Forest.{Forest, nil, node, relabelled, roots}
 use Rattle.markdown_base.specs.declared.item.Item.{Item}
 use Rattle.markdown_base.specs.declared.node.Node.{Node}
 use Rattle.markdown_base.proofs.ArenaForestLemmas.{Spells-same}
-use Rattle.markdown_document.specs.ChainRest.{joined, past}
+use Rattle.markdown_document.specs.ChainRest.{joined_chains, past}
 use Rattle.markdown_document.specs.Document.{Label, Plain}
 use Rattle.markdown_document.specs.Labels.{retag}
 use Rattle.markdown_document.specs.Places.{label_at, trees_from}
@@ -24,17 +24,17 @@ use Rattle.markdown_resolver.proofs.FollowersLemmas.{opens_chain}
 use Rattle.markdown_resolver.proofs.PutLemmas.{rewrites_none}
 
 -- a chain is its first trees and those past them
-pub first_and_past : {A : Type 0} (k : ℕ) (f : Forest A) → f ≡ joined (first_trees k f) (trees_past k f)
+pub first_and_past : {A : Type 0} (k : ℕ) (f : Forest A) → f ≡ joined_chains (first_trees k f) (trees_past k f)
 first_and_past zero f = refl
 first_and_past (suc k) nil = refl
 first_and_past (suc k) (node a below after) = ap (λ t. node a below t) (first_and_past k after)
 
 -- of two chains joined, the trees of the first are the first
-pub first_joined : {A : Type 0} (f g : Forest A) → first_trees (length (roots f)) (joined f g) ≡ f
+pub first_joined : {A : Type 0} (f g : Forest A) → first_trees (length (roots f)) (joined_chains f g) ≡ f
 first_joined nil g = refl
 first_joined (node a below after) g = ap (λ t. node a below t) (first_joined after g)
 
-pub past_joined : {A : Type 0} (f g : Forest A) → trees_past (length (roots f)) (joined f g) ≡ g
+pub past_joined : {A : Type 0} (f g : Forest A) → trees_past (length (roots f)) (joined_chains f g) ≡ g
 past_joined nil g = refl
 past_joined (node a below after) g = past_joined after g
 
@@ -49,7 +49,7 @@ relabelled_past h zero f = refl
 relabelled_past h (suc k) nil = refl
 relabelled_past h (suc k) (node a below after) = relabelled_past h k after
 
-pub relabelled_joined : {A B : Type 0} (h : A → B) (f g : Forest A) → relabelled h (joined f g) ≡ joined (relabelled h f) (relabelled h g)
+pub relabelled_joined : {A B : Type 0} (h : A → B) (f g : Forest A) → relabelled h (joined_chains f g) ≡ joined_chains (relabelled h f) (relabelled h g)
 relabelled_joined h nil g = refl
 relabelled_joined h (node a below after) g = ap (λ t. node (h a) (relabelled h below) t) (relabelled_joined h after g)
 
@@ -93,17 +93,17 @@ pub split_chain : (source : List ℕ) (tables : Tables) (nodes : List (Node Item
     → Spells (links_of nodes) l (forest_at (links_of nodes) l) → Spells (links_of nodes) next (forest_at (links_of nodes) next)
     → roots (forest_at (links_of nodes) l) ≡ standing ++ roots (forest_at (links_of nodes) next)
     → numbered_from source tables nodes l
-    ≡ joined (first_trees (length standing) (numbered_from source tables nodes l)) (numbered_from source tables nodes next)
+    ≡ joined_chains (first_trees (length standing) (numbered_from source tables nodes l)) (numbered_from source tables nodes next)
 split_chain source tables nodes l next standing s t e =
     let all = numbered_from source tables nodes l in
-    first_and_past (length standing) all ∙ ap (λ (h : Forest (Label ℕ)). joined (first_trees (length standing) all) h)
+    first_and_past (length standing) all ∙ ap (λ (h : Forest (Label ℕ)). joined_chains (first_trees (length standing) all) h)
     (past_chain source tables nodes l next standing s t e)
 
 -- trees are in the place of a node, one for each of these nodes, and the chain continues with what is left
 pub puts_trees : (source : List ℕ) (ix : ℕ) (next : Option ℕ) (trees rest : Forest Plain) (standing : List ℕ) (old new : List (Node Item))
     (tables tables' : Tables)
     → ChangesChain source (Some ix) old new tables tables' → RunsGoOn source old new (Some ix)
-    → trees_from source tables' new (Some ix) ≡ joined trees rest
+    → trees_from source tables' new (Some ix) ≡ joined_chains trees rest
     → roots (forest_at (links_of new) (Some ix)) ≡ standing ++ roots (forest_at (links_of new) next)
     → length (roots trees) ≡ length standing → IsQuiet trees → CanResolve source tables' new next
     → PutsTrees source ix next trees rest old new tables tables'
@@ -112,7 +112,7 @@ puts_trees source ix next trees rest standing old new tables tables' changes run
     let all = numbered_from source tables' new (Some ix) in
     let s = changes.reaches.spelled in
     let t = ready.reaches.spelled in
-    let whole : without_numbers all ≡ joined trees rest = plain_from source tables' new (Some ix) ∙ reads in
+    let whole : without_numbers all ≡ joined_chains trees rest = plain_from source tables' new (Some ix) ∙ reads in
     record {
       changes = changes;
       runs = runs;
@@ -120,12 +120,12 @@ puts_trees source ix next trees rest standing old new tables tables' changes run
       stands = split_chain source tables' new (Some ix) next standing s t numbers;
       reads =
           relabelled_first (retag (λ n. tt)) k all ∙ ap (λ (h : Forest Plain). first_trees k h) whole
-          ∙ ap (λ n. first_trees n (joined trees rest)) (sym many) ∙ first_joined trees rest;
+          ∙ ap (λ n. first_trees n (joined_chains trees rest)) (sym many) ∙ first_joined trees rest;
       rest_is =
           sym (plain_from source tables' new next) ∙ ap (λ (h : Forest (Label ℕ)). without_numbers h)
           (sym (past_chain source tables' new (Some ix) next standing s t numbers))
           ∙ relabelled_past (retag (λ n. tt)) k all ∙ ap (λ (h : Forest Plain). trees_past k h) whole
-          ∙ ap (λ n. trees_past n (joined trees rest)) (sym many) ∙ past_joined trees rest;
+          ∙ ap (λ n. trees_past n (joined_chains trees rest)) (sym many) ∙ past_joined trees rest;
       quiet = quiet;
       ready = ready;
     }

@@ -16,7 +16,7 @@ use Rattle.markdown_document.specs.Setting.{Setting}
 use Rattle.markdown_document.specs.Tables.{Tables}
 use Rattle.markdown_document.specs.Waiting.{is_quiet, waits_for_pairing}
 use Rattle.markdown_document.proofs.PlaceLemmas.{shape-open}
-use Rattle.markdown_spans.specs.AfterLess.{Markup, autolink, html}
+use Rattle.markdown_spans.specs.AfterLess.{Markup, autolink, html_markup}
 use Rattle.markdown_spans.specs.Finds.{Find, SpanText, code_span, code_trees, find, find_by, is_escaped, markup, markup_trees, math_span}
 use Rattle.markdown_spans.specs.Finds.{nothing, passed, read_tree, read_unless, trees_for}
 use Rattle.markdown_spans.specs.SpanClosers.{HoldsFrom, Learned}
@@ -45,8 +45,8 @@ quiet_code s true a t closer = (refl, refl, tt, (refl, refl, tt, tt))
 
 quiet_markup : (s : Setting) (a : Plain) (m : Markup) → IsQuiet (markup_trees s tt a m)
 quiet_markup s a (autolink end uri) = (refl, refl, (refl, refl, tt, tt), tt)
-quiet_markup s a (html end None) = (refl, refl, tt, tt)
-quiet_markup s a (html end (Some bytes)) = (refl, refl, tt, tt)
+quiet_markup s a (html_markup end None) = (refl, refl, tt, tt)
+quiet_markup s a (html_markup end (Some bytes)) = (refl, refl, tt, tt)
 
 quiet_found : (s : Setting) (a : Plain) (f : Find (Unit {0})) → is_some a.part.block ≡ false → IsQuiet (trees_for s tt a f)
 quiet_found s a (code_span t closer) plain = quiet_code s (is_escaped (open_body a.part.shape)) a t closer

@@ -16,10 +16,10 @@ use Rattle.markdown_base.specs.declared.item.ItemBody.{ItemBody}
 use Rattle.markdown_base.specs.declared.node.Node.{Node}
 use Rattle.markdown_base.proofs.ArenaForestLemmas.{opens, forest_at-none}
 use Rattle.markdown_base.proofs.ArenaLemmas.{length-changed_at}
-use Rattle.markdown_document.specs.ChainRest.{joined}
+use Rattle.markdown_document.specs.ChainRest.{joined_chains}
 use Rattle.markdown_document.specs.Document.{Plain, Shape, leaf, enclosed, plain, backslash_break, unresolved, is_unresolved, shape_of}
 use Rattle.markdown_document.specs.Document.{label_of}
-use Rattle.markdown_document.specs.ItemRules.{StandsBefore, KeepsItemRules}
+use Rattle.markdown_document.specs.ItemRules.{ComesBefore, KeepsItemRules}
 use Rattle.markdown_document.specs.Places.{HasSlices, IsPlaced, trees_from}
 use Rattle.markdown_document.specs.Tables.{Tables, Named, some_text, some_link, some_alignments, NamesEntries}
 use Rattle.markdown_document.specs.Totals.{same, times_named, weight_if}
@@ -126,7 +126,7 @@ quiet_shape tables source b = by_open (is_open b) refl
 reads_settled : (source : List ℕ) (tables : Tables) (item : Item) (below rest : Forest Plain) (is : Bool) → becomes_text item.body ≡ is
     → (is_open item.body ≡ true → below ≡ nil)
     → node (label_of source tables (record item { body = settled_if is item.body })) below rest
-    ≡ joined (text_unless (not is) source (label_of source tables item) below) rest
+    ≡ joined_chains (text_unless (not is) source (label_of source tables item) below) rest
 reads_settled source tables item below rest true e childless = rw (
   block-open item.body (text_open item.body e),
   childless
@@ -135,10 +135,10 @@ reads_settled source tables item below rest true e childless = rw (
 reads_settled source tables item below rest false e childless = refl
 
 settled_reads : (source : List ℕ) (tables : Tables) (item : Item) (below rest : Forest Plain) → (is_open item.body ≡ true → below ≡ nil)
-    → node (label_of source tables (settled_item item)) below rest ≡ joined (settled source (label_of source tables item) below) rest
+    → node (label_of source tables (settled_item item)) below rest ≡ joined_chains (settled source (label_of source tables item) below) rest
 settled_reads source tables item below rest childless =
     reads_settled source tables item below rest (becomes_text item.body) refl childless
-    ∙ ap (λ quiet. joined (text_unless quiet source (label_of source tables item) below) rest)
+    ∙ ap (λ quiet. joined_chains (text_unless quiet source (label_of source tables item) below) rest)
     (sym (quiet_shape tables (slice_range source item.start item.end) item.body))
 
 -- the node is there
@@ -152,14 +152,14 @@ block_settled true b e h = open-no-block b (text_open b e)
 block_settled false b e h = h
 
 before_settled : (a : Numbered) (nodes nodes' : List (Node Item)) (ix : ℕ) → item_at nodes' ix ≡ settled_item (item_at nodes ix)
-    → StandsBefore a (Some (numbered nodes ix)) → StandsBefore a (Some (numbered nodes' ix))
+    → ComesBefore a (Some (numbered nodes ix)) → ComesBefore a (Some (numbered nodes' ix))
 before_settled a nodes nodes' ix e stands = rw e (λ x y.
     let p = stands x (block_settled (becomes_text (item_at nodes ix).body) (item_at nodes ix).body refl y) in
     record { ends = p.ends; numbers = p.numbers })
 
 follows_settled : (ix : ℕ) (item : Item) (next : Option Numbered) → becomes_text item.body ≡ true
-    → StandsBefore (record { number = ix; item = item }) next
-    → StandsBefore (record { number = ix; item = record item { body = body.Text false } }) next
+    → ComesBefore (record { number = ix; item = item }) next
+    → ComesBefore (record { number = ix; item = record item { body = body.Text false } }) next
 follows_settled ix item None e stands = tt
 follows_settled ix item (Some b) e stands = λ x y.
     let p = stands (open-no-block item.body (text_open item.body e)) y in
@@ -239,7 +239,7 @@ settle_puts source tables nodes ix ready =
     let m = changes_move source l mid new tables later r.changes in
     let kept = below_kept source ix nodes mid new tables tables later l s h m c.child
     (rw c.item (weight_settled (becomes_text item.body) item.body)) in
-    let follows : StandsBefore (numbered mid ix) (option_map (numbered new) l) = r.changes.before (numbered mid ix)
+    let follows : ComesBefore (numbered mid ix) (option_map (numbered new) l) = r.changes.before (numbered mid ix)
     (rw (following, c.item) keeps.in_order) in
     let goes_on = r.runs (numbered mid ix) (rw (following, c.item) keeps.runs_are_whole) in
     let hm = head_moves source ix nodes mid new tables tables later s h (rw c.next m) kept.below (rw c.next follows) (rw c.next goes_on) in

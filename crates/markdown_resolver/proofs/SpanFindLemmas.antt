@@ -14,7 +14,7 @@ use Rattle.markdown_document.specs.Document.{Shape, leaf, enclosed, plain, backs
 use Rattle.markdown_document.specs.Places.{label_at}
 use Rattle.markdown_document.specs.Tables.{Tables}
 use Rattle.markdown_document.proofs.PlaceLemmas.{shape-open}
-use Rattle.markdown_spans.specs.Closers.{Dollar, MathClose, can_close, can_open, closed_by, closing_count, code_close, code_closer}
+use Rattle.markdown_spans.specs.Closers.{Dollar, MathClose, can_close, can_open, math_closed_by, closing_count, code_close, code_closer}
 use Rattle.markdown_spans.specs.Closers.{context_of, display_close, dollar_next, first_dollar, inline_close, is_code_of, is_dollar}
 use Rattle.markdown_spans.specs.Closers.{is_dollar_of, math_close, math_close_from, searched_for_math}
 use Rattle.markdown_spans.specs.SpanClosers.{item_in}
@@ -160,8 +160,8 @@ module _ {A : Type 0} (item_of : A → Item) (g : ℕ → A) (nodes : List (Node
       by true = refl
       by false = refl
 
-  closed_by_shown : (closer : ℕ) (last : Option ℕ) → closed_by (g closer) (option_map g last)
-      ≡ option_map (shown_close g) (closed_by closer last)
+  closed_by_shown : (closer : ℕ) (last : Option ℕ) → math_closed_by (g closer) (option_map g last)
+      ≡ option_map (shown_close g) (math_closed_by closer last)
   closed_by_shown closer None = refl
   closed_by_shown closer (Some last) = refl
 

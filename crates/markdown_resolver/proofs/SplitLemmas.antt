@@ -9,7 +9,7 @@ use Rattle.markdown_base.specs.declared.node.Node.{Node}
 use Rattle.markdown_base.proofs.ArenaForestLemmas.{opens}
 use Rattle.markdown_brackets.specs.ChainHeld.{numbers_of}
 use Rattle.markdown_brackets.specs.LeftList.{Split, inside, trees_onto}
-use Rattle.markdown_document.specs.ChainRest.{joined}
+use Rattle.markdown_document.specs.ChainRest.{joined_chains}
 use Rattle.markdown_document.specs.Document.{Label, Plain}
 use Rattle.markdown_document.specs.Places.{IsPlaced, label_at, trees_from}
 use Rattle.markdown_document.specs.Tables.{Tables}
@@ -25,7 +25,7 @@ abbrev pub inside_numbers : Split ℕ → List ℕ
 inside_numbers o = roots (numbers_of (inside o))
 
 -- the roots of two chains joined
-pub roots_joined : {A : Type 0} (x y : Forest A) → roots (joined x y) ≡ roots x ++ roots y
+pub roots_joined : {A : Type 0} (x y : Forest A) → roots (joined_chains x y) ≡ roots x ++ roots y
 roots_joined nil y = refl
 roots_joined (node a below after) y = ap (λ l. a ∷ l) (roots_joined after y)
 
@@ -34,11 +34,11 @@ relabelled_as_many g nil = refl
 relabelled_as_many g (node a below after) = ap suc (relabelled_as_many g after)
 
 -- the first of two chains, and what follows the first tree of the second
-first_so : {A : Type 0} (k : ℕ) (x y : Forest A) → k ≡ length (roots x) → first_trees k (joined x y) ≡ x
+first_so : {A : Type 0} (k : ℕ) (x y : Forest A) → k ≡ length (roots x) → first_trees k (joined_chains x y) ≡ x
 first_so k x y e = rw e (first_joined x y)
 
 past_so : {A : Type 0} (k : ℕ) (x : Forest A) (b : A) (under y : Forest A) → k ≡ length (roots x)
-    → trees_past (suc k) (joined x (node b under y)) ≡ y
+    → trees_past (suc k) (joined_chains x (node b under y)) ≡ y
 past_so k nil b under y e = rw e refl
 past_so k (node a below after) b under y e = rw e (past_so (length (roots after)) after b under y refl)
 
@@ -73,7 +73,7 @@ pub record InsideOf (source : List ℕ) (tables : Tables) (nodes : List (Node It
   pub follows : roots (forest_at (links_of nodes) (sibling_of nodes o.opener.tag)) ≡ inside_numbers o
       ++ closer ∷ roots (forest_at (links_of nodes) (sibling_of nodes closer))
   pub numbered : numbered_from source tables nodes (sibling_of nodes o.opener.tag)
-      ≡ joined (inside o) (numbered_from source tables nodes (Some closer))
+      ≡ joined_chains (inside o) (numbered_from source tables nodes (Some closer))
   pub inside_is : first_trees (length (inside_numbers o)) (trees_from source tables nodes (sibling_of nodes o.opener.tag))
       ≡ without_numbers (inside o)
   pub behind_is : trees_past (suc (length (inside_numbers o))) (trees_from source tables nodes (sibling_of nodes o.opener.tag))
@@ -98,22 +98,22 @@ inside_of source tables nodes closer o ready ready' is =
     let whole : node (numbered_label source tables nodes o.opener.tag) (numbered_from source tables nodes (child_of nodes o.opener.tag))
     (numbered_from source tables nodes next)
     ≡ node o.opener nil (trees_onto o.after rest) = sym first.numbered ∙ is in
-    let numbered : numbered_from source tables nodes next ≡ joined (inside o) rest = node_after _ _ _ _ _ _ whole ∙ onto_split o.after rest
+    let numbered : numbered_from source tables nodes next ≡ joined_chains (inside o) rest = node_after _ _ _ _ _ _ whole ∙ onto_split o.after rest
     in
     let at = forest_at (links_of nodes) (Some closer) in
-    let numbers : forest_at (links_of nodes) next ≡ joined (numbers_of (inside o)) at =
+    let numbers : forest_at (links_of nodes) next ≡ joined_chains (numbers_of (inside o)) at =
     sym (numbers_are source tables nodes (forest_at (links_of nodes) next)) ∙ ap numbers_of numbered
     ∙ relabelled_joined (λ (a : Label ℕ). a.tag) (inside o) rest
-    ∙ ap (joined (numbers_of (inside o))) (numbers_are source tables nodes at) in
+    ∙ ap (joined_chains (numbers_of (inside o))) (numbers_are source tables nodes at) in
     let untagged : Label ℕ → Plain = λ a. record { tag = tt; part = a.part } in
     let within : Forest Plain = without_numbers (inside o) in
-    let reads : trees_from source tables nodes next ≡ joined within (trees_from source tables nodes (Some closer)) =
+    let reads : trees_from source tables nodes next ≡ joined_chains within (trees_from source tables nodes (Some closer)) =
     sym (plain_from source tables nodes next) ∙ ap without_numbers numbered ∙ relabelled_joined untagged (inside o) rest
-    ∙ ap (joined within) (plain_from source tables nodes (Some closer)) in
+    ∙ ap (joined_chains within) (plain_from source tables nodes (Some closer)) in
     let opened : trees_from source tables nodes next
-    ≡ joined within (node (label_at source tables nodes closer) (trees_from source tables nodes (child_of nodes closer))
+    ≡ joined_chains within (node (label_at source tables nodes closer) (trees_from source tables nodes (child_of nodes closer))
     (trees_from source tables nodes (sibling_of nodes closer))) =
-    reads ∙ ap (joined within) last.trees in
+    reads ∙ ap (joined_chains within) last.trees in
     let many : length (inside_numbers o) ≡ length (roots within) = relabelled_as_many (λ (a : Label ℕ). a.tag) (inside o)
     ∙ sym (relabelled_as_many untagged (inside o)) in
     record {

@@ -15,7 +15,7 @@ use Rattle.markdown_brackets.specs.LeftList.{Mark, Entry, done, waits, Split, on
 use Rattle.markdown_brackets.specs.LeftList.{before_footnote, disabled_mark, without_bracket, without_wikilink, change_nearest, trees_onto}
 use Rattle.markdown_brackets.specs.Openers.{Waiting}
 use Rattle.markdown_brackets.proofs.OpenerHeldLemmas.{trees_stay}
-use Rattle.markdown_document.specs.ChainRest.{joined}
+use Rattle.markdown_document.specs.ChainRest.{joined_chains}
 use Rattle.markdown_document.specs.Document.{Label}
 use Rattle.markdown_document.specs.Places.{IsPlaced, label_at, trees_from}
 use Rattle.markdown_document.specs.Tables.{Tables}
@@ -76,16 +76,16 @@ module _ (source : List ℕ) (tables : Tables) (nodes : List (Node Item)) where
     pub trees : numbered_from source tables nodes link ≡ rest
 
   pub leads : (head rest : Forest (Label ℕ)) (l : Option ℕ) → Stands source tables nodes l → numbered_from source tables nodes l
-      ≡ joined head rest → Leads l rest
+      ≡ joined_chains head rest → Leads l rest
   leads nil rest l s e = record { link = l; moves = moves_none source l nodes tables s; trees = e }
   leads (node a below after) rest None s e =
-      let q : nil ≡ node a below (joined after rest) = sym numbered_none ∙ e in
+      let q : nil ≡ node a below (joined_chains after rest) = sym numbered_none ∙ e in
       absurd (cc q)
   leads (node a below after) rest (Some ix) s e =
       let first = first_leaves source ix nodes tables s in
       let q : node (numbered_label source tables nodes ix) (numbered_from source tables nodes (child_of nodes ix))
       (numbered_from source tables nodes (sibling_of nodes ix))
-      ≡ node a below (joined after rest) = sym (numbered_opens ix s) ∙ e in
+      ≡ node a below (joined_chains after rest) = sym (numbered_opens ix s) ∙ e in
       let r = leads after rest (sibling_of nodes ix) first.stands (cc q) in
       record {
         link = r.link;
@@ -117,14 +117,14 @@ module _ (source : List ℕ) (tables : Tables) (nodes : List (Node Item)) where
 
   -- what is left of a chain, after a left list
   pub record Rest (first : ℕ) (at : Option ℕ) (left : List (Entry ℕ)) : Type 0 where
-    pub whole : numbered_from source tables nodes (Some first) ≡ joined (trees_onto left nil) (numbered_from source tables nodes at)
+    pub whole : numbered_from source tables nodes (Some first) ≡ joined_chains (trees_onto left nil) (numbered_from source tables nodes at)
     pub moves : Moves source (Some first) at nodes nodes tables tables
     pub quiet_below : IsQuietBelow (numbered_from source tables nodes at)
 
   pub rest_of : (first : ℕ) (at : Option ℕ) (left : List (Entry ℕ)) → StandsTo source tables nodes first at left → Rest first at left
   rest_of first at left h =
       let later = numbered_from source tables nodes at in
-      let whole : numbered_from source tables nodes (Some first) ≡ joined (trees_onto left nil) later = h.stands ∙ onto_split left later in
+      let whole : numbered_from source tables nodes (Some first) ≡ joined_chains (trees_onto left nil) later = h.stands ∙ onto_split left later in
       let r = leads (trees_onto left nil) later (Some first) (stands_from first at left h) whole in
       let link : r.link ≡ at = same_link r.link at (some_nodes first at left h) r.trees in
       record {
@@ -200,7 +200,7 @@ stands_at_opener source tables nodes first at left o h split =
     let onto : (f : Forest (Label ℕ)) → trees_onto left f ≡ trees_onto o.before (node o.opener nil (trees_onto o.after f)) =
     λ f. ap (λ (l : List (Entry ℕ)). trees_onto l f) split.left_is ∙ onto_appended split.after_then o.before split.mark_then o.opener f
     ∙ ap (λ (g : Forest (Label ℕ)). trees_onto o.before (node o.opener nil g)) (split.same_trees f) in
-    let whole : numbered_from source tables nodes (Some first) ≡ joined (trees_onto o.before nil) rest = h.stands ∙ onto later
+    let whole : numbered_from source tables nodes (Some first) ≡ joined_chains (trees_onto o.before nil) rest = h.stands ∙ onto later
     ∙ onto_split o.before rest in
     let r = leads source tables nodes (trees_onto o.before nil) rest (Some first) (stands_from source tables nodes first at left h) whole in
     let here = link_is r.link r.moves.stands r.trees in

@@ -19,7 +19,7 @@ use Rattle.markdown_brackets.specs.Openers.{Waiting}
 use Rattle.markdown_brackets.specs.StandsAt.{CanTry}
 use Rattle.markdown_brackets.specs.WikilinkNodes.{CanFindWikilink, unless_is}
 use Rattle.markdown_document.specs.declared.chain_place.ChainPlace.{ChainPlace}
-use Rattle.markdown_document.specs.ChainRest.{joined}
+use Rattle.markdown_document.specs.ChainRest.{joined_chains}
 use Rattle.markdown_document.specs.Document.{Label}
 use Rattle.markdown_document.specs.Places.{IsPlaced}
 use Rattle.markdown_document.specs.Tables.{Tables}
@@ -39,7 +39,7 @@ pub record StandsOpen (source : List ℕ) (tables : Tables) (nodes : List (Node 
   pub ready : CanResolve source tables nodes (Some n)
   pub order : (item_at nodes n).end ≤ (item_at nodes closer).start
 
-roots_joined : (f g : Forest ℕ) → roots (joined f g) ≡ roots f ++ roots g
+roots_joined : (f g : Forest ℕ) → roots (joined_chains f g) ≡ roots f ++ roots g
 roots_joined nil g = refl
 roots_joined (node a below after) g = ap (λ (l : List ℕ). a ∷ l) (roots_joined after g)
 

@@ -17,11 +17,11 @@ use Rattle.markdown_brackets.specs.LeftList.{Entry, Mark, Split, before_footnote
 use Rattle.markdown_brackets.specs.LeftList.{inside, nearest, on_marks, opens_bracket, opens_wikilink, second_folded, trees_onto, waits}
 use Rattle.markdown_brackets.specs.LeftList.{without_bracket, without_wikilink}
 use Rattle.markdown_brackets.specs.QuietItems.{all_done}
-use Rattle.markdown_brackets.specs.ReadChain.{begun, closing, opened, read, read_as, read_chain, read_past}
+use Rattle.markdown_brackets.specs.ReadChain.{begun, closing_of, opened, read, read_as, read_chain, read_past}
 use Rattle.markdown_brackets.proofs.ClosingBracketLemmas.{Cases, in_each_case, some_of}
 use Rattle.markdown_brackets.proofs.NoLinkLemmas.{wikilink_keeps}
 use Rattle.markdown_document.specs.Above.{Above}
-use Rattle.markdown_document.specs.ChainRest.{begun_at, cut_shape, end_of, joined, open_body, past, past_byte, start_of}
+use Rattle.markdown_document.specs.ChainRest.{begun_at, cut_shape, end_of, joined_chains, open_body, past, past_byte, start_of}
 use Rattle.markdown_document.specs.Document.{Tags, Shape, leaf, enclosed, plain, backslash_break, unresolved, Label, as_text, is_unresolved}
 use Rattle.markdown_document.specs.Labels.{Begins}
 use Rattle.markdown_document.specs.Setting.{Setting, Known}
@@ -112,10 +112,10 @@ module _ {A : Type 0} where
   )
 
   joined_whole : (source : List ℕ) (trees after : Forest (Label A)) → AllClosed trees → RunsStandWhole source after
-      → RunsStandWhole source (joined trees after)
+      → RunsStandWhole source (joined_chains trees after)
   joined_whole source nil after closed w = w
   joined_whole source (node a below others) after closed w = (
-    whole_other source a (joined others after) (closed_no_run a.part.shape closed.0),
+    whole_other source a (joined_chains others after) (closed_no_run a.part.shape closed.0),
     closed_whole source below closed.1,
     joined_whole
         source others after closed.2 w,
@@ -188,10 +188,10 @@ module _ {A : Type 0} where
 
   before_closed : (source : List ℕ) (b : Label A) (below rest trees others : Forest (Label A)) → Begins trees → AllClosed trees
       → run_character (open_body b.part.shape) ≡ None
-      → (a : Label A) → IsWholeAt source a (node b below rest) → IsWholeAt source a (joined trees others)
+      → (a : Label A) → IsWholeAt source a (node b below rest) → IsWholeAt source a (joined_chains trees others)
   before_closed source b below rest nil others begins closed none a w = absurd begins
   before_closed source b below rest (node d inner after) others begins closed none a w =
-      before_other source b d below inner rest (joined after others) none (closed_no_run d.part.shape closed.0) a w
+      before_other source b d below inner rest (joined_chains after others) none (closed_no_run d.part.shape closed.0) a w
 
   -- something else can follow a left list, if runs are whole in it and continue as they did
   behind_whole : (source : List ℕ) (left : List (Entry A)) (f : Forest (Label A)) → RunsStandWhole source (trees_onto left f)
@@ -398,7 +398,7 @@ module _ {A : Type 0} where
 
   -- trees put onto a left list
   onto_done : (trees : Forest (Label A)) (left : List (Entry A)) (later : Forest (Label A)) → trees_onto (all_done trees left) later
-      ≡ trees_onto left (joined trees later)
+      ≡ trees_onto left (joined_chains trees later)
   onto_done nil left later = refl
   onto_done (node a below after) left later = onto_done after (done a below ∷ left) later
 
@@ -429,7 +429,7 @@ module _ {A : Type 0} where
             let here = behind_whole s.text p.left (node a below rest) w in
             record {
               whole = subst (RunsStandWhole s.text) (sym (onto_done trees p.left later))
-                  (other_whole s.text p.left (node a below rest) (joined trees later) w
+                  (other_whole s.text p.left (node a below rest) (joined_chains trees later) w
                   (joined_whole s.text trees later (closed_trees s fresh a found) (past_whole s.text (end_of_find found) rest here.2))
                   (before_closed s.text a below rest trees later (begins_trees s fresh a found) (closed_trees s fresh a found)
                   (quiet_no_run a.part.shape q)));
@@ -453,14 +453,14 @@ module _ {A : Type 0} where
     closed_step : (could : Bool) (a : Label A) (below rest : Forest (Label A)) (p : Progress A) → run_character (open_body a.part.shape)
         ≡ None
         → RunsStandWhole s.text (trees_onto p.left (node a below rest)) → WaitsClosed p.left
-        → WholeSoFar s.text (closed (around s above) (closing could a rest p) p) rest
+        → WholeSoFar s.text (closed (around s above) (closing_of could a rest p) p) rest
     closed_step could a below rest p no_run w waiting =
         let here = behind_whole s.text p.left (node a below rest) w in
         let before : WholeBefore s.text a rest p.left = record {
           whole = other_whole s.text p.left (node a below rest) (node a nil rest) w (here.0, tt, here.2) (λ b h. h);
           waiting = waiting;
         } in
-        let c = closing could a rest p in
+        let c = closing_of could a rest p in
         let after = in_each_case (around s above) c (WholeBefore s.text a rest) (WholeAfter s.text)
         (whole_cases (around s above) c rest no_run) p before in
         record {

@@ -21,13 +21,13 @@ use Rattle.markdown_base.specs.declared.item.Item.{Item}
 use Rattle.markdown_base.specs.declared.item.ItemBody.{ItemBody}
 use Rattle.markdown_base.specs.declared.item.ItemBody.TheVariants as body
 use Rattle.markdown_base.specs.declared.node.Node.{Node}
-use Rattle.markdown_brackets.specs.BracketDecision.{Around, Wikilink, children_of, if_some, past_second, wikilink_by, wikilink_in}
+use Rattle.markdown_brackets.specs.BracketDecision.{Around, Wikilink, shown_children, if_some, past_second, wikilink_by, wikilink_in}
 use Rattle.markdown_brackets.specs.LeftList.{Mark, Entry, Split, inside, nearest, trees_onto}
 use Rattle.markdown_brackets.specs.Wikilink.{Shows, WikilinkBody, cut_at, has_pothole, named, shown_from, shows_from, shows_name}
 use Rattle.markdown_brackets.specs.Wikilink.{shows_nothing, wikilink_body}
 use Rattle.markdown_brackets.proofs.OpenerHeldLemmas.{splits_at}
 use Rattle.markdown_brackets.proofs.WikilinkPipeLemmas.{some_in_block}
-use Rattle.markdown_document.specs.ChainRest.{begun_at, end_of, joined, past_byte, start_of}
+use Rattle.markdown_document.specs.ChainRest.{begun_at, end_of, joined_chains, past_byte, start_of}
 use Rattle.markdown_document.specs.Document.{Label, is_unresolved}
 use Rattle.markdown_document.specs.Origins.{IsSliceWithin}
 use Rattle.markdown_document.specs.Places.{IsPlaced}
@@ -55,7 +55,7 @@ abbrev pub AllLie : List ℕ → Forest (Label ℕ) → Type 0
 AllLie source nil = ⊤
 AllLie source (node a below after) = LabelLies source a × AllLie source after
 
-second_lies : (source : List ℕ) (f g : Forest (Label ℕ)) → AllLie source (joined f g) → AllLie source g
+second_lies : (source : List ℕ) (f g : Forest (Label ℕ)) → AllLie source (joined_chains f g) → AllLie source g
 second_lies source nil g h = h
 second_lies source (node a below after) g h = second_lies source after g h.1
 
@@ -92,14 +92,14 @@ numbered_lies source tables nodes ix placed quiet =
 
 first_lies : (source : List ℕ) (tables : Tables) (nodes : List (Node Item)) (f : Forest ℕ) (g h : Forest (Label ℕ))
     → Each (IsPlaced source tables nodes) f
-    → relabelled (numbered_label source tables nodes) f ≡ joined g h → IsQuiet g → AllLie source g
+    → relabelled (numbered_label source tables nodes) f ≡ joined_chains g h → IsQuiet g → AllLie source g
 first_lies source tables nodes f nil h placed e quiet = tt
 first_lies source tables nodes nil (node a below after) h placed e quiet = absurd (cc e)
 first_lies source tables nodes (node ix inner later) (node a below after) h placed e quiet =
     let same : numbered_label source tables nodes ix ≡ a = cc e in
     let shape : is_quiet (numbered_label source tables nodes ix).part.shape ≡ true = ap (λ (b : Label ℕ). is_quiet b.part.shape) same
     ∙ quiet.0 in
-    let rest : relabelled (numbered_label source tables nodes) later ≡ joined after h = cc e in (
+    let rest : relabelled (numbered_label source tables nodes) later ≡ joined_chains after h = cc e in (
       subst (LabelLies source) same (numbered_lies source tables nodes ix placed.0 shape),
       first_lies source tables nodes later after h
           placed.2 rest quiet.3,
@@ -121,7 +121,7 @@ inside_lies source test left o h found =
     let splits = subst (λ (s : Option (Split ℕ)). IfSome s (λ o. (later : Forest (Label ℕ))
     → trees_onto left later ≡ trees_onto o.before (node o.opener nil (trees_onto o.after later))))
     found (splits_at test left) in
-    let whole : trees_onto left nil ≡ joined (trees_onto o.before nil) (node o.opener nil (inside o)) = splits nil
+    let whole : trees_onto left nil ≡ joined_chains (trees_onto o.before nil) (node o.opener nil (inside o)) = splits nil
     ∙ onto_split o.before (node o.opener nil (inside o)) in
     let all = second_lies source (trees_onto o.before nil) (node o.opener nil (inside o)) (subst (AllLie source) whole h) in
     past_second_lies source (inside o) all.1
@@ -226,7 +226,7 @@ some_lies source (node a below after) h = h
 children_lie : (w : Around) (first : Label ℕ) (f : Forest (Label ℕ)) (end : ℕ) (shows : Shows) → AllLie w.setting.text f
     → IsCharBoundary w.setting.text (start_of first)
     → IsCharBoundary w.setting.text end → IsCut w.setting.text (start_of first) end shows
-    → IfSome (children_of w first f end shows) (FirstLies w.setting.text)
+    → IfSome (shown_children w first f end shows) (FirstLies w.setting.text)
 children_lie w first f end shows_name all starts ends cut = (omega (arith, cut), starts, ends)
 children_lie w first f end (shows_nothing at) all starts ends cut = (omega arith, cut, cut)
 children_lie w first f end (shows_from at) all starts ends cut = some_lies w.setting.text (past_byte at f)
@@ -249,7 +249,7 @@ wikilink_lies w (node first below after) end utf8 all ends = by (wikilink_body w
         → IfSome (option_and_then (wikilink_by w first (node first below after) end) found) (λ v. FirstLies w.setting.text v.children)
     by None cut = tt
     by (Some b) cut =
-        made_lies w.setting.text b (children_of w first (node first below after) end b.shows)
+        made_lies w.setting.text b (shown_children w first (node first below after) end b.shows)
         (children_lie w first (node first below after) end b.shows all all.0.starts ends cut)
 
 -- so a wikilink of this body shows what can be shown
@@ -318,7 +318,7 @@ name_slice w (node first below after) end = by (wikilink_body w.setting.text w.a
     by : (found : Option WikilinkBody) → IfSome found (λ b. IsSliceWithin w.setting.text (start_of first) end b.name)
         → IfSome (option_and_then (wikilink_by w first (node first below after) end) found) (λ v. IsSliceWithin w.setting.text 0 end v.name)
     by None h = tt
-    by (Some b) h = made b (children_of w first (node first below after) end b.shows)
+    by (Some b) h = made b (shown_children w first (node first below after) end b.shows)
         (slice_wider w.setting.text (start_of first) end 0 end b.name (omega arith) (omega arith) h)
 
 pub names_slice : (w : Around) (f : Forest (Label ℕ)) (end : ℕ) (v : Wikilink ℕ) → wikilink_in w f end ≡ Some v

@@ -6,7 +6,7 @@ use Rattle.markdown_base.specs.ArenaWalk.{Reaches}
 use Rattle.std.specs.Option.{option_map}
 use Rattle.markdown_base.specs.BlockTree.{Numbered, numbered, item_at}
 use Rattle.markdown_base.specs.Item.{LiesIn}
-use Rattle.markdown_document.specs.ItemRules.{StandsBefore}
+use Rattle.markdown_document.specs.ItemRules.{ComesBefore}
 use Rattle.markdown_base.specs.Forest.{Forest}
 use Rattle.markdown_base.specs.Questions.{Question, Answer, Answers}
 use Rattle.markdown_base.specs.declared.item.Item.{Item}
@@ -44,8 +44,8 @@ pub record ChangesChain (source : List ℕ) (l : Option ℕ) (old new : List (No
     pub named_once : (n : Named) → named_in new l n ≤ 1
     pub named : (n : Named) → number_of n < size_for tables n → named_in new l n ≤ named_in old l n
     -- what precedes the chain in order still does
-    pub before : (a : Numbered) → StandsBefore a (option_map (numbered old) l)
-        → StandsBefore a (option_map (numbered new) l)
+    pub before : (a : Numbered) → ComesBefore a (option_map (numbered old) l)
+        → ComesBefore a (option_map (numbered new) l)
     -- the chain is no heavier
     pub no_heavier : weight_in new l ≤ weight_in old l
 

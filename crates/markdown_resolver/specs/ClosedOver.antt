@@ -9,7 +9,7 @@ use Rattle.markdown_base.specs.Item.{is_open}
 use Rattle.markdown_base.specs.WellFormed.{run_character}
 use Rattle.markdown_base.specs.declared.item.Item.{Item}
 use Rattle.markdown_base.specs.declared.node.Node.{Node}
-use Rattle.markdown_document.specs.ChainRest.{joined, past, past_byte}
+use Rattle.markdown_document.specs.ChainRest.{joined_chains, past, past_byte}
 use Rattle.markdown_document.specs.Document.{Plain, label_of}
 use Rattle.markdown_document.specs.Places.{IsSameAt}
 use Rattle.markdown_document.specs.Tables.{Tables, Named}
@@ -40,7 +40,7 @@ abbrev pub closed_over : (k : ℕ) → Enclosing → (goes_on : ℕ) → (Forest
     → Forest Plain
 closed_over k trees goes_on rule nil = nil
 closed_over k trees goes_on rule (node a below after) =
-    joined (trees a (first_trees k after)) (rule (past (Some goes_on) (trees_past (suc k) after)))
+    joined_chains (trees a (first_trees k after)) (rule (past (Some goes_on) (trees_past (suc k) after)))
 
 -- one item, with what is inside below it
 abbrev pub over_inside : List ℕ → Tables → Item → Enclosing

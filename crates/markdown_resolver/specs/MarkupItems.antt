@@ -9,7 +9,7 @@ use Rattle.markdown_base.specs.declared.node.Node.{Node}
 use Rattle.markdown_document.specs.Origins.{IsSliceWithin}
 use Rattle.markdown_document.specs.Setting.{Rules, setting_of}
 use Rattle.markdown_document.specs.Tables.{Tables}
-use Rattle.markdown_spans.specs.AfterLess.{Markup, autolink, html}
+use Rattle.markdown_spans.specs.AfterLess.{Markup, autolink, html_markup}
 use Rattle.markdown_spans.specs.Finds.{end_of_markup, markup_trees}
 use Rattle.markdown_resolver.specs.Rewritten.{IsFoundAt, Standing}
 
@@ -31,7 +31,7 @@ pub record IsAddress (source : List ℕ) (nodes : List (Node Item)) (ix end : �
 -- where an autolink was found, it has such a text
 abbrev pub HasAddress : List ℕ → List (Node Item) → ℕ → Markup → Type 0
 HasAddress source nodes ix (autolink end uri) = IsAddress source nodes ix end uri
-HasAddress source nodes ix (html end bytes) = Unit {0}
+HasAddress source nodes ix (html_markup end bytes) = Unit {0}
 
 -- this was found at a node, and can be put in place
 pub record IsMarkupAt (source : List ℕ) (tables : Tables) (nodes : List (Node Item)) (ix : ℕ) (m : Markup) : Type 0

@@ -7,7 +7,7 @@ use Rattle.markdown_base.specs.declared.item.ItemBody.TheVariants as body
 use Rattle.markdown_base.specs.declared.node.Node.{Node}
 use Rattle.markdown_document.specs.Tables.{Tables, HasGrown}
 use Rattle.markdown_spans.specs.Finds.{is_escaped}
-use Rattle.markdown_resolver.specs.Rewritten.{CanPut, CanPutPair, IsFoundAt, Standing, one, pair}
+use Rattle.markdown_resolver.specs.Rewritten.{CanPut, CanPutPair, IsFoundAt, Standing, one_item, pair}
 
 -- the first backtick of an opener, as a Text
 abbrev pub first_backtick : Item → Item
@@ -23,7 +23,7 @@ span_past_backtick opener closer b = record { start = opener.start + 1; end = cl
 
 -- the trees of a code span, with a Text for the first backtick where it is escaped
 abbrev pub code_standing : List ℕ → Tables → (escaped : Bool) → (opener closer : Item) → ItemBody → Standing
-code_standing source tables false opener closer b = one source tables (span_item opener closer b)
+code_standing source tables false opener closer b = one_item source tables (span_item opener closer b)
 code_standing source tables true opener closer b =
     pair source tables (first_backtick opener) (span_past_backtick opener closer b)
 

@@ -5,7 +5,7 @@ use Rattle.markdown_base.specs.BlockTree.{item_at}
 use Rattle.markdown_base.specs.Forest.{Forest, relabelled}
 use Rattle.markdown_base.specs.declared.item.Item.{Item}
 use Rattle.markdown_base.specs.declared.node.Node.{Node}
-use Rattle.markdown_document.specs.ChainRest.{joined}
+use Rattle.markdown_document.specs.ChainRest.{joined_chains}
 use Rattle.markdown_document.specs.Document.{Label, Plain, part_of}
 use Rattle.markdown_document.specs.Labels.{retagged}
 use Rattle.markdown_document.specs.Places.{trees_from}
@@ -34,7 +34,7 @@ pub record PutsTrees (source : List ℕ) (ix : ℕ) (next : Option ℕ) (trees r
   pub runs : RunsGoOn source old new (Some ix)
   -- the trees are in the arena, and what is left follows them
   pub standing : Forest (Label ℕ)
-  pub stands : numbered_from source tables' new (Some ix) ≡ joined standing (numbered_from source tables' new next)
+  pub stands : numbered_from source tables' new (Some ix) ≡ joined_chains standing (numbered_from source tables' new next)
   pub reads : without_numbers standing ≡ trees
   pub rest_is : trees_from source tables' new next ≡ rest
   -- nothing is open in the trees except what waits for pairing, and what is left can be resolved

@@ -10,7 +10,7 @@ use Rattle.markdown_base.specs.Item.{LiesIn, is_block, is_open}
 use Rattle.markdown_base.specs.WellFormed.{RunsAreWhole, run_character}
 use Rattle.markdown_base.specs.declared.item.Item.{Item}
 use Rattle.markdown_base.specs.declared.node.Node.{Node}
-use Rattle.markdown_document.specs.ChainRest.{joined, past}
+use Rattle.markdown_document.specs.ChainRest.{joined_chains, past}
 use Rattle.markdown_document.specs.Document.{Plain, as_text, label_of}
 use Rattle.markdown_document.specs.Places.{HasSlices, IsSameAt, trees_from}
 use Rattle.markdown_document.specs.Stages.{items_from, times_in, weight_in}
@@ -41,7 +41,7 @@ Standing = Plain → Forest Plain → Forest Plain
 -- trees; a rule is applied to what is left
 abbrev pub replaced : Standing → (goes_on : Option ℕ) → (Forest Plain → Forest Plain) → Forest Plain → Forest Plain
 replaced trees goes_on rule nil = nil
-replaced trees goes_on rule (node a below after) = joined (trees a below) (rule (past goes_on after))
+replaced trees goes_on rule (node a below after) = joined_chains (trees a below) (rule (past goes_on after))
 
 -- the tree itself where it is quiet, and otherwise a Text
 abbrev pub text_unless : (is_quiet : Bool) → List ℕ → Standing
@@ -53,8 +53,8 @@ abbrev pub settled : List ℕ → Standing
 settled source a below = text_unless (is_quiet a.part.shape) source a below
 
 -- one item
-abbrev pub one : List ℕ → Tables → Item → Standing
-one source tables item a below = node (label_of source tables item) nil nil
+abbrev pub one_item : List ℕ → Tables → Item → Standing
+one_item source tables item a below = node (label_of source tables item) nil nil
 
 -- two items, one after the other
 abbrev pub pair : List ℕ → Tables → (first second : Item) → Standing

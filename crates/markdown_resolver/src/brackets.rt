@@ -77,11 +77,11 @@ pub(crate) fn open_bracket(
     ensures next { IfOk result (λ next. next ≡ sibling_of tree.old.nodes ix) }
     ensures place { IfOk result (λ _. tree.new ≡ record tree.old { nodes = tree.new.nodes }) }
     ensures brackets { OnOk result (
-        openers.new.brackets ≡ waiting.live (record { node = ix; is_image = is_image }) ∷ openers.old.brackets) }
+        openers.new.brackets ≡ waiting.live_opener (record { node = ix; is_image = is_image }) ∷ openers.old.brackets) }
     ensures wikilinks { OnOk result (openers.new.wikilinks
         ≡ (if wikilinks_on options
         && option_map_or (λ n. is_opener (item_at tree.old.nodes n).body) (sibling_of tree.old.nodes ix) false
-        then waiting.live (record { node = ix; is_image = is_image }) ∷ openers.old.wikilinks
+        then waiting.live_opener (record { node = ix; is_image = is_image }) ∷ openers.old.wikilinks
         else openers.old.wikilinks)) }
     ensures refused { IfErr result (λ fault. fault ≡ Fault.Memory) }
 {

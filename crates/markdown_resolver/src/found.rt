@@ -8,7 +8,7 @@ ghost use Rattle.markdown_base.specs.Forest.{roots};
 ghost use Rattle.markdown_document.specs.Tables.{HasGrown, Tables};
 ghost use Rattle.markdown_resolver.specs.Chains.{CanResolve};
 ghost use Rattle.markdown_resolver.specs.Rewritten.{CanPut, CanPutPair, CanPutParent, IsFoundAt, Puts, first_past};
-ghost use Rattle.markdown_resolver.specs.Rewritten.{settled, one, pair, parent};
+ghost use Rattle.markdown_resolver.specs.Rewritten.{settled, one_item, pair, parent};
 ghost use Rattle.markdown_resolver.specs.Settling.{IsWritten, begun_from};
 
 use crate::settling::settle_node;
@@ -83,7 +83,7 @@ pub(crate) fn put_found(tree: &mut Tree<Item>, ix: usize, item: Item) -> Option<
     ensures puts { (source : List ℕ) (tables tables' : Tables) → HasGrown tables tables'
         → IsFoundAt source tables tree.old.nodes ix item.end → CanPut source tables tables' item
         → item.start ≡ (item_at tree.old.nodes ix).start
-        → Puts source ix (one source tables' item) (Some item.end) result tree.old.nodes tree.new.nodes tables tables' }
+        → Puts source ix (one_item source tables' item) (Some item.end) result tree.old.nodes tree.new.nodes tables tables' }
     ensures place { tree.new ≡ record tree.old { nodes = tree.new.nodes } }
 {
     let rest = first_past(tree, tree.next(ix), item.end);

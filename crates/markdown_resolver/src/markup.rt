@@ -12,7 +12,7 @@ ghost use Rattle.markdown_spans.specs.Finds.{end_of_markup};
 ghost use Rattle.markdown_spans.specs.MarkupView.{markup_of};
 ghost use Rattle.markdown_resolver.specs.ChainPlace.{CanReadItem};
 ghost use Rattle.markdown_resolver.specs.MarkupItems.{IsMarkupAt, item_to, standing_for};
-ghost use Rattle.markdown_resolver.specs.Rewritten.{CanPut, IsFoundAt, Puts, one};
+ghost use Rattle.markdown_resolver.specs.Rewritten.{CanPut, IsFoundAt, Puts, one_item};
 ghost use Rattle.markdown_resolver.specs.ReadsItem.{ReadsItem};
 
 use crate::found::{put_found, put_parent, settle};
@@ -115,7 +115,7 @@ fn put_html(tree: &mut Tree<Item>, ix: usize, end: usize, body: ItemBody) -> Opt
     ensures puts { (source : List ℕ) (tables tables' : Tables) → HasGrown tables tables'
         → IsFoundAt source tables tree.old.nodes ix end
         → CanPut source tables tables' (item_to tree.old.nodes ix end body)
-        → Puts source ix (one source tables' (item_to tree.old.nodes ix end body)) (Some end) result tree.old.nodes
+        → Puts source ix (one_item source tables' (item_to tree.old.nodes ix end body)) (Some end) result tree.old.nodes
         tree.new.nodes tables tables' }
     ensures place { tree.new ≡ record tree.old { nodes = tree.new.nodes } }
 {

@@ -7,13 +7,13 @@ use Rattle.std.proofs.lemmas.List.Sums.{fold_more}
 use Rattle.std.proofs.lemmas.List.{length-take, take_min}
 use Rattle.std.specs.List.{prefix_len}
 use Rattle.std.specs.Char.{digit_value, is_digit}
-use Rattle.markdown_scan.specs.Entity.{number_of, digits_of, numeric_reference, character_of}
+use Rattle.markdown_scan.specs.Entity.{digits_value, digits_of, numeric_reference, character_of}
 use Rattle.markdown_scan.specs.Beginnings.{begins_with}
 
 -- one digit more
 pub number_of_more : (radix : ℕ) (digits : List ℕ) (i : ℕ) → i < length digits
-    → number_of radix (take (i + 1) digits)
-    ≡ radix * number_of radix (take i digits) + digit_value (get_or digits i 0)
+    → digits_value radix (take (i + 1) digits)
+    ≡ radix * digits_value radix (take i digits) + digit_value (get_or digits i 0)
 number_of_more radix digits i h =
     fold_more (λ n digit. radix * n + digit_value digit) 0 digits i 0 h
 
@@ -42,14 +42,14 @@ take_digits radix bytes =
 pub numbered_is : (start radix most count character : ℕ) (bytes : List ℕ)
     → count ≡ length (digits_of radix (drop start bytes)) → 1 ≤ count → count ≤ most
     → begins_with (codes ";") (drop (start + count) bytes) ≡ true
-    → character ≡ character_of (number_of radix (take count (drop start bytes)))
+    → character ≡ character_of (digits_value radix (take count (drop start bytes)))
     → Some (start + count + 1, character) ≡ numeric_reference start radix most bytes
 numbered_is start radix most count character bytes many some few closed is =
     let digits = digits_of radix (drop start bytes) in
     let at_least : nat_le 1 (length digits) ≡ true = rw (← many) (grind (arith, nat_tests)) in
     let at_most : nat_le (length digits) most ≡ true = rw (← many) (grind (arith, nat_tests)) in
     let close : begins_with (codes ";") (drop (start + length digits) bytes) ≡ true = rw (← many) closed in
-    let value : character ≡ character_of (number_of radix digits) =
-    is ∙ ap (λ ds. character_of (number_of radix ds)) (ap (λ n. take n (drop start bytes)) many
+    let value : character ≡ character_of (digits_value radix digits) =
+    is ∙ ap (λ ds. character_of (digits_value radix ds)) (ap (λ n. take n (drop start bytes)) many
     ∙ take_digits radix (drop start bytes)) in
     rw (at_least, at_most, close, value, many) refl

@@ -1,13 +1,13 @@
 -- Columns of space that are taken in two steps.
 use Rattle.std.proofs.Common.{◌≡◌, inl, inr, ℕ, zero, suc, ◌+◌, ◌-◌, ◌≤◌, ◌<◌, List, [], ◌∷◌, true, ◌==◌, refl, sym, ◌∙◌, ap, arith}
 use Rattle.std.proofs.lemmas.Bool.Decides.{nat_tests, leb_tells}
-use Rattle.markdown_scan.specs.LineStart.{LineLeft, Space, space_width, column_after, wider, no_space, space_from, space}
+use Rattle.markdown_scan.specs.LineStart.{LineLeft, Space, space_width, column_after, wider, no_space, space_from, leading_space}
 use Rattle.markdown_scan.proofs.LineStartLemmas.{eq_test_false, le_test_false, le_test_true, lt_test_true, lt_test_false, no_space_from}
 use Rattle.markdown_scan.proofs.LineStartLemmas.{space_unowed, wider_none, wider_twice}
 
 -- n columns of those that are owed, and m more
 owed_more : (n m : ℕ) (left : LineLeft) → n ≤ left.owed
-    → space (n + m) left ≡ wider n (space m (record left { owed = left.owed - n }))
+    → leading_space (n + m) left ≡ wider n (leading_space m (record left { owed = left.owed - n }))
 owed_more n m left some = elim (leb_tells m (left.owed - n)) [
   | inl fits ↦
       let same : left.owed - (n + m) ≡ left.owed - n - m = omega arith in
@@ -32,8 +32,8 @@ owed_more n m left some = elim (leb_tells m (left.owed - n)) [
 space_twice : (n m : ℕ) (left : LineLeft)
     → ((i j : ℕ) → space_from (i + j) left.scanned left.column left.bytes
     ≡ wider (space_from i left.scanned left.column left.bytes).columns
-    (space j (space_from i left.scanned left.column left.bytes).after))
-    → space (n + m) left ≡ wider (space n left).columns (space m (space n left).after)
+    (leading_space j (space_from i left.scanned left.column left.bytes).after))
+    → leading_space (n + m) left ≡ wider (leading_space n left).columns (leading_space m (leading_space n left).after)
 space_twice n m left later = elim (leb_tells n left.owed) [
   | inl fits ↦ rw (le_test_true n left.owed fits.1) (owed_more n m left fits.1)
   | inr past ↦
@@ -45,13 +45,13 @@ space_twice n m left later = elim (leb_tells n left.owed) [
         rest,
       )
       (ap (wider left.owed) (later (n - left.owed) m)
-      ∙ wider_twice left.owed first.columns (space m first.after))
+      ∙ wider_twice left.owed first.columns (leading_space m first.after))
 ]
 
 -- a space or a tab is as many columns that are owed
 byte_owed : (k scanned column b : ℕ) (bytes : List ℕ) → 0 < k → 0 < space_width column b
     → space_from k scanned column (b ∷ bytes)
-    ≡ space k (record { scanned = scanned + 1; owed = space_width column b; column = column_after column b; bytes = bytes })
+    ≡ leading_space k (record { scanned = scanned + 1; owed = space_width column b; column = column_after column b; bytes = bytes })
 byte_owed k scanned column b bytes some white =
     let w = space_width column b in
     rw (eq_test_false k some, eq_test_false w white) (elim (leb_tells w k) [
@@ -84,30 +84,30 @@ none_from (suc k) scanned column b bytes e = rw (eq_test_false (suc k) (omega ar
 from_twice : (n m scanned column : ℕ) (bytes : List ℕ)
     → space_from (n + m) scanned column bytes
     ≡ wider (space_from n scanned column bytes).columns
-    (space m (space_from n scanned column bytes).after)
+    (leading_space m (space_from n scanned column bytes).after)
 from_twice n m scanned column [] =
     let left : LineLeft = record { scanned = scanned; owed = 0; column = column; bytes = [] } in
-    sym (wider_none (space m left) ∙ space_unowed m scanned column [])
+    sym (wider_none (leading_space m left) ∙ space_unowed m scanned column [])
 from_twice zero m scanned column (b ∷ bytes) =
     let left : LineLeft = record { scanned = scanned; owed = 0; column = column; bytes = b ∷ bytes } in
     let same : 0 + m ≡ m = omega arith in
     ap (λ k. space_from k scanned column (b ∷ bytes)) same
-    ∙ sym (wider_none (space m left) ∙ space_unowed m scanned column (b ∷ bytes))
+    ∙ sym (wider_none (leading_space m left) ∙ space_unowed m scanned column (b ∷ bytes))
 from_twice (suc n) m scanned column (b ∷ bytes) = elim (leb_tells (space_width column b) 0) [
   | inl none ↦
       let left : LineLeft = record { scanned = scanned; owed = 0; column = column; bytes = b ∷ bytes } in
       let e : (space_width column b == 0) ≡ true = no_width (space_width column b) none.1 in
       none_from (suc n + m) scanned column b bytes e
-      ∙ sym (ap (λ (s : Space). wider s.columns (space m s.after))
+      ∙ sym (ap (λ (s : Space). wider s.columns (leading_space m s.after))
       (none_from (suc n) scanned column b bytes e)
-      ∙ (wider_none (space m left) ∙ (space_unowed m scanned column (b ∷ bytes)
+      ∙ (wider_none (leading_space m left) ∙ (space_unowed m scanned column (b ∷ bytes)
       ∙ none_from m scanned column b bytes e)))
   | inr white ↦
       let left : LineLeft = record { scanned = scanned + 1; owed = space_width column b; column = column_after column b; bytes = bytes } in
       byte_owed (suc n + m) scanned column b bytes (omega arith) white.1
       ∙ (space_twice (suc n) m left
       (λ i j. from_twice i j (scanned + 1) (column_after column b) bytes)
-      ∙ sym (ap (λ (s : Space). wider s.columns (space m s.after))
+      ∙ sym (ap (λ (s : Space). wider s.columns (leading_space m s.after))
       (byte_owed (suc n) scanned column b bytes (omega arith) white.1)))
 ]
   where
@@ -116,6 +116,6 @@ from_twice (suc n) m scanned column (b ∷ bytes) = elim (leb_tells (space_width
 
 -- columns that are taken in two steps
 pub space_sum : (n m : ℕ) (left : LineLeft)
-    → space (n + m) left ≡ wider (space n left).columns (space m (space n left).after)
+    → leading_space (n + m) left ≡ wider (leading_space n left).columns (leading_space m (leading_space n left).after)
 space_sum n m left =
     space_twice n m left (λ i j. from_twice i j left.scanned left.column left.bytes)

@@ -11,7 +11,7 @@ use Rattle.std.specs.List.{list_all, position_or_len, prefix_len}
 use Rattle.std.proofs.lemmas.List.Folds.{length-prefix_len}
 use Rattle.std.specs.Option.{option_map}
 use Rattle.markdown_scan.specs.Beginnings.{begins_with, StandsBetween}
-use Rattle.markdown_scan.specs.Entity.{character_of, digits_of, entity, number_of, numeric_reference}
+use Rattle.markdown_scan.specs.Entity.{character_of, digits_of, entity, digits_value, numeric_reference}
 use Rattle.markdown_scan.proofs.BeginsWithLemmas.{begins_with-reads}
 use Rattle.std.proofs.lemmas.List.{get_or-drop}
 use Rattle.markdown_scan.specs.AsciiKinds.{is_control_or_space}
@@ -22,8 +22,8 @@ use Rattle.markdown_scan.specs.Label.{LabelByte, body, dropped, fits_label, kept
 use Rattle.markdown_scan.specs.Label.{with_shown}
 use Rattle.markdown_scan.proofs.LabelTextLemmas.{neither}
 use Rattle.markdown_scan.proofs.LineStartLemmas.{no_space_from}
-use Rattle.markdown_scan.specs.ScanLaws.{holds_bare_bracket, is_in_bare, is_plain, TabGoesToTheNextStop}
-use Rattle.markdown_scan.specs.Unescape.{reference, unescaped}
+use Rattle.markdown_scan.specs.ScanLaws.{holds_bare_bracket, is_in_bare, is_plain_byte, TabGoesToTheNextStop}
+use Rattle.markdown_scan.specs.Unescape.{escape_or_entity, unescaped}
 use Rattle.markdown_scan.proofs.UnescapeLemmas.{step_byte, step_reference}
 
 -- the elements before the first that fails a test pass it
@@ -53,36 +53,36 @@ if_found false at n bytes p all = tt
 
 -- no escape and no entity begins with another byte than a backslash or a `&`
 no_reference : (in_table : Bool) (b : ℕ) (bytes : List ℕ) → (b == 92) ≡ false
-    → (92 == b) ≡ false → (38 == b) ≡ false → reference in_table (b ∷ bytes) ≡ None
+    → (92 == b) ≡ false → (38 == b) ≡ false → escape_or_entity in_table (b ∷ bytes) ≡ None
 no_reference true b [] e f g = rw (f, g) refl
 no_reference true b (c ∷ bytes) e f g = rw (e, f, g) refl
 no_reference false b [] e f g = rw g refl
 no_reference false b (c ∷ bytes) e f g = rw (e, g) refl
 
 -- a plain text stands for itself
-pub plain_stands : (in_table : Bool) (text : List ℕ) → list_all is_plain text ≡ true
+pub plain_stands : (in_table : Bool) (text : List ℕ) → list_all is_plain_byte text ≡ true
     → unescaped in_table text ≡ text
 plain_stands in_table [] h = refl
 plain_stands in_table (b ∷ text) h =
-    let parts = and_parts (is_plain b) (list_all is_plain text) h in
+    let parts = and_parts (is_plain_byte b) (list_all is_plain_byte text) h in
     let none = no_reference in_table b text (no_escape b parts.0) (no_escape_of b parts.0)
     (no_entity_of b parts.0) in
     step_byte in_table b text none ∙ ap (λ rest. b ∷ rest) (plain_stands in_table text parts.1)
   where
-    no_escape : (c : ℕ) → is_plain c ≡ true → (c == 92) ≡ false
+    no_escape : (c : ℕ) → is_plain_byte c ≡ true → (c == 92) ≡ false
     no_escape c e = grind (arith, nat_tests)
 
-    no_escape_of : (c : ℕ) → is_plain c ≡ true → (92 == c) ≡ false
+    no_escape_of : (c : ℕ) → is_plain_byte c ≡ true → (92 == c) ≡ false
     no_escape_of c e = grind (arith, nat_tests)
 
-    no_entity_of : (c : ℕ) → is_plain c ≡ true → (38 == c) ≡ false
+    no_entity_of : (c : ℕ) → is_plain_byte c ≡ true → (38 == c) ≡ false
     no_entity_of c e = grind (arith, nat_tests)
 
 -- a backslash and punctuation stand for the punctuation
 pub escape_stands : (mark : ℕ) (text : List ℕ) → is_ascii_punctuation mark ≡ true
     → unescaped false (92 ∷ mark ∷ text) ≡ mark ∷ unescaped false text
 escape_stands mark text e =
-    let found : reference false (92 ∷ mark ∷ text) ≡ Some (2, mark) = rw e refl in
+    let found : escape_or_entity false (92 ∷ mark ∷ text) ≡ Some (2, mark) = rw e refl in
     step_reference false (92 ∷ mark ∷ text) 2 mark found
     ∙ ap (λ bytes. bytes ++ unescaped false text) (encode_ascii mark (ascii mark e))
   where
@@ -120,7 +120,7 @@ numbered_between start radix most bytes first =
     let count = length (digits_of radix (drop start bytes)) in
     let rest = drop (start + count) bytes in
     cond_both ((nat_le 1 count && nat_le count most) && begins_with (codes ";") rest)
-    (Some (start + count + 1, character_of (number_of radix (digits_of radix (drop start bytes)))))
+    (Some (start + count + 1, character_of (digits_value radix (digits_of radix (drop start bytes)))))
     None (λ r. IfSome r (λ r. StandsBetween 38 59 bytes r.0))
     (λ e.
     let close = (and_parts (nat_le 1 count && nat_le count most) (begins_with (codes ";") rest) e).1 in

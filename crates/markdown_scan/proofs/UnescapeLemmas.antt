@@ -8,10 +8,10 @@ use Rattle.std.proofs.lemmas.List.{get_or-drop, length-drop, length-take-le, len
 use Rattle.std.proofs.lemmas.Str.{length-encode, len_utf8_bounds, len_utf8_ascii, IsCharBoundary-after_ascii}
 use Rattle.std.specs.Char.{digit_value, len_utf8, is_ascii_punctuation}
 use Rattle.std.specs.Option.{option_or, option_map_or}
-use Rattle.markdown_scan.specs.Entity.{character_of, digits_of, entity, is_no_scalar, number_of, numeric_reference}
+use Rattle.markdown_scan.specs.Entity.{character_of, digits_of, entity, is_no_scalar, digits_value, numeric_reference}
 use Rattle.markdown_base.specs.Bytes.{pipe, backslash}
 use Rattle.markdown_scan.specs.Beginnings.{begins_with}
-use Rattle.markdown_scan.specs.Unescape.{escape, reference, unescaped, unescaped_past}
+use Rattle.markdown_scan.specs.Unescape.{escape, escape_or_entity, unescaped, unescaped_past}
 use Rattle.markdown_scan.proofs.BeginsWithLemmas.{begins_with-fits, begins_with-reads}
 
 -- what a reference of these bytes is like: it ends with ASCII, and its character takes fewer bytes
@@ -33,7 +33,7 @@ IsReference-text text bytes c e some ascii short = record {
 }
 
 -- one digit writes a small number
-one_digit : (radix : ℕ) (digits : List ℕ) → length digits ≡ 1 → number_of radix digits ≤ 36
+one_digit : (radix : ℕ) (digits : List ℕ) → length digits ≡ 1 → digits_value radix digits ≤ 36
 one_digit radix [] h = absurd (omega arith)
 one_digit radix (d ∷ []) h =
     let small : digit_value d ≤ 36 = digit_small d in
@@ -56,7 +56,7 @@ IsReference-numeric_reference start radix most bytes two =
     let count = length digits in
     let rest = drop (start + count) bytes in
     cond_both ((nat_le 1 count && nat_le count most) && begins_with (codes ";") rest)
-    (Some (start + count + 1, character_of (number_of radix digits))) None
+    (Some (start + count + 1, character_of (digits_value radix digits))) None
     (λ r. IfSome r (IsReference bytes))
     (λ e.
     let parts = and_parts (nat_le 1 count && nat_le count most) (begins_with (codes ";") rest) e in
@@ -74,12 +74,12 @@ IsReference-numeric_reference start radix most bytes two =
     (λ e. tt)
   where
     short : (digits : List ℕ) → 1 ≤ length digits
-        → len_utf8 (character_of (number_of radix digits)) < start + length digits + 1
+        → len_utf8 (character_of (digits_value radix digits)) < start + length digits + 1
     short (d ∷ []) some =
-        let at_most = character_small (number_of radix (d ∷ [])) (one_digit radix (d ∷ []) refl) in
+        let at_most = character_small (digits_value radix (d ∷ [])) (one_digit radix (d ∷ []) refl) in
         omega (arith, at_most)
     short (d ∷ e ∷ digits) some =
-        let at_most = len_utf8_bounds (character_of (number_of radix (d ∷ e ∷ digits))) in
+        let at_most = len_utf8_bounds (character_of (digits_value radix (d ∷ e ∷ digits))) in
         omega (arith, at_most.1)
     short [] some = absurd (omega arith)
 
@@ -115,7 +115,7 @@ IsReference-escape (b ∷ mark ∷ bytes) =
 
 -- either, or the two backslashes and the pipe of a table
 pub IsReference-reference : (in_table : Bool) (bytes : List ℕ)
-    → IfSome (reference in_table bytes) (IsReference bytes)
+    → IfSome (escape_or_entity in_table bytes) (IsReference bytes)
 IsReference-reference in_table bytes =
     let mark = backslash ∷ backslash ∷ pipe ∷ [] in
     cond_both (in_table && begins_with mark bytes) (Some (3, pipe)) (option_or (escape bytes) (entity bytes))
@@ -130,7 +130,7 @@ IsReference-reference in_table bytes =
     either (Some r) y p q = p
 
 pub reference_is : (in_table : Bool) (bytes : List ℕ) (r : ℕ × ℕ)
-    → reference in_table bytes ≡ Some r → IsReference bytes r
+    → escape_or_entity in_table bytes ≡ Some r → IsReference bytes r
 reference_is in_table bytes r e = rw e at (IsReference-reference in_table bytes)
 
 -- bytes that are passed over
@@ -141,13 +141,13 @@ past_is in_table (suc n) [] = refl
 past_is in_table (suc n) (b ∷ bytes) = past_is in_table n bytes
 
 -- a byte that stands for itself
-pub step_byte : (in_table : Bool) (b : ℕ) (bytes : List ℕ) → reference in_table (b ∷ bytes) ≡ None
+pub step_byte : (in_table : Bool) (b : ℕ) (bytes : List ℕ) → escape_or_entity in_table (b ∷ bytes) ≡ None
     → unescaped in_table (b ∷ bytes) ≡ b ∷ unescaped in_table bytes
 step_byte in_table b bytes e = rw e refl
 
 -- a reference
 pub step_reference : (in_table : Bool) (bytes : List ℕ) (n c : ℕ)
-    → reference in_table bytes ≡ Some (n, c)
+    → escape_or_entity in_table bytes ≡ Some (n, c)
     → unescaped in_table bytes ≡ encode_utf8 c ++ unescaped in_table (drop n bytes)
 step_reference in_table bytes zero c e =
     absurd (omega (arith, (reference_is in_table bytes (zero, c) e).shorter))
@@ -181,7 +181,7 @@ past_shorter : (in_table : Bool) (n : ℕ) (bytes : List ℕ)
 past_shorter in_table n [] = omega arith
 past_shorter in_table (suc n) (b ∷ bytes) = omega (arith, past_shorter in_table n bytes)
 past_shorter in_table zero (b ∷ bytes) =
-    let step = shorter_step in_table b bytes (reference in_table (b ∷ bytes))
+    let step = shorter_step in_table b bytes (escape_or_entity in_table (b ∷ bytes))
     (IsReference-reference in_table (b ∷ bytes)) (λ n. past_shorter in_table n bytes) in
     omega (arith, step)
 
@@ -192,7 +192,7 @@ unescaped_shorter in_table text = omega (arith, past_shorter in_table 0 text)
 
 -- the byte at a place stands for itself
 pub unescaped_at_byte : (in_table : Bool) (text : List ℕ) (at : ℕ) → at < length text
-    → reference in_table (drop at text) ≡ None
+    → escape_or_entity in_table (drop at text) ≡ None
     → unescaped in_table text ≡ take at text ++ unescaped in_table (drop at text)
     → unescaped in_table text ≡ take (at + 1) text ++ unescaped in_table (drop (at + 1) text)
 unescaped_at_byte in_table text at h none was =
@@ -205,7 +205,7 @@ unescaped_at_byte in_table text at h none was =
 
 -- a reference stands at a place
 pub unescaped_at_reference : (in_table : Bool) (text : List ℕ) (at n c : ℕ)
-    → reference in_table (drop at text) ≡ Some (n, c)
+    → escape_or_entity in_table (drop at text) ≡ Some (n, c)
     → unescaped in_table text ≡ take at text ++ unescaped in_table (drop at text)
     → unescaped in_table text
     ≡ take at text ++ (encode_utf8 c ++ unescaped in_table (drop (at + n) text))
@@ -215,7 +215,7 @@ unescaped_at_reference in_table text at n c e was =
 
 -- the text may be cut after a reference
 pub cut_after : (in_table : Bool) (text : List ℕ) (at n c : ℕ) → IsUtf8 text → at < length text
-    → reference in_table (drop at text) ≡ Some (n, c) → IsCharBoundary text (at + n)
+    → escape_or_entity in_table (drop at text) ≡ Some (n, c) → IsCharBoundary text (at + n)
 cut_after in_table text at n c utf8 h e =
     let is = reference_is in_table (drop at text) (n, c) e in
     let within : at + (n - 1) < length text = omega (arith, is.within, is.shorter, length-drop at text) in
@@ -225,7 +225,7 @@ cut_after in_table text at n c utf8 h e =
 
 -- a text with a reference stands for a shorter one
 pub unescaped_changes : (in_table : Bool) (text : List ℕ) (at n c : ℕ) → at < length text
-    → reference in_table (drop at text) ≡ Some (n, c)
+    → escape_or_entity in_table (drop at text) ≡ Some (n, c)
     → unescaped in_table text
     ≡ take at text ++ (encode_utf8 c ++ unescaped in_table (drop (at + n) text))
     → unescaped in_table text ≡ text → ⊥

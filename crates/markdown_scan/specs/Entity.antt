@@ -15,8 +15,8 @@ abbrev pub character_of : ℕ → ℕ
 character_of n = if n == 0 || is_no_scalar n then 0xFFFD else n
 
 -- the number that digits represent
-abbrev pub number_of : ℕ → List ℕ → ℕ
-number_of radix digits = fold (λ n digit. radix * n + digit_value digit) 0 digits
+abbrev pub digits_value : ℕ → List ℕ → ℕ
+digits_value radix digits = fold (λ n digit. radix * n + digit_value digit) 0 digits
 
 -- the digits that the bytes begin with
 abbrev pub digits_of : ℕ → List ℕ → List ℕ
@@ -29,7 +29,7 @@ numeric_reference start radix most bytes =
     let digits = digits_of radix (drop start bytes) in
     if (nat_le 1 (length digits) && nat_le (length digits) most)
     && begins_with (codes ";") (drop (start + length digits) bytes)
-    then Some (start + length digits + 1, character_of (number_of radix digits))
+    then Some (start + length digits + 1, character_of (digits_value radix digits))
     else None
 
 -- the length in bytes of the entity or reference that the bytes begin with, and its character

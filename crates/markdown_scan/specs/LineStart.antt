@@ -2,7 +2,7 @@
 -- of which only some columns are read has been scanned, and owes its other columns to the next read.
 use Rattle.std.specs.Prelude.{ℕ, ◌+◌, ◌-◌, Bool, true, ◌&&◌, ◌||◌, ◌==◌, nat_le, nat_lt, List, [], ◌∷◌, drop}
 use Rattle.std.specs.Prelude.{slice_index, if◌then◌else◌}
-use Rattle.markdown_base.specs.Bytes.{carriage_return, greater_than, line_feed, space as space_byte, tab}
+use Rattle.markdown_base.specs.Bytes.{carriage_return, greater_than, line_feed, leading_space as space_byte, tab}
 
 -- the rest of a line: the number of bytes scanned, the columns that a partly read tab owes, the column after it,
 -- counted from the last tab stop, and the bytes that follow
@@ -31,7 +31,7 @@ column_after column b = if b == tab then 0 else next_column column
 
 -- n more columns before that space
 abbrev pub wider : ℕ → Space → Space
-wider n space = record { columns = n + space.columns; after = space.after }
+wider n leading_space = record { columns = n + leading_space.columns; after = leading_space.after }
 
 -- no column is read
 abbrev pub no_space : LineLeft → Space
@@ -58,8 +58,8 @@ space_from n scanned column (b ∷ bytes) =
     bytes)
 
 -- at most n columns of space of the line, beginning with those that are owed
-abbrev pub space : ℕ → LineLeft → Space
-space n left =
+abbrev pub leading_space : ℕ → LineLeft → Space
+leading_space n left =
     if nat_le n left.owed then record { columns = n; after = record left { owed = left.owed - n } }
     else wider left.owed (space_from (n - left.owed) left.scanned left.column left.bytes)
 
@@ -84,8 +84,8 @@ abbrev pub begins_marker : LineLeft → Bool
 begins_marker left = (left.owed == 0) && (slice_index left.bytes 0 == greater_than)
 
 -- the line after the `>` that comes next
-abbrev pub past_byte : LineLeft → LineLeft
-past_byte left = record {
+abbrev pub past_one_byte : LineLeft → LineLeft
+past_one_byte left = record {
   scanned = left.scanned + 1;
   owed = 0;
   column = next_column left.column;
@@ -95,4 +95,4 @@ past_byte left = record {
 
 -- the line after a block quote marker and at most one column of space
 abbrev pub past_marker : LineLeft → LineLeft
-past_marker left = (space 1 (past_byte left)).after
+past_marker left = (leading_space 1 (past_one_byte left)).after

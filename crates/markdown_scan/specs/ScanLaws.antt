@@ -3,7 +3,7 @@ use Rattle.std.specs.Prelude.{◌+◌, ◌||◌, [], ◌∷◌, suc, zero, take,
 use Rattle.std.specs.Prelude.{List, IfSome, IsTrue}
 use Rattle.std.specs.Char.{is_ascii_punctuation}
 use Rattle.std.specs.List.{list_all}
-use Rattle.markdown_base.specs.Bytes.{ampersand, backslash, pipe, semicolon, space as space_byte}
+use Rattle.markdown_base.specs.Bytes.{ampersand, backslash, pipe, semicolon, leading_space as space_byte}
 use Rattle.markdown_scan.specs.Autolink.{uri_autolink, is_uri_byte}
 use Rattle.markdown_scan.specs.AsciiKinds.{is_control_or_space}
 use Rattle.markdown_scan.specs.Backslash.{is_bare}
@@ -11,7 +11,7 @@ use Rattle.markdown_scan.specs.Destination.{bare_destination}
 use Rattle.markdown_scan.specs.Beginnings.{StandsBetween}
 use Rattle.markdown_scan.specs.Entity.{entity}
 use Rattle.markdown_scan.specs.Label.{LabelByte, dropped, is_bracket, kept, label_body, label_bytes, refused}
-use Rattle.markdown_scan.specs.LineStart.{LineLeft, space, wider}
+use Rattle.markdown_scan.specs.LineStart.{LineLeft, leading_space, wider}
 use Rattle.markdown_scan.specs.Unescape.{unescaped}
 use Rattle.markdown_scan.specs.WikilinkPipe.{wikilink_pipe}
 
@@ -20,13 +20,13 @@ abbrev pub AutolinkIsPlain : List ℕ → ℕ → Type 0
 AutolinkIsPlain text at = IfSome (uri_autolink text at) (λ found. IsTrue (list_all is_uri_byte found.1))
 
 -- neither a backslash nor a `&`
-abbrev pub is_plain : ℕ → Bool
-is_plain b = not (b == backslash) && not (b == ampersand)
+abbrev pub is_plain_byte : ℕ → Bool
+is_plain_byte b = not (b == backslash) && not (b == ampersand)
 
 -- `unescaped` leaves a text without backslashes and `&` unchanged
 abbrev pub UnescapingLeavesPlainText : Bool → List ℕ → Type 0
 UnescapingLeavesPlainText in_table text =
-    IsTrue (list_all is_plain text) → unescaped in_table text ≡ text
+    IsTrue (list_all is_plain_byte text) → unescaped in_table text ≡ text
 
 -- a backslash and punctuation are replaced by the punctuation
 abbrev pub EscapedPunctuationStandsForItself : ℕ → List ℕ → Type 0
@@ -82,7 +82,7 @@ spaces_and_tab (suc spaces) bytes = space_byte ∷ spaces_and_tab spaces bytes
 -- at most three spaces and a tab are four columns, and the next byte is at a tab stop
 abbrev pub TabGoesToTheNextStop : ℕ → List ℕ → Type 0
 TabGoesToTheNextStop spaces bytes =
-    spaces ≤ 3 → space 4 (line_of (spaces_and_tab spaces bytes))
+    spaces ≤ 3 → leading_space 4 (line_of (spaces_and_tab spaces bytes))
     ≡ record {
       columns = 4;
       after = record { scanned = spaces + 1; owed = 0; column = 0; bytes = bytes };
@@ -91,5 +91,5 @@ TabGoesToTheNextStop spaces bytes =
 -- n and then m columns of space of the rest of any line are n + m columns
 abbrev pub LineSpaceIsCountedByColumns : ℕ → ℕ → Type 0
 LineSpaceIsCountedByColumns n m =
-    (left : LineLeft) → space (n + m) left
-    ≡ wider (space n left).columns (space m (space n left).after)
+    (left : LineLeft) → leading_space (n + m) left
+    ≡ wider (leading_space n left).columns (leading_space m (leading_space n left).after)

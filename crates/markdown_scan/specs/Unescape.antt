@@ -16,8 +16,8 @@ escape (b ∷ mark ∷ bytes) =
 
 -- the escape or entity that the bytes begin with: its length, and its character. In a table, two backslashes and a pipe
 -- are replaced by the pipe.
-abbrev pub reference : Bool → List ℕ → Option (ℕ × ℕ)
-reference in_table bytes =
+abbrev pub escape_or_entity : Bool → List ℕ → Option (ℕ × ℕ)
+escape_or_entity in_table bytes =
     if in_table && begins_with (backslash ∷ backslash ∷ pipe ∷ []) bytes then Some (3, pipe)
     else option_or (escape bytes) (entity bytes)
 
@@ -26,7 +26,7 @@ abbrev pub unescaped_past : Bool → ℕ → List ℕ → List ℕ
 unescaped_past in_table passed [] = []
 unescaped_past in_table (suc passed) (b ∷ bytes) = unescaped_past in_table passed bytes
 unescaped_past in_table zero (b ∷ bytes) =
-    let found = reference in_table (b ∷ bytes) in
+    let found = escape_or_entity in_table (b ∷ bytes) in
     option_map_or (λ r. encode_utf8 r.1) found (b ∷ [])
     ++ unescaped_past in_table (option_map_or (λ r. r.0 - 1) found 0) bytes
 

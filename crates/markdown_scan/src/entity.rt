@@ -1,7 +1,7 @@
 //! Entities and numeric character references (CommonMark 2.5).
 ghost use Rattle.std.specs.Prelude.{◌≡◌, ◌≤◌, IfSome, length, take_while};
 ghost use Rattle.std.specs.Char.{digit_value, is_digit};
-ghost use Rattle.markdown_scan.specs.Entity.{character_of, entity, number_of, numeric_reference};
+ghost use Rattle.markdown_scan.specs.Entity.{character_of, entity, digits_value, numeric_reference};
 
 /// Returns the value of an ASCII digit or letter, and 36 for any other byte.
 fn digit_value(byte: u8) -> u32
@@ -20,7 +20,7 @@ fn digit_value(byte: u8) -> u32
 fn number_of(digits: &[u8], radix: u32) -> u32
     requires few { length digits.now ≤ 7 }
     requires base { radix ≤ 16 }
-    ensures { result ≡ number_of radix digits.now }
+    ensures { result ≡ digits_value radix digits.now }
 {
     let mut number = 0;
     for digit in digits {

@@ -114,8 +114,8 @@ impl<'t> LineStart<'t> {
 
     /// Reads at most `n` columns of space, and returns how many were read.
     pub fn scan_space_upto(&mut self, n: usize) -> usize
-        ensures columns { result ≡ (spec.space n (line_left self.old)).columns }
-        ensures left { line_left self.new ≡ (spec.space n (line_left self.old)).after }
+        ensures columns { result ≡ (spec.leading_space n (line_left self.old)).columns }
+        ensures left { line_left self.new ≡ (spec.leading_space n (line_left self.old)).after }
     {
         let mut taken = n.min(self.owed);
         self.owed -= taken;
@@ -131,8 +131,8 @@ impl<'t> LineStart<'t> {
 
     /// Reads `n` columns of space, and returns whether there were that many. If not, nothing is read.
     pub fn scan_space(&mut self, n: usize) -> bool
-        ensures value { result ≡ ((spec.space n (line_left self.old)).columns == n) }
-        ensures left { line_left self.new ≡ (if result then (spec.space n (line_left self.old)).after
+        ensures value { result ≡ ((spec.leading_space n (line_left self.old)).columns == n) }
+        ensures left { line_left self.new ≡ (if result then (spec.leading_space n (line_left self.old)).after
             else line_left self.old) }
     {
         let mut after = self.copy();

@@ -3,7 +3,7 @@ ghost use Rattle.std.specs.Prelude.{◌≡◌, ◌≢◌, ◌<◌, ◌≤◌, �
 ghost use Rattle.std.specs.Prelude.{slice_index, string_bytes};
 ghost use Rattle.markdown_base.specs.Bytes.{backslash};
 ghost use Rattle.markdown_base.specs.CowText.{text_of, IsBorrowed};
-ghost use Rattle.markdown_scan.specs.Unescape.{reference, unescaped};
+ghost use Rattle.markdown_scan.specs.Unescape.{escape_or_entity, unescaped};
 
 use crate::entity::scan_entity;
 use markdown_base::cow_str::CowStr;
@@ -12,7 +12,7 @@ use std::alloc::{AllocError, Global};
 /// Reads the escape that the bytes begin with, and returns its length in bytes and its character.
 fn scan_escape(bytes: &[u8], in_table: bool) -> Option<(usize, char)>
     requires { slice_index bytes.now 0 ≡ backslash }
-    ensures value { result ≡ reference in_table bytes.now }
+    ensures value { result ≡ escape_or_entity in_table bytes.now }
     ensures within { IfSome result (λ found. found.0 ≤ length bytes.now) }
 {
     if in_table && bytes.starts_with(b"\\\\|") {
@@ -28,7 +28,7 @@ fn scan_escape(bytes: &[u8], in_table: bool) -> Option<(usize, char)>
 /// byte tells that most bytes begin none.
 #[inline]
 fn scan_reference(bytes: &[u8], in_table: bool) -> Option<(usize, char)>
-    ensures value { result ≡ reference in_table bytes.now }
+    ensures value { result ≡ escape_or_entity in_table bytes.now }
     ensures within { IfSome result (λ found. found.0 ≤ length bytes.now) }
 {
     match bytes {

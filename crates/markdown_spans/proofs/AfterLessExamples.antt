@@ -3,7 +3,7 @@ use Rattle.std.proofs.Common.{◌≡◌, ℕ, List, [], ◌∷◌, ◌++◌, Opt
 use Rattle.std.specs.Prelude.{codes}
 use Rattle.markdown_base.specs.declared.item.ItemBody.TheVariants as body
 use Rattle.markdown_raw_html.specs.HtmlTag.{all, both, either, nonempty, often, often_past, one, optional}
-use Rattle.markdown_spans.specs.AfterLess.{markup_at, autolink, html}
+use Rattle.markdown_spans.specs.AfterLess.{markup_at, autolink, html_markup}
 use Rattle.markdown_spans.specs.ContainerPrefix.{prefix_length}
 
 quoted : List ℕ → Option ℕ
@@ -13,21 +13,21 @@ row_autolink : markup_at quoted (codes "<http://a.b>") 0 1 ≡ Some (autolink 12
 unfolding markup_at
 row_autolink = refl
 
-row_comment : markup_at quoted (codes "a <!-- x --> c") 2 3 ≡ Some (html 12 None)
+row_comment : markup_at quoted (codes "a <!-- x --> c") 2 3 ≡ Some (html_markup 12 None)
 unfolding markup_at quoted all both either nonempty often often_past one optional
 row_comment = refl
 
-row_processing_instruction : markup_at quoted (codes "x <? b ?>") 2 3 ≡ Some (html 9 None)
+row_processing_instruction : markup_at quoted (codes "x <? b ?>") 2 3 ≡ Some (html_markup 9 None)
 unfolding markup_at quoted all both either nonempty often often_past one optional
 row_processing_instruction = refl
 
-row_tag : markup_at quoted (codes "a <b> c") 2 3 ≡ Some (html 5 None)
+row_tag : markup_at quoted (codes "a <b> c") 2 3 ≡ Some (html_markup 5 None)
 unfolding markup_at quoted all both either nonempty often often_past one optional
 row_tag = refl
 
 -- the prefix of the second line is removed
 row_tag_over_lines : markup_at quoted (codes "> <foo" ++ 10 ∷ codes "> bar>") 2 3
-    ≡ Some (html 13 (Some (codes "<foo" ++ 10 ∷ codes "bar>")))
+    ≡ Some (html_markup 13 (Some (codes "<foo" ++ 10 ∷ codes "bar>")))
 unfolding markup_at quoted all both either nonempty often often_past one optional
 row_tag_over_lines = refl
 

@@ -20,7 +20,7 @@ use Rattle.markdown_raw_html.proofs.RawHtmlLawsLemmas.{tag_between}
 use Rattle.markdown_raw_html.proofs.HtmlTagLemmas.{IsWithin-html_tag}
 use Rattle.markdown_scan.specs.Beginnings.{StandsBetween}
 use Rattle.markdown_scan.specs.Autolink.{uri_autolink}
-use Rattle.markdown_spans.specs.AfterLess.{html, html_at, is_unbroken, markup_at}
+use Rattle.markdown_spans.specs.AfterLess.{html_markup, html_at, is_unbroken, markup_at}
 use Rattle.markdown_spans.specs.PrefixView.{length_by}
 use Rattle.markdown_spans.specs.declared.prefixes.ContainerPrefix.{ContainerPrefix}
 use Rattle.markdown_spans.proofs.ContainerPrefixLemmas.{IsAsciiPrefix, length_by_is_ascii}
@@ -154,7 +154,7 @@ pub unbroken_html : (skipped : List ℕ → Option ℕ) (text : List ℕ) (start
 unfolding markup_at
 unbroken_html skipped text start at none h = cases (html_at skipped text start at) (rw none at h)
   where
-    cases : (found : Option (ℕ × Option (List ℕ))) → is_unbroken (option_map (λ tag. html tag.0 tag.1) found) ≡ true
+    cases : (found : Option (ℕ × Option (List ℕ))) → is_unbroken (option_map (λ tag. html_markup tag.0 tag.1) found) ≡ true
         → option_and_then (λ tag. tag.1) found ≡ None
     cases None h = refl
     cases (Some (end, None)) h = refl

@@ -5,7 +5,7 @@ use Rattle.markdown_base.specs.declared.item.ItemBody.{ItemBody}
 use Rattle.markdown_base.specs.declared.item.ItemBody.TheVariants as body
 use Rattle.markdown_base.specs.BlockTree.{Numbered}
 use Rattle.markdown_spans.specs.Closers.{closing_count, code_close, code_closer, looked_for_code, looked_for_math, math_close}
-use Rattle.markdown_spans.specs.SpanMarks.{closers_of, marks_in}
+use Rattle.markdown_spans.specs.SpanMarks.{known_closers, marks_in}
 use Rattle.markdown_spans.specs.declared.span_text.SpanKind.TheVariants.{Code, Math}
 
 item : ℕ → ℕ → ItemBody → Item
@@ -93,7 +93,7 @@ numbered_as : ℕ → Item → Numbered
 numbered_as n i = record { number = n; item = i }
 
 -- what a failed search learns of the backticks after the first ones of ```a``b`c``: the second closes at the last
-row_learned : closers_of (marks_in Code (numbered_as 5 (text 3 4) ∷ numbered_as 6 (ticks 4 2) ∷ numbered_as 7
+row_learned : known_closers (marks_in Code (numbered_as 5 (text 3 4) ∷ numbered_as 6 (ticks 4 2) ∷ numbered_as 7
     (text 6 7) ∷ numbered_as 8 (ticks 7 1)
     ∷ numbered_as 9 (text 8 9) ∷ numbered_as 10 (ticks 9 2) ∷ []))
     ≡ record { number = 6; closer = Some 10 } ∷ record { number = 8; closer = None } ∷ record
@@ -102,7 +102,7 @@ unfolding numbered_as item text ticks
 row_learned = refl
 
 -- and of the `$` of two brace contexts
-row_learned_of_math : closers_of (marks_in Math
+row_learned_of_math : known_closers (marks_in Math
     (numbered_as 3 (dollar 3 true true 1) ∷ numbered_as 4 (dollar 4 true true 0) ∷ numbered_as 5
     (dollar 5 true true 1) ∷ []))
     ≡ record { number = 3; closer = Some 5 } ∷ record { number = 4; closer = None } ∷ record

@@ -10,7 +10,7 @@ use Rattle.std.proofs.lemmas.List.Folds.{list_all-append}
 use Rattle.std.proofs.lemmas.Bool.Decides.{nat_tests}
 use Rattle.markdown_base.specs.declared.item.ItemBody.{ItemBody}
 use Rattle.markdown_base.specs.declared.item.ItemBody.TheVariants as body
-use Rattle.markdown_scan.specs.LineStart.{LineLeft, space_width, column_after, space_from, space, is_line_over, begins_marker, past_byte}
+use Rattle.markdown_scan.specs.LineStart.{LineLeft, space_width, column_after, space_from, leading_space, is_line_over, begins_marker, past_one_byte}
 use Rattle.markdown_spans.specs.ContainerPrefix.{past_marker_next, past_indent, past_block, past_blocks, prefix_length, in_table}
 use Rattle.markdown_base.specs.Item.{is_table_cell}
 use Rattle.markdown_spans.specs.BlocksAbove.{blocks_above}
@@ -71,10 +71,10 @@ past_space_from line n scanned column (b ∷ bytes) past =
     cases false false true e f g later = rw (e, f, g) (one_past line scanned b bytes (white_is_taken column b f) past)
     cases false false false e f g later = rw (e, f, g) (later (one_past line scanned b bytes (white_is_taken column b f) past))
 
-space_past : (line : List ℕ) (n : ℕ) (left : LineLeft) → IsPast line left → IsPast line (space n left).after
+space_past : (line : List ℕ) (n : ℕ) (left : LineLeft) → IsPast line left → IsPast line (leading_space n left).after
 space_past line n left past = cases (nat_le n left.owed) refl
   where
-    cases : (owed : Bool) → nat_le n left.owed ≡ owed → IsPast line (space n left).after
+    cases : (owed : Bool) → nat_le n left.owed ≡ owed → IsPast line (leading_space n left).after
     cases true e = rw e past
     cases false e = rw e (past_space_from line (n - left.owed) left.scanned left.column left.bytes past)
 
@@ -100,19 +100,19 @@ marker_past line left past = cases (begins_marker left) refl
     cases : (begins : Bool) → begins_marker left ≡ begins → IfPast line (past_marker_next left)
     cases false e = rw e tt
     cases true e =
-        rw e (space_past line 1 (past_byte left)
+        rw e (space_past line 1 (past_one_byte left)
         (byte_past line left.scanned left.bytes (second_of (left.owed == 0) (slice_index left.bytes 0 == 62) e) past))
 
 indent_past : (line : List ℕ) (n : ℕ) (left : LineLeft) → IsPast line left → IfPast line (past_indent n left)
-indent_past line n left past = cases (((space n left).columns == n) || is_line_over (space n left).after.bytes) refl
+indent_past line n left past = cases (((leading_space n left).columns == n) || is_line_over (leading_space n left).after.bytes) refl
   where
-    cases : (found : Bool) → (((space n left).columns == n) || is_line_over (space n left).after.bytes) ≡ found
+    cases : (found : Bool) → (((leading_space n left).columns == n) || is_line_over (leading_space n left).after.bytes) ≡ found
         → IfPast line (past_indent n left)
     cases true e = rw e (space_past line n left past)
     cases false e = rw e tt
 
 block_past : (gfm : Bool) (line : List ℕ) (block : ItemBody) (left : LineLeft) → IsPast line left → IfPast line (past_block gfm block left)
-block_past gfm line (body.BlockQuote kind) left past = marker_past line (space 3 left).after (space_past line 3 left past)
+block_past gfm line (body.BlockQuote kind) left past = marker_past line (leading_space 3 left).after (space_past line 3 left past)
 block_past gfm line (body.ListItem indent) left past = indent_past line indent left past
 block_past gfm line (body.DefinitionListDefinition indent) left past = indent_past line indent left past
 block_past true line (body.FootnoteDefinition name) left past = indent_past line 4 left past

@@ -17,7 +17,7 @@ use Rattle.markdown_spans.specs.Closers.{math_close_from}
 use Rattle.markdown_spans.specs.MathOpening.{closed_at, closed_by_first, dollar_at, marks_at, opener_at, searched_from}
 use Rattle.markdown_spans.specs.SpanClosers.{ClosesMath, HoldsFrom, Learned, RisesBy, StandsIn, failed_by_now, found_math, has_failed}
 use Rattle.markdown_spans.specs.SpanClosers.{item_in}
-use Rattle.markdown_spans.specs.SpanMarks.{closers_of, first_with, known_after, known_closer, mark_at, marks_in}
+use Rattle.markdown_spans.specs.SpanMarks.{known_closers, first_with, known_after, known_closer, mark_at, marks_in}
 use Rattle.markdown_spans.proofs.ChainWalkLemmas.{begins_at, chain_at, marks_in-append, rises_on}
 use Rattle.markdown_spans.proofs.FindCodeLemmas.{here_of, holds_left}
 use Rattle.markdown_spans.proofs.LearnedLemmas.{KnownHere, mark_number}
@@ -213,11 +213,11 @@ breaks_after nodes o low after ix close mid at_ix v v1 v' is e none walks most h
 -- what a search finds, counts and learns, where it fails and where it finds
 pub search_math_fails : (o : MathOpener) (after : List Numbered) (found : Option FoundMath) (old new : List SpanMark)
     (ahead : List KnownCloser) (v v' : ℕ)
-    → NotesMath o after found old new v v' → is_some found ≡ false → old ≡ [] → ahead ≡ closers_of new →
+    → NotesMath o after found old new v v' → is_some found ≡ false → old ≡ [] → ahead ≡ known_closers new →
     SearchesMath o after found (Some ahead) v v'
 search_math_fails o after None old new ahead v v' n none e is = record {
   finds = n.finds;
-  learns = ap Some (is ∙ ap closers_of (n.notes refl ∙ ap (λ old. old ++ marks_in Math after) e));
+  learns = ap Some (is ∙ ap known_closers (n.notes refl ∙ ap (λ old. old ++ marks_in Math after) e));
   counts = n.counts;
 }
 search_math_fails o after (Some found) old new ahead v v' n none e is = cc
@@ -315,7 +315,7 @@ known_dollar_of nodes o after known m s (Some second) e is wanted k =
     k.closer ∙ (ap (λ key. first_with key (marks_in Math after)) wanted ∙ ap (first_with o.context) marks) in
     let next : next_closer (known_after o.number known)
     ≡ first_with (context_of (item_at nodes second).body) (marks_in Math s.items) =
-    ap next_closer (k.later ∙ ap closers_of marks) in
+    ap next_closer (k.later ∙ ap known_closers marks) in
     let P : Option ℕ → Type 0 = λ second. IfSome second (λ second. second < s.low) in
     let above : second < s.low = subst P e s.above in
     let rises : (x : ℕ) → first_with o.context (marks_in Math s.items) ≡ Some x → second < x =

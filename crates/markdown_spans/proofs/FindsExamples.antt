@@ -14,7 +14,7 @@ use Rattle.markdown_raw_html.specs.HtmlTag.{all, both, either, nonempty, often, 
 use Rattle.markdown_spans.specs.AfterLess.{markup_at}
 use Rattle.markdown_document.specs.ChainRest.{begun_at, end_of, past}
 use Rattle.markdown_spans.specs.CodeText.{is_sliced, replaced_past}
-use Rattle.markdown_spans.specs.Finds.{address, over, read_tree, text_from}
+use Rattle.markdown_spans.specs.Finds.{address, label_over, read_tree, text_label}
 
 -- GFM footnotes are on, and nothing is defined
 abbrev setting : List ℕ → Setting
@@ -84,13 +84,13 @@ read_chain above source items = read_on (setting source) (above source) 0 None (
 
 -- labels: a text, what was made of other bytes, and the text of a span that is a slice of the source
 abbrev text_at : List ℕ → ℕ → ℕ → ℕ → Label ℕ
-text_at source n start end = text_from (setting source) n start end
+text_at source n start end = text_label (setting source) n start end
 
 abbrev made_at : ℕ → EventView → ℕ → ℕ → Label ℕ
-made_at n e start end = over n (leaf e (made ∷ [])) start end
+made_at n e start end = label_over n (leaf e (made ∷ [])) start end
 
 abbrev sliced_at : ℕ → EventView → ℕ → ℕ → Label ℕ
-sliced_at n e start end = over n (leaf e (sliced ∷ [])) start end
+sliced_at n e start end = label_over n (leaf e (sliced ∷ [])) start end
 
 -- code over two lines of a block quote
 abbrev two_lines : List ℕ
@@ -167,7 +167,7 @@ row_display = refl
 
 -- an autolink, and the text below it, which is made; the text that reaches past it is cut
 abbrev link_to : ℕ → List ℕ → ℕ → ℕ → Label ℕ
-link_to n uri start end = over n (enclosed (link (address uri))) start end
+link_to n uri start end = label_over n (enclosed (link (address uri))) start end
 
 abbrev linked : List ℕ
 linked = codes "<http://a.b> c"
@@ -184,7 +184,7 @@ tag = codes "a <b> c"
 
 row_tag : read_chain in_paragraph tag (plain_text 0 2 ∷ less 2 ∷ plain_text 3 7 ∷ [])
     ≡ node (text_at tag 0 0 2) nil
-    (node (over 1 (leaf (inline_html (codes "<b>")) (sliced ∷ [])) 2 5) nil (node (text_at tag 2 5 7) nil nil))
+    (node (label_over 1 (leaf (inline_html (codes "<b>")) (sliced ∷ [])) 2 5) nil (node (text_at tag 2 5 7) nil nil))
 unfolding read_tree markup_at all both either nonempty often often_past one optional
 row_tag = refl
 

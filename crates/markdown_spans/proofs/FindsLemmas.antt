@@ -9,7 +9,7 @@ use Rattle.markdown_document.specs.Labels.{Begins, counts_shape, delimiters_in, 
 use Rattle.markdown_document.specs.Setting.{Setting}
 use Rattle.markdown_document.specs.Totals.{weight_if}
 use Rattle.markdown_document.specs.Waiting.{is_quiet}
-use Rattle.markdown_spans.specs.AfterLess.{Markup, autolink, html}
+use Rattle.markdown_spans.specs.AfterLess.{Markup, autolink, html_markup}
 use Rattle.markdown_document.specs.ChainRest.{begun_at, cut_shape, end_of, open_body, past, past_byte}
 use Rattle.markdown_spans.specs.Finds.{Find, SpanText, code_span, code_trees, find, is_escaped, markup, markup_trees, math_span, nothing}
 use Rattle.markdown_spans.specs.Finds.{read_tree, read_unless, trees_for}
@@ -53,8 +53,8 @@ module _ {A : Type 0} where
 
   closed_markup : (s : Setting) (new : A) (a : Label A) (m : Markup) → AllClosed (markup_trees s new a m)
   closed_markup s new a (autolink end uri) = (refl, (refl, tt, tt), tt)
-  closed_markup s new a (html end None) = (refl, tt, tt)
-  closed_markup s new a (html end (Some bytes)) = (refl, tt, tt)
+  closed_markup s new a (html_markup end None) = (refl, tt, tt)
+  closed_markup s new a (html_markup end (Some bytes)) = (refl, tt, tt)
 
   pub closed_trees : (s : Setting) (new : A) (a : Label A) (found : Find A) → AllClosed (trees_for s new a found)
   closed_trees s new a (code_span t closer) = closed_code s (is_escaped (open_body a.part.shape)) a t closer
@@ -68,8 +68,8 @@ module _ {A : Type 0} where
 
   weight_markup : (s : Setting) (new : A) (a : Label A) (m : Markup) → weight (markup_trees s new a m) ≤ 4
   weight_markup s new a (autolink end uri) = omega arith
-  weight_markup s new a (html end None) = omega arith
-  weight_markup s new a (html end (Some bytes)) = omega arith
+  weight_markup s new a (html_markup end None) = omega arith
+  weight_markup s new a (html_markup end (Some bytes)) = omega arith
 
   weight_trees : (s : Setting) (new : A) (a : Label A) (found : Find A) → weight (trees_for s new a found) ≤ 4
   weight_trees s new a (code_span t closer) = weight_code s (is_escaped (open_body a.part.shape)) a t closer
@@ -117,8 +117,8 @@ module _ {A : Type 0} where
 
   begins_markup : (s : Setting) (new : A) (a : Label A) (m : Markup) → Begins (markup_trees s new a m)
   begins_markup s new a (autolink end uri) = tt
-  begins_markup s new a (html end None) = tt
-  begins_markup s new a (html end (Some bytes)) = tt
+  begins_markup s new a (html_markup end None) = tt
+  begins_markup s new a (html_markup end (Some bytes)) = tt
 
   pub begins_trees : (s : Setting) (new : A) (a : Label A) (found : Find A) → Begins (trees_for s new a found)
   begins_trees s new a (code_span t closer) = begins_code s (is_escaped (open_body a.part.shape)) a t closer
@@ -132,8 +132,8 @@ module _ {A : Type 0} where
 
   delimiters_markup : (s : Setting) (new : A) (a : Label A) (m : Markup) → delimiters_in (markup_trees s new a m) ≡ 0
   delimiters_markup s new a (autolink end uri) = refl
-  delimiters_markup s new a (html end None) = refl
-  delimiters_markup s new a (html end (Some bytes)) = refl
+  delimiters_markup s new a (html_markup end None) = refl
+  delimiters_markup s new a (html_markup end (Some bytes)) = refl
 
   delimiters_trees : (s : Setting) (new : A) (a : Label A) (found : Find A) → delimiters_in (trees_for s new a found) ≡ 0
   delimiters_trees s new a (code_span t closer) = delimiters_code s (is_escaped (open_body a.part.shape)) a t closer
@@ -176,8 +176,8 @@ module _ {A : Type 0} where
 
   quiet_markup : (s : Setting) (new : A) (a : Label A) (m : Markup) → Each IsQuietLabel (markup_trees s new a m)
   quiet_markup s new a (autolink end uri) = ((refl, refl), ((refl, refl), tt, tt), tt)
-  quiet_markup s new a (html end None) = ((refl, refl), tt, tt)
-  quiet_markup s new a (html end (Some bytes)) = ((refl, refl), tt, tt)
+  quiet_markup s new a (html_markup end None) = ((refl, refl), tt, tt)
+  quiet_markup s new a (html_markup end (Some bytes)) = ((refl, refl), tt, tt)
 
   quiet_trees : (s : Setting) (new : A) (a : Label A) (found : Find A) → is_some a.part.block ≡ false
       → Each IsQuietLabel (trees_for s new a found)

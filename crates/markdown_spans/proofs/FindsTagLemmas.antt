@@ -11,9 +11,9 @@ use Rattle.markdown_document.specs.Document.{Tags, Label}
 use Rattle.markdown_document.specs.Labels.{retag, retagged}
 use Rattle.markdown_document.specs.Setting.{Setting}
 use Rattle.markdown_document.specs.Waiting.{is_quiet}
-use Rattle.markdown_spans.specs.AfterLess.{Markup, autolink, html, markup_at}
+use Rattle.markdown_spans.specs.AfterLess.{Markup, autolink, html_markup, markup_at}
 use Rattle.markdown_document.specs.ChainRest.{as_item, begun_at, start_of, end_of, next_starts_at, open_body, past, past_byte}
-use Rattle.markdown_spans.specs.Closers.{Dollar, MathClose, can_close, can_open, closed_by, closing_count, code_close, code_closer}
+use Rattle.markdown_spans.specs.Closers.{Dollar, MathClose, can_close, can_open, math_closed_by, closing_count, code_close, code_closer}
 use Rattle.markdown_spans.specs.Closers.{context_of, display_close, dollar_next, first_dollar, inline_close, is_code_of, is_dollar}
 use Rattle.markdown_spans.specs.Closers.{is_dollar_of, math_close, math_close_from}
 use Rattle.markdown_spans.specs.Finds.{Find, Passed, SpanText, code_found, code_span, code_trees, end_of_find, find, find_by, is_escaped}
@@ -104,8 +104,8 @@ module _ {A B : Type 0} (f : A → B) where
       by true = refl
       by false = refl
 
-  closed_by_retag : (closer : Label A) (last : Option (Label A)) → closed_by (retag f closer) (option_map (retag f) last)
-      ≡ option_map retag_close (closed_by closer last)
+  closed_by_retag : (closer : Label A) (last : Option (Label A)) → math_closed_by (retag f closer) (option_map (retag f) last)
+      ≡ option_map retag_close (math_closed_by closer last)
   closed_by_retag closer None = refl
   closed_by_retag closer (Some last) = refl
 
@@ -197,8 +197,8 @@ module _ {A B : Type 0} (f : A → B) where
   markup_trees_retag : (s : Setting) (new : A) (a : Label A) (m : Markup) → markup_trees s (f new) (retag f a) m
       ≡ retagged f (markup_trees s new a m)
   markup_trees_retag s new a (autolink end uri) = refl
-  markup_trees_retag s new a (html end None) = refl
-  markup_trees_retag s new a (html end (Some bytes)) = refl
+  markup_trees_retag s new a (html_markup end None) = refl
+  markup_trees_retag s new a (html_markup end (Some bytes)) = refl
 
   trees_retag : (s : Setting) (new : A) (a : Label A) (found : Find A) → trees_for s (f new) (retag f a) (retag_find found)
       ≡ retagged f (trees_for s new a found)
@@ -217,7 +217,7 @@ module _ {A B : Type 0} (f : A → B) where
   made_retag (code_span t closer) = refl
   made_retag (math_span display t end) = refl
   made_retag (markup (autolink end uri)) = refl
-  made_retag (markup (html end bytes)) = refl
+  made_retag (markup (html_markup end bytes)) = refl
   made_retag nothing = refl
 
   passed_retag : (s : Setting) (tags : Tags A) (tags' : Tags B) (n : ℕ) → tags'.fresh n ≡ f (tags.fresh n) → (a : Label A) (found : Find A)

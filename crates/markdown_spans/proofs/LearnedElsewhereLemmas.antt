@@ -7,7 +7,7 @@ use Rattle.markdown_base.specs.Arena.{sibling_of}
 use Rattle.markdown_base.specs.BlockTree.{Numbered, item_at}
 use Rattle.markdown_spans.specs.ChainInArena.{LeadsThrough}
 use Rattle.markdown_spans.specs.SpanClosers.{AllBefore, HoldsFrom, HoldsOf, IsBefore, Learned}
-use Rattle.markdown_spans.specs.SpanMarks.{closers_of, marks_in}
+use Rattle.markdown_spans.specs.SpanMarks.{known_closers, marks_in}
 use Rattle.markdown_spans.proofs.LearnedLemmas.{holds_next_of}
 use Rattle.markdown_spans.specs.declared.span_marks.KnownCloser.{KnownCloser}
 use Rattle.markdown_spans.specs.declared.span_text.SpanKind.{SpanKind}
@@ -57,5 +57,5 @@ holds_alike kind chain chain' None f e k = tt
 holds_alike kind chain chain' (Some known) f e k = record {
   passed = k.passed;
   before = before_alike chain chain' k.passed f k.before;
-  closers = k.closers ∙ ap (λ marks. k.passed ++ closers_of marks) e;
+  closers = k.closers ∙ ap (λ marks. k.passed ++ known_closers marks) e;
 }

@@ -12,7 +12,7 @@ use Rattle.markdown_base.specs.Arena.{sibling_of}
 use Rattle.markdown_base.specs.BlockTree.{Numbered, numbered}
 use Rattle.markdown_spans.specs.ChainInArena.{LeadsThrough, HasChain}
 use Rattle.markdown_spans.specs.SpanClosers.{AllBefore, HoldsFrom, HoldsOf, IsBefore, KnowsClosers, Learned}
-use Rattle.markdown_spans.specs.SpanMarks.{closers_of, first_with, known_after, known_closer, mark_at, marks_in}
+use Rattle.markdown_spans.specs.SpanMarks.{known_closers, first_with, known_after, known_closer, mark_at, marks_in}
 use Rattle.markdown_spans.proofs.ChainWalkLemmas.{chain_at}
 use Rattle.markdown_spans.specs.declared.span_marks.KnownCloser.{KnownCloser}
 use Rattle.markdown_spans.specs.declared.span_marks.SpanMark.{SpanMark}
@@ -80,20 +80,20 @@ known_after-past a after (k ∷ passed) later h =
 pub record KnownHere (kind : SpanKind) (number : ℕ) (m : SpanMark) (after : List Numbered)
     (known : List KnownCloser) : Type 0 where
   pub closer : known_closer number known ≡ first_with m.wanted (marks_in kind after)
-  pub later : known_after number known ≡ closers_of (marks_in kind after)
+  pub later : known_after number known ≡ known_closers (marks_in kind after)
 
 pub known_here : (kind : SpanKind) (a : Numbered) (after : List Numbered) (m : SpanMark) (known : List KnownCloser)
     → KnowsClosers kind known (a ∷ after) → mark_at kind a.number a.item.body ≡ Some m →
     KnownHere kind a.number m after known
 known_here kind a after m known k is =
-    let parts : known ≡ k.passed ++ closers_of (m ∷ marks_in kind after) =
-    k.closers ∙ ap (λ (o : Option SpanMark). k.passed ++ closers_of (option_to_list o ++ marks_in kind after)) is in
+    let parts : known ≡ k.passed ++ known_closers (m ∷ marks_in kind after) =
+    k.closers ∙ ap (λ (o : Option SpanMark). k.passed ++ known_closers (option_to_list o ++ marks_in kind after)) is in
     let it : (m.number == a.number) ≡ true = eq-eqb m.number a.number (mark_number kind a.number a.item.body m is) in
     record {
       closer = ap (known_closer a.number) parts
-          ∙ (known_closer-past a after k.passed (closers_of (m ∷ marks_in kind after)) k.before ∙ rw it refl);
+          ∙ (known_closer-past a after k.passed (known_closers (m ∷ marks_in kind after)) k.before ∙ rw it refl);
       later = ap (known_after a.number) parts
-          ∙ (known_after-past a after k.passed (closers_of (m ∷ marks_in kind after)) k.before ∙ rw it refl);
+          ∙ (known_after-past a after k.passed (known_closers (m ∷ marks_in kind after)) k.before ∙ rw it refl);
     }
 
 -- what was known of a chain from an item on is known of the items after it
@@ -124,7 +124,7 @@ knows_next kind nodes a link after known h k = cases (mark_at kind a.number a.it
     cases None e = record {
       passed = k.passed;
       before = all_before_next nodes a link after k.passed h k.before;
-      closers = k.closers ∙ ap (λ (o : Option SpanMark). k.passed ++ closers_of
+      closers = k.closers ∙ ap (λ (o : Option SpanMark). k.passed ++ known_closers
           (option_to_list o ++ marks_in kind after)) e;
     }
     cases (Some m) e =
@@ -134,9 +134,9 @@ knows_next kind nodes a link after known h k = cases (mark_at kind a.number a.it
           passed = k.passed ++ mine ∷ [];
           before = all_before-push after k.passed mine (all_before_next nodes a link after k.passed h k.before)
               (before_next nodes a.number m.number link after le h);
-          closers = k.closers ∙ (ap (λ (o : Option SpanMark). k.passed ++ closers_of
+          closers = k.closers ∙ (ap (λ (o : Option SpanMark). k.passed ++ known_closers
               (option_to_list o ++ marks_in kind after)) e
-              ∙ sym (append_assoc k.passed (mine ∷ []) (closers_of (marks_in kind after))));
+              ∙ sym (append_assoc k.passed (mine ∷ []) (known_closers (marks_in kind after))));
         }
 
 pub holds_next_of : (kind : SpanKind) (nodes : List (Node Item)) (a : Numbered) (link : Option ℕ) (after : List Numbered)
@@ -154,5 +154,5 @@ holds_next kind nodes ix learned h holds low after leads =
 
 -- nothing was learned of it before, and all closers of it now
 pub knows_all : (kind : SpanKind) (chain : List Numbered) (known : List KnownCloser) → known
-    ≡ closers_of (marks_in kind chain) → KnowsClosers kind known chain
+    ≡ known_closers (marks_in kind chain) → KnowsClosers kind known chain
 knows_all kind chain known e = record { passed = []; before = tt; closers = e }

@@ -10,7 +10,7 @@ use Rattle.markdown_base.specs.declared.node.Node.{Node}
 use Rattle.markdown_base.specs.Arena.{sibling_of}
 use Rattle.markdown_base.specs.BlockTree.{Numbered, item_at}
 use Rattle.markdown_spans.specs.ChainInArena.{LeadsThrough, HasChain}
-use Rattle.markdown_spans.specs.Closers.{Dollar, MathClose, can_close, can_open, closed_by, context_of, display_close, dollar_next}
+use Rattle.markdown_spans.specs.Closers.{Dollar, MathClose, can_close, can_open, math_closed_by, context_of, display_close, dollar_next}
 use Rattle.markdown_spans.specs.Closers.{first_dollar, inline_close, is_dollar, is_dollar_of, looked_for_dollar, math_close}
 use Rattle.markdown_spans.specs.Closers.{searched_for_math}
 use Rattle.markdown_spans.specs.MathOpening.{closed_by_first, display_closed, dollar_at, inline_closed, marks_at, opener_at, searched_from}
@@ -172,7 +172,7 @@ display_at nodes d s =
     ∙ ap (option_map (λ (last : ℕ). record { display = true; closer = d.dollar.number; last = last }))
     (sym (dollar_is_at nodes (suc d.dollar.number) (sibling_of nodes d.dollar.number) d.after s.leads))
   where
-    found : (last : Option Numbered) → option_map found_math (closed_by d.dollar last)
+    found : (last : Option Numbered) → option_map found_math (math_closed_by d.dollar last)
         ≡ option_map (λ (last : ℕ). record { display = true; closer = d.dollar.number; last = last })
         (option_map (λ (a : Numbered). a.number) last)
     found None = refl

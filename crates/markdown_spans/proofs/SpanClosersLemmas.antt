@@ -2,7 +2,7 @@
 use Rattle.std.proofs.Common.{◌≡◌, ℕ, List, [], ◌∷◌, ◌++◌, Option, Some, None, reverse, sym, ◌∙◌, ap, append_assoc, append-nil}
 use Rattle.std.specs.Prelude.{if◌then◌else◌, ◌==◌}
 use Rattle.std.proofs.lemmas.List.{reverse-append}
-use Rattle.markdown_spans.specs.SpanMarks.{closers_of, first_with, known_after, known_closer}
+use Rattle.markdown_spans.specs.SpanMarks.{known_closers, first_with, known_after, known_closer}
 use Rattle.markdown_spans.specs.declared.span_marks.KnownCloser.{KnownCloser}
 use Rattle.markdown_spans.specs.declared.span_marks.SpanMark.{SpanMark}
 
@@ -10,7 +10,7 @@ use Rattle.markdown_spans.specs.declared.span_marks.SpanMark.{SpanMark}
 pub record Fills (all noted : List SpanMark) (ahead : List KnownCloser) (nearest : ℕ → Option ℕ) : Type 0 where
   pub later : List SpanMark
   pub parts : all ≡ noted ++ later
-  pub closers : reverse ahead ≡ closers_of later
+  pub closers : reverse ahead ≡ known_closers later
   pub first : (key : ℕ) → nearest key ≡ first_with key later
 
 pub fills_none : (all : List SpanMark) (ahead : List KnownCloser) (nearest : ℕ → Option ℕ) → ahead ≡ [] →
@@ -31,7 +31,7 @@ fills_one all noted m ahead ahead' nearest nearest' closer f is push put = recor
   closers = ap reverse push ∙ (reverse-append ahead (record { number = m.number; closer = closer } ∷ [])
       ∙ (ap (λ (later : List KnownCloser). record { number = m.number; closer = closer } ∷ later) f.closers
       ∙ ap (λ (o : Option ℕ). let k : KnownCloser = record { number = m.number; closer = o } in
-      k ∷ closers_of f.later) (is ∙ f.first m.wanted)));
+      k ∷ known_closers f.later) (is ∙ f.first m.wanted)));
   first = λ key. put key ∙ ap (λ (o : Option ℕ). if m.key == key then Some m.number else o) (f.first key);
 }
 

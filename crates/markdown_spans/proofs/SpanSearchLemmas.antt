@@ -13,7 +13,7 @@ use Rattle.markdown_spans.specs.ChainWalk.{FirstIsSought, LooksAlong, NoneSought
 use Rattle.markdown_spans.specs.ChainSearch.{SearchesCode}
 use Rattle.markdown_spans.specs.Closers.{Dollar, code_closer, first_dollar, is_code_of, is_dollar_of, looked_for_code, looked_for_dollar}
 use Rattle.markdown_spans.specs.SpanClosers.{RisesBy, item_in}
-use Rattle.markdown_spans.specs.SpanMarks.{closers_of, code_mark, first_with, is_wanted, marks_in, math_mark}
+use Rattle.markdown_spans.specs.SpanMarks.{known_closers, code_mark, first_with, is_wanted, marks_in, math_mark}
 use Rattle.markdown_spans.proofs.ChainWalkLemmas.{rises_on}
 use Rattle.markdown_spans.specs.declared.span_marks.KnownCloser.{KnownCloser}
 use Rattle.markdown_spans.specs.declared.span_marks.SpanMark.{SpanMark}
@@ -221,13 +221,13 @@ first_is_dollar context (a ∷ after) =
 pub search_code_fails : (n : ℕ) (nodes : List (Node Item)) (chain : List Numbered) (old new : List SpanMark)
     (found : Option ℕ) (ahead : List KnownCloser) (visits visits' : ℕ)
     → WalksTo Code (Some n) nodes chain found old new visits visits' → is_some found ≡ false → old ≡ [] → ahead
-    ≡ closers_of new
+    ≡ known_closers new
     → SearchesCode n chain found (Some ahead) visits visits'
 search_code_fails n nodes chain old new None ahead visits visits' w none e is =
     let found = walk_for_code n nodes chain None old new visits visits' w in
     record {
       finds = found.finds;
-      learns = ap Some (is ∙ ap closers_of
+      learns = ap Some (is ∙ ap known_closers
           (walk_notes Code (Some n) nodes chain old new visits visits' w ∙ ap (λ old. old ++ marks_in Code chain) e));
       counts = found.counts;
     }

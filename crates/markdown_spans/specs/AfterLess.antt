@@ -10,7 +10,7 @@ use Rattle.markdown_raw_html.specs.TagSource.{tag_at}
 -- it contains line prefixes, its bytes without them
 pub data Markup : Type 0 where
   autolink : ℕ → List ℕ → Markup
-  html : ℕ → Option (List ℕ) → Markup
+  html_markup : ℕ → Option (List ℕ) → Markup
 
 -- the byte offset after a comment, a CDATA section or a declaration, from the offset after its `<!` on
 abbrev pub declared_end : List ℕ → ℕ → Option ℕ
@@ -32,9 +32,9 @@ html_at skipped text start at =
 unfoldable pub markup_at : (skipped : List ℕ → Option ℕ) → List ℕ → (start at : ℕ) → Option Markup
 markup_at skipped text start at =
     option_or (option_map (λ found. autolink found.0 found.1) (uri_autolink text at))
-    (option_map (λ found. html found.0 found.1) (html_at skipped text start at))
+    (option_map (λ found. html_markup found.0 found.1) (html_at skipped text start at))
 
 -- what was found contains no line prefix
 abbrev pub is_unbroken : Option Markup → Bool
-is_unbroken (Some (html end (Some bytes))) = false
+is_unbroken (Some (html_markup end (Some bytes))) = false
 is_unbroken found = true

@@ -7,7 +7,7 @@ use Rattle.markdown_base.specs.declared.node.Node.{Node}
 use Rattle.markdown_base.specs.BlockTree.{Numbered, item_at}
 use Rattle.markdown_spans.specs.Closers.{code_closer, looked_for_code, looked_for_math, math_close}
 use Rattle.markdown_spans.specs.SpanClosers.{Learned, RisesBy, found_math, item_in}
-use Rattle.markdown_spans.specs.SpanMarks.{closers_of, known_after, known_closer, mark_at, marks_in}
+use Rattle.markdown_spans.specs.SpanMarks.{known_closers, known_after, known_closer, mark_at, marks_in}
 use Rattle.markdown_spans.specs.declared.span_closers.FoundMath.{FoundMath}
 use Rattle.markdown_spans.specs.declared.math_opener.MathOpener.{MathOpener}
 use Rattle.markdown_spans.specs.declared.span_marks.KnownCloser.{KnownCloser}
@@ -18,7 +18,7 @@ use Rattle.markdown_spans.specs.declared.span_text.SpanKind.TheVariants.{Code, M
 -- a search that fails learns the closer of each mark of a chain
 abbrev pub learned_by : {A : Type 0} → Option A → SpanKind → List Numbered → Learned
 learned_by (Some found) kind chain = None
-learned_by None kind chain = Some (closers_of (marks_in kind chain))
+learned_by None kind chain = Some (known_closers (marks_in kind chain))
 
 -- a search for a mark of `wanted` backticks
 pub record SearchesCode (wanted : ℕ) (chain : List Numbered) (found : Option ℕ) (learned : Learned)

@@ -101,14 +101,14 @@ inline_close item_of opener_end (Some d) =
     then Some (record { display = false; closer = d.dollar; last = d.dollar }) else None
 
 -- display math closes at that `$` and the next item, if that is a `$` too
-abbrev pub closed_by : {A : Type 0} → A → Option A → Option (MathClose A)
-closed_by closer None = None
-closed_by closer (Some last) = Some (record { display = true; closer = closer; last = last })
+abbrev pub math_closed_by : {A : Type 0} → A → Option A → Option (MathClose A)
+math_closed_by closer None = None
+math_closed_by closer (Some last) = Some (record { display = true; closer = closer; last = last })
 
 -- display math closes at a `$` that another `$` follows
 abbrev pub display_close : {A : Type 0} → (A → Item) → Option (Dollar A) → Option (MathClose A)
 display_close item_of None = None
-display_close item_of (Some d) = closed_by d.dollar (dollar_next item_of d.after)
+display_close item_of (Some d) = math_closed_by d.dollar (dollar_next item_of d.after)
 
 -- if the next item is a `$`, the opener opens display math, and the search begins after both; only the first `$` of the
 -- opener's brace context can close

@@ -4,7 +4,7 @@ use Rattle.std.specs.Prelude.{ℕ, Bool, true, false, ◌||◌, ◌==◌, List, 
 use Rattle.markdown_base.specs.Item.{is_table_cell}
 use Rattle.markdown_base.specs.declared.item.ItemBody.{ItemBody}
 use Rattle.markdown_base.specs.declared.item.ItemBody.TheVariants as body
-use Rattle.markdown_scan.specs.LineStart.{LineLeft, Space, space, is_line_over, begins_marker, past_marker}
+use Rattle.markdown_scan.specs.LineStart.{LineLeft, Space, leading_space, is_line_over, begins_marker, past_marker}
 
 -- the rest of a line after a block quote marker (CommonMark 5.1), if one comes next
 abbrev pub past_marker_next : LineLeft → Option LineLeft
@@ -16,12 +16,12 @@ past_indented n found = if (found.columns == n) || is_line_over found.after.byte
 
 -- the rest of a line after n columns of space, or after fewer if the line ends there (CommonMark 5.2)
 abbrev pub past_indent : ℕ → LineLeft → Option LineLeft
-past_indent n line = past_indented n (space n line)
+past_indent n line = past_indented n (leading_space n line)
 
 -- the rest of a line after a block's part, if it is there: for a block quote at most 3 columns of space and a marker,
 -- for an indented block its columns of space, and for any other block nothing
 abbrev pub past_block : (gfm_footnotes : Bool) → ItemBody → LineLeft → Option LineLeft
-past_block gfm (body.BlockQuote kind) line = past_marker_next (space 3 line).after
+past_block gfm (body.BlockQuote kind) line = past_marker_next (leading_space 3 line).after
 past_block gfm (body.ListItem indent) line = past_indent indent line
 past_block gfm (body.DefinitionListDefinition indent) line = past_indent indent line
 past_block true (body.FootnoteDefinition name) line = past_indent 4 line

@@ -14,7 +14,7 @@ use Rattle.markdown_document.specs.Document.{Origin, sliced, made, Shape, leaf, 
 use Rattle.markdown_document.specs.Document.{as_text}
 use Rattle.markdown_document.specs.Setting.{Setting}
 use Rattle.markdown_document.specs.Waiting.{is_quiet}
-use Rattle.markdown_spans.specs.AfterLess.{Markup, autolink, html, markup_at}
+use Rattle.markdown_spans.specs.AfterLess.{Markup, autolink, html_markup, markup_at}
 use Rattle.markdown_document.specs.ChainRest.{start_of, end_of, open_body, as_item, next_starts_at}
 use Rattle.markdown_spans.specs.Closers.{MathClose, code_close, dollar_next, math_close_from}
 use Rattle.markdown_spans.specs.CodeText.{span_origin, span_text}
@@ -96,13 +96,13 @@ abbrev pub find : {A : Type 0} → Setting → Above → Label A → Forest (Lab
 find s above a rest = find_by s above (open_body a.part.shape) a rest
 
 -- a label over a range
-abbrev pub over : {A : Type 0} → A → Shape → (start end : ℕ) → Label A
-over tag shape start end =
+abbrev pub label_over : {A : Type 0} → A → Shape → (start end : ℕ) → Label A
+label_over tag shape start end =
     record { tag = tag; part = record { shape = shape; range = record { start = start; end = end }; block = None } }
 
 -- a Text over a range
-abbrev pub text_from : {A : Type 0} → Setting → A → (start end : ℕ) → Label A
-text_from s tag start end = over tag (text_over (slice_range s.text start end)) start end
+abbrev pub text_label : {A : Type 0} → Setting → A → (start end : ℕ) → Label A
+text_label s tag start end = label_over tag (text_over (slice_range s.text start end)) start end
 
 -- the first backtick of an opener is escaped
 abbrev pub is_escaped : ItemBody → Bool
@@ -113,10 +113,10 @@ is_escaped other = false
 -- closer's tag
 abbrev pub code_trees : {A : Type 0} → Setting → (escaped : Bool) → Label A → SpanText → Label A → Forest (Label A)
 code_trees s false a t closer =
-    node (over a.tag (leaf (code t.bytes) (t.origin ∷ [])) (start_of a) (end_of closer)) nil nil
+    node (label_over a.tag (leaf (code t.bytes) (t.origin ∷ [])) (start_of a) (end_of closer)) nil nil
 code_trees s true a t closer =
-    node (text_from s a.tag (start_of a) (start_of a + 1)) nil
-    (node (over closer.tag (leaf (code t.bytes) (t.origin ∷ [])) (start_of a + 1) (end_of closer)) nil nil)
+    node (text_label s a.tag (start_of a) (start_of a + 1)) nil
+    (node (label_over closer.tag (leaf (code t.bytes) (t.origin ∷ [])) (start_of a + 1) (end_of closer)) nil nil)
 
 -- an autolink is a link to what is between `<` and `>`, which is also the text below it
 abbrev pub address : List ℕ → LinkView
@@ -125,25 +125,25 @@ address uri = record { kind = Autolink; destination = uri; title = []; label = [
 -- the trees of what begins at a `<`
 abbrev pub markup_trees : {A : Type 0} → Setting → (new : A) → Label A → Markup → Forest (Label A)
 markup_trees s new a (autolink end uri) =
-    node (over a.tag (enclosed (link (address uri))) (start_of a) end)
-    (node (text_from s new (end_of a) (end - 1)) nil nil) nil
-markup_trees s new a (html end None) =
-    node (over a.tag (leaf (inline_html (slice_range s.text (start_of a) end)) (sliced ∷ [])) (start_of a) end) nil nil
-markup_trees s new a (html end (Some bytes)) =
-    node (over a.tag (leaf (inline_html bytes) (made ∷ [])) (start_of a) end) nil nil
+    node (label_over a.tag (enclosed (link (address uri))) (start_of a) end)
+    (node (text_label s new (end_of a) (end - 1)) nil nil) nil
+markup_trees s new a (html_markup end None) =
+    node (label_over a.tag (leaf (inline_html (slice_range s.text (start_of a) end)) (sliced ∷ [])) (start_of a) end) nil nil
+markup_trees s new a (html_markup end (Some bytes)) =
+    node (label_over a.tag (leaf (inline_html bytes) (made ∷ [])) (start_of a) end) nil nil
 
 -- the trees that replace what is found at an item: a Text if nothing is found
 abbrev pub trees_for : {A : Type 0} → Setting → (new : A) → Label A → Find A → Forest (Label A)
 trees_for s new a (code_span t closer) = code_trees s (is_escaped (open_body a.part.shape)) a t closer
 trees_for s new a (math_span display t end) =
-    node (over a.tag (leaf (math display t.bytes) (t.origin ∷ [])) (start_of a) end) nil nil
+    node (label_over a.tag (leaf (math display t.bytes) (t.origin ∷ [])) (start_of a) end) nil nil
 trees_for s new a (markup m) = markup_trees s new a m
 trees_for s new a nothing = node (as_text s.text a) nil nil
 
 -- the byte offset where the markup ends
 abbrev pub end_of_markup : Markup → ℕ
 end_of_markup (autolink end uri) = end
-end_of_markup (html end bytes) = end
+end_of_markup (html_markup end bytes) = end
 
 -- the byte offset where what was found ends, if anything was
 abbrev pub end_of_find : {A : Type 0} → Find A → Option ℕ
@@ -165,8 +165,8 @@ pub record Passed (A : Type 0) : Type 0 where
   pub made : ℕ
 
 -- what is read from a tree, by its label, the trees below it and the chain after it
-abbrev pub Reader : Type 0 → Type 0
-Reader A = Label A → Forest (Label A) → Forest (Label A) → Passed A
+abbrev pub TreeReader : Type 0 → Type 0
+TreeReader A = Label A → Forest (Label A) → Forest (Label A) → Passed A
 
 -- the trees that replace an item, where the chain continues, and the number of additional trees made so far
 abbrev pub passed : {A : Type 0} → Setting → Tags A → (made : ℕ) → Label A → Find A → Passed A
@@ -177,10 +177,10 @@ passed s tags n a found = record {
 }
 
 -- a tree that is not open, or that waits for pairing, is kept
-abbrev pub read_unless : {A : Type 0} → (is_quiet : Bool) → Setting → Tags A → Above → (made : ℕ) → Reader A
+abbrev pub read_unless : {A : Type 0} → (is_quiet : Bool) → Setting → Tags A → Above → (made : ℕ) → TreeReader A
 read_unless true s tags above n a below rest = record { trees = node a below nil; goes_on = None; made = n }
 read_unless false s tags above n a below rest = passed s tags n a (find s above a rest)
 
 -- a tree other than a bracket is read, after n additional trees were made
-unfoldable pub read_tree : {A : Type 0} → Setting → Tags A → Above → (made : ℕ) → Reader A
+unfoldable pub read_tree : {A : Type 0} → Setting → Tags A → Above → (made : ℕ) → TreeReader A
 read_tree s tags above n a below rest = read_unless (is_quiet a.part.shape) s tags above n a below rest

@@ -10,7 +10,7 @@ use Rattle.markdown_base.specs.BlockTree.{Numbered, item_at}
 use Rattle.markdown_spans.specs.ChainInArena.{LeadsThrough}
 use Rattle.markdown_spans.specs.Closers.{MathClose, code_close, looked_for_code_close, looked_for_math_from}
 use Rattle.markdown_spans.specs.Closers.{math_close_from}
-use Rattle.markdown_spans.specs.SpanMarks.{closers_of, marks_in}
+use Rattle.markdown_spans.specs.SpanMarks.{known_closers, marks_in}
 use Rattle.markdown_spans.specs.declared.span_closers.FoundMath.{FoundMath}
 use Rattle.markdown_spans.specs.declared.span_marks.KnownCloser.{KnownCloser}
 use Rattle.markdown_spans.specs.declared.span_text.SpanKind.{SpanKind}
@@ -99,7 +99,7 @@ AllBefore chain (k ∷ known) = IsBefore chain k.number × AllBefore chain known
 pub record KnowsClosers (kind : SpanKind) (known : List KnownCloser) (chain : List Numbered) : Type 0 where
   pub passed : List KnownCloser
   pub before : AllBefore chain passed
-  pub closers : known ≡ passed ++ closers_of (marks_in kind chain)
+  pub closers : known ≡ passed ++ known_closers (marks_in kind chain)
 
 -- what was learned holds for a chain
 abbrev pub HoldsOf : SpanKind → Learned → List Numbered → Type 0

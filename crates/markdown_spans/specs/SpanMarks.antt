@@ -45,9 +45,9 @@ first_with key [] = None
 first_with key (m ∷ later) = if m.key == key then Some m.number else first_with key later
 
 -- each mark with the first later mark that has the wanted key
-abbrev pub closers_of : List SpanMark → List KnownCloser
-closers_of [] = []
-closers_of (m ∷ later) = record { number = m.number; closer = first_with m.wanted later } ∷ closers_of later
+abbrev pub known_closers : List SpanMark → List KnownCloser
+known_closers [] = []
+known_closers (m ∷ later) = record { number = m.number; closer = first_with m.wanted later } ∷ known_closers later
 
 -- the known closer of the mark with this number
 abbrev pub known_closer : (number : ℕ) → List KnownCloser → Option ℕ

@@ -4,7 +4,7 @@ ghost use Rattle.std.specs.Prelude.{true, string_bytes, option_and_then};
 ghost use Rattle.std.specs.Option.{option_map};
 ghost use Rattle.std.specs.Str.{IsCharBoundary, IsUtf8};
 ghost use Rattle.markdown_spans.specs.AfterLess.{declared_end, html_at, is_unbroken, markup_at, unbroken};
-ghost use Rattle.markdown_spans.specs.MarkupView.{end_of, markup_of};
+ghost use Rattle.markdown_spans.specs.MarkupView.{markup_end, markup_of};
 ghost use Rattle.markdown_spans.specs.PrefixView.{length_by};
 ghost use Rattle.markdown_raw_html.specs.TagSource.{tag_at};
 
@@ -144,7 +144,7 @@ pub fn scan_after_less<'t>(
         ≡ markup_at (λ rest. Some (length_by prefix.now rest)) text.entry.now start at) }
     ensures plain { is_unbroken (markup_at (λ rest. Some (length_by prefix.now rest)) text.entry.now start at) ≡ true
         → IsOk result }
-    ensures boundary { IfOk result (λ found. IfSome found (λ markup. IsCharBoundary text.entry.now (end_of markup))) }
+    ensures boundary { IfOk result (λ found. IfSome found (λ markup. IsCharBoundary text.entry.now (markup_end markup))) }
     ensures same { scanner.new.text ≡ scanner.old.text }
 {
     if let Some((end, uri)) = scan_uri_autolink(text, at) {

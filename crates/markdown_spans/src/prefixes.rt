@@ -5,7 +5,7 @@ ghost use Rattle.std.specs.Char.{is_ascii};
 ghost use Rattle.markdown_spans.specs.BlocksAbove.{HasBlocks};
 ghost use Rattle.markdown_spans.specs.ContainerPrefix.{past_indent, past_marker_next, past_block};
 ghost use Rattle.markdown_scan.specs.LineView.{line_left};
-ghost use Rattle.markdown_scan.specs.LineStart.{space};
+ghost use Rattle.markdown_scan.specs.LineStart.{leading_space};
 
 use markdown_base::item::{Item, ItemBody};
 use markdown_base::tree::Tree;
@@ -24,7 +24,7 @@ pub struct ContainerPrefix<'t> {
 /// Reads at most 3 columns of space and a block quote marker, and returns whether there was a marker.
 fn take_quote(line: &mut LineStart<'_>) -> bool
     ensures { (if result then Some (line_left line.new) else None)
-        ≡ past_marker_next (space 3 (line_left line.old)).after }
+        ≡ past_marker_next (leading_space 3 (line_left line.old)).after }
 {
     line.scan_space_upto(3);
     line.scan_blockquote_marker()

@@ -9,7 +9,7 @@ ghost use Rattle.markdown_spans.specs.ChainSearch.{next_closer};
 ghost use Rattle.markdown_spans.specs.Closers.{looked_for_code, looked_for_math};
 ghost use Rattle.markdown_spans.specs.MathOpening.{marks_at, opener_at};
 ghost use Rattle.markdown_spans.specs.SpanClosers.{item_in};
-ghost use Rattle.markdown_spans.specs.SpanMarks.{closers_of, known_after, known_closer};
+ghost use Rattle.markdown_spans.specs.SpanMarks.{known_closers, known_after, known_closer};
 
 use crate::math_opener::MathOpener;
 use crate::span_marks::{KnownCloser, SpanMark, mark_of, note, walk_to};
@@ -64,7 +64,7 @@ fn fill_ahead(
     nearest: &mut HashMap<usize, usize>,
     ahead: &mut Vec<KnownCloser>,
 ) -> Result<(), AllocError>
-    ensures { OnOk result (reverse ahead.new.items ≡ closers_of noted.old.items) }
+    ensures { OnOk result (reverse ahead.new.items ≡ known_closers noted.old.items) }
 {
     ahead.clear();
     nearest.clear();

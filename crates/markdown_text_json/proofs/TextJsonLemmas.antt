@@ -12,13 +12,13 @@ use Rattle.markdown_base.specs.declared.options.Options.{Options}
 use Rattle.markdown_defs.specs.Callback.{Asks}
 use Rattle.markdown_inline.specs.Balanced.{ranged}
 use Rattle.markdown_inline.specs.Elements.{Element, event, events_of}
-use Rattle.markdown_inline.specs.Elements.{Placed as Read}
+use Rattle.markdown_inline.specs.Elements.{PlacedEvent as Read}
 use Rattle.markdown_inline.specs.NextGives.{NextGives, IsPlacedOf}
 use Rattle.markdown_inline.specs.ParserLeft.{ReadsText, elements, parser_callback, offset_parser, reading_of}
 use Rattle.markdown_inline.specs.declared.walk.OffsetIter.{OffsetIter}
 use Rattle.markdown_inline.specs.declared.walk.Parser.{Parser}
 use Rattle.markdown_inline.proofs.RunLemmas.{events_of-questions}
-use Rattle.markdown_json.specs.JsonLines.{Placed, IsWritten, StopsAtError, items, lines_of}
+use Rattle.markdown_json.specs.JsonLines.{PlacedEvent, IsWritten, StopsAtError, placed_items, lines_of}
 use Rattle.markdown_json.specs.Json.{line_json}
 use Rattle.markdown_text_json.specs.OutlineJson.{outline_lines}
 use Rattle.markdown_outline.specs.Outline.{EntryView, Ranged, entries_of}
@@ -38,7 +38,7 @@ abbrev ranged_line : Ranged → List ℕ
 ranged_line e = line_json e.0 e.1.start e.1.end
 
 -- the lines of events are those of their views
-lines_seen : (given : List Placed) → lines_of given ≡ flat_map ranged_line (map ranged_view given)
+lines_seen : (given : List PlacedEvent) → lines_of given ≡ flat_map ranged_line (map ranged_view given)
 lines_seen given = sym (flat_map-map ranged_line ranged_view given)
 
 lines_placed : (events : List Read) → flat_map ranged_line (ranged events) ≡ flat_map placed_line events
@@ -46,12 +46,12 @@ lines_placed events = flat_map-map ranged_line (λ (e : Read). (e.0, e.1)) event
 
 module _ {F : Type 0} (step : F → Question → Option Answer → F → Type 0) where
   -- calls of `next`
-  abbrev Steps : OffsetIter F → Option (Result Placed Fault) → OffsetIter F → Type 0
+  abbrev Steps : OffsetIter F → Option (Result PlacedEvent Fault) → OffsetIter F → Type 0
   Steps o item t = NextGives step IsPlacedOf (offset_parser o) item (offset_parser t)
 
   -- an error item is one of memory
-  pub memory_alone : (o left : OffsetIter F) (given : List Placed) (fault : Fault)
-      → Yields Steps o (items given ++ Err fault ∷ []) left → fault ≡ Memory
+  pub memory_alone : (o left : OffsetIter F) (given : List PlacedEvent) (fault : Fault)
+      → Yields Steps o (placed_items given ++ Err fault ∷ []) left → fault ≡ Memory
   memory_alone o left [] fault (j, h, y) = h.gives.memory
   memory_alone o left (e ∷ given) fault (j, h, y) = memory_alone j left given fault y
 
@@ -60,7 +60,7 @@ module _ {F : Type 0} (step : F → Question → Option Answer → F → Type 0)
   stopped_by_memory o old new fault s = memory_alone o s.left s.events fault s.read
 
   -- without a callback, the events returned are those of what was left
-  drained : (o : OffsetIter F) (given : List Placed) → Drains Steps o (items given)
+  drained : (o : OffsetIter F) (given : List PlacedEvent) → Drains Steps o (placed_items given)
       → parser_callback (offset_parser o) ≡ None
       → (later : Answers) → ranged (events_of (elements (offset_parser o) later)) ≡ map ranged_view given
   drained o [] (u, (t, y, z)) none later = rw (y, z.gives.none_left later) refl
@@ -79,8 +79,8 @@ module _ {F : Type 0} (step : F → Question → Option Answer → F → Type 0)
       ) refl
 
   -- so they are those of the text, where all of its reading was left
-  events_of_text : (p : Parser F) (o : OffsetIter F) (text : List ℕ) (options : Options) (given : List Placed)
-      → offset_parser o ≡ p → (reads : ReadsText text options p) → parser_callback p ≡ None → Drains Steps o (items given)
+  events_of_text : (p : Parser F) (o : OffsetIter F) (text : List ℕ) (options : Options) (given : List PlacedEvent)
+      → offset_parser o ≡ p → (reads : ReadsText text options p) → parser_callback p ≡ None → Drains Steps o (placed_items given)
       → (answers : Answers) → map ranged_view given ≡ ranged (events_of (reading_of reads.blocks false answers))
   events_of_text p o text options given is reads none all answers =
       let left = reads.left answers ∙ ap (λ (c : Option F). reading_of reads.blocks (is_some c) answers) none in

@@ -4,7 +4,7 @@ use Rattle.std.proofs.Common.{refl, sym, ap, ◌∙◌, append_assoc, add-one, c
 use Rattle.std.proofs.lemmas.Str.{chars_past_char, chars-nil}
 use Rattle.std.proofs.lemmas.List.{nil_from_length, map-append, take_more, at_drop_more, at_drop_all}
 use Rattle.markdown.specs.OutlineWords.{Entry, EntryView, entry_view}
-use Rattle.markdown_uses.specs.Contents.{anchor_char, depth, indent, line, line_after, lines_after, numbered, plain_anchor}
+use Rattle.markdown_uses.specs.Contents.{anchor_char, depth, indent, line, line_after, lines_after, with_number, plain_anchor}
 
 -- what is written for the characters of a text, where one comes first
 pub written-more : (f : ℕ → List ℕ) (text rest : List ℕ) (c : ℕ) → IsUtf8 text → text ≡ encode_utf8 c ++ rest
@@ -33,7 +33,7 @@ indent-more (suc depth) = ap indent (add-one (suc depth)) ∙ ap (λ i. codes " 
 pub line-made : (before : List EntryView) (e : EntryView) (deep times : ℕ) (anchor : List ℕ)
     → deep ≡ depth e.level (reverse (map (λ (b : EntryView). b.level) before))
     → times ≡ count_by (λ other. bytes_eq other (plain_anchor e.text)) (map plain_anchor (map (λ (b : EntryView). b.text) before))
-    → anchor ≡ numbered (plain_anchor e.text) times → line deep e.text anchor ≡ line_after before e
+    → anchor ≡ with_number (plain_anchor e.text) times → line deep e.text anchor ≡ line_after before e
 line-made before e deep times anchor is_deep is_times is_anchor = rw (is_deep, is_anchor, is_times) refl
 
 -- the lines of the headings from the next on

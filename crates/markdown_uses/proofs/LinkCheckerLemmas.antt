@@ -10,22 +10,22 @@ use Rattle.markdown.specs.EventWords.{Event, event_view}
 use Rattle.markdown.specs.OptionWords.{no_options}
 use Rattle.markdown.specs.ReadingWords.{GaveRest, IsPlacedOf, OffsetIter, Parser, Ranged, ReadsText, elements}
 use Rattle.markdown.specs.ReadingWords.{offset_parser, parser_callback, questions_of, viewed}
-use Rattle.markdown_uses.specs.LinkChecker.{CountsQuestion, CountsQuestions, event_target, greatest_count, link_target, links_of}
+use Rattle.markdown_uses.specs.LinkChecker.{CountsQuestion, CountsQuestions, event_target, greatest_count, link_target, targets_of}
 use Rattle.markdown_uses.proofs.TextReadingLemmas.{are_questions}
 use Rattle.markdown_uses.specs.declared.link_checker.Link.{Link}
 use Rattle.markdown_uses.specs.declared.link_checker.UndefinedLabels.{UndefinedLabels}
 
 -- what is found at an event is its link, if it begins one
 link_of_event : (e : Ranged) (found : Option Link) → option_map link_target found ≡ event_target e
-    → map link_target (option_to_list found) ≡ links_of (e ∷ [])
+    → map link_target (option_to_list found) ≡ targets_of (e ∷ [])
 link_of_event e None is = rw (← is) refl
 link_of_event e (Some link) is = rw (← is) refl
 
 -- the links of some events, and what is found at the next, are those of all of them
 pub links-more : (given : List (Event × Range ℕ)) (e : Event × Range ℕ) (links : List Link) (found : Option Link)
-    → map link_target links ≡ links_of (viewed given)
+    → map link_target links ≡ targets_of (viewed given)
     → option_map link_target found ≡ event_target (event_view e.0, e.1)
-    → map link_target (links ++ option_to_list found) ≡ links_of (viewed (given ++ e ∷ []))
+    → map link_target (links ++ option_to_list found) ≡ targets_of (viewed (given ++ e ∷ []))
 links-more given e links found so_far is =
     let see : Event × Range ℕ → Ranged = λ e. (event_view e.0, e.1) in
     rw (map-append link_target links (option_to_list found), so_far, link_of_event (see e) found is)

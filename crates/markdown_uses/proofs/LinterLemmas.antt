@@ -6,29 +6,29 @@ use Rattle.std.proofs.lemmas.List.{map-append, take_more}
 use Rattle.std.proofs.lemmas.List.Sums.{sum_by-cons}
 use Rattle.markdown.specs.EventWords.{Event, event_view}
 use Rattle.markdown.specs.ReadingWords.{Ranged, viewed}
-use Rattle.markdown_uses.specs.Linter.{bytes_before, ends_line, html_places, is_html, lines_before, offsets_before, place_at}
+use Rattle.markdown_uses.specs.Linter.{bytes_before_in_line, ends_line_at, html_places, is_html, lines_before, offsets_before, place_at}
 use Rattle.markdown_uses.specs.declared.linter.Place.{Place}
 
 -- the place after a byte, from the number of lines that end before it, and of the bytes of its line before it
 pub record ComesTo (text : List ℕ) (at line column : ℕ) : Type 0 where
   pub lines : lines_before text (at + 1) ≡ line
-  pub bytes : bytes_before text (at + 1) ≡ column
+  pub bytes : bytes_before_in_line text (at + 1) ≡ column
 
 -- one more line ends before the next offset, if one ends with the byte
 lines_more : (text : List ℕ) (at : ℕ)
-    → lines_before text (suc at) ≡ cond (ends_line text at) 1 0 + lines_before text at
-lines_more text at = sum_by-cons (λ k. cond (ends_line text k) 1 0) at (offsets_before at)
+    → lines_before text (suc at) ≡ cond (ends_line_at text at) 1 0 + lines_before text at
+lines_more text at = sum_by-cons (λ k. cond (ends_line_at text k) 1 0) at (offsets_before at)
 
 -- where a line ends with the byte, the next begins
-pub line_ended : (text : List ℕ) (at : ℕ) → ends_line text at ≡ true → ComesTo text at (lines_before text at + 1) 0
+pub line_ended : (text : List ℕ) (at : ℕ) → ends_line_at text at ≡ true → ComesTo text at (lines_before text at + 1) 0
 line_ended text at ends = record {
   lines = rw (add-one at, lines_more text at, ends) (omega arith);
   bytes = rw (add-one at, ends) refl;
 }
 
 -- otherwise the same line continues
-pub line_continued : (text : List ℕ) (at : ℕ) → ends_line text at ≡ false
-    → ComesTo text at (lines_before text at) (bytes_before text at + 1)
+pub line_continued : (text : List ℕ) (at : ℕ) → ends_line_at text at ≡ false
+    → ComesTo text at (lines_before text at) (bytes_before_in_line text at + 1)
 line_continued text at goes_on = record {
   lines = rw (add-one at, lines_more text at, goes_on) (omega arith);
   bytes = rw (add-one at, goes_on) (omega arith);

@@ -24,13 +24,13 @@ abbrev pub plain_anchor : List ℕ → List ℕ
 plain_anchor text = flat_map anchor_char (chars (str_to_lowercase text))
 
 -- an anchor that has occurred this number of times before: followed by that number, unless it is 0
-abbrev pub numbered : List ℕ → ℕ → List ℕ
-numbered anchor times = if times == 0 then anchor else anchor ++ codes "-" ++ decimal times
+abbrev pub with_number : List ℕ → ℕ → List ℕ
+with_number anchor times = if times == 0 then anchor else anchor ++ codes "-" ++ decimal times
 
 -- the anchor of a heading's text, after headings with these texts
 abbrev pub anchor_of : (before : List (List ℕ)) → List ℕ → List ℕ
 anchor_of before text =
-    numbered (plain_anchor text) (count_by (λ other. bytes_eq other (plain_anchor text)) (map plain_anchor before))
+    with_number (plain_anchor text) (count_by (λ other. bytes_eq other (plain_anchor text)) (map plain_anchor before))
 
 -- whether a character may be markup in the text of a link
 abbrev pub is_markup : ℕ → Bool

@@ -31,8 +31,8 @@ abbrev pub event_target : Ranged → Option Target
 event_target e = option_map (λ destination. (destination, e.1)) (event_destination e.0)
 
 -- the targets of some events, in order
-abbrev pub links_of : List Ranged → List Target
-links_of events = filter_map event_target events
+abbrev pub targets_of : List Ranged → List Target
+targets_of events = filter_map event_target events
 
 -- the target that a `Link` holds, with its destination as bytes
 abbrev pub link_target : Link → Target
@@ -42,7 +42,7 @@ link_target l = (text_of l.destination, l.range)
 pub record AreLinksOf (text : List ℕ) (targets : List Target) : Type 0 where
   pub events : List Ranged
   pub read : AreEventsOf text events
-  pub are : targets ≡ links_of events
+  pub are : targets ≡ targets_of events
 
 -- the greatest `u64`
 abbrev pub greatest_count : ℕ

@@ -10,8 +10,8 @@ use Rattle.markdown_uses.specs.declared.linter.Place.{Place}
 
 -- whether a line ends with the byte at an offset: a line feed, or a carriage return with no line feed
 -- after it
-abbrev pub ends_line : List ℕ → ℕ → Bool
-ends_line text at =
+abbrev pub ends_line_at : List ℕ → ℕ → Bool
+ends_line_at text at =
     (slice_index text at == line_feed)
     || ((slice_index text at == carriage_return) && not (slice_index text (at + 1) == line_feed))
 
@@ -22,15 +22,15 @@ offsets_before (suc at) = at ∷ offsets_before at
 
 -- the number of lines that end before an offset
 abbrev pub lines_before : List ℕ → ℕ → ℕ
-lines_before text at = count_by (ends_line text) (offsets_before at)
+lines_before text at = count_by (ends_line_at text) (offsets_before at)
 
 -- the number of bytes between the start of its line and an offset
-abbrev pub bytes_before : List ℕ → ℕ → ℕ
-bytes_before text at = prefix_len (λ k. not (ends_line text k)) (offsets_before at)
+abbrev pub bytes_before_in_line : List ℕ → ℕ → ℕ
+bytes_before_in_line text at = prefix_len (λ k. not (ends_line_at text k)) (offsets_before at)
 
 -- the line and column of an offset within the text, both counted from 1, the column in bytes
 abbrev pub place_within : List ℕ → ℕ → Place
-place_within text at = record { line = lines_before text at + 1; column = bytes_before text at + 1 }
+place_within text at = record { line = lines_before text at + 1; column = bytes_before_in_line text at + 1 }
 
 -- the same for any offset; one past the end of the text has the place of its end
 abbrev pub place_at : List ℕ → ℕ → Place

@@ -4,7 +4,7 @@ ghost use Rattle.std.specs.Prelude.{encode_utf8, length, map, reverse, string_by
 ghost use Rattle.markdown.specs.OutlineWords.{entry_view};
 ghost use Rattle.markdown_uses.specs.Contents.{AreHeadingsOf, IsContentsOf, contents_of};
 ghost use Rattle.markdown_uses.specs.Contents.{anchor_char, depth, escaped, escaped_char, is_markup};
-ghost use Rattle.markdown_uses.specs.Contents.{indent, line, numbered, plain_anchor, stays_in_anchor};
+ghost use Rattle.markdown_uses.specs.Contents.{indent, line, with_number, plain_anchor, stays_in_anchor};
 ghost use Rattle.markdown_uses.specs.ContentsSoFar.{AreOpen, CountsOneMore, lower_from, times_of};
 
 use markdown::outline::{Entry, outline};
@@ -49,7 +49,7 @@ fn plain_anchor(alloc: Global, text: &str) -> Result<String, Fault>
 
 /// Returns an anchor that has occurred `times` times before: followed by that number, unless it is 0.
 fn numbered(alloc: Global, anchor: &str, times: usize) -> Result<String, Fault>
-    ensures anchor { IfOk result (λ made. string_bytes made ≡ numbered anchor.now times) }
+    ensures anchor { IfOk result (λ made. string_bytes made ≡ with_number anchor.now times) }
     ensures refused { IfErr result (λ fault. fault ≡ Fault.Memory) }
 {
     if times == 0 {
@@ -66,7 +66,7 @@ fn next_anchor(
 ) -> Result<String, Fault>
     requires room { times_of times.old (plain_anchor text.now) + 1 < 2 ^ 64 }
     ensures anchor { IfOk result (λ anchor. string_bytes anchor
-        ≡ numbered (plain_anchor text.now) (times_of times.old (plain_anchor text.now))) }
+        ≡ with_number (plain_anchor text.now) (times_of times.old (plain_anchor text.now))) }
     ensures counted { OnOk result (CountsOneMore times.old times.new (plain_anchor text.now)) }
     ensures refused { IfErr result (λ fault. fault ≡ Fault.Memory) }
 {

@@ -1,7 +1,7 @@
 //! A linter: the line and column of each piece of raw HTML in a text.
 ghost use Rattle.std.specs.Prelude.{◌≡◌, ◌<◌, IfOk, IfErr, length};
 ghost use Rattle.markdown.specs.EventWords.{event_view};
-ghost use Rattle.markdown_uses.specs.Linter.{AreHtmlPlacesOf, ends_line, is_html, place_at};
+ghost use Rattle.markdown_uses.specs.Linter.{AreHtmlPlacesOf, ends_line_at, is_html, place_at};
 
 use markdown::{Event, Fault, Parser};
 use std::alloc::Global;
@@ -17,7 +17,7 @@ pub struct Place {
 /// no line feed after it.
 fn is_line_end(bytes: &[u8], at: usize) -> bool
     requires { at < length bytes.now }
-    ensures { result ≡ ends_line bytes.now at }
+    ensures { result ≡ ends_line_at bytes.now at }
 {
     match bytes[at] {
         b'\n' => true,

@@ -1,7 +1,7 @@
 //! The items of a merge: events, with their ranges in the source or without.
 ghost use Rattle.std.specs.Prelude.{◌≡◌};
 ghost use Rattle.markdown_base.specs.declared.event.Event as declared;
-ghost use Rattle.markdown_out.specs.Places.{bare, nowhere, ranged, through_ranges};
+ghost use Rattle.markdown_out.specs.Places.{bare, nowhere, with_range, through_ranges};
 
 use markdown_base::event::Event;
 use std::ops::Range;
@@ -68,7 +68,7 @@ impl<'a> MergeItem<'a> for Event<'a> {
 impl<'a> MergeItem<'a> for (Event<'a>, Range<usize>) {
     type At = Range<usize>;
 
-    ghost parts = { ranged };
+    ghost parts = { with_range };
 
     fn into_parts(self) -> (Event<'a>, Range<usize>) {
         self

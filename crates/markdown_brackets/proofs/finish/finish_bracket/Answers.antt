@@ -1,6 +1,6 @@
 -- By what each kind leaves of the stacks.
 use Rattle.std.proofs.Common.{sym, ◌∙◌, ap, subst}
-use Rattle.markdown_brackets.specs.Openers.{before, before_link}
+use Rattle.markdown_brackets.specs.Openers.{before, waiting_before_link}
 use Rattle.markdown_brackets.proofs.FinishLemmas.{Finishes, finished}
 use Rattle.markdown_brackets.proofs.finish.finish_bracket.Goals as goal
 
@@ -14,7 +14,7 @@ returns-in-Link c w cl closer left becomes p s rises split is eb ew ep =
     let finish = c.finish_link.ensures in
     finished nodes c.args.found.now old.brackets old.wikilinks new.brackets new.wikilinks
     (subst (λ f. Finishes nodes f old.brackets old.wikilinks new.brackets new.wikilinks) (sym c.in-Link.is)
-    (finish.brackets ∙ ap (before_link opener) then.brackets, finish.wikilinks ∙ ap (before_link opener) then.wikilinks))
+    (finish.brackets ∙ ap (waiting_before_link opener) then.brackets, finish.wikilinks ∙ ap (waiting_before_link opener) then.wikilinks))
     w cl closer left becomes p s rises split is eb ew ep
 
 pub returns-in-Footnote : goal.returns-in-Footnote

@@ -7,7 +7,7 @@ use Rattle.markdown_base.specs.Forest.{Forest}
 use Rattle.markdown_base.specs.declared.item.Item.{Item}
 use Rattle.markdown_base.specs.declared.node.Node.{Node}
 use Rattle.markdown_document.specs.Setting.{setting_of}
-use Rattle.markdown_delims.specs.ChainForest.{IsChain, IsPaired, chain_of}
+use Rattle.markdown_delims.specs.ChainForest.{IsChainAt, IsPaired, chain_of}
 use Rattle.markdown_delims.specs.Layers.{marks_of}
 use Rattle.markdown_delims.specs.EntryFinds.{finds_from}
 use Rattle.markdown_delims.specs.PairedChain.{CanPair}
@@ -40,13 +40,13 @@ module _ (text bytes : List ℕ) (old quoted : Arena Item) (first : ℕ) (is : b
   abbrev trees : Forest ℕ
   trees = forest_at (links_of old.nodes) (Some first)
 
-  chain : IsChain bytes old.nodes first trees
-  chain = subst (λ t. IsChain t old.nodes first trees) (sym is) (chain_is text old.nodes first c)
+  chain : IsChainAt bytes old.nodes first trees
+  chain = subst (λ t. IsChainAt t old.nodes first trees) (sym is) (chain_is text old.nodes first c)
 
   quoted_is : IsQuoted old quoted first trees
   quoted_is = quotes trees (spelled_chain bytes old quoted first trees chain)
 
-  can_pair : IsChain bytes quoted.nodes first trees
+  can_pair : IsChainAt bytes quoted.nodes first trees
   can_pair = quoted_chain bytes old quoted first trees chain quoted_is
 
   as_many : delimiters_of (chain_of quoted.nodes trees) ≡ delimiters_of (chain_of old.nodes trees)
@@ -57,7 +57,7 @@ module _ (text bytes : List ℕ) (old quoted : Arena Item) (first : ℕ) (is : b
   as_often m = ap (λ g. finds_from m bytes 0 g []) quoted_is.quotes
       ∙ ap (λ t. finds_from m t 0 (quoted_chain_of (chain_of old.nodes trees)) []) is
 
-  resolves : (m : Marks) (new : Arena Item) → ((f : Forest ℕ) → IsChain bytes quoted.nodes first f → IsPaired m bytes quoted new first f)
+  resolves : (m : Marks) (new : Arena Item) → ((f : Forest ℕ) → IsChainAt bytes quoted.nodes first f → IsPaired m bytes quoted new first f)
       → IsResolved m text old new first trees
   resolves m new pairs = subst (λ t. IsResolved m t old new first trees) is (resolved bytes old quoted first trees chain m new quoted_is
       (pairs trees can_pair))

@@ -4,7 +4,7 @@ use Rattle.std.specs.Prelude.{IfErr, IfOk, Result}
 use Rattle.markdown_base.specs.declared.item.Item.{Item}
 use Rattle.markdown_base.specs.BlockTree.{no_item, item_at}
 use Rattle.markdown_document.specs.Counts.{comparisons_per_delimiter}
-use Rattle.markdown_delims.specs.MarkBodies.{run_of}
+use Rattle.markdown_delims.specs.MarkBodies.{item_run}
 use Rattle.markdown_delims.specs.Entries.{all_of_run, with_run}
 use Rattle.markdown_delims.specs.ChainStanding.{CanRead, ReadsOn}
 use Rattle.markdown_delims.specs.RunReading.{Settles, delimiters_of}
@@ -79,7 +79,7 @@ returns-in-None c =
       ok = λ h es chain st w r.
           rw c.next.ensures.value
           (read_none c.args.marks c.args.text.now h c.args.tree.now es c.args.last c.args.ix chain c.args.openers.now st w r
-          (ap (run_of c.args.text.now) (sym i) ∙ sym c.in-None.ensures));
+          (ap (item_run c.args.text.now) (sym i) ∙ sym c.in-None.ensures));
       paid = tt;
     }
 
@@ -100,7 +100,7 @@ returns-in-Some c =
           read_some c.args.marks c.args.text.now h c.args.tree.now es c.args.last c.args.ix c.in-Some.run' chain c.args.openers.now
           c.read_run.new.openers x.0 x.1 c.settle_run.new.tree c.read_run.new.tree st r
           (run_here c.args.marks c.args.text.now h c.args.tree.now es c.args.last c.args.ix c.in-Some.run' chain st w
-          (ap (run_of c.args.text.now) (sym i) ∙ sym c.in-Some.ensures))
+          (ap (item_run c.args.text.now) (sym i) ∙ sym c.in-Some.ensures))
           (settles_as c.args.ix c.in-Some.run'.length _ _ c.args.tree.now c.settle_run.new.tree i c.settle_run.ensures)
           c.read_run.ensures.paid c.read_run.ensures.found
           (subst (λ (y : Item). ReadsOn (λ fs. with_run c.args.marks y.start (all_of_run c.in-Some.run' c.args.ix) fs) y.start
@@ -109,6 +109,6 @@ returns-in-Some c =
           c.read_run.ensures.ok;
       paid = if_err c.read_run.result (λ h es chain st w.
           let here = run_here c.args.marks c.args.text.now h c.args.tree.now es c.args.last c.args.ix c.in-Some.run' chain st w
-          (ap (run_of c.args.text.now) (sym i) ∙ sym c.in-Some.ensures) in
+          (ap (item_run c.args.text.now) (sym i) ∙ sym c.in-Some.ensures) in
           omega (arith, here.begins.fewer, c.read_run.ensures.paid));
     }

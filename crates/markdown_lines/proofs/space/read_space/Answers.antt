@@ -1,6 +1,6 @@
 -- One space or tab more; and nothing more is read once `most` columns have been read, or another byte comes.
 use Rattle.std.proofs.Common.{◌-◌, ◌<◌, length, min, get_or, sym, ◌∙◌, ap, arith}
-use Rattle.markdown_scan.specs.LineStart.{space}
+use Rattle.markdown_scan.specs.LineStart.{leading_space}
 use Rattle.markdown_scan.specs.LineSteps.{width_next, past_white}
 use Rattle.markdown_scan.proofs.LineStartLemmas.{space_step, none_owed}
 use Rattle.markdown_lines.specs.Places.{left_from}
@@ -44,7 +44,7 @@ white-preserved c =
       few = omega (arith, read.columns, before.few);
       none_owed = λ less. none_owed left c.past_white-read.result.columns (left_from text here stop)
           (left_from text c.past_white-read.result.behind stop) columns behind (omega (arith, less, before.few));
-      value = space_step (space c.args.most (left_from text c.args.place stop)) c.args.most c.white.found.columns
+      value = space_step (leading_space c.args.most (left_from text c.args.place stop)) c.args.most c.white.found.columns
           c.past_white-read.result.columns (left_from text here stop) (left_from text c.past_white-read.result.behind stop)
           before.value none more columns behind positive;
     }

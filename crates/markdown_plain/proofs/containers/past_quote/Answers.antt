@@ -1,7 +1,7 @@
 -- The rest of the line is what follows the marker.
 use Rattle.std.proofs.Common.{◌≡◌, ℕ, ◌<◌, List, true, length, slice_range, codes, arith, ap, refl, sym, ◌∙◌}
 use Rattle.markdown_scan.specs.Beginnings.{begins_with}
-use Rattle.markdown_scan.specs.LineStart.{space}
+use Rattle.markdown_scan.specs.LineStart.{leading_space}
 use Rattle.markdown_lines.specs.Places.{left_from}
 use Rattle.markdown_lines.proofs.PlacesLemmas.{in_part}
 use Rattle.markdown_plain.proofs.ContainersLemmas.{marker_behind_is, past_byte_is}
@@ -21,6 +21,6 @@ returns-then-starts_with c =
     let behind =
     past_byte_is text here c.past.result stop more (c.past.ensures.at (omega (arith, more, c.ranges.stop.fits)))
     c.past.ensures.column c.past.ensures.owed in
-    marker_behind_is text (space 4 (left_from text c.args.place stop)) c.read_space-before.result.columns here c.past.result
+    marker_behind_is text (leading_space 4 (left_from text c.args.place stop)) c.read_space-before.result.columns here c.past.result
     stop c.read_space.result c.read_space-before.ensures.value.columns c.read_space-before.ensures.value.behind
     c.if-before-lt4.true marker behind c.read_space.ensures.value

@@ -7,12 +7,12 @@ use Rattle.markdown_base.specs.declared.node.Node.{Node}
 use Rattle.markdown_document.specs.Setting.{Rules}
 use Rattle.markdown_document.specs.Tables.{Tables, tables_of}
 use Rattle.markdown_document.proofs.TablesLemmas.{grown-nothing}
-use Rattle.markdown_spans.specs.AfterLess.{html}
+use Rattle.markdown_spans.specs.AfterLess.{html_markup}
 use Rattle.markdown_spans.specs.Finds.{end_of_markup}
 use Rattle.markdown_spans.specs.MarkupView.{markup_of}
 use Rattle.markdown_spans.specs.declared.after_less.MarkupFound.{MarkupFound}
 use Rattle.markdown_resolver.specs.MarkupItems.{IsMarkupAt, item_to, standing_for}
-use Rattle.markdown_resolver.specs.Rewritten.{Puts, one}
+use Rattle.markdown_resolver.specs.Rewritten.{Puts, one_item}
 use Rattle.markdown_resolver.proofs.CodeSpanLemmas.{PutsText, text_put}
 use Rattle.markdown_resolver.proofs.MarkupItemLemmas.{can_put_html, can_put_owned, html_trees, owned_trees, puts_standing}
 use Rattle.markdown_resolver.proofs.MarkupLemmas.{if_ok}
@@ -30,7 +30,7 @@ put_html-requires c =
     let tables = tables_of c.args.tables.now in
     let nodes = c.args.tree.now.nodes in
     let end = c.in-Html.end in
-    let at : IsMarkupAt source tables nodes c.args.ix (html end None) = subst (λ (found : MarkupFound). IsMarkupAt source tables nodes
+    let at : IsMarkupAt source tables nodes c.args.ix (html_markup end None) = subst (λ (found : MarkupFound). IsMarkupAt source tables nodes
     c.args.ix (markup_of found)) c.in-Html.is c.requires.1 in
     (source, tables, tables, grown-nothing tables, at.found, can_put_html source tables nodes c.args.ix end at.lies)
 
@@ -43,7 +43,7 @@ put_html-requires-in-OwnedHtml c =
     let end = c.in-OwnedHtml.end in
     let bytes = string_bytes c.in-OwnedHtml.tag in
     let entry = c.in_ok-number-in-OwnedHtml in
-    let at : IsMarkupAt source (tables_of held) nodes c.args.ix (html end (Some bytes)) =
+    let at : IsMarkupAt source (tables_of held) nodes c.args.ix (html_markup end (Some bytes)) =
     subst (λ (found : MarkupFound). IsMarkupAt source (tables_of held) nodes c.args.ix (markup_of found)) c.in-OwnedHtml.is c.requires.1 in
     let put = text_put held held' c.from.result entry.number bytes entry.ensures.put entry.ensures.number c.from.ensures.1 in (
       source,
@@ -71,7 +71,7 @@ returns-in-Html-clause-puts c = λ source rules.
     let end = c.in-Html.end in
     let next = c.put_html.result in
     subst (StandsFor source rules tables tables old new ix next) (sym c.in-Html.is) (λ at.
-    puts_standing source rules (html end None) ix (one source tables (item_to old ix end body.InlineHtml)) (Some end) next old new tables
+    puts_standing source rules (html_markup end None) ix (one_item source tables (item_to old ix end body.InlineHtml)) (Some end) next old new tables
     tables at.found.ready
     (html_trees source rules tables tables old ix end)
     (c.put_html.ensures.puts source tables tables (grown-nothing tables) at.found (can_put_html source tables old ix end at.lies)))
@@ -92,7 +92,7 @@ returns-in_ok-number-in-OwnedHtml-clause-puts c = λ source rules.
     let put : PutsText tables tables' entry.number bytes = text_put held held' c.from.result entry.number bytes entry.ensures.put
     entry.ensures.number c.from.ensures.1 in
     subst (StandsFor source rules tables tables' old new ix next) (sym c.in-OwnedHtml.is) (λ at.
-    puts_standing source rules (html end (Some bytes)) ix (one source tables' (item_to old ix end (body.OwnedInlineHtml entry.number)))
+    puts_standing source rules (html_markup end (Some bytes)) ix (one_item source tables' (item_to old ix end (body.OwnedInlineHtml entry.number)))
     (Some end) next old new tables tables' at.found.ready
     (owned_trees source rules tables tables' entry.number bytes old ix end put)
     (c.put_html-in-OwnedHtml.ensures.puts source tables tables' put.grown at.found (can_put_owned source tables tables' entry.number bytes

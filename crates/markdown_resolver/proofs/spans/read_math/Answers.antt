@@ -9,7 +9,7 @@ use Rattle.markdown_document.specs.Tables.{tables_of, text_at}
 use Rattle.markdown_spans.specs.Finds.{text_between, origin_between}
 use Rattle.markdown_spans.specs.SpanClosers.{ClosesMath}
 use Rattle.markdown_spans.specs.declared.span_text.SpanKind.TheVariants.{Math}
-use Rattle.markdown_resolver.specs.Rewritten.{Puts, one}
+use Rattle.markdown_resolver.specs.Rewritten.{Puts, one_item}
 use Rattle.markdown_resolver.proofs.ChainLeadsLemmas.{chain_leads}
 use Rattle.markdown_resolver.proofs.ChainPlaceLemmas.{has_blocks}
 use Rattle.markdown_resolver.proofs.MathSpanLemmas.{PutsMath, dollar_body, math_cut, math_item, math_reads, no_math_reads, puts_math}
@@ -92,14 +92,14 @@ abbrev standing_item : goal.After-put_found → Item
 standing_item c = math_item c.args.tree.now.nodes c.args.ix c.in-Some.math c.in_ok-cow.cow
 
 was_put : (c : goal.After-put_found) → Puts c.args.place.now.text.now c.args.ix
-    (one c.args.place.now.text.now (tables_of c.store_text.new.tables) (standing_item c)) (Some (standing_item c).end)
+    (one_item c.args.place.now.text.now (tables_of c.store_text.new.tables) (standing_item c)) (Some (standing_item c).end)
     c.put_found.result c.args.tree.now.nodes c.put_found.new.tree.nodes (tables_of c.args.tables.now) (tables_of c.store_text.new.tables)
 was_put c =
     let source = c.args.place.now.text.now in
     let tables = tables_of c.args.tables.now in
     let tables' = tables_of c.store_text.new.tables in
     let p = put_here c in
-    subst (λ (i : Item). Puts source c.args.ix (one source tables' i) (Some i.end) c.put_found.result c.args.tree.now.nodes
+    subst (λ (i : Item). Puts source c.args.ix (one_item source tables' i) (Some i.end) c.put_found.result c.args.tree.now.nodes
     c.put_found.new.tree.nodes tables tables') p.is
     (c.put_found.ensures.puts source tables tables' c.in_ok-cow.ensures.stored.grown p.found p.can
     (ap (λ (i : Item). i.start) (c.item-item.ensures no_item)))

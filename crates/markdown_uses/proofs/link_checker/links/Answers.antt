@@ -4,7 +4,7 @@ use Rattle.std.specs.Vec.Iter.{into_iter_items, into_iter_len}
 use Rattle.std.specs.declared.ops.Range.{Range}
 use Rattle.markdown.specs.EventWords.{Event}
 use Rattle.markdown.specs.ReadingWords.{viewed}
-use Rattle.markdown_uses.specs.LinkChecker.{link_target, links_of}
+use Rattle.markdown_uses.specs.LinkChecker.{link_target, targets_of}
 use Rattle.markdown_uses.specs.declared.link_checker.Link.{Link}
 use Rattle.markdown_uses.proofs.LinkCheckerLemmas.{links-more, none_left, one_less, taken-more}
 use Rattle.markdown_uses.proofs.TextReadingLemmas.{are_events}
@@ -47,5 +47,5 @@ returns-clause-links c =
       events = viewed c.in_ok-events.events.items;
       read = are_events _ c.args.source.now c.in_ok-parser.parser c.into_offset_iter.result c.in_ok-events.events.items _
           c.in_ok-parser.ensures.left c.in_ok-parser.ensures.callback c.into_offset_iter.ensures c.in_ok-events.ensures.all;
-      are = i.found ∙ ap (λ (es : List (Event × Range ℕ)). links_of (viewed es)) all;
+      are = i.found ∙ ap (λ (es : List (Event × Range ℕ)). targets_of (viewed es)) all;
     }

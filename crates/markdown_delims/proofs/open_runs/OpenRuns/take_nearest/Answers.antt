@@ -2,7 +2,7 @@ use Rattle.std.proofs.Common.{◌≡◌, ◌+◌, ◌-◌, ◌≤◌, true, fals
 use Rattle.std.proofs.lemmas.List.{take_all}
 use Rattle.std.proofs.lemmas.Bool.{cases_eq}
 use Rattle.markdown_delims.specs.declared.run.Characters.{Characters}
-use Rattle.markdown_delims.specs.MayPair.{may_pair, nearest}
+use Rattle.markdown_delims.specs.MayPair.{may_pair, nearest_run}
 use Rattle.markdown_delims.specs.Bounds.{bound_for, lowered, raised_for}
 use Rattle.markdown_delims.specs.OpenRuns.{open_runs}
 use Rattle.markdown_delims.proofs.StackSteps.{IsSound-cut, potential-cut, IsSound-raised, potential-raised, found_at, passed_at, missed_at}
@@ -40,9 +40,9 @@ returns-then-compare-clause-found c =
     read ∙ ap (λ v. get_or v.items (c.loop-i.i - 1) c.index-opener.result.now) (sym c.loop-i.invariant.same_runs) in
     let pairs : may_pair c.index-opener.result.now.run c.args.closer.now ≡ true = ap (λ o. may_pair o.run c.args.closer.now) loop_read
     ∙ sym (c.if-compare.ensures.answer c.index-opener.result.now) in
-    let whole : nearest c.args.closer.now (open_runs c.self.inside.bounds (take ((c.loop-i.i - 1) + 1) c.self.inside.stack.items.items))
-    ≡ nearest c.args.closer.now (open_runs c.self.inside.bounds c.self.inside.stack.items.items) =
-    ap (λ m. nearest c.args.closer.now (open_runs c.self.inside.bounds (take m c.self.inside.stack.items.items))) (sym one)
+    let whole : nearest_run c.args.closer.now (open_runs c.self.inside.bounds (take ((c.loop-i.i - 1) + 1) c.self.inside.stack.items.items))
+    ≡ nearest_run c.args.closer.now (open_runs c.self.inside.bounds c.self.inside.stack.items.items) =
+    ap (λ m. nearest_run c.args.closer.now (open_runs c.self.inside.bounds (take m c.self.inside.stack.items.items))) (sym one)
     ∙ c.loop-i.invariant.same_search in
     rw (i2, b2, ← c.self.view_is)
     (found_at c.self.inside.stack.items.items c.self.inside.stack.examined c.self.inside.bounds c.self.invariant c.args.closer.now
@@ -69,9 +69,9 @@ loop-i-preserved c =
     let here : (d : Characters) → may_pair (get_or c.self.inside.stack.items.items (c.loop-i.i - 1) d).run c.args.closer.now ≡ false =
     λ d. ap (λ v. may_pair (get_or v.items (c.loop-i.i - 1) d).run c.args.closer.now) (sym c.loop-i.invariant.same_runs)
     ∙ sym (c.if-compare.ensures.answer d) in
-    let whole : nearest c.args.closer.now (open_runs c.self.inside.bounds (take ((c.loop-i.i - 1) + 1) c.self.inside.stack.items.items))
-    ≡ nearest c.args.closer.now (open_runs c.self.inside.bounds c.self.inside.stack.items.items) =
-    ap (λ m. nearest c.args.closer.now (open_runs c.self.inside.bounds (take m c.self.inside.stack.items.items))) (sym one)
+    let whole : nearest_run c.args.closer.now (open_runs c.self.inside.bounds (take ((c.loop-i.i - 1) + 1) c.self.inside.stack.items.items))
+    ≡ nearest_run c.args.closer.now (open_runs c.self.inside.bounds c.self.inside.stack.items.items) =
+    ap (λ m. nearest_run c.args.closer.now (open_runs c.self.inside.bounds (take m c.self.inside.stack.items.items))) (sym one)
     ∙ c.loop-i.invariant.same_search in
     record {
       same_runs = ap (λ s. s.items) c.compare.ensures.counted ∙ c.loop-i.invariant.same_runs;
@@ -102,7 +102,7 @@ loop-i-init c =
       above = omega arith;
       within = omega arith;
       failed = λ k d low high. absurd (omega arith);
-      same_search = ap (λ s. nearest c.args.closer.now (open_runs c.self.inside.bounds s))
+      same_search = ap (λ s. nearest_run c.args.closer.now (open_runs c.self.inside.bounds s))
           (take_all c.len-len.result c.self.inside.stack.items.items (omega arith));
     }
 

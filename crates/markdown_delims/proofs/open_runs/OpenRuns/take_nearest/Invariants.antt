@@ -1,6 +1,6 @@
 use Rattle.std.proofs.Common.{◌≡◌, ℕ, ◌+◌, ◌<◌, ◌≤◌, length, take, get_or}
 use Rattle.std.specs.Prelude.{false}
-use Rattle.markdown_delims.specs.MayPair.{may_pair, nearest}
+use Rattle.markdown_delims.specs.MayPair.{may_pair, nearest_run}
 use Rattle.markdown_delims.specs.OpenRuns.{open_runs}
 use Rattle.markdown_delims.specs.declared.run.Characters.{Characters}
 use Rattle.markdown_delims.proofs.open_runs.OpenRuns.take_nearest.Given as goal
@@ -18,8 +18,8 @@ invariant-loop-i l =
           (k : ℕ) (x : Characters) → l.i ≤ k → k < length l.initial.self-inside.stack.items.items
           → may_pair (get_or l.initial.self-inside.stack.items.items k x).run l.closer ≡ false;
       same_search :
-          nearest l.closer (open_runs l.initial.self-inside.bounds (take l.i l.initial.self-inside.stack.items.items))
-          ≡ nearest l.closer (open_runs l.initial.self-inside.bounds l.initial.self-inside.stack.items.items);
+          nearest_run l.closer (open_runs l.initial.self-inside.bounds (take l.i l.initial.self-inside.stack.items.items))
+          ≡ nearest_run l.closer (open_runs l.initial.self-inside.bounds l.initial.self-inside.stack.items.items);
     }
 
 abbrev pub decreases-loop-i : goal.decreases-loop-i

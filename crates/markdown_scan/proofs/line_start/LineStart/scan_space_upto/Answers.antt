@@ -1,5 +1,5 @@
 use Rattle.std.proofs.Common.{◌<◌, ◌-◌, arith}
-use Rattle.markdown_scan.specs.LineStart.{space}
+use Rattle.markdown_scan.specs.LineStart.{leading_space}
 use Rattle.markdown_scan.specs.LineView.{line_left}
 use Rattle.markdown_scan.proofs.LineStartLemmas.{space_step, none_owed}
 use Rattle.markdown_scan.proofs.line_start.LineStart.scan_space_upto.Goals as goal
@@ -18,7 +18,7 @@ loop-taken-preserved c =
           let less : c.take_white-columns.result < c.args.n - c.loop-taken.taken = omega (arith, more) in
           none_owed (n - taken) columns (line_left c.loop-taken.self) (line_left c.take_white-columns.new.self)
           c.take_white-columns.ensures.columns c.take_white-columns.ensures.left less;
-      value = space_step (space n (line_left c.args.self.now)) n taken columns (line_left c.loop-taken.self)
+      value = space_step (leading_space n (line_left c.args.self.now)) n taken columns (line_left c.loop-taken.self)
           (line_left c.take_white-columns.new.self)
           invariant.value owed c.loop-taken-test.true c.take_white-columns.ensures.columns c.take_white-columns.ensures.left some;
     }

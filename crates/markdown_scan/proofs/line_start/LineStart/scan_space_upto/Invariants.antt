@@ -1,5 +1,5 @@
 use Rattle.std.proofs.Common.{◌≡◌, ◌≤◌, ◌<◌, ◌-◌}
-use Rattle.markdown_scan.specs.LineStart.{space, wider}
+use Rattle.markdown_scan.specs.LineStart.{leading_space, wider}
 use Rattle.markdown_scan.specs.LineView.{line_left}
 use Rattle.markdown_scan.proofs.line_start.LineStart.scan_space_upto.Given as goal
 
@@ -8,7 +8,7 @@ abbrev pub invariant-loop-taken : goal.invariant-loop-taken
 invariant-loop-taken l = record {
   within : l.taken ≤ l.n;
   none_owed : l.taken < l.n → l.self.owed ≡ 0;
-  value : space l.n (line_left l.fn.self) ≡ wider l.taken (space (l.n - l.taken) (line_left l.self));
+  value : leading_space l.n (line_left l.fn.self) ≡ wider l.taken (leading_space (l.n - l.taken) (line_left l.self));
 }
 
 abbrev pub decreases-loop-taken : goal.decreases-loop-taken

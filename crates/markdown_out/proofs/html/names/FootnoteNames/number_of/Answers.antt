@@ -5,7 +5,7 @@ use Rattle.std.specs.BTreeMap.{get, insert_entry, Updates}
 use Rattle.std.specs.List.{list_any, position_or_len}
 use Rattle.markdown_base.specs.CowText.{text_of}
 use Rattle.markdown_out.specs.FootnoteNames.{name_cmp, names_in}
-use Rattle.markdown_out.specs.LookBacks.{is_same_name}
+use Rattle.markdown_out.specs.LookBacks.{are_same_names}
 use Rattle.markdown_out.proofs.FootnoteNamesLemmas.{known_name, new_place, names_in-inserted, IsNumbered-inserted, insert_same, with_known}
 use Rattle.markdown_out.proofs.FootnoteNamesLemmas.{with_new}
 use Rattle.markdown_out.proofs.html.names.FootnoteNames.number_of.Goals as goal
@@ -41,7 +41,7 @@ invariant_of-self-2 c =
 pub returns-clause-number : goal.returns-clause-number
 returns-clause-number c =
     let es = c.self.inside.places.entries in
-    let t = is_same_name (text_of c.args.name.text) in
+    let t = are_same_names (text_of c.args.name.text) in
     elim c.match-branch-2.branch [
       | in-Occupied w ↦
           let found : get name_cmp c.self.inside.places c.args.name ≡ Some w.into_mut.result.now = search rules in
@@ -57,7 +57,7 @@ pub returns-clause-known : goal.returns-clause-known
 returns-clause-known c =
     let es = c.self.inside.places.entries in
     let name = text_of c.args.name.text in
-    let t = is_same_name name in
+    let t = are_same_names name in
     elim c.match-branch-2.branch [
       | in-Occupied w ↦
           let found : get name_cmp c.self.inside.places c.args.name ≡ Some w.into_mut.result.now = search rules in
