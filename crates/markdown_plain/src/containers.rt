@@ -202,8 +202,8 @@ fn reach_blocks(
             return reached;
         }
         let last = blocks.len() - 1;
-        if reached.depth < last
-            && stretches.known
+        if stretches.known
+            && reached.depth < last
             && is_skipped(body, stretches.old_notes, line, reached)
         {
             reached.depth = next_start(starts, last);

@@ -74,7 +74,7 @@ impl<'a> Placing<'a> {
         ensures ahead { result.known ≡ true
             → result.starts.now ≡ starts old 0 (outer_of self.now.builder.blocks) }
     {
-        self.stretches.ahead(old)
+        self.stretches.ahead(old, self.builder.open_blocks().len())
     }
 
     /// Returns whether the innermost open block is a leaf.

@@ -1,13 +1,17 @@
 //! Stretches of open blocks that take nothing of a line, so that no line examines each block of one. Functions that
 //! return a `Result` fail only where memory is refused.
-ghost use Rattle.std.specs.Prelude.{◌≡◌, ◌++◌, ◌∷◌, true, List, [], IfOk, IfErr};
+ghost use Rattle.std.specs.Prelude.{◌≡◌, ◌++◌, ◌∷◌, Bool, true, List, [], IfOk, IfErr};
 ghost use Rattle.markdown_builder.specs.declared.open_block.OpenBlock.{OpenBlock};
 ghost use Rattle.markdown_plain.specs.OpenBlocks.{outer_of};
+ghost use Rattle.markdown_plain.specs.declared.stretches.Taking.TheVariants as takes;
 ghost use Rattle.markdown_plain.specs.Stretches.{IsOf, are_alike, begins_stretch, next_of, starts, starts_behind, taken_by};
 
 use markdown_base::item::ItemBody;
 use markdown_builder::open_block::OpenBlock;
 use std::alloc::{AllocError, Global};
+
+/// So many open blocks are few.
+const FEW: usize = 8;
 
 /// What an open block takes of the lines in which it continues.
 #[derive(Clone, Copy, Drop)]
@@ -32,8 +36,19 @@ pub fn taken_by(body: ItemBody, old: bool) -> Taking
     }
 }
 
-/// Returns whether two blocks take the same.
-fn are_alike(outside: ItemBody, inside: ItemBody, old: bool) -> bool
+/// Returns whether a block is a list or an item.
+fn is_of_list(body: ItemBody) -> bool
+    ensures { result ≡ true → (old : Bool) → taken_by old body ≡ takes.NothingOfBlank }
+{
+    match body {
+        ItemBody::List(_, _, _) | ItemBody::ListItem(_) => true,
+        _ => false,
+    }
+}
+
+/// Returns whether two blocks take the same, of which one may be no list and no item.
+#[inline(never)]
+fn take_the_same(outside: ItemBody, inside: ItemBody, old: bool) -> bool
     ensures { result ≡ are_alike old outside inside }
 {
     match (taken_by(outside, old), taken_by(inside, old)) {
@@ -42,6 +57,16 @@ fn are_alike(outside: ItemBody, inside: ItemBody, old: bool) -> bool
         (Taking::Something, Taking::Something) => true,
         _ => false,
     }
+}
+
+/// Returns whether two blocks take the same. Most blocks that contain others are lists and items.
+fn are_alike(outside: ItemBody, inside: ItemBody, old: bool) -> bool
+    ensures { result ≡ are_alike old outside inside }
+{
+    if is_of_list(outside) && is_of_list(inside) {
+        return true;
+    }
+    take_the_same(outside, inside, old)
 }
 
 /// Returns whether the innermost of the open blocks is unlike the block around it.
@@ -116,15 +141,16 @@ impl Stretches {
         self.known = false;
     }
 
-    /// Returns the stretches that a line has ahead. `old` is whether footnote definitions are those of the old style.
-    pub fn ahead(&self, old: bool) -> Ahead<'_>
+    /// Returns the stretches that a line has ahead of `depth` open blocks; few of these are as soon examined one by one.
+    /// `old` is whether footnote definitions are those of the old style.
+    pub fn ahead(&self, old: bool, depth: usize) -> Ahead<'_>
         ensures notes { result.old_notes ≡ old }
         ensures ahead { (outer : List OpenBlock) → IsOf self.now outer
             → result.known ≡ true → result.starts.now ≡ starts old 0 outer }
     {
         Ahead {
             old_notes: old,
-            known: self.known && self.old_notes == old,
+            known: depth > FEW && self.known && self.old_notes == old,
             starts: &self.starts,
         }
     }
