@@ -95,7 +95,8 @@ pub fn clone_attributes<'a>(
     attributes: &[(CowStr<'a>, Option<CowStr<'a>>)],
     alloc: Global,
 ) -> Result<Vec<(CowStr<'a>, Option<CowStr<'a>>)>, Fault>
-    ensures same { IfOk result (λ copies. map attribute_view copies.items ≡ map attribute_view attributes.now) }
+    ensures same { IfOk result (λ copies. map attribute_view copies.items
+        ≡ map attribute_view attributes.now) }
     ensures refused { IfErr result (λ fault. fault ≡ Fault.Memory) }
 {
     let mut copies = Vec::new(alloc);
@@ -110,7 +111,8 @@ pub fn static_attributes(
     attributes: Vec<(CowStr<'_>, Option<CowStr<'_>>)>,
     alloc: Global,
 ) -> Result<Vec<(CowStr<'static>, Option<CowStr<'static>>)>, Fault>
-    ensures same { IfOk result (λ made. map attribute_view made.items ≡ map attribute_view attributes.entry.items) }
+    ensures same { IfOk result (λ made. map attribute_view made.items
+        ≡ map attribute_view attributes.entry.items) }
     ensures refused { IfErr result (λ fault. fault ≡ Fault.Memory) }
 {
     let mut made = Vec::new(alloc);

@@ -25,7 +25,8 @@ impl<T> Model for Tree<T> {
 
     ghost Value = { Arena T };
 
-    ghost view = { λ t. record { nodes = nodes_of t.nodes.items; spine = t.spine.items; cursor = t.cur } };
+    ghost view = { λ t.
+        record { nodes = nodes_of t.nodes.items; spine = t.spine.items; cursor = t.cur } };
 
     ghost invariant = { λ t. IsWithin (record {
       nodes = nodes_of t.nodes.items;
@@ -128,7 +129,11 @@ impl<T: Drop> Tree<T> {
     /// Replaces the item of a node.
     pub fn set_item(&mut self, ix: usize, item: T)
         requires { ix < length self.old.nodes }
-        ensures { self.new ≡ record self.old { nodes = changed_at ix (λ n. record n { item = item }) self.old.nodes } }
+        ensures { self.new
+            ≡ record self.old {
+              nodes = changed_at ix (λ n.
+                  record n { item = item }) self.old.nodes;
+            } }
     {
         self.nodes[ix].item = item;
     }
@@ -138,7 +143,10 @@ impl<T: Drop> Tree<T> {
         requires node { ix < length self.old.nodes }
         requires child { IfSome child (λ below. below < length self.old.nodes) }
         ensures { self.new
-            ≡ record self.old { nodes = changed_at ix (λ n. record n { child = child }) self.old.nodes } }
+            ≡ record self.old {
+              nodes = changed_at ix (λ n.
+                  record n { child = child }) self.old.nodes;
+            } }
     {
         // a link can hold the number of any node
         let _nodes = self.len();
@@ -149,7 +157,11 @@ impl<T: Drop> Tree<T> {
     pub fn set_next(&mut self, ix: usize, next: Option<usize>)
         requires node { ix < length self.old.nodes }
         requires next { IfSome next (λ after. after < length self.old.nodes) }
-        ensures { self.new ≡ record self.old { nodes = changed_at ix (λ n. record n { next = next }) self.old.nodes } }
+        ensures { self.new
+            ≡ record self.old {
+              nodes = changed_at ix (λ n.
+                  record n { next = next }) self.old.nodes;
+            } }
     {
         // a link can hold the number of any node
         let _nodes = self.len();
@@ -179,7 +191,8 @@ impl<T: Drop> Tree<T> {
     /// Adds a node that no link leads to, and returns its number. After a refused allocation the tree is unchanged.
     pub fn create_node(&mut self, item: T) -> Result<usize, AllocError>
         ensures number { IfOk result (λ ix. ix ≡ length self.old.nodes) }
-        ensures made { IfOk result (λ _. self.new ≡ record self.old { nodes = self.old.nodes ++ single item ∷ [] }) }
+        ensures made { IfOk result (λ _. self.new
+            ≡ record self.old { nodes = self.old.nodes ++ single item ∷ [] }) }
         ensures refused { OnErr result (self.new ≡ self.old) }
     {
         self.add_node(item, None)
@@ -212,7 +225,8 @@ impl<T: Drop> Tree<T> {
     /// Makes the link at the cursor's position lead to a node.
     fn lead_to(&mut self, ix: usize)
         requires { ix < length self.old.nodes }
-        ensures { self.new ≡ record self.old { nodes = led_to ix self.old.spine self.old.cursor self.old.nodes } }
+        ensures { self.new
+            ≡ record self.old { nodes = led_to ix self.old.spine self.old.cursor self.old.nodes } }
     {
         match self.cur() {
             Some(before) => self.set_next(before, Some(ix)),
@@ -251,7 +265,11 @@ impl<T: Drop> Tree<T> {
     pub fn push(&mut self) -> Result<usize, AllocError>
         requires { (ix : ℕ) × (self.old.cursor ≡ Some ix) }
         ensures goes { IfOk result (λ ix. (self.old.cursor ≡ Some ix)
-            × (self.new ≡ record self.old { spine = self.old.spine ++ ix ∷ []; cursor = child_of self.old.nodes ix })) }
+            × (self.new ≡ record self.old {
+              spine = self.old.spine
+                  ++ ix ∷ [];
+              cursor = child_of self.old.nodes ix;
+            })) }
         ensures refused { OnErr result (self.new ≡ self.old) }
     {
         let ix = self.cur.unwrap();

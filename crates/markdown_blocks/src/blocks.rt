@@ -87,7 +87,8 @@ impl<'a> Blocks<'a> {
 
     /// Returns the text, the options, the tree and the parts. Allocates nothing.
     pub fn into_parts(self) -> (&'a str, Options, Tree<Item>, BlockParts<'a>)
-        ensures parts { (result.0.now ≡ text_of_blocks self.entry) × (result.1 ≡ block_options self.entry)
+        ensures parts { (result.0.now ≡ text_of_blocks self.entry)
+            × (result.1 ≡ block_options self.entry)
             × (result.2 ≡ block_tree self.entry) × (result.3 ≡ block_parts self.entry) }
         ensures rules { IsWellFormed result.0.now result.2.nodes result.3 }
     {

@@ -28,7 +28,8 @@ fn is_delimiter(byte: u8) -> bool
 /// Returns whether a body is a character of a delimiter run with this count and these flags.
 fn is_character(body: ItemBody, count: usize, can_open: bool, can_close: bool) -> bool
     ensures { IsTrue result ↔
-        (run_character body ≡ Some (record { count = count; can_open = can_open; can_close = can_close })) }
+        (run_character body
+        ≡ Some (record { count = count; can_open = can_open; can_close = can_close })) }
 {
     match body {
         ItemBody::MaybeEmphasis(n, opens, closes) => {
@@ -99,7 +100,8 @@ fn run_goes_on(
 ) -> bool
     requires { ix < length tree.now.nodes }
     ensures { IsTrue result ↔
-        RunGoesOn text.now (numbered tree.now.nodes ix) count can_open can_close (next_at tree.now.nodes ix) }
+        RunGoesOn text.now (numbered tree.now.nodes ix) count can_open can_close
+        (next_at tree.now.nodes ix) }
 {
     if count < 2 {
         return count == 1 && ends_run(text, tree, ix);

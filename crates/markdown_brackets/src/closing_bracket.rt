@@ -67,7 +67,8 @@ pub enum ClosedBracket<'a> {
 // Returns the inline link or image with this tail.
 fn inline_link(opener: Opener, tail: LinkTail<'_>) -> ClosedBracket<'_>
     ensures { (w : Around) (o : Split ℕ) (t : scanned.LinkTail) → opener ≡ opener_of o
-        → IsTail w.above.in_table t tail.entry → WrittenIsFrom w.setting.text (start_of o.opener) (Inline tail.entry)
+        → IsTail w.above.in_table t tail.entry
+        → WrittenIsFrom w.setting.text (start_of o.opener) (Inline tail.entry)
         → IsBecome w (a_link o (inline_target w t) t.ends t.ends) result }
 {
     ClosedBracket::Link {
@@ -87,7 +88,8 @@ fn inline_link(opener: Opener, tail: LinkTail<'_>) -> ClosedBracket<'_>
 // `Fault::Memory`.
 fn spend(spent: &mut SpentEnds, link_type: LinkType, end: usize) -> Result<(), Fault>
     ensures spent { OnOk result ((other : ℕ)
-        → is_spent spent.new other ≡ (among other (spent_by link_type end []) || is_spent spent.old other)) }
+        → is_spent spent.new other
+        ≡ (among other (spent_by link_type end []) || is_spent spent.old other)) }
     ensures refused { IfErr result (λ fault. fault ≡ Fault.Memory) }
 {
     match link_type {
@@ -112,8 +114,10 @@ fn find_reference<'a, F: BrokenLinkCallback<'a>>(
 ) -> Result<ClosedBracket<'a>, Fault>
     requires { IfSome callback.old F.can_ask }
     ensures finds { IfOk result (λ found. (target : Option LinkView)
-        × LooksUp F.answers definitions.now (is_some callback.old) (question_about span link_type label.entry)
-        limit.old limit.new callback.old callback.new target × IsLinkOr opener span.end next target found) }
+        × LooksUp F.answers definitions.now (is_some callback.old)
+        (question_about span link_type label.entry)
+        limit.old limit.new callback.old callback.new target
+        × IsLinkOr opener span.end next target found) }
 
     ensures again { IfSome callback.new F.can_ask }
     ensures refused { IfErr result (λ fault. fault ≡ Fault.Memory) }
@@ -173,12 +177,14 @@ pub(crate) fn find_written<'a, F: BrokenLinkCallback<'a>>(
 ) -> Result<ClosedBracket<'a>, Fault>
     requires { IfSome callback.old F.can_ask }
     ensures comes { IfOk result (λ found. (w : Around) (o : Split ℕ) (x : decision.Written)
-        → KnowsRules w definitions.now footnotes.old (is_some callback.old) style → opener ≡ opener_of o
+        → KnowsRules w definitions.now footnotes.old (is_some callback.old) style
+        → opener ≡ opener_of o
         → start_of o.opener ≡ start → IsRead w.above.in_table x written.entry
         → WrittenIsFrom w.setting.text start written.entry
         → ComesTo F.answers w (tried w o x) (spent_in x) limit.old limit.new (uses_of footnotes.old)
         (uses_of footnotes.new) callback.old callback.new found) }
-    ensures spent { IfOk result (λ _. (in_table : Bool) (x : decision.Written) → IsRead in_table x written.entry
+    ensures spent { IfOk result (λ _. (in_table : Bool) (x : decision.Written)
+        → IsRead in_table x written.entry
         → (end : ℕ) → is_spent spent.new end ≡ (among end (spent_in x) || is_spent spent.old end)) }
 
     ensures names { (label : List ℕ)

@@ -53,11 +53,13 @@ pub fn try_opener<'a, R: LineRule, F: BrokenLinkCallback<'a>>(
 ) -> Result<ClosedBracket<'a>, Fault>
     requires ready { IfSome taken (λ t. CanTry tree.now.nodes place.now closer t.0.node) }
     requires asks { IfSome callback.old F.can_ask }
-    ensures tries { IfOk result (λ found. (bodies : List ItemBody) (skipped : List ℕ → ℕ) (c : Closing ℕ)
+    ensures tries { IfOk result (λ found.
+        (bodies : List ItemBody) (skipped : List ℕ → ℕ) (c : Closing ℕ)
         (o : Option (Split ℕ)) → GoesOnBehind (R.skipped rule.now) skipped
         → TriesOpener tree.now.nodes closer could_be taken c o
         → ComesToOpener F.answers (around_at place.now skipped bodies definitions.now footnotes.old
-        (is_some callback.old)) c o limit.old limit.new (uses_of footnotes.old) (uses_of footnotes.new)
+        (is_some callback.old)) c o limit.old limit.new (uses_of footnotes.old)
+        (uses_of footnotes.new)
         spent.old spent.new callback.old callback.new found) }
 
     ensures names { (label : List ℕ)
@@ -110,7 +112,8 @@ fn find_wikilink<'a>(
 ) -> Option<ClosedBracket<'a>>
     requires { CanFindWikilink tree.now.nodes place.now.text.now opener.node closer }
     ensures { IsWikilinkAt opener end
-        (wikilink_nodes tree.now.nodes place.now.text.now place.now.block_end opener.node closer) result }
+        (wikilink_nodes tree.now.nodes place.now.text.now place.now.block_end opener.node closer)
+        result }
 {
     let first = body_of(tree, opener.node, closer)?;
     let start = tree.item(first).start;
@@ -135,8 +138,10 @@ pub fn try_wikilink<'a>(
     taken: Option<(Opener, bool)>,
     end: usize,
 ) -> Option<ClosedBracket<'a>>
-    requires { IfSome taken (λ t. CanFindWikilink tree.now.nodes place.now.text.now t.0.node closer) }
-    ensures { (w : Around) (c : Closing ℕ) (o : Option (Split ℕ)) → w.setting.text ≡ place.now.text.now
+    requires { IfSome taken (λ t.
+        CanFindWikilink tree.now.nodes place.now.text.now t.0.node closer) }
+    ensures { (w : Around) (c : Closing ℕ) (o : Option (Split ℕ))
+        → w.setting.text ≡ place.now.text.now
         → w.above.block_end ≡ place.now.block_end → TriesWikilink tree.now.nodes closer taken c o
         → FindsWikilink w end c o result }
 {
@@ -157,11 +162,13 @@ fn take_wikilink<'a>(
     wikilinks: &mut OpenerStack,
 ) -> Option<ClosedBracket<'a>>
     requires closer { closer < length tree.now.nodes }
-    requires openers { EachOpener (λ n. CanFindWikilink tree.now.nodes place.now.text.now n closer) wikilinks.old }
+    requires openers { EachOpener (λ n.
+        CanFindWikilink tree.now.nodes place.now.text.now n closer) wikilinks.old }
     ensures { (skipped : List ℕ → ℕ) (bodies : List ItemBody) (definitions : List Labelled)
         (footnotes : FootnoteDefs) (asks : Bool) (left : List (Entry ℕ)) (c : Closing ℕ)
         → StandsBefore tree.now.nodes closer left c → wikilinks.old ≡ wikilinks_of left
-        → TakesWikilink (around_at place.now skipped bodies definitions footnotes asks) c left wikilinks.new result }
+        → TakesWikilink (around_at place.now skipped bodies definitions footnotes asks) c left
+        wikilinks.new result }
 {
     if !wikilinks_on(place.options) {
         return None;
@@ -204,16 +211,21 @@ pub fn decide_bracket<'a, R: LineRule, F: BrokenLinkCallback<'a>>(
 ) -> Result<ClosedBracket<'a>, Fault>
     requires closer { closer < length tree.now.nodes }
     requires brackets { EachOpener (CanTry tree.now.nodes place.now closer) openers.old.brackets }
-    requires wikilinks { EachOpener (λ n. CanFindWikilink tree.now.nodes place.now.text.now n closer)
+    requires wikilinks { EachOpener (λ n.
+        CanFindWikilink tree.now.nodes place.now.text.now n closer)
         openers.old.wikilinks }
     requires asks { IfSome callback.old F.can_ask }
-    ensures decides { IfOk result (λ found. (bodies : List ItemBody) (skipped : List ℕ → ℕ) (left : List (Entry ℕ))
-        (c : Closing ℕ) → GoesOnBehind (R.skipped rule.now) skipped → StandsBefore tree.now.nodes closer left c
+    ensures decides { IfOk result (λ found.
+        (bodies : List ItemBody) (skipped : List ℕ → ℕ) (left : List (Entry ℕ))
+        (c : Closing ℕ) → GoesOnBehind (R.skipped rule.now) skipped
+        → StandsBefore tree.now.nodes closer left c
         → c.could_be_reference ≡ (could_be && not (is_spent spent.old (end_of c.label)))
         → openers.old.brackets ≡ brackets_of left → openers.old.wikilinks ≡ wikilinks_of left
         → Decides F.answers (around_at place.now skipped bodies definitions.now footnotes.old
-        (is_some callback.old)) c left limit.old limit.new (uses_of footnotes.old) (uses_of footnotes.new)
-        spent.old spent.new callback.old callback.new openers.new.brackets openers.new.wikilinks found) }
+        (is_some callback.old)) c left limit.old limit.new (uses_of footnotes.old)
+        (uses_of footnotes.new)
+        spent.old spent.new callback.old callback.new openers.new.brackets openers.new.wikilinks
+        found) }
 
     ensures names { (label : List ℕ)
         → is_some (footnote_at footnotes.new label) ≡ is_some (footnote_at footnotes.old label) }

@@ -30,7 +30,8 @@ fn leads_to(tree: &Tree<Item>, ix: usize, node: usize) -> bool
 fn close_second(openers: &mut ChainOpeners, tree: &Tree<Item>, node: usize)
     requires { EachOpener (λ n. n < length tree.now.nodes) openers.old.wikilinks }
     ensures brackets { openers.new.brackets ≡ openers.old.brackets }
-    ensures wikilinks { openers.new.wikilinks ≡ without_second tree.now.nodes node (before node openers.old.wikilinks) }
+    ensures wikilinks { openers.new.wikilinks
+        ≡ without_second tree.now.nodes node (before node openers.old.wikilinks) }
 {
     openers.wikilinks.drop_from(node);
     let Some(nearest) = openers.wikilinks.nearest() else {
@@ -45,10 +46,12 @@ fn close_second(openers: &mut ChainOpeners, tree: &Tree<Item>, node: usize)
 /// that the decision read, before any change.
 pub fn finish_bracket(openers: &mut ChainOpeners, tree: &Tree<Item>, found: &ClosedBracket<'_>)
     requires { EachOpener (λ n. n < length tree.now.nodes) openers.old.wikilinks }
-    ensures { (w : Around) (c : Closing ℕ) (closer : ℕ) (left : List (Entry ℕ)) (becomes : Becomes ℕ) (p : Progress ℕ)
+    ensures { (w : Around) (c : Closing ℕ) (closer : ℕ) (left : List (Entry ℕ))
+        (becomes : Becomes ℕ) (p : Progress ℕ)
         → StandsBefore tree.now.nodes closer left c → LeftRises left → SplitsAs left becomes
         → IsBecome w becomes found.now
-        → openers.old.brackets ≡ brackets_of left → openers.old.wikilinks ≡ wikilinks_of left → p.left ≡ left
+        → openers.old.brackets ≡ brackets_of left → openers.old.wikilinks ≡ wikilinks_of left
+        → p.left ≡ left
         → (openers.new.brackets ≡ brackets_of (put w c becomes p).left)
         × (openers.new.wikilinks ≡ wikilinks_of (put w c becomes p).left) }
 {

@@ -27,9 +27,11 @@ pub fn use_footnote(
     style: FootnoteStyle,
     name: &str,
 ) -> Result<bool, Fault>
-    ensures found { IfOk result (λ found. found ≡ is_reference style (is_some (footnote_at footnotes.old name.now))) }
+    ensures found { IfOk result (λ found. found
+        ≡ is_reference style (is_some (footnote_at footnotes.old name.now))) }
     ensures counted { OnOk result ((other : List ℕ) → footnote_at footnotes.new other
-        ≡ (if is_match name.now other then option_map used_once_more (footnote_at footnotes.old name.now)
+        ≡ (if is_match name.now other
+        then option_map used_once_more (footnote_at footnotes.old name.now)
         else footnote_at footnotes.old other)) }
     ensures refused { IfErr result (λ fault. fault ≡ Fault.Memory) }
     ensures unchanged { OnErr result (footnotes.new ≡ footnotes.old) }

@@ -19,7 +19,8 @@ pub(crate) fn first_past(tree: &Tree<Item>, first: Option<usize>, byte: usize) -
     ensures value { forest_at (links_of tree.now.nodes) result
         ≡ numbers_past tree.now.nodes byte (forest_at (links_of tree.now.nodes) first) }
     ensures first { result
-        ≡ first_root (numbers_past tree.now.nodes byte (forest_at (links_of tree.now.nodes) first)) }
+        ≡ first_root (numbers_past tree.now.nodes byte
+        (forest_at (links_of tree.now.nodes) first)) }
     ensures within { IfSome result (λ ix. ix < length tree.now.nodes) }
 {
     let mut at = first;

@@ -68,9 +68,11 @@ fn scan_title_part<'t, R: LineRule, I: ItemsAfter>(
     items: &mut I,
 ) -> Result<(usize, CowStr<'t>), AllocError>
     requires at { IsCharBoundary text.now at }
-    requires items { (n s : ℕ) → I.starts items.old n ≡ Some s → s ≤ length text.now → IsCharBoundary text.now s }
+    requires items { (n s : ℕ) → I.starts items.old n ≡ Some s → s ≤ length text.now
+        → IsCharBoundary text.now s }
     ensures value { IfOk result (λ part.
-        IsTitlePart (R.skipped rule.now) in_table text.now at (title_at (I.starts items.old) text.now at)
+        IsTitlePart (R.skipped rule.now) in_table text.now at
+        (title_at (I.starts items.old) text.now at)
         part.0 part.1) }
 {
     match scan_link_title(alloc, text, at, in_table, items)? {
@@ -92,9 +94,12 @@ pub fn scan_link_tail<'t, R: LineRule, I: ItemsAfter>(
     items: &mut I,
 ) -> Result<Option<LinkTail<'t>>, AllocError>
     requires at { IsCharBoundary text.now at }
-    requires items { (n s : ℕ) → I.starts items.old n ≡ Some s → s ≤ length text.now → IsCharBoundary text.now s }
-    ensures value { IfOk result (ReadsTail in_table (link_tail (R.skipped rule.now) (I.starts items.old) text.now at)) }
-    ensures borrowed { IfOk result (BorrowsTail (link_tail (R.skipped rule.now) (I.starts items.old) text.now at)) }
+    requires items { (n s : ℕ) → I.starts items.old n ≡ Some s → s ≤ length text.now
+        → IsCharBoundary text.now s }
+    ensures value { IfOk result
+        (ReadsTail in_table (link_tail (R.skipped rule.now) (I.starts items.old) text.now at)) }
+    ensures borrowed { IfOk result
+        (BorrowsTail (link_tail (R.skipped rule.now) (I.starts items.old) text.now at)) }
 {
     if !stands_at(text, at, b'(') {
         return Ok(None);

@@ -55,7 +55,8 @@ fn next_line<I: ItemsAfter>(items: &mut I, at: usize, byte: u8) -> Option<usize>
     requires { at + 1 < 2 ^ 64 }
     ensures value { result ≡ title.next_line (I.starts items.old) at byte }
     ensures later { (n : ℕ) → at + 1 ≤ n → I.starts items.new n ≡ I.starts items.old n }
-    ensures past { IfSome result (λ start. (at < start) × (I.starts items.old (at + 1) ≡ Some start) × (byte < 128)) }
+    ensures past { IfSome result (λ start. (at < start) × (I.starts items.old (at + 1) ≡ Some start)
+        × (byte < 128)) }
 {
     if byte != b'\n' && byte != b'\r' {
         return None;
@@ -79,9 +80,11 @@ fn scan_title_text<'t, I: ItemsAfter>(
 ) -> Result<Option<(usize, CowStr<'t>)>, AllocError>
     requires start { IsCharBoundary text.now start }
     requires ascii { closer < 128 }
-    requires items { (n s : ℕ) → I.starts items.old n ≡ Some s → s ≤ length text.now → IsCharBoundary text.now s }
+    requires items { (n s : ℕ) → I.starts items.old n ≡ Some s → s ≤ length text.now
+        → IsCharBoundary text.now s }
     ensures value { IfOk result (
-        ReadsTitle in_table (title_from (I.starts items.old) closer start false 0 (drop start text.now))) }
+        ReadsTitle in_table
+        (title_from (I.starts items.old) closer start false 0 (drop start text.now))) }
     ensures borrowed { IfOk result (
         BorrowsTitle (title_from (I.starts items.old) closer start false 0 (drop start text.now))) }
     ensures within { IfOk result (λ found. IfSome found (λ t. IsCharBoundary text.now t.0)) }
@@ -126,7 +129,8 @@ pub fn scan_link_title<'t, I: ItemsAfter>(
     items: &mut I,
 ) -> Result<Option<(usize, CowStr<'t>)>, AllocError>
     requires at { IsCharBoundary text.now at }
-    requires items { (n s : ℕ) → I.starts items.old n ≡ Some s → s ≤ length text.now → IsCharBoundary text.now s }
+    requires items { (n s : ℕ) → I.starts items.old n ≡ Some s → s ≤ length text.now
+        → IsCharBoundary text.now s }
     ensures value { IfOk result (ReadsTitle in_table (title_at (I.starts items.old) text.now at)) }
     ensures borrowed { IfOk result (BorrowsTitle (title_at (I.starts items.old) text.now at)) }
     ensures within { IfOk result (λ found. IfSome found (λ t. IsCharBoundary text.now t.0)) }

@@ -57,7 +57,8 @@ fn defined_target<'a>(
     id: CowStr<'a>,
 ) -> Result<Target<'a>, Fault>
     ensures value { IfOk result (λ t.
-        target_view t ≡ lookup.defined_target link_type (definition_view definition.now) (text_of id.entry)) }
+        target_view t ≡ lookup.defined_target link_type (definition_view definition.now)
+        (text_of id.entry)) }
     ensures refused { IfErr result (λ fault. fault ≡ Fault.Memory) }
 {
     let copy = definition.try_clone(alloc)?;
@@ -134,7 +135,8 @@ fn find_target<'a, F: BrokenLinkCallback<'a>>(
 ) -> Result<Option<Target<'a>>, Fault>
     requires { IfSome callback.old F.can_ask }
     ensures finds { IfOk result (λ target.
-        FindsTarget F.answers definitions.now (question_about span link_type label.entry) callback.old callback.new
+        FindsTarget F.answers definitions.now (question_about span link_type label.entry)
+        callback.old callback.new
         (option_map target_view target)) }
     ensures again { IfSome callback.new F.can_ask }
     ensures refused { IfErr result (λ fault. fault ≡ Fault.Memory) }
@@ -174,7 +176,8 @@ pub fn look_up_label<'a, F: BrokenLinkCallback<'a>>(
 ) -> Result<Option<Target<'a>>, Fault>
     requires { IfSome callback.old F.can_ask }
     ensures looks_up { IfOk result (λ target.
-        LooksUp F.answers definitions.now (is_some callback.old) (question_about span link_type label.entry)
+        LooksUp F.answers definitions.now (is_some callback.old)
+        (question_about span link_type label.entry)
         limit.old limit.new callback.old callback.new (option_map target_view target)) }
 
     ensures again { IfSome callback.new F.can_ask }

@@ -28,7 +28,9 @@ pub struct OpenerStack {
 // Returns the number of openers before the nearest ones with node numbers of at least `node`.
 fn count_before(openers: &[Opener], node: usize) -> usize
     ensures within { result ≤ length openers.now }
-    ensures value { (n : ℕ) → before node (waiting_openers n openers.now) ≡ waiting_openers n (take result openers.now) }
+    ensures value { (n : ℕ)
+        → before node (waiting_openers n openers.now)
+        ≡ waiting_openers n (take result openers.now) }
 {
     let mut left = openers.len();
     'openers: while left > 0 {

@@ -53,7 +53,8 @@ fn scan_name<'t, R: LineRule>(
         ≡ def.label_past is_footnote before (link_label (R.skipped rule.now) in_table text.now)) }
     ensures borrowed { IfOk result (λ found. IfSome found (BorrowsLabel before text.now)) }
     ensures kind { IfOk result (λ found. IfSome found (λ l. l.is_footnote ≡ is_footnote)) }
-    ensures within { IfOk result (λ found. IfSome found (λ l. l.length ≤ before + length text.now)) }
+    ensures within { IfOk result (λ found. IfSome found (λ l. l.length
+        ≤ before + length text.now)) }
 {
     match scan_link_label(alloc, text, rule, in_table)? {
         None => Ok(None),
@@ -98,7 +99,8 @@ fn scan_footnote_label<'t, R: LineRule>(
 ) -> Result<Option<FoundLabel<'t>>, AllocError>
     requires { 1 + length text.now < 2 ^ 64 }
     ensures value { IfOk result (λ found.
-        option_map label_view found ≡ def.footnote_label_in style (R.skipped rule.now) in_table text.now) }
+        option_map label_view found
+        ≡ def.footnote_label_in style (R.skipped rule.now) in_table text.now) }
     ensures borrowed { IfOk result (λ found. IfSome found (BorrowsLabel 2 (drop 1 text.now))) }
     ensures kind { IfOk result (λ found. IfSome found (λ l. l.is_footnote ≡ true)) }
     ensures within { IfOk result (λ found. IfSome found (λ l. l.length ≤ 1 + length text.now)) }
@@ -121,7 +123,8 @@ pub fn scan_label<'t, R: LineRule>(
     in_table: bool,
 ) -> Result<Option<FoundLabel<'t>>, AllocError>
     ensures value { IfOk result (λ found.
-        option_map label_view found ≡ def.bracket_label style (R.skipped rule.now) in_table text.now) }
+        option_map label_view found
+        ≡ def.bracket_label style (R.skipped rule.now) in_table text.now) }
     ensures borrowed { IfOk result (λ found. IfSome found (BorrowsName text.now)) }
     ensures within { IfOk result (λ found. IfSome found (λ l. l.length ≤ length text.now)) }
 {
@@ -136,7 +139,8 @@ pub fn scan_label<'t, R: LineRule>(
 
 // Returns the label, if it has exactly this length in bytes.
 fn of_length(label: FoundLabel<'_>, length: usize) -> Option<FoundLabel<'_>>
-    ensures value { option_map label_view result ≡ def.of_length length (Some (label_view label.entry)) }
+    ensures value { option_map label_view result
+        ≡ def.of_length length (Some (label_view label.entry)) }
     ensures same { IfSome result (λ l. l ≡ label.entry) }
 {
     if label.length == length {
@@ -161,8 +165,10 @@ pub fn scan_own_label<'t, R: LineRule>(
     requires end { IsCharBoundary text.now end }
     requires order { start ≤ end }
     ensures value { IfOk result (λ found.
-        option_map label_view found ≡ def.own_label style (R.skipped rule.now) in_table text.now start end) }
-    ensures borrowed { IfOk result (λ found. IfSome found (BorrowsName (slice_range text.now start end))) }
+        option_map label_view found
+        ≡ def.own_label style (R.skipped rule.now) in_table text.now start end) }
+    ensures borrowed { IfOk result (λ found.
+        IfSome found (BorrowsName (slice_range text.now start end))) }
 {
     match scan_label(alloc, &text[start..end], style, rule, in_table)? {
         None => Ok(None),
@@ -185,7 +191,8 @@ pub(crate) fn is_closer(body: ItemBody) -> bool
 // Returns whether the two items are a `[` at the byte offset `at` and a `]` directly after it.
 fn is_empty_pair(at: usize, next: Option<Item>, after: Option<Item>) -> bool
     requires { at + 1 < 2 ^ 64 }
-    ensures { result ≡ (def.stands_at at def.is_opener next && def.stands_at (at + 1) def.is_closer after) }
+    ensures { result
+        ≡ (def.stands_at at def.is_opener next && def.stands_at (at + 1) def.is_closer after) }
 {
     match (next, after) {
         (Some(first), Some(second)) => {

@@ -49,7 +49,8 @@ impl<'t> TitleText<'t> {
         requires there { IsCharBoundary self.old.text.now start }
         ensures joined { IfOk result (λ _.
             string_bytes self.new.joined
-            ≡ string_bytes self.old.joined ++ slice_range self.old.text.now self.old.from at ++ line_feed ∷ []) }
+            ≡ string_bytes self.old.joined ++ slice_range self.old.text.now self.old.from at
+            ++ line_feed ∷ []) }
         ensures from { IfOk result (λ _. self.new.from ≡ start) }
         ensures is_joined { IfOk result (λ _. self.new.is_joined ≡ true) }
         ensures text { IfOk result (λ _. self.new.text.now ≡ self.old.text.now) }
@@ -71,7 +72,8 @@ impl<'t> TitleText<'t> {
     ) -> Result<CowStr<'t>, AllocError>
         requires order { self.from ≤ at }
         requires here { IsCharBoundary self.text.now at }
-        ensures text { IfOk result (λ made. text_of made ≡ unescaped in_table (so_far self.entry at)) }
+        ensures text { IfOk result (λ made. text_of made
+            ≡ unescaped in_table (so_far self.entry at)) }
         ensures borrowed { IfOk result (λ made.
             self.entry.is_joined ≡ false → text_of made ≡ so_far self.entry at → IsBorrowed made) }
     {

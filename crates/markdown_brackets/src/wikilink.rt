@@ -41,7 +41,8 @@ fn named<'t>(name: &'t str, shown: Shown) -> Option<WikilinkBody<'t>>
 fn scan_pipe(text: &str, block_end: usize, start: usize, length: usize) -> Option<(usize, &str)>
     requires start { IsCharBoundary text.now start }
     requires end { IsCharBoundary text.now (start + length) }
-    ensures { option_map (λ p. (p.0, p.1.now)) result ≡ wikilink_pipe (take block_end text.now) start length }
+    ensures { option_map (λ p. (p.0, p.1.now)) result
+        ≡ wikilink_pipe (take block_end text.now) start length }
 {
     let (after, name) = scan_wikilink_pipe(text, start, length)?;
     if after > block_end {

@@ -101,9 +101,11 @@ fn read_own<'t, R: LineRule>(
     requires inside { end ≤ place.now.block_end }
     requires kind { IsLookedUp link_type }
     ensures read { IfOk result (λ found. (in_table : Bool) → IsRead in_table
-        (own_written link_type end next (own_label (footnote_style place.now.options) (R.skipped rule.now)
+        (own_written link_type end next
+        (own_label (footnote_style place.now.options) (R.skipped rule.now)
         place.now.in_table (take place.now.block_end place.now.text.now) start end)) found) }
-    ensures from { IfOk result (λ found. (source : List ℕ) (at : ℕ) → WrittenIsFrom source at found) }
+    ensures from { IfOk result (λ found. (source : List ℕ) (at : ℕ)
+        → WrittenIsFrom source at found) }
 {
     let style = footnote_style(place.options);
     let text = &place.text[..place.block_end];
@@ -123,7 +125,8 @@ fn read_full<'t>(
     requires chain { IsChain tree.now.nodes next }
     requires some { 0 < end }
     ensures read { (in_table : Bool) → IsRead in_table
-        (if reaches_closer tree.now.nodes end next then link_reference kind.Reference (text_of label.entry) end end
+        (if reaches_closer tree.now.nodes end next
+        then link_reference kind.Reference (text_of label.entry) end end
         else no_link) result }
     ensures from { (source : List ℕ) (at : ℕ) → WrittenIsFrom source at result }
 {
@@ -156,9 +159,11 @@ fn read_form<'t, R: LineRule>(
     requires some { EndsBehind 0 (form_view form) }
     requires small { (item_at tree.now.nodes closer).end + 2 < 2 ^ 64 }
     ensures read { IfOk result (λ found. (in_table : Bool) → IsRead in_table
-        (reference_at tree.now.nodes place.now (R.skipped rule.now) closer could_be start (form_view form.entry))
+        (reference_at tree.now.nodes place.now (R.skipped rule.now) closer could_be start
+        (form_view form.entry))
         found) }
-    ensures from { IfOk result (λ found. (source : List ℕ) (at : ℕ) → WrittenIsFrom source at found) }
+    ensures from { IfOk result (λ found. (source : List ℕ) (at : ℕ)
+        → WrittenIsFrom source at found) }
 {
     let end = tree.item(closer).end;
     let (link_type, next) = match form {
@@ -213,7 +218,8 @@ fn read_reference<'t, R: LineRule>(
     ensures read { IfOk result (λ found. (in_table : Bool) → IsRead in_table
         (reference_at tree.now.nodes place.now (R.skipped rule.now) closer could_be start
         (form_ahead tree.now.nodes place.now (R.skipped rule.now) closer)) found) }
-    ensures from { IfOk result (λ found. (source : List ℕ) (at : ℕ) → WrittenIsFrom source at found) }
+    ensures from { IfOk result (λ found. (source : List ℕ) (at : ℕ)
+        → WrittenIsFrom source at found) }
 {
     let form = read_form_ahead(alloc, tree, closer, place, rule)?;
     read_form(alloc, tree, closer, could_be, place, rule, start, form)
@@ -234,7 +240,8 @@ pub(crate) fn read_written<'t, R: LineRule>(
     requires { CanRead tree.now.nodes place.now closer start }
     ensures read { IfOk result (IsRead place.now.in_table
         (written_at tree.now.nodes place.now (R.skipped rule.now) closer could_be start)) }
-    ensures from { IfOk result (WrittenIsFrom place.now.text.now (item_at tree.now.nodes closer).end) }
+    ensures from { IfOk result
+        (WrittenIsFrom place.now.text.now (item_at tree.now.nodes closer).end) }
 {
     let end = tree.item(closer).end;
     if end > place.block_end {

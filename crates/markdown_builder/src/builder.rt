@@ -144,7 +144,8 @@ impl<'a> Builder<'a> {
     pub fn skip(&mut self, to: usize)
         requires low { self.old.at ≤ to }
         requires boundary { IsCharBoundary self.old.text to }
-        requires white { self.old.leaf ≡ false → self.old.blocks ≡ [] → IsWhite self.old.text self.old.at to }
+        requires white { self.old.leaf ≡ false → self.old.blocks ≡ []
+            → IsWhite self.old.text self.old.at to }
         ensures { self.new ≡ record self.old { at = to } }
     {
         self.at = to;
@@ -220,7 +221,8 @@ impl<'a> Builder<'a> {
         requires { self.old.leaf ≡ false }
         ensures opens { IfOk result (λ _.
             OpensNaming self.old self.new variant.FootnoteDefinition (text_of name.entry)) }
-        ensures listed { IfOk result (λ _. self.new.footnotes ≡ self.old.footnotes ++ text_of listed.entry ∷ []) }
+        ensures listed { IfOk result (λ _. self.new.footnotes
+            ≡ self.old.footnotes ++ text_of listed.entry ∷ []) }
     {
         self.footnotes.push(listed)?;
         let ix = push_text(&mut self.cows, name)?;
@@ -238,7 +240,8 @@ impl<'a> Builder<'a> {
         attributes: HeadingAttributes<'a>,
     ) -> Result<(), AllocError>
         requires { self.old.leaf ≡ false }
-        ensures { IfOk result (λ _. (ix : _) × Opens self.old self.new (variant.Heading level (Some ix))) }
+        ensures { IfOk result (λ _. (ix : _)
+            × Opens self.old self.new (variant.Heading level (Some ix))) }
     {
         self.headings.push(attributes)?;
         let ix = HeadingIndex(self.headings.len());
@@ -285,7 +288,8 @@ impl<'a> Builder<'a> {
     pub fn begin_later(&mut self, start: usize)
         requires low { start ≤ self.old.at }
         requires boundary { IsCharBoundary self.old.text start }
-        requires white { IfSome (innermost_block self.old.blocks) (λ block. IsWhite self.old.text block.start start) }
+        requires white { IfSome (innermost_block self.old.blocks) (λ block.
+            IsWhite self.old.text block.start start) }
         ensures same { self.new ≡ record self.old { blocks = self.new.blocks } }
         ensures begins { LastBegins self.old.blocks self.new.blocks start }
     {
@@ -343,7 +347,8 @@ impl<'a> Builder<'a> {
         requires inside { self.old.leaf ≡ true }
         requires more { self.old.at < length self.old.text }
         requires byte { mark_byte body ≡ Some (slice_index self.old.text self.old.at) }
-        ensures { IfOk result (λ _. self.new ≡ record self.old { at = self.old.at + 1; run = None }) }
+        ensures { IfOk result (λ _. self.new
+            ≡ record self.old { at = self.old.at + 1; run = None }) }
     {
         let end = self.at + 1;
         self.tree.append(Item {
@@ -362,7 +367,8 @@ impl<'a> Builder<'a> {
         requires more { self.old.at + 1 < length self.old.text }
         requires first { slice_index self.old.text self.old.at ≡ 33 }
         requires second { slice_index self.old.text (self.old.at + 1) ≡ 91 }
-        ensures { IfOk result (λ _. self.new ≡ record self.old { at = self.old.at + 2; run = None }) }
+        ensures { IfOk result (λ _. self.new
+            ≡ record self.old { at = self.old.at + 2; run = None }) }
     {
         let end = self.at + 2;
         self.tree.append(Item {

@@ -42,7 +42,8 @@ fn tighten_siblings(tree: &mut Tree<Item>, first: Option<usize>)
     requires rising { AreRising (links_of tree.old.nodes) }
     requires within { IfSome first (λ number. number < length tree.old.nodes) }
     ensures steps { (start : Arena Item) → Tightens start tree.old → Tightens start tree.new }
-    ensures makes { MakesTight (λ p. IsInChain tree.old.nodes first p) tree.old.nodes tree.new.nodes }
+    ensures makes { MakesTight (λ p.
+        IsInChain tree.old.nodes first p) tree.old.nodes tree.new.nodes }
 {
     let mut link = first;
     'siblings: while let Some(number) = link {
@@ -56,7 +57,8 @@ fn tighten_items(tree: &mut Tree<Item>, list: usize)
     requires rising { AreRising (links_of tree.old.nodes) }
     requires within { list < length tree.old.nodes }
     ensures steps { (start : Arena Item) → Tightens start tree.old → Tightens start tree.new }
-    ensures makes { MakesTight (λ p. IsInItemOf tree.old.nodes list p) tree.old.nodes tree.new.nodes }
+    ensures makes { MakesTight (λ p.
+        IsInItemOf tree.old.nodes list p) tree.old.nodes tree.new.nodes }
 {
     let mut link = tree.child(list);
     'items: while let Some(item) = link {

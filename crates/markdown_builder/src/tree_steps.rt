@@ -31,7 +31,8 @@ pub fn enter(
 ) -> Result<(), AllocError>
     ensures entered { IfOk result (λ _. tree.new
         ≡ entered tree.old (record { start = start; end = start; body = body })) }
-    ensures opened { IfOk result (λ _. blocks.new.items ≡ blocks.old.items ++ record { start = start; body = body }
+    ensures opened { IfOk result (λ _. blocks.new.items
+        ≡ blocks.old.items ++ record { start = start; body = body }
         ∷ []) }
     ensures refused { OnErr result ((tree.new ≡ tree.old) ⊎ (tree.new
         ≡ appended tree.old (record { start = start; end = start; body = body }))) }

@@ -52,7 +52,8 @@ pub extern "C" fn markdown_to_outline(
     options: u32,
     out: &mut [u8],
 ) -> i64
-    ensures { (outcome : Result (List ℕ) Refusal) × IsOutlineOutcome text.now (of_bits options) outcome
+    ensures { (outcome : Result (List ℕ) Refusal)
+        × IsOutlineOutcome text.now (of_bits options) outcome
         × (result ≡ returned_number outcome) × (out.new ≡ buffer_after out.old outcome) }
 {
     answer(outline_of(alloc, text, options), out)

@@ -43,7 +43,8 @@ impl From<Fault> for Refusal {
 /// Returns the bytes as text, or `NotUtf8`.
 fn text_of(bytes: &[u8]) -> Result<&str, Refusal>
     ensures text { IfOk result (λ text. (text.now ≡ bytes.now) × IsUtf8 bytes.now) }
-    ensures refused { IfErr result (λ refusal. (refusal ≡ Refusal.NotUtf8) × (IsUtf8 bytes.now → ⊥)) }
+    ensures refused { IfErr result (λ refusal. (refusal ≡ Refusal.NotUtf8)
+        × (IsUtf8 bytes.now → ⊥)) }
 {
     match str::from_utf8(bytes) {
         Ok(text) => Ok(text),

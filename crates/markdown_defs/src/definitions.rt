@@ -66,7 +66,8 @@ impl<'a> RefDefs<'a> {
     /// compared with grows as the logarithm of the number of definitions, whatever their labels. The only error is
     /// `Fault::Memory`.
     pub fn get(&self, key: &str) -> Result<Option<&LinkDef<'a>>, Fault>
-        ensures found { IfOk result (λ found. option_copied found ≡ find_definition key.now self.now) }
+        ensures found { IfOk result (λ found. option_copied found
+            ≡ find_definition key.now self.now) }
         ensures refused { IfErr result (λ fault. fault ≡ Fault.Memory) }
     {
         let folded = fold(*self.definitions.allocator(), key)?;

@@ -81,7 +81,8 @@ impl FootnoteDefs {
     pub fn count_use(&mut self, name: &str) -> Result<bool, Fault>
         ensures found { IfOk result (λ found. found ≡ is_some (footnote_at self.old name.now)) }
         ensures counted { OnOk result ((other : List ℕ) → footnote_at self.new other
-            ≡ (if is_match name.now other then option_map used_once_more (footnote_at self.old name.now)
+            ≡ (if is_match name.now other
+            then option_map used_once_more (footnote_at self.old name.now)
             else footnote_at self.old other)) }
         ensures refused { IfErr result (λ fault. fault ≡ Fault.Memory) }
         ensures unchanged { OnErr result (self.new ≡ self.old) }
@@ -113,7 +114,8 @@ impl FootnoteDefs {
     /// caller conclude what a write leaves. After an error nothing has changed.
     pub fn find_mut(&mut self, key: CowStr<'_>) -> Result<&mut FootnoteDef, Absence>
         ensures* writes_back { sem 𝓛 (LendsDefined self.entry (text_of key.entry) result) }
-        ensures found { IfOk result (λ found. Some found.now ≡ footnote_at self.old (text_of key.entry)) }
+        ensures found { IfOk result (λ found. Some found.now
+            ≡ footnote_at self.old (text_of key.entry)) }
         ensures undefined { IfErr result (λ why.
             why ≡ Absence.Undefined → footnote_at self.old (text_of key.entry) ≡ None) }
     {

@@ -68,11 +68,14 @@ fn pair_runs(
     ensures pairs { OnOk result ((f : Forest ℕ) → IsChainAt text.now tree.old.nodes first f
         → IsPaired marks text.now tree.old tree.new first f) }
     ensures found { OnOk result ((f : Forest ℕ) → IsChainAt text.now tree.old.nodes first f
-        → openers.old.examined + finds_from marks text.now 0 (chain_of tree.old.nodes f) [] ≤ openers.new.examined) }
+        → openers.old.examined + finds_from marks text.now 0 (chain_of tree.old.nodes f) []
+        ≤ openers.new.examined) }
 
     // whatever comes
     ensures paid { (f : Forest ℕ) → IsChainAt text.now tree.old.nodes first f
-        → openers.new.potential ≤ openers.old.potential + comparisons_per_delimiter * delimiters_of (chain_of tree.old.nodes f) }
+        → openers.new.potential
+        ≤ openers.old.potential + comparisons_per_delimiter * delimiters_of
+        (chain_of tree.old.nodes f) }
 {
     let mut last = None;
     let mut cur = Some(first);
@@ -106,14 +109,17 @@ pub fn pair_chain(
         → PairsChain (setting_of text.now rules) first tree.old.nodes tree.new.nodes) }
     ensures place { OnOk result (tree.new ≡ record tree.old { nodes = tree.new.nodes }) }
     ensures found { OnOk result ((rules : Rules) (tables : Tables) → rules.options ≡ options
-        → RisesAtLeast (finds_in (setting_of text.now rules) (trees_from text.now tables tree.old.nodes (Some first)))
+        → RisesAtLeast (finds_in (setting_of text.now rules)
+        (trees_from text.now tables tree.old.nodes (Some first)))
         work.old.examined work.new.examined) }
 
     // on success and on error
-    ensures examined { ExaminesAtMost (comparisons_per_delimiter * delimiters_of (trees_at tree.old.nodes (Some first)))
+    ensures examined { ExaminesAtMost
+        (comparisons_per_delimiter * delimiters_of (trees_at tree.old.nodes (Some first)))
         work.old.examined work.new.examined }
     ensures counted { work.new ≡ record work.old {
-      delimiters = min (work.old.delimiters + delimiters_of (trees_at tree.old.nodes (Some first))) (2 ^ 128 - 1);
+      delimiters = min (work.old.delimiters + delimiters_of (trees_at tree.old.nodes (Some first)))
+          (2 ^ 128 - 1);
       examined = work.new.examined;
     } }
 {

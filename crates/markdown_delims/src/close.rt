@@ -25,7 +25,8 @@ fn keep(
     requires some { 0 < left.count }
     requires room { openers.old.potential + comparisons_per_delimiter < 2 ^ 128 }
     requires stands { CanRead start left last tree.now openers.old.runs }
-    ensures ok { IfOk result (λ r. ReadsOn (λ es. kept start left es) start left last tree.now tree.now openers.old.runs
+    ensures ok { IfOk result (λ r. ReadsOn (λ es.
+        kept start left es) start left last tree.now tree.now openers.old.runs
         openers.new.runs r.0 r.1) }
     ensures paid { openers.new.potential ≤ openers.old.potential + comparisons_per_delimiter }
     ensures counted { openers.new.examined ≡ openers.old.examined }
@@ -57,10 +58,12 @@ pub fn read_run(
     requires bytes { start + met.count < 2 ^ 64 }
     requires room { openers.old.potential + comparisons_per_delimiter < 2 ^ 128 }
     requires stands { CanRead start met last tree.old openers.old.runs }
-    ensures ok { IfOk result (λ r. ReadsOn (λ es. with_run marks start met es) start met last tree.old tree.new
+    ensures ok { IfOk result (λ r. ReadsOn (λ es.
+        with_run marks start met es) start met last tree.old tree.new
         openers.old.runs openers.new.runs r.0 r.1) }
     ensures paid { openers.new.potential ≤ openers.old.potential + comparisons_per_delimiter }
-    ensures found { openers.old.examined + run_finds met.run met.count openers.old.runs ≤ openers.new.examined }
+    ensures found { openers.old.examined + run_finds met.run met.count openers.old.runs
+        ≤ openers.new.examined }
 {
     if !met.run.can_close {
         return keep(tree, openers, met, start, last);

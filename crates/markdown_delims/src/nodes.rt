@@ -29,7 +29,8 @@ pub fn put_node(
 pub fn lead_on(tree: &mut Tree<Item>, ix: usize, next: Option<usize>)
     requires node { ix < length tree.old.nodes }
     requires next { IfSome next (λ after. after < length tree.old.nodes) }
-    ensures { Wrote tree.old tree.new ix (item_at tree.old.nodes ix) (child_of tree.old.nodes ix) next }
+    ensures { Wrote tree.old tree.new ix (item_at tree.old.nodes ix) (child_of tree.old.nodes ix)
+        next }
 {
     tree.set_next(ix, next);
 }

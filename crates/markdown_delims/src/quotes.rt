@@ -64,7 +64,8 @@ fn quote_single(
 ) -> Option<usize>
     requires stands { CanQuote ix tree.old single }
     ensures quotes { (double last : Bool)
-        → QuotesTree (Kind.Single opens closes) ix last tree.old tree.new single double result double }
+        → QuotesTree (Kind.Single opens closes) ix last tree.old tree.new single double result
+        double }
 {
     match single {
         None => {
@@ -87,7 +88,8 @@ fn quote_single(
 fn quote_double(tree: &mut Tree<Item>, ix: usize, double: bool, opens: bool, closes: bool) -> bool
     requires stands { (single : Option ℕ) × CanQuote ix tree.old single }
     ensures quotes { (single : Option ℕ) (last : Bool)
-        → QuotesTree (Kind.Double opens closes) ix last tree.old tree.new single double single result }
+        → QuotesTree (Kind.Double opens closes) ix last tree.old tree.new single double single
+        result }
 {
     if double && closes {
         put_body(tree, ix, ItemBody::SynthesizeChar('”'));
@@ -127,7 +129,8 @@ fn quote_tree(
 /// Reads the quotes of the chain from `first` on, and its last break.
 pub fn quote_chain(tree: &mut Tree<Item>, first: usize)
     requires chain { (f : Forest ℕ) × IsSpelled tree.old.nodes first f }
-    ensures quotes { (f : Forest ℕ) → IsSpelled tree.old.nodes first f → IsQuoted tree.old tree.new first f }
+    ensures quotes { (f : Forest ℕ) → IsSpelled tree.old.nodes first f
+        → IsQuoted tree.old tree.new first f }
 {
     let mut single = None;
     let mut double = false;

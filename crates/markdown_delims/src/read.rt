@@ -46,8 +46,10 @@ pub fn read_tree(
     last: Option<usize>,
 ) -> Result<(Option<usize>, Option<usize>), AllocError>
     requires stands { CanReadTree text.now ix last tree.old openers.old.runs openers.old.potential }
-    ensures ok { IfOk result (λ r. ReadsTreeAt marks text.now ix last tree.old tree.new openers.old openers.new r.0 r.1) }
-    ensures paid { IfErr result (λ _. PaysForTree text.now ix last tree.old openers.old openers.new) }
+    ensures ok { IfOk result (λ r.
+        ReadsTreeAt marks text.now ix last tree.old tree.new openers.old openers.new r.0 r.1) }
+    ensures paid { IfErr result (λ _.
+        PaysForTree text.now ix last tree.old openers.old openers.new) }
 {
     // bounds the byte offsets
     let _bytes = text.len();

@@ -21,7 +21,8 @@ impl Work {
 
     /// Returns counts of 0.
     pub fn none() -> Work
-        ensures { result ≡ record { delimiters = 0; examined = 0; items = 0; code_visits = 0; math_visits = 0 } }
+        ensures { result
+            ≡ record { delimiters = 0; examined = 0; items = 0; code_visits = 0; math_visits = 0 } }
     {
         Work {
             delimiters: 0,

@@ -69,7 +69,8 @@ pub fn leaf_event<'a>(text: &'a str, tables: &mut Allocations<'a>, item: Item) -
     requires can { CanBegin text.now (tables_of tables.old) item }
     requires leaf { way_at item.body ≡ Way.Leaf }
     ensures opens { OpensWith text.entry.now (range_of item)
-        (shape_of (tables_of tables.old) (slice_range text.entry.now item.start item.end) item.body) result }
+        (shape_of (tables_of tables.old) (slice_range text.entry.now item.start item.end) item.body)
+        result }
     ensures taken { TakesOnly item.body tables.old tables.new }
 {
     match item.body {

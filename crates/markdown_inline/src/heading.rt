@@ -45,7 +45,8 @@ fn heading_copy<'a>(
     level: HeadingLevel,
     attributes: &HeadingAttributes<'a>,
 ) -> Result<Tag<'a>, AllocError>
-    ensures tag { IfOk result (λ tag. tag_view tag ≡ heading (heading_with level (attributes_view attributes.now))) }
+    ensures tag { IfOk result (λ tag. tag_view tag
+        ≡ heading (heading_with level (attributes_view attributes.now))) }
     ensures from { (source : List ℕ) (end : ℕ) → IfOk result (TagIsFrom source end) }
 {
     let id = copy_of(alloc, &attributes.id)?;
@@ -97,7 +98,8 @@ fn attribute_copies<'a>(
     alloc: Global,
     attributes: &[(CowStr<'a>, Option<CowStr<'a>>)],
 ) -> Result<Vec<(CowStr<'a>, Option<CowStr<'a>>)>, AllocError>
-    ensures { IfOk result (λ copies. map attribute_view copies.items ≡ map attribute_view attributes.now) }
+    ensures { IfOk result (λ copies. map attribute_view copies.items
+        ≡ map attribute_view attributes.now) }
 {
     let mut copies = Vec::new(alloc);
     for attribute in attributes {

@@ -51,7 +51,8 @@ pub fn step_at(tree: &mut Tree<Item>, ix: usize) -> Result<Step, AllocError>
     requires within { ix < length tree.old.nodes }
     requires at_ix { tree.old.cursor ≡ Some ix }
     ensures { (source : List ℕ) (held : Allocated) → TreeStands source (tables_of held) tree.old
-        → MatchResult result (StepGives source tree.old tree.new held) (λ _. IsRefused tree.old tree.new) }
+        → MatchResult result (StepGives source tree.old tree.new held) (λ _.
+        IsRefused tree.old tree.new) }
 {
     let item = *tree.item(ix);
     match way_of(item.body) {
@@ -74,7 +75,8 @@ pub fn step_at(tree: &mut Tree<Item>, ix: usize) -> Result<Step, AllocError>
 /// Takes one step of the walk over a tree. Returns an error where memory is refused; the tree is then unchanged.
 pub fn take_step(tree: &mut Tree<Item>) -> Result<Step, AllocError>
     ensures { (source : List ℕ) (held : Allocated) → TreeStands source (tables_of held) tree.old
-        → MatchResult result (StepGives source tree.old tree.new held) (λ _. IsRefused tree.old tree.new) }
+        → MatchResult result (StepGives source tree.old tree.new held) (λ _.
+        IsRefused tree.old tree.new) }
 {
     match tree.cur() {
         None => Ok(step_out(tree)),

@@ -126,7 +126,8 @@ impl<'input, F: BrokenLinkCallback<'input>> Parser<'input, F> {
     fn start(&mut self, item: Item) -> Result<Event<'input>, Fault>
         requires begins { IsToBegin self.old item way.Start }
         ensures callback { parser_callback self.new ≡ parser_callback self.old }
-        ensures begun { MatchResult result (Began self.old self.new item) (RefusedAt self.old self.new) }
+        ensures begun { MatchResult result (Began self.old self.new item)
+            (RefusedAt self.old self.new) }
     {
         match start_tag(self.alloc, &mut self.resolver.tables, item.body) {
             Ok(tag) => Ok(Event::Start(tag)),
@@ -259,7 +260,8 @@ impl<'input, F: BrokenLinkCallback<'input>> Iterator for OffsetIter<'input, F> {
 
     ghost can_next = { λ o. IfSome (parser_callback (offset_parser o)) F.can_ask };
 
-    ghost next_gives = { λ o r t. NextGives F.answers IsPlacedOf (offset_parser o) r (offset_parser t) };
+    ghost next_gives = { λ o r t.
+        NextGives F.answers IsPlacedOf (offset_parser o) r (offset_parser t) };
 
     ghost remaining = { λ o. at_most (parser_steps (offset_parser o)) };
 
@@ -374,7 +376,8 @@ impl<'input, F: BrokenLinkCallback<'input>> Parser<'input, F> {
     ) -> Result<Self, Fault>
         ensures left { IfOk result (ReadsBlocks blocks.entry) }
         ensures text { IfOk result (λ p. parser_text p ≡ text_of_blocks blocks.entry) }
-        ensures definitions { IfOk result (λ p. parser_definitions p ≡ block_definitions blocks.entry) }
+        ensures definitions { IfOk result (λ p. parser_definitions p
+            ≡ block_definitions blocks.entry) }
         ensures callback { IfOk result (λ p. parser_callback p ≡ callback) }
         ensures work { IfOk result (λ p. parser_work p ≡ no_work) }
         ensures refused { IfErr result (λ fault. fault ≡ Fault.Memory) }
@@ -459,9 +462,11 @@ impl<'input, F: BrokenLinkCallback<'input>> OffsetIter<'input, F> {
     /// left. Returns an error where memory is refused; the events and the callback are then lost.
     pub fn into_events(self) -> Result<(Vec<(Event<'input>, Range<usize>)>, Option<F>), Fault>
         requires { IfSome (parser_callback (offset_parser self)) F.can_ask }
-        ensures all { IfOk result (λ given. GaveRest IsPlacedOf F.answers (offset_parser self.entry) given.0.items
+        ensures all { IfOk result (λ given.
+            GaveRest IsPlacedOf F.answers (offset_parser self.entry) given.0.items
             given.1) }
-        ensures whole { IfOk result (λ given. IsWholeFromStart F.answers (offset_parser self.entry) given.0.items
+        ensures whole { IfOk result (λ given.
+            IsWholeFromStart F.answers (offset_parser self.entry) given.0.items
             given.1) }
         ensures refused { IfErr result (λ fault. fault ≡ Fault.Memory) }
     {

@@ -27,7 +27,8 @@ fn append_text(builder: &mut Builder<'_>, line: Line, to: usize) -> Result<(), A
     requires inside { builder.old.leaf ≡ true }
     requires low { builder.old.at ≤ to }
     requires boundary { IsCharBoundary builder.old.text to }
-    ensures { IfOk result (λ _. builder.new ≡ record builder.old { at = to; run = run_after_text builder.old to }) }
+    ensures { IfOk result (λ _. builder.new
+        ≡ record builder.old { at = to; run = run_after_text builder.old to }) }
 {
     let from = builder.at();
     if from < to {

@@ -11,7 +11,8 @@ use std::alloc::AllocError;
 /// Appends values, each after a comma.
 fn push_others<T: Value>(s: &mut String, values: &[T]) -> Result<(), AllocError>
     ensures ok { OnOk result (Appends s.old s.new (flat_map (after_comma T.json) values.now)) }
-    ensures err { OnErr result (AppendsPart s.old s.new (flat_map (after_comma T.json) values.now)) }
+    ensures err { OnErr result
+        (AppendsPart s.old s.new (flat_map (after_comma T.json) values.now)) }
 {
     for value in values {
         push_field(s, ",", value)?;

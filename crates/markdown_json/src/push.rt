@@ -37,7 +37,8 @@ fn push_range<'x>(s: &mut String, start: &'x str, end: &'x str) -> Result<(), Al
 /// Appends the line of an event whose range is from `start` to `end`.
 fn push_line(s: &mut String, event: &Event<'_>, start: usize, end: usize) -> Result<(), AllocError>
     ensures ok { OnOk result (Appends s.old s.new (line_json (event_view event.now) start end)) }
-    ensures err { OnErr result (AppendsPart s.old s.new (line_json (event_view event.now) start end)) }
+    ensures err { OnErr result
+        (AppendsPart s.old s.new (line_json (event_view event.now) start end)) }
 {
     push_field(s, "[", event)?;
     let mut first = Buffer::new();
@@ -83,7 +84,8 @@ where
     // The first item that is an error, or an error of this function's own.
     ensures err { IfErr result (λ fault.
         StopsAtError I.next_gives iter (string_bytes s.old) (string_bytes s.new) fault
-        ⊎ ((fault ≡ Memory) × IsCutShort I.next_gives iter (string_bytes s.old) (string_bytes s.new))) }
+        ⊎ ((fault ≡ Memory)
+        × IsCutShort I.next_gives iter (string_bytes s.old) (string_bytes s.new))) }
 {
     let _ = alloc;
     for item in iter {

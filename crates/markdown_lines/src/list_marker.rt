@@ -41,7 +41,8 @@ impl ListMarker {
 
 /// Returns the number that a run of at most nine digits spells.
 fn number_of(digits: &[u8]) -> u64
-    ensures { length digits.now ≤ 9 → list_all is_ascii_digit digits.now ≡ true → result ≡ decimal digits.now }
+    ensures { length digits.now ≤ 9 → list_all is_ascii_digit digits.now ≡ true
+        → result ≡ decimal digits.now }
 {
     let mut number: u64 = 0;
     for digit in digits {

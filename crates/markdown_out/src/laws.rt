@@ -31,12 +31,14 @@ pub fn an_image_has_the_html_of_its_parts()
 /// States that no two merged texts are neighbours.
 pub fn merged_texts_are_no_neighbours()
     ensures events { (items : List (Item (Unit {0}))) → HasNoNeighbours (merged nowhere items) }
-    ensures with_range { (items : List (Item (Range ℕ))) → HasNoNeighbours (merged through_ranges items) }
+    ensures with_range { (items : List (Item (Range ℕ)))
+        → HasNoNeighbours (merged through_ranges items) }
 {}
 
 /// States that merging twice is merging once.
 pub fn merging_twice_is_merging_once()
-    ensures events { (items : List (Item (Unit {0}))) → merged nowhere (merged nowhere items) ≡ merged nowhere items }
+    ensures events { (items : List (Item (Unit {0})))
+        → merged nowhere (merged nowhere items) ≡ merged nowhere items }
     ensures with_range { (items : List (Item (Range ℕ))) →
         merged through_ranges (merged through_ranges items) ≡ merged through_ranges items }
 {}
@@ -51,8 +53,10 @@ pub fn merging_keeps_the_html()
 pub fn a_stream_gives_the_merge<'a, I: Iterator<Item = Result<Event<'a>, Fault>>>(
     merge: &TextMergeStream<'a, I>,
 )
-    ensures { StaysEnded I.next_gives (stream_state merge.now).iter → IsNewMerge (stream_state merge.now)
-        → GivesTheMerge nowhere (item_view bare) I.next_gives I.can_next I.remaining stream_state merge.now }
+    ensures { StaysEnded I.next_gives (stream_state merge.now).iter
+        → IsNewMerge (stream_state merge.now)
+        → GivesTheMerge nowhere (item_view bare) I.next_gives I.can_next I.remaining stream_state
+        merge.now }
 {}
 
 /// States for events with their ranges what `a_stream_gives_the_merge` states for events.
@@ -60,8 +64,10 @@ pub fn a_stream_with_offsets_gives_the_merge<
     'a,
     I: Iterator<Item = Result<(Event<'a>, Range<usize>), Fault>>,
 >(merge: &TextMergeWithOffset<'a, I>)
-    ensures { StaysEnded I.next_gives (offset_state merge.now).iter → IsNewMerge (offset_state merge.now)
-        → GivesTheMerge through_ranges (item_view with_range) I.next_gives I.can_next I.remaining offset_state merge.now }
+    ensures { StaysEnded I.next_gives (offset_state merge.now).iter
+        → IsNewMerge (offset_state merge.now)
+        → GivesTheMerge through_ranges (item_view with_range) I.next_gives I.can_next I.remaining
+        offset_state merge.now }
 {}
 
 /// States that a mapped iterator can be merged where its source stays ended and can be merged, and the closure may be
@@ -82,20 +88,26 @@ pub fn html_of_a_merge_is_that_of_the_merged_events<
     'a,
     I: Iterator<Item = Result<Event<'a>, Fault>>,
 >(merge: &TextMergeStream<'a, I>)
-    ensures whole { StaysEnded I.next_gives (stream_state merge.now).iter → IsNewMerge (stream_state merge.now)
+    ensures whole { StaysEnded I.next_gives (stream_state merge.now).iter
+        → IsNewMerge (stream_state merge.now)
         → (old new : List ℕ)
-        → IsRendered (merge_steps nowhere (item_view bare) I.next_gives I.can_next I.remaining stream_state) merge.now
+        → IsRendered (merge_steps nowhere (item_view bare) I.next_gives I.can_next I.remaining
+        stream_state) merge.now
         old new
         → IsRenderedMerged I.next_gives (stream_state merge.now).iter old new }
-    ensures error { StaysEnded I.next_gives (stream_state merge.now).iter → IsNewMerge (stream_state merge.now)
+    ensures error { StaysEnded I.next_gives (stream_state merge.now).iter
+        → IsNewMerge (stream_state merge.now)
         → (old new : List ℕ) (fault : Fault)
-        → StopsAtError (merge_steps nowhere (item_view bare) I.next_gives I.can_next I.remaining stream_state) merge.now
+        → StopsAtError (merge_steps nowhere (item_view bare) I.next_gives I.can_next I.remaining
+        stream_state) merge.now
         old new fault
         → StopsAtErrorMerged I.next_gives (stream_state merge.now).iter old new fault
         ⊎ ((fault ≡ Memory) × IsRefusedMerged I.next_gives (stream_state merge.now).iter old new) }
-    ensures deep { StaysEnded I.next_gives (stream_state merge.now).iter → IsNewMerge (stream_state merge.now)
+    ensures deep { StaysEnded I.next_gives (stream_state merge.now).iter
+        → IsNewMerge (stream_state merge.now)
         → (old new : List ℕ)
-        → GoesTooDeep (merge_steps nowhere (item_view bare) I.next_gives I.can_next I.remaining stream_state) merge.now
+        → GoesTooDeep (merge_steps nowhere (item_view bare) I.next_gives I.can_next I.remaining
+        stream_state) merge.now
         old new
         → GoesTooDeepMerged I.next_gives (stream_state merge.now).iter old new }
 {}

@@ -60,7 +60,8 @@ impl<'a, I: Iterator<Item = Result<Event<'a>, Fault>>> Iterator for TextMergeStr
 
     ghost can_next = { λ m. CanMerge I.next_gives I.can_next I.remaining (stream_state m).iter };
 
-    ghost next_gives = { λ m r t. CallsMerge nowhere (item_view bare) I.next_gives I.can_next I.remaining
+    ghost next_gives = { λ m r t.
+        CallsMerge nowhere (item_view bare) I.next_gives I.can_next I.remaining
         (stream_state m) r (stream_state t) };
 
     ghost remaining = { λ m. at_most (left_count I.remaining (stream_state m)) };
@@ -110,7 +111,8 @@ impl<'a, I: Iterator<Item = Result<(Event<'a>, Range<usize>), Fault>>> Iterator
 
     ghost can_next = { λ m. CanMerge I.next_gives I.can_next I.remaining (offset_state m).iter };
 
-    ghost next_gives = { λ m r t. CallsMerge through_ranges (item_view with_range) I.next_gives I.can_next I.remaining
+    ghost next_gives = { λ m r t.
+        CallsMerge through_ranges (item_view with_range) I.next_gives I.can_next I.remaining
         (offset_state m) r (offset_state t) };
 
     ghost remaining = { λ m. at_most (left_count I.remaining (offset_state m)) };

@@ -24,9 +24,12 @@ pub fn outline_of_a_merge_is_that_of_the_events<
     'a,
     I: Iterator<Item = Result<(Event<'a>, Range<usize>), Fault>>,
 >(merge: &TextMergeWithOffset<'a, I>)
-    ensures { StaysEnded I.next_gives (offset_state merge.now).iter → IsNewMerge (offset_state merge.now)
+    ensures { StaysEnded I.next_gives (offset_state merge.now).iter
+        → IsNewMerge (offset_state merge.now)
         → (entries : List EntryView)
-        → IsOutlineOfAll (merge_steps through_ranges (item_view with_range) I.next_gives I.can_next I.remaining offset_state)
+        → IsOutlineOfAll
+        (merge_steps through_ranges (item_view with_range) I.next_gives I.can_next I.remaining
+        offset_state)
         merge.now entries
         → IsOutlineOfAll I.next_gives (offset_state merge.now).iter entries }
 {}

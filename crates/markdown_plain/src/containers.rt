@@ -73,7 +73,8 @@ fn past_quote(text: &str, place: Place, stop: usize) -> Option<Place>
 /// Returns the place after `indent` columns of space, or, where the line is blank from here on, after at most as many;
 /// `None` where there are fewer.
 fn past_indent(text: &str, place: Place, stop: usize, indent: usize, blank: bool) -> Option<Place>
-    ensures { spec.LeftAt text.now stop (spec.past_indent indent blank (left_from text.now place stop)) result }
+    ensures { spec.LeftAt text.now stop
+        (spec.past_indent indent blank (left_from text.now place stop)) result }
 {
     let found = read_space(text, place, stop, indent);
     if blank || found.columns == indent {
@@ -86,7 +87,8 @@ fn past_indent(text: &str, place: Place, stop: usize, indent: usize, blank: bool
 /// Returns the place after what a footnote definition takes of a line: in GitHub's style four columns of space, in the
 /// old style nothing; `None` where the definition does not continue, in the old style at a blank line.
 fn past_footnote(text: &str, place: Place, stop: usize, old: bool, blank: bool) -> Option<Place>
-    ensures { spec.LeftAt text.now stop (spec.past_footnote old blank (left_from text.now place stop)) result }
+    ensures { spec.LeftAt text.now stop
+        (spec.past_footnote old blank (left_from text.now place stop)) result }
 {
     if !old {
         past_indent(text, place, stop, 4, blank)
@@ -108,7 +110,8 @@ fn past_container(
     line: Line,
     reached: Reached,
 ) -> Option<Place>
-    ensures { spec.LeftAt text.now line.stop (spec.past_container old empty (nat_le line.stop reached.content) body
+    ensures { spec.LeftAt text.now line.stop
+        (spec.past_container old empty (nat_le line.stop reached.content) body
         (left_from text.now reached.place line.stop)) result }
 {
     let blank = reached.content >= line.stop;
@@ -133,7 +136,8 @@ fn behind_container(
 ) -> Reached
     requires { reached.depth + 1 < 2 ^ 64 }
     ensures { spec.reach_of text.now line.stop result
-        ≡ spec.reach_behind body (left_from text.now place line.stop) (spec.reach_of text.now line.stop reached) }
+        ≡ spec.reach_behind body (left_from text.now place line.stop)
+        (spec.reach_of text.now line.stop reached) }
 {
     let depth = reached.depth + 1;
     match body {
@@ -228,8 +232,10 @@ fn reach_blocks(
 /// Returns how far the open containers continue in a line.
 pub fn reach(pass: &Pass<'_>, line: Line) -> Reached
     ensures { spec.reach_of pass.now.placing.builder.text line.stop result
-        ≡ spec.reach_from (old_footnotes_on pass.now.options) pass.now.looseness.item_is_empty line.stop
-        pass.now.placing.builder.blocks (spec.reach_start (spec.whole_line pass.now.placing.builder.text line)) }
+        ≡ spec.reach_from (old_footnotes_on pass.now.options) pass.now.looseness.item_is_empty
+        line.stop
+        pass.now.placing.builder.blocks
+        (spec.reach_start (spec.whole_line pass.now.placing.builder.text line)) }
 {
     reach_blocks(
         pass.placing.text(),
@@ -244,7 +250,8 @@ pub fn reach(pass: &Pass<'_>, line: Line) -> Reached
 /// Returns the space between an item's marker, which ends at the place `behind`, and its content: one to four columns,
 /// or one column where the item begins with a blank line or with indented code.
 fn item_content(text: &str, behind: Place, stop: usize) -> Space
-    ensures columns { result.columns ≡ (opening.item_space stop (left_from text.now behind stop)).columns }
+    ensures columns { result.columns
+        ≡ (opening.item_space stop (left_from text.now behind stop)).columns }
     ensures behind { left_from text.now result.behind stop
         ≡ (opening.item_space stop (left_from text.now behind stop)).after }
     ensures few { result.columns ≤ 5 }
@@ -285,8 +292,10 @@ fn footnote_label<'a>(
 impl<'a> Pass<'a> {
     /// Opens a block quote whose marker is at the place `here`, and returns the place after the marker.
     pub fn open_quote(&mut self, line: Line, here: Place) -> Result<Place, AllocError>
-        ensures text { IfOk result (λ _. self.new.placing.builder.text ≡ self.old.placing.builder.text) }
-        ensures opens { IfOk result (λ _. IfFitted self.old.placing self.new.placing (self.new.placing.builder
+        ensures text { IfOk result (λ _. self.new.placing.builder.text
+            ≡ self.old.placing.builder.text) }
+        ensures opens { IfOk result (λ _.
+            IfFitted self.old.placing self.new.placing (self.new.placing.builder
             ≡ opened self.old.placing.builder here.at (body.BlockQuote None))) }
         ensures inside { IfOk result (λ inside. here.at < line.stop
             → left_from self.old.placing.builder.text inside line.stop
@@ -307,7 +316,8 @@ impl<'a> Pass<'a> {
         marker: ListMarker,
         depth: usize,
     ) -> Result<Place, AllocError>
-        ensures text { IfOk result (λ _. self.new.placing.builder.text ≡ self.old.placing.builder.text) }
+        ensures text { IfOk result (λ _. self.new.placing.builder.text
+            ≡ self.old.placing.builder.text) }
         ensures around { IfOk result (λ _. IfFitted self.old.placing self.new.placing ((indent : ℕ)
             × (self.new.placing.builder.blocks ≡ opening.around_item before.behind.at marker
             (take depth (without_leaf self.old.placing.builder))
@@ -342,9 +352,11 @@ impl<'a> Pass<'a> {
     /// Adds an item to the innermost open block, if that is a list with this character, and otherwise opens a list. The
     /// item itself is not opened yet.
     fn open_list(&mut self, marker: ListMarker, at: usize) -> Result<(), AllocError>
-        ensures text { IfOk result (λ _. self.new.placing.builder.text ≡ self.old.placing.builder.text) }
+        ensures text { IfOk result (λ _. self.new.placing.builder.text
+            ≡ self.old.placing.builder.text) }
         ensures around { IfOk result (λ _. IfFitted self.old.placing self.new.placing
-            (self.new.placing.builder.blocks ≡ opening.around_item at marker self.old.placing.builder.blocks)) }
+            (self.new.placing.builder.blocks
+            ≡ opening.around_item at marker self.old.placing.builder.blocks)) }
         ensures empty { IfOk result (λ _. self.new.looseness.item_is_empty ≡ true) }
         ensures same { self.new ≡ record self.old {
           placing = self.new.placing;
@@ -372,17 +384,21 @@ impl<'a> Pass<'a> {
         here: Place,
         depth: usize,
     ) -> Result<Option<Place>, AllocError>
-        ensures text { IfOk result (λ _. self.new.placing.builder.text ≡ self.old.placing.builder.text) }
+        ensures text { IfOk result (λ _. self.new.placing.builder.text
+            ≡ self.old.placing.builder.text) }
         ensures off { IfOk result (λ found. footnotes_on self.old.options ≡ false → found ≡ None) }
         ensures on { IfOk result (λ found. footnotes_on self.old.options ≡ true → (content : List ℕ)
             × IsPartOf self.old.placing.builder.text here.at line.stop content
             × MatchOption found (opening.note_of content ≡ None)
             (opening.InsideNote self.old.placing.builder.text here line.stop content)) }
         ensures none { IfOk result (λ found. found ≡ None → self.new ≡ self.old) }
-        ensures opens { IfOk result (λ found. IfSome found (λ _. IfFitted self.old.placing self.new.placing ((ix : _)
-            × (self.new.placing.builder.blocks ≡ room_in depth (without_leaf self.old.placing.builder)
+        ensures opens { IfOk result (λ found. IfSome found (λ _.
+            IfFitted self.old.placing self.new.placing ((ix : _)
+            × (self.new.placing.builder.blocks
+            ≡ room_in depth (without_leaf self.old.placing.builder)
             ++ record { start = here.at; body = body.FootnoteDefinition ix } ∷ [])))) }
-        ensures here { IfOk result (λ found. IfSome found (λ _. IfFitted self.old.placing self.new.placing
+        ensures here { IfOk result (λ found. IfSome found (λ _.
+            IfFitted self.old.placing self.new.placing
             (self.new.placing.builder.at ≡ here.at))) }
         ensures ended { IfOk result (λ found. IfSome found (λ _. self.new.lines.items ≡ [])) }
         ensures same { self.new ≡ record self.old {

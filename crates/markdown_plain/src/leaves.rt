@@ -54,7 +54,8 @@ fn add_codes(placing: &mut Placing<'_>, lines: &[HeldLine]) -> Result<(), AllocE
 
 /// Returns the rest of a line from a place on.
 fn rest_of(line: Line, place: Place) -> HeldLine
-    ensures { result ≡ record { start = place.at; stop = line.stop; next = line.next; owed = place.owed } }
+    ensures { result
+        ≡ record { start = place.at; stop = line.stop; next = line.next; owed = place.owed } }
 {
     HeldLine {
         start: place.at,
@@ -67,7 +68,8 @@ fn rest_of(line: Line, place: Place) -> HeldLine
 impl<'a> Pass<'a> {
     /// Adds a thematic break that begins here.
     pub fn add_thematic_break(&mut self, line: Line) -> Result<(), AllocError>
-        ensures text { IfOk result (λ _. self.new.placing.builder.text ≡ self.old.placing.builder.text) }
+        ensures text { IfOk result (λ _. self.new.placing.builder.text
+            ≡ self.old.placing.builder.text) }
         ensures adds { IfOk result (λ _. IfFitted self.old.placing self.new.placing
             (self.new.placing.builder ≡ extended self.old.placing.builder line.next)) }
         ensures same { self.new ≡ record self.old { placing = self.new.placing } }
@@ -78,7 +80,8 @@ impl<'a> Pass<'a> {
     /// Adds an ATX heading that begins here.
     #[tactic(auto, using(crate::proofs::OpenBlocksLemmas::outer_of_opened))]
     pub fn add_heading(&mut self, line: Line, heading: AtxHeading) -> Result<(), AllocError>
-        ensures text { IfOk result (λ _. self.new.placing.builder.text ≡ self.old.placing.builder.text) }
+        ensures text { IfOk result (λ _. self.new.placing.builder.text
+            ≡ self.old.placing.builder.text) }
         ensures adds { IfOk result (λ _. IfFitted self.old.placing self.new.placing
             (IsPlacedTo self.old.placing.builder self.new.placing.builder line.next)) }
         ensures same { self.new ≡ record self.old { placing = self.new.placing } }
@@ -99,13 +102,16 @@ impl<'a> Pass<'a> {
         at: usize,
         opening: OpeningFence,
     ) -> Result<(), AllocError>
-        ensures text { IfOk result (λ _. self.new.placing.builder.text ≡ self.old.placing.builder.text) }
+        ensures text { IfOk result (λ _. self.new.placing.builder.text
+            ≡ self.old.placing.builder.text) }
         ensures opens { IfOk result (λ _. (info : List ℕ)
             × IsPartOf self.old.placing.builder.text opening.from opening.to info
-            × IfFitted self.old.placing self.new.placing (OpensFenced self.old.placing.builder self.new.placing.builder
+            × IfFitted self.old.placing self.new.placing
+            (OpensFenced self.old.placing.builder self.new.placing.builder
             at line.next (unescaped false info))) }
         ensures kind { IfOk result (λ _. self.new.leaf ≡ leaf_kind.Fenced opening.fence) }
-        ensures same { self.new ≡ record self.old { placing = self.new.placing; leaf = self.new.leaf } }
+        ensures same { self.new
+            ≡ record self.old { placing = self.new.placing; leaf = self.new.leaf } }
     {
         self.placing.step_to(at);
         let source = part_of(self.placing.text(), opening.from, opening.to);
@@ -118,13 +124,18 @@ impl<'a> Pass<'a> {
 
     /// Adds a line to the open fenced code block, or closes the block where the line is a closing fence.
     pub fn add_fenced(&mut self, fence: Fence, line: Line, place: Place) -> Result<(), AllocError>
-        ensures text { IfOk result (λ _. self.new.placing.builder.text ≡ self.old.placing.builder.text) }
-        ensures closes { IfOk result (λ _. is_closed_at self.old.placing.builder.text place line fence ≡ true →
+        ensures text { IfOk result (λ _. self.new.placing.builder.text
+            ≡ self.old.placing.builder.text) }
+        ensures closes { IfOk result (λ _.
+            is_closed_at self.old.placing.builder.text place line fence ≡ true →
             IfFitted self.old.placing self.new.placing (self.new.placing.builder
             ≡ record (closed self.old.placing.builder) { at = line.next })) }
-        ensures code { IfOk result (λ _. is_closed_at self.old.placing.builder.text place line fence ≡ false →
-            IfFitted self.old.placing self.new.placing (GoesOn self.old.placing.builder self.new.placing.builder
-            (behind_line (code_behind self.old.placing.builder.text place line fence.indent).scanned line.next))) }
+        ensures code { IfOk result (λ _. is_closed_at self.old.placing.builder.text place line fence
+            ≡ false →
+            IfFitted self.old.placing self.new.placing
+            (GoesOn self.old.placing.builder self.new.placing.builder
+            (behind_line (code_behind self.old.placing.builder.text place line fence.indent).scanned
+            line.next))) }
         ensures same { self.new ≡ record self.old { placing = self.new.placing } }
     {
         let text = self.placing.text();
@@ -142,15 +153,20 @@ impl<'a> Pass<'a> {
     /// its first Html includes the spaces before that.
     #[tactic(auto, using(crate::proofs::OpenBlocksLemmas::outer_of_opened))]
     pub fn open_html(&mut self, line: Line, place: Place, kind: HtmlKind) -> Result<(), AllocError>
-        ensures text { IfOk result (λ _. self.new.placing.builder.text ≡ self.old.placing.builder.text) }
-        ensures ends { IfOk result (λ _. ends_html_at self.old.placing.builder.text place line kind ≡ true →
+        ensures text { IfOk result (λ _. self.new.placing.builder.text
+            ≡ self.old.placing.builder.text) }
+        ensures ends { IfOk result (λ _. ends_html_at self.old.placing.builder.text place line kind
+            ≡ true →
             IfFitted self.old.placing self.new.placing
-            (IsPlacedTo self.old.placing.builder self.new.placing.builder (behind_line place.at line.next))) }
-        ensures opens { IfOk result (λ _. ends_html_at self.old.placing.builder.text place line kind ≡ false →
+            (IsPlacedTo self.old.placing.builder self.new.placing.builder
+            (behind_line place.at line.next))) }
+        ensures opens { IfOk result (λ _. ends_html_at self.old.placing.builder.text place line kind
+            ≡ false →
             IfFitted self.old.placing self.new.placing
             (OpensHtml self.old.placing.builder self.new.placing.builder place.at line.next)) }
         ensures kind { IfOk result (λ _. self.new.leaf ≡ leaf_kind.Html kind) }
-        ensures same { self.new ≡ record self.old { placing = self.new.placing; leaf = self.new.leaf } }
+        ensures same { self.new
+            ≡ record self.old { placing = self.new.placing; leaf = self.new.leaf } }
     {
         self.placing.step_to(place.at);
         self.placing.open_block(ItemBody::HtmlBlock)?;
@@ -163,16 +179,20 @@ impl<'a> Pass<'a> {
 
     /// Adds a line to the open HTML block, and closes the block if the line ends it.
     pub fn add_html(&mut self, kind: HtmlKind, line: Line, place: Place) -> Result<(), AllocError>
-        ensures text { IfOk result (λ _. self.new.placing.builder.text ≡ self.old.placing.builder.text) }
-        ensures ends { IfOk result (λ _. ends_html_at self.old.placing.builder.text place line kind ≡ true →
+        ensures text { IfOk result (λ _. self.new.placing.builder.text
+            ≡ self.old.placing.builder.text) }
+        ensures ends { IfOk result (λ _. ends_html_at self.old.placing.builder.text place line kind
+            ≡ true →
             IfFitted self.old.placing self.new.placing (self.new.placing.builder
             ≡ record (closed self.old.placing.builder) {
               at = behind_line place.at line.next;
               texts = self.new.placing.builder.texts;
             })) }
-        ensures goes_on { IfOk result (λ _. ends_html_at self.old.placing.builder.text place line kind ≡ false →
+        ensures goes_on { IfOk result (λ _.
+            ends_html_at self.old.placing.builder.text place line kind ≡ false →
             IfFitted self.old.placing self.new.placing
-            (GoesOn self.old.placing.builder self.new.placing.builder (behind_line place.at line.next))) }
+            (GoesOn self.old.placing.builder self.new.placing.builder
+            (behind_line place.at line.next))) }
         ensures same { self.new ≡ record self.old { placing = self.new.placing } }
     {
         self.add_html_line(line, place)?;
@@ -182,9 +202,11 @@ impl<'a> Pass<'a> {
 
     /// Appends the rest of a line from a place on: an Html, after the columns that a partly read tab owes.
     fn add_html_line(&mut self, line: Line, place: Place) -> Result<(), AllocError>
-        ensures text { IfOk result (λ _. self.new.placing.builder.text ≡ self.old.placing.builder.text) }
+        ensures text { IfOk result (λ _. self.new.placing.builder.text
+            ≡ self.old.placing.builder.text) }
         ensures goes_on { IfOk result (λ _. IfFitted self.old.placing self.new.placing
-            (GoesOn self.old.placing.builder self.new.placing.builder (behind_line place.at line.next))) }
+            (GoesOn self.old.placing.builder self.new.placing.builder
+            (behind_line place.at line.next))) }
         ensures same { self.new ≡ record self.old { placing = self.new.placing } }
     {
         self.placing.step_to(place.at);
@@ -199,7 +221,8 @@ impl<'a> Pass<'a> {
     fn end_html(&mut self, kind: HtmlKind, line: Line, place: Place)
         ensures text { self.new.placing.builder.text ≡ self.old.placing.builder.text }
         ensures ends { ends_html_at self.old.placing.builder.text place line kind ≡ true
-            → IfFitted self.old.placing self.new.placing (self.new.placing.builder ≡ closed self.old.placing.builder) }
+            → IfFitted self.old.placing self.new.placing
+            (self.new.placing.builder ≡ closed self.old.placing.builder) }
         ensures goes_on { ends_html_at self.old.placing.builder.text place line kind ≡ false
             → self.new ≡ self.old }
         ensures same { self.new ≡ record self.old { placing = self.new.placing } }
@@ -211,15 +234,18 @@ impl<'a> Pass<'a> {
 
     /// Opens an indented code block with a line whose code begins at a place.
     pub fn open_indented(&mut self, line: Line, place: Place) -> Result<(), AllocError>
-        ensures text { IfOk result (λ _. self.new.placing.builder.text ≡ self.old.placing.builder.text) }
+        ensures text { IfOk result (λ _. self.new.placing.builder.text
+            ≡ self.old.placing.builder.text) }
         ensures opens { IfOk result (λ _. IfFitted self.old.placing self.new.placing
-            (self.new.placing.builder ≡ record (opened self.old.placing.builder place.at body.IndentCodeBlock) {
+            (self.new.placing.builder
+            ≡ record (opened self.old.placing.builder place.at body.IndentCodeBlock) {
               at = behind_line place.at line.next;
               run = self.new.placing.builder.run;
               texts = self.new.placing.builder.texts;
             })) }
         ensures kind { IfOk result (λ _. self.new.leaf ≡ leaf_kind.Indented) }
-        ensures same { self.new ≡ record self.old { placing = self.new.placing; leaf = self.new.leaf } }
+        ensures same { self.new
+            ≡ record self.old { placing = self.new.placing; leaf = self.new.leaf } }
     {
         self.placing.step_to(place.at);
         self.placing.open_block(ItemBody::IndentCodeBlock)?;
@@ -229,11 +255,14 @@ impl<'a> Pass<'a> {
 
     /// Adds a line to the open indented code block, after the blank lines that were held back.
     pub fn add_indented(&mut self, line: Line, place: Place) -> Result<(), AllocError>
-        ensures text { IfOk result (λ _. self.new.placing.builder.text ≡ self.old.placing.builder.text) }
+        ensures text { IfOk result (λ _. self.new.placing.builder.text
+            ≡ self.old.placing.builder.text) }
         ensures goes_on { IfOk result (λ _. IfFitted self.old.placing self.new.placing
-            (GoesOn self.old.placing.builder self.new.placing.builder (behind_line place.at line.next))) }
+            (GoesOn self.old.placing.builder self.new.placing.builder
+            (behind_line place.at line.next))) }
         ensures emptied { IfOk result (λ _. self.new.lines.items ≡ []) }
-        ensures same { self.new ≡ record self.old { placing = self.new.placing; lines = self.new.lines } }
+        ensures same { self.new
+            ≡ record self.old { placing = self.new.placing; lines = self.new.lines } }
     {
         add_codes(&mut self.placing, &self.lines)?;
         self.lines.clear();

@@ -44,7 +44,8 @@ impl Looseness {
     /// Records that a list was opened with its first item: it is tight, whether or not a blank line precedes it. Fails
     /// where memory is refused.
     pub fn open_list(&mut self) -> Result<(), AllocError>
-        ensures read { IfOk result (λ _. (blank : Bool) → IsRead self.old.lists.items [] (new_item blank) self.new) }
+        ensures read { IfOk result (λ _. (blank : Bool)
+            → IsRead self.old.lists.items [] (new_item blank) self.new) }
         ensures same { IfOk result (λ _. self.new
             ≡ record self.old { lists = self.new.lists; item_is_empty = true }) }
     {
@@ -56,8 +57,10 @@ impl Looseness {
     /// Records that an item is added to the innermost list, which is the innermost of the open blocks.
     #[tactic(auto, using(crate::proofs::ListLoosenessLemmas::item_added))]
     pub fn add_item(&mut self, blocks: &[OpenBlock])
-        ensures read { (outer : List Bool) (items : List ItemRead) (last : ItemRead) → IsRead outer items last self.old
-            → IsRead outer (items ++ last ∷ []) (new_item (is_behind_blank self.old.blank_from blocks.now)) self.new }
+        ensures read { (outer : List Bool) (items : List ItemRead) (last : ItemRead)
+            → IsRead outer items last self.old
+            → IsRead outer (items ++ last ∷ [])
+            (new_item (is_behind_blank self.old.blank_from blocks.now)) self.new }
         ensures same { self.new ≡ record self.old { lists = self.new.lists; item_is_empty = true } }
     {
         if self.is_behind_blank(blocks) {
@@ -71,10 +74,14 @@ impl Looseness {
     #[tactic(auto, using(crate::proofs::ListLoosenessLemmas::block_added))]
     pub fn add_block(&mut self, blocks: &[OpenBlock])
         ensures inside { innermost_is is_item blocks.now ≡ true
-            → (outer : List Bool) (items : List ItemRead) (last : ItemRead) → IsRead outer items last self.old
-            → IsRead outer items (with_block last (is_behind_blank self.old.blank_from blocks.now)) self.new }
-        ensures elsewhere { innermost_is is_item blocks.now ≡ false → self.new.lists ≡ self.old.lists }
-        ensures same { self.new ≡ record self.old { lists = self.new.lists; item_is_empty = false } }
+            → (outer : List Bool) (items : List ItemRead) (last : ItemRead)
+            → IsRead outer items last self.old
+            → IsRead outer items (with_block last (is_behind_blank self.old.blank_from blocks.now))
+            self.new }
+        ensures elsewhere { innermost_is is_item blocks.now ≡ false
+            → self.new.lists ≡ self.old.lists }
+        ensures same { self.new
+            ≡ record self.old { lists = self.new.lists; item_is_empty = false } }
     {
         if is_in_item(blocks) && !self.item_is_empty && self.is_behind_blank(blocks) {
             self.loosen();
@@ -92,7 +99,8 @@ impl Looseness {
             → self.new.lists.items ≡ outer ++ is_loose (items ++ last ∷ []) ∷ []
             → is_empty last.blocks ≡ false → IsRead outer items last self.new }
         ensures none { self.old.lists.items ≡ [] → (self.new.lists.items ≡ []) × (result ≡ false) }
-        ensures same { self.new ≡ record self.old { lists = self.new.lists; item_is_empty = false } }
+        ensures same { self.new
+            ≡ record self.old { lists = self.new.lists; item_is_empty = false } }
     {
         self.item_is_empty = false;
         match self.lists.pop() {
@@ -103,7 +111,8 @@ impl Looseness {
 
     /// Records a line that was blank for the open blocks from the number `from` on.
     pub fn see_blank(&mut self, from: usize)
-        ensures { self.new ≡ record self.old { blank_from = Some (blank_from self.old.blank_from from) } }
+        ensures { self.new
+            ≡ record self.old { blank_from = Some (blank_from self.old.blank_from from) } }
     {
         self.blank_from = match self.blank_from {
             Some(before) => Some(before.min(from)),
@@ -120,7 +129,8 @@ impl Looseness {
 
     /// Makes the innermost list loose.
     fn loosen(&mut self)
-        ensures loose { (outer : List Bool) (before : Bool) → self.old.lists.items ≡ outer ++ before ∷ []
+        ensures loose { (outer : List Bool) (before : Bool)
+            → self.old.lists.items ≡ outer ++ before ∷ []
             → self.new.lists.items ≡ outer ++ true ∷ [] }
         ensures same { self.new ≡ record self.old { lists = self.new.lists } }
     {

@@ -144,7 +144,8 @@ fn add_lines(
 
 /// Returns the body of a paragraph, or of the heading that it turned out to be.
 fn body_of(heading: Option<(HeadingLevel, Line)>) -> ItemBody
-    ensures value { MatchOption heading (result ≡ body.Paragraph) (λ h. result ≡ body.Heading h.0 None) }
+    ensures value { MatchOption heading (result ≡ body.Paragraph) (λ h. result
+        ≡ body.Heading h.0 None) }
     ensures plain { is_plain_block result ≡ true }
 {
     match heading {
@@ -182,11 +183,16 @@ impl<'a> Pass<'a> {
     /// Adds a line, from its first content byte at byte offset `start` on, to the open paragraph; where none is open,
     /// begins one inside the outermost `depth` of the open blocks.
     pub fn add_text(&mut self, line: Line, start: usize, depth: usize) -> Result<(), AllocError>
-        ensures text { IfOk result (λ _. self.new.placing.builder.text ≡ self.old.placing.builder.text) }
-        ensures goes_on { has_paragraph self.old ≡ true → self.new ≡ record self.old { lines = self.new.lines } }
-        ensures begins { IfOk result (λ _. has_paragraph self.old ≡ false → IfFitted self.old.placing self.new.placing
-            (self.new.placing.builder.blocks ≡ room_in depth (without_leaf self.old.placing.builder))) }
-        ensures outside { IfOk result (λ _. has_paragraph self.old ≡ false → IfFitted self.old.placing self.new.placing
+        ensures text { IfOk result (λ _. self.new.placing.builder.text
+            ≡ self.old.placing.builder.text) }
+        ensures goes_on { has_paragraph self.old ≡ true
+            → self.new ≡ record self.old { lines = self.new.lines } }
+        ensures begins { IfOk result (λ _. has_paragraph self.old ≡ false
+            → IfFitted self.old.placing self.new.placing
+            (self.new.placing.builder.blocks
+            ≡ room_in depth (without_leaf self.old.placing.builder))) }
+        ensures outside { IfOk result (λ _. has_paragraph self.old ≡ false
+            → IfFitted self.old.placing self.new.placing
             (self.new.placing.builder.leaf ≡ false)) }
         ensures line { IfOk result (λ _. self.new.lines.items
             ≡ (if has_paragraph self.old then self.old.lines.items else [])
@@ -211,17 +217,21 @@ impl<'a> Pass<'a> {
         &mut self,
         heading: Option<(HeadingLevel, Line)>,
     ) -> Result<bool, AllocError>
-        ensures text { IfOk result (λ _. self.new.placing.builder.text ≡ self.old.placing.builder.text) }
+        ensures text { IfOk result (λ _. self.new.placing.builder.text
+            ≡ self.old.placing.builder.text) }
         ensures ends { IfOk result (λ left. left ≡ true → IfFitted self.old.placing self.new.placing
             (IsPlacedTo self.old.placing.builder self.new.placing.builder
             (paragraph_end self.old.lines.items heading))) }
-        ensures defines { IfOk result (λ left. left ≡ false → IfFitted self.old.placing self.new.placing
-            (self.new.placing.builder ≡ stepped self.old.placing.builder self.new.placing.builder.at)) }
+        ensures defines { IfOk result (λ left. left ≡ false
+            → IfFitted self.old.placing self.new.placing
+            (self.new.placing.builder
+            ≡ stepped self.old.placing.builder self.new.placing.builder.at)) }
         ensures behind { IfOk result (λ left. left ≡ false → 0 < length self.old.lines.items
             → IfFitted self.old.placing self.new.placing
             (self.new.placing.builder.at ≡ lines_end self.old.lines.items)) }
         ensures emptied { IfOk result (λ _. self.new.lines.items ≡ []) }
-        ensures same { self.new ≡ record self.old { placing = self.new.placing; lines = self.new.lines } }
+        ensures same { self.new
+            ≡ record self.old { placing = self.new.placing; lines = self.new.lines } }
     {
         let taken = take_definitions(self.alloc, &mut self.placing, &self.lines)?;
         let left = taken < self.lines.len();

@@ -102,13 +102,15 @@ impl<'a> Pass<'a> {
         ensures text { self.new.placing.builder.text ≡ self.old.placing.builder.text }
         ensures closes { IfFitted self.old.placing self.new.placing (self.new.placing.builder
             ≡ record (closed self.old.placing.builder) { at = closing_place self.old }) }
-        ensures same { self.new ≡ record self.old { placing = self.new.placing; looseness = self.new.looseness } }
+        ensures same { self.new
+            ≡ record self.old { placing = self.new.placing; looseness = self.new.looseness } }
         ensures looseness { self.new.looseness ≡ record self.old.looseness {
           lists = self.new.looseness.lists;
           item_is_empty = self.new.looseness.item_is_empty;
         } }
         ensures stands { self.new.looseness.item_is_empty
-            ≡ (not (innermost_is is_list self.old.placing.builder.blocks) && self.old.looseness.item_is_empty) }
+            ≡ (not (innermost_is is_list self.old.placing.builder.blocks)
+            && self.old.looseness.item_is_empty) }
     {
         match innermost(&self.placing) {
             Some(ItemBody::List(_, character, first)) => {
@@ -125,9 +127,11 @@ impl<'a> Pass<'a> {
 
     /// Ends the open leaf, and closes the open blocks except the outermost `depth`.
     pub fn close_down(&mut self, depth: usize) -> Result<(), AllocError>
-        ensures text { IfOk result (λ _. self.new.placing.builder.text ≡ self.old.placing.builder.text) }
+        ensures text { IfOk result (λ _. self.new.placing.builder.text
+            ≡ self.old.placing.builder.text) }
         ensures closes { IfOk result (λ _. IfFitted self.old.placing self.new.placing
-            (self.new.placing.builder.blocks ≡ take depth (without_leaf self.old.placing.builder))) }
+            (self.new.placing.builder.blocks
+            ≡ take depth (without_leaf self.old.placing.builder))) }
         ensures outside { IfOk result (λ _. IfFitted self.old.placing self.new.placing
             (self.new.placing.builder.leaf ≡ false)) }
         ensures ended { IfOk result (λ _. self.new.lines.items ≡ []) }
@@ -151,9 +155,11 @@ impl<'a> Pass<'a> {
     /// Makes room for a block that is not an item: ends the open leaf, closes the open blocks except the outermost
     /// `depth`, and also closes the innermost of these if it is a list.
     pub fn make_room(&mut self, depth: usize) -> Result<(), AllocError>
-        ensures text { IfOk result (λ _. self.new.placing.builder.text ≡ self.old.placing.builder.text) }
+        ensures text { IfOk result (λ _. self.new.placing.builder.text
+            ≡ self.old.placing.builder.text) }
         ensures closes { IfOk result (λ _. IfFitted self.old.placing self.new.placing
-            (self.new.placing.builder.blocks ≡ room_in depth (without_leaf self.old.placing.builder))) }
+            (self.new.placing.builder.blocks
+            ≡ room_in depth (without_leaf self.old.placing.builder))) }
         ensures outside { IfOk result (λ _. IfFitted self.old.placing self.new.placing
             (self.new.placing.builder.leaf ≡ false)) }
         ensures ended { IfOk result (λ _. self.new.lines.items ≡ []) }
@@ -163,7 +169,10 @@ impl<'a> Pass<'a> {
           looseness = self.new.looseness;
         } }
         ensures looseness { IfOk result (λ _. self.new.looseness
-            ≡ record self.old.looseness { lists = self.new.looseness.lists; item_is_empty = false }) }
+            ≡ record self.old.looseness {
+              lists = self.new.looseness.lists;
+              item_is_empty = false;
+            }) }
     {
         self.close_down(depth)?;
         if self.is_in_list() {
@@ -176,13 +185,15 @@ impl<'a> Pass<'a> {
     /// Ends the open leaf: places a paragraph, or closes another leaf without the blank lines held back at its end,
     /// which are not part of it.
     pub fn end_leaf(&mut self) -> Result<(), AllocError>
-        ensures text { IfOk result (λ _. self.new.placing.builder.text ≡ self.old.placing.builder.text) }
+        ensures text { IfOk result (λ _. self.new.placing.builder.text
+            ≡ self.old.placing.builder.text) }
         ensures ends { IfOk result (λ _. IfFitted self.old.placing self.new.placing
             (self.new.placing.builder.blocks ≡ without_leaf self.old.placing.builder)) }
         ensures outside { IfOk result (λ _. IfFitted self.old.placing self.new.placing
             (self.new.placing.builder.leaf ≡ false)) }
         ensures ended { IfOk result (λ _. self.new.lines.items ≡ []) }
-        ensures same { self.new ≡ record self.old { placing = self.new.placing; lines = self.new.lines } }
+        ensures same { self.new
+            ≡ record self.old { placing = self.new.placing; lines = self.new.lines } }
     {
         if self.placing.is_in_leaf() {
             self.lines.clear();
@@ -196,7 +207,8 @@ impl<'a> Pass<'a> {
 
 /// Returns the body of the innermost open block.
 pub fn innermost(placing: &Placing<'_>) -> Option<ItemBody>
-    ensures { result ≡ option_map (λ block. block.body) (innermost_block placing.now.builder.blocks) }
+    ensures { result
+        ≡ option_map (λ block. block.body) (innermost_block placing.now.builder.blocks) }
 {
     match placing.open_blocks().last() {
         Some(block) => Some(block.body),
@@ -211,7 +223,8 @@ fn close_list(placing: &mut Placing<'_>, character: u8, first: u64, loose: bool)
     ensures settles { IfFitted placing.old placing.new ((settled : BuilderView)
         × HasBody placing.old.builder settled (body.List (not loose) character first)
         × (placing.new.builder ≡ closed settled)) }
-    ensures closes { IfFitted placing.old placing.new (placing.new.builder ≡ closed placing.old.builder) }
+    ensures closes { IfFitted placing.old placing.new
+        (placing.new.builder ≡ closed placing.old.builder) }
 {
     placing.change(ItemBody::List(!loose, character, first));
     placing.close();

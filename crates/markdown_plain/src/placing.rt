@@ -104,7 +104,8 @@ impl<'a> Placing<'a> {
     /// Moves to byte offset `to`; where no block is open, only white space may be before it.
     pub fn step_to(&mut self, to: usize)
         ensures text { self.new.builder.text ≡ self.old.builder.text }
-        ensures steps { IfFitted self.old self.new (self.new.builder ≡ stepped self.old.builder to) }
+        ensures steps { IfFitted self.old self.new
+            (self.new.builder ≡ stepped self.old.builder to) }
         ensures fits { IsAhead self.old.builder to → IsWhiteOutside self.old.builder to
             → self.new.misfits ≡ self.old.misfits }
     {
@@ -129,8 +130,10 @@ impl<'a> Placing<'a> {
     pub fn open_block(&mut self, body: ItemBody) -> Result<(), AllocError>
         requires { is_plain_block body ≡ true }
         ensures text { IfOk result (λ _. self.new.builder.text ≡ self.old.builder.text) }
-        ensures opens { IfOk result (λ _. IfFitted self.old self.new (Opens self.old.builder self.new.builder body)) }
-        ensures fits { IfOk result (λ _. self.old.builder.leaf ≡ false → self.new.misfits ≡ self.old.misfits) }
+        ensures opens { IfOk result (λ _.
+            IfFitted self.old self.new (Opens self.old.builder self.new.builder body)) }
+        ensures fits { IfOk result (λ _. self.old.builder.leaf ≡ false
+            → self.new.misfits ≡ self.old.misfits) }
     {
         if self.builder.is_in_leaf() {
             self.miss();
@@ -150,9 +153,12 @@ impl<'a> Placing<'a> {
     pub fn open_code(&mut self, info: CowStr<'a>) -> Result<(), AllocError>
         ensures text { IfOk result (λ _. self.new.builder.text ≡ self.old.builder.text) }
         ensures opens { IfOk result (λ _. IfFitted self.old self.new
-            (OpensNaming self.old.builder self.new.builder body.FencedCodeBlock (text_of info.entry))) }
-        ensures listed { IfOk result (λ _. self.new.builder.footnotes ≡ self.old.builder.footnotes) }
-        ensures fits { IfOk result (λ _. self.old.builder.leaf ≡ false → self.new.misfits ≡ self.old.misfits) }
+            (OpensNaming self.old.builder self.new.builder body.FencedCodeBlock
+            (text_of info.entry))) }
+        ensures listed { IfOk result (λ _. self.new.builder.footnotes
+            ≡ self.old.builder.footnotes) }
+        ensures fits { IfOk result (λ _. self.old.builder.leaf ≡ false
+            → self.new.misfits ≡ self.old.misfits) }
     {
         if self.builder.is_in_leaf() {
             self.miss();
@@ -173,10 +179,13 @@ impl<'a> Placing<'a> {
     pub fn open_note(&mut self, name: CowStr<'a>, listed: CowStr<'a>) -> Result<(), AllocError>
         ensures text { IfOk result (λ _. self.new.builder.text ≡ self.old.builder.text) }
         ensures opens { IfOk result (λ _. IfFitted self.old self.new
-            (OpensNaming self.old.builder self.new.builder body.FootnoteDefinition (text_of name.entry))) }
+            (OpensNaming self.old.builder self.new.builder body.FootnoteDefinition
+            (text_of name.entry))) }
         ensures listed { IfOk result (λ _. IfFitted self.old self.new
-            (self.new.builder.footnotes ≡ self.old.builder.footnotes ++ text_of listed.entry ∷ [])) }
-        ensures fits { IfOk result (λ _. self.old.builder.leaf ≡ false → self.new.misfits ≡ self.old.misfits) }
+            (self.new.builder.footnotes
+            ≡ self.old.builder.footnotes ++ text_of listed.entry ∷ [])) }
+        ensures fits { IfOk result (λ _. self.old.builder.leaf ≡ false
+            → self.new.misfits ≡ self.old.misfits) }
     {
         if self.builder.is_in_leaf() {
             self.miss();
@@ -199,9 +208,11 @@ impl<'a> Placing<'a> {
     fn content_of_block(&self) -> Option<usize>
         ensures low { IfSome result (λ content. content ≤ self.now.builder.at) }
         ensures boundary { IfSome result (λ content. IsCharBoundary self.now.builder.text content) }
-        ensures white { IfSome result (λ content. IfSome (innermost_block self.now.builder.blocks) (λ block.
+        ensures white { IfSome result (λ content.
+            IfSome (innermost_block self.now.builder.blocks) (λ block.
             IsWhite self.now.builder.text block.start content)) }
-        ensures next { IfSome result (λ content. IfSome (innermost_block self.now.builder.blocks) (λ block.
+        ensures next { IfSome result (λ content.
+            IfSome (innermost_block self.now.builder.blocks) (λ block.
             IsNextContent self.now.builder.text block.start (Some content))) }
         ensures open { IfSome result (λ _. self.now.builder.blocks ≡ [] → ⊥) }
     {
@@ -220,8 +231,10 @@ impl<'a> Placing<'a> {
 
     /// Moves the start of the innermost open block to its first content byte, though its first item starts before that.
     pub fn begin_at_content(&mut self)
-        ensures same { self.new.builder ≡ record self.old.builder { blocks = self.new.builder.blocks } }
-        ensures begins { IfFitted self.old self.new (BeginsAtContent self.old.builder self.new.builder) }
+        ensures same { self.new.builder
+            ≡ record self.old.builder { blocks = self.new.builder.blocks } }
+        ensures begins { IfFitted self.old self.new
+            (BeginsAtContent self.old.builder self.new.builder) }
     {
         match self.content_of_block() {
             Some(content) => self.builder.begin_later(content),
@@ -233,7 +246,8 @@ impl<'a> Placing<'a> {
     pub fn change(&mut self, body: ItemBody)
         requires block { is_plain_block body ≡ true }
         requires outside { is_leaf body ≡ false }
-        ensures same { self.new.builder ≡ record self.old.builder { blocks = self.new.builder.blocks } }
+        ensures same { self.new.builder
+            ≡ record self.old.builder { blocks = self.new.builder.blocks } }
         ensures changes { IfFitted self.old self.new
             (HasBody self.old.builder self.new.builder body) }
     {
@@ -271,9 +285,14 @@ impl<'a> Placing<'a> {
         ensures text { IfOk result (λ _. self.new.builder.text ≡ self.old.builder.text) }
         ensures owed { IfOk result (λ _. 0 < owed → IfFitted self.old self.new
             (self.new.builder
-            ≡ record self.old.builder { run = None; texts = self.old.builder.texts ++ owed_spaces owed ∷ [] })) }
+            ≡ record self.old.builder {
+              run = None;
+              texts = self.old.builder.texts
+                  ++ owed_spaces owed ∷ [];
+            })) }
         ensures nothing { IfOk result (λ _. owed ≡ 0 → self.new ≡ self.old) }
-        ensures fits { IfOk result (λ _. self.old.builder.leaf ≡ true → self.new.misfits ≡ self.old.misfits) }
+        ensures fits { IfOk result (λ _. self.old.builder.leaf ≡ true
+            → self.new.misfits ≡ self.old.misfits) }
     {
         let spaces = match owed {
             0 => return Ok(()),
@@ -321,7 +340,8 @@ impl<'a> Placing<'a> {
         ensures text { IfOk result (λ _. self.new.builder.text ≡ self.old.builder.text) }
         ensures appends { IfOk result (λ _. IfFitted self.old self.new
             (self.new.builder ≡ extended self.old.builder end)) }
-        ensures fits { IfOk result (λ _. self.old.builder.leaf ≡ false → IsAhead self.old.builder end
+        ensures fits { IfOk result (λ _. self.old.builder.leaf ≡ false
+            → IsAhead self.old.builder end
             → self.new.misfits ≡ self.old.misfits) }
     {
         if self.builder.is_in_leaf() || !self.is_ahead(end) {
@@ -340,7 +360,8 @@ impl<'a> Placing<'a> {
     /// Returns whether the byte at the current offset is a `[`.
     fn is_at_bracket(&self) -> bool
         ensures here { result ≡ true → slice_index self.now.builder.text self.now.builder.at ≡ 91 }
-        ensures elsewhere { result ≡ false → slice_get self.now.builder.text self.now.builder.at ≡ Some 91 → ⊥ }
+        ensures elsewhere { result ≡ false
+            → slice_get self.now.builder.text self.now.builder.at ≡ Some 91 → ⊥ }
     {
         let bytes = self.builder.text().as_bytes();
         let at = self.builder.at();

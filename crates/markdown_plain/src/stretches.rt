@@ -116,8 +116,10 @@ impl Stretches {
 
     /// Records that a block is opened inside the innermost of the open blocks.
     pub fn enter(&mut self, blocks: &[OpenBlock]) -> Result<(), AllocError>
-        ensures entered { IfOk result (λ _. IsOf self.old (outer_of blocks.now) → IsOf self.new blocks.now) }
-        ensures refused { IfErr result (λ _. (outer : List OpenBlock) → IsOf self.old outer → IsOf self.new outer) }
+        ensures entered { IfOk result (λ _. IsOf self.old (outer_of blocks.now)
+            → IsOf self.new blocks.now) }
+        ensures refused { IfErr result (λ _. (outer : List OpenBlock) → IsOf self.old outer
+            → IsOf self.new outer) }
     {
         if begins_stretch(blocks, self.old_notes) {
             push_start(&mut self.starts, blocks.len() - 1)?;

@@ -86,7 +86,8 @@ pub fn scan_html_tag<R: LineRule>(
         ≡ tag_at (R.skipped rule.now) text.now at) }
     ensures plain { option_and_then (λ tag. tag.1) (tag_at (R.skipped rule.now) text.now at) ≡ None
         → IsOk result }
-    ensures boundary { IfOk result (λ found. IfSome found (λ tag. IsCharBoundary text.now tag.end)) }
+    ensures boundary { IfOk result (λ found. IfSome found (λ tag.
+        IsCharBoundary text.now tag.end)) }
 {
     let source = &text.as_bytes()[at..];
     let Some((read, count)) = read_tag(rule, source) else {

@@ -80,7 +80,8 @@ fn take_attributes_and_end<'t, R: LineRule>(rule: &R, source: &'t [u8]) -> Optio
 #[tactic(auto, using(crate::proofs::TagTextLemmas::both_none, crate::proofs::TagTextLemmas::both_some))]
 fn take_open_tag_inside<'t, R: LineRule>(rule: &R, source: &'t [u8]) -> Option<&'t [u8]>
     ensures { option_copied result
-        ≡ after_part (R.skipped rule.now) (both tag_name (both (often attribute) open_tag_end)) source.now }
+        ≡ after_part (R.skipped rule.now) (both tag_name (both (often attribute) open_tag_end))
+        source.now }
 {
     let rest = take_tag_name(rule, source)?;
     take_attributes_and_end(rule, rest)
@@ -120,7 +121,8 @@ fn take_closing_tag_name<'t, R: LineRule>(rule: &R, source: &'t [u8]) -> Option<
 #[tactic(auto, using(crate::proofs::TagTextLemmas::both_none, crate::proofs::TagTextLemmas::both_some))]
 fn take_closing_tag_inside<'t, R: LineRule>(rule: &R, source: &'t [u8]) -> Option<&'t [u8]>
     ensures { option_copied result
-        ≡ after_part (R.skipped rule.now) (both (byte 47) (both tag_name (both white_space (byte 62)))) source.now }
+        ≡ after_part (R.skipped rule.now)
+        (both (byte 47) (both tag_name (both white_space (byte 62)))) source.now }
 {
     let rest = take_one(rule, source, ByteKind::Only(b'/'))?;
     take_closing_tag_name(rule, rest)

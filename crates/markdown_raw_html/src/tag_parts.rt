@@ -112,7 +112,8 @@ fn take_unquoted_value<'t, R: LineRule>(rule: &R, source: &'t [u8]) -> Option<&'
 #[tactic(auto, using(crate::proofs::TagTextLemmas::both_none, crate::proofs::TagTextLemmas::both_some))]
 fn take_to_mark<'t, R: LineRule>(rule: &R, source: &'t [u8], mark: u8) -> Option<&'t [u8]>
     ensures { option_copied result
-        ≡ after_part (R.skipped rule.now) (both (all (λ b. not (b == mark))) (byte mark)) source.now }
+        ≡ after_part (R.skipped rule.now) (both (all (λ b. not (b == mark))) (byte mark))
+        source.now }
 {
     let end = take_all(rule, source, ByteKind::Except(mark));
     take_one(rule, end, ByteKind::Only(mark))
@@ -166,7 +167,8 @@ fn take_spaced_value<'t, R: LineRule>(rule: &R, source: &'t [u8]) -> Option<&'t 
 #[tactic(auto, using(crate::proofs::TagTextLemmas::both_none, crate::proofs::TagTextLemmas::both_some))]
 fn take_equals_and_value<'t, R: LineRule>(rule: &R, source: &'t [u8]) -> Option<&'t [u8]>
     ensures { option_copied result
-        ≡ after_part (R.skipped rule.now) (both (byte 61) (both white_space attribute_value)) source.now }
+        ≡ after_part (R.skipped rule.now) (both (byte 61) (both white_space attribute_value))
+        source.now }
 {
     let value = take_one(rule, source, ByteKind::Only(b'='))?;
     take_spaced_value(rule, value)
@@ -198,7 +200,8 @@ fn take_optional_value<'t, R: LineRule>(rule: &R, source: &'t [u8]) -> &'t [u8]
 #[tactic(auto, using(crate::proofs::TagTextLemmas::both_none, crate::proofs::TagTextLemmas::both_some))]
 pub(crate) fn take_name_and_value<'t, R: LineRule>(rule: &R, source: &'t [u8]) -> Option<&'t [u8]>
     ensures { option_copied result
-        ≡ after_part (R.skipped rule.now) (both attribute_name (optional value_specification)) source.now }
+        ≡ after_part (R.skipped rule.now) (both attribute_name (optional value_specification))
+        source.now }
 {
     let rest = take_attribute_name(rule, source)?;
     Some(take_optional_value(rule, rest))

@@ -21,15 +21,20 @@ use markdown_inline::walk::Parser;
 pub fn html_of_a_parser_is_that_of_its_reading<'input, F: BrokenLinkCallback<'input>>(
     parser: &Parser<'input, F>,
 )
-    ensures document { (text : List ℕ) (options : Options) (old new : List ℕ) → ReadsText text options parser.now
+    ensures document { (text : List ℕ) (options : Options) (old new : List ℕ)
+        → ReadsText text options parser.now
         → IsRendered (NextGives F.answers IsEventOf) parser.now old new
         → (html : List ℕ) × (new ≡ old ++ html)
         × IsRenderingFor F.answers (parser_callback parser.now) text options html }
-    ensures rest { (old new : List ℕ) → IsRendered (NextGives F.answers IsEventOf) parser.now old new
+    ensures rest { (old new : List ℕ)
+        → IsRendered (NextGives F.answers IsEventOf) parser.now old new
         → IsHtmlOfAll F.answers parser.now old new }
     ensures error { (old new : List ℕ) (fault : Fault)
         → StopsAtError (NextGives F.answers IsEventOf) parser.now old new fault
-        → (fault ≡ Memory) × (events : List EventView) × IsHtmlOfFirst F.answers parser.now old new events }
-    ensures deep { (old new : List ℕ) → GoesTooDeep (NextGives F.answers IsEventOf) parser.now old new
-        → (events : List EventView) × IsHtmlOfFirst F.answers parser.now old new events × IsTooDeep events }
+        → (fault ≡ Memory) × (events : List EventView)
+        × IsHtmlOfFirst F.answers parser.now old new events }
+    ensures deep { (old new : List ℕ)
+        → GoesTooDeep (NextGives F.answers IsEventOf) parser.now old new
+        → (events : List EventView) × IsHtmlOfFirst F.answers parser.now old new events
+        × IsTooDeep events }
 {}

@@ -19,17 +19,21 @@ use std::alloc::Global;
 pub fn parsers_can_be_merged<'input, F: BrokenLinkCallback<'input>>(parser: &Parser<'input, F>)
     requires { IfSome (parser_callback parser.now) F.can_ask }
     ensures stays_ended { StaysEnded (NextGives F.answers IsEventOf) parser.now }
-    ensures merges { CanMerge (NextGives F.answers IsEventOf) (λ p. IfSome (parser_callback p) F.can_ask)
+    ensures merges { CanMerge (NextGives F.answers IsEventOf) (λ p.
+        IfSome (parser_callback p) F.can_ask)
         (λ p. at_most (parser_steps p)) parser.now }
 {}
 
 /// States for a parser's events with their ranges what `parsers_can_be_merged` states for a parser.
 pub fn offsets_can_be_merged<'input, F: BrokenLinkCallback<'input>>(iter: &OffsetIter<'input, F>)
     requires { IfSome (parser_callback (offset_parser iter.now)) F.can_ask }
-    ensures stays_ended { StaysEnded (λ o r t. NextGives F.answers IsPlacedOf (offset_parser o) r (offset_parser t))
+    ensures stays_ended { StaysEnded (λ o r t.
+        NextGives F.answers IsPlacedOf (offset_parser o) r (offset_parser t))
         iter.now }
-    ensures merges { CanMerge (λ o r t. NextGives F.answers IsPlacedOf (offset_parser o) r (offset_parser t))
-        (λ o. IfSome (parser_callback (offset_parser o)) F.can_ask) (λ o. at_most (parser_steps (offset_parser o)))
+    ensures merges { CanMerge (λ o r t.
+        NextGives F.answers IsPlacedOf (offset_parser o) r (offset_parser t))
+        (λ o. IfSome (parser_callback (offset_parser o)) F.can_ask) (λ o.
+        at_most (parser_steps (offset_parser o)))
         iter.now }
 {}
 

@@ -23,7 +23,8 @@ pub trait Pushed<I: Iterator> {
         requires can { I.can_next iter }
         requires ends { IsFinite (I.remaining iter) }
         ensures ok { OnOk result (is_pushed iter (string_bytes s.old) (string_bytes s.new)) }
-        ensures err { IfErr result (λ fault. is_stopped iter (string_bytes s.old) (string_bytes s.new) fault) };
+        ensures err { IfErr result (λ fault.
+            is_stopped iter (string_bytes s.old) (string_bytes s.new) fault) };
 }
 
 impl<'a, I: Iterator<Item = Result<Event<'a>, Fault>>> Pushed<I> for Event<'a> {
@@ -49,7 +50,8 @@ pub fn push_items<E: Pushed<I>, I: Iterator<Item = Result<E, Fault>>>(
     requires can { I.can_next iter }
     requires ends { IsFinite (I.remaining iter) }
     ensures ok { OnOk result (E.is_pushed iter (string_bytes s.old) (string_bytes s.new)) }
-    ensures err { IfErr result (λ fault. E.is_stopped iter (string_bytes s.old) (string_bytes s.new) fault) }
+    ensures err { IfErr result (λ fault.
+        E.is_stopped iter (string_bytes s.old) (string_bytes s.new) fault) }
 {
     E::push_all(alloc, s, iter)
 }

@@ -58,7 +58,8 @@ impl From<Fault> for Failure {
 /// Returns the failure of a call of the reader or the writer: `Fault(Memory)` where an allocation was refused in it,
 /// otherwise `attempted`.
 fn failure_of(error: io::Error, attempted: Failure) -> Failure
-    ensures memory { error_kind error ≡ ErrorKind.OutOfMemory → result ≡ Failure.Fault Fault.Memory }
+    ensures memory { error_kind error ≡ ErrorKind.OutOfMemory
+        → result ≡ Failure.Fault Fault.Memory }
     ensures other { error_kind error ≢ ErrorKind.OutOfMemory → result ≡ attempted }
 {
     if error.kind() == ErrorKind::OutOfMemory {
@@ -75,11 +76,13 @@ fn failure_of(error: io::Error, attempted: Failure) -> Failure
 /// `ReadFailed` where a call of the reader fails, `NotText` where the input is not UTF-8, and `Fault(Memory)`
 /// where an allocation is refused.
 pub fn read_text<R: Read>(alloc: Global, input: &mut R) -> Result<String, Failure>
-    ensures text { IfOk result (λ text. IfSome (R.remaining input.old) (λ bytes. string_bytes text ≡ bytes)) }
+    ensures text { IfOk result (λ text. IfSome (R.remaining input.old) (λ bytes. string_bytes text
+        ≡ bytes)) }
     ensures all_read { OnOk result (IsAtEnd (R.remaining input.new)) }
     ensures not_text { IfErr result (λ failure. failure ≡ Failure.NotText
         → IfSome (R.remaining input.old) (λ bytes. IsUtf8 bytes → ⊥)) }
-    ensures failed { IfErr result (λ failure. (failure ≡ Failure.NotText) ⊎ (failure ≡ Failure.ReadFailed)
+    ensures failed { IfErr result (λ failure.
+        (failure ≡ Failure.NotText) ⊎ (failure ≡ Failure.ReadFailed)
         ⊎ (failure ≡ Failure.Fault Fault.Memory)) }
 {
     let mut bytes = Vec::new(alloc);
@@ -102,7 +105,8 @@ fn rendered(alloc: Global, text: &str, options: Options) -> Result<String, Failu
 /// before it failed, so this is its loop.
 fn write_whole<W: Write>(out: &mut W, bytes: &[u8]) -> Result<(), Failure>
     ensures written { OnOk result (Appends (W.contents out.old) (W.contents out.new) bytes.now) }
-    ensures cut { OnErr result (AppendsKnownPrefix (W.contents out.old) (W.contents out.new) bytes.now) }
+    ensures cut { OnErr result
+        (AppendsKnownPrefix (W.contents out.old) (W.contents out.new) bytes.now) }
     ensures failed { IfErr result (λ failure.
         (failure ≡ Failure.WriteFailed) ⊎ (failure ≡ Failure.Fault Fault.Memory)) }
 {
@@ -133,7 +137,8 @@ fn write_whole<W: Write>(out: &mut W, bytes: &[u8]) -> Result<(), Failure>
 /// HTML, or all of it, has then been written.
 pub fn print<W: Write>(out: &mut W, html: &str) -> Result<(), Failure>
     ensures written { OnOk result (Appends (W.contents out.old) (W.contents out.new) html.now) }
-    ensures cut { OnErr result (AppendsKnownPrefix (W.contents out.old) (W.contents out.new) html.now) }
+    ensures cut { OnErr result
+        (AppendsKnownPrefix (W.contents out.old) (W.contents out.new) html.now) }
     ensures failed { IfErr result (λ failure.
         (failure ≡ Failure.WriteFailed) ⊎ (failure ≡ Failure.Fault Fault.Memory)) }
 {
@@ -153,7 +158,8 @@ pub fn convert<R: Read, W: Write>(
     input: &mut R,
     out: &mut W,
 ) -> Result<(), Failure>
-    ensures leaves { Leaves W.contents options (R.remaining input.old) (R.remaining input.new) out.old out.new result }
+    ensures leaves { Leaves W.contents options (R.remaining input.old) (R.remaining input.new)
+        out.old out.new result }
     ensures not_text { IfSome (R.remaining input.old) (λ bytes.
         (IsUtf8 bytes → ⊥) → (result ≢ Ok tt) × (out.new ≡ out.old)) }
 {
@@ -197,13 +203,18 @@ pub fn run<R: Read, W: Write, E: Write>(
     ensures outcome { IfSome (turned_on (map string_bytes words.now) no_options)
         (λ options. (outcome : Result (Unit {0}) Failure)
         × (result ≡ status_of outcome)
-        × Leaves W.contents options (R.remaining input.old) (R.remaining input.new) out.old out.new outcome) }
-    ensures status { IfSome (turned_on (map string_bytes words.now) no_options) (λ options. result ≤ 1) }
+        × Leaves W.contents options (R.remaining input.old) (R.remaining input.new) out.old out.new
+        outcome) }
+    ensures status { IfSome (turned_on (map string_bytes words.now) no_options) (λ options. result
+        ≤ 1) }
     ensures not_text { IfSome (turned_on (map string_bytes words.now) no_options) (λ options.
-        IfSome (R.remaining input.old) (λ bytes. (IsUtf8 bytes → ⊥) → (result ≡ 1) × (out.new ≡ out.old))) }
-    ensures printed { result ≡ 0 → IfSome (turned_on (map string_bytes words.now) no_options) (λ options.
+        IfSome (R.remaining input.old) (λ bytes. (IsUtf8 bytes → ⊥)
+        → (result ≡ 1) × (out.new ≡ out.old))) }
+    ensures printed { result ≡ 0
+        → IfSome (turned_on (map string_bytes words.now) no_options) (λ options.
         IfSome (R.remaining input.old) (λ bytes.
-        (html : List ℕ) × IsRenderingOf bytes options html × Appends (W.contents out.old) (W.contents out.new) html)) }
+        (html : List ℕ) × IsRenderingOf bytes options html
+        × Appends (W.contents out.old) (W.contents out.new) html)) }
     ensures quiet { result ≡ 0 → err.new ≡ err.old }
 {
     match options_of(words) {

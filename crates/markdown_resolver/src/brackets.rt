@@ -70,17 +70,20 @@ pub(crate) fn open_bracket(
     ix: usize,
     is_image: bool,
 ) -> Result<Option<usize>, Fault>
-    requires { (source : List ℕ) × (tables : Tables) × CanResolve source tables tree.old.nodes (Some ix) }
+    requires { (source : List ℕ) × (tables : Tables)
+        × CanResolve source tables tree.old.nodes (Some ix) }
     ensures puts { IfOk result (λ next. (source : List ℕ) (tables : Tables)
         → CanResolve source tables tree.old.nodes (Some ix)
         → Puts source ix (settled source) None next tree.old.nodes tree.new.nodes tables tables) }
     ensures next { IfOk result (λ next. next ≡ sibling_of tree.old.nodes ix) }
     ensures place { IfOk result (λ _. tree.new ≡ record tree.old { nodes = tree.new.nodes }) }
     ensures brackets { OnOk result (
-        openers.new.brackets ≡ waiting.live_opener (record { node = ix; is_image = is_image }) ∷ openers.old.brackets) }
+        openers.new.brackets
+        ≡ waiting.live_opener (record { node = ix; is_image = is_image }) ∷ openers.old.brackets) }
     ensures wikilinks { OnOk result (openers.new.wikilinks
         ≡ (if wikilinks_on options
-        && option_map_or (λ n. is_opener (item_at tree.old.nodes n).body) (sibling_of tree.old.nodes ix) false
+        && option_map_or (λ n.
+        is_opener (item_at tree.old.nodes n).body) (sibling_of tree.old.nodes ix) false
         then waiting.live_opener (record { node = ix; is_image = is_image }) ∷ openers.old.wikilinks
         else openers.old.wikilinks)) }
     ensures refused { IfErr result (λ fault. fault ≡ Fault.Memory) }
@@ -127,21 +130,26 @@ fn put_target<'a>(
     end: usize,
     next: usize,
 ) -> Result<Option<usize>, Fault>
-    requires { (source : List ℕ) × (first : ℕ) × (left : List (Entry ℕ)) × (w : Around) × (c : Closing ℕ)
-        × (o : Split ℕ) × ClosesAt source (tables_of tables.old) tree.old.nodes first closer left w c
+    requires { (source : List ℕ) × (first : ℕ) × (left : List (Entry ℕ)) × (w : Around)
+        × (c : Closing ℕ)
+        × (o : Split ℕ) × ClosesAt source (tables_of tables.old) tree.old.nodes first closer left w
+        c
         (a_link o (target_view target) end next) × (opener ≡ opener_of o)
         × IsTargetFrom source (start_of o.opener) end target }
-    ensures puts { IfOk result (λ goes_on. (source : List ℕ) (first : ℕ) (left : List (Entry ℕ)) (w : Around)
+    ensures puts { IfOk result (λ goes_on.
+        (source : List ℕ) (first : ℕ) (left : List (Entry ℕ)) (w : Around)
         (c : Closing ℕ) (o : Split ℕ)
         → ClosesAt source (tables_of tables.old) tree.old.nodes first closer left w c
         (a_link o (target_view target.entry) end next)
         → opener ≡ opener_of o → IsTargetFrom source (start_of o.opener) end target.entry
-        → PutsClosed source first closer goes_on left w c (a_link o (target_view target.entry) end next)
+        → PutsClosed source first closer goes_on left w c
+        (a_link o (target_view target.entry) end next)
         tree.old.nodes tree.new.nodes (tables_of tables.old) (tables_of tables.new)) }
     ensures place { IfOk result (λ _. tree.new ≡ record tree.old { nodes = tree.new.nodes }) }
 
     // on success and on error
-    ensures tables { tables.new ≡ record tables.old { cows = tables.new.cows; links = tables.new.links } }
+    ensures tables { tables.new
+        ≡ record tables.old { cows = tables.new.cows; links = tables.new.links } }
     ensures refused { IfErr result (λ fault. fault ≡ Fault.Memory) }
 {
     let Target {
@@ -169,20 +177,25 @@ fn put_reference<'a>(
     opener: Opener,
     name: CowStr<'a>,
 ) -> Result<Option<usize>, Fault>
-    requires { (source : List ℕ) × (first : ℕ) × (left : List (Entry ℕ)) × (w : Around) × (c : Closing ℕ)
-        × (o : Split ℕ) × ClosesAt source (tables_of tables.old) tree.old.nodes first closer left w c
+    requires { (source : List ℕ) × (first : ℕ) × (left : List (Entry ℕ)) × (w : Around)
+        × (c : Closing ℕ)
+        × (o : Split ℕ) × ClosesAt source (tables_of tables.old) tree.old.nodes first closer left w
+        c
         (a_footnote o (text_of name)) × (opener ≡ opener_of o) }
-    ensures puts { IfOk result (λ next. (source : List ℕ) (first : ℕ) (left : List (Entry ℕ)) (w : Around)
+    ensures puts { IfOk result (λ next.
+        (source : List ℕ) (first : ℕ) (left : List (Entry ℕ)) (w : Around)
         (c : Closing ℕ) (o : Split ℕ)
         → ClosesAt source (tables_of tables.old) tree.old.nodes first closer left w c
         (a_footnote o (text_of name.entry))
         → opener ≡ opener_of o
-        → PutsClosed source first closer next left w c (a_footnote o (text_of name.entry)) tree.old.nodes
+        → PutsClosed source first closer next left w c (a_footnote o (text_of name.entry))
+        tree.old.nodes
         tree.new.nodes (tables_of tables.old) (tables_of tables.new)) }
     ensures place { IfOk result (λ _. tree.new ≡ record tree.old { nodes = tree.new.nodes }) }
 
     // on success and on error
-    ensures tables { tables.new ≡ record tables.old { cows = tables.new.cows; links = tables.new.links } }
+    ensures tables { tables.new
+        ≡ record tables.old { cows = tables.new.cows; links = tables.new.links } }
     ensures refused { IfErr result (λ fault. fault ≡ Fault.Memory) }
 {
     let body = ItemBody::FootnoteReference(tables.allocate_cow(name)?);
@@ -213,10 +226,13 @@ fn put_wikilink<'a>(
     shown: ShownNodes,
     end: usize,
 ) -> Result<Option<usize>, Fault>
-    requires { (source : List ℕ) × (first : ℕ) × (left : List (Entry ℕ)) × (w : Around) × (c : Closing ℕ)
-        × (becomes : Becomes ℕ) × ClosesAt source (tables_of tables.old) tree.old.nodes first closer left w c becomes
+    requires { (source : List ℕ) × (first : ℕ) × (left : List (Entry ℕ)) × (w : Around)
+        × (c : Closing ℕ)
+        × (becomes : Becomes ℕ)
+        × ClosesAt source (tables_of tables.old) tree.old.nodes first closer left w c becomes
         × IsBecome w becomes (Wikilinked opener name has_pothole shown end) }
-    ensures puts { IfOk result (λ next. (source : List ℕ) (first : ℕ) (left : List (Entry ℕ)) (w : Around)
+    ensures puts { IfOk result (λ next.
+        (source : List ℕ) (first : ℕ) (left : List (Entry ℕ)) (w : Around)
         (c : Closing ℕ) (becomes : Becomes ℕ)
         → ClosesAt source (tables_of tables.old) tree.old.nodes first closer left w c becomes
         → IsBecome w becomes (Wikilinked opener name.entry has_pothole shown end)
@@ -225,7 +241,8 @@ fn put_wikilink<'a>(
     ensures place { IfOk result (λ _. tree.new ≡ record tree.old { nodes = tree.new.nodes }) }
 
     // on success and on error
-    ensures tables { tables.new ≡ record tables.old { cows = tables.new.cows; links = tables.new.links } }
+    ensures tables { tables.new
+        ≡ record tables.old { cows = tables.new.cows; links = tables.new.links } }
     ensures refused { IfErr result (λ fault. fault ≡ Fault.Memory) }
 {
     let link = tables.allocate_link(
@@ -263,10 +280,13 @@ pub(crate) fn put_closed<'a>(
     closer: usize,
     found: ClosedBracket<'a>,
 ) -> Result<Option<usize>, Fault>
-    requires { (source : List ℕ) × (first : ℕ) × (left : List (Entry ℕ)) × (w : Around) × (c : Closing ℕ)
-        × (becomes : Becomes ℕ) × ClosesAt source (tables_of tables.old) tree.old.nodes first closer left w c becomes
+    requires { (source : List ℕ) × (first : ℕ) × (left : List (Entry ℕ)) × (w : Around)
+        × (c : Closing ℕ)
+        × (becomes : Becomes ℕ)
+        × ClosesAt source (tables_of tables.old) tree.old.nodes first closer left w c becomes
         × IsBecome w becomes found }
-    ensures puts { IfOk result (λ next. (source : List ℕ) (first : ℕ) (left : List (Entry ℕ)) (w : Around)
+    ensures puts { IfOk result (λ next.
+        (source : List ℕ) (first : ℕ) (left : List (Entry ℕ)) (w : Around)
         (c : Closing ℕ) (becomes : Becomes ℕ)
         → ClosesAt source (tables_of tables.old) tree.old.nodes first closer left w c becomes
         → IsBecome w becomes found.entry
@@ -275,7 +295,8 @@ pub(crate) fn put_closed<'a>(
     ensures place { IfOk result (λ _. tree.new ≡ record tree.old { nodes = tree.new.nodes }) }
 
     // on success and on error
-    ensures tables { tables.new ≡ record tables.old { cows = tables.new.cows; links = tables.new.links } }
+    ensures tables { tables.new
+        ≡ record tables.old { cows = tables.new.cows; links = tables.new.links } }
     ensures refused { IfErr result (λ fault. fault ≡ Fault.Memory) }
 {
     match found {
@@ -316,11 +337,14 @@ pub(crate) fn decide_closing<'a, F: BrokenLinkCallback<'a>>(
 ) -> Result<ClosedBracket<'a>, Fault>
     requires can_ask { IfSome callback.old F.can_ask }
     requires ready { (first : ℕ) × (left : List (Entry ℕ))
-        × CanReadOn place.now tree.now tables.old openers.old.brackets openers.old.wikilinks first ix left }
+        × CanReadOn place.now tree.now tables.old openers.old.brackets openers.old.wikilinks first
+        ix left }
     requires options { place.now.options ≡ options }
     requires closes { (item_at tree.now.nodes ix).body ≡ body.MaybeLinkClose could_be }
-    ensures decides { IfOk result (λ found. DecidesClosing F.answers place.now place.now.text.now options tree.now ix
-        could_be tables.old tables.new limit.old limit.new spent.old spent.new callback.old callback.new
+    ensures decides { IfOk result (λ found.
+        DecidesClosing F.answers place.now place.now.text.now options tree.now ix
+        could_be tables.old tables.new limit.old limit.new spent.old spent.new callback.old
+        callback.new
         openers.old openers.new found) }
 
     // on an error, and in any case
@@ -329,7 +353,8 @@ pub(crate) fn decide_closing<'a, F: BrokenLinkCallback<'a>>(
     ensures refused { IfErr result (λ fault. fault ≡ Fault.Memory) }
     ensures tables { tables.new ≡ record tables.old { footdefs = tables.new.footdefs } }
     ensures names { (name : List ℕ)
-        → is_some (footnote_at tables.new.footdefs name) ≡ is_some (footnote_at tables.old.footdefs name) }
+        → is_some (footnote_at tables.new.footdefs name)
+        ≡ is_some (footnote_at tables.old.footdefs name) }
 {
     decide_bracket(
         alloc,

@@ -19,7 +19,8 @@ use std::alloc::AllocError;
 /// Returns the first node of a chain, from a link on, whose item ends after byte offset `end`.
 pub(crate) fn first_past(tree: &Tree<Item>, first: Option<usize>, end: usize) -> Option<usize>
     requires { Spells (links_of tree.now.nodes) first (forest_at (links_of tree.now.nodes) first) }
-    ensures value { result ≡ first_past tree.now.nodes end (roots (forest_at (links_of tree.now.nodes) first)) }
+    ensures value { result
+        ≡ first_past tree.now.nodes end (roots (forest_at (links_of tree.now.nodes) first)) }
     ensures within { IfSome result (λ ix. ix < length tree.now.nodes) }
 {
     let mut at = first;
@@ -64,8 +65,10 @@ pub(crate) fn write_node(tree: &mut Tree<Item>, ix: usize, item: Item, next: Opt
 /// Settles an item at which nothing is found: it becomes a Text, unless it is not open or waits for pairing. Returns
 /// the next node of the chain.
 pub(crate) fn settle(tree: &mut Tree<Item>, ix: usize) -> Option<usize>
-    requires { (source : List ℕ) × (tables : Tables) × CanResolve source tables tree.old.nodes (Some ix) }
-    ensures puts { (source : List ℕ) (tables : Tables) → CanResolve source tables tree.old.nodes (Some ix)
+    requires { (source : List ℕ) × (tables : Tables)
+        × CanResolve source tables tree.old.nodes (Some ix) }
+    ensures puts { (source : List ℕ) (tables : Tables)
+        → CanResolve source tables tree.old.nodes (Some ix)
         → Puts source ix (settled source) None result tree.old.nodes tree.new.nodes tables tables }
     ensures next { result ≡ sibling_of tree.old.nodes ix }
     ensures place { tree.new ≡ record tree.old { nodes = tree.new.nodes } }
@@ -83,7 +86,8 @@ pub(crate) fn put_found(tree: &mut Tree<Item>, ix: usize, item: Item) -> Option<
     ensures puts { (source : List ℕ) (tables tables' : Tables) → HasGrown tables tables'
         → IsFoundAt source tables tree.old.nodes ix item.end → CanPut source tables tables' item
         → item.start ≡ (item_at tree.old.nodes ix).start
-        → Puts source ix (one_item source tables' item) (Some item.end) result tree.old.nodes tree.new.nodes tables tables' }
+        → Puts source ix (one_item source tables' item) (Some item.end) result tree.old.nodes
+        tree.new.nodes tables tables' }
     ensures place { tree.new ≡ record tree.old { nodes = tree.new.nodes } }
 {
     let rest = first_past(tree, tree.next(ix), item.end);
@@ -107,7 +111,8 @@ pub(crate) fn put_pair(
     ensures puts { (source : List ℕ) (tables tables' : Tables) → HasGrown tables tables'
         → IsFoundAt source tables tree.old.nodes ix second.end
         → CanPutPair source tables tables' tree.old.nodes ix closer first second
-        → Puts source ix (pair source tables' first second) (Some second.end) result tree.old.nodes tree.new.nodes
+        → Puts source ix (pair source tables' first second) (Some second.end) result tree.old.nodes
+        tree.new.nodes
         tables tables' }
     ensures place { tree.new ≡ record tree.old { nodes = tree.new.nodes } }
 {
@@ -129,10 +134,12 @@ pub(crate) fn put_parent(
     requires { (source : List ℕ) × (tables : Tables) × (tables' : Tables) × HasGrown tables tables'
         × IsFoundAt source tables tree.old.nodes ix item.end
         × CanPutParent source tables tables' tree.old.nodes ix item inside }
-    ensures puts { IfOk result (λ next. (source : List ℕ) (tables tables' : Tables) → HasGrown tables tables'
+    ensures puts { IfOk result (λ next. (source : List ℕ) (tables tables' : Tables)
+        → HasGrown tables tables'
         → IsFoundAt source tables tree.old.nodes ix item.end
         → CanPutParent source tables tables' tree.old.nodes ix item inside
-        → Puts source ix (parent source tables' item inside) (Some item.end) next tree.old.nodes tree.new.nodes tables
+        → Puts source ix (parent source tables' item inside) (Some item.end) next tree.old.nodes
+        tree.new.nodes tables
         tables') }
     ensures place { IfOk result (λ _. tree.new ≡ record tree.old { nodes = tree.new.nodes }) }
     ensures refused { OnErr result (tree.new ≡ tree.old) }

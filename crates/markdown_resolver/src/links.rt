@@ -38,13 +38,18 @@ pub fn put_link(
     item: Item,
     next_byte: usize,
 ) -> Option<usize>
-    requires { (source : List ℕ) × (tables : Tables) × (tables' : Tables) × (inside : List ℕ) × HasGrown tables tables'
+    requires { (source : List ℕ) × (tables : Tables) × (tables' : Tables) × (inside : List ℕ)
+        × HasGrown tables tables'
         × CanClose source tables tree.old.nodes opener closer inside next_byte
-        × CanPutOver source tables tables' tree.old.nodes opener item next_byte × (last_inside opener inside ≡ last) }
-    ensures puts { (source : List ℕ) (tables tables' : Tables) (inside : List ℕ) → HasGrown tables tables'
+        × CanPutOver source tables tables' tree.old.nodes opener item next_byte
+        × (last_inside opener inside ≡ last) }
+    ensures puts { (source : List ℕ) (tables tables' : Tables) (inside : List ℕ)
+        → HasGrown tables tables'
         → CanClose source tables tree.old.nodes opener closer inside next_byte
-        → CanPutOver source tables tables' tree.old.nodes opener item next_byte → last_inside opener inside ≡ last
-        → PutsOver source opener closer inside (over_inside source tables' item) next_byte (opener ∷ []) result
+        → CanPutOver source tables tables' tree.old.nodes opener item next_byte
+        → last_inside opener inside ≡ last
+        → PutsOver source opener closer inside (over_inside source tables' item) next_byte
+        (opener ∷ []) result
         tree.old.nodes tree.new.nodes tables tables' }
     ensures place { tree.new ≡ record tree.old { nodes = tree.new.nodes } }
 {
@@ -63,15 +68,18 @@ pub fn put_footnote(
     closer: usize,
     item: Item,
 ) -> Option<usize>
-    requires { (source : List ℕ) × (tables : Tables) × (tables' : Tables) × (inside : List ℕ) × HasGrown tables tables'
+    requires { (source : List ℕ) × (tables : Tables) × (tables' : Tables) × (inside : List ℕ)
+        × HasGrown tables tables'
         × CanClose source tables tree.old.nodes opener closer inside item.end
         × CanPutOver source tables tables' tree.old.nodes opener item item.end
         × (item.end ≡ (item_at tree.old.nodes closer).end) }
-    ensures puts { (source : List ℕ) (tables tables' : Tables) (inside : List ℕ) → HasGrown tables tables'
+    ensures puts { (source : List ℕ) (tables tables' : Tables) (inside : List ℕ)
+        → HasGrown tables tables'
         → CanClose source tables tree.old.nodes opener closer inside item.end
         → CanPutOver source tables tables' tree.old.nodes opener item item.end
         → item.end ≡ (item_at tree.old.nodes closer).end
-        → PutsOver source opener closer inside (in_place_of source tables' item) item.end (opener ∷ []) result
+        → PutsOver source opener closer inside (in_place_of source tables' item) item.end
+        (opener ∷ []) result
         tree.old.nodes tree.new.nodes tables tables' }
     ensures place { tree.new ≡ record tree.old { nodes = tree.new.nodes } }
 {
@@ -90,13 +98,16 @@ pub fn put_image_footnote(
     mark: Item,
     item: Item,
 ) -> Option<usize>
-    requires { (source : List ℕ) × (tables : Tables) × (tables' : Tables) × (inside : List ℕ) × HasGrown tables tables'
+    requires { (source : List ℕ) × (tables : Tables) × (tables' : Tables) × (inside : List ℕ)
+        × HasGrown tables tables'
         × CanClose source tables tree.old.nodes opener closer inside item.end
         × CanPutMark source tables tables' tree.old.nodes opener closer mark item }
-    ensures puts { (source : List ℕ) (tables tables' : Tables) (inside : List ℕ) → HasGrown tables tables'
+    ensures puts { (source : List ℕ) (tables tables' : Tables) (inside : List ℕ)
+        → HasGrown tables tables'
         → CanClose source tables tree.old.nodes opener closer inside item.end
         → CanPutMark source tables tables' tree.old.nodes opener closer mark item
-        → PutsOver source opener closer inside (after_mark source tables' mark item) item.end (opener ∷ closer ∷ [])
+        → PutsOver source opener closer inside (after_mark source tables' mark item) item.end
+        (opener ∷ closer ∷ [])
         result tree.old.nodes tree.new.nodes tables tables' }
     ensures place { tree.new ≡ record tree.old { nodes = tree.new.nodes } }
 {
@@ -113,7 +124,8 @@ pub(crate) fn last_before(tree: &Tree<Item>, opener: usize, closer: usize) -> us
     requires { (source : List ℕ) × (tables : Tables) × (inside : List ℕ) × (byte : ℕ)
         × CanClose source tables tree.now.nodes opener closer inside byte }
     ensures { (source : List ℕ) (tables : Tables) (inside : List ℕ) (byte : ℕ)
-        → CanClose source tables tree.now.nodes opener closer inside byte → last_inside opener inside ≡ result }
+        → CanClose source tables tree.now.nodes opener closer inside byte
+        → last_inside opener inside ≡ result }
 {
     let mut last = opener;
     'inside: while let Some(next) = tree.next(last) {
@@ -136,16 +148,21 @@ pub(crate) fn put_wikilink_name(
     item: Item,
     inside: Item,
 ) -> Option<usize>
-    requires { (source : List ℕ) × (tables : Tables) × (tables' : Tables) × (nodes : List ℕ) × (skipped : List ℕ)
+    requires { (source : List ℕ) × (tables : Tables) × (tables' : Tables) × (nodes : List ℕ)
+        × (skipped : List ℕ)
         × (shown : List ℕ) × HasGrown tables tables'
         × CanClose source tables tree.old.nodes opener closer nodes item.end
-        × CanPutOver source tables tables' tree.old.nodes opener item item.end × CanPut source tables tables' inside
+        × CanPutOver source tables tables' tree.old.nodes opener item item.end
+        × CanPut source tables tables' inside
         × (nodes ≡ skipped ++ first ∷ shown) × ((n : Named) → times_named n inside.body ≡ 0) }
-    ensures puts { (source : List ℕ) (tables tables' : Tables) (nodes skipped shown : List ℕ) → HasGrown tables tables'
+    ensures puts { (source : List ℕ) (tables tables' : Tables) (nodes skipped shown : List ℕ)
+        → HasGrown tables tables'
         → CanClose source tables tree.old.nodes opener closer nodes item.end
-        → CanPutOver source tables tables' tree.old.nodes opener item item.end → CanPut source tables tables' inside
+        → CanPutOver source tables tables' tree.old.nodes opener item item.end
+        → CanPut source tables tables' inside
         → nodes ≡ skipped ++ first ∷ shown → ((n : Named) → times_named n inside.body ≡ 0)
-        → PutsOver source opener closer nodes (over_text source tables' item inside) item.end (opener ∷ []) result
+        → PutsOver source opener closer nodes (over_text source tables' item inside) item.end
+        (opener ∷ []) result
         tree.old.nodes tree.new.nodes tables tables' }
     ensures place { tree.new ≡ record tree.old { nodes = tree.new.nodes } }
 {
@@ -168,16 +185,19 @@ pub(crate) fn put_wikilink_shown(
     item: Item,
     from: usize,
 ) -> Option<usize>
-    requires { (source : List ℕ) × (tables : Tables) × (tables' : Tables) × (nodes : List ℕ) × (skipped : List ℕ)
+    requires { (source : List ℕ) × (tables : Tables) × (tables' : Tables) × (nodes : List ℕ)
+        × (skipped : List ℕ)
         × HasGrown tables tables'
         × CanClose source tables tree.old.nodes opener closer nodes item.end
         × CanPutOver source tables tables' tree.old.nodes opener item item.end
         × CanShow source tree.old.nodes nodes skipped first from }
-    ensures puts { (source : List ℕ) (tables tables' : Tables) (nodes skipped : List ℕ) → HasGrown tables tables'
+    ensures puts { (source : List ℕ) (tables tables' : Tables) (nodes skipped : List ℕ)
+        → HasGrown tables tables'
         → CanClose source tables tree.old.nodes opener closer nodes item.end
         → CanPutOver source tables tables' tree.old.nodes opener item item.end
         → CanShow source tree.old.nodes nodes skipped first from
-        → PutsOver source opener closer nodes (over_shown source tables' item (length skipped) from) item.end
+        → PutsOver source opener closer nodes (over_shown source tables' item (length skipped) from)
+        item.end
         (opener ∷ []) result tree.old.nodes tree.new.nodes tables tables' }
     ensures place { tree.new ≡ record tree.old { nodes = tree.new.nodes } }
 {

@@ -43,13 +43,16 @@ pub(crate) fn read_markup<'a>(
     requires chain { CanReadItem place.now tree.old tables.old ix }
     requires opener { (item_at tree.old.nodes ix).body ≡ body.MaybeHtml }
     requires scanner { scanner.old.text.now ≡ take place.now.block_end place.now.text.now }
-    ensures reads { IfOk result (λ next. (rules : Rules) → gfm_footnotes_on rules.options ≡ gfm_footnotes_on place.now.options
-        → ReadsItem (setting_of place.now.text.now rules) (above_cursor place.now.text.now tree.old) ix next
+    ensures reads { IfOk result (λ next. (rules : Rules)
+        → gfm_footnotes_on rules.options ≡ gfm_footnotes_on place.now.options
+        → ReadsItem (setting_of place.now.text.now rules) (above_cursor place.now.text.now tree.old)
+        ix next
         tree.old.nodes tree.new.nodes (tables_of tables.old) (tables_of tables.new)) }
     ensures place { IfOk result (λ _. tree.new ≡ record tree.old { nodes = tree.new.nodes }) }
 
     // on success and on error
-    ensures tables { tables.new ≡ record tables.old { cows = tables.new.cows; links = tables.new.links } }
+    ensures tables { tables.new
+        ≡ record tables.old { cows = tables.new.cows; links = tables.new.links } }
     ensures scanner { scanner.new.text ≡ scanner.old.text }
     ensures refused { IfErr result (λ fault. fault ≡ Fault.Memory) }
 {
@@ -84,7 +87,8 @@ fn put_markup<'a>(
     ix: usize,
     found: MarkupFound<'a>,
 ) -> Result<Option<usize>, Fault>
-    requires { (source : List ℕ) × IsMarkupAt source (tables_of tables.old) tree.old.nodes ix (markup_of found) }
+    requires { (source : List ℕ)
+        × IsMarkupAt source (tables_of tables.old) tree.old.nodes ix (markup_of found) }
     ensures puts { IfOk result (λ next. (source : List ℕ) (rules : Rules)
         → IsMarkupAt source (tables_of tables.old) tree.old.nodes ix (markup_of found.entry)
         → Puts source ix (standing_for source rules (markup_of found.entry))
@@ -93,7 +97,8 @@ fn put_markup<'a>(
     ensures place { IfOk result (λ _. tree.new ≡ record tree.old { nodes = tree.new.nodes }) }
 
     // on success and on error
-    ensures tables { tables.new ≡ record tables.old { cows = tables.new.cows; links = tables.new.links } }
+    ensures tables { tables.new
+        ≡ record tables.old { cows = tables.new.cows; links = tables.new.links } }
     ensures refused { IfErr result (λ fault. fault ≡ Fault.Memory) }
 {
     match found {
@@ -115,7 +120,8 @@ fn put_html(tree: &mut Tree<Item>, ix: usize, end: usize, body: ItemBody) -> Opt
     ensures puts { (source : List ℕ) (tables tables' : Tables) → HasGrown tables tables'
         → IsFoundAt source tables tree.old.nodes ix end
         → CanPut source tables tables' (item_to tree.old.nodes ix end body)
-        → Puts source ix (one_item source tables' (item_to tree.old.nodes ix end body)) (Some end) result tree.old.nodes
+        → Puts source ix (one_item source tables' (item_to tree.old.nodes ix end body)) (Some end)
+        result tree.old.nodes
         tree.new.nodes tables tables' }
     ensures place { tree.new ≡ record tree.old { nodes = tree.new.nodes } }
 {
@@ -132,7 +138,8 @@ fn put_autolink<'a>(
     end: usize,
     uri: &'a str,
 ) -> Result<Option<usize>, Fault>
-    requires { (source : List ℕ) × IsMarkupAt source (tables_of tables.old) tree.old.nodes ix (autolink end uri.now) }
+    requires { (source : List ℕ)
+        × IsMarkupAt source (tables_of tables.old) tree.old.nodes ix (autolink end uri.now) }
     ensures puts { IfOk result (λ next. (source : List ℕ) (rules : Rules)
         → IsMarkupAt source (tables_of tables.old) tree.old.nodes ix (autolink end uri.now)
         → Puts source ix (standing_for source rules (autolink end uri.now)) (Some end) next

@@ -86,12 +86,18 @@ impl<'a, F: BrokenLinkCallback<'a>> Resolver<'a, F> {
         requires text { place.now.text.now ≡ self.old.text.now }
         requires options { place.now.options ≡ self.old.options }
         requires scanner { scanner.old.text.now ≡ take place.now.block_end place.now.text.now }
-        requires code_learned { HoldsFrom SpanKind.Code self.old.code_closers tree.old.nodes (Some ix) }
-        requires math_learned { HoldsFrom SpanKind.Math self.old.math_closers tree.old.nodes (Some ix) }
-        ensures reads { IfOk result (λ next. ReadsItem (setting_by self.old) (above_cursor self.old.text.now tree.old)
-            ix next tree.old.nodes tree.new.nodes (tables_of self.old.tables) (tables_of self.new.tables)) }
-        ensures code_learned { IfOk result (λ next. HoldsFrom SpanKind.Code self.new.code_closers tree.new.nodes next) }
-        ensures math_learned { IfOk result (λ next. HoldsFrom SpanKind.Math self.new.math_closers tree.new.nodes next) }
+        requires code_learned { HoldsFrom SpanKind.Code self.old.code_closers tree.old.nodes
+            (Some ix) }
+        requires math_learned { HoldsFrom SpanKind.Math self.old.math_closers tree.old.nodes
+            (Some ix) }
+        ensures reads { IfOk result (λ next.
+            ReadsItem (setting_by self.old) (above_cursor self.old.text.now tree.old)
+            ix next tree.old.nodes tree.new.nodes (tables_of self.old.tables)
+            (tables_of self.new.tables)) }
+        ensures code_learned { IfOk result (λ next.
+            HoldsFrom SpanKind.Code self.new.code_closers tree.new.nodes next) }
+        ensures math_learned { IfOk result (λ next.
+            HoldsFrom SpanKind.Math self.new.math_closers tree.new.nodes next) }
         ensures code_looks { IfOk result (λ next. LooksAt (has_failed self.old.code_closers)
             (has_failed self.new.code_closers)
             self.old.work.code_visits self.new.work.code_visits
@@ -105,7 +111,10 @@ impl<'a, F: BrokenLinkCallback<'a>> Resolver<'a, F> {
         // on error, and then on success and on error
         ensures stops_looking { IfErr result (λ _. StopsLooking ix tree.old self.old self.new) }
         ensures kept { self.new ≡ record self.old {
-          tables = record self.old.tables { cows = self.new.tables.cows; links = self.new.tables.links };
+          tables = record self.old.tables {
+            cows = self.new.tables.cows;
+            links = self.new.tables.links;
+          };
           work = record self.old.work {
             code_visits = self.new.work.code_visits;
             math_visits = self.new.work.math_visits;
@@ -161,7 +170,8 @@ impl<'a, F: BrokenLinkCallback<'a>> Resolver<'a, F> {
             ReadsBracket F.answers place.now ix next tree.old tree.new self.old self.new) }
 
         // on an error, and in any case
-        ensures stops { IfErr result (λ _. StopsAtNode F.answers place.now ix tree.old self.old self.new.callback) }
+        ensures stops { IfErr result (λ _.
+            StopsAtNode F.answers place.now ix tree.old self.old self.new.callback) }
         ensures again { IfSome self.new.callback F.can_ask }
         ensures refused { IfErr result (λ fault. fault ≡ Fault.Memory) }
         ensures kept { ChangesForBracket self.old self.new }
@@ -201,7 +211,8 @@ impl<'a, F: BrokenLinkCallback<'a>> Resolver<'a, F> {
             ReadsBracket F.answers place.now ix next tree.old tree.new self.old self.new) }
 
         // on an error, and in any case
-        ensures stops { IfErr result (λ _. StopsAtNode F.answers place.now ix tree.old self.old self.new.callback) }
+        ensures stops { IfErr result (λ _.
+            StopsAtNode F.answers place.now ix tree.old self.old self.new.callback) }
         ensures again { IfSome self.new.callback F.can_ask }
         ensures refused { IfErr result (λ fault. fault ≡ Fault.Memory) }
         ensures kept { ChangesForBracket self.old self.new }
@@ -228,13 +239,16 @@ impl<'a, F: BrokenLinkCallback<'a>> Resolver<'a, F> {
         requires can_ask { IfSome self.old.callback F.can_ask }
         requires ready { CanReadNode place.now tree.old self.old ix }
         requires scanner { scanner.old.text.now ≡ take place.now.block_end place.now.text.now }
-        requires code_learned { HoldsFrom SpanKind.Code self.old.code_closers tree.old.nodes (Some ix) }
-        requires math_learned { HoldsFrom SpanKind.Math self.old.math_closers tree.old.nodes (Some ix) }
+        requires code_learned { HoldsFrom SpanKind.Code self.old.code_closers tree.old.nodes
+            (Some ix) }
+        requires math_learned { HoldsFrom SpanKind.Math self.old.math_closers tree.old.nodes
+            (Some ix) }
         ensures reads { IfOk result (λ next.
             ReadsNode F.answers place.now ix next tree.old tree.new self.old self.new) }
 
         // on an error, and in any case
-        ensures stops { IfErr result (λ _. StopsAtNode F.answers place.now ix tree.old self.old self.new.callback) }
+        ensures stops { IfErr result (λ _.
+            StopsAtNode F.answers place.now ix tree.old self.old self.new.callback) }
         ensures again { IfSome self.new.callback F.can_ask }
         ensures stops_looking { IfErr result (λ _. StopsLooking ix tree.old self.old self.new) }
         ensures refused { IfErr result (λ fault. fault ≡ Fault.Memory) }
@@ -252,10 +266,12 @@ impl<'a, F: BrokenLinkCallback<'a>> Resolver<'a, F> {
 
     /// Counts the items of the chain from the node `first` on.
     fn count_items(&mut self, tree: &Tree<Item>, first: usize)
-        requires { CanResolve self.old.text.now (tables_of self.old.tables) tree.now.nodes (Some first) }
+        requires { CanResolve self.old.text.now (tables_of self.old.tables) tree.now.nodes
+            (Some first) }
         ensures { self.new ≡ record self.old {
           work = record self.old.work {
-            items = min (self.old.work.items + items_from tree.now.nodes (Some first)) (2 ^ 128 - 1);
+            items = min (self.old.work.items + items_from tree.now.nodes (Some first))
+                (2 ^ 128 - 1);
           };
         } }
     {
@@ -268,7 +284,8 @@ impl<'a, F: BrokenLinkCallback<'a>> Resolver<'a, F> {
 
     /// Begins the chain from the node `first` on: counts its items, and discards what was held for the last chain.
     fn begin_chain(&mut self, tree: &Tree<Item>, first: usize)
-        requires { CanResolve self.old.text.now (tables_of self.old.tables) tree.now.nodes (Some first) }
+        requires { CanResolve self.old.text.now (tables_of self.old.tables) tree.now.nodes
+            (Some first) }
         ensures brackets { self.new.openers.brackets ≡ [] }
         ensures wikilinks { self.new.openers.wikilinks ≡ [] }
         ensures spent { (end : ℕ) → is_spent self.new.spent end ≡ false }
@@ -276,7 +293,8 @@ impl<'a, F: BrokenLinkCallback<'a>> Resolver<'a, F> {
           openers = self.new.openers;
           spent = self.new.spent;
           work = record self.old.work {
-            items = min (self.old.work.items + items_from tree.now.nodes (Some first)) (2 ^ 128 - 1);
+            items = min (self.old.work.items + items_from tree.now.nodes (Some first))
+                (2 ^ 128 - 1);
           };
           code_closers = None;
           math_closers = None;
@@ -293,22 +311,26 @@ impl<'a, F: BrokenLinkCallback<'a>> Resolver<'a, F> {
     /// to right. The only error is `Fault::Memory`.
     fn read_chain(&mut self, tree: &mut Tree<Item>, first: usize) -> Result<(), Fault>
         requires can_ask { IfSome self.old.callback F.can_ask }
-        requires ready { CanResolve self.old.text.now (tables_of self.old.tables) tree.old.nodes (Some first) }
+        requires ready { CanResolve self.old.text.now (tables_of self.old.tables) tree.old.nodes
+            (Some first) }
         requires above { AreAbove self.old.text.now tree.old.nodes (Some first) tree.old.spine }
         ensures reads { IfOk result (λ _. ResolvesFrom F.answers self.old.text.now
-            (pass_one (setting_by self.old) plain_tags (above_cursor self.old.text.now tree.old)) (Some first)
+            (pass_one (setting_by self.old) plain_tags (above_cursor self.old.text.now tree.old))
+            (Some first)
             (stage_by tree.old self.old) (stage_by tree.new self.new)) }
         ensures place { IfOk result (λ _. tree.new ≡ record tree.old { nodes = tree.new.nodes }) }
 
         // on an error, and in any case
-        ensures items { self.new.work.items ≡ min (self.old.work.items + items_from tree.old.nodes (Some first))
+        ensures items { self.new.work.items
+            ≡ min (self.old.work.items + items_from tree.old.nodes (Some first))
             (2 ^ 128 - 1) }
         ensures code_visits { RisesAtMost (items_from tree.old.nodes (Some first))
             self.old.work.code_visits self.new.work.code_visits }
         ensures math_visits { RisesAtMost (items_from tree.old.nodes (Some first))
             self.old.work.math_visits self.new.work.math_visits }
         ensures stops { IfErr result (λ _. StopsInPassOne F.answers (setting_by self.old)
-            (above_cursor self.old.text.now tree.old) first (stage_by tree.old self.old) self.new.callback) }
+            (above_cursor self.old.text.now tree.old) first (stage_by tree.old self.old)
+            self.new.callback) }
         ensures again { IfSome self.new.callback F.can_ask }
         ensures kept { self.new ≡ record self.old {
           tables = record self.old.tables {
@@ -350,18 +372,21 @@ impl<'a, F: BrokenLinkCallback<'a>> Resolver<'a, F> {
     /// only error is `Fault::Memory`; the tree and the tables are then in an unspecified state.
     pub fn resolve_chain(&mut self, tree: &mut Tree<Item>, first: usize) -> Result<(), Fault>
         requires can_ask { IfSome self.old.callback F.can_ask }
-        requires ready { CanResolve self.old.text.now (tables_of self.old.tables) tree.old.nodes (Some first) }
+        requires ready { CanResolve self.old.text.now (tables_of self.old.tables) tree.old.nodes
+            (Some first) }
         requires open { is_open (item_at tree.old.nodes first).body ≡ true }
         requires above { AreAbove self.old.text.now tree.old.nodes (Some first) tree.old.spine }
         ensures resolves { IfOk result (λ _. ResolvesChain F.answers
-            (setting_of self.old.text.now (rules_from self.old.options self.old.tables (is_some self.old.callback)))
+            (setting_of self.old.text.now
+            (rules_from self.old.options self.old.tables (is_some self.old.callback)))
             first tree.old tree.new self.old.tables self.new.tables self.old.limit self.new.limit
             self.old.callback self.new.callback self.old.work self.new.work) }
 
         // on an error, and in any case
         ensures refused { IfErr result (λ fault. fault ≡ Fault.Memory) }
         ensures stops { IfErr result (λ _. StopsIn F.answers
-            (setting_of self.old.text.now (rules_from self.old.options self.old.tables (is_some self.old.callback)))
+            (setting_of self.old.text.now
+            (rules_from self.old.options self.old.tables (is_some self.old.callback)))
             (above_cursor self.old.text.now tree.old) first
             (stage tree.old self.old.tables self.old.limit self.old.callback) self.new.callback
             self.old.work self.new.work) }

@@ -49,12 +49,16 @@ fn text_between<'a>(
     requires place { IsPlaceOf place.now tree.now }
     requires above { HasBlocks tree.now }
     requires cut { CanCut place.now.text.now start end }
-    ensures value { IfOk result (λ made. (rules : Rules) → gfm_footnotes_on rules.options ≡ gfm_footnotes_on place.now.options
-        → text_of made ≡ text_between (setting_of place.now.text.now rules) (above_cursor place.now.text.now tree.now)
+    ensures value { IfOk result (λ made. (rules : Rules)
+        → gfm_footnotes_on rules.options ≡ gfm_footnotes_on place.now.options
+        → text_of made ≡ text_between (setting_of place.now.text.now rules)
+        (above_cursor place.now.text.now tree.now)
         kind start end) }
     ensures origin { IfOk result (λ span. origin_of span
-        ≡ span_origin (above_cursor place.now.text.now tree.now).in_table (slice_range place.now.text.now start end)) }
-    ensures slice { IfOk result (λ span. IsSlicedOf place.now.text.now start end (origin_of span) (text_of span)) }
+        ≡ span_origin (above_cursor place.now.text.now tree.now).in_table
+        (slice_range place.now.text.now start end)) }
+    ensures slice { IfOk result (λ span.
+        IsSlicedOf place.now.text.now start end (origin_of span) (text_of span)) }
     ensures refused { IfErr result (λ fault. fault ≡ Fault.Memory) }
 {
     let prefix = ContainerPrefix::new(tree, place.gfm_footnotes());
@@ -81,9 +85,13 @@ fn store_text<'a>(
     requires place { IsPlaceOf place.now tree.now }
     requires above { HasBlocks tree.now }
     requires cut { CanCut place.now.text.now start end }
-    ensures stored { IfOk result (λ cow. StoresText place.now.text.now start end (tables_of tables.old)
-        (tables_of tables.new) cow (span_origin (above_cursor place.now.text.now tree.now).in_table (slice_range place.now.text.now start end))) }
-    ensures text { IfOk result (λ cow. (rules : Rules) → gfm_footnotes_on rules.options ≡ gfm_footnotes_on place.now.options
+    ensures stored { IfOk result (λ cow.
+        StoresText place.now.text.now start end (tables_of tables.old)
+        (tables_of tables.new) cow
+        (span_origin (above_cursor place.now.text.now tree.now).in_table
+        (slice_range place.now.text.now start end))) }
+    ensures text { IfOk result (λ cow. (rules : Rules)
+        → gfm_footnotes_on rules.options ≡ gfm_footnotes_on place.now.options
         → text_at tables.new.cows cow.0 ≡ text_between (setting_of place.now.text.now rules)
         (above_cursor place.now.text.now tree.now) kind start end) }
 
@@ -112,7 +120,8 @@ fn put_code(tree: &mut Tree<Item>, ix: usize, closer: usize, body: ItemBody) -> 
         → CanPutCode source tables tables' tree.old.nodes ix closer body
         → Puts source ix (code_standing source tables' (is_escaped (item_at tree.old.nodes ix).body)
         (item_at tree.old.nodes ix) (item_at tree.old.nodes closer) body)
-        (Some (item_at tree.old.nodes closer).end) result tree.old.nodes tree.new.nodes tables tables' }
+        (Some (item_at tree.old.nodes closer).end) result tree.old.nodes tree.new.nodes tables
+        tables' }
     ensures place { tree.new ≡ record tree.old { nodes = tree.new.nodes } }
 {
     let item = *tree.item(ix);
@@ -186,16 +195,21 @@ pub(crate) fn read_code<'a>(
     requires opener { (count : ℕ) × (escaped : Bool)
         × ((item_at tree.old.nodes ix).body ≡ body.MaybeCode count escaped) }
     requires learned { HoldsFrom SpanKind.Code closers.old tree.old.nodes (Some ix) }
-    ensures reads { IfOk result (λ next. (rules : Rules) → gfm_footnotes_on rules.options ≡ gfm_footnotes_on place.now.options
-        → ReadsItem (setting_of place.now.text.now rules) (above_cursor place.now.text.now tree.old) ix next
+    ensures reads { IfOk result (λ next. (rules : Rules)
+        → gfm_footnotes_on rules.options ≡ gfm_footnotes_on place.now.options
+        → ReadsItem (setting_of place.now.text.now rules) (above_cursor place.now.text.now tree.old)
+        ix next
         tree.old.nodes tree.new.nodes (tables_of tables.old) (tables_of tables.new)) }
-    ensures learned { IfOk result (λ next. HoldsFrom SpanKind.Code closers.new tree.new.nodes next) }
-    ensures looks { IfOk result (λ next. LooksAt (has_failed closers.old) (has_failed closers.new) visits.old visits.new
+    ensures learned { IfOk result (λ next.
+        HoldsFrom SpanKind.Code closers.new tree.new.nodes next) }
+    ensures looks { IfOk result (λ next.
+        LooksAt (has_failed closers.old) (has_failed closers.new) visits.old visits.new
         (items_from tree.old.nodes (Some ix)) (items_from tree.new.nodes next)) }
     ensures place { IfOk result (λ _. tree.new ≡ record tree.old { nodes = tree.new.nodes }) }
 
     // on error, and then on success and on error
-    ensures stops_looking { IfErr result (λ _. LooksAtMost (has_failed closers.old) (has_failed closers.new) visits.old visits.new
+    ensures stops_looking { IfErr result (λ _.
+        LooksAtMost (has_failed closers.old) (has_failed closers.new) visits.old visits.new
         (items_from tree.old.nodes (Some ix))) }
     ensures tables { tables.new ≡ record tables.old { cows = tables.new.cows } }
     ensures refused { IfErr result (λ fault. fault ≡ Fault.Memory) }
@@ -234,16 +248,21 @@ pub(crate) fn read_math<'a>(
     requires chain { CanReadItem place.now tree.old tables.old ix }
     requires opener { is_dollar (item_at tree.old.nodes ix).body ≡ true }
     requires learned { HoldsFrom SpanKind.Math closers.old tree.old.nodes (Some ix) }
-    ensures reads { IfOk result (λ next. (rules : Rules) → gfm_footnotes_on rules.options ≡ gfm_footnotes_on place.now.options
-        → ReadsItem (setting_of place.now.text.now rules) (above_cursor place.now.text.now tree.old) ix next
+    ensures reads { IfOk result (λ next. (rules : Rules)
+        → gfm_footnotes_on rules.options ≡ gfm_footnotes_on place.now.options
+        → ReadsItem (setting_of place.now.text.now rules) (above_cursor place.now.text.now tree.old)
+        ix next
         tree.old.nodes tree.new.nodes (tables_of tables.old) (tables_of tables.new)) }
-    ensures learned { IfOk result (λ next. HoldsFrom SpanKind.Math closers.new tree.new.nodes next) }
-    ensures looks { IfOk result (λ next. LooksAt (has_failed closers.old) (has_failed closers.new) visits.old visits.new
+    ensures learned { IfOk result (λ next.
+        HoldsFrom SpanKind.Math closers.new tree.new.nodes next) }
+    ensures looks { IfOk result (λ next.
+        LooksAt (has_failed closers.old) (has_failed closers.new) visits.old visits.new
         (items_from tree.old.nodes (Some ix)) (items_from tree.new.nodes next)) }
     ensures place { IfOk result (λ _. tree.new ≡ record tree.old { nodes = tree.new.nodes }) }
 
     // on error, and then on success and on error
-    ensures stops_looking { IfErr result (λ _. LooksAtMost (has_failed closers.old) (has_failed closers.new) visits.old visits.new
+    ensures stops_looking { IfErr result (λ _.
+        LooksAtMost (has_failed closers.old) (has_failed closers.new) visits.old visits.new
         (items_from tree.old.nodes (Some ix))) }
     ensures tables { tables.new ≡ record tables.old { cows = tables.new.cows } }
     ensures refused { IfErr result (λ fault. fault ≡ Fault.Memory) }

@@ -75,7 +75,8 @@ fn is_too_deep(max_nesting: usize, escaped: bool, opened: usize, byte: u8) -> bo
 #[inline(always)]
 fn is_ordinary(byte: u8) -> bool
     ensures shown { result ≡ true → is_control_or_space byte ≡ false }
-    ensures no_parenthesis { result ≡ true → (byte ≢ open_parenthesis) × (byte ≢ close_parenthesis) }
+    ensures no_parenthesis { result ≡ true
+        → (byte ≢ open_parenthesis) × (byte ≢ close_parenthesis) }
     ensures no_backslash { result ≡ true → byte ≢ backslash }
 {
     byte > b' ' && byte < 0x7f && byte != b'(' && byte != b')' && byte != b'\\'
@@ -127,7 +128,8 @@ fn begins_angle(bytes: &[u8]) -> bool
 /// not closed. A destination may be empty, with length 0, as in a link that leaves it out. Upstream: `scan_link_dest`.
 pub fn scan_link_destination(text: &str, at: usize, max_nesting: usize) -> Option<(usize, &str)>
     requires { IsCharBoundary text.now at }
-    ensures value { option_map (λ p. (p.0, p.1.now)) result ≡ destination.destination max_nesting (drop at text.now) }
+    ensures value { option_map (λ p. (p.0, p.1.now)) result
+        ≡ destination.destination max_nesting (drop at text.now) }
     ensures within { IfSome result (λ p. at + p.0 ≤ length text.now) }
     ensures boundary { IfSome result (λ p. IsCharBoundary text.now (at + p.0)) }
 {

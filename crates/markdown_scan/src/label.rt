@@ -44,7 +44,8 @@ fn next_character<'a, R: LineRule>(
     escaped: bool,
     rest: &'a str,
 ) -> Option<(char, &'a str)>
-    ensures end { IfNone result ((in_table : Bool) → EndsHere (R.skipped rule.now) in_table escaped rest.now) }
+    ensures end { IfNone result
+        ((in_table : Bool) → EndsHere (R.skipped rule.now) in_table escaped rest.now) }
     ensures next { IfSome result (λ p. (in_table : Bool)
         → LabelGoesOn (R.skipped rule.now) in_table escaped rest.now p.0 p.1.now) }
     ensures shorter { IfSome result (λ p. length p.1.now < length rest.now) }
@@ -67,10 +68,13 @@ fn label_text<'t, R: LineRule>(
     rule: &R,
     in_table: bool,
 ) -> Result<CowStr<'t>, AllocError>
-    ensures value { IfOk result (λ found. IfSome (found_in (R.skipped rule.now) in_table false text.now)
+    ensures value { IfOk result (λ found.
+        IfSome (found_in (R.skipped rule.now) in_table false text.now)
         (λ f. text_of found ≡ label.collapse_whitespace false false f.1)) }
-    ensures borrowed { IfOk result (λ found. (n : ℕ) → text_of found ≡ take n source.now → IsBorrowed found) }
-    ensures differs { OnErr result (IfSome (found_in (R.skipped rule.now) in_table false text.now) (λ f. (n : ℕ)
+    ensures borrowed { IfOk result (λ found. (n : ℕ) → text_of found ≡ take n source.now
+        → IsBorrowed found) }
+    ensures differs { OnErr result
+        (IfSome (found_in (R.skipped rule.now) in_table false text.now) (λ f. (n : ℕ)
         → label.collapse_whitespace false false f.1 ≢ take n source.now)) }
 {
     let mut found = LabelText::new(source);
@@ -102,7 +106,8 @@ pub fn scan_link_label<'t, R: LineRule>(
     // A text that is unchanged is a slice of the source, and allocates no memory.
     ensures borrowed { IfOk result (λ found. IfSome found (λ p.
         text_of p.1 ≡ take (p.0 - 1) text.now → IsBorrowed p.1)) }
-    ensures unchanged { (n : ℕ) → link_label (R.skipped rule.now) in_table text.now ≡ Some (n + 1, take n text.now)
+    ensures unchanged { (n : ℕ)
+        → link_label (R.skipped rule.now) in_table text.now ≡ Some (n + 1, take n text.now)
         → IsOk result }
     ensures refused { link_label (R.skipped rule.now) in_table text.now ≡ None → IsOk result }
 

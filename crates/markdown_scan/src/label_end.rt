@@ -24,7 +24,8 @@ fn begun_by(byte: u8) -> usize
 
 // Returns the number of characters that the byte adds to the text, if the bytes `next` follow it.
 fn characters_shown(in_table: bool, byte: u8, next: &[u8]) -> usize
-    ensures value { result ≡ count_by label.begins_character (scan.byte_shown in_table byte next.now) }
+    ensures value { result
+        ≡ count_by label.begins_character (scan.byte_shown in_table byte next.now) }
     ensures few { result ≤ 1 }
 {
     if escapes_pipe(in_table, byte, next) {
@@ -37,7 +38,8 @@ fn characters_shown(in_table: bool, byte: u8, next: &[u8]) -> usize
 // Returns whether the text has a character that is not white space after the byte, which the bytes `next` follow, is
 // added.
 fn solid_after(solid: bool, in_table: bool, byte: u8, next: &[u8]) -> bool
-    ensures { result ≡ (solid || list_any label.is_not_white_space (scan.byte_shown in_table byte next.now)) }
+    ensures { result
+        ≡ (solid || list_any label.is_not_white_space (scan.byte_shown in_table byte next.now)) }
 {
     solid || !(escapes_pipe(in_table, byte, next) || is_white_space(byte))
 }
@@ -45,7 +47,8 @@ fn solid_after(solid: bool, in_table: bool, byte: u8, next: &[u8]) -> bool
 /// Returns the byte offset of a label's closing bracket, in the bytes after its opening bracket; `None` if there is no
 /// label of at most 999 characters, at least one of them not white space.
 pub(crate) fn label_end<R: LineRule>(bytes: &[u8], rule: &R, in_table: bool) -> Option<usize>
-    ensures value { result ≡ end_after 0 0 false (scan.found_in (R.skipped rule.now) in_table false bytes.now) }
+    ensures value { result
+        ≡ end_after 0 0 false (scan.found_in (R.skipped rule.now) in_table false bytes.now) }
     ensures here { IfSome result (λ n. (n < length bytes.now) × (slice_index bytes.now n ≡ 93)) }
 {
     let mut rest = bytes;

@@ -27,7 +27,8 @@ pub(crate) struct LabelText<'t> {
 
 /// Returns the first character and what follows it.
 pub(crate) fn split_first(text: &str) -> Option<(char, &str)>
-    ensures { MatchOption result (length text.now ≡ 0) (λ p. text.now ≡ encode_utf8 p.0 ++ p.1.now) }
+    ensures { MatchOption result (length text.now ≡ 0) (λ p. text.now
+        ≡ encode_utf8 p.0 ++ p.1.now) }
 {
     let mut chars = text.chars();
     let first = chars.next()?;
@@ -109,7 +110,8 @@ impl<'t> LabelText<'t> {
         ensures text { OnOk result (so_far self.new ≡ so_far self.old ++ encode_utf8 c) }
         ensures source { self.new.source ≡ self.old.source }
         ensures state { (self.new.begun ≡ self.old.begun) × (self.new.waiting ≡ self.old.waiting) }
-        ensures differs { OnErr result (IsNoBeginning (so_far self.old ++ encode_utf8 c) self.old.source.now) }
+        ensures differs { OnErr result
+            (IsNoBeginning (so_far self.old ++ encode_utf8 c) self.old.source.now) }
     {
         if let Some(own) = &mut self.own {
             return own.push(c);
@@ -124,9 +126,11 @@ impl<'t> LabelText<'t> {
 
     // Appends the space that replaces the white space before the next character, if there is any.
     fn put_gap(&mut self, alloc: Global) -> Result<(), AllocError>
-        ensures text { OnOk result (so_far self.new ≡ so_far self.old ++ label.gap self.old.begun self.old.waiting) }
+        ensures text { OnOk result
+            (so_far self.new ≡ so_far self.old ++ label.gap self.old.begun self.old.waiting) }
         ensures source { self.new.source ≡ self.old.source }
-        ensures differs { OnErr result (IsNoBeginning (so_far self.old ++ label.gap self.old.begun self.old.waiting)
+        ensures differs { OnErr result
+            (IsNoBeginning (so_far self.old ++ label.gap self.old.begun self.old.waiting)
             self.old.source.now) }
     {
         if self.begun && self.waiting {
@@ -164,10 +168,12 @@ impl<'t> LabelText<'t> {
         next: &str,
     ) -> Result<(), AllocError>
         ensures text { OnOk result ((rest : List ℕ)
-            → completed self.new rest ≡ completed self.old (scan.character_shown in_table c next.now ++ rest)) }
+            → completed self.new rest
+            ≡ completed self.old (scan.character_shown in_table c next.now ++ rest)) }
         ensures source { self.new.source ≡ self.old.source }
         ensures differs { OnErr result ((rest : List ℕ) (n : ℕ)
-            → completed self.old (scan.character_shown in_table c next.now ++ rest) ≢ take n self.old.source.now) }
+            → completed self.old (scan.character_shown in_table c next.now ++ rest) ≢ take n
+            self.old.source.now) }
     {
         if escapes_pipe(in_table, c, next) {
             return Ok(());
@@ -178,7 +184,8 @@ impl<'t> LabelText<'t> {
     /// Returns the text: a slice of the source if it is a prefix of the source.
     pub(crate) fn finish(self) -> CowStr<'t>
         ensures text { text_of result ≡ so_far self.entry }
-        ensures borrowed { (n : ℕ) → text_of result ≡ take n self.entry.source.now → IsBorrowed result }
+        ensures borrowed { (n : ℕ) → text_of result ≡ take n self.entry.source.now
+            → IsBorrowed result }
     {
         let same = &self.source[..self.same];
         own_or(self.own, same)

@@ -55,7 +55,8 @@ impl<'t> LineStart<'t> {
 
     /// Returns a reader at the beginning of the line.
     pub fn new(bytes: &'t [u8]) -> LineStart<'t>
-        ensures { line_left result ≡ record { scanned = 0; owed = 0; column = 0; bytes = bytes.now } }
+        ensures { line_left result
+            ≡ record { scanned = 0; owed = 0; column = 0; bytes = bytes.now } }
     {
         LineStart {
             rest: bytes,
@@ -132,7 +133,8 @@ impl<'t> LineStart<'t> {
     /// Reads `n` columns of space, and returns whether there were that many. If not, nothing is read.
     pub fn scan_space(&mut self, n: usize) -> bool
         ensures value { result ≡ ((spec.leading_space n (line_left self.old)).columns == n) }
-        ensures left { line_left self.new ≡ (if result then (spec.leading_space n (line_left self.old)).after
+        ensures left { line_left self.new
+            ≡ (if result then (spec.leading_space n (line_left self.old)).after
             else line_left self.old) }
     {
         let mut after = self.copy();

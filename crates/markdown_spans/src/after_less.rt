@@ -61,9 +61,11 @@ fn scan_tag(
     prefix: &ContainerPrefix<'_>,
 ) -> Result<Option<(usize, Option<String>)>, AllocError>
     requires { IsCharBoundary text.now start }
-    ensures value { IfOk result (λ found. option_map (λ tag. (tag.0, option_map string_bytes tag.1)) found
+    ensures value { IfOk result (λ found. option_map (λ tag.
+        (tag.0, option_map string_bytes tag.1)) found
         ≡ tag_at (λ rest. Some (length_by prefix.now rest)) text.now start) }
-    ensures plain { option_and_then (λ tag. tag.1) (tag_at (λ rest. Some (length_by prefix.now rest)) text.now start)
+    ensures plain { option_and_then (λ tag.
+        tag.1) (tag_at (λ rest. Some (length_by prefix.now rest)) text.now start)
         ≡ None → IsOk result }
     ensures boundary { IfOk result (λ found. IfSome found (λ tag. IsCharBoundary text.now tag.0)) }
 {
@@ -88,7 +90,8 @@ fn scan_tag(
 #[tactic(auto, using(crate::proofs::AfterLessLemmas::closed_boundary))]
 fn as_html(text: &str, end: Option<usize>) -> Option<(usize, Option<String>)>
     requires { IfSome end (λ end. (end ≤ length text.now) × (slice_index text.now (end - 1) ≡ 62)) }
-    ensures value { option_map (λ tag. (tag.0, option_map string_bytes tag.1)) result ≡ unbroken end }
+    ensures value { option_map (λ tag. (tag.0, option_map string_bytes tag.1)) result
+        ≡ unbroken end }
     ensures boundary { IfSome result (λ tag. IsCharBoundary text.now tag.0) }
 {
     match end {
@@ -110,9 +113,11 @@ fn scan_html(
 ) -> Result<Option<(usize, Option<String>)>, AllocError>
     requires text { scanner.old.text.now ≡ text.now }
     requires boundary { IsCharBoundary text.now start }
-    ensures value { IfOk result (λ found. option_map (λ tag. (tag.0, option_map string_bytes tag.1)) found
+    ensures value { IfOk result (λ found. option_map (λ tag.
+        (tag.0, option_map string_bytes tag.1)) found
         ≡ html_at (λ rest. Some (length_by prefix.now rest)) text.now start at) }
-    ensures plain { option_and_then (λ tag. tag.1) (html_at (λ rest. Some (length_by prefix.now rest)) text.now start
+    ensures plain { option_and_then (λ tag.
+        tag.1) (html_at (λ rest. Some (length_by prefix.now rest)) text.now start
         at) ≡ None → IsOk result }
     ensures boundary { IfOk result (λ found. IfSome found (λ tag. IsCharBoundary text.now tag.0)) }
     ensures same { scanner.new.text ≡ scanner.old.text }
@@ -142,9 +147,11 @@ pub fn scan_after_less<'t>(
     requires after { IsCharBoundary text.now at }
     ensures value { IfOk result (λ found. option_map markup_of found
         ≡ markup_at (λ rest. Some (length_by prefix.now rest)) text.entry.now start at) }
-    ensures plain { is_unbroken (markup_at (λ rest. Some (length_by prefix.now rest)) text.entry.now start at) ≡ true
+    ensures plain { is_unbroken
+        (markup_at (λ rest. Some (length_by prefix.now rest)) text.entry.now start at) ≡ true
         → IsOk result }
-    ensures boundary { IfOk result (λ found. IfSome found (λ markup. IsCharBoundary text.entry.now (markup_end markup))) }
+    ensures boundary { IfOk result (λ found. IfSome found (λ markup.
+        IsCharBoundary text.entry.now (markup_end markup))) }
     ensures same { scanner.new.text ≡ scanner.old.text }
 {
     if let Some((end, uri)) = scan_uri_autolink(text, at) {

@@ -32,7 +32,8 @@ fn take_quote(line: &mut LineStart<'_>) -> bool
 
 /// Reads at most `indent` columns of space, and returns whether there were that many or the line ends after them.
 fn take_indent(line: &mut LineStart<'_>, indent: usize) -> bool
-    ensures { (if result then Some (line_left line.new) else None) ≡ past_indent indent (line_left line.old) }
+    ensures { (if result then Some (line_left line.new) else None)
+        ≡ past_indent indent (line_left line.old) }
 {
     line.scan_space_upto(indent) == indent || line.is_at_eol()
 }

@@ -122,7 +122,8 @@ fn note_second(
     noted: &mut Vec<SpanMark>,
 ) -> Result<(), AllocError>
     requires { IfSome opener.second (λ ix. ix < length tree.now.nodes) }
-    ensures { OnOk result (noted.new.items ≡ noted.old.items ++ marks_at tree.now.nodes opener.second) }
+    ensures { OnOk result
+        (noted.new.items ≡ noted.old.items ++ marks_at tree.now.nodes opener.second) }
 {
     if let Some(second) = opener.second {
         note(
@@ -299,15 +300,18 @@ impl SpanClosers {
         requires learned { HoldsFrom SpanKind.Code self.old tree.now.nodes (Some opener) }
         ensures found { IfOk result (λ found. ClosesCode tree.now.nodes opener found) }
         ensures within { IfOk result (λ found. IfSome found (λ ix. ix < length tree.now.nodes)) }
-        ensures counted { IfOk result (λ _. LooksForCode self.old tree.now.nodes opener visits.old visits.new) }
+        ensures counted { IfOk result (λ _.
+            LooksForCode self.old tree.now.nodes opener visits.old visits.new) }
         ensures failed { IfOk result (λ found. has_failed self.new
-            ≡ failed_by_now self.old (opens_code (item_at tree.now.nodes opener).body) (is_some found)) }
+            ≡ failed_by_now self.old (opens_code (item_at tree.now.nodes opener).body)
+            (is_some found)) }
         ensures learned { IfOk result (λ _. HoldsFrom SpanKind.Code self.new tree.now.nodes
             (sibling_of tree.now.nodes opener)) }
 
         // on errors
         ensures unchanged { OnErr result (self.new ≡ self.old) }
-        ensures counted_at_most { IfErr result (λ _. LooksForCodeAtMost self.old tree.now.nodes opener visits.old
+        ensures counted_at_most { IfErr result (λ _.
+            LooksForCodeAtMost self.old tree.now.nodes opener visits.old
             visits.new) }
 
         // whatever comes
@@ -338,16 +342,20 @@ impl SpanClosers {
         requires chain { HasChain tree.now.nodes (Some opener) }
         requires learned { HoldsFrom SpanKind.Math self.old tree.now.nodes (Some opener) }
         ensures found { IfOk result (λ found. ClosesMath tree.now.nodes opener found) }
-        ensures within { IfOk result (λ found. IfSome found (λ math. StandsIn tree.now.nodes math)) }
-        ensures counted { IfOk result (λ _. LooksForMath self.old tree.now.nodes opener visits.old visits.new) }
+        ensures within { IfOk result (λ found. IfSome found (λ math.
+            StandsIn tree.now.nodes math)) }
+        ensures counted { IfOk result (λ _.
+            LooksForMath self.old tree.now.nodes opener visits.old visits.new) }
         ensures failed { IfOk result (λ found. has_failed self.new
-            ≡ failed_by_now self.old (can_open (item_at tree.now.nodes opener).body) (is_some found)) }
+            ≡ failed_by_now self.old (can_open (item_at tree.now.nodes opener).body)
+            (is_some found)) }
         ensures learned { IfOk result (λ _. HoldsFrom SpanKind.Math self.new tree.now.nodes
             (sibling_of tree.now.nodes opener)) }
 
         // on errors
         ensures unchanged { OnErr result (self.new ≡ self.old) }
-        ensures counted_at_most { IfErr result (λ _. LooksForMathAtMost self.old tree.now.nodes opener visits.old
+        ensures counted_at_most { IfErr result (λ _.
+            LooksForMathAtMost self.old tree.now.nodes opener visits.old
             visits.new) }
 
         // whatever comes

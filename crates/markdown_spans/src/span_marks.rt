@@ -124,8 +124,10 @@ pub fn walk_to(
     ensures found { IfOk result (λ found. HasChain tree.now.nodes found) }
     ensures walks { IfOk result (λ found. (low : ℕ) (chain : List Numbered)
         → LeadsThrough tree.now.nodes low first chain
-        → WalksTo kind wanted tree.now.nodes chain found noted.old.items noted.new.items visits.old visits.new) }
-    ensures refused { IfErr result (λ _. (low : ℕ) (chain : List Numbered) → LeadsThrough tree.now.nodes low first chain
+        → WalksTo kind wanted tree.now.nodes chain found noted.old.items noted.new.items visits.old
+        visits.new) }
+    ensures refused { IfErr result (λ _. (low : ℕ) (chain : List Numbered)
+        → LeadsThrough tree.now.nodes low first chain
         → LooksAlong kind wanted chain visits.old visits.new) }
 
     // whatever comes

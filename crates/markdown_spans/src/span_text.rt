@@ -73,9 +73,12 @@ impl SpanKind {
         prefix: &ContainerPrefix<'_>,
     ) -> Option<(&'t str, &'static str, &'t str)>
         ensures same { IfNone result (code.is_sliced in_table text.now ≡ true) }
-        ensures none { IfNone result (code.lines_joined self in_table (length_by prefix.now) text.now ≡ text.now) }
-        ensures some { IfSome result (λ parts. code.lines_joined self in_table (length_by prefix.now) text.now
-            ≡ parts.0.now ++ (parts.1.now ++ code.lines_joined self in_table (length_by prefix.now) parts.2.now)) }
+        ensures none { IfNone result
+            (code.lines_joined self in_table (length_by prefix.now) text.now ≡ text.now) }
+        ensures some { IfSome result (λ parts.
+            code.lines_joined self in_table (length_by prefix.now) text.now
+            ≡ parts.0.now ++ (parts.1.now
+            ++ code.lines_joined self in_table (length_by prefix.now) parts.2.now)) }
         ensures changes { IfSome result (λ parts. code.is_sliced in_table text.now ≡ false) }
         ensures shorter { IfSome result (λ parts. length parts.2.now < length text.now) }
     {
@@ -97,7 +100,8 @@ impl SpanKind {
         in_table: bool,
         prefix: &ContainerPrefix<'_>,
     ) -> Result<String, AllocError>
-        ensures { IfOk result (λ made. string_bytes made ≡ code.lines_joined self in_table (length_by prefix.now)
+        ensures { IfOk result (λ made. string_bytes made
+            ≡ code.lines_joined self in_table (length_by prefix.now)
             text.now) }
     {
         let mut made = String::new(alloc);
@@ -166,11 +170,13 @@ pub fn span_text<'t>(
     in_table: bool,
     prefix: &ContainerPrefix<'_>,
 ) -> Result<CowStr<'t>, AllocError>
-    ensures value { IfOk result (λ made. text_of made ≡ code.span_text kind in_table (length_by prefix.now)
+    ensures value { IfOk result (λ made. text_of made
+        ≡ code.span_text kind in_table (length_by prefix.now)
         text.entry.now) }
     ensures borrowed { is_sliced in_table text.entry.now ≡ true → IsOkAnd result IsBorrowed }
     ensures origin { IfOk result (λ span. origin_of span ≡ span_origin in_table text.entry.now) }
-    ensures slice { IfOk result (λ span. IsSlicedOf text.entry.now 0 (length text.entry.now) (origin_of span)
+    ensures slice { IfOk result (λ span.
+        IsSlicedOf text.entry.now 0 (length text.entry.now) (origin_of span)
         (text_of span)) }
 {
     if kind.split_at_piece(text, in_table, prefix).is_none() {

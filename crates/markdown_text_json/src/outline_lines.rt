@@ -17,8 +17,10 @@ fn push_parts<'x>(
     start: &'x str,
     end: &'x str,
 ) -> Result<(), AllocError>
-    ensures ok { OnOk result (Appends s.old s.new (entry_parts level.now text.now start.now end.now)) }
-    ensures err { OnErr result (AppendsPart s.old s.new (entry_parts level.now text.now start.now end.now)) }
+    ensures ok { OnOk result
+        (Appends s.old s.new (entry_parts level.now text.now start.now end.now)) }
+    ensures err { OnErr result
+        (AppendsPart s.old s.new (entry_parts level.now text.now start.now end.now)) }
 {
     push_pieces(
         s,
@@ -64,7 +66,8 @@ fn push_entry(s: &mut String, entry: &Entry) -> Result<(), AllocError>
 /// ```
 pub fn push_outline(s: &mut String, entries: &[Entry]) -> Result<(), AllocError>
     ensures ok { OnOk result (Appends s.old s.new (outline_lines (map entry_view entries.now))) }
-    ensures err { OnErr result (AppendsPart s.old s.new (outline_lines (map entry_view entries.now))) }
+    ensures err { OnErr result
+        (AppendsPart s.old s.new (outline_lines (map entry_view entries.now))) }
 {
     for entry in entries {
         push_entry(s, entry)?;

@@ -37,7 +37,8 @@ pub fn convert<R: Read, W: Write>(
     input: &mut R,
     out: &mut W,
 ) -> Result<(), Failure>
-    ensures leaves { LeavesJson W.contents options (R.remaining input.old) (R.remaining input.new) out.old out.new
+    ensures leaves { LeavesJson W.contents options (R.remaining input.old) (R.remaining input.new)
+        out.old out.new
         result }
     ensures not_text { IfSome (R.remaining input.old) (λ bytes.
         (IsUtf8 bytes → ⊥) → (result ≢ Ok tt) × (out.new ≡ out.old)) }
@@ -67,13 +68,18 @@ pub fn run<R: Read, W: Write, E: Write>(
     ensures outcome { IfSome (turned_on (map string_bytes words.now) no_options)
         (λ options. (outcome : Result (Unit {0}) Failure)
         × (result ≡ status_of outcome)
-        × LeavesJson W.contents options (R.remaining input.old) (R.remaining input.new) out.old out.new outcome) }
-    ensures status { IfSome (turned_on (map string_bytes words.now) no_options) (λ options. result ≤ 1) }
+        × LeavesJson W.contents options (R.remaining input.old) (R.remaining input.new) out.old
+        out.new outcome) }
+    ensures status { IfSome (turned_on (map string_bytes words.now) no_options) (λ options. result
+        ≤ 1) }
     ensures not_text { IfSome (turned_on (map string_bytes words.now) no_options) (λ options.
-        IfSome (R.remaining input.old) (λ bytes. (IsUtf8 bytes → ⊥) → (result ≡ 1) × (out.new ≡ out.old))) }
-    ensures printed { result ≡ 0 → IfSome (turned_on (map string_bytes words.now) no_options) (λ options.
+        IfSome (R.remaining input.old) (λ bytes. (IsUtf8 bytes → ⊥)
+        → (result ≡ 1) × (out.new ≡ out.old))) }
+    ensures printed { result ≡ 0
+        → IfSome (turned_on (map string_bytes words.now) no_options) (λ options.
         IfSome (R.remaining input.old) (λ bytes.
-        (json : List ℕ) × IsJsonOf bytes options json × Appends (W.contents out.old) (W.contents out.new) json)) }
+        (json : List ℕ) × IsJsonOf bytes options json
+        × Appends (W.contents out.old) (W.contents out.new) json)) }
     ensures quiet { result ≡ 0 → err.new ≡ err.old }
 {
     match options_of(words) {

@@ -80,7 +80,8 @@ fn next_anchor(
 /// Returns the number of open levels above a heading of this level: all but those at the end that are not lower.
 fn count_above(open_levels: &[u8], level: u8) -> usize
     ensures within { result ≤ length open_levels.now }
-    ensures lower { reverse (take result open_levels.now) ≡ lower_from level (reverse open_levels.now) }
+    ensures lower { reverse (take result open_levels.now)
+        ≡ lower_from level (reverse open_levels.now) }
 {
     let mut above = open_levels.len();
     'closed: while above > 0 && open_levels[above - 1] >= level {

@@ -39,7 +39,8 @@ fn push_reference(s: &mut String, name: &str) -> Result<(), AllocError>
 /// Appends what precedes the number in the Start of a footnote definition.
 fn push_definition(s: &mut String, fresh: bool, name: &str) -> Result<(), AllocError>
     ensures ok { OnOk result (Appends s.old s.new (joined (to_definition_number fresh name.now))) }
-    ensures err { OnErr result (AppendsPart s.old s.new (joined (to_definition_number fresh name.now))) }
+    ensures err { OnErr result
+        (AppendsPart s.old s.new (joined (to_definition_number fresh name.now))) }
 {
     let first = line_break(fresh);
     push_pieces(

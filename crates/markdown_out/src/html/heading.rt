@@ -133,7 +133,8 @@ pub(super) fn put_heading(
 ) -> Result<(), AllocError>
     ensures ok { OnOk result (Appends s.old s.new (joined (heading_parts fresh.old
         (heading_view level id.now classes.now attributes.now)))) }
-    ensures fresh { OnOk result (fresh.new ≡ fresh_after_bytes fresh.old (joined (heading_parts fresh.old
+    ensures fresh { OnOk result
+        (fresh.new ≡ fresh_after_bytes fresh.old (joined (heading_parts fresh.old
         (heading_view level id.now classes.now attributes.now)))) }
     ensures err { OnErr result (AppendsPart s.old s.new (joined (heading_parts fresh.old
         (heading_view level id.now classes.now attributes.now)))) }

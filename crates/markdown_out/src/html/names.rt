@@ -102,7 +102,8 @@ impl<'a> FootnoteNames<'a> {
     /// Returns the number of a name, which is one more than its position; a new name is added after the others. The map
     /// is searched once.
     pub(super) fn number_of(&mut self, name: Name<'a>) -> Result<usize, AllocError>
-        ensures number { IfOk result (λ number. number ≡ place (text_of name.entry.text) self.old + 1) }
+        ensures number { IfOk result (λ number. number
+            ≡ place (text_of name.entry.text) self.old + 1) }
         ensures known { OnOk result (self.new ≡ with_name (text_of name.entry.text) self.old) }
     {
         let count = self.places.len();

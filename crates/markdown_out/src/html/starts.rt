@@ -66,7 +66,9 @@ impl<'a> Writer<'a> {
         requires outside { self.old.image ≡ None }
         requires fixed { IsFixed (tag_view tag.now) }
         ensures view { view self.new
-            ≡ record (view_after (view self.old) (start_event (tag_view tag.now))) { fresh = self.old.fresh } }
+            ≡ record (view_after (view self.old) (start_event (tag_view tag.now))) {
+              fresh = self.old.fresh;
+            } }
         ensures image { self.new.image ≡ None }
     {
         match tag {
@@ -146,7 +148,8 @@ impl<'a> Writer<'a> {
         ensures state { OnOk result (self.new
             ≡ with_image (after_bytes self.old (joined (image_parts destination.now)))
             (record { starts = 0; title = title.entry })) }
-        ensures err { OnErr result (AppendsPart s.old s.new (joined (image_parts destination.now))) }
+        ensures err { OnErr result
+            (AppendsPart s.old s.new (joined (image_parts destination.now))) }
     {
         self.image = Some(OpenImage { starts: 0, title });
         put_image(s, &mut self.fresh, destination)

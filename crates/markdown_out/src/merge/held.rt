@@ -57,7 +57,8 @@ fn into_text<'a, P: Place>(item: Placed<'a, P>) -> Result<(CowStr<'a>, P), Place
 fn text_or<'a, P: Place>(
     answer: Option<Placed<'a, P>>,
 ) -> Result<(CowStr<'a>, P), Option<Placed<'a, P>>>
-    ensures { MatchResult result (λ t. option_map placed_view answer.entry ≡ Some (text_item (placed_text t)))
+    ensures { MatchResult result (λ t. option_map placed_view answer.entry
+        ≡ Some (text_item (placed_text t)))
         (λ r. (r ≡ answer.entry) × IsNoText answer.entry) }
 {
     match answer {
@@ -86,7 +87,8 @@ fn join<'a, P: Place>(
     first: (CowStr<'a>, P),
     last: (CowStr<'a>, P),
 ) -> Result<JoinedTexts<P>, AllocError>
-    ensures bytes { IfOk result (λ t. string_bytes t.bytes ≡ text_of first.entry.0 ++ text_of last.entry.0) }
+    ensures bytes { IfOk result (λ t. string_bytes t.bytes
+        ≡ text_of first.entry.0 ++ text_of last.entry.0) }
     ensures first { IfOk result (λ t. t.first ≡ first.entry.1) }
     ensures last { IfOk result (λ t. t.last ≡ last.entry.1) }
 {
@@ -105,7 +107,8 @@ fn append<'a, P: Place>(
     texts: JoinedTexts<P>,
     last: (CowStr<'a>, P),
 ) -> Result<JoinedTexts<P>, AllocError>
-    ensures bytes { IfOk result (λ t. string_bytes t.bytes ≡ string_bytes texts.bytes ++ text_of last.entry.0) }
+    ensures bytes { IfOk result (λ t. string_bytes t.bytes
+        ≡ string_bytes texts.bytes ++ text_of last.entry.0) }
     ensures first { IfOk result (λ t. t.first ≡ texts.first) }
     ensures last { IfOk result (λ t. t.last ≡ last.entry.1) }
 {
@@ -122,7 +125,8 @@ fn append<'a, P: Place>(
 fn close<'a, P: Place>(texts: JoinedTexts<P>) -> Step<'a, P>
     ensures count { given_count result ≤ 1 }
     ensures given { given_answers result
-        ≡ map (λ x. Some x) (unless_empty (string_bytes texts.bytes) (P.through texts.first texts.last)) }
+        ≡ map (λ x. Some x)
+        (unless_empty (string_bytes texts.bytes) (P.through texts.first texts.last)) }
 {
     if texts.bytes.is_empty() {
         return Step::Again;
@@ -137,7 +141,8 @@ fn after_item<'a, P: Place>(
     item: Placed<'a, P>,
     answer: Option<Placed<'a, P>>,
 ) -> Result<(Step<'a, P>, Held<'a, P>), AllocError>
-    ensures takes { IfOk result (λ p. TakesIn P.through (held_items (Held.Item item.entry)) answer.entry p.0 p.1) }
+    ensures takes { IfOk result (λ p.
+        TakesIn P.through (held_items (Held.Item item.entry)) answer.entry p.0 p.1) }
     ensures refused { IfErr result (λ _. 1 ≤ answer_count answer.entry) }
 {
     match into_text(item) {
@@ -160,7 +165,8 @@ fn after_texts<'a, P: Place>(
     texts: JoinedTexts<P>,
     answer: Option<Placed<'a, P>>,
 ) -> Result<(Step<'a, P>, Held<'a, P>), AllocError>
-    ensures takes { IfOk result (λ p. TakesIn P.through (held_items (Held.Texts texts)) answer.entry p.0 p.1) }
+    ensures takes { IfOk result (λ p.
+        TakesIn P.through (held_items (Held.Texts texts)) answer.entry p.0 p.1) }
     ensures refused { IfErr result (λ _. 1 ≤ answer_count answer.entry) }
 {
     match text_or(answer) {
@@ -179,7 +185,8 @@ pub fn take_in<'a, P: Place>(
     held: Held<'a, P>,
     answer: Option<Placed<'a, P>>,
 ) -> Result<(Step<'a, P>, Held<'a, P>), AllocError>
-    ensures takes { IfOk result (λ p. TakesIn P.through (held_items held.entry) answer.entry p.0 p.1) }
+    ensures takes { IfOk result (λ p.
+        TakesIn P.through (held_items held.entry) answer.entry p.0 p.1) }
     ensures refused { IfErr result (λ _. 1 ≤ answer_count answer.entry) }
 {
     match held {

@@ -57,7 +57,8 @@ fn advance<'a, T: MergeItem<'a>, I: Iterator<Item = Result<T, Fault>>>(
 ) -> Result<(Option<Result<T, Fault>>, Held<'a, T::At>), AllocError>
     requires { CanMerge I.next_gives I.can_next I.remaining iter.old }
     ensures passes { IfOk result (λ p. IsMerged T.At.through (item_view T.parts) I.next_gives
-        (held_items held.entry) iter.old (option_map (item_view T.parts) p.0 ∷ []) (held_items p.1) iter.new) }
+        (held_items held.entry) iter.old (option_map (item_view T.parts) p.0 ∷ []) (held_items p.1)
+        iter.new) }
     ensures again { CanMerge I.next_gives I.can_next I.remaining iter.new }
     ensures less { IfOk result (λ p. answer_count p.0 + held_count p.1 + size (I.remaining iter.new)
         ≤ held_count held.entry + size (I.remaining iter.old)) }
