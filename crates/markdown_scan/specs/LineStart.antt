@@ -2,7 +2,7 @@
 -- of which only some columns are read has been scanned, and owes its other columns to the next read.
 use Rattle.std.specs.Prelude.{ℕ, ◌+◌, ◌-◌, Bool, true, ◌&&◌, ◌||◌, ◌==◌, nat_le, nat_lt, List, [], ◌∷◌, drop}
 use Rattle.std.specs.Prelude.{slice_index, if◌then◌else◌}
-use Rattle.markdown_base.specs.Bytes.{carriage_return, greater_than, line_feed, leading_space as space_byte, tab}
+use Rattle.markdown_base.specs.Bytes.{carriage_return, greater_than, line_feed, space as space_byte, tab}
 
 -- the rest of a line: the number of bytes scanned, the columns that a partly read tab owes, the column after it,
 -- counted from the last tab stop, and the bytes that follow

@@ -3,7 +3,7 @@ use Rattle.std.specs.Prelude.{◌+◌, ◌||◌, [], ◌∷◌, suc, zero, take,
 use Rattle.std.specs.Prelude.{List, IfSome, IsTrue}
 use Rattle.std.specs.Char.{is_ascii_punctuation}
 use Rattle.std.specs.List.{list_all}
-use Rattle.markdown_base.specs.Bytes.{ampersand, backslash, pipe, semicolon, leading_space as space_byte}
+use Rattle.markdown_base.specs.Bytes.{ampersand, backslash, pipe, semicolon, space as space_byte}
 use Rattle.markdown_scan.specs.Autolink.{uri_autolink, is_uri_byte}
 use Rattle.markdown_scan.specs.AsciiKinds.{is_control_or_space}
 use Rattle.markdown_scan.specs.Backslash.{is_bare}

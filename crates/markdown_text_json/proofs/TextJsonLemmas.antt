@@ -12,7 +12,7 @@ use Rattle.markdown_base.specs.declared.options.Options.{Options}
 use Rattle.markdown_defs.specs.Callback.{Asks}
 use Rattle.markdown_inline.specs.Balanced.{ranged}
 use Rattle.markdown_inline.specs.Elements.{Element, event, events_of}
-use Rattle.markdown_inline.specs.Elements.{PlacedEvent as Read}
+use Rattle.markdown_inline.specs.Elements.{Placed as Read}
 use Rattle.markdown_inline.specs.NextGives.{NextGives, IsPlacedOf}
 use Rattle.markdown_inline.specs.ParserLeft.{ReadsText, elements, parser_callback, offset_parser, reading_of}
 use Rattle.markdown_inline.specs.declared.walk.OffsetIter.{OffsetIter}
