@@ -19,7 +19,7 @@ use Rattle.markdown_delims.specs.declared.run.Characters.{Characters}
 use Rattle.markdown_delims.specs.Entries.{Entry, settled, lone, waiting as open_entry, labelled, character, characters, characters_after}
 use Rattle.markdown_delims.specs.Entries.{flat, read_back, Taken, search, entries_dropped, enclosed, rest_open, kept}
 use Rattle.markdown_delims.specs.Layers.{enclosed_if, marks_of, layer_of_one, layer_of_two, spanned}
-use Rattle.markdown_delims.specs.MarkBodies.{whole_text, layer_of_one as body_of_one, layer_of_two as body_of_two}
+use Rattle.markdown_delims.specs.MarkBodies.{whole_text, body_of_one, body_of_two}
 use Rattle.markdown_delims.specs.MayPair.{drops, may_take}
 use Rattle.markdown_delims.specs.Pairing.{Read, done_read, waiting, texts_before, characters_done, read_trees, FoundOpener, found_if, nearest_opener}
 use Rattle.markdown_delims.specs.Pairing.{drop_read, Layers, layers, trees_done, still_waiting, last_first, opened_if}

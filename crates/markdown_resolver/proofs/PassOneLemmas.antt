@@ -10,7 +10,7 @@ use Rattle.markdown_base.specs.declared.item.ItemBody.{ItemBody}
 use Rattle.markdown_base.specs.declared.item.ItemBody.TheVariants as body
 use Rattle.markdown_brackets.specs.BracketDecision.{Around, Progress}
 use Rattle.markdown_brackets.specs.BracketLaws.{HandsOn}
-use Rattle.markdown_brackets.specs.BracketTags.{Follows as RetagsTo, retag_left, retag_progress}
+use Rattle.markdown_brackets.specs.BracketTags.{ReaderFollows as RetagsTo, retag_left, retag_progress}
 use Rattle.markdown_brackets.specs.BracketWeight.{label_weight, weight_left}
 use Rattle.markdown_brackets.specs.ChainBegins.{BeginsSo, BeginsWith}
 use Rattle.markdown_brackets.specs.ClosingBracket.{closed}
