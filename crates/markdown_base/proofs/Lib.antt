@@ -1,4 +1,5 @@
 pub mod ByteListLemmas
+mod CopiedTextsLemmas
 pub mod ArenaLemmas
 mod StoredNodesLemmas
 pub mod ArenaForestLemmas

@@ -3,6 +3,7 @@ use Rattle.std.specs.Prelude.{ℕ, ◌≤◌, List, Option, IfSome, length}
 use Rattle.std.specs.Option.{option_map}
 use Rattle.std.specs.declared.ops.Range.{Range}
 use Rattle.markdown_base.specs.CowText.{text_of}
+use Rattle.markdown_base.specs.declared.cow_str.CowStr.{CowStr}
 use Rattle.markdown_base.specs.declared.block_parts.LinkDef.{LinkDef}
 
 -- a definition's destination, its title if it has one, and its source range in bytes
@@ -19,7 +20,7 @@ definition_view d = record {
   span = d.span;
 }
 
--- its texts can be stored inline
-pub record HasShortTexts (d : LinkDef) : Type 0 where
-  pub destination : length (text_of d.dest) ≤ 22
-  pub title : IfSome d.title (λ title. length (text_of title) ≤ 22)
+-- each of its texts that has this form can be stored inline
+pub record HasShortTexts (form : CowStr → Type 0) (d : LinkDef) : Type 0 where
+  pub destination : form d.dest → length (text_of d.dest) ≤ 22
+  pub title : IfSome d.title (λ title. form title → length (text_of title) ≤ 22)

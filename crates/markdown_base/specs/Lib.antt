@@ -3,6 +3,7 @@ pub mod CowText
 pub mod Event
 pub mod Item
 pub mod BlockParts
+pub mod CopiedTexts
 pub mod Arena
 pub mod Forest
 pub mod HeadingLevels

@@ -1,6 +1,8 @@
 //! The parts of a block result other than its tree.
 ghost use Rattle.std.specs.Prelude.{◌≡◌, IfOk, IfErr, IsOk};
 ghost use Rattle.markdown_base.specs.BlockParts.{definition_view, HasShortTexts};
+ghost use Rattle.markdown_base.specs.CopiedTexts.{KeepsSlices, texts_of_definition};
+ghost use Rattle.markdown_base.specs.CowText.{IsBorrowed, IsBoxed};
 ghost use Rattle.markdown_base.specs.declared.fault.Fault.{Fault};
 
 use crate::copies::{clone_optional, static_optional};
@@ -24,7 +26,9 @@ impl<'a> LinkDef<'a> {
     /// 22 bytes allocate memory. The only error is `Fault::Memory`.
     pub fn try_clone(&self, alloc: Global) -> Result<LinkDef<'a>, Fault>
         ensures same { IfOk result (λ copy. definition_view copy ≡ definition_view self.now) }
-        ensures short { HasShortTexts self.now → IsOk result }
+        ensures slices { IfOk result
+            (λ copy. KeepsSlices (texts_of_definition self.now) (texts_of_definition copy)) }
+        ensures short { HasShortTexts IsBoxed self.now → IsOk result }
         ensures refused { IfErr result (λ fault. fault ≡ Fault.Memory) }
     {
         let dest = self.dest.try_clone(alloc)?;
@@ -40,7 +44,7 @@ impl<'a> LinkDef<'a> {
     /// memory. The only error is `Fault::Memory`, in which case the definition is dropped.
     pub fn into_static(self, alloc: Global) -> Result<LinkDef<'static>, Fault>
         ensures same { IfOk result (λ made. definition_view made ≡ definition_view self.entry) }
-        ensures short { HasShortTexts self.entry → IsOk result }
+        ensures short { HasShortTexts IsBorrowed self.entry → IsOk result }
         ensures refused { IfErr result (λ fault. fault ≡ Fault.Memory) }
     {
         let dest = self.dest.into_static(alloc)?;

@@ -1,8 +1,9 @@
 //! Copies of the parts of events and definitions, and forms of them that do not borrow from the source. Slices of the
 //! source are copied as slices. The only error is `Fault::Memory`.
-ghost use Rattle.std.specs.Prelude.{◌≡◌, ◌≤◌, length, map, IfOk, IfErr, IfSome, IsOk};
-ghost use Rattle.std.specs.Option.{option_map};
-ghost use Rattle.markdown_base.specs.CowText.{text_of};
+ghost use Rattle.std.specs.Prelude.{◌≡◌, ◌≤◌, length, map, flat_map, IfOk, IfErr, IfSome, IsOk};
+ghost use Rattle.std.specs.Option.{option_map, option_to_list};
+ghost use Rattle.markdown_base.specs.CopiedTexts.{KeepsSlices, texts_of_attribute};
+ghost use Rattle.markdown_base.specs.CowText.{text_of, IsBorrowed, IsBoxed};
 ghost use Rattle.markdown_base.specs.Event.{attribute_view};
 ghost use Rattle.markdown_base.specs.declared.fault.Fault.{Fault};
 
@@ -16,7 +17,9 @@ pub fn clone_optional<'a>(
     alloc: Global,
 ) -> Result<Option<CowStr<'a>>, Fault>
     ensures same { IfOk result (λ copy. option_map text_of copy ≡ option_map text_of text.now) }
-    ensures short { IfSome text.now (λ text. length (text_of text) ≤ 22) → IsOk result }
+    ensures slices { IfOk result
+        (λ copy. KeepsSlices (option_to_list text.now) (option_to_list copy)) }
+    ensures short { IfSome text.now (λ text. IsBoxed text → length (text_of text) ≤ 22) → IsOk result }
     ensures refused { IfErr result (λ fault. fault ≡ Fault.Memory) }
 {
     match text {
@@ -31,7 +34,8 @@ pub fn static_optional(
     alloc: Global,
 ) -> Result<Option<CowStr<'static>>, Fault>
     ensures same { IfOk result (λ made. option_map text_of made ≡ option_map text_of text.entry) }
-    ensures short { IfSome text.entry (λ text. length (text_of text) ≤ 22) → IsOk result }
+    ensures short { IfSome text.entry (λ text. IsBorrowed text → length (text_of text) ≤ 22)
+        → IsOk result }
     ensures refused { IfErr result (λ fault. fault ≡ Fault.Memory) }
 {
     match text {
@@ -43,6 +47,7 @@ pub fn static_optional(
 /// Returns copies of texts.
 pub fn clone_texts<'a>(texts: &[CowStr<'a>], alloc: Global) -> Result<Vec<CowStr<'a>>, Fault>
     ensures same { IfOk result (λ copies. map text_of copies.items ≡ map text_of texts.now) }
+    ensures slices { IfOk result (λ copies. KeepsSlices texts.now copies.items) }
     ensures refused { IfErr result (λ fault. fault ≡ Fault.Memory) }
 {
     let mut copies = Vec::new(alloc);
@@ -70,6 +75,8 @@ fn clone_attribute<'a>(
     alloc: Global,
 ) -> Result<(CowStr<'a>, Option<CowStr<'a>>), Fault>
     ensures same { IfOk result (λ copy. attribute_view copy ≡ attribute_view attribute.now) }
+    ensures slices { IfOk result
+        (λ copy. KeepsSlices (texts_of_attribute attribute.now) (texts_of_attribute copy)) }
     ensures refused { IfErr result (λ fault. fault ≡ Fault.Memory) }
 {
     let name = attribute.0.try_clone(alloc)?;
@@ -97,6 +104,9 @@ pub fn clone_attributes<'a>(
 ) -> Result<Vec<(CowStr<'a>, Option<CowStr<'a>>)>, Fault>
     ensures same { IfOk result (λ copies. map attribute_view copies.items
         ≡ map attribute_view attributes.now) }
+    ensures slices { IfOk result
+        (λ copies. KeepsSlices (flat_map texts_of_attribute attributes.now)
+        (flat_map texts_of_attribute copies.items)) }
     ensures refused { IfErr result (λ fault. fault ≡ Fault.Memory) }
 {
     let mut copies = Vec::new(alloc);

@@ -59,7 +59,7 @@ impl<'a> CowStr<'a> {
     pub fn try_clone(&self, alloc: Global) -> Result<CowStr<'a>, AllocError>
         ensures text { IfOk result (λ copy. text_of copy ≡ text_of self.now) }
         ensures borrowed { IsBorrowed self.now → IsOkAnd result IsBorrowed }
-        ensures short { length (text_of self.now) ≤ 22 → IsOk result }
+        ensures short { (IsBoxed self.now → length (text_of self.now) ≤ 22) → IsOk result }
     {
         match self {
             CowStr::Boxed(boxed) => CowStr::owned(alloc, boxed.as_str()),
@@ -73,7 +73,7 @@ impl<'a> CowStr<'a> {
     pub fn into_static(self, alloc: Global) -> Result<CowStr<'static>, AllocError>
         ensures text { IfOk result (λ made. text_of made ≡ text_of self.entry) }
         ensures boxed { IsBoxed self.entry → IsOkAnd result IsBoxed }
-        ensures short { length (text_of self.entry) ≤ 22 → IsOk result }
+        ensures short { (IsBorrowed self.entry → length (text_of self.entry) ≤ 22) → IsOk result }
     {
         match self {
             CowStr::Boxed(boxed) => Ok(CowStr::Boxed(boxed)),

@@ -1,6 +1,14 @@
 //! Tags: what `Start` events open and `End` events close.
-ghost use Rattle.std.specs.Prelude.{◌≡◌, IfOk, IfErr};
-ghost use Rattle.markdown_base.specs.Event.{code_block_view, tag_view};
+ghost use Rattle.std.specs.Prelude.{◌≡◌, [], ◌∷◌, map, IfOk, IfErr};
+ghost use Rattle.std.specs.Option.{option_map};
+ghost use Rattle.markdown_base.specs.CopiedTexts.{
+  KeepsSlices,
+  texts_of_code_block,
+  texts_of_heading,
+  texts_of_tag,
+};
+ghost use Rattle.markdown_base.specs.CowText.{text_of};
+ghost use Rattle.markdown_base.specs.Event.{attribute_view, code_block_view, heading, tag_view};
 ghost use Rattle.markdown_base.specs.declared.fault.Fault.{Fault};
 
 use crate::copies::{
@@ -138,6 +146,8 @@ impl<'a> CodeBlockKind<'a> {
     /// Returns a copy of the kind. A slice of the source is copied as a slice. The only error is `Fault::Memory`.
     pub fn try_clone(&self, alloc: Global) -> Result<CodeBlockKind<'a>, Fault>
         ensures same { IfOk result (λ copy. code_block_view copy ≡ code_block_view self.now) }
+        ensures slices { IfOk result
+            (λ copy. KeepsSlices (texts_of_code_block self.now) (texts_of_code_block copy)) }
         ensures refused { IfErr result (λ fault. fault ≡ Fault.Memory) }
     {
         match self {
@@ -236,6 +246,55 @@ pub enum TagEnd {
     MetadataBlock(MetadataBlockKind),
 }
 
+/// Returns a copy of a heading's tag.
+fn clone_heading<'a>(
+    level: HeadingLevel,
+    id: &Option<CowStr<'a>>,
+    classes: &[CowStr<'a>],
+    attrs: &[(CowStr<'a>, Option<CowStr<'a>>)],
+    alloc: Global,
+) -> Result<Tag<'a>, Fault>
+    ensures same { IfOk result (λ copy. tag_view copy ≡ heading (record {
+      level = level;
+      id = option_map text_of id.now;
+      classes = map text_of classes.now;
+      attributes = map attribute_view attrs.now;
+    })) }
+    ensures slices { IfOk result
+        (λ copy. KeepsSlices (texts_of_heading id.now classes.now attrs.now) (texts_of_tag copy)) }
+    ensures refused { IfErr result (λ fault. fault ≡ Fault.Memory) }
+{
+    let id = clone_optional(id, alloc)?;
+    let classes = clone_texts(classes, alloc)?;
+    let attrs = clone_attributes(attrs, alloc)?;
+    Ok(Tag::Heading {
+        level,
+        id,
+        classes,
+        attrs,
+    })
+}
+
+/// Returns copies of the destination, the title and the label of a link or an image.
+fn clone_link_texts<'a>(
+    dest_url: &CowStr<'a>,
+    title: &CowStr<'a>,
+    id: &CowStr<'a>,
+    alloc: Global,
+) -> Result<(CowStr<'a>, CowStr<'a>, CowStr<'a>), Fault>
+    ensures same { IfOk result (λ copies. (text_of copies.0 ≡ text_of dest_url.now)
+        × (text_of copies.1 ≡ text_of title.now) × (text_of copies.2 ≡ text_of id.now)) }
+    ensures slices { IfOk result
+        (λ copies. KeepsSlices (dest_url.now ∷ title.now ∷ id.now ∷ [])
+        (copies.0 ∷ copies.1 ∷ copies.2 ∷ [])) }
+    ensures refused { IfErr result (λ fault. fault ≡ Fault.Memory) }
+{
+    let dest_url = dest_url.try_clone(alloc)?;
+    let title = title.try_clone(alloc)?;
+    let id = id.try_clone(alloc)?;
+    Ok((dest_url, title, id))
+}
+
 impl<'a> Tag<'a> {
     ghost use Rattle.markdown_base.specs.Event.{tag_end};
 
@@ -273,6 +332,7 @@ impl<'a> Tag<'a> {
     /// Returns a copy of the tag. Slices of the source are copied as slices. The only error is `Fault::Memory`.
     pub fn try_clone(&self, alloc: Global) -> Result<Tag<'a>, Fault>
         ensures same { IfOk result (λ copy. tag_view copy ≡ tag_view self.now) }
+        ensures slices { IfOk result (λ copy. KeepsSlices (texts_of_tag self.now) (texts_of_tag copy)) }
         ensures refused { IfErr result (λ fault. fault ≡ Fault.Memory) }
     {
         Ok(match self {
@@ -281,12 +341,7 @@ impl<'a> Tag<'a> {
                 id,
                 classes,
                 attrs,
-            } => Tag::Heading {
-                level: *level,
-                id: clone_optional(id, alloc)?,
-                classes: clone_texts(classes, alloc)?,
-                attrs: clone_attributes(attrs, alloc)?,
-            },
+            } => clone_heading(*level, id, classes, attrs, alloc)?,
             Tag::BlockQuote(kind) => Tag::BlockQuote(*kind),
             Tag::CodeBlock(kind) => Tag::CodeBlock(kind.try_clone(alloc)?),
             Tag::List(start) => Tag::List(*start),
@@ -297,23 +352,29 @@ impl<'a> Tag<'a> {
                 dest_url,
                 title,
                 id,
-            } => Tag::Link {
-                link_type: *link_type,
-                dest_url: dest_url.try_clone(alloc)?,
-                title: title.try_clone(alloc)?,
-                id: id.try_clone(alloc)?,
-            },
+            } => {
+                let (dest_url, title, id) = clone_link_texts(dest_url, title, id, alloc)?;
+                Tag::Link {
+                    link_type: *link_type,
+                    dest_url,
+                    title,
+                    id,
+                }
+            }
             Tag::Image {
                 link_type,
                 dest_url,
                 title,
                 id,
-            } => Tag::Image {
-                link_type: *link_type,
-                dest_url: dest_url.try_clone(alloc)?,
-                title: title.try_clone(alloc)?,
-                id: id.try_clone(alloc)?,
-            },
+            } => {
+                let (dest_url, title, id) = clone_link_texts(dest_url, title, id, alloc)?;
+                Tag::Image {
+                    link_type: *link_type,
+                    dest_url,
+                    title,
+                    id,
+                }
+            }
             Tag::MetadataBlock(kind) => Tag::MetadataBlock(*kind),
             Tag::Paragraph => Tag::Paragraph,
             Tag::HtmlBlock => Tag::HtmlBlock,

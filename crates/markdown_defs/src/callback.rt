@@ -1,6 +1,6 @@
 //! Callbacks for references whose link label is not defined.
 ghost use Rattle.std.specs.Prelude.{◌≡◌, ◌≤◌, length, IfOk, IfErr, IsOk, Option};
-ghost use Rattle.markdown_base.specs.CowText.{text_of};
+ghost use Rattle.markdown_base.specs.CowText.{text_of, IsBorrowed};
 ghost use Rattle.markdown_base.specs.Questions.{Question, Answer};
 ghost use Rattle.markdown_base.specs.declared.fault.Fault.{Fault};
 ghost use Rattle.markdown_defs.specs.Callback.{question_of, answer_of};
@@ -26,7 +26,8 @@ impl<'a> BrokenLink<'a> {
     /// memory. The only error is `Fault::Memory`, in which case the broken link is dropped.
     pub fn into_static(self, alloc: Global) -> Result<BrokenLink<'static>, Fault>
         ensures same { IfOk result (λ made. question_of made ≡ question_of self.entry) }
-        ensures short { length (text_of self.entry.reference) ≤ 22 → IsOk result }
+        ensures short { (IsBorrowed self.entry.reference → length (text_of self.entry.reference) ≤ 22)
+            → IsOk result }
         ensures refused { IfErr result (λ fault. fault ≡ Fault.Memory) }
     {
         let reference = self.reference.into_static(alloc)?;
