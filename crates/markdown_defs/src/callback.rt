@@ -26,7 +26,8 @@ impl<'a> BrokenLink<'a> {
     /// memory. The only error is `Fault::Memory`, in which case the broken link is dropped.
     pub fn into_static(self, alloc: Global) -> Result<BrokenLink<'static>, Fault>
         ensures same { IfOk result (λ made. question_of made ≡ question_of self.entry) }
-        ensures short { (IsBorrowed self.entry.reference → length (text_of self.entry.reference) ≤ 22)
+        ensures short { (IsBorrowed self.entry.reference
+            → length (text_of self.entry.reference) ≤ 22)
             → IsOk result }
         ensures refused { IfErr result (λ fault. fault ≡ Fault.Memory) }
     {
