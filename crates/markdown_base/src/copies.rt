@@ -19,7 +19,8 @@ pub fn clone_optional<'a>(
     ensures same { IfOk result (λ copy. option_map text_of copy ≡ option_map text_of text.now) }
     ensures slices { IfOk result
         (λ copy. KeepsSlices (option_to_list text.now) (option_to_list copy)) }
-    ensures short { IfSome text.now (λ text. IsBoxed text → length (text_of text) ≤ 22) → IsOk result }
+    ensures short { IfSome text.now (λ text. IsBoxed text → length (text_of text) ≤ 22)
+        → IsOk result }
     ensures refused { IfErr result (λ fault. fault ≡ Fault.Memory) }
 {
     match text {

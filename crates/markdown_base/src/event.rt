@@ -39,7 +39,8 @@ impl<'a> Event<'a> {
     /// Returns a copy of the event. Slices of the source are copied as slices. The only error is `Fault::Memory`.
     pub fn try_clone(&self, alloc: Global) -> Result<Event<'a>, Fault>
         ensures same { IfOk result (λ copy. event_view copy ≡ event_view self.now) }
-        ensures slices { IfOk result (λ copy. KeepsSlices (texts_of_event self.now) (texts_of_event copy)) }
+        ensures slices { IfOk result
+            (λ copy. KeepsSlices (texts_of_event self.now) (texts_of_event copy)) }
         ensures refused { IfErr result (λ fault. fault ≡ Fault.Memory) }
     {
         Ok(match self {

@@ -332,7 +332,8 @@ impl<'a> Tag<'a> {
     /// Returns a copy of the tag. Slices of the source are copied as slices. The only error is `Fault::Memory`.
     pub fn try_clone(&self, alloc: Global) -> Result<Tag<'a>, Fault>
         ensures same { IfOk result (λ copy. tag_view copy ≡ tag_view self.now) }
-        ensures slices { IfOk result (λ copy. KeepsSlices (texts_of_tag self.now) (texts_of_tag copy)) }
+        ensures slices { IfOk result
+            (λ copy. KeepsSlices (texts_of_tag self.now) (texts_of_tag copy)) }
         ensures refused { IfErr result (λ fault. fault ≡ Fault.Memory) }
     {
         Ok(match self {
