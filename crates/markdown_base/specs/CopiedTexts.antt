@@ -14,7 +14,8 @@ use Rattle.markdown_base.specs.declared.event.Event.TheVariants as step
 -- there are as many copies as texts, and the copy of each slice of the source is such a slice
 abbrev pub KeepsSlices : List CowStr → List CowStr → Type 0
 KeepsSlices [] [] = Unit {0}
-KeepsSlices (text ∷ texts) (copy ∷ copies) = (IsBorrowed text → IsBorrowed copy) × KeepsSlices texts copies
+KeepsSlices (text ∷ texts) (copy ∷ copies) =
+    (IsBorrowed text → IsBorrowed copy) × KeepsSlices texts copies
 KeepsSlices [] (copy ∷ copies) = ⊥
 KeepsSlices (text ∷ texts) [] = ⊥
 
@@ -22,8 +23,9 @@ KeepsSlices (text ∷ texts) [] = ⊥
 abbrev pub texts_of_attribute : CowStr × Option CowStr → List CowStr
 texts_of_attribute attribute = attribute.0 ∷ option_to_list attribute.1
 
--- the texts of a heading: its name, its classes and its attributes
-abbrev pub texts_of_heading : Option CowStr → List CowStr → List (CowStr × Option CowStr) → List CowStr
+-- the texts of a heading: its id if it has one, its classes and its attributes
+abbrev pub texts_of_heading : Option CowStr → List CowStr → List (CowStr × Option CowStr)
+    → List CowStr
 texts_of_heading id classes attributes =
     option_to_list id ++ (classes ++ flat_map texts_of_attribute attributes)
 
@@ -34,7 +36,8 @@ texts_of_code_block (code_block.Fenced info) = info ∷ []
 
 -- the texts of a tag
 abbrev pub texts_of_tag : Tag → List CowStr
-texts_of_tag (opens.Heading level id classes attributes) = texts_of_heading id classes.items attributes.items
+texts_of_tag (opens.Heading level id classes attributes) =
+    texts_of_heading id classes.items attributes.items
 texts_of_tag (opens.CodeBlock kind) = texts_of_code_block kind
 texts_of_tag (opens.FootnoteDefinition name) = name ∷ []
 texts_of_tag (opens.Link kind destination title label) = destination ∷ title ∷ label ∷ []

@@ -7,4 +7,5 @@ use Rattle.markdown_base.proofs.copies.clone_attributes.Given as goal
 abbrev pub invariant-loop-attribute : goal.invariant-loop-attribute
 invariant-loop-attribute l =
     (map attribute_view l.copies.items ≡ map attribute_view (take l.attribute-index l.attributes))
-    × KeepsSlices (flat_map texts_of_attribute (take l.attribute-index l.attributes)) (flat_map texts_of_attribute l.copies.items)
+    × KeepsSlices (flat_map texts_of_attribute (take l.attribute-index l.attributes))
+    (flat_map texts_of_attribute l.copies.items)
