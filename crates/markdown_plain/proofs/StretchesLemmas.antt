@@ -1,5 +1,5 @@
 -- Stretches of open blocks: where they begin, after a block is opened or closed, and that a line may go past one.
-use Rattle.std.proofs.Common.{◌≡◌, ℕ, zero, suc, ◌+◌, ◌-◌, ◌<◌, ◌≤◌, List, [], ◌∷◌, ◌++◌, Bool, true, false, ◌==◌}
+use Rattle.std.proofs.Common.{◌≡◌, ℕ, zero, suc, ◌+◌, ◌-◌, ◌<◌, ◌≤◌, max, List, [], ◌∷◌, ◌++◌, Bool, true, false, ◌==◌}
 use Rattle.std.proofs.Common.{Some, length, take, drop, get_or, refl, sym, ap, ◌∙◌, subst, arith, nat_le}
 use Rattle.std.specs.Prelude.{not, if◌then◌else◌}
 use Rattle.std.proofs.lemmas.Bool.Decides.{nat_tests}
@@ -14,7 +14,7 @@ use Rattle.markdown_plain.specs.declared.stretches.Taking.{Taking}
 use Rattle.markdown_plain.specs.declared.stretches.Taking.TheVariants as takes
 use Rattle.markdown_plain.specs.OpenBlocks.{outer_of}
 use Rattle.markdown_plain.specs.Containers.{Reach, is_container, past_container, past_indent, reach_behind, reach_from}
-use Rattle.markdown_plain.specs.Stretches.{IsOf, TakesNothing, are_alike, begins_stretch, is_same, next_of, starts, starts_behind, taken_by}
+use Rattle.markdown_plain.specs.Stretches.{IsOf, TakesNothing, are_alike, begins_stretch, deep_starts, few, is_same, next_of, starts, starts_behind, taken_by}
 use Rattle.markdown_plain.proofs.ContainersLemmas.{container_goes_on, inside_of}
 use Rattle.markdown_plain.proofs.OpenBlocksLemmas.{outer_of_these}
 
@@ -31,14 +31,14 @@ same_taking takes.Something takes.NothingOfFilled same = cc
 same_taking takes.Something takes.Something same = refl
 
 -- fewer than two blocks are in no stretch that the innermost begins
-pub few_begin_none : (old : Bool) (blocks : List OpenBlock) → length blocks < 2 → begins_stretch old blocks ≡ false
+few_begin_none : (old : Bool) (blocks : List OpenBlock) → length blocks < 2 → begins_stretch old blocks ≡ false
 unfolding begins_stretch
 few_begin_none old [] few = refl
 few_begin_none old (block ∷ []) few = refl
 few_begin_none old (outside ∷ block ∷ blocks) few = absurd (omega (arith, few))
 
 -- blocks of which the innermost begins a stretch are some
-pub some_begin : (old : Bool) (blocks : List OpenBlock) → begins_stretch old blocks ≡ true → 1 ≤ length blocks
+some_begin : (old : Bool) (blocks : List OpenBlock) → begins_stretch old blocks ≡ true → 1 ≤ length blocks
 unfolding begins_stretch
 some_begin old [] begins = cc
 some_begin old (block ∷ blocks) begins = omega arith
@@ -102,23 +102,84 @@ starts_inside old number (outside ∷ block ∷ inner ∷ blocks) =
     ∙ (ap (λ n. if alike then with_last begins n outer else (number + 1) ∷ with_last begins n outer) last
     ∙ with_first alike begins (number + 1) (number + (suc (suc (suc (length blocks))) - 1)) outer)
 
+drop_none : (number : ℕ) → drop {A = OpenBlock} number [] ≡ []
+drop_none zero = refl
+drop_none (suc number) = refl
+
+-- the blocks outside the innermost, from a number on
+drop_outer : (number : ℕ) (blocks : List OpenBlock) → drop number (outer_of blocks) ≡ outer_of (drop number blocks)
+unfolding outer_of
+drop_outer zero blocks = refl
+drop_outer (suc number) [] = refl
+drop_outer (suc number) (block ∷ []) = sym (ap (λ (b : List OpenBlock). outer_of b) (drop_none number))
+drop_outer (suc number) (block ∷ inner ∷ blocks) = drop_outer number (inner ∷ blocks)
+
+-- the innermost is the same from a number on, where two blocks are left
+pub begins_deep : (old : Bool) (number : ℕ) (blocks : List OpenBlock) → number + 2 ≤ length blocks
+    → begins_stretch old blocks ≡ begins_stretch old (drop number blocks)
+unfolding begins_stretch
+begins_deep old zero blocks more = refl
+begins_deep old (suc number) [] more = absurd (omega (arith, more))
+begins_deep old (suc number) (block ∷ []) more = absurd (omega (arith, more))
+begins_deep old (suc number) (block ∷ inner ∷ []) more = absurd (omega (arith, more))
+begins_deep old (suc number) (block ∷ inner ∷ next ∷ blocks) more =
+    begins_deep old number (inner ∷ next ∷ blocks) (omega (arith, more))
+
+-- fewer than two blocks are left from a number on
+pub few_left : (old : Bool) (number : ℕ) (blocks : List OpenBlock) → length blocks < number + 2
+    → begins_stretch old (drop number blocks) ≡ false
+few_left old number blocks less =
+    let left = length-drop number blocks in
+    few_begin_none old (drop number blocks) (omega (arith, left, less))
+
+-- some are left
+pub some_left : (old : Bool) (number : ℕ) (blocks : List OpenBlock) → begins_stretch old (drop number blocks) ≡ true
+    → number + 1 ≤ length blocks
+some_left old number blocks begins =
+    let left = length-drop number blocks in
+    let some = some_begin old (drop number blocks) begins in
+    omega (arith, left, some)
+
+-- the stretches from a number on
+starts_inside_deep : (old : Bool) (number : ℕ) (blocks : List OpenBlock)
+    → starts old number (drop number blocks)
+    ≡ with_last (begins_stretch old (drop number blocks)) (number + (length (drop number blocks) - 1))
+    (starts old number (drop number (outer_of blocks)))
+starts_inside_deep old number blocks =
+    starts_inside old number (drop number blocks)
+    ∙ ap (λ (b : List OpenBlock). with_last (begins_stretch old (drop number blocks)) (number + (length (drop number blocks) - 1))
+    (starts old number b)) (sym (drop_outer number blocks))
+
 -- the innermost begins one
-pub starts_begun : (old : Bool) (blocks : List OpenBlock) → begins_stretch old blocks ≡ true
-    → starts old 0 blocks ≡ starts old 0 (outer_of blocks) ++ (length blocks - 1) ∷ []
+starts_begun : (old : Bool) (number : ℕ) (blocks : List OpenBlock) → begins_stretch old (drop number blocks) ≡ true
+    → starts old number (drop number blocks) ≡ starts old number (drop number (outer_of blocks)) ++ (length blocks - 1) ∷ []
 unfolding with_last
-starts_begun old blocks begins =
-    let number : 0 + (length blocks - 1) ≡ length blocks - 1 = omega arith in
-    starts_inside old 0 blocks
-    ∙ (ap (λ b. with_last b (0 + (length blocks - 1)) (starts old 0 (outer_of blocks))) begins
-    ∙ ap (λ n. starts old 0 (outer_of blocks) ++ n ∷ []) number)
+starts_begun old number blocks begins =
+    let left = length-drop number blocks in
+    let some = some_left old number blocks begins in
+    let last : number + (length (drop number blocks) - 1) ≡ length blocks - 1 = omega (arith, left, some) in
+    starts_inside_deep old number blocks
+    ∙ (ap (λ b. with_last b (number + (length (drop number blocks) - 1)) (starts old number (drop number (outer_of blocks)))) begins
+    ∙ ap (λ n. starts old number (drop number (outer_of blocks)) ++ n ∷ []) last)
 
 -- it begins none
-pub starts_kept : (old : Bool) (blocks : List OpenBlock) → begins_stretch old blocks ≡ false
-    → starts old 0 blocks ≡ starts old 0 (outer_of blocks)
+starts_kept : (old : Bool) (number : ℕ) (blocks : List OpenBlock) → begins_stretch old (drop number blocks) ≡ false
+    → starts old number (drop number blocks) ≡ starts old number (drop number (outer_of blocks))
 unfolding with_last
-starts_kept old blocks begins =
-    starts_inside old 0 blocks
-    ∙ ap (λ b. with_last b (0 + (length blocks - 1)) (starts old 0 (outer_of blocks))) begins
+starts_kept old number blocks begins =
+    starts_inside_deep old number blocks
+    ∙ ap (λ b. with_last b (number + (length (drop number blocks) - 1)) (starts old number (drop number (outer_of blocks)))) begins
+
+-- the same, inside the few outermost blocks
+pub deep_begun : (old : Bool) (blocks : List OpenBlock) → begins_stretch old (drop few blocks) ≡ true
+    → deep_starts old blocks ≡ deep_starts old (outer_of blocks) ++ (length blocks - 1) ∷ []
+unfolding deep_starts
+deep_begun old blocks begins = starts_begun old few blocks begins
+
+pub deep_kept : (old : Bool) (blocks : List OpenBlock) → begins_stretch old (drop few blocks) ≡ false
+    → deep_starts old blocks ≡ deep_starts old (outer_of blocks)
+unfolding deep_starts
+deep_kept old blocks begins = starts_kept old few blocks begins
 
 -- the last of some numbers is removed
 pub without_last : (numbers outer : List ℕ) (last count : ℕ) → numbers ≡ outer ++ last ∷ [] → count ≡ length numbers
@@ -389,7 +450,7 @@ past_stretch_at old empty stop number last blocks or reach numbers more n takes 
     ∙ ap (λ (l : List ℕ). next_of last l) (sym numbers_are)) past)
 
 -- past a block with a number are the stretches of those inside it
-pub starts_past_at : (old : Bool) (number : ℕ) (blocks : List OpenBlock) (numbers : List ℕ)
+starts_past_at : (old : Bool) (number : ℕ) (blocks : List OpenBlock) (numbers : List ℕ)
     → number < length blocks → numbers ≡ starts old number (outer_of (drop number blocks))
     → starts_behind (number + 1) numbers ≡ starts old (number + 1) (outer_of (drop (number + 1) blocks))
 starts_past_at old number blocks numbers more ahead =
@@ -398,6 +459,43 @@ starts_past_at old number blocks numbers more ahead =
     ap (λ (l : List ℕ). starts_behind (number + 1) l)
     (ahead ∙ ap (λ (b : List OpenBlock). starts old number (outer_of b)) inside)
     ∙ starts_past old number (get_or blocks number none) (drop (number + 1) blocks)
+
+-- the stretches that a line has ahead at a number, of those inside the few outermost blocks
+abbrev pub starts_ahead : Bool → ℕ → List OpenBlock → List ℕ
+starts_ahead old number blocks = starts old (max few number) (outer_of (drop (max few number) blocks))
+
+-- at the outermost block
+pub starts_at_first : (old : Bool) (blocks : List OpenBlock) → deep_starts old (outer_of blocks) ≡ starts_ahead old 0 blocks
+unfolding deep_starts
+starts_at_first old blocks = ap (λ (b : List OpenBlock). starts old few b) (drop_outer few blocks)
+
+-- at a number inside these
+pub ahead_deep : (old : Bool) (number : ℕ) (blocks : List OpenBlock) → few ≤ number
+    → starts_ahead old number blocks ≡ starts old number (outer_of (drop number blocks))
+ahead_deep old number blocks deep =
+    let at : max few number ≡ number = omega (arith, deep) in
+    ap (λ k. starts old k (outer_of (drop k blocks))) at
+
+past_few : (old : Bool) (number : ℕ) (blocks : List OpenBlock) (numbers : List ℕ) (deep : Bool) → nat_le few number ≡ deep
+    → number < length blocks → numbers ≡ starts_ahead old number blocks
+    → starts_behind (number + 1) numbers ≡ starts_ahead old (number + 1) blocks
+past_few old number blocks numbers true deep more ahead =
+    let inside : few ≤ number = grind (arith, nat_tests) in
+    starts_past_at old number blocks numbers more (ahead ∙ ahead_deep old number blocks inside)
+    ∙ sym (ahead_deep old (number + 1) blocks (omega (arith, inside)))
+past_few old number blocks numbers false deep more ahead =
+    let outside : number < few = grind (arith, nat_tests) in
+    let at : max few number ≡ max few (number + 1) = omega (arith, outside) in
+    ap (λ (l : List ℕ). starts_behind (number + 1) l) ahead
+    ∙ (begins_later old (number + 1) (max few number) (outer_of (drop (max few number) blocks)) (omega (arith, outside))
+    ∙ ap (λ k. starts old k (outer_of (drop k blocks))) at)
+
+-- past a block are those of the blocks inside it
+pub starts_past_any : (old : Bool) (number : ℕ) (blocks : List OpenBlock) (numbers : List ℕ) → number < length blocks
+    → numbers ≡ starts_ahead old number blocks
+    → starts_behind (number + 1) numbers ≡ starts_ahead old (number + 1) blocks
+starts_past_any old number blocks numbers more ahead =
+    past_few old number blocks numbers (nat_le few number) refl more ahead
 
 -- none are open, so none are around the innermost
 pub stretches_of_none : (now : Stretches) (blocks : List OpenBlock) → blocks ≡ [] → IsOf now [] → IsOf now (outer_of blocks)

@@ -1,5 +1,5 @@
 -- Stretches of open blocks that take nothing of a line, where they begin, and what is ahead of a line.
-use Rattle.std.specs.Prelude.{◌≡◌, ℕ, ◌+◌, Bool, true, false, not, ◌==◌, List, [], ◌∷◌, if◌then◌else◌}
+use Rattle.std.specs.Prelude.{◌≡◌, ℕ, ◌+◌, Bool, true, false, not, ◌==◌, List, [], ◌∷◌, drop, if◌then◌else◌}
 use Rattle.markdown_base.specs.declared.item.ItemBody.{ItemBody}
 use Rattle.markdown_base.specs.declared.item.ItemBody.TheVariants as body
 use Rattle.markdown_builder.specs.declared.open_block.OpenBlock.{OpenBlock}
@@ -57,6 +57,14 @@ abbrev pub starts_behind : ℕ → List ℕ → List ℕ
 starts_behind number [] = []
 starts_behind number (first ∷ numbers) = if first == number then numbers else first ∷ numbers
 
+-- the number of the outermost blocks in which no stretch is kept: each line examines them one by one
+abbrev pub few : ℕ
+few = 8
+
+-- the numbers of the blocks that are unlike the block around them, inside those few
+unfoldable pub deep_starts : Bool → List OpenBlock → List ℕ
+deep_starts old blocks = starts old few (drop few blocks)
+
 -- where it is known which blocks are open, the stretches are those of these blocks
 abbrev pub IsOf : Stretches → List OpenBlock → Type 0
-IsOf now blocks = now.known ≡ true → now.starts.items ≡ starts now.old_notes 0 blocks
+IsOf now blocks = now.known ≡ true → now.starts.items ≡ deep_starts now.old_notes blocks

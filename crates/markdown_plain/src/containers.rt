@@ -12,11 +12,11 @@ ghost use Rattle.markdown_plain.specs.Containers as spec;
 ghost use Rattle.markdown_plain.specs.NewContainers as opening;
 ghost use Rattle.markdown_plain.specs.Fitting.{IfFitted, opened};
 ghost use Rattle.markdown_plain.specs.OpenBlocks.{outer_of, room_in, without_leaf};
-ghost use Rattle.markdown_plain.specs.Stretches.{TakesNothing, starts, taken_by};
+ghost use Rattle.markdown_plain.specs.Stretches.{TakesNothing, deep_starts, taken_by};
 ghost use Rattle.markdown_base.specs.declared.item.ItemBody.TheVariants as body;
 
 use crate::pass::{Pass, innermost};
-use crate::stretches::{Ahead, Taking, next_start, starts_behind, taken_by};
+use crate::stretches::{Ahead, FEW, Taking, next_start, starts_behind, taken_by};
 use markdown_base::cow_str::CowStr;
 use markdown_base::item::ItemBody;
 use markdown_base::options::Options;
@@ -187,7 +187,7 @@ fn reach_blocks(
     line: Line,
 ) -> Reached
     requires { stretches.known ≡ true
-        → stretches.starts.now ≡ starts stretches.old_notes 0 (outer_of blocks.now) }
+        → stretches.starts.now ≡ deep_starts stretches.old_notes (outer_of blocks.now) }
     ensures { spec.reach_of text.now line.stop result
         ≡ spec.reach_from stretches.entry.old_notes item_is_empty line.stop blocks.now
         (spec.reach_start (spec.whole_line text.now line)) }
@@ -206,8 +206,9 @@ fn reach_blocks(
             return reached;
         }
         let last = blocks.len() - 1;
-        if stretches.known
+        if FEW <= reached.depth
             && reached.depth < last
+            && stretches.known
             && is_skipped(body, stretches.old_notes, line, reached)
         {
             reached.depth = next_start(starts, last);

@@ -34,7 +34,7 @@ impl<'a> Placing<'a> {
     ghost use Rattle.markdown_base.specs.CowText.{text_of};
     ghost use Rattle.markdown_plain.specs.CodeLines.{owed_spaces};
     ghost use Rattle.markdown_plain.specs.OpenBlocks.{outer_of};
-    ghost use Rattle.markdown_plain.specs.Stretches.{starts};
+    ghost use Rattle.markdown_plain.specs.Stretches.{deep_starts};
     ghost use Rattle.markdown_builder.specs.Bodies.{is_leaf, is_plain_block, is_settled};
     ghost use Rattle.markdown_builder.specs.BuilderView.{IsWhite, innermost_block, nothing_made, Opens, OpensNaming};
     ghost use Rattle.markdown_lines.specs.Lines.{IsNextContent};
@@ -72,9 +72,9 @@ impl<'a> Placing<'a> {
     pub fn ahead(&self, old: bool) -> Ahead<'_>
         ensures notes { result.old_notes ≡ old }
         ensures ahead { result.known ≡ true
-            → result.starts.now ≡ starts old 0 (outer_of self.now.builder.blocks) }
+            → result.starts.now ≡ deep_starts old (outer_of self.now.builder.blocks) }
     {
-        self.stretches.ahead(old, self.builder.open_blocks().len())
+        self.stretches.ahead(old)
     }
 
     /// Returns whether the innermost open block is a leaf.

@@ -1,17 +1,17 @@
 //! Stretches of open blocks that take nothing of a line, so that no line examines each block of one. Functions that
 //! return a `Result` fail only where memory is refused.
-ghost use Rattle.std.specs.Prelude.{◌≡◌, ◌++◌, ◌∷◌, Bool, true, List, [], IfOk, IfErr};
+ghost use Rattle.std.specs.Prelude.{◌≡◌, ◌≤◌, ◌+◌, ◌++◌, ◌∷◌, true, List, [], drop, length, IfOk, IfErr};
 ghost use Rattle.markdown_builder.specs.declared.open_block.OpenBlock.{OpenBlock};
 ghost use Rattle.markdown_plain.specs.OpenBlocks.{outer_of};
-ghost use Rattle.markdown_plain.specs.declared.stretches.Taking.TheVariants as takes;
-ghost use Rattle.markdown_plain.specs.Stretches.{IsOf, are_alike, begins_stretch, next_of, starts, starts_behind, taken_by};
+ghost use Rattle.markdown_plain.specs.Stretches.{IsOf, are_alike, begins_stretch, deep_starts, few, next_of, starts_behind, taken_by};
 
 use markdown_base::item::ItemBody;
 use markdown_builder::open_block::OpenBlock;
 use std::alloc::{AllocError, Global};
 
-/// So many open blocks are few.
-const FEW: usize = 8;
+/// The number of the outermost blocks in which no stretch is kept, since few texts nest more: each line examines them one
+/// by one.
+pub const FEW: usize = 8;
 
 /// What an open block takes of the lines in which it continues.
 #[derive(Clone, Copy, Drop)]
@@ -36,19 +36,8 @@ pub fn taken_by(body: ItemBody, old: bool) -> Taking
     }
 }
 
-/// Returns whether a block is a list or an item.
-fn is_of_list(body: ItemBody) -> bool
-    ensures { result ≡ true → (old : Bool) → taken_by old body ≡ takes.NothingOfBlank }
-{
-    match body {
-        ItemBody::List(_, _, _) | ItemBody::ListItem(_) => true,
-        _ => false,
-    }
-}
-
-/// Returns whether two blocks take the same, of which one may be no list and no item.
-#[inline(never)]
-fn take_the_same(outside: ItemBody, inside: ItemBody, old: bool) -> bool
+/// Returns whether two blocks take the same.
+fn are_alike(outside: ItemBody, inside: ItemBody, old: bool) -> bool
     ensures { result ≡ are_alike old outside inside }
 {
     match (taken_by(outside, old), taken_by(inside, old)) {
@@ -59,28 +48,28 @@ fn take_the_same(outside: ItemBody, inside: ItemBody, old: bool) -> bool
     }
 }
 
-/// Returns whether two blocks take the same. Most blocks that contain others are lists and items.
-fn are_alike(outside: ItemBody, inside: ItemBody, old: bool) -> bool
-    ensures { result ≡ are_alike old outside inside }
-{
-    if is_of_list(outside) && is_of_list(inside) {
-        return true;
-    }
-    take_the_same(outside, inside, old)
-}
-
-/// Returns whether the innermost of the open blocks is unlike the block around it.
+/// Returns whether the innermost of the open blocks is unlike the block around it, and both are inside the few outermost
+/// ones.
 fn begins_stretch(blocks: &[OpenBlock], old: bool) -> bool
-    ensures { result ≡ begins_stretch old blocks.now }
+    ensures { result ≡ begins_stretch old (drop few blocks.now) }
 {
-    if blocks.len() < 2 {
+    if blocks.len() < FEW + 2 {
         return false;
     }
+    begins_deep(blocks, old)
+}
+
+/// Returns whether the innermost of more than a few open blocks is unlike the block around it.
+#[inline(never)]
+fn begins_deep(blocks: &[OpenBlock], old: bool) -> bool
+    requires { few + 2 ≤ length blocks.now }
+    ensures { result ≡ begins_stretch old blocks.now }
+{
     let last = blocks.len() - 1;
     !are_alike(blocks[last - 1].body, blocks[last].body, old)
 }
 
-/// Adds the number of a block that begins a stretch. Few do, so this is apart from the calls that open blocks.
+/// Adds the number of a block that begins a stretch.
 #[inline(never)]
 fn push_start(starts: &mut Vec<usize>, number: usize) -> Result<(), AllocError>
     ensures begun { IfOk result (λ _. starts.new.items ≡ starts.old.items ++ number ∷ []) }
@@ -90,7 +79,8 @@ fn push_start(starts: &mut Vec<usize>, number: usize) -> Result<(), AllocError>
     Ok(())
 }
 
-/// Where stretches of open blocks begin: each is of blocks that take the same. The innermost open block is in none.
+/// Where stretches of open blocks begin: each is of blocks that take the same. The innermost open block is in none, nor
+/// are the few outermost ones.
 #[derive(Drop)]
 pub struct Stretches {
     /// whether footnote definitions are those of the old style
@@ -102,7 +92,7 @@ pub struct Stretches {
 }
 
 impl Stretches {
-    #[tactic(auto, unfolding(crate::specs::Stretches::starts))]
+    #[tactic(auto, unfolding(crate::specs::Stretches::deep_starts, crate::specs::Stretches::starts))]
     /// Returns the stretches where no block is open. `old` is whether footnote definitions are those of the old style.
     pub fn new(alloc: Global, old: bool) -> Stretches
         ensures { IsOf result [] }
@@ -143,16 +133,15 @@ impl Stretches {
         self.known = false;
     }
 
-    /// Returns the stretches that a line has ahead of `depth` open blocks; few of these are as soon examined one by one.
-    /// `old` is whether footnote definitions are those of the old style.
-    pub fn ahead(&self, old: bool, depth: usize) -> Ahead<'_>
+    /// Returns the stretches that a line has ahead. `old` is whether footnote definitions are those of the old style.
+    pub fn ahead(&self, old: bool) -> Ahead<'_>
         ensures notes { result.old_notes ≡ old }
         ensures ahead { (outer : List OpenBlock) → IsOf self.now outer
-            → result.known ≡ true → result.starts.now ≡ starts old 0 outer }
+            → result.known ≡ true → result.starts.now ≡ deep_starts old outer }
     {
         Ahead {
             old_notes: old,
-            known: depth > FEW && self.known && self.old_notes == old,
+            known: self.known && self.old_notes == old,
             starts: &self.starts,
         }
     }

@@ -5,8 +5,16 @@ use Rattle.markdown_plain.specs.Containers.{Reach, reach_from, reach_of}
 use Rattle.markdown_plain.specs.OpenBlocks.{outer_of}
 use Rattle.markdown_plain.specs.Stretches.{starts, starts_behind}
 use Rattle.markdown_plain.proofs.ContainersLemmas.{none_left, next_is_leaf, next_ends, next_goes_on}
-use Rattle.markdown_plain.proofs.StretchesLemmas.{AtNextStretch, past_stretch_at, starts_past_at}
+use Rattle.markdown_plain.proofs.StretchesLemmas.{AtNextStretch, ahead_deep, past_stretch_at, starts_ahead, starts_at_first, starts_past_any}
 use Rattle.markdown_plain.proofs.containers.reach_blocks.Goals as goal
+
+pub blocks-2-init : goal.blocks-2-init
+blocks-2-init c = record {
+  within = omega arith;
+  all = refl;
+  ahead = λ known. c.requires known ∙ starts_at_first c.args.stretches.old_notes c.args.blocks.now;
+  goes_on = cc;
+}
 
 pub returns-then-not-is_container : goal.returns-then-not-is_container
 returns-then-not-is_container c =
@@ -38,9 +46,9 @@ blocks-2-preserved c =
       ahead = λ known.
           c.starts_behind-starts-in-Some.ensures
           ∙ (ap (λ n. starts_behind n c.blocks-2.starts.now) depth
-          ∙ (starts_past_at old c.blocks-2.reached.depth blocks c.blocks-2.starts.now more
+          ∙ (starts_past_any old c.blocks-2.reached.depth blocks c.blocks-2.starts.now more
           (c.blocks-2.invariant.ahead known)
-          ∙ ap (λ n. starts old n (outer_of (drop n blocks))) (sym depth)));
+          ∙ ap (λ n. starts_ahead old n blocks) (sym depth)));
       goes_on =
           ap (λ n. reach_from old empty stop (drop n blocks) (reach_of text stop c.behind_container-reached.result)) depth
           ∙ (ap (λ r. reach_from old empty stop (drop (c.blocks-2.reached.depth + 1) blocks) r) behind
@@ -59,16 +67,23 @@ past_this_stretch c =
     (past_stretch_at c.args.stretches.old_notes c.args.item_is_empty c.args.line.stop c.blocks-2.reached.depth _
     c.args.blocks.now _ (reach_of c.args.text.now c.args.line.stop c.blocks-2.reached) c.blocks-2.starts.now
     c.if-reached-last.true (omega arith) (c.is_skipped.ensures c.if-is_skipped.true c.args.text.now)
-    c.blocks-2.invariant.all refl (c.blocks-2.invariant.ahead c.if-stretches.true))
+    c.blocks-2.invariant.all refl
+    (c.blocks-2.invariant.ahead c.if-stretches.true
+    ∙ ahead_deep c.args.stretches.old_notes c.blocks-2.reached.depth c.args.blocks.now c.if-reached-ge-FEW.true))
 
 pub blocks-2-preserved-then-is_skipped : goal.blocks-2-preserved-then-is_skipped
 blocks-2-preserved-then-is_skipped c =
     let past = past_this_stretch c in
     let within = past.within in
+    let more = past.more in
+    let deep = c.if-reached-ge-FEW.true in
     record {
       within = omega (arith, within);
       all = c.blocks-2.invariant.all;
-      ahead = λ known. c.starts_behind-starts.ensures ∙ past.ahead;
+      ahead = λ known.
+          c.starts_behind-starts.ensures
+          ∙ (past.ahead
+          ∙ sym (ahead_deep c.args.stretches.old_notes c.next_start.result c.args.blocks.now (omega (arith, more, deep))));
       goes_on = sym past.reached ∙ c.blocks-2.invariant.goes_on;
     }
 

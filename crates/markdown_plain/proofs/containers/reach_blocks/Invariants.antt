@@ -1,8 +1,7 @@
 -- What is reached of the blocks from the depth reached on is what is reached of all, and the stretches ahead are theirs.
 use Rattle.std.proofs.Common.{◌≡◌, ◌≤◌, ◌-◌, true, drop, length}
 use Rattle.markdown_plain.specs.Containers.{reach_from, reach_of, reach_start, whole_line}
-use Rattle.markdown_plain.specs.OpenBlocks.{outer_of}
-use Rattle.markdown_plain.specs.Stretches.{starts}
+use Rattle.markdown_plain.proofs.StretchesLemmas.{starts_ahead}
 use Rattle.markdown_plain.proofs.containers.reach_blocks.Given as goal
 
 abbrev pub invariant-blocks-2 : goal.invariant-blocks-2
@@ -10,7 +9,7 @@ invariant-blocks-2 l = record {
   within : l.reached.depth ≤ length l.blocks;
   all : l.reached.all ≡ true;
   ahead : l.stretches.known ≡ true
-      → l.starts ≡ starts l.stretches.old_notes l.reached.depth (outer_of (drop l.reached.depth l.blocks));
+      → l.starts ≡ starts_ahead l.stretches.old_notes l.reached.depth l.blocks;
   goes_on : reach_from l.stretches.old_notes l.item_is_empty l.line.stop (drop l.reached.depth l.blocks)
       (reach_of l.text l.line.stop l.reached)
       ≡ reach_from l.stretches.old_notes l.item_is_empty l.line.stop l.blocks

@@ -1,13 +1,11 @@
--- There are fewer than two blocks, or the last two are the innermost and the block around it.
-use Rattle.std.proofs.Common.{◌∙◌, Bool, sym, ap, arith}
-use Rattle.std.specs.Prelude.{not}
-use Rattle.markdown_plain.proofs.StretchesLemmas.{few_begin_none, begins_of}
+-- There are only few blocks, or more.
+use Rattle.std.proofs.Common.{◌∙◌, sym}
+use Rattle.markdown_plain.specs.Stretches.{few}
+use Rattle.markdown_plain.proofs.StretchesLemmas.{few_left, begins_deep}
 use Rattle.markdown_plain.proofs.stretches.begins_stretch.Goals as goal
 
-pub returns-then-blocks-lt2 : goal.returns-then-blocks-lt2
-returns-then-blocks-lt2 c = sym (few_begin_none c.args.old c.args.blocks.now c.if-blocks-lt2.true)
+pub returns-then-blocks : goal.returns-then-blocks
+returns-then-blocks c = sym (few_left c.args.old few c.args.blocks.now c.if-blocks.true)
 
 pub returns : goal.returns
-returns c =
-    ap (λ (b : Bool). not b) c.are_alike.ensures
-    ∙ sym (begins_of c.args.old c.args.blocks.now _ _ _ (omega arith) (omega arith))
+returns c = c.begins_deep.ensures ∙ begins_deep c.args.old few c.args.blocks.now c.if-blocks.false
