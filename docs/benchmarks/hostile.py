@@ -1,7 +1,8 @@
 """Hostile texts for benchmarks, the same on each run: `hostile.py KIND BYTES` prints one of about so many bytes.
 
-`hostile.py --beside PROGRAM MD4C KIND ..` runs the program, `cmark`, `pulldown-cmark` and `md4c` (`md4c.c`, compiled) on
-20,000 and on 40,000 bytes of each kind, and prints a table of the instructions, counted by valgrind.
+`hostile.py --beside PROGRAM MD4C KIND ..` runs the program on 20,000 and on 40,000 bytes of each kind, and `cmark`,
+`pulldown-cmark` and `md4c` (`md4c.c`, compiled) on 5,000 and on 10,000, since some of these take much longer. It prints a
+table of the instructions in millions, counted by valgrind.
 """
 import re
 import subprocess
@@ -147,13 +148,13 @@ def beside(program, md4c, kinds):
     print("|---|---|---|---|---|---|---|---|---|---|")
     for kind in kinds:
         ours, pulldown = EXTENSIONS.get(kind, ("", ""))
-        commands = [[program, ours], ["cmark", "--unsafe"], ["pulldown-cmark", pulldown], [md4c]]
         cells = [f"`{kind}`"]
-        for number, command in enumerate(commands):
+        for command in ([program, ours], ["cmark", "--unsafe"], ["pulldown-cmark", pulldown], [md4c]):
             words = [word for word in command if word]
-            once, twice = (instructions(words, text(kind, size)) for size in (20000, 40000))
-            shown = [f"{once / 1e6:.1f}", f"{twice / 1e6:.1f}"]
-            cells += [*(shown if number == 0 else shown[1:]), f"{twice / once:.2f}"]
+            sizes = (20000, 40000) if command[0] == program else (5000, 10000)
+            once, twice = (instructions(words, text(kind, size)) for size in sizes)
+            shown = [f"{once / 1e6:.1f}"] if command[0] == program else []
+            cells += [*shown, f"{twice / 1e6:.1f}", f"{twice / once:.2f}"]
         print(f"| {' | '.join(cells)} |", flush=True)
 
 
