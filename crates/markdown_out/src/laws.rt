@@ -31,7 +31,7 @@ pub fn an_image_has_the_html_of_its_parts()
 /// States that no two merged texts are neighbours.
 pub fn merged_texts_are_no_neighbours()
     ensures events { (items : List (Item (Unit {0}))) → HasNoNeighbours (merged nowhere items) }
-    ensures with_range { (items : List (Item (Range ℕ)))
+    ensures ranged { (items : List (Item (Range ℕ)))
         → HasNoNeighbours (merged through_ranges items) }
 {}
 
@@ -39,7 +39,7 @@ pub fn merged_texts_are_no_neighbours()
 pub fn merging_twice_is_merging_once()
     ensures events { (items : List (Item (Unit {0})))
         → merged nowhere (merged nowhere items) ≡ merged nowhere items }
-    ensures with_range { (items : List (Item (Range ℕ))) →
+    ensures ranged { (items : List (Item (Range ℕ))) →
         merged through_ranges (merged through_ranges items) ≡ merged through_ranges items }
 {}
 
