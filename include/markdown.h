@@ -7,25 +7,25 @@
  *
  * # DESCRIPTION
  *
- * The calls of the static library `libmarkdown_c.a`. Each is in the manner of `snprintf`: it returns how many bytes the
- * whole result has, and writes it to the caller's buffer where the whole fits. So a caller tries with some buffer,
- * and where the number is greater than the buffer's length, once more with one of that length.
+ * The calls of the static library `libmarkdown_c.a`. Each works as `snprintf` does: it returns the length of the whole
+ * result in bytes, and writes the result to the caller's buffer if the whole fits. A caller tries with some buffer, and
+ * if the number is greater than the length of the buffer, once more with a buffer of that length.
  *
  * ## Pointers and lengths
  *
  * Lengths count bytes. No text ends with a NUL: none is read past `text_length` bytes, and none is written. No
  * pointer may be NULL, not even where its length is 0; `""` and the address of any byte are fine then. `text` is only
  * read, and may hold any bytes, NUL among them. `out` is written only in its first `out_length` bytes. The two may not
- * overlap. Nothing keeps a pointer past the call.
+ * overlap. No pointer is kept after the call.
  *
  * ## Memory
  *
- * A call takes memory by `malloc` and `realloc`, and gives all of it back by `free` before it returns.
+ * A call allocates memory by `malloc` and `realloc`, and frees all of it before it returns.
  *
  * ## Threads
  *
- * A call reads and writes nothing but its arguments and memory of its own. Any number of threads may call at a time, each
- * with an `out` of its own; they may share a `text`. Do not call from a signal handler, or from the forked child of a
+ * A call reads and writes only its arguments and memory of its own. Any number of threads may call at the same time, each
+ * with its own `out`; they may share a `text`. Do not call from a signal handler, or from the forked child of a
  * process that has threads.
  */
 
@@ -39,7 +39,7 @@ extern "C" {
 /**
  * ## Status
  *
- * What a call returns in place of a number of bytes. The buffer stays as it was.
+ * What a call returns instead of a length. The buffer is unchanged.
  */
 
 /** The text is not UTF-8. */
@@ -60,16 +60,16 @@ extern "C" {
 /** CommonMark without extensions. */
 #define MARKDOWN_DEFAULT 0
 
-/** `[^a]` and its definition `[^a]: text`, as GitHub has them. */
+/** Footnotes in GitHub's style: `[^a]` and its definition `[^a]: text`. */
 #define MARKDOWN_FOOTNOTES (1 << 2)
 
-/** `~~a~~`, and `~a~` unless `MARKDOWN_SUBSCRIPT` is on. */
+/** `~~a~~`, and `~a~` unless `MARKDOWN_SUBSCRIPT` is set. */
 #define MARKDOWN_STRIKETHROUGH (1 << 3)
 
 /** Curly quotes. */
 #define MARKDOWN_SMART (1 << 5)
 
-/** Footnotes of which a reference needs no definition. */
+/** Footnotes whose references need no definition. */
 #define MARKDOWN_OLD_FOOTNOTES ((1 << 9) | (1 << 2))
 
 /** `$a$` and `$$a$$`. */
@@ -90,9 +90,9 @@ extern "C" {
 
 /** Renders `text` as HTML.
  *
- * Returns how many bytes the HTML has. If that is at most `out_length`, the HTML stands at the front of `out`, and what
- * was after it stays; else `out` stays as it was. Returns `MARKDOWN_NOT_UTF8`, `MARKDOWN_NO_MEMORY` or
- * `MARKDOWN_TOO_DEEP` where there is no HTML, and `out` stays as it was.
+ * Returns the length of the HTML in bytes. If that is at most `out_length`, the HTML is written to the front of `out`,
+ * and the bytes after it are unchanged; otherwise `out` is unchanged. Returns `MARKDOWN_NOT_UTF8`, `MARKDOWN_NO_MEMORY`
+ * or `MARKDOWN_TOO_DEEP` on an error, and `out` is unchanged.
  */
 int64_t markdown_to_html(const uint8_t *text, size_t text_length, uint32_t options, uint8_t *out,
                          size_t out_length);
@@ -100,9 +100,9 @@ int64_t markdown_to_html(const uint8_t *text, size_t text_length, uint32_t optio
 /** Reads `text` as events, as JSON: a line for each event with its range, as `[{"Text":"a"},{"start":0,"end":1}]`. The
  * ranges are byte offsets in `text`. Each line ends with a line feed.
  *
- * Returns how many bytes the lines have. If that is at most `out_length`, the lines stand at the front of `out`, and
- * what was after them stays; else `out` stays as it was. Returns `MARKDOWN_NOT_UTF8` or `MARKDOWN_NO_MEMORY` where
- * there are none, and `out` stays as it was.
+ * Returns the length of the lines in bytes. If that is at most `out_length`, the lines are written to the front of
+ * `out`, and the bytes after them are unchanged; otherwise `out` is unchanged. Returns `MARKDOWN_NOT_UTF8` or
+ * `MARKDOWN_NO_MEMORY` on an error, and `out` is unchanged.
  */
 int64_t markdown_to_json(const uint8_t *text, size_t text_length, uint32_t options, uint8_t *out,
                          size_t out_length);
@@ -111,9 +111,9 @@ int64_t markdown_to_json(const uint8_t *text, size_t text_length, uint32_t optio
  * `{"level":1,"text":"A b","range":{"start":0,"end":7}}` for `# A *b*`. The level is 1 to 6. The text is without markup,
  * with a space for each line break. The ranges are byte offsets in `text`. Each line ends with a line feed.
  *
- * Returns how many bytes the lines have. If that is at most `out_length`, the lines stand at the front of `out`, and
- * what was after them stays; else `out` stays as it was. Returns `MARKDOWN_NOT_UTF8` or `MARKDOWN_NO_MEMORY` where
- * there are none, and `out` stays as it was.
+ * Returns the length of the lines in bytes. If that is at most `out_length`, the lines are written to the front of
+ * `out`, and the bytes after them are unchanged; otherwise `out` is unchanged. Returns `MARKDOWN_NOT_UTF8` or
+ * `MARKDOWN_NO_MEMORY` on an error, and `out` is unchanged.
  */
 int64_t markdown_to_outline(const uint8_t *text, size_t text_length, uint32_t options, uint8_t *out,
                             size_t out_length);
