@@ -2,7 +2,8 @@
 
 -- the views of a text, an event and a tag
 pub use Rattle.markdown_base.specs.CowText.{text_of, IsBorrowed, IsBoxed, IsInlined}
-pub use Rattle.markdown_base.specs.CopiedTexts.{KeepsSlices, texts_of_tag, texts_of_event, texts_of_definition}
+pub use Rattle.markdown_base.specs.CopiedTexts.{KeepsSlices, texts_of_event, texts_of_tag, texts_of_code_block}
+pub use Rattle.markdown_base.specs.CopiedTexts.{texts_of_definition, texts_of_heading, texts_of_attribute}
 pub use Rattle.markdown_base.specs.InlineText.{inline_text}
 pub use Rattle.markdown_base.specs.Event.{event_view, tag_view, code_block_view, attribute_view, tag_end}
 pub use Rattle.markdown_base.specs.Event.{LinkView, HeadingView}
