@@ -109,6 +109,9 @@ ITEM = r"([-+*]|\d[.)])[ \t]*"
 DEFINES = r"\[[^]\n]+\]:[ \t>\n]*\S"
 # what a small document shows, its HTML here and that of `cmark`, by the first cell of the row that says why
 KNOWN = {
+    "`a <!b>`, and a line `<!b`": lambda text, ours, theirs: re.search(r"<![a-z]", text),
+    "a tag that continues on a line with leading spaces": lambda text, ours, theirs: re.search(r"<[^>\n]*\n[ \t]", text)
+        and re.sub(r"\s", "", ours) == re.sub(r"\s", "", theirs),
     "a line `</script>`": lambda text, ours, theirs: re.search(r"</(script|style|pre|textarea)", text, re.I),
     "`[a]: /u`, `---`": lambda text, ours, theirs: re.search(DEFINES + r"[^\n]*(\n[^\n]*)*\n[ >\t]*(-[ \t-]*|=+[ \t]*)(\n|$)", text),
     "`[a]: /u`, `'t' b`": lambda text, ours, theirs: "title=" in theirs and "title=" not in ours,
@@ -119,10 +122,10 @@ KNOWN = {
     "`~~~ a`, a tab, `b`": lambda text, ours, theirs: re.search(r"(~~~|```)[^\n]*\t", text),
     "`- [a]: /u`, a blank line, `  b`": lambda text, ours, theirs: only_loose(ours, theirs) and re.search(DEFINES, text)
         and re.search(BLANK, text) and len(re.findall("<p>", ours)) > len(re.findall("<p>", theirs)),
-    "`- <!-- a`, a blank line, `- b`": lambda text, ours, theirs: only_loose(ours, theirs) and re.search(r"<(!--|\?|!\[CDATA\[|pre)", text)
+    "`- <!-- a`, a blank line, `- b`": lambda text, ours, theirs: only_loose(ours, theirs) and re.search(r"<(!|\?|pre)", text)
         and re.search(BLANK, text) and len(re.findall("<p>", ours)) < len(re.findall("<p>", theirs)),
     "`[a]: /u`, ` b`": lambda text, ours, theirs: re.search(DEFINES, text) and re.sub(r"(^|>)[ \t]+", r"\1", theirs) == ours,
-    "`-`, a line of two spaces, `  a`": lambda text, ours, theirs: re.search(r"(^|\n)[ \t>]*\d*" + ITEM + r"\n[ \t>]*[ \t]+\n", text),
+    "`-`, a line of two spaces, `  a`": lambda text, ours, theirs: re.search(rf"(^|\n)(?:[ \t>]|\d*{ITEM})*\d*{ITEM}\n[ \t>]*[ \t]+\n", text),
     "`>`, a tab, `~~~`, and a line of `>` and a tab": lambda text, ours, theirs: re.search(r">\t[ \t>]*(~~~|```)", text),
 }
 
