@@ -109,7 +109,7 @@ ITEM = r"([-+*]|\d[.)])[ \t]*"
 DEFINES = r"\[[^]\n]+\]:[ \t>\n]*\S"
 # what a small document shows, its HTML here and that of `cmark`, by the first cell of the row that says why
 KNOWN = {
-    "`a <!b>`, and a line `<!b`": lambda text, ours, theirs: re.search(r"<![a-z]", text),
+    "`a <!b>`, and a line `<!b`": lambda text, ours, theirs: re.search(r"<![A-Za-z]", text),
     "a tag that continues on a line with leading spaces": lambda text, ours, theirs: re.search(r"<[^>\n]*\n[ \t]", text)
         and re.sub(r"\s", "", ours) == re.sub(r"\s", "", theirs),
     "a line `</script>`": lambda text, ours, theirs: re.search(r"</(script|style|pre|textarea)", text, re.I),

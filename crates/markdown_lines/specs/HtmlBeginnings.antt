@@ -5,7 +5,7 @@ use Rattle.std.specs.Char.{is_ascii_alphanumeric, to_ascii_lowercase}
 use Rattle.std.specs.List.{list_all, list_any, prefix_len}
 use Rattle.std.specs.Option.{option_map_or, option_or}
 use Rattle.std.specs.Str.{bytes_eq}
-use Rattle.markdown_base.specs.Bytes.{exclamation_mark, greater_than, question_mark, slash}
+use Rattle.markdown_base.specs.Bytes.{exclamation_mark, greater_than, hyphen, question_mark, slash}
 use Rattle.markdown_raw_html.specs.TagSource.{tag_at}
 use Rattle.markdown_scan.specs.Beginnings.{begins_with, begins_with_letter}
 use Rattle.markdown_lines.specs.declared.html_kind.HtmlKind.{HtmlKind}
@@ -39,9 +39,13 @@ is_same_name name known = bytes_eq (map to_ascii_lowercase name) (map to_ascii_l
 abbrev pub is_one_of : List ℕ → List (List ℕ) → Bool
 is_one_of name names = list_any (is_same_name name) names
 
--- the name that bytes begin with: ASCII letters and digits
+-- a byte of a tag's name: an ASCII letter, a digit or a hyphen
+abbrev pub is_name_byte : ℕ → Bool
+is_name_byte byte = is_ascii_alphanumeric byte || (byte == hyphen)
+
+-- the tag's name that bytes begin with
 abbrev pub name_at_start : List ℕ → List ℕ
-name_at_start bytes = take (prefix_len is_ascii_alphanumeric bytes) bytes
+name_at_start bytes = take (prefix_len is_name_byte bytes) bytes
 
 -- a space, a tab, a `>` or nothing comes next
 abbrev pub is_after_name : List ℕ → Bool

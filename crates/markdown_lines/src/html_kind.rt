@@ -182,13 +182,20 @@ fn is_block_tag(name: &[u8]) -> bool
     is_one_of(name, &BLOCK_TAGS)
 }
 
-/// Returns the name that bytes begin with: ASCII letters and digits.
+/// Returns whether a byte is one of a tag's name: an ASCII letter, a digit or a hyphen.
+fn is_name_byte(byte: u8) -> bool
+    ensures { result ≡ spec.is_name_byte byte }
+{
+    byte.is_ascii_alphanumeric() || byte == b'-'
+}
+
+/// Returns the tag's name that bytes begin with.
 fn tag_name(bytes: &[u8]) -> &[u8]
     ensures value { result.now ≡ spec.name_at_start bytes.now }
     ensures within { length result.now ≤ length bytes.now }
 {
     for at in 0..bytes.len() {
-        if !bytes[at].is_ascii_alphanumeric() {
+        if !is_name_byte(bytes[at]) {
             return &bytes[..at];
         }
     }
