@@ -209,6 +209,7 @@ fn kinds_of_html_blocks(rt: HostRuntime) -> Result<(), Fail> {
             ),
             ("<div\n*a*\n\n*b*\n", "<div\n*a*\n<p><em>b</em></p>\n"),
             ("<br/>\n*a*\n\n*b*\n", "<br/>\n*a*\n<p><em>b</em></p>\n"),
+            ("<pre->\n*a*\n\n*b*\n", "<pre->\n*a*\n<p><em>b</em></p>\n"),
             ("a\n<style>\nb</style>\n", "<p>a</p>\n<style>\nb</style>\n"),
             ("a\n<!-- b -->\n", "<p>a</p>\n<!-- b -->\n"),
             ("a\n<?b?>\n", "<p>a</p>\n<?b?>\n"),
