@@ -109,7 +109,8 @@ ITEM = r"([-+*]|\d[.)])[ \t]*"
 DEFINES = r"\[[^]\n]+\]:[ \t>\n]*\S"
 # what a small document shows, its HTML here and that of `cmark`, by the first cell of the row that says why
 KNOWN = {
-    "`a <!b>`, and a line `<!b`": lambda text, ours, theirs: re.search(r"<![A-Za-z]", text),
+    "`a <!b>`, and a line `<!b`": lambda text, ours, theirs: re.search(r"<![A-Za-z]", text)
+        and theirs.count("&lt;!") > ours.count("&lt;!"),
     "a tag that continues on a line with leading spaces": lambda text, ours, theirs: re.search(r"<[^>\n]*\n[ \t]", text)
         and re.sub(r"\s", "", ours) == re.sub(r"\s", "", theirs),
     "a line `</script>`": lambda text, ours, theirs: re.search(r"</(script|style|pre|textarea)", text, re.I),
@@ -126,7 +127,8 @@ KNOWN = {
         and re.search(BLANK, text) and len(re.findall("<p>", ours)) < len(re.findall("<p>", theirs)),
     "`[a]: /u`, ` b`": lambda text, ours, theirs: re.search(DEFINES, text) and re.sub(r"(^|>)[ \t]+", r"\1", theirs) == ours,
     "`-`, a line of two spaces, `  a`": lambda text, ours, theirs: re.search(rf"(^|\n)(?:[ \t>]|\d*{ITEM})*\d*{ITEM}\n[ \t>]*[ \t]+\n", text),
-    "`>`, a tab, `~~~`, and a line of `>` and a tab": lambda text, ours, theirs: re.search(r"\t[ \t>]*(~~~|```)", text),
+    "`>`, a tab, `~~~`, and a line of `>` and a tab": lambda text, ours, theirs: re.search(r"\t[ \t>]*(~~~|```)", text)
+        and ours.replace(" ", "") == theirs.replace(" ", ""),
 }
 
 
