@@ -5,6 +5,7 @@ pub use Rattle.markdown_inline.specs.Elements.{Element, question, event, Placed,
 pub use Rattle.markdown_inline.specs.ParserLeft.{reading_of, expansion_limit, block_definitions}
 pub use Rattle.markdown_document.specs.Origins.{Origin, sliced, inlined, made, IsSliceWithin}
 pub use Rattle.markdown_document.specs.LinkOrigins.{LinkOrigins, destination_origin, IsLinkFrom, IsTitleFrom}
+pub use Rattle.markdown_document.specs.Places.{follows_pipe, origin_start}
 pub use Rattle.markdown_document.specs.LinkOrigins.{IsWrittenTitle, LeadsToSlice}
 pub use Rattle.markdown_document.specs.LinkTitle.{Title, title_at}
 -- the tree of a block result, and the reading of it

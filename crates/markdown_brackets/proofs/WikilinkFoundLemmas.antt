@@ -1,9 +1,13 @@
 -- What a wikilink is in an arena is what the definition makes of the trees between its opener and the `]`.
 use Rattle.std.proofs.Common.{◌≡◌, ℕ, ◌-◌, ◌<◌, ◌≤◌, Bool, true, false, List, [], ◌∷◌, Option, Some, None, length, refl, sym, ◌∙◌, ap}
-use Rattle.std.proofs.Common.{subst, arith, nat_lt, take}
-use Rattle.std.specs.Prelude.{IfSome, if◌then◌else◌, slice_range}
+use Rattle.std.proofs.Common.{subst, suc, ◌+◌, ◌==◌, arith, drop, get_or, nat_lt, take}
+use Rattle.std.specs.Prelude.{IfSome, if◌then◌else◌, slice_index, slice_range}
+use Rattle.std.specs.List.{position_or_len}
 use Rattle.std.specs.Option.{option_and_then, option_map}
+use Rattle.std.proofs.lemmas.List.{get_or-drop, get_or-take, length-take}
+use Rattle.std.proofs.lemmas.List.Sums.{passes_at_first}
 use Rattle.markdown_base.specs.Arena.{sibling_of}
+use Rattle.markdown_base.specs.Bytes.{pipe}
 use Rattle.markdown_base.specs.ArenaForest.{links_of, forest_at}
 use Rattle.markdown_base.specs.BlockTree.{item_at}
 use Rattle.markdown_base.specs.Forest.{Forest, nil, node, first_root}
@@ -11,12 +15,13 @@ use Rattle.markdown_base.specs.declared.item.Item.{Item}
 use Rattle.markdown_base.specs.declared.node.Node.{Node}
 use Rattle.markdown_document.specs.ChainRest.{start_of, end_of, joined_chains, past_byte}
 use Rattle.markdown_document.specs.Document.{Label}
+use Rattle.markdown_document.specs.Places.{follows_pipe}
 use Rattle.markdown_document.specs.Tables.{Tables}
 use Rattle.markdown_scan.specs.WikilinkPipe.{wikilink_pipe}
 use Rattle.markdown_brackets.specs.BracketDecision.{Around, Closing, Wikilink, past_second, if_some, text_from, wikilink_by, wikilink_in}
 use Rattle.markdown_brackets.specs.ChainAhead.{numbers_past}
 use Rattle.markdown_brackets.specs.ChainHeld.{numbers_of, times_of, link_to}
-use Rattle.markdown_brackets.specs.DecisionView.{first_shown, shown_of}
+use Rattle.markdown_brackets.specs.DecisionView.{IsShownAfterPipe, first_shown, shown_of}
 use Rattle.markdown_brackets.specs.Wikilink.{WikilinkBody, Shows, shows_name, shows_nothing, shows_from, cut_at, has_pothole, named}
 use Rattle.markdown_brackets.specs.Wikilink.{shown_from, wikilink_body}
 use Rattle.markdown_base.proofs.ArenaForestLemmas.{height}
@@ -32,35 +37,60 @@ use Rattle.markdown_brackets.proofs.AheadOfBracketLemmas.{same_start}
 use Rattle.markdown_brackets.proofs.BracketStandsLemmas.{Found, found_after, found_at, height_found}
 use Rattle.markdown_brackets.proofs.ChainAheadLemmas.{is_below}
 use Rattle.markdown_brackets.proofs.WikilinkNodesLemmas.{from_is, second_is}
+use Rattle.markdown_brackets.proofs.WikilinkPipeLemmas.{some_in_block}
 
--- what a wikilink shows from a byte offset on starts before the end of its body
-abbrev StartsBefore : ℕ → Shows → Type 0
-StartsBefore end (shows_from at) = at < end
-StartsBefore end other = Unit {0}
-
-shown_before : (at end : ℕ) → StartsBefore end (shown_from at end)
-shown_before at end = by (nat_lt at end) refl
+-- the first pipe of a body
+pipe_found : (text : List ℕ) (start size : ℕ) → IfSome (wikilink_pipe text start size) (λ p. follows_pipe text p.0 ≡ true)
+pipe_found text start size = by (nat_lt n (length part)) refl
   where
-    by : (b : Bool) → nat_lt at end ≡ b → StartsBefore end (if b then shows_from at else shows_nothing at)
-    by true e = is_below at end e
+    part : List ℕ
+    part = take size (drop start text)
+
+    n : ℕ
+    n = position_or_len (λ b. b == pipe) part
+
+    by : (found : Bool) → nat_lt n (length part) ≡ found
+        → IfSome {T = ℕ × List ℕ} (option_map (λ n. (start + n + 1, take n part)) (if found then Some n else None))
+        (λ p. follows_pipe text p.0 ≡ true)
+    by true e =
+        let inside_part : n < length part = is_below n (length part) e in
+        let is : (get_or part n 0 == pipe) ≡ true = passes_at_first (λ b. b == pipe) part 0 inside_part in
+        let cut : n < size = omega (arith, inside_part, length-take size (drop start text)) in
+        let byte : get_or part n 0 ≡ slice_index text (start + n) = get_or-take size (drop start text) n 0 cut ∙ get_or-drop start text n 0 in
+        let after : start + n + 1 ≡ suc (start + n) = omega arith in
+        subst (λ i. follows_pipe text i ≡ true) (sym after) (subst (λ b. (b == pipe) ≡ true) byte is)
     by false e = tt
 
-named_before : (end : ℕ) (name : List ℕ) (shows : Shows) → StartsBefore end shows
-    → IfSome (named name shows) (λ b. StartsBefore end b.shows)
-named_before end [] shows h = tt
-named_before end (x ∷ name) shows h = h
+-- what a wikilink shows from a byte offset on starts after a pipe, before the end of its body
+abbrev StartsWithin : List ℕ → ℕ → Shows → Type 0
+StartsWithin text end (shows_from at) = (at < end) × (follows_pipe text at ≡ true)
+StartsWithin text end other = Unit {0}
 
-cut_before : (text : List ℕ) (start end : ℕ) (pipe : Option (ℕ × List ℕ))
-    → IfSome (cut_at text start end pipe) (λ b. StartsBefore end b.shows)
-cut_before text start end None = named_before end (slice_range text start end) shows_name tt
-cut_before text start end (Some p) = named_before end p.1 (shown_from p.0 end) (shown_before p.0 end)
+shown_within : (text : List ℕ) (at end : ℕ) → follows_pipe text at ≡ true → StartsWithin text end (shown_from at end)
+shown_within text at end piped = by (nat_lt at end) refl
+  where
+    by : (b : Bool) → nat_lt at end ≡ b → StartsWithin text end (if b then shows_from at else shows_nothing at)
+    by true e = (is_below at end e, piped)
+    by false e = tt
 
-body_before : (text : List ℕ) (block_end start end : ℕ) → IfSome (wikilink_body text block_end start end) (λ b. StartsBefore end b.shows)
-body_before text block_end start end = by (nat_lt start end)
+named_within : (text : List ℕ) (end : ℕ) (name : List ℕ) (shows : Shows) → StartsWithin text end shows
+    → IfSome (named name shows) (λ b. StartsWithin text end b.shows)
+named_within text end [] shows h = tt
+named_within text end (x ∷ name) shows h = h
+
+cut_within : (text : List ℕ) (start end : ℕ) (found : Option (ℕ × List ℕ)) → IfSome found (λ p. follows_pipe text p.0 ≡ true)
+    → IfSome (cut_at text start end found) (λ b. StartsWithin text end b.shows)
+cut_within text start end None piped = named_within text end (slice_range text start end) shows_name tt
+cut_within text start end (Some p) piped = named_within text end p.1 (shown_from p.0 end) (shown_within text p.0 end piped)
+
+body_within : (text : List ℕ) (block_end start end : ℕ)
+    → IfSome (wikilink_body text block_end start end) (λ b. StartsWithin text end b.shows)
+body_within text block_end start end = by (nat_lt start end)
   where
     by : (b : Bool) → IfSome (if b then cut_at text start end (wikilink_pipe (take block_end text) start (end - start)) else None)
-        (λ b. StartsBefore end b.shows)
-    by true = cut_before text start end (wikilink_pipe (take block_end text) start (end - start))
+        (λ b. StartsWithin text end b.shows)
+    by true = cut_within text start end (wikilink_pipe (take block_end text) start (end - start))
+        (some_in_block text block_end start (end - start) (λ p. follows_pipe text p.0 ≡ true) (pipe_found text start (end - start)))
     by false = tt
 
 module _ (source : List ℕ) (tables : Tables) (nodes : List (Node Item)) (w : Around) (closer : Label ℕ) (rest : Forest (Label ℕ))
@@ -70,31 +100,39 @@ module _ (source : List ℕ) (tables : Tables) (nodes : List (Node Item)) (w : A
     as_wikilink children = record { name = b.name; has_pothole = has_pothole b.shows; children = children }
 
     is_found : (shown : ShownNodes) (children : Forest (Label ℕ)) → shown_of w trees shown ≡ children
-        → link_to children ≡ Some (first_shown shown)
+        → link_to children ≡ Some (first_shown shown) → IsShownAfterPipe w.setting.text shown
         → (r : Option ClosedBracket) → IsWikilinkAt opener end (Some (b, shown)) r
         → IsWikilink w opener end trees (Some (as_wikilink children)) r
-    is_found shown children so first None h = absurd h
-    is_found shown children so first (Some Text) h = absurd h
-    is_found shown children so first (Some (Link a d e f)) h = absurd h
-    is_found shown children so first (Some (Footnote a d)) h = absurd h
-    is_found shown children so first (Some (Wikilinked a d e f g)) h =
-        (h.0, h.1, h.2, ap (shown_of w trees) h.3 ∙ so, first ∙ ap (λ s. Some (first_shown s)) (sym h.3), h.4)
+    is_found shown children so first piped None h = absurd h
+    is_found shown children so first piped (Some Text) h = absurd h
+    is_found shown children so first piped (Some (Link a d e f)) h = absurd h
+    is_found shown children so first piped (Some (Footnote a d)) h = absurd h
+    is_found shown children so first piped (Some (Wikilinked a d e f g)) h = (
+      h.0,
+      h.1,
+      h.2,
+      ap (shown_of w trees) h.3 ∙ so,
+      first ∙ ap (λ s. Some (first_shown s)) (sym h.3),
+      h.4,
+      subst (IsShownAfterPipe w.setting.text) (sym h.3) piped,
+    )
 
-    from_found : (at : ℕ) (children : Forest (Label ℕ)) → ((n : ℕ) → shown_of w trees (From n at) ≡ children) → (r : Option ClosedBracket)
+    from_found : (at : ℕ) (children : Forest (Label ℕ)) → ((n : ℕ) → shown_of w trees (From n at) ≡ children)
+        → follows_pipe w.setting.text at ≡ true → (r : Option ClosedBracket)
         → IsWikilinkAt opener end (option_map (λ shown. (b, shown)) (option_map (λ n. From n at) (link_to children))) r
         → IsWikilink w opener end trees (option_map as_wikilink (if_some children)) r
-    from_found at nil so r h = none_found r h
+    from_found at nil so piped r h = none_found r h
       where
         none_found : (r : Option ClosedBracket) → IsWikilinkAt opener end None r → IsWikilink w opener end trees None r
         none_found None h = tt
         none_found (Some x) h = absurd h
-    from_found at (node q below after) so r h = is_found (From q.tag at) (node q below after) (so q.tag) refl r h
+    from_found at (node q below after) so piped r h = is_found (From q.tag at) (node q below after) (so q.tag) refl piped r h
 
   -- what it shows
   shows_so : (f : Label ℕ) (below after : Forest (Label ℕ)) (l : Option ℕ)
       → Found source tables nodes l (joined_chains (node f below after) (node closer nil rest))
       → times_of closer.tag (node f below after) ≡ 0 → l ≡ Some f.tag → (name : List ℕ) (shows : Shows)
-      → StartsBefore (start_of closer) shows
+      → StartsWithin w.setting.text (start_of closer) shows
       → (r : Option ClosedBracket)
       → IsWikilinkAt opener end (option_map (λ shown. (record { name = name; shows = shows }, shown))
       (shown_in nodes f.tag closer.tag shows (start_of f) (start_of closer))) r
@@ -102,10 +140,10 @@ module _ (source : List ℕ) (tables : Tables) (nodes : List (Node Item)) (w : A
       (record { name = name; shows = shows })) r
   shows_so f below after l s apart e name shows_name behind r h =
       is_found (record { name = name; shows = shows_name }) (node f below after) (Over f.tag (start_of f) (start_of closer))
-      (node (text_from w f (start_of f) (start_of closer)) nil nil) refl refl r h
+      (node (text_from w f (start_of f) (start_of closer)) nil nil) refl refl tt r h
   shows_so f below after l s apart e name (shows_nothing at) behind r h =
       is_found (record { name = name; shows = shows_nothing at }) (node f below after) (Over f.tag at at)
-      (node (text_from w f at at) nil nil) refl refl r h
+      (node (text_from w f at at) nil nil) refl refl tt r h
   shows_so f below after l s apart e name (shows_from at) behind r h =
       let trees = node f below after in
       let b : WikilinkBody = record { name = name; shows = shows_from at } in
@@ -113,8 +151,8 @@ module _ (source : List ℕ) (tables : Tables) (nodes : List (Node Item)) (w : A
       ≡ option_map (λ n. From n at) (link_to (past_byte at trees)) =
       ap (λ g. shown_from_node closer.tag at (first_root (numbers_past nodes at g)))
       (ap (λ m. forest_at (links_of nodes) m) (sym e) ∙ found_at source tables nodes l _ s)
-      ∙ from_is source tables nodes closer nil rest at (omega (arith, behind, order)) l trees s.holds apart in
-      from_found b trees at (past_byte at trees) (λ n. refl) r
+      ∙ from_is source tables nodes closer nil rest at (omega (arith, behind.0, order)) l trees s.holds apart in
+      from_found b trees at (past_byte at trees) (λ n. refl) behind.1 r
       (subst (λ o. IsWikilinkAt opener end (option_map (λ shown. (b, shown)) o) r) is h)
 
   none_at_all : (trees : Forest (Label ℕ)) (r : Option ClosedBracket) → IsWikilinkAt opener end None r
@@ -131,7 +169,7 @@ module _ (source : List ℕ) (tables : Tables) (nodes : List (Node Item)) (w : A
   wikilink_is nil l s apart r h = none_at_all nil r h
   wikilink_is (node f below after) l s apart r h =
       by (wikilink_body w.setting.text w.above.block_end (start_of f) (start_of closer))
-      (body_before w.setting.text w.above.block_end (start_of f) (start_of closer))
+      (body_within w.setting.text w.above.block_end (start_of f) (start_of closer))
       (subst (λ j. At (start_of f) j) reads (subst (λ i. At i (item_at nodes closer.tag).start) (same_start source tables nodes f s.holds.2)
       h))
     where
@@ -140,7 +178,7 @@ module _ (source : List ℕ) (tables : Tables) (nodes : List (Node Item)) (w : A
           IsWikilinkAt opener end (option_and_then (λ b. option_map (λ shown. (b, shown)) (shown_in nodes f.tag closer.tag b.shows start
           stop)) (wikilink_body w.setting.text w.above.block_end start stop)) r
 
-      by : (o : Option WikilinkBody) → IfSome o (λ b. StartsBefore (start_of closer) b.shows)
+      by : (o : Option WikilinkBody) → IfSome o (λ b. StartsWithin w.setting.text (start_of closer) b.shows)
           → IsWikilinkAt opener end (option_and_then
           (λ b. option_map (λ shown. (b, shown)) (shown_in nodes f.tag closer.tag b.shows (start_of f) (start_of closer))) o) r
           → IsWikilink w opener end (node f below after) (option_and_then (wikilink_by w f (node f below after) (start_of closer)) o) r

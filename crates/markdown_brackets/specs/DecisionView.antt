@@ -1,5 +1,5 @@
 -- What a `]` becomes in an arena, as contracts describe it.
-use Rattle.std.specs.Prelude.{◌≡◌, ℕ, ◌++◌, Bool, true, false, List, [], Option, Some, None, is_some}
+use Rattle.std.specs.Prelude.{◌≡◌, ⊤, ℕ, ◌++◌, Bool, true, false, List, [], Option, Some, None, is_some}
 use Rattle.markdown_base.specs.CowText.{text_of}
 use Rattle.markdown_base.specs.Event.{LinkView}
 use Rattle.markdown_base.specs.Forest.{Forest, nil, node}
@@ -7,6 +7,7 @@ use Rattle.markdown_base.specs.Questions.{Question, Answer, Answers}
 use Rattle.markdown_base.specs.declared.item.ItemBody.{ItemBody}
 use Rattle.markdown_document.specs.ChainRest.{past_byte, start_of}
 use Rattle.markdown_document.specs.Document.{Label}
+use Rattle.markdown_document.specs.Places.{follows_pipe}
 use Rattle.markdown_defs.specs.Callback.{Asks}
 use Rattle.markdown_defs.specs.Definitions.{Labelled}
 use Rattle.markdown_defs.specs.Footnotes.{footnote_at}
@@ -59,6 +60,11 @@ shown_of w nil shown = nil
 shown_of w (node first below after) (Over ix start end) = node (text_from w first start end) nil nil
 shown_of w (node first below after) (From ix at) = past_byte at (node first below after)
 
+-- what a wikilink shows of its body begins after a pipe, or is its name
+abbrev pub IsShownAfterPipe : List ℕ → ShownNodes → Type 0
+IsShownAfterPipe text (Over ix start end) = ⊤
+IsShownAfterPipe text (From ix at) = follows_pipe text at ≡ true
+
 -- the first node that a wikilink shows
 abbrev pub first_shown : ShownNodes → ℕ
 first_shown (Over ix start end) = ix
@@ -74,7 +80,7 @@ IsBecome w (a_footnote o name) (Footnote opener found) = (opener ≡ opener_of o
 IsBecome w (a_wikilink o v end) (Wikilinked opener name has_pothole shown found_end) =
     (opener ≡ opener_of o) × (name.now ≡ v.name) × (has_pothole ≡ v.has_pothole)
     × (shown_of w (past_second (inside o)) shown ≡ v.children) × (link_to v.children ≡ Some (first_shown shown))
-    × (found_end ≡ end)
+    × (found_end ≡ end) × IsShownAfterPipe w.setting.text shown
 IsBecome w other found = ⊥
 
 -- a returned value is a link to this target, or a Text if there is none

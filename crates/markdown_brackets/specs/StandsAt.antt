@@ -16,7 +16,7 @@ use Rattle.markdown_brackets.specs.Wikilink.{WikilinkBody, has_pothole}
 use Rattle.markdown_brackets.specs.declared.wikilink_nodes.ShownNodes.{ShownNodes}
 use Rattle.markdown_brackets.specs.declared.closing_bracket.ClosedBracket.TheVariants.{Wikilinked}
 use Rattle.markdown_brackets.specs.ChainHeld.{Holds, numbers_of, times_of, link_to}
-use Rattle.markdown_brackets.specs.DecisionView.{ComesTo, first_shown, opener_of, shown_of}
+use Rattle.markdown_brackets.specs.DecisionView.{ComesTo, IsShownAfterPipe, first_shown, opener_of, shown_of}
 use Rattle.markdown_brackets.specs.LeftList.{Split, inside, is_live}
 use Rattle.markdown_brackets.specs.ReadChain.{among}
 use Rattle.markdown_brackets.specs.SpentEnds.{is_spent}
@@ -81,7 +81,7 @@ IsWikilink w opener end trees None None = Unit {0}
 IsWikilink w opener end trees None (Some found) = ⊥
 IsWikilink w opener end trees (Some v) (Some (Wikilinked found_opener name pothole shown found_end)) =
     (found_opener ≡ opener) × (name.now ≡ v.name) × (pothole ≡ v.has_pothole) × (shown_of w trees shown ≡ v.children)
-    × (link_to v.children ≡ Some (first_shown shown)) × (found_end ≡ end)
+    × (link_to v.children ≡ Some (first_shown shown)) × (found_end ≡ end) × IsShownAfterPipe w.setting.text shown
 IsWikilink w opener end trees (Some v) found = ⊥
 
 -- an arena contains the trees between an opener and the `]` of a node, and the chain after that

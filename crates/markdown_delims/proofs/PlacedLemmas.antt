@@ -13,7 +13,7 @@ use Rattle.markdown_base.specs.declared.item.ItemBody.{ItemBody}
 use Rattle.markdown_base.specs.declared.node.Node.{Node}
 use Rattle.markdown_document.specs.Document.{Label, block_of}
 use Rattle.markdown_document.specs.ItemRules.{ComesBefore, KeepsItemRules}
-use Rattle.markdown_document.specs.Places.{HasSlices, IsPlaced}
+use Rattle.markdown_document.specs.Places.{ComesFromPlace, IsPlaced, origin_start}
 use Rattle.markdown_document.proofs.PlaceLemmas.{slices-unnamed}
 use Rattle.markdown_document.specs.Setting.{Setting}
 use Rattle.markdown_document.specs.Tables.{Tables, NamesEntries, no_tables}
@@ -41,10 +41,10 @@ next_is : (nodes : List (Node Item)) (l : Option ℕ) (f : Forest ℕ) → Spell
 next_is nodes l nil s = rw s refl
 next_is nodes l (node ix below after) s = rw s.0 refl
 
--- what an item names is there, and comes from the source before its end where it has to
+-- what an item names is there, and comes from the source where the item is
 pub record NamesThere (text : List ℕ) (tables : Tables) (item : Item) : Type 0 where
   pub named : NamesEntries tables item.body
-  pub slices : HasSlices text tables item.end item.body
+  pub slices : ComesFromPlace text tables item
 
 -- the items of an arena are placed just where those of its forest are right and name entries
 module _ (text : List ℕ) (tables : Tables) (nodes : List (Node Item)) where
@@ -85,7 +85,7 @@ made_names : (text : List ℕ) (tables : Tables) (start end : ℕ) (b : ItemBody
     → NamesThere text tables (record { start = start; end = end; body = b })
 made_names text tables start end b e = record {
   named = record { text = rw e.0 tt; link = rw e.1 tt; alignments = rw e.2 tt; attributes = rw e.3 tt };
-  slices = slices-unnamed text tables end b e.0 e.1;
+  slices = slices-unnamed text tables (origin_start text start) end b e.0 e.1;
 }
 
 any_first : (f : Forest Numbered) → IfSome (first_root f) (λ b. (0 ≤ b.item.start) × (0 ≤ b.number))

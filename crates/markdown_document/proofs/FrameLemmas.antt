@@ -13,7 +13,7 @@ use Rattle.markdown_base.specs.declared.item.Item.{Item}
 use Rattle.markdown_base.specs.declared.item.ItemBody.{ItemBody}
 use Rattle.markdown_base.specs.declared.node.Node.{Node}
 use Rattle.markdown_base.proofs.ArenaForestLemmas.{height, height-followed, forest_at-fits}
-use Rattle.markdown_document.specs.Places.{IsSameAt, label_at, trees_from, HasSlices, IsPlaced}
+use Rattle.markdown_document.specs.Places.{IsSameAt, label_at, trees_from, HasSlices, IsPlaced, origin_start}
 use Rattle.markdown_document.specs.Totals.{total, same, naming, times_named, weight_at}
 use Rattle.markdown_document.specs.Document.{Plain, shape_of, block_of}
 use Rattle.markdown_document.specs.Tables.{Tables, Named, some_text, some_link, some_alignments, IsSameEntry, IsNoShorter}
@@ -45,18 +45,18 @@ shape-same tables tables' source (body.Heading level named) h e = rw e refl
 shape-same tables tables' source other h e = refl
 
 -- what is a slice of the source stays one
-pub slices-same : (source : List ℕ) (tables tables' : Tables) (end : ℕ) (b : ItemBody)
-    → ((m : Named) → 0 < times_named m b → IsSameEntry tables tables' m) → HasSlices source tables end b
-    → HasSlices source tables' end b
-slices-same source tables tables' end (body.Code ix) h p = let same = h (some_text ix.0) (omega (arith, same-refl ix.0))
+pub slices-same : (source : List ℕ) (tables tables' : Tables) (start end : ℕ) (b : ItemBody)
+    → ((m : Named) → 0 < times_named m b → IsSameEntry tables tables' m) → HasSlices source tables start end b
+    → HasSlices source tables' start end b
+slices-same source tables tables' start end (body.Code ix) h p = let same = h (some_text ix.0) (omega (arith, same-refl ix.0))
     in rw (same.0, same.1) p
-slices-same source tables tables' end (body.Math ix display) h p = let same = h (some_text ix.0) (omega (arith, same-refl ix.0))
+slices-same source tables tables' start end (body.Math ix display) h p = let same = h (some_text ix.0) (omega (arith, same-refl ix.0))
     in rw (same.0, same.1) p
-slices-same source tables tables' end (body.Link ix) h p = let same = h (some_link ix.0) (omega (arith, same-refl ix.0))
+slices-same source tables tables' start end (body.Link ix) h p = let same = h (some_link ix.0) (omega (arith, same-refl ix.0))
     in rw (same.0, same.1) p
-slices-same source tables tables' end (body.Image ix) h p = let same = h (some_link ix.0) (omega (arith, same-refl ix.0))
+slices-same source tables tables' start end (body.Image ix) h p = let same = h (some_link ix.0) (omega (arith, same-refl ix.0))
     in rw (same.0, same.1) p
-slices-same source tables tables' end other h p = tt
+slices-same source tables tables' start end other h p = tt
 
 pub label-same : (source : List ℕ) (tables tables' : Tables) (nodes nodes' : List (Node Item)) (n : ℕ) → Stays tables tables' nodes nodes' n
     → label_at source tables' nodes' n ≡ label_at source tables nodes n
@@ -116,7 +116,8 @@ placed_same source tables tables' nodes nodes' l (node ix below after) s z h p =
   record {
     lies = rw h.0.at.item p.0.lies;
     named = rw h.0.at.item (entries-longer tables tables' (item_at nodes ix).body z p.0.named);
-    slices = rw h.0.at.item (slices-same source tables tables' (item_at nodes ix).end (item_at nodes ix).body h.0.entries p.0.slices);
+    slices = rw h.0.at.item (slices-same source tables tables' (origin_start source (item_at nodes ix).start) (item_at nodes ix).end (item_at nodes ix).body
+        h.0.entries p.0.slices);
     keeps = rw (h.0.at.next, h.0.at.child, h.0.at.item, following_same tables tables' nodes nodes' (sibling_of nodes ix) after s.3 h.2)
         p.0.keeps;
   },

@@ -2,6 +2,7 @@
 pub mod CallbackLemmas
 pub mod TablesLemmas
 pub mod PlaceLemmas
+pub mod OriginLemmas
 pub mod FrameLemmas
 pub mod FoundLemmas
 pub mod AboveLemmas

@@ -35,21 +35,21 @@ named-past source tables nodes (node ix below after) n h z =
     )
 
 -- what refers to no text and no link has no slice
-pub slices-unnamed : (source : List ℕ) (tables : Tables) (end : ℕ) (b : ItemBody) → text_named b ≡ None → link_named b ≡ None
-    → HasSlices source tables end b
-slices-unnamed source tables end (body.Code ix) h e = cc h
-slices-unnamed source tables end (body.Math ix display) h e = cc h
-slices-unnamed source tables end (body.Link ix) h e = cc e
-slices-unnamed source tables end (body.Image ix) h e = cc e
-slices-unnamed source tables end other h e = tt
+pub slices-unnamed : (source : List ℕ) (tables : Tables) (start end : ℕ) (b : ItemBody) → text_named b ≡ None → link_named b ≡ None
+    → HasSlices source tables start end b
+slices-unnamed source tables start end (body.Code ix) h e = cc h
+slices-unnamed source tables start end (body.Math ix display) h e = cc h
+slices-unnamed source tables start end (body.Link ix) h e = cc e
+slices-unnamed source tables start end (body.Image ix) h e = cc e
+slices-unnamed source tables start end other h e = tt
 
-pub slices-none : (source : List ℕ) (tables : Tables) (end : ℕ) (b : ItemBody) → ((n : Named) → times_named n b ≡ 0)
-    → HasSlices source tables end b
-slices-none source tables end (body.Code ix) h = let none = h (some_text ix.0) in absurd (omega (arith, none, same-refl ix.0))
-slices-none source tables end (body.Math ix display) h = let none = h (some_text ix.0) in absurd (omega (arith, none, same-refl ix.0))
-slices-none source tables end (body.Link ix) h = let none = h (some_link ix.0) in absurd (omega (arith, none, same-refl ix.0))
-slices-none source tables end (body.Image ix) h = let none = h (some_link ix.0) in absurd (omega (arith, none, same-refl ix.0))
-slices-none source tables end other h = tt
+pub slices-none : (source : List ℕ) (tables : Tables) (start end : ℕ) (b : ItemBody) → ((n : Named) → times_named n b ≡ 0)
+    → HasSlices source tables start end b
+slices-none source tables start end (body.Code ix) h = let none = h (some_text ix.0) in absurd (omega (arith, none, same-refl ix.0))
+slices-none source tables start end (body.Math ix display) h = let none = h (some_text ix.0) in absurd (omega (arith, none, same-refl ix.0))
+slices-none source tables start end (body.Link ix) h = let none = h (some_link ix.0) in absurd (omega (arith, none, same-refl ix.0))
+slices-none source tables start end (body.Image ix) h = let none = h (some_link ix.0) in absurd (omega (arith, none, same-refl ix.0))
+slices-none source tables start end other h = tt
 
 -- an open item is not read before its chain is resolved
 pub shape-open : (tables : Tables) (source : List ℕ) (b : ItemBody) → is_open b ≡ true → shape_of tables source b ≡ unresolved b

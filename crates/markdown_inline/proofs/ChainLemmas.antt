@@ -34,7 +34,7 @@ use Rattle.markdown_resolver.specs.Resolved.{resolved, all_paired}
 use Rattle.markdown_document.specs.Document.{plain_tags, Plain, Shape, leaf, enclosed, plain, backslash_break, unresolved, is_unresolved}
 use Rattle.markdown_document.specs.Document.{shape_of}
 use Rattle.markdown_document.specs.Labels.{GivesFirst, Begins}
-use Rattle.markdown_resolver.specs.Kept.{IsSettled}
+use Rattle.markdown_resolver.specs.Kept.{IsSettled, IsUnread}
 use Rattle.markdown_document.specs.Totals.{same, naming}
 use Rattle.markdown_document.specs.Tables.{Tables, Named, number_of, size_for}
 use Rattle.markdown_document.specs.declared.work.Work.{Work}
@@ -144,8 +144,18 @@ can_resolve source tables nodes first spine w e =
       reaches = w.walk.here;
       once = λ n. let x = w.once n in omega arith;
       named_once = λ n. let x = w.named_once n in omega arith;
-      quiet_below = rw o.here ((rw o.here at w.here_kept).0 (ap is_unresolved open_shape));
+      quiet_below = rw o.here ((rw o.here at w.here_kept).0 (ap is_unresolved open_shape)).0;
     }
+
+-- and what has still to be read comes last
+pub is_unread : (source : List ℕ) (tables : Tables) (nodes : List (Node Item)) (first : ℕ) (spine : List ℕ)
+    → Stands source tables nodes (Some first) spine → is_open (item_at nodes first).body ≡ true
+    → IsUnread (trees_from source tables nodes (Some first))
+is_unread source tables nodes first spine w e =
+    let o = opens (links_of nodes) (IsPlaced source tables nodes) first w.walk.here in
+    let open_shape = shape-open tables (slice_range source (item_at nodes first).start (item_at nodes first).end) (item_at nodes first).body
+    e in
+    rw o.here ((rw o.here at w.here_kept).0 (ap is_unresolved open_shape)).1
 
 -- the nodes that were entered exist, lie in the text, and are not in the chain at hand
 nodes_above : (source : List ℕ) (k : Links) (nodes : List (Node Item)) (p : ℕ → Type 0) (l : Option ℕ) (spine : List ℕ) → k ≡ links_of nodes

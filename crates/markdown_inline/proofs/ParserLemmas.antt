@@ -39,9 +39,10 @@ use Rattle.markdown_inline.specs.WalkSteps.{way_at}
 use Rattle.markdown_inline.specs.declared.bodies.Way.{Way}
 use Rattle.markdown_inline.specs.declared.walk.Parser.{Parser}
 use Rattle.markdown_document.proofs.CallbackLemmas.{Asks-append, Asks-some}
-use Rattle.markdown_inline.proofs.ChainLemmas.{ChainMoves, are_above, chain_ahead, moves_chain, can_resolve, stops_chain}
+use Rattle.markdown_inline.proofs.ChainLemmas.{ChainMoves, are_above, chain_ahead, moves_chain, can_resolve, stops_chain, is_unread}
 use Rattle.markdown_inline.proofs.CountLemmas.{part-chain, part-none, rises-none, rises-chain}
 use Rattle.markdown_inline.proofs.WalkStepsLemmas.{counts_ended, left_of_ended, steps_ended, steps_at_cursor}
+use Rattle.markdown_resolver.specs.Kept.{IsUnread}
 
 -- the elements that are left, by a parser's parts
 pub elements-parts : {F : Type 0} (p : Parser F) (answers : Answers)
@@ -161,6 +162,10 @@ moved_skip step s t k w =
 pub before_chain : (source : List ℕ) (s : Arena Item) (held : Allocated) (first : ℕ) → TreeStands source (tables_of held) s
     → IsBeforeChain s first → CanResolve source (tables_of held) s.nodes (Some first)
 before_chain source s held first w b = can_resolve source (tables_of held) s.nodes first s.spine (rw b.cursor at w) b.is_open
+
+pub unread_chain : (source : List ℕ) (s : Arena Item) (held : Allocated) (first : ℕ) → TreeStands source (tables_of held) s
+    → IsBeforeChain s first → IsUnread (trees_from source (tables_of held) s.nodes (Some first))
+unread_chain source s held first w b = is_unread source (tables_of held) s.nodes first s.spine (rw b.cursor at w) b.is_open
 
 -- the nodes that were entered stay when it is resolved
 pub above_chain : (source : List ℕ) (s : Arena Item) (held : Allocated) (first : ℕ) → TreeStands source (tables_of held) s

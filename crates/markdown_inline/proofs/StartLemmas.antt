@@ -35,10 +35,10 @@ use Rattle.markdown_blocks.specs.declared.blocks.Blocks.{Blocks}
 use Rattle.markdown_inline.specs.ParserLeft.{elements, rules_of, reading_of, expansion_limit, ReadsBlocks, ReadsText}
 use Rattle.markdown_inline.specs.ParserLeft.{block_definitions, parser_definitions}
 use Rattle.markdown_inline.specs.Walk.{left_of}
-use Rattle.markdown_document.specs.Places.{label_at, trees_from, IsPlaced, HasSlices}
-use Rattle.markdown_document.specs.Document.{block_of, label_of, document}
+use Rattle.markdown_document.specs.Places.{label_at, trees_from, IsPlaced, HasSlices, origin_start}
+use Rattle.markdown_document.specs.Document.{block_of, label_of, document, shape_of}
 use Rattle.markdown_document.specs.Setting.{Rules, rules_from, use_count, uses_of}
-use Rattle.markdown_resolver.specs.Kept.{IsQuiet, IsQuietBelow, IsKept}
+use Rattle.markdown_resolver.specs.Kept.{IsQuiet, IsQuietBelow, IsKept, IsUnmade, IsUnread, is_made}
 use Rattle.markdown_document.specs.Totals.{total, same, same_as, naming}
 use Rattle.markdown_inline.specs.WalkTotals.{left_total}
 use Rattle.markdown_inline.specs.Standing.{Stands}
@@ -74,13 +74,13 @@ no_link (body.Image ix) r = cc r
 no_link other r = refl
 
 -- nor is a link, code or math, whose text would have to be a slice
-unresolved_slices : (source : List ℕ) (tables : Tables) (end : ℕ) (b : ItemBody) → is_resolved b ≡ false
-    → HasSlices source tables end b
-unresolved_slices source tables end (body.Code ix) r = cc r
-unresolved_slices source tables end (body.Math ix display) r = cc r
-unresolved_slices source tables end (body.Link ix) r = cc r
-unresolved_slices source tables end (body.Image ix) r = cc r
-unresolved_slices source tables end other r = tt
+unresolved_slices : (source : List ℕ) (tables : Tables) (start end : ℕ) (b : ItemBody) → is_resolved b ≡ false
+    → HasSlices source tables start end b
+unresolved_slices source tables start end (body.Code ix) r = cc r
+unresolved_slices source tables start end (body.Math ix display) r = cc r
+unresolved_slices source tables start end (body.Link ix) r = cc r
+unresolved_slices source tables start end (body.Image ix) r = cc r
+unresolved_slices source tables start end other r = tt
 
 entries_named : (parts : BlockParts) (b : ItemBody) → PartsAreNamed (counts_of parts) b → is_resolved b ≡ false
     → NamesEntries (tables_at_start parts) b
@@ -147,7 +147,8 @@ each_placed source counts tables nodes l (node ix below after) s w named =
       record {
         lies = k.ranges_lie_in;
         named = named.0;
-        slices = unresolved_slices source tables (item_at nodes ix).end (item_at nodes ix).body k.nothing_resolved;
+        slices = unresolved_slices source tables (origin_start source (item_at nodes ix).start) (item_at nodes ix).end (item_at nodes ix).body
+            k.nothing_resolved;
         keeps = rw (following_root nodes (sibling_of nodes ix) after s.3) (record {
           in_order = in_order_from source counts (numbered nodes ix) (relabelled (numbered nodes) after) k.nothing_resolved w.2
               k.inline_in_order;
@@ -199,6 +200,34 @@ quiet_inline source tables nodes (node ix below after) c h =
           (all_inline (relabelled (numbered nodes) after)) h),
     )
 
+-- nothing was made, so what has still to be read comes last
+inline_unmade : (tables : Tables) (bytes : List ℕ) (b : ItemBody) → is_inline b ≡ true → is_made (shape_of tables bytes b) ≡ false
+inline_unmade tables bytes (body.HardBreak true) h = refl
+inline_unmade tables bytes (body.HardBreak false) h = refl
+inline_unmade tables bytes (body.Code ix) h = cc h
+inline_unmade tables bytes (body.Math ix display) h = cc h
+inline_unmade tables bytes (body.Link ix) h = cc h
+inline_unmade tables bytes (body.Image ix) h = cc h
+inline_unmade tables bytes other h = refl
+
+unmade_inline : (source : List ℕ) (tables : Tables) (nodes : List (Node Item)) (f : Forest ℕ)
+    → all_inline (relabelled (numbered nodes) f) ≡ true → IsUnmade (relabelled (label_at source tables nodes) f)
+unmade_inline source tables nodes nil h = tt
+unmade_inline source tables nodes (node ix below after) h =
+    let item = item_at nodes ix in
+    let rest = all_inline (relabelled (numbered nodes) after) in (
+      inline_unmade tables (slice_range source item.start item.end) item.body (and_left (is_inline item.body) rest h),
+      unmade_inline source tables nodes after (and_right (is_inline item.body) rest h),
+    )
+
+unread_inline : (source : List ℕ) (tables : Tables) (nodes : List (Node Item)) (f : Forest ℕ)
+    → all_inline (relabelled (numbered nodes) f) ≡ true → IsUnread (relabelled (label_at source tables nodes) f)
+unread_inline source tables nodes nil h = tt
+unread_inline source tables nodes (node ix below after) h =
+    let item = item_at nodes ix in
+    let later = and_right (is_inline item.body) (all_inline (relabelled (numbered nodes) after)) h in
+    (λ read. unmade_inline source tables nodes after later, unread_inline source tables nodes after later)
+
 or_more : (a b : Bool) → b ≡ true → (a || b) ≡ true
 or_more true b h = refl
 or_more false b h = h
@@ -214,7 +243,8 @@ kept_from source tables nodes nil c i h = tt
 kept_from source tables nodes (node ix below after) c i h =
     let item = item_at nodes ix in (
       λ e. let o = open-unresolved tables (slice_range source item.start item.end) item.body e
-          in quiet_inline source tables nodes (node ix below after) c (h (rw o refl)),
+          in let all = h (rw o refl)
+          in (quiet_inline source tables nodes (node ix below after) c all, unread_inline source tables nodes (node ix below after) all),
       kept_from source tables nodes below c.1 i.1 i.0,
       kept_from source tables nodes after c.2 i.2 (λ o. and_right (is_inline item.body) (all_inline (relabelled (numbered nodes) after))
           (h (or_more (is_open item.body) (has_open (relabelled (numbered nodes) after)) o))),

@@ -30,7 +30,7 @@ use Rattle.markdown_document.specs.LinkOrigins.{IsLinkFrom, LinkOrigins}
 use Rattle.markdown_document.specs.Origins.{IsSlicedOf, Origin, origin_at, origin_of}
 use Rattle.markdown_document.specs.Document.{Shape, leaf, enclosed, plain, backslash_break, unresolved, sliced, made, container_of}
 use Rattle.markdown_document.specs.Document.{shape_of, event_of_shape}
-use Rattle.markdown_document.specs.Places.{HasSliceLink}
+use Rattle.markdown_document.specs.Places.{HasSliceLink, origin_start}
 use Rattle.markdown_document.specs.Tables.{Tables, Named, some_text, some_link, some_alignments, text_at, link_at, link_origins, link_origins_at, link_view}
 use Rattle.markdown_document.specs.Tables.{link_named, alignments_at, attributes_at, attributes_view, size_for, tables_of, NamesEntries}
 use Rattle.markdown_document.specs.Tables.{IsSameEntry}
@@ -76,12 +76,12 @@ link_origins_at-read (d ∷ links) zero c l e = ap link_origins (sym e)
 link_origins_at-read (d ∷ links) (suc n) c l e = link_origins_at-read links n c (omega (arith, l)) e
 
 -- a link comes from where its entry does
-pub leads_from : (source : List ℕ) (end : ℕ) (tables : Tables) (n : ℕ) (c : LinkParts) → n < length tables.links
-    → c ≡ get_or tables.links n c → HasSliceLink source tables end n
-    → IsLinkFrom source 0 end (link_origins c) (link_view c)
-leads_from source end tables n c l e h =
-    subst (λ (v : LinkView). IsLinkFrom source 0 end (link_origins c) v) (link_at-read tables.links n c l e)
-    (subst (λ (o : LinkOrigins). IsLinkFrom source 0 end o (link_at tables.links n)) (link_origins_at-read tables.links n c l e) h)
+pub leads_from : (source : List ℕ) (start end : ℕ) (tables : Tables) (n : ℕ) (c : LinkParts) → n < length tables.links
+    → c ≡ get_or tables.links n c → HasSliceLink source tables start end n
+    → IsLinkFrom source start end (link_origins c) (link_view c)
+leads_from source start end tables n c l e h =
+    subst (λ (v : LinkView). IsLinkFrom source start end (link_origins c) v) (link_at-read tables.links n c l e)
+    (subst (λ (o : LinkOrigins). IsLinkFrom source start end o (link_at tables.links n)) (link_origins_at-read tables.links n c l e) h)
 
 pub alignments_at-read : (alignments : List (Vec Alignment Global)) (n : ℕ) (c : Vec Alignment Global) → n < length alignments
     → c ≡ get_or alignments n c → alignments_at alignments n ≡ c.items
@@ -223,21 +223,21 @@ takes_alignments b held held' ix e l = rw l.others (record {
 })
 
 -- an event of one text is not a Start
-pub no_start : (source : List ℕ) (end : ℕ) (e : Event) (c : CowStr) → texts_of e ≡ c ∷ [] → StartIsFrom source end e
-no_start source end (step.Start tag) c h = cc h
-no_start source end other c h = tt
+pub no_start : (source : List ℕ) (start end : ℕ) (e : Event) (c : CowStr) → texts_of e ≡ c ∷ [] → StartIsFrom source start end e
+no_start source start end (step.Start tag) c h = cc h
+no_start source start end other c h = tt
 
 -- an event of one text that is a slice of the source
 pub opens_slice : (source : List ℕ) (range : Range ℕ) (view : List ℕ → EventView) (e : CowStr → Event) (c : CowStr)
     → ((slice : Bor (List ℕ)) × (c ≡ Borrowed slice) × (slice.now ≡ slice_range source range.start range.end))
     → ((d : CowStr) → event_view (e d) ≡ view (text_of d)) → ((d : CowStr) → texts_of (e d) ≡ d ∷ [])
-    → ((d : CowStr) → slice_start (e d) range.start ≡ range.start)
+    → ((d : CowStr) → slice_start source (e d) range.start ≡ range.start)
     → OpensWith source range (leaf (view (slice_range source range.start range.end)) (sliced ∷ [])) (e c)
 opens_slice source range view e c (slice, is, over) viewed texts from = rw is (record {
   origins = sliced ∷ [];
   begins = rw (viewed (Borrowed slice), over) refl;
   texts = rw (texts (Borrowed slice), from (Borrowed slice)) (∣ (range, omega arith, omega arith, over) ∣₁, tt);
-  start = no_start source range.end (e (Borrowed slice)) (Borrowed slice) (texts (Borrowed slice));
+  start = no_start source range.start range.end (e (Borrowed slice)) (Borrowed slice) (texts (Borrowed slice));
 })
 
 -- an event of one text that is referred to, and is taken
@@ -249,21 +249,21 @@ opens_made source range cows n view e c within read viewed texts = record {
   origins = made ∷ [];
   begins = rw (viewed c, text_at-read cows n c within read) refl;
   texts = rw (texts c) (tt, tt);
-  start = no_start source range.end (e c) c (texts c);
+  start = no_start source range.start range.end (e c) c (texts c);
 }
 
 -- the same for the text of a span, which is a slice of the source where the table says so
 pub opens_span : (source : List ℕ) (range : Range ℕ) (cows : List CowStr) (n : ℕ) (view : List ℕ → EventView) (e : CowStr → Event) (c : CowStr)
     → n < length cows → c ≡ get_or cows n c
-    → IsSlicedOf source 0 range.end (origin_at cows n) (text_at cows n)
+    → IsSlicedOf source (origin_start source range.start) range.end (origin_at cows n) (text_at cows n)
     → ((d : CowStr) → event_view (e d) ≡ view (text_of d)) → ((d : CowStr) → texts_of (e d) ≡ d ∷ [])
-    → ((d : CowStr) → slice_start (e d) range.start ≡ 0)
+    → ((d : CowStr) → slice_start source (e d) range.start ≡ origin_start source range.start)
     → OpensWith source range (leaf (view (text_at cows n)) (origin_at cows n ∷ [])) (e c)
 opens_span source range cows n view e c within read slice viewed texts from = record {
   origins = origin_at cows n ∷ [];
   begins = rw (viewed c, text_at-read cows n c within read) refl;
-  texts = rw (texts c, from c) (is_from source 0 range.end cows n c within read slice, tt);
-  start = no_start source range.end (e c) c (texts c);
+  texts = rw (texts c, from c) (is_from source (origin_start source range.start) range.end cows n c within read slice, tt);
+  start = no_start source range.start range.end (e c) c (texts c);
 }
 
 -- where a walk goes over an item, its event is that of the shape
@@ -344,5 +344,5 @@ container_shape tables over b tag (Some t) e s h = rw e (ap enclosed (sym h))
 
 -- a Start is the event that a tree of its tag begins with
 pub opens_start : (source : List ℕ) (range : Range ℕ) (shape : Shape) (tag : Tag) → shape ≡ enclosed (tag_view tag)
-    → TagIsFrom source range.end tag → OpensWith source range shape (step.Start tag)
+    → TagIsFrom source (origin_start source range.start) range.end tag → OpensWith source range shape (step.Start tag)
 opens_start source range shape tag h from = record { origins = []; begins = rw h refl; texts = tt; start = from }

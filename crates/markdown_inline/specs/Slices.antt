@@ -10,6 +10,7 @@ use Rattle.markdown_base.specs.declared.tag.Tag.TheVariants as opens
 use Rattle.markdown_defs.specs.Allocations.{LinkParts}
 use Rattle.markdown_document.specs.LinkOrigins.{IsLinkFrom}
 use Rattle.markdown_document.specs.Origins.{Origin, sliced, inlined, made, IsSliceWithin}
+use Rattle.markdown_document.specs.Places.{origin_start}
 use Rattle.markdown_document.specs.Tables.{link_origins, link_view}
 
 -- a text is borrowed, and is a slice of the source within these byte offsets
@@ -30,11 +31,11 @@ texts_of other = []
 
 -- the byte offset from which on the text of an event that starts here is a slice, where it is one: the event's start,
 -- but for code and math, which keep their whole text where the pipe of a wikilink cuts off their beginning
-abbrev pub slice_start : Event → (start : ℕ) → ℕ
-slice_start (step.Code c) start = 0
-slice_start (step.InlineMath c) start = 0
-slice_start (step.DisplayMath c) start = 0
-slice_start other start = start
+abbrev pub slice_start : List ℕ → Event → (start : ℕ) → ℕ
+slice_start source (step.Code c) start = origin_start source start
+slice_start source (step.InlineMath c) start = origin_start source start
+slice_start source (step.DisplayMath c) start = origin_start source start
+slice_start source other start = start
 
 -- a text has this origin: it is a slice of the source within these byte offsets, or is held in place, if the origin
 -- says so
@@ -50,19 +51,19 @@ AreFrom source start end (origin ∷ origins) (c ∷ cows) =
 AreFrom source start end (origin ∷ origins) [] = Unit {0}
 AreFrom source start end [] cows = Unit {0}
 
--- the destination and the title of a link or an image come from the source before its end, as its type says
-abbrev pub LeadsFrom : List ℕ → (end : ℕ) → LinkParts → Type 0
-LeadsFrom source end link = IsLinkFrom source 0 end (link_origins link) (link_view link)
+-- the destination and the title of a link or an image come from the source within these byte offsets, as its type says
+abbrev pub LeadsFrom : List ℕ → (start end : ℕ) → LinkParts → Type 0
+LeadsFrom source start end link = IsLinkFrom source start end (link_origins link) (link_view link)
 
 -- the same for a tag that is a link or an image
-abbrev pub TagIsFrom : List ℕ → (end : ℕ) → Tag → Type 0
-TagIsFrom source end (opens.Link link_type destination title label) =
-    LeadsFrom source end (link_type, destination, title, label)
-TagIsFrom source end (opens.Image link_type destination title label) =
-    LeadsFrom source end (link_type, destination, title, label)
-TagIsFrom source end other = Unit {0}
+abbrev pub TagIsFrom : List ℕ → (start end : ℕ) → Tag → Type 0
+TagIsFrom source start end (opens.Link link_type destination title label) =
+    LeadsFrom source start end (link_type, destination, title, label)
+TagIsFrom source start end (opens.Image link_type destination title label) =
+    LeadsFrom source start end (link_type, destination, title, label)
+TagIsFrom source start end other = Unit {0}
 
--- the same for the Start of such a tag
-abbrev pub StartIsFrom : List ℕ → (end : ℕ) → Event → Type 0
-StartIsFrom source end (step.Start tag) = TagIsFrom source end tag
-StartIsFrom source end other = Unit {0}
+-- the same for the Start of such a tag over this range, which the pipe of a wikilink may have cut
+abbrev pub StartIsFrom : List ℕ → (start end : ℕ) → Event → Type 0
+StartIsFrom source start end (step.Start tag) = TagIsFrom source (origin_start source start) end tag
+StartIsFrom source start end other = Unit {0}

@@ -12,7 +12,7 @@ use Rattle.markdown_base.specs.Item.{LiesIn, LiesIn-prop}
 use Rattle.markdown_base.specs.declared.item.Item.{Item}
 use Rattle.markdown_base.specs.declared.node.Node.{Node}
 use Rattle.markdown_document.specs.Document.{Label}
-use Rattle.markdown_resolver.specs.Kept.{IsQuiet, IsQuietBelow, IsKept}
+use Rattle.markdown_resolver.specs.Kept.{IsKept, IsQuiet, IsQuietBelow, IsUnmade, IsUnread}
 use Rattle.markdown_inline.specs.WalkTotals.{times_left, named_left}
 use Rattle.markdown_document.specs.Places.{IsPlaced-prop, IsPlaced, trees_from}
 use Rattle.markdown_document.specs.Tables.{Tables, Named}
@@ -53,11 +53,25 @@ IsQuietBelow-prop nil = Unit-prop
 IsQuietBelow-prop (node a below after) = let inside = IsQuiet-prop below in let behind = IsQuietBelow-prop after
     in hlevel props
 
+-- `IsUnmade` has at most one proof
+IsUnmade-prop : {A : Type 0} (f : Forest (Label A)) → IsProp (IsUnmade f)
+IsUnmade-prop nil = Unit-prop
+IsUnmade-prop (node a below after) = let behind = IsUnmade-prop after in hlevel props
+
+-- `IsUnread` has at most one proof
+IsUnread-prop : {A : Type 0} (f : Forest (Label A)) → IsProp (IsUnread f)
+IsUnread-prop nil = Unit-prop
+IsUnread-prop (node a below after) =
+    let unmade = IsUnmade-prop after in
+    let behind = IsUnread-prop after in
+    hlevel
+
 -- `IsKept` has at most one proof
 IsKept-prop : {A : Type 0} (f : Forest (Label A)) → IsProp (IsKept f)
 IsKept-prop nil = Unit-prop
 IsKept-prop (node a below after) =
     let here = IsQuietBelow-prop (node a below after) in
+    let unread = IsUnread-prop (node a below after) in
     let inside = IsKept-prop below in
     let behind = IsKept-prop after in
     hlevel

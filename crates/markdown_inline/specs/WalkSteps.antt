@@ -15,7 +15,7 @@ use Rattle.markdown_base.specs.declared.tag.TagEnd.{TagEnd}
 use Rattle.markdown_defs.specs.Allocations.{Allocated}
 use Rattle.markdown_document.specs.Document.{Origin, Shape, leaf, enclosed, plain, backslash_break, unresolved}
 use Rattle.markdown_document.specs.Document.{shape_of}
-use Rattle.markdown_document.specs.Places.{HasSlices}
+use Rattle.markdown_document.specs.Places.{ComesFromPlace}
 use Rattle.markdown_inline.specs.Elements.{Placed, Reading, event}
 use Rattle.markdown_document.specs.Setting.{Rules, Setting, Known, setting_of}
 use Rattle.markdown_inline.specs.Slices.{slice_start, texts_of, AreFrom, StartIsFrom}
@@ -40,8 +40,8 @@ beginning (unresolved b) = None
 pub record OpensWith (source : List ℕ) (range : Range ℕ) (shape : Shape) (e : Event) : Type 0 where
   pub origins : List Origin
   pub begins : beginning shape ≡ Some (event_view e, origins)
-  pub texts : AreFrom source (slice_start e range.start) range.end origins (texts_of e)
-  pub start : StartIsFrom source range.end e
+  pub texts : AreFrom source (slice_start source e range.start) range.end origins (texts_of e)
+  pub start : StartIsFrom source range.start range.end e
 
 -- how a walk moves at a tree of this shape
 abbrev pub way_at_shape : Shape → Way
@@ -59,7 +59,7 @@ way_at b = way_at_shape (shape_of no_tables [] b)
 pub record CanBegin (source : List ℕ) (tables : Tables) (item : Item) : Type 0 where
   pub lies : LiesIn source item
   pub named : NamesEntries tables item.body
-  pub slices : HasSlices source tables item.end item.body
+  pub slices : ComesFromPlace source tables item
 
 -- a tree with this body at its root ends with this End, or without one
 abbrev pub ClosesTo : ItemBody → Option TagEnd → Type 0
@@ -103,8 +103,8 @@ pub record Went (source : List ℕ) (s t : Arena Item) (held held' : Allocated) 
 pub record Gives (source : List ℕ) (s t : Arena Item) (held held' : Allocated) (e : Event) (range : Range ℕ) : Type 0
   where
     pub origins : List Origin
-    pub texts : AreFrom source (slice_start e range.start) range.end origins (texts_of e)
-    pub start : StartIsFrom source range.end e
+    pub texts : AreFrom source (slice_start source e range.start) range.end origins (texts_of e)
+    pub start : StartIsFrom source range.start range.end e
     pub went : Went source s t held held' ((event_view e, range, origins) ∷ [])
 
 -- a step went past the beginning of an item, whose event is not made yet: the event is given once it is made, whatever

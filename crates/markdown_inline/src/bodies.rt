@@ -5,7 +5,7 @@ ghost use Rattle.markdown_base.specs.CowText.{text_of};
 ghost use Rattle.markdown_base.specs.Item.{LiesIn, range_of};
 ghost use Rattle.markdown_defs.specs.Allocations.{HasLink, LeavesEmptyLink};
 ghost use Rattle.markdown_document.specs.Document.{container_of, enclosed, math, shape_of};
-ghost use Rattle.markdown_document.specs.Places.{HasSliceLink, HasSlices};
+ghost use Rattle.markdown_document.specs.Places.{HasSliceLink, HasSlices, origin_start};
 ghost use Rattle.markdown_document.specs.Tables.{NamesEntries, link_at, tables_of};
 ghost use Rattle.markdown_inline.specs.Slices.{TagIsFrom, slice_start, texts_of};
 ghost use Rattle.markdown_inline.specs.WalkSteps.{CanBegin, ClosesTo, OpensWith, TakesOnly, way_at};
@@ -102,8 +102,9 @@ pub fn start_tag<'a>(
     requires named { NamesEntries (tables_of tables.old) body }
     ensures tag { (over : List ℕ) → IfOk result (λ tag. shape_of (tables_of tables.old) over body
         ≡ enclosed (tag_view tag)) }
-    ensures from { (source : List ℕ) (end : ℕ) → HasSlices source (tables_of tables.old) end body
-        → IfOk result (TagIsFrom source end) }
+    ensures from { (source : List ℕ) (start end : ℕ)
+        → HasSlices source (tables_of tables.old) start end body
+        → IfOk result (TagIsFrom source start end) }
     ensures taken { IfOk result (λ _. TakesOnly body tables.old tables.new) }
     ensures refused { OnErr result (tables.new ≡ tables.old) }
 {
@@ -123,7 +124,7 @@ pub fn start_tag<'a>(
 /// Returns the tag of a container that refers to nothing; for any other body, `Tag::Paragraph`.
 fn container_tag<'a>(body: ItemBody) -> Tag<'a>
     ensures tag { IfSome (container_of body) (λ tag. tag_view result ≡ tag) }
-    ensures from { (source : List ℕ) (end : ℕ) → TagIsFrom source end result }
+    ensures from { (source : List ℕ) (start end : ℕ) → TagIsFrom source start end result }
 {
     match body {
         ItemBody::BlockQuote(kind) => Tag::BlockQuote(kind),
@@ -161,7 +162,8 @@ fn slice_of<'a>(text: &'a str, item: Item) -> CowStr<'a>
 fn math_event<'a>(display: bool, text: CowStr<'a>) -> Event<'a>
     ensures event { event_view result ≡ math display (text_of text.entry) }
     ensures text { texts_of result ≡ text.entry ∷ [] }
-    ensures from { (start : ℕ) → slice_start result start ≡ 0 }
+    ensures from { (source : List ℕ) (start : ℕ)
+        → slice_start source result start ≡ origin_start source start }
 {
     if display {
         Event::DisplayMath(text)
@@ -174,8 +176,9 @@ fn math_event<'a>(display: bool, text: CowStr<'a>) -> Event<'a>
 fn link_tag<'a>(tables: &mut Allocations<'a>, ix: LinkIndex) -> Tag<'a>
     requires { HasLink tables.old ix }
     ensures tag { tag_view result ≡ link (link_at tables.old.links ix.0) }
-    ensures from { (source : List ℕ) (end : ℕ) → HasSliceLink source (tables_of tables.old) end ix.0
-        → TagIsFrom source end result }
+    ensures from { (source : List ℕ) (start end : ℕ)
+        → HasSliceLink source (tables_of tables.old) start end ix.0
+        → TagIsFrom source start end result }
     ensures left { LeavesEmptyLink tables.old tables.new ix }
 {
     let (link_type, dest_url, title, id) = tables.take_link(ix);
@@ -191,8 +194,9 @@ fn link_tag<'a>(tables: &mut Allocations<'a>, ix: LinkIndex) -> Tag<'a>
 fn image_tag<'a>(tables: &mut Allocations<'a>, ix: LinkIndex) -> Tag<'a>
     requires { HasLink tables.old ix }
     ensures tag { tag_view result ≡ image (link_at tables.old.links ix.0) }
-    ensures from { (source : List ℕ) (end : ℕ) → HasSliceLink source (tables_of tables.old) end ix.0
-        → TagIsFrom source end result }
+    ensures from { (source : List ℕ) (start end : ℕ)
+        → HasSliceLink source (tables_of tables.old) start end ix.0
+        → TagIsFrom source start end result }
     ensures left { LeavesEmptyLink tables.old tables.new ix }
 {
     let (link_type, dest_url, title, id) = tables.take_link(ix);

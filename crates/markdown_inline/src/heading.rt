@@ -26,7 +26,7 @@ pub fn heading_start<'a>(
     requires { IfSome named (HasHeading tables.now) }
     ensures tag { IfOk result (λ tag. tag_view tag
         ≡ heading (heading_with level (attributes_for tables.now.headings named))) }
-    ensures from { (source : List ℕ) (end : ℕ) → IfOk result (TagIsFrom source end) }
+    ensures from { (source : List ℕ) (start end : ℕ) → IfOk result (TagIsFrom source start end) }
 {
     match named {
         None => Ok(Tag::Heading {
@@ -47,7 +47,7 @@ fn heading_copy<'a>(
 ) -> Result<Tag<'a>, AllocError>
     ensures tag { IfOk result (λ tag. tag_view tag
         ≡ heading (heading_with level (attributes_view attributes.now))) }
-    ensures from { (source : List ℕ) (end : ℕ) → IfOk result (TagIsFrom source end) }
+    ensures from { (source : List ℕ) (start end : ℕ) → IfOk result (TagIsFrom source start end) }
 {
     let id = copy_of(alloc, &attributes.id)?;
     let classes = class_copies(alloc, &attributes.classes)?;

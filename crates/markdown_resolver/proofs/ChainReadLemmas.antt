@@ -27,6 +27,8 @@ use Rattle.markdown_resolver.proofs.ReadOnLemmas.{reads_on_all, reads_on_none, r
 use Rattle.markdown_resolver.proofs.StandsToLemmas.{above_changed, above_rest, stands_rest}
 use Rattle.markdown_defs.specs.Allocations.{Allocated}
 use Rattle.markdown_defs.specs.Footnotes.{footnote_at}
+use Rattle.markdown_resolver.specs.Kept.{IsUnread}
+use Rattle.markdown_document.specs.Places.{trees_from}
 
 -- the setting of a chain stays where its text, the options, the reference definitions, the names of its footnotes, and
 -- whether there is a callback stay
@@ -56,6 +58,7 @@ pub can_read_item : {place : ChainPlace} {tree : Arena Item} {held : Allocated} 
 can_read_item {place} {tree} {held} {brackets} {wikilinks} {first} {ix} {left} can = record {
   stands = can.stands;
   ready = stands_rest place.text.now (tables_of held) tree.nodes first (Some ix) left can.so_far;
+  unread = can.unread;
   above = above_rest place.text.now (tables_of held) tree.nodes first (Some ix) left tree.spine can.so_far can.above;
 }
 
@@ -68,14 +71,16 @@ pub record ReadsUpTo {C : Type 0} (step : C → Question → Option Answer → C
   pub none : AreSpent begun []
   pub reads : ReadsOn step s (above_cursor s.text old) first (Some first) at [] (stage old held limit callback)
       (stage now held' limit' callback') begun spent brackets wikilinks
+  pub unread : IsUnread (trees_from s.text (tables_of held') now.nodes at)
 
 -- none of it was read yet
 pub up_to_none : {C : Type 0} (step : C → Question → Option Answer → C → Type 0) (s : Setting) (first : ℕ) (old : Arena Item)
     (held : Allocated) (limit : ℕ) (callback : Option C) (spent : SpentEnds)
-    (brackets wikilinks : List Waiting) → CanResolve s.text (tables_of held) old.nodes (Some first) → AreSpent spent [] → brackets ≡ []
+    (brackets wikilinks : List Waiting) → CanResolve s.text (tables_of held) old.nodes (Some first)
+    → IsUnread (trees_from s.text (tables_of held) old.nodes (Some first)) → AreSpent spent [] → brackets ≡ []
     → wikilinks ≡ []
     → ReadsUpTo step s first (Some first) old old held held limit limit callback callback spent brackets wikilinks
-up_to_none step s first old held limit callback spent brackets wikilinks ready none no_brackets no_wikilinks =
+up_to_none step s first old held limit callback spent brackets wikilinks ready unread none no_brackets no_wikilinks =
     let at = stage old held limit callback in
     let above = above_cursor s.text old in
     record {
@@ -83,6 +88,7 @@ up_to_none step s first old held limit callback spent brackets wikilinks ready n
       begun = spent;
       none = none;
       reads = rw (no_brackets, no_wikilinks) (reads_on_none step s above first at spent ready);
+      unread = unread;
     }
 
 module _ {C : Type 0} {step : C → Question → Option Answer → C → Type 0} {s : Setting} {first : ℕ} {at : Option ℕ} {old now : Arena Item}
@@ -121,6 +127,7 @@ module _ {C : Type 0} {step : C → Question → Option Answer → C → Type 0}
         };
         above = rw text still_above;
         so_far = rw (text, ← is) r.reads.stands;
+        unread = rw (text, ← is) r.unread;
         openers = r.reads.held;
       }
 
@@ -130,8 +137,9 @@ module _ {C : Type 0} {step : C → Question → Option Answer → C → Type 0}
       → new ≡ record now { nodes = new.nodes }
       → ReadsOn step s' (above_cursor s'.text now) first (Some ix) next r.reads.left_then (stage now held' limit' callback')
       (stage new held'' limit'' callback'') spent spent'' brackets'' wikilinks''
+      → (IsUnread (trees_from s'.text (tables_of held') now.nodes (Some ix)) → IsUnread (trees_from s'.text (tables_of held'') new.nodes next))
       → ReadsUpTo step s first next old new held held'' limit limit'' callback callback'' spent'' brackets'' wikilinks''
-  up_to_more s' ix next new held'' limit'' callback'' spent'' brackets'' wikilinks'' same is e reads =
+  up_to_more s' ix next new held'' limit'' callback'' spent'' brackets'' wikilinks'' same is e reads unread =
       let before = stage old held limit callback in
       let between = stage now held' limit' callback' in
       let after = stage new held'' limit'' callback'' in
@@ -151,6 +159,8 @@ module _ {C : Type 0} {step : C → Question → Option Answer → C → Type 0}
         none = r.none;
         reads = reads_on_twice step s (above_cursor s.text old) first (Some first) at [] before between r.begun spent brackets wikilinks
             r.reads next after spent'' brackets'' wikilinks'' there;
+        unread = subst (λ (x : Setting). IsUnread (trees_from x.text (tables_of held'') new.nodes next)) same
+            (unread (rw (same, ← is) r.unread));
       }
 
   -- it was read to its end

@@ -7,7 +7,7 @@ use Rattle.std.proofs.Math.Path.{fun_ext}
 use Rattle.std.proofs.lemmas.List.{length-drop, length-take}
 use Rattle.std.specs.Prelude.{Result, Ok, Err, IfErr, IfOk, is_some, slice_range}
 use Rattle.std.specs.Str.{IsUtf8}
-use Rattle.markdown_base.specs.Arena.{Arena}
+use Rattle.markdown_base.specs.Arena.{Arena, sibling_of}
 use Rattle.markdown_base.specs.BlockTree.{item_at}
 use Rattle.markdown_base.specs.Questions.{Question, Answer}
 use Rattle.markdown_base.specs.WellFormed.{StandsOverMarkup}
@@ -56,6 +56,11 @@ use Rattle.markdown_resolver.proofs.StandsToLemmas.{stands_rest}
 use Rattle.markdown_resolver.proofs.WaitingOpenerLemmas.{StandsOpen, can_find, can_try, each_follows, each_open}
 use Rattle.markdown_defs.specs.Allocations.{Allocated}
 use Rattle.markdown_defs.specs.declared.footnotes.FootnoteDefs.{FootnoteDefs}
+use Rattle.markdown_resolver.proofs.UnreadLemmas.{unmade_after, unread_after, unread_past}
+use Rattle.markdown_resolver.specs.Kept.{IsUnread}
+use Rattle.markdown_document.specs.Places.{trees_from}
+use Rattle.markdown_document.specs.Waiting.{waits_for_pairing}
+use Rattle.markdown_base.specs.Item.{is_open}
 
 -- a prefix is that of the lines of a chain at a place
 pub record IsPrefixOf (place : ChainPlace) (prefix : ContainerPrefix) (tree : Arena Item) : Type 0 where
@@ -134,13 +139,13 @@ pub may_close : {C : Type 0} (step : C → Question → Option Answer → C → 
     (tables : Tables) (nodes : List (Node Item)) (first ix : ℕ) (left : List (Entry ℕ))
     (could_be : Bool) (limit limit' : ℕ) (uses uses' : List ℕ → ℕ) (spent spent' : SpentEnds) (callback callback' : Option C)
     (brackets wikilinks : List Waiting) (found : ClosedBracket)
-    → IsUtf8 source → StandsTo source tables nodes first (Some ix) left → (item_at nodes ix).body ≡ body.MaybeLinkClose could_be
-    → (d : Decides step (around (setting_of source rules) above) (closing_at source tables nodes spent could_be ix) left limit limit' uses
+    → IsUtf8 source → StandsTo source tables nodes first (Some ix) left → IsUnread (trees_from source tables nodes (Some ix))
+    → (item_at nodes ix).body ≡ body.MaybeLinkClose could_be → (d : Decides step (around (setting_of source rules) above) (closing_at source tables nodes spent could_be ix) left limit limit' uses
     uses' spent spent' callback callback' brackets wikilinks found)
     → MayClose source tables nodes first ix (around (setting_of source rules) above) (closing_at source tables nodes spent could_be ix)
     d.left_then d.becomes
 may_close step source rules above tables nodes first ix left could_be limit limit' uses uses' spent spent' callback callback' brackets
-    wikilinks found utf8 h is d =
+    wikilinks found utf8 h unread is d =
     let w = around (setting_of source rules) above in
     let c = closing_at source tables nodes spent could_be ix in
     let p : Progress ℕ = record {
@@ -177,6 +182,8 @@ may_close step source rules above tables nodes first ix left could_be limit limi
         label_is = refl;
         rest_is = refl;
         text_is = refl;
+        unmade = unmade_after source tables nodes ix (stands_rest source tables nodes first (Some ix) left h) (ap is_open is)
+            (ap waits_for_pairing is) unread;
         splits = d.splits;
         ends = ends_well source tables nodes first ix left w c p d.becomes q h refl refl refl utf8 refl decides;
       };
@@ -213,6 +220,23 @@ decides_here step place prefix tree options inside held held' limit limit' spent
     }
 decides_here step place prefix tree options inside held held' limit limit' spent spent' callback callback' openers openers' ix
     could_be (Err fault) view options_are prefix_is_its is decides = tt
+
+-- what is left after a `]` was not read
+unread_closed : (source : List ℕ) (tables tables' : Tables) (old new : List (Node Item)) (first closer : ℕ) (next : Option ℕ)
+    (left : List (Entry ℕ)) (w : Around) (c : Closing ℕ) (becomes : Becomes ℕ) → CanResolve source tables old (Some closer)
+    → PutsClosed source first closer next left w c becomes old new tables tables'
+    → IsUnread (trees_from source tables old (Some closer)) → IsUnread (trees_from source tables' new next)
+unread_closed source tables tables' old new first closer next left w c becomes ready puts h =
+    let p : Progress ℕ = record {
+      left = left;
+      goes_on = None;
+      spent = [];
+      asked = [];
+      known = record { limit = 0; answers = []; uses = λ n. 0 };
+      made = 0;
+    } in
+    rw (puts.rest_is p refl) (unread_past (put w c becomes p).goes_on (trees_from source tables old (sibling_of old closer))
+    (unread_after source tables old closer ready h))
 
 -- a resolver has decided what a `]` becomes
 module _ {C : Type 0} (step : C → Question → Option Answer → C → Type 0) (place : ChainPlace) (tree : Arena Item) (old : Resolver C)
@@ -252,7 +276,7 @@ module _ {C : Type 0} (step : C → Question → Option Answer → C → Type 0)
       may_close step old.text.now (rules_from old.options old.tables (is_some old.callback)) (above_cursor old.text.now tree)
       (tables_of old.tables) tree.nodes first ix left could_be old.limit mid.limit (uses_of old.tables.footdefs)
       (uses_of mid.tables.footdefs) old.spent mid.spent old.callback mid.callback mid.openers.brackets mid.openers.wikilinks found utf8
-      (here_stands first left was_read) is (decides.decides first left was_read)
+      (here_stands first left was_read) (rw (← can.text) was_read.unread) is (decides.decides first left was_read)
 
   closes_there : (first : ℕ) (left : List (Entry ℕ)) (was_read : WasReadTo place tree old first ix left)
       → (let d = decides.decides first left was_read in
@@ -333,6 +357,10 @@ module _ {C : Type 0} (step : C → Question → Option Answer → C → Type 0)
                       d.wikilinks_are e;
                 }));
             fewer = here.fewer;
+            unread = λ h. unread_closed old.text.now (tables_of old.tables) (tables_of held) tree.nodes tree'.nodes can.first ix next
+                (decides.decides can.first can.left can.was_read).left_then around_here closing_here
+                (decides.decides can.first can.left can.was_read).becomes (stands_rest old.text.now (tables_of old.tables) tree.nodes
+                can.first (Some ix) can.left (here_stands can.first can.left can.was_read)) here h;
             place_is = place_is;
           };
           holds = here.holds;

@@ -39,6 +39,7 @@ use Rattle.markdown_resolver.proofs.OverTreesLemmas.{over_trees}
 use Rattle.markdown_resolver.proofs.PutLemmas.{as_many, few_past_byte}
 use Rattle.markdown_resolver.proofs.StandsToLemmas.{stands_at_opener, stands_rest}
 use Rattle.markdown_resolver.proofs.SplitLemmas.{InsideOf, inside_numbers, inside_of, opens_numbered}
+use Rattle.markdown_resolver.proofs.UnreadLemmas.{first_cut}
 
 -- an opener of a left list in an arena, with what is inside and a `]` after that
 pub record OpenerAt (source : List ℕ) (tables : Tables) (nodes : List (Node Item)) (first closer : ℕ) (o : Split ℕ) : Type 0 where
@@ -109,8 +110,9 @@ can_close source tables nodes first closer left w c becomes o byte closes at can
   closer_no_run = ap run_character closes.closes.1;
   closer_ends = subst (λ (a : Label ℕ). end_of a ≤ byte) closes.label_is can.behind;
   boundary = can.between;
-  between = λ next. none_open source tables nodes byte next (forest_at (links_of nodes) (sibling_of nodes closer))
-      (subst (NoneOpenAround byte) closes.rest_is can.none_around);
+  between = λ next first before. first_cut source tables nodes byte next (forest_at (links_of nodes) (sibling_of nodes closer))
+      closes.unmade first (none_open source tables nodes byte next (forest_at (links_of nodes) (sibling_of nodes closer))
+      (subst (NoneOpenAround byte) closes.rest_is can.none_around) first before);
 }
 
 -- the opener ends where the `]` starts at the latest

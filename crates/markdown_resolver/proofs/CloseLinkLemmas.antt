@@ -26,7 +26,6 @@ use Rattle.markdown_document.specs.Origins.{made, origin_of}
 use Rattle.markdown_document.specs.Tables.{Named, Tables, link_at, link_view, number_of, size_for, some_alignments, some_link, some_text}
 use Rattle.markdown_document.specs.Tables.{link_origins, tables_of}
 use Rattle.markdown_document.specs.Totals.{times_named}
-use Rattle.markdown_brackets.proofs.TailTitleLemmas.{title_wider}
 use Rattle.markdown_resolver.specs.ClosedOver.{CanClose, CanPutOver, PutsOver, over_inside}
 use Rattle.markdown_resolver.specs.Closes.{ClosesAt, PutsClosed}
 use Rattle.markdown_resolver.specs.PutsTrees.{numbered_label, without_numbers}
@@ -82,7 +81,7 @@ made_link source start end origins view other title = record { leads = λ slice.
 
 -- it can be put in place, where it lies in the text
 pub can_put_link : (source : List ℕ) (tables tables' : Tables) (is_image : Bool) (number : LinkIndex) (view : LinkView) (start end : ℕ)
-    → PutsLink source end tables tables' number view
+    → PutsLink source start end tables tables' number view
     → start ≤ end → IsCharBoundary source start → IsCharBoundary source end
     → CanPut source tables tables' (link_over is_image number start end)
 can_put_link source tables tables' true number view start end put ordered from to = record {
@@ -131,7 +130,7 @@ link_label source tables tag false number view start start' end e found = rw (e,
 pub linked_label : (source : List ℕ) (tables tables' : Tables) (nodes : List (Node Item)) (o : Split ℕ) (number : LinkIndex)
     (view : LinkView) (end : ℕ)
     → o.opener ≡ numbered_label source tables nodes o.opener.tag
-    → PutsLink source end tables tables' number view
+    → PutsLink source (item_at nodes o.opener.tag).start end tables tables' number view
     → label_of source tables' (link_from nodes (opener_of o) number end) ≡ record { tag = tt; part = (linked o view end).part }
 linked_label source tables tables' nodes o number view end is put =
     link_label source tables' o.opener.tag o.mark.is_image number view (item_at nodes o.opener.tag).start (start_of o.opener) end
@@ -140,7 +139,8 @@ linked_label source tables tables' nodes o number view end is put =
 -- a link that ends between characters, at the `]` or later
 pub link_over_opener : (source : List ℕ) (tables tables' : Tables) (nodes : List (Node Item)) (first closer : ℕ) (o : Split ℕ)
     (number : LinkIndex) (view : LinkView) (end byte : ℕ)
-    → OpenerAt source tables nodes first closer o → PutsLink source end tables tables' number view
+    → OpenerAt source tables nodes first closer o
+    → PutsLink source (item_at nodes o.opener.tag).start end tables tables' number view
     → IsCharBoundary source end
     → (item_at nodes closer).end ≤ end → end ≤ byte
     → CanPutOver source tables tables' nodes o.opener.tag (link_from nodes (opener_of o) number end) byte
@@ -160,7 +160,7 @@ link_over_opener source tables tables' nodes first closer o number view end byte
 -- it can be put in place of an opener, up to a byte offset, once its entry is in its table
 pub record MayLink (source : List ℕ) (tables tables' : Tables) (nodes : List (Node Item)) (closer : ℕ) (o : Split ℕ) (opener : Opener)
     (number : LinkIndex) (view : LinkView) (end byte : ℕ) (item : Item) : Type 0 where
-  pub put : PutsLink source end tables tables' number view
+  pub put : PutsLink source (item_at nodes o.opener.tag).start end tables tables' number view
   pub is : item ≡ link_from nodes opener number end
   pub close : CanClose source tables nodes opener.node closer (inside_numbers o) byte
   pub over : CanPutOver source tables tables' nodes opener.node item byte
@@ -177,9 +177,10 @@ may_link {source} {nodes} {first} {closer} {left} {w} {c} {o} {opener} {view} {e
     let tables = tables_of held in
     let tables' = tables_of held' in
     let at = opener_at source tables nodes first closer left o closes.stands closes.splits in
-    let wide = title_wider source (start_of o.opener) end 0 end view.kind (origin_of parts.2) view.title (omega arith) (omega arith) title in
-    let there = link_put source end held held' parts number view put last
-    (made_link source 0 end (link_origins parts) view closes.ends.4 wide) same in
+    let begins_there : start_of o.opener ≡ (item_at nodes o.opener.tag).start = ap (λ (a : Label ℕ). start_of a) at.around.label_is in
+    let there = link_put source (item_at nodes o.opener.tag).start end held held' parts number view put last
+    (made_link source (item_at nodes o.opener.tag).start end (link_origins parts) view closes.ends.4
+    (subst (λ (start : ℕ). IsTitleFrom source start end view.kind (origin_of parts.2) view.title) begins_there title)) same in
     let behind : (item_at nodes closer).end ≤ end = subst (λ (a : Label ℕ). end_of a ≤ end) closes.label_is closes.ends.2 in
     let item : item_over begin.start end b ≡ link_from nodes opener number end = link_item nodes opener number end begin b begins body_is in
     record {

@@ -17,7 +17,7 @@ use Rattle.markdown_brackets.specs.BracketDecision.{Around, Becomes, Closing, Wi
 use Rattle.markdown_brackets.specs.BracketDecision.{text_from}
 use Rattle.markdown_brackets.specs.ChainHeld.{link_to, numbers_of}
 use Rattle.markdown_brackets.specs.ClosingBracket.{linked, wikilink_target}
-use Rattle.markdown_brackets.specs.DecisionView.{IsBecome, first_shown, opener_of, shown_of}
+use Rattle.markdown_brackets.specs.DecisionView.{IsBecome, first_shown, opener_of, shown_of, IsShownAfterPipe}
 use Rattle.markdown_brackets.specs.LeftList.{Entry, Split, before_wikilink, inside}
 use Rattle.markdown_brackets.specs.declared.closing_bracket.ClosedBracket.TheVariants.{Wikilinked}
 use Rattle.markdown_brackets.specs.declared.openers.Opener.{Opener}
@@ -31,7 +31,7 @@ use Rattle.markdown_document.specs.Tables.{Tables, link_origins, link_view, tabl
 use Rattle.markdown_document.specs.Waiting.{is_quiet}
 use Rattle.markdown_defs.specs.Allocations.{Allocated, LinkParts, with_link}
 use Rattle.markdown_resolver.specs.ClosedOver.{CanClose, CanPutOver, CanShow, PutsOver, first_trees, over_shown, over_text, trees_past}
-use Rattle.markdown_resolver.specs.Closes.{ClosesAt, FirstLies, NoneOpenAround, PutsClosed}
+use Rattle.markdown_resolver.specs.Closes.{ClosesAt, FirstLies, NoneOpenAround, PutsClosed, IsNamedIn}
 use Rattle.markdown_resolver.specs.Kept.{IsQuiet}
 use Rattle.markdown_resolver.specs.PutsTrees.{numbered_from, numbered_label, without_numbers}
 use Rattle.markdown_resolver.specs.Rewritten.{CanPut, first_past}
@@ -42,6 +42,9 @@ use Rattle.markdown_resolver.proofs.MarkupItemLemmas.{PutsLink, link_put}
 use Rattle.markdown_resolver.proofs.PutsTreesLemmas.{first_joined, relabelled_first}
 use Rattle.markdown_resolver.proofs.SplitLemmas.{inside_numbers}
 use Rattle.markdown_resolver.proofs.StandsToLemmas.{numbers_are, wikilink_stands}
+use Rattle.markdown_document.proofs.OriginLemmas.{slice_wider}
+use Rattle.markdown_document.specs.Places.{follows_pipe}
+use Rattle.markdown_resolver.proofs.FollowersLemmas.{InOrder, opens_chain}
 
 -- what becomes a wikilink
 pub record IsWikilink (w : Around) (becomes : Becomes ℕ) (opener : Opener) (name : List ℕ) (has_pothole : Bool) (shown : ShownNodes)
@@ -54,6 +57,7 @@ pub record IsWikilink (w : Around) (becomes : Becomes ℕ) (opener : Opener) (na
   pub pothole_is : has_pothole ≡ found.has_pothole
   pub shown_is : shown_of w (past_second (inside split)) shown ≡ found.children
   pub first_is : link_to found.children ≡ Some (first_shown shown)
+  pub piped : IsShownAfterPipe w.setting.text shown
 
 pub wikilink_is : (w : Around) (becomes : Becomes ℕ) (opener : Opener) (name : Bor (List ℕ)) (has_pothole : Bool) (shown : ShownNodes)
     (end : ℕ)
@@ -70,6 +74,7 @@ wikilink_is w (a_wikilink o v e) opener name has_pothole shown end h = record {
   pothole_is = h.2;
   shown_is = h.3;
   first_is = h.4;
+  piped = h.6;
 }
 
 -- what is left past a byte: without the numbers, and quiet
@@ -186,7 +191,7 @@ can_wikilink : (source : List ℕ) (tables tables' : Tables) (nodes : List (Node
     (w : Around) (c : Closing ℕ) (o : Split ℕ) (opener : Opener)
     (number : LinkIndex) (v : Wikilink ℕ) (end : ℕ) → ClosesAt source tables nodes first closer left w c (a_wikilink o v end)
     → opener ≡ opener_of o
-    → PutsLink source end tables tables' number (wikilink_target v)
+    → PutsLink source (item_at nodes o.opener.tag).start end tables tables' number (wikilink_target v)
     → CanWikilink source tables tables' nodes closer o opener number end
 can_wikilink source tables tables' nodes first closer left w c o opener number v end closes is put =
     let at = opener_at source tables nodes first closer left o closes.stands closes.splits in
@@ -203,12 +208,37 @@ target_is : (has_pothole : Bool) (name : List ℕ) (v : Wikilink ℕ) → has_po
 target_is has_pothole name v e e' = rw (e, e') refl
 
 -- the entry of a wikilink leads to its name in the source
-name_from : (source : List ℕ) (end : ℕ) (origins : LinkOrigins) (v : Wikilink ℕ) → origins.destination ≡ sliced
-    → IsSliceWithin source 0 end v.name → IsLinkFrom source 0 end origins (wikilink_target v)
-name_from source end origins v is slice = record {
+name_from : (source : List ℕ) (start end : ℕ) (origins : LinkOrigins) (v : Wikilink ℕ) → origins.destination ≡ sliced
+    → IsSliceWithin source start end v.name → IsLinkFrom source start end origins (wikilink_target v)
+name_from source start end origins v is slice = record {
   leads = λ e. record { destination = rw is slice; no_title = refl; no_label = refl };
   title = tt;
 }
+
+-- which is after its opener
+name_after : (source : List ℕ) (tables : Tables) (nodes : List (Node Item)) (start low end : ℕ) (f : Forest (Label ℕ)) (g : Forest ℕ)
+    (after : List ℕ) (name : List ℕ) → f ≡ relabelled (numbered_label source tables nodes) g → InOrder nodes low (roots g ++ after)
+    → start ≤ low → IsNamedIn source (past_second f) end name → IsSliceWithin source start end name
+name_after source tables nodes start low end f nil after name is order le h =
+    absurd (subst (λ (f : Forest (Label ℕ)). IsNamedIn source (past_second f) end name) is h)
+name_after source tables nodes start low end f (node b under nil) after name is order le h =
+    absurd (subst (λ (f : Forest (Label ℕ)). IsNamedIn source (past_second f) end name) is h)
+name_after source tables nodes start low end f (node b under (node n below later)) after name is order le h =
+    slice_wider source (item_at nodes n).start end start end name (omega (arith, le, order.0, order.1, order.2.0)) (omega arith)
+    (subst (λ (f : Forest (Label ℕ)). IsNamedIn source (past_second f) end name) is h)
+
+name_in_range : (source : List ℕ) (tables : Tables) (nodes : List (Node Item)) (first closer : ℕ) (o : Split ℕ) (end : ℕ) (name : List ℕ)
+    → OpenerAt source tables nodes first closer o → IsNamedIn source (past_second (inside o)) end name
+    → IsSliceWithin source (item_at nodes o.opener.tag).start end name
+name_in_range source tables nodes first closer o end name at h =
+    let chain = opens_chain source tables nodes o.opener.tag at.ready in
+    let i = inside_is source tables nodes first closer o at in
+    let behind = closer ∷ roots (forest_at (links_of nodes) (sibling_of nodes closer)) in
+    let order : InOrder nodes (item_at nodes o.opener.tag).end (roots i.numbers ++ behind) =
+    subst (λ (l : List ℕ). InOrder nodes (item_at nodes o.opener.tag).end (l ++ behind)) i.listed
+    (subst (InOrder nodes (item_at nodes o.opener.tag).end) at.around.follows chain.ordered) in
+    name_after source tables nodes (item_at nodes o.opener.tag).start (item_at nodes o.opener.tag).end end (inside o) i.numbers behind name
+    i.is order chain.placed.lies.ordered h
 
 -- its opener is a node
 pub opener_there : {source : List ℕ} {tables : Tables} {nodes : List (Node Item)} {first closer : ℕ} {left : List (Entry ℕ)} {w : Around}
@@ -229,12 +259,13 @@ pub record MayShow (source : List ℕ) (tables tables' : Tables) (nodes : List (
   pub is : becomes ≡ a_wikilink split found end
   pub opener_is : opener ≡ opener_of split
   pub closes : ClosesAt source tables nodes first closer left w c (a_wikilink split found end)
-  pub put : PutsLink source end tables tables' number (wikilink_target found)
+  pub put : PutsLink source (item_at nodes split.opener.tag).start end tables tables' number (wikilink_target found)
   pub item_is : item ≡ link_from nodes opener number end
   pub close : CanClose source tables nodes opener.node closer (inside_numbers split) end
   pub over : CanPutOver source tables tables' nodes opener.node item end
   pub shown_is : shown_of w (past_second (inside split)) shown ≡ found.children
   pub first_is : link_to found.children ≡ Some (first_shown shown)
+  pub piped : IsShownAfterPipe source shown
 
 pub may_show : {source : List ℕ} {nodes : List (Node Item)} {first closer : ℕ} {left : List (Entry ℕ)} {w : Around} {c : Closing ℕ}
     {becomes : Becomes ℕ} (held held' : Allocated) (opener : Opener) (name : Bor (List ℕ)) (has_pothole : Bool) (shown : ShownNodes)
@@ -256,8 +287,11 @@ may_show {source} {nodes} {first} {closer} {left} {w} {c} {becomes} held held' o
     let tables' = tables_of held' in
     let i = wikilink_is w becomes opener name has_pothole shown end h in
     let so = subst (ClosesAt source tables nodes first closer left w c) i.is closes in
-    let there = link_put source end held held' link number (wikilink_target i.found) put last
-    (name_from source end (link_origins link) i.found origin so.ends.2)
+    let start = (item_at nodes i.split.opener.tag).start in
+    let at = opener_at source tables nodes first closer left i.split so.stands so.splits in
+    let there = link_put source start end held held' link number (wikilink_target i.found) put last
+    (name_from source start end (link_origins link) i.found origin
+    (name_in_range source tables nodes first closer i.split end i.found.name at so.ends.2))
     (view ∙ target_is has_pothole name.now i.found i.pothole_is i.name_is) in
     let can = can_wikilink source tables tables' nodes first closer left w c i.split opener number i.found end so i.opener_is there in
     let item : item_over begin.start end b ≡ link_from nodes opener number end = link_item nodes opener number end begin b begins body_is in
@@ -273,6 +307,7 @@ may_show {source} {nodes} {first} {closer} {left} {w} {c} {becomes} held held' o
       over = subst (λ (i : Item). CanPutOver source tables tables' nodes opener.node i end) (sym item) can.over;
       shown_is = i.shown_is;
       first_is = i.first_is;
+      piped = subst (λ (text : List ℕ). IsShownAfterPipe text shown) closes.text_is i.piped;
     }
 
 -- its name, as a Text in the second node inside
@@ -337,7 +372,7 @@ by_name : (source : List ℕ) (tables tables' : Tables) (old new : List (Node It
     (left : List (Entry ℕ)) (w : Around) (c : Closing ℕ) (o : Split ℕ)
     (opener : Opener) (number : LinkIndex) (v : Wikilink ℕ) (end n from to : ℕ)
     → ClosesAt source tables old first closer left w c (a_wikilink o v end) → opener ≡ opener_of o
-    → PutsLink source end tables tables' number (wikilink_target v) → CanName source tables tables' w o v n from to
+    → PutsLink source (item_at old o.opener.tag).start end tables tables' number (wikilink_target v) → CanName source tables tables' w o v n from to
     → PutsOver source opener.node closer (inside_numbers o) (over_text source tables' (link_from old opener number end)
     (text_item_over from to)) end (opener.node ∷ []) next old new tables tables'
     → PutsClosed source first closer next left w c (a_wikilink o v end) old new tables tables'
@@ -397,14 +432,14 @@ begins_there source at a below after lies before =
 second_shows : (source : List ℕ) (tables : Tables) (nodes : List (Node Item)) (n from : ℕ) (f children : Forest (Label ℕ)) (g : Forest ℕ)
     → f ≡ relabelled (numbered_label source tables nodes) g
     → past_byte from (past_second f) ≡ children → link_to children ≡ Some n → FirstLies source children
-    → NoneOpenAround from (past_second f)
+    → NoneOpenAround from (past_second f) → follows_pipe source from ≡ true
     → (skipped : List ℕ) × CanShow source nodes (roots g) skipped n from × (past_byte from (trees_past (length skipped) f) ≡ children)
-second_shows source tables nodes n from f children nil is so e lies none_open_there =
+second_shows source tables nodes n from f children nil is so e lies none_open_there piped =
     let none : link_to (past_byte from (past_second (relabelled (numbered_label source tables nodes) nil)))
     ≡ Some n = ap (λ (x : Forest (Label ℕ)). link_to (past_byte from (past_second x))) (sym is)
     ∙ ap link_to so ∙ e in
     cc none
-second_shows source tables nodes n from f children (node b under g) is so e lies none_open_there =
+second_shows source tables nodes n from f children (node b under g) is so e lies none_open_there piped =
     let label = numbered_label source tables nodes in
     let rest : past_second f ≡ relabelled label g = ap past_second is in
     let left : past_byte from (relabelled label g) ≡ children = ap (past_byte from) (sym rest) ∙ so in
@@ -417,6 +452,7 @@ second_shows source tables nodes n from f children (node b under g) is so e lies
         inside_is = ap (λ (l : List ℕ). b ∷ l) shown.parts;
         boundary = begins_there source from (label n) shown.below shown.after here;
         ends_past = shown.ends_past;
+        piped = piped;
         not_cut = none_open source tables nodes from n g (subst (NoneOpenAround from) rest none_open_there) shown.first_is;
       },
       ap (λ (x : Forest (Label ℕ)). past_byte from (trees_past (suc (length shown.skipped)) x)) is ∙ shown.reads ∙ left,
@@ -432,13 +468,13 @@ shows_from_byte : (source : List ℕ) (tables : Tables) (nodes : List (Node Item
     (c : Closing ℕ) (o : Split ℕ) (v : Wikilink ℕ)
     (end n from : ℕ) → ClosesAt source tables nodes first closer left w c (a_wikilink o v end)
     → shown_of w (past_second (inside o)) (From n from) ≡ v.children → link_to v.children ≡ Some n
-    → ShowsFrom source nodes o v n from
-shows_from_byte source tables nodes first closer left w c o v end n from closes so e =
+    → follows_pipe source from ≡ true → ShowsFrom source nodes o v n from
+shows_from_byte source tables nodes first closer left w c o v end n from closes so e piped =
     let at = opener_at source tables nodes first closer left o closes.stands closes.splits in
     let i = inside_is source tables nodes first closer o at in
     let is : past_byte from (past_second (inside o)) ≡ v.children = sym (is_past w (past_second (inside o)) n from) ∙ so in
     let well = closes.ends.1 in
-    let s = second_shows source tables nodes n from (inside o) v.children i.numbers i.is is e well.lies (well.not_cut from is) in
+    let s = second_shows source tables nodes n from (inside o) v.children i.numbers i.is is e well.lies (well.not_cut from is) piped in
     let k = length s.0 in
     record {
       skipped = s.0;
@@ -456,12 +492,13 @@ shows_over {source} {tables} {tables'} {nodes} {first} {closer} {left} {w} {c} {
     shows_from_byte source tables nodes first closer left w c r.split r.found end n from r.closes
     (subst (λ (s : ShownNodes). shown_of w (past_second (inside r.split)) s ≡ r.found.children) is r.shown_is) (r.first_is
     ∙ ap (λ (s : ShownNodes). Some (first_shown s)) is)
+    (subst (IsShownAfterPipe source) is r.piped)
 
 by_shown : (source : List ℕ) (tables tables' : Tables) (old new : List (Node Item)) (first closer : ℕ) (next : Option ℕ)
     (left : List (Entry ℕ)) (w : Around) (c : Closing ℕ) (o : Split ℕ)
     (opener : Opener) (number : LinkIndex) (v : Wikilink ℕ) (end n from : ℕ)
     → ClosesAt source tables old first closer left w c (a_wikilink o v end) → opener ≡ opener_of o
-    → PutsLink source end tables tables' number (wikilink_target v) → (s : ShowsFrom source old o v n from)
+    → PutsLink source (item_at old o.opener.tag).start end tables tables' number (wikilink_target v) → (s : ShowsFrom source old o v n from)
     → PutsOver source opener.node closer (inside_numbers o) (over_shown source tables' (link_from old opener number end) (length s.skipped)
     from) end (opener.node ∷ []) next old new tables tables'
     → PutsClosed source first closer next left w c (a_wikilink o v end) old new tables tables'

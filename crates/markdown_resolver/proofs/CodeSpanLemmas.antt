@@ -304,8 +304,8 @@ can_put_code source tables tables' nodes ix x count escaped cow origin ready is 
                 = there.lies.end;
           };
           named = record { text = puts.within; link = tt; alignments = tt; attributes = tt };
-          slices = sliced_wider source (item_at nodes ix).end (item_at nodes x).start 0 (item_at nodes x).end
-              (origin_at tables'.cows cow.0) (text_at tables'.cows cow.0) (omega arith) there.lies.ordered puts.slice;
+          slices = sliced_wider source (item_at nodes ix).end (item_at nodes x).start (item_at nodes ix).start (item_at nodes x).end
+              (origin_at tables'.cows cow.0) (text_at tables'.cows cow.0) o.placed.lies.ordered there.lies.ordered puts.slice;
           new_names = λ n old. code_names tables cow n puts.number old;
         }
     by true e two =
@@ -330,8 +330,8 @@ can_put_code source tables tables' nodes ix x count escaped cow origin ready is 
             no_block = refl;
             lies = record { ordered = omega (arith, byte.0, there.behind, there.lies.ordered); start = byte.1; end = there.lies.end };
             named = record { text = puts.within; link = tt; alignments = tt; attributes = tt };
-            slices = sliced_wider source item.end (item_at nodes x).start 0 (item_at nodes x).end
-                (origin_at tables'.cows cow.0) (text_at tables'.cows cow.0) (omega arith) there.lies.ordered puts.slice;
+            slices = sliced_wider source item.end (item_at nodes x).start (item.start + 1) (item_at nodes x).end
+                (origin_at tables'.cows cow.0) (text_at tables'.cows cow.0) (omega (arith, byte.0)) there.lies.ordered puts.slice;
             new_names = λ n old. code_names tables cow n puts.number old;
           };
           names_nothing = text_names;

@@ -16,7 +16,7 @@ use Rattle.markdown_base.specs.declared.node.Node.{Node}
 use Rattle.markdown_base.proofs.ArenaForestLemmas.{opens}
 use Rattle.markdown_document.specs.Document.{label_of}
 use Rattle.markdown_document.specs.ItemRules.{ComesBefore}
-use Rattle.markdown_document.specs.Places.{HasSlices, IsSameAt, IsPlaced, label_at, trees_from}
+use Rattle.markdown_document.specs.Places.{HasSlices, IsSameAt, IsPlaced, label_at, trees_from, ComesFromPlace, origin_start}
 use Rattle.markdown_document.specs.Stages.{times_in, named_in, weight_in}
 use Rattle.markdown_document.specs.Tables.{Tables, Named, number_of, size_for, NamesEntries, IsNoShorter, HasGrown}
 use Rattle.markdown_document.specs.Totals.{total, same, naming, times_named, weight_at}
@@ -137,7 +137,7 @@ pub record HeadWritten (source : List ℕ) (ix : ℕ) (nodes nodes' : List (Node
   pub grown : HasGrown tables tables'
   pub lies : LiesIn source (item_at nodes' ix)
   pub entries : NamesEntries tables' (item_at nodes' ix).body
-  pub slices : HasSlices source tables' (item_at nodes' ix).end (item_at nodes' ix).body
+  pub slices : ComesFromPlace source tables' (item_at nodes' ix)
   pub markup : MarkupIsThere source (item_at nodes' ix)
   pub childless : is_open (item_at nodes' ix).body ≡ true → child_of nodes' ix ≡ None
   pub named : (n : Named) → number_of n < size_for tables n → naming nodes' n ix ≤ naming nodes n ix
@@ -292,7 +292,8 @@ module _ (source : List ℕ) (ix : ℕ) (old mid new : List (Node Item)) (tables
   head_placed follows goes_on = record {
     lies = rw head_stays.item h.lies;
     named = rw head_stays.item (entries-longer tables' later (item_at mid ix).body (grown-longer tables' later m.grown) h.entries);
-    slices = rw head_stays.item (slices-same source tables' later (item_at mid ix).end (item_at mid ix).body (λ n l. grown-same tables' later n m.grown
+    slices = rw head_stays.item (slices-same source tables' later (origin_start source (item_at mid ix).start) (item_at mid ix).end
+        (item_at mid ix).body (λ n l. grown-same tables' later n m.grown
         (named_within tables' (item_at mid ix).body n h.entries l)) h.slices);
     keeps = record {
       in_order = rw (head_stays.next, head_stays.item) follows;

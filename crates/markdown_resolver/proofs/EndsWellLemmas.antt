@@ -43,8 +43,8 @@ use Rattle.markdown_document.specs.Origins.{IsSliceWithin, made}
 use Rattle.markdown_document.specs.Tables.{Tables}
 use Rattle.markdown_defs.specs.Definitions as definitions
 use Rattle.markdown_defs.specs.Definitions.{Labelled}
-use Rattle.markdown_spans.proofs.SliceLemmas.{slice_wider}
-use Rattle.markdown_resolver.specs.Closes.{CanGoOn, EndsWell, ShowsWell}
+use Rattle.markdown_document.proofs.OriginLemmas.{slice_wider}
+use Rattle.markdown_resolver.specs.Closes.{CanGoOn, EndsWell, IsNamedIn, ShowsWell}
 use Rattle.markdown_resolver.specs.PutsTrees.{numbered_from, numbered_label}
 use Rattle.markdown_resolver.specs.ReadOn.{StandsTo}
 use Rattle.markdown_resolver.proofs.FollowersLemmas.{InOrder, opens_chain}
@@ -86,11 +86,17 @@ pub record MayGoOn (source : List ℕ) (w : Around) (c : Closing ℕ) : Type 0 w
   pub labelled : (i : ℕ) → closer_ends_at i c.rest ≡ true → CanGoOn source c i
   pub emptied : form_of w c ≡ collapsed → CanGoOn source c (end_of c.label + 2)
   pub doubled : (a : Label ℕ) (below after : Forest (Label ℕ)) → c.rest ≡ node a below after → CanGoOn source c (end_of a)
-  -- a wikilink of a body before it shows what can be shown, and its name is a slice of the source before the `]`
+  -- a wikilink of a body before it shows what can be shown, and its name is a slice of the source there
   pub shows : (f : Forest (Label ℕ)) (v : Wikilink ℕ) → AllLie source f → wikilink_in w f (start_of c.label) ≡ Some v
       → ShowsWell source f v.children
   pub names : (f : Forest (Label ℕ)) (v : Wikilink ℕ) → wikilink_in w f (start_of c.label) ≡ Some v
-      → IsSliceWithin source 0 (end_of c.label) v.name
+      → IsNamedIn source f (end_of c.label) v.name
+
+-- a name that ends before a byte offset ends before a later one
+named_later : (source : List ℕ) (f : Forest (Label ℕ)) (end end' : ℕ) (name : List ℕ) → end ≤ end' → IsNamedIn source f end name
+    → IsNamedIn source f end' name
+named_later source nil end end' name le h = h
+named_later source (node a below after) end end' name le h = slice_wider source (start_of a) end (start_of a) end' name (omega arith) le h
 
 -- what is written ends like this
 EndsSo : List ℕ → Closing ℕ → (end next : ℕ) → Type 0
@@ -236,7 +242,7 @@ module _ (source : List ℕ) (w : Around) (c : Closing ℕ) (may : MayGoOn sourc
 
   -- what a wikilink shows and its name
   abbrev Shows : Split ℕ → Wikilink ℕ → Type 0
-  Shows o v = ShowsWell source (past_second (inside o)) v.children × IsSliceWithin source 0 (end_of c.label) v.name
+  Shows o v = ShowsWell source (past_second (inside o)) v.children × IsNamedIn source (past_second (inside o)) (end_of c.label) v.name
 
   wikilink_well : (end : ℕ) (left : List (Entry ℕ)) (found : Option (Split ℕ)) (p : Progress ℕ) → CanGoOn source c end
       → AllLie source (trees_onto left nil)
@@ -247,7 +253,7 @@ module _ (source : List ℕ) (w : Around) (c : Closing ℕ) (may : MayGoOn sourc
       by : (v : Option (Wikilink ℕ)) → IfSome v (Shows o)
           → EndsWell source c (wikilink_or_one w c end o v p).becomes
       by None h = one_well (record p { left = wikilink_taken p.left })
-      by (Some v) h = (on, h.0, slice_wider source 0 (end_of c.label) 0 end v.name (omega arith) on.behind h.1)
+      by (Some v) h = (on, h.0, named_later source (past_second (inside o)) (end_of c.label) end v.name on.behind h.1)
 
       shown : (v : Option (Wikilink ℕ)) → wikilink_in w (past_second (inside o)) (start_of c.label) ≡ v
           → IfSome v (Shows o)
@@ -314,8 +320,8 @@ may_go_on source tables nodes w c f k starts ordered text utf8 = record {
       → ShowsWell bytes g v.children) text
       (λ u l b. shows_well w g (start_of c.label) v u l b e) utf8 lies starts;
   names = λ g v e.
-      slice_wider source 0 (start_of c.label) 0 (end_of c.label) v.name (omega arith) ordered
-      (subst (λ (bytes : List ℕ). IsSliceWithin bytes 0 (start_of c.label) v.name) text (names_slice w g (start_of c.label) v e));
+      named_later source g (start_of c.label) (end_of c.label) v.name ordered
+      (subst (λ (bytes : List ℕ). IsNamedIn bytes g (start_of c.label) v.name) text (names_slice w g (start_of c.label) v e));
 }
   where
     first_ends : (g : Forest ℕ) (a : Label ℕ) (below after : Forest (Label ℕ)) → StandsBehind source tables nodes c g

@@ -27,6 +27,7 @@ pub mod NodeChangeLemmas
 pub mod ComposeLemmas
 pub mod ChainOrderLemmas
 pub mod PastByteLemmas
+pub mod UnreadLemmas
 pub mod PutLemmas
 pub mod PutFoundLemmas
 pub mod PutPairLemmas

@@ -22,12 +22,13 @@ use Rattle.markdown_base.specs.declared.item.ItemBody.{ItemBody}
 use Rattle.markdown_base.specs.declared.node.Node.{Node}
 use Rattle.markdown_base.proofs.ArenaForestLemmas.{opens}
 use Rattle.markdown_document.specs.Origins.{IsSliceWithin}
-use Rattle.markdown_document.specs.Places.{IsPlaced}
+use Rattle.markdown_document.specs.Places.{IsPlaced, trees_from}
 use Rattle.markdown_document.specs.Tables.{Tables}
 use Rattle.markdown_spans.specs.AfterLess.{Markup, autolink, html_markup, declared_end, html_at, markup_at, unbroken}
 use Rattle.markdown_spans.specs.Autolink.{begins_scheme, closed_uri, uri_length, uri_autolink}
 use Rattle.markdown_spans.specs.Finds.{end_of_markup}
-use Rattle.markdown_spans.proofs.SliceLemmas.{slice_between, slice_wider}
+use Rattle.markdown_spans.proofs.SliceLemmas.{slice_between}
+use Rattle.markdown_document.proofs.OriginLemmas.{slice_wider}
 use Rattle.markdown_raw_html.specs.HtmlTag.{html_tag}
 use Rattle.markdown_raw_html.specs.LinePrefix.{prefix_after}
 use Rattle.markdown_raw_html.specs.RawHtml.{cdata_section, comment, declaration, end_from, processing_instruction}
@@ -39,6 +40,8 @@ use Rattle.markdown_raw_html.proofs.TagSourceLemmas.{Closes-html_tag}
 use Rattle.markdown_raw_html.proofs.TagTextLemmas.{source_after-more, source_after-nil, text_in-cons, text_in-source_after}
 use Rattle.markdown_resolver.specs.Chains.{CanResolve}
 use Rattle.markdown_resolver.specs.Rewritten.{IsFoundAt, first_past}
+use Rattle.markdown_resolver.proofs.UnreadLemmas.{first_cut, unmade_after}
+use Rattle.markdown_resolver.specs.Kept.{IsUnread}
 
 -- what begins at one byte offset of a text and ends at another has bytes, and `>` is the last
 pub record EndsClosed (text : List ℕ) (start end : ℕ) : Type 0 where
@@ -299,8 +302,9 @@ first_is source tables nodes end next (node ix below after) p e =
 
 -- the node of a `<`, at which something was found that ends with `>`
 pub found_at : (source : List ℕ) (tables : Tables) (nodes : List (Node Item)) (ix end : ℕ) → CanResolve source tables nodes (Some ix)
-    → (item_at nodes ix).body ≡ body.MaybeHtml → get_or source (end - 1) 0 ≡ 62 → IsFoundAt source tables nodes ix end
-found_at source tables nodes ix end ready is closed =
+    → IsUnread (trees_from source tables nodes (Some ix)) → (item_at nodes ix).body ≡ body.MaybeHtml → get_or source (end - 1) 0 ≡ 62
+    → IsFoundAt source tables nodes ix end
+found_at source tables nodes ix end ready unread is closed =
     let after = (opens (links_of nodes) (IsPlaced source tables nodes) ix ready.reaches).after in
     record {
       ready = ready;
@@ -308,5 +312,7 @@ found_at source tables nodes ix end ready is closed =
       no_run = rw is refl;
       between = λ next e starts.
           let found = first_is source tables nodes end next (forest_at (links_of nodes) (sibling_of nodes ix)) after.each e in
-          none_around source tables nodes next end found.0 closed starts found.1;
+          first_cut source tables nodes end next (forest_at (links_of nodes) (sibling_of nodes ix))
+          (unmade_after source tables nodes ix ready (rw is refl) (rw is refl) unread) e
+          (none_around source tables nodes next end found.0 closed starts found.1);
     }

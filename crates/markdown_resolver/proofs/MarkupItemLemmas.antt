@@ -131,29 +131,29 @@ from_pushed source start end (c ∷ links) link zero view e same h = cc e
 from_pushed source start end (c ∷ links) link (suc n) view e same h =
     from_pushed source start end links link n view (omega (arith, e)) same h
 
-pub record PutsLink (source : List ℕ) (end : ℕ) (tables tables' : Tables) (ix : LinkIndex) (link : LinkView) : Type 0 where
+pub record PutsLink (source : List ℕ) (start end : ℕ) (tables tables' : Tables) (ix : LinkIndex) (link : LinkView) : Type 0 where
   pub grown : HasGrown tables tables'
   pub found : link_at tables'.links ix.0 ≡ link
   pub within : ix.0 < length tables'.links
   pub number : ix.0 ≡ length tables.links
-  pub slices : HasSliceLink source tables' end ix.0
+  pub slices : HasSliceLink source tables' start end ix.0
 
-pub link_put : (source : List ℕ) (end : ℕ) (held held' : Allocated) (link : LinkParts) (number : LinkIndex) (view : LinkView)
+pub link_put : (source : List ℕ) (start end : ℕ) (held held' : Allocated) (link : LinkParts) (number : LinkIndex) (view : LinkView)
     → held' ≡ with_link held link → number.0 ≡ length held.links
-    → IsLinkFrom source 0 end (link_origins link) view → link_view link ≡ view
-    → PutsLink source end (tables_of held) (tables_of held') number view
-link_put source end held held' link number view put last from same = rw put (record {
+    → IsLinkFrom source start end (link_origins link) view → link_view link ≡ view
+    → PutsLink source start end (tables_of held) (tables_of held') number view
+link_put source start end held held' link number view put last from same = rw put (record {
   grown = record { more_cows = []; more_links = link ∷ []; grown = rw (append-nil held.cows) refl };
   found = link_pushed held.links link number.0 last ∙ same;
   within = omega (arith, last, length-append held.links (link ∷ []));
   number = last;
-  slices = from_pushed source 0 end held.links link number.0 view last same from;
+  slices = from_pushed source start end held.links link number.0 view last same from;
 })
 
 -- the entry of an autolink leads to its URI in the source
-pub address_from : (source : List ℕ) (end : ℕ) (title : Origin) (uri : List ℕ) → IsSliceWithin source 0 end uri
-    → IsLinkFrom source 0 end (record { destination = sliced; title = title }) (address uri)
-address_from source end title uri slice = record {
+pub address_from : (source : List ℕ) (start end : ℕ) (title : Origin) (uri : List ℕ) → IsSliceWithin source start end uri
+    → IsLinkFrom source start end (record { destination = sliced; title = title }) (address uri)
+address_from source start end title uri slice = record {
   leads = λ e. record { destination = slice; no_title = refl; no_label = refl };
   title = tt;
 }
@@ -197,7 +197,7 @@ can_put_owned source tables tables' number bytes nodes ix end put lies = record 
 
 -- an autolink, with its text below it
 pub can_put_autolink : (source : List ℕ) (tables tables' : Tables) (number : LinkIndex) (uri : List ℕ) (nodes : List (Node Item))
-    (ix end : ℕ) → PutsLink source end tables tables' number (address uri)
+    (ix end : ℕ) → PutsLink source (item_at nodes ix).start end tables tables' number (address uri)
     → LiesIn source (item_to nodes ix end (body.Text false)) → IsAddress source nodes ix end uri
     → CanPutParent source tables tables' nodes ix (item_to nodes ix end (body.Link number)) (address_to nodes ix end)
 can_put_autolink source tables tables' number uri nodes ix end put lies there = record {
@@ -249,7 +249,7 @@ owned_trees source rules tables tables' number bytes nodes ix end put =
     ap (λ (xs : List ℕ). markup_trees (setting_of source rules) tt (label_at source tables nodes ix) (html_markup end (Some xs))) put.found
 
 pub autolink_trees : (source : List ℕ) (rules : Rules) (tables tables' : Tables) (number : LinkIndex) (uri : List ℕ)
-    (nodes : List (Node Item)) (ix end : ℕ) → PutsLink source end tables tables' number (address uri)
+    (nodes : List (Node Item)) (ix end : ℕ) → PutsLink source (item_at nodes ix).start end tables tables' number (address uri)
     → ReadsFor source rules tables nodes ix (parent source tables' (item_to nodes ix end (body.Link number)) (address_to nodes ix end))
     (autolink end uri)
 autolink_trees source rules tables tables' number uri nodes ix end put = rw put.found refl

@@ -29,7 +29,8 @@ use Rattle.markdown_spans.specs.Finds.{prefix_below}
 use Rattle.markdown_spans.specs.PrefixView.{length_by}
 use Rattle.markdown_spans.specs.declared.prefixes.ContainerPrefix.{ContainerPrefix}
 use Rattle.markdown_spans.proofs.AfterLessLemmas.{closed_boundary}
-use Rattle.markdown_spans.proofs.SliceLemmas.{slice_of_slice, slice_wider}
+use Rattle.markdown_spans.proofs.SliceLemmas.{slice_of_slice}
+use Rattle.markdown_document.proofs.OriginLemmas.{slice_wider}
 use Rattle.markdown_defs.specs.Allocations.{Allocated}
 use Rattle.markdown_resolver.specs.ChainPlace.{CanReadItem, IsPlaceOf}
 use Rattle.markdown_resolver.specs.Chains.{CanResolve}
@@ -42,6 +43,7 @@ use Rattle.markdown_resolver.proofs.MarkupEndLemmas.{MarkupEnds, found_at, marku
 use Rattle.markdown_resolver.proofs.MarkupItemLemmas.{address_lies, boundary_before, closed_in, lies_at, lies_to, none_past_end}
 use Rattle.markdown_resolver.proofs.MarkupItemLemmas.{one_byte_long}
 use Rattle.markdown_resolver.proofs.ReadsItemLemmas.{ReadsAs, opener_unquiet, read_opener, reads_item}
+use Rattle.markdown_resolver.proofs.FollowersLemmas.{opens_chain}
 
 -- where nothing is found, a `<` is a Text
 settled_reads : (s : Setting) (above : Above) (tables : Tables) (nodes : List (Node Item)) (ix : ℕ)
@@ -227,7 +229,8 @@ has_address place tree held ix (autolink end uri) can ends = record {
       (record { after = ends.address.0; within = ends.ends.within; closed = ends.ends.closed });
   slice =
       let item = item_at tree.nodes ix in
-      slice_wider place.text.now (0 + item.end) (0 + end) 0 end uri (omega arith) (omega arith)
+      slice_wider place.text.now (0 + item.end) (0 + end) item.start end uri
+      (omega (arith, (opens_chain place.text.now (tables_of held) tree.nodes ix can.ready).placed.lies.ordered)) (omega arith)
       (slice_of_slice place.text.now 0 place.block_end item.end end uri
       (subst (λ (text : List ℕ). IsSliceWithin text item.end end uri) (sym (text_up_to place.text.now place.block_end))
       ends.address.1));
@@ -241,7 +244,7 @@ markup_stands place tree held ix prefix m is =
     let source = place.text.now in
     let end = end_of_markup m in
     record {
-      found = found_at source (tables_of held) tree.nodes ix end is.can.ready is.opener
+      found = found_at source (tables_of held) tree.nodes ix end is.can.ready is.can.unread is.opener
           (closed_in source place.block_end (item_at tree.nodes ix).start end at.ends);
       lies = lies_to source (tables_of held) tree.nodes ix place.block_end end is.can.ready is.can.stands.boundary at.ends.after
           (closed_boundary (take place.block_end source) end is.utf8 at.ends.within at.ends.closed);

@@ -342,14 +342,31 @@ pub record PutsMath (source : List ℕ) (tables tables' : Tables) (nodes : List 
   pub found : IsFoundAt source tables nodes ix item.end
   pub can : CanPut source tables tables' item
 
+-- the text of math starts after its opener's start
+text_later : (source : List ℕ) (tables : Tables) (nodes : List (Node Item)) (ix : ℕ) → OpenedChain source tables nodes ix
+    → (item_at nodes ix).start ≤ text_start nodes ix
+text_later source tables nodes ix o = by (followers nodes ix) o.ordered
+  where
+    by_second : (second : Bool) (x : ℕ) → (item_at nodes ix).end ≤ (item_at nodes x).start → (item_at nodes x).start ≤ (item_at nodes x).end
+        → (item_at nodes ix).start
+        ≤ option_map_or (λ second. (item_at nodes second).end) (if second then Some x else None) (item_at nodes ix).end
+    by_second true x after ordered = omega (arith, o.placed.lies.ordered, after, ordered)
+    by_second false x after ordered = o.placed.lies.ordered
+
+    by : (xs : List ℕ) → InOrder nodes (item_at nodes ix).end xs
+        → (item_at nodes ix).start
+        ≤ option_map_or (λ second. (item_at nodes second).end) (dollar_next (item_at nodes) xs) (item_at nodes ix).end
+    by [] ordered = o.placed.lies.ordered
+    by (x ∷ xs) ordered = by_second (is_dollar (item_at nodes x).body) x ordered.0 ordered.1
+
 pub puts_math : (source : List ℕ) (tables tables' : Tables) (nodes : List (Node Item)) (ix : ℕ) (m : FoundMath) (opener last : Item)
     (cow : CowIndex) (origin : Origin) (found : Option FoundMath) (start : ℕ) (closer : Item)
     → CanResolve source tables nodes (Some ix) → is_dollar (item_at nodes ix).body ≡ true → ClosesMath nodes ix found → found ≡ Some m
-    → opener ≡ item_at nodes ix → last ≡ item_at nodes m.last → closer ≡ item_at nodes m.closer
+    → opener ≡ item_at nodes ix → last ≡ item_at nodes m.last → closer ≡ item_at nodes m.closer → start ≡ text_start nodes ix
     → StoresText source start closer.start tables tables' cow origin
     → PutsMath source tables tables' nodes ix m cow (span_of opener last m cow)
 puts_math source tables tables' nodes ix m opener last cow origin found start closes_at ready dollar closed here opens ends closer_is
-    stored =
+    start_is_text stored =
     let is = (dollar_body (item_at nodes ix).body dollar).is in
     let o = opens_chain source tables nodes ix ready in
     let closes : ClosesMath nodes ix (Some m) = subst (ClosesMath nodes ix) here closed in
@@ -376,8 +393,8 @@ puts_math source tables tables' nodes ix m opener last cow origin found start cl
           end = last_placed.lies.end;
         };
         named = record { text = stored.within; link = tt; alignments = tt; attributes = tt };
-        slices = sliced_wider source start closes_at.start 0 (item_at nodes m.last).end
-            (origin_at tables'.cows cow.0) (text_at tables'.cows cow.0) (omega arith)
+        slices = sliced_wider source start closes_at.start (item_at nodes ix).start (item_at nodes m.last).end
+            (origin_at tables'.cows cow.0) (text_at tables'.cows cow.0) (rw start_is_text (text_later source tables nodes ix o))
             (rw closer_is (omega (arith, closer.lies.ordered, there.to_last))) stored.slice;
         new_names = λ n old. math_names tables cow m.display n stored.number old;
       });

@@ -1,22 +1,22 @@
 -- An item of a chain was read in place: what is true of a bracket, and of another item, is true of any.
 use Rattle.std.proofs.Common.{◌≡◌, ℕ, ◌^◌, ◌<◌, List, Option, Some, None, sym, ap, ◌∙◌, subst}
 use Rattle.std.specs.Prelude.{Result, Ok, Err, IfOk, is_some}
-use Rattle.markdown_base.specs.Arena.{Arena}
+use Rattle.markdown_base.specs.Arena.{Arena, sibling_of}
 use Rattle.markdown_base.specs.BlockTree.{item_at}
 use Rattle.markdown_base.specs.Questions.{Question, Answer}
 use Rattle.markdown_base.specs.declared.item.Item.{Item}
 use Rattle.markdown_brackets.specs.LeftList.{Entry}
-use Rattle.markdown_document.specs.Above.{above_cursor}
-use Rattle.markdown_document.specs.Setting.{uses_of}
+use Rattle.markdown_document.specs.Above.{above_cursor, Above}
+use Rattle.markdown_document.specs.Setting.{uses_of, Setting}
 use Rattle.markdown_document.specs.Stages.{Stage, items_from}
-use Rattle.markdown_document.specs.Tables.{tables_of}
+use Rattle.markdown_document.specs.Tables.{tables_of, Tables}
 use Rattle.markdown_spans.specs.SpanClosers.{HoldsFrom, Learned, has_failed}
 use Rattle.markdown_spans.specs.declared.span_text.SpanKind.{SpanKind}
 use Rattle.markdown_resolver.specs.BracketKinds.{kind_of}
 use Rattle.markdown_resolver.specs.ReadOn.{ReadsOn, StandsTo}
 use Rattle.markdown_resolver.specs.ReadsBracket.{CanReadNode, ChangesForBracket, ChangesForNode, ReadsBracket, ReadsNode}
 use Rattle.markdown_resolver.specs.ReadsBracket.{StopsLooking, WasReadTo, setting_by, stage_by}
-use Rattle.markdown_resolver.specs.ReadsItem.{LooksAt, ReadsItem}
+use Rattle.markdown_resolver.specs.ReadsItem.{LooksAt, ReadsItem, read_at}
 use Rattle.markdown_document.specs.declared.chain_place.ChainPlace.{ChainPlace}
 use Rattle.markdown_resolver.specs.declared.resolver.Resolver.{Resolver}
 use Rattle.markdown_resolver.proofs.ChainLeadsLemmas.{chain_leads, holds_next}
@@ -24,6 +24,11 @@ use Rattle.markdown_resolver.proofs.ItemOnLemmas.{reads_on_item}
 use Rattle.markdown_resolver.proofs.OpenerReadLemmas.{other_kind, ready_here}
 use Rattle.markdown_resolver.proofs.ReadingLemmas.{looks_at_none, stops_at_none}
 use Rattle.markdown_defs.specs.Footnotes.{footnote_at}
+use Rattle.markdown_resolver.proofs.UnreadLemmas.{unread_after, unread_past}
+use Rattle.markdown_resolver.specs.Kept.{IsUnread}
+use Rattle.markdown_resolver.specs.Chains.{CanResolve}
+use Rattle.markdown_document.specs.Places.{trees_from}
+use Rattle.markdown_base.specs.declared.node.Node.{Node}
 
 module _ {C : Type 0} {step : C → Question → Option Answer → C → Type 0} {place : ChainPlace} {ix : ℕ} {next : Option ℕ}
     {tree tree' : Arena Item} {old new : Resolver C} (can : CanReadNode place tree old ix) where
@@ -128,6 +133,19 @@ other_changes {C} {old} {new} kept = record {
   footnotes = λ name. ap (λ (r : Resolver C). is_some (footnote_at r.tables.footdefs name)) kept;
 }
 
+-- what is left after it was not read
+unread_read : (s : Setting) (above : Above) (ix : ℕ) (next : Option ℕ) (old new : List (Node Item)) (tables tables' : Tables)
+    → CanResolve s.text tables old (Some ix) → ReadsItem s above ix next old new tables tables'
+    → IsUnread (trees_from s.text tables old (Some ix)) → IsUnread (trees_from s.text tables' new next)
+unread_read s above ix next old new tables tables' ready reads h =
+    rw reads.puts.rest_is (unread_past (read_at s above tables old ix).goes_on (trees_from s.text tables old (sibling_of old ix))
+    (unread_after s.text tables old ix ready h))
+
+ready_before : {C : Type 0} {place : ChainPlace} {tree : Arena Item} {old : Resolver C} {ix : ℕ} (can : CanReadNode place tree old ix)
+    → CanResolve old.text.now (tables_of old.tables) tree.nodes (Some ix)
+ready_before {C} {place} {tree} {old} {ix} can = subst (λ (text : List ℕ). CanResolve text (tables_of old.tables) tree.nodes (Some ix)) can.text
+    (ready_here can.was_read)
+
 -- an item that is not a bracket was read, unless memory was refused
 pub other_read : {C E : Type 0} (r : Result (Option ℕ) E) (step : C → Question → Option Answer → C → Type 0) (place : ChainPlace)
     (ix : ℕ) (tree tree' : Arena Item) (old new : Resolver C) → CanReadNode place tree old ix
@@ -148,6 +166,8 @@ other_read (Ok next) step place ix tree tree' old new can kind kept reads code_l
       goes_on = record {
         reads = other_on step place ix next tree tree' old new can kind kept reads;
         fewer = reads.leaves.fewer;
+        unread = λ h. unread_read (setting_by old) (above_cursor old.text.now tree) ix next tree.nodes tree'.nodes (tables_of old.tables)
+            (tables_of new.tables) (ready_before can) reads h;
         place_is = place_is;
       };
       code_learned = code_learned;

@@ -176,17 +176,17 @@ text_closed tables source bytes b e = by_open (is_open b) refl
     by_open false o = o
 
 -- the node of an opener after it was settled
-record IsSettledAt (source : List ℕ) (tables : Tables) (old new : List (Node Item)) (first ix : ℕ) (next : Option ℕ) (left : List (Entry ℕ))
+pub record IsSettledAt (source : List ℕ) (tables : Tables) (old new : List (Node Item)) (first ix : ℕ) (next : Option ℕ) (left : List (Entry ℕ))
     : Type 0 where
   reads : retag (λ n. tt) (numbered_label source tables new ix) ≡ as_text source (label_at source tables old ix)
-  behind_is : PutsBehind source first next left (node (as_text source (label_at source tables old ix)) nil nil)
+  pub behind_is : PutsBehind source first next left (node (as_text source (label_at source tables old ix)) nil nil)
       (trees_from source tables old (sibling_of old ix)) old new tables tables
   stands : numbered_from source tables new (Some first)
       ≡ trees_onto left (node (numbered_label source tables new ix) nil (numbered_from source tables new next))
   childless : child_of new ix ≡ None
   within : ix < length new
 
-settled_at : (source : List ℕ) (tables : Tables) (old new : List (Node Item)) (first ix : ℕ) (next : Option ℕ) (left : List (Entry ℕ))
+pub settled_at : (source : List ℕ) (tables : Tables) (old new : List (Node Item)) (first ix : ℕ) (next : Option ℕ) (left : List (Entry ℕ))
     (is_image : Bool)
     → StandsTo source tables old first (Some ix) left → (item_at old ix).body ≡ opener_body is_image
     → Puts source ix (settled source) None next old new tables tables → IsSettledAt source tables old new first ix next left

@@ -26,11 +26,12 @@ use Rattle.markdown_resolver.specs.declared.bracket_kind.BracketKind.{BracketKin
 use Rattle.markdown_resolver.specs.declared.bracket_kind.BracketKind.TheVariants.{Opener, Closer}
 use Rattle.markdown_document.specs.declared.chain_place.ChainPlace.{ChainPlace}
 use Rattle.markdown_resolver.specs.declared.resolver.Resolver.{Resolver}
-use Rattle.markdown_resolver.proofs.OpenerOnLemmas.{reads_on_opener}
+use Rattle.markdown_resolver.proofs.OpenerOnLemmas.{reads_on_opener, settled_at}
 use Rattle.markdown_resolver.proofs.PassOneLemmas.{NoBracket, opener_body}
 use Rattle.markdown_resolver.proofs.ReadsItemLemmas.{holds_put}
 use Rattle.markdown_resolver.proofs.StandsToLemmas.{stands_rest}
 use Rattle.markdown_defs.specs.Allocations.{Allocated}
+use Rattle.markdown_resolver.proofs.UnreadLemmas.{unread_after}
 
 -- which bracket an item is
 opener_same : (a b : Bool) → ◌≡◌ {A = Option BracketKind} (Some (Opener a)) (Some (Opener b)) → a ≡ b
@@ -102,6 +103,14 @@ reads_opener step place ix is_image tree tree' old openers (Ok next) can kind pu
             was_read.openers (opener_kind is_image (item_at tree.nodes ix).body kind) (puts old.text.now (tables_of old.tables) here)
             brackets_are wikilinks_are;
         fewer = put.leaves.fewer;
+        unread = λ h.
+            let source = old.text.now in
+            let tables = tables_of old.tables in
+            let so_far : StandsTo source tables tree.nodes can.first (Some ix) can.left = rw (← can.text) can.was_read.so_far in
+            let here = stands_rest source tables tree.nodes can.first (Some ix) can.left so_far in
+            let settled_there = settled_at source tables tree.nodes tree'.nodes can.first ix next can.left is_image so_far
+            (opener_kind is_image (item_at tree.nodes ix).body kind) (puts source tables here) in
+            rw settled_there.behind_is.rest_is (unread_after source tables tree.nodes ix here h);
         place_is = place_is;
       };
       holds = λ kind learned. holds_put kind learned ready put;

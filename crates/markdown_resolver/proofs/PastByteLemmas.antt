@@ -23,7 +23,7 @@ use Rattle.markdown_document.specs.Origins.{Origin, inlined, made, origin_at, sl
 use Rattle.markdown_document.specs.ChainRest.{begun_at, end_of, cut_shape, past_byte}
 use Rattle.markdown_document.specs.Document.{Label, Plain, block_of, label_of, shape_of, leaf, math}
 use Rattle.markdown_document.specs.ItemRules.{ComesBefore, KeepsItemRules}
-use Rattle.markdown_document.specs.Places.{IsPlaced, label_at, trees_from}
+use Rattle.markdown_document.specs.Places.{IsPlaced, label_at, trees_from, ComesFromPlace}
 use Rattle.markdown_document.specs.Stages.{items_from}
 use Rattle.markdown_document.specs.Tables.{Tables, text_at}
 use Rattle.markdown_document.proofs.ItemRulesLemmas.{keeps-closed}
@@ -182,11 +182,20 @@ pub record Begun (source : List ℕ) (tables : Tables) (l : Option ℕ) (i : ℕ
   pub moves : Moves source l l nodes nodes' tables tables
   pub reads : trees_from source tables nodes' l ≡ first_begun i (trees_from source tables nodes l)
 
+-- what it refers to comes from where it is, if it does where the item is cut
+slices_begun : (source : List ℕ) (tables : Tables) (i : ℕ) (item : Item) → (item.start < i → ComesFromPlace source tables (begun_item i item))
+    → ComesFromPlace source tables item → ComesFromPlace source tables (begun_item i item)
+slices_begun source tables i item cut h = ⊎_elim (λ (l : item.start < i). cut l)
+    (λ (l : i ≤ item.start). let e : item.start ≡ max item.start i = omega arith in
+    subst (λ (start : ℕ). ComesFromPlace source tables (record { start = start; end = item.end; body = item.body })) e h)
+    (cases_lt item.start i)
+
 begun_moves : (source : List ℕ) (tables : Tables) (nodes : List (Node Item)) (ix i : ℕ) → Stands source tables nodes (Some ix)
     → IsCharBoundary source i → i ≤ (item_at nodes ix).end
     → ((item_at nodes ix).start < i → is_open (item_at nodes ix).body ≡ false)
+    → ((item_at nodes ix).start < i → ComesFromPlace source tables (begun_item i (item_at nodes ix)))
     → Begun source tables (Some ix) i nodes (begun_from (Some ix) i nodes)
-begun_moves source tables nodes ix i s boundary le closed =
+begun_moves source tables nodes ix i s boundary le closed cut =
     let item = item_at nodes ix in
     let new = begun_from (Some ix) i nodes in
     let o = opens (links_of nodes) (IsPlaced source tables nodes) ix s.reaches in
@@ -205,7 +214,7 @@ begun_moves source tables nodes ix i s boundary le closed =
         end = lies.end;
       });
       entries = rw c.item o.holds.named;
-      slices = rw c.item o.holds.slices;
+      slices = rw c.item (slices_begun source tables i item cut o.holds.slices);
       markup = rw c.item keeps.markup_is_there;
       childless = rw (c.item, c.child) keeps.childless;
       named = λ n l. rw c.item (omega arith);
@@ -231,14 +240,15 @@ pub begun_is : (source : List ℕ) (tables : Tables) (nodes : List (Node Item)) 
     → IsCharBoundary source i
     → ((ix : ℕ) → l ≡ Some ix → i ≤ (item_at nodes ix).end) → ((ix : ℕ) → l ≡ Some ix → (item_at nodes ix).start < i
     → is_open (item_at nodes ix).body ≡ false)
+    → ((ix : ℕ) → l ≡ Some ix → (item_at nodes ix).start < i → ComesFromPlace source tables (begun_item i (item_at nodes ix)))
     → Begun source tables l i nodes (begun_from l i nodes)
-begun_is source tables nodes None i s boundary ends closed = record {
+begun_is source tables nodes None i s boundary ends closed cut = record {
   moves = moves_none source None nodes tables s;
   reads =
       rw (forest_at-none (links_of nodes)) refl;
 }
-begun_is source tables nodes (Some ix) i s boundary ends closed = begun_moves source tables nodes ix i s boundary (ends ix refl)
-    (closed ix refl)
+begun_is source tables nodes (Some ix) i s boundary ends closed cut = begun_moves source tables nodes ix i s boundary (ends ix refl)
+    (closed ix refl) (cut ix refl)
 
 -- a link to a node, and what follows that
 pub record SpelledAt (nodes : List (Node Item)) (ix : ℕ) : Type 0 where

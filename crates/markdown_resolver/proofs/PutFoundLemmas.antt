@@ -15,7 +15,7 @@ use Rattle.markdown_base.proofs.ArenaForestLemmas.{opens, forest_at-none}
 use Rattle.markdown_base.proofs.ArenaLemmas.{length-changed_at}
 use Rattle.markdown_document.specs.ChainRest.{joined_chains, past_byte}
 use Rattle.markdown_document.specs.Document.{Plain, label_of}
-use Rattle.markdown_document.specs.Places.{HasSlices, IsSameAt, IsPlaced, label_at, trees_from}
+use Rattle.markdown_document.specs.Places.{HasSlices, IsSameAt, IsPlaced, label_at, trees_from, origin_start}
 use Rattle.markdown_document.specs.Stages.{times_in}
 use Rattle.markdown_document.specs.Tables.{Tables, Named, number_of, size_for, NamesEntries, HasGrown}
 use Rattle.markdown_document.specs.Totals.{same, times_named}
@@ -34,6 +34,7 @@ use Rattle.markdown_resolver.proofs.NodeChangeLemmas.{changed_other, changed_her
 use Rattle.markdown_resolver.proofs.PastByteLemmas.{tree_same}
 use Rattle.markdown_resolver.proofs.PutLemmas.{leaves_rest, whole_put, ClosesAt, before_closed, runs_closed, no_run_here, rest_past_is}
 use Rattle.markdown_resolver.proofs.PutLemmas.{rewrites_none, next_from, over_numbers}
+use Rattle.markdown_document.proofs.OriginLemmas.{slices_from_place}
 
 -- no markup is required of what is not open
 pub no_markup : (source : List ℕ) (item : Item) → is_open item.body ≡ false → MarkupIsThere source item
@@ -41,7 +42,7 @@ no_markup source item closed = (keeps-closed source (record { number = 0; item =
 
 -- a node into which an item was written that is not open
 pub closed_head : (source : List ℕ) (ix : ℕ) (item : Item) (old mid : List (Node Item)) (tables t : Tables) → HasGrown tables t
-    → is_open item.body ≡ false → LiesIn source item → NamesEntries t item.body → HasSlices source t item.end item.body
+    → is_open item.body ≡ false → LiesIn source item → NamesEntries t item.body → HasSlices source t item.start item.end item.body
     → ((n : Named) → number_of n < size_for tables n → times_named n item.body ≡ 0) → item_at mid ix ≡ item → length old ≤ length mid
     → ((n : ℕ) → n < length old → (n ≡ ix → ⊥) → IsSameAt old mid n) → HeadWritten source ix old mid tables t
 closed_head source ix item old mid tables t grown closed lies entries slices names is more others = record {
@@ -50,7 +51,7 @@ closed_head source ix item old mid tables t grown closed lies entries slices nam
   grown = grown;
   lies = rw is lies;
   entries = rw is entries;
-  slices = rw is slices;
+  slices = rw is (slices_from_place source t item slices);
   markup = rw is (no_markup source item closed);
   childless = rw is (λ e. absurd (let no : true ≡ false = sym e ∙ closed in cc no));
   named = λ n l. rw is (let z = names n l in omega arith);
@@ -196,7 +197,7 @@ leaf_below source ix inside old mid new tables t later next s h m b puts names w
     let placed : IsPlaced source later new k = record {
       lies = rw item puts.lies;
       named = rw item (entries-longer t later inside.body longer puts.named);
-      slices = rw item (slices-none source later inside.end inside.body names);
+      slices = rw item (slices-none source later (origin_start source inside.start) inside.end inside.body names);
       keeps = keeps-closed source (numbered new k) (child_of new k) (next_at new k) (rw item puts.closed) (rw follows tt);
     } in
     let stays : Stays t later mid new k = record {

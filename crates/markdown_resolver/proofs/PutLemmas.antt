@@ -1,6 +1,6 @@
 -- What was found is put into a first node: what the rules of a chain become of it, once what is left is rewritten.
 use Rattle.std.proofs.Common.{◌≡◌, ℕ, zero, suc, ◌+◌, ◌<◌, ◌≤◌, Bool, true, false, List, [], ◌∷◌, length, Option, Some, None, refl, sym, ap}
-use Rattle.std.proofs.Common.{◌∙◌, subst, ⊎_elim, arith, if◌then◌else◌, nat_le}
+use Rattle.std.proofs.Common.{◌∙◌, subst, ⊎_elim, arith, if◌then◌else◌, nat_le, max}
 use Rattle.std.proofs.lemmas.Bool.{cases_lt}
 use Rattle.std.specs.Prelude.{IfSome, IsCharBoundary}
 use Rattle.std.specs.Option.{option_map}
@@ -20,7 +20,7 @@ use Rattle.markdown_base.proofs.ArenaLemmas.{length-changed_at}
 use Rattle.markdown_document.specs.ChainRest.{begun_at, end_of, joined_chains, past, past_byte}
 use Rattle.markdown_document.specs.Document.{Plain, label_of}
 use Rattle.markdown_document.specs.ItemRules.{ComesBefore}
-use Rattle.markdown_document.specs.Places.{IsSameAt, IsPlaced, label_at, trees_from}
+use Rattle.markdown_document.specs.Places.{IsSameAt, IsPlaced, label_at, trees_from, origin_start}
 use Rattle.markdown_document.specs.Stages.{items_from, times_in, weight_in}
 use Rattle.markdown_document.specs.Tables.{Tables}
 use Rattle.markdown_document.specs.Totals.{total, same, weight_at}
@@ -30,7 +30,7 @@ use Rattle.markdown_document.proofs.TablesLemmas.{same-refl}
 use Rattle.markdown_spans.specs.ChainInArena.{LeadsThrough}
 use Rattle.markdown_resolver.specs.Chains.{CanResolve}
 use Rattle.markdown_resolver.specs.Kept.{IsQuietBelow}
-use Rattle.markdown_resolver.specs.Rewritten.{RunsGoOn, Rewrites, Standing, replaced, first_past, begun_item, LeavesRest}
+use Rattle.markdown_resolver.specs.Rewritten.{RunsGoOn, Rewrites, Standing, replaced, first_past, begun_item, LeavesRest, MayBeCut}
 use Rattle.markdown_resolver.specs.Rewritten.{numbered_past_byte}
 use Rattle.markdown_resolver.specs.Settling.{begun_from}
 use Rattle.markdown_resolver.proofs.NodeChangeLemmas.{changed_other, changed_here}
@@ -300,7 +300,7 @@ pub rest_past_is : (source : List ℕ) (ix i : ℕ) (old mid : List (Node Item))
     → Stands source tables old (Some ix) → HeadWritten source ix old mid tables t
     → next ≡ first_past old i (roots (forest_at (links_of old) (sibling_of old ix)))
     → AllPast old ix byte (roots (forest_at (links_of old) (sibling_of old ix)))
-    → ((n : ℕ) → next ≡ Some n → (item_at old n).start < i → is_open (item_at old n).body ≡ false) → IsCharBoundary source i
+    → ((n : ℕ) → next ≡ Some n → (item_at old n).start < i → MayBeCut (item_at old n).body) → IsCharBoundary source i
     → RestPast source ix i old mid tables t next
 rest_past_is source ix i old mid tables t next byte s h next_is past_all between boundary =
     let a = after_head source ix old mid tables t s h in
@@ -317,7 +317,9 @@ rest_past_is source ix i old mid tables t next byte s h next_is past_all between
     (dropped source t mid i (forest_at (links_of mid) l) l refl a.stands) in
     let b = begun_is source t mid next i d.moves.stands boundary
     (λ n e. let x = (first n e).ends in rw (kept n (there n e)).item (omega (arith, x)))
-    (λ n e. rw (kept n (there n e)).item (between n e)) in
+    (λ n e. rw (kept n (there n e)).item (λ k. (between n e k).closed))
+    (λ n e. rw (kept n (there n e)).item (λ k. (between n e k).no_slices source t (origin_start source (max (item_at old n).start i))
+    (item_at old n).end)) in
     let spelled : Spells (links_of mid) l f = rw a.rest.forest at a.rest.reaches.spelled in
     let link' : first_past mid i (roots f) ≡ next = first_kept old mid i f (λ n k. (kept n k).item) ∙ sym next_is in
     let more : length old ≤ length mid = h.more in

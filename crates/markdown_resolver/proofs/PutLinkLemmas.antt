@@ -27,7 +27,7 @@ use Rattle.markdown_resolver.specs.Chains.{CanResolve}
 use Rattle.markdown_resolver.specs.ClosedOver.{Enclosing, first_trees, trees_past, closed_over, over_inside, last_inside, CanClose}
 use Rattle.markdown_resolver.specs.ClosedOver.{CanPutOver, PutsOver, IsEnclosed}
 use Rattle.markdown_resolver.specs.Kept.{IsQuietBelow}
-use Rattle.markdown_resolver.specs.Rewritten.{RunsGoOn, Rewrites, LeavesRest, CanPut, first_past, numbered_past_byte}
+use Rattle.markdown_resolver.specs.Rewritten.{RunsGoOn, Rewrites, LeavesRest, CanPut, first_past, numbered_past_byte, MayBeCut}
 use Rattle.markdown_resolver.specs.Settling.{IsWritten, begun_from}
 use Rattle.markdown_resolver.proofs.ChainOrderLemmas.{AllPast, leads_kept, leads_left, numbered_left, numbered_past_is}
 use Rattle.markdown_resolver.proofs.ComposeLemmas.{same_trans, Stands, Moves, changes_move, moves_change, moves_twice, HeadWritten}
@@ -66,7 +66,7 @@ pub head_put : (source : List ℕ) (ix i : ℕ) (item : Item) (next : Option ℕ
     → CanPut source tables t item → item.end ≤ i → IsWritten nodes mid ix item next → (byte : ℕ)
     → AllPast nodes ix byte (roots (forest_at (links_of nodes) (sibling_of nodes ix)))
     → next ≡ first_past nodes i (roots (forest_at (links_of nodes) (sibling_of nodes ix)))
-    → ((n : ℕ) → next ≡ Some n → (item_at nodes n).start < i → is_open (item_at nodes n).body ≡ false)
+    → ((n : ℕ) → next ≡ Some n → (item_at nodes n).start < i → MayBeCut (item_at nodes n).body)
     → IsCharBoundary source i → HeadPut source ix i item next nodes mid tables t
 head_put source ix i item next nodes mid tables t grown s puts ends w byte past link between boundary =
     let size = w.size in

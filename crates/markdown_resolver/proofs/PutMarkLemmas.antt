@@ -71,7 +71,7 @@ module _ (source : List ℕ) (opener closer : ℕ) (mark item : Item) (inside : 
       let size = v.size in
       closed_head source opener mark old mid tables tables (grown-nothing tables) puts.closed puts.lies
       (entries_of_none tables t mark.body grown over.names_nothing puts.named)
-      (slices-none source tables mark.end mark.body over.names_nothing) (λ n x. over.names_nothing n) v.item_is (omega (arith, size))
+      (slices-none source tables mark.start mark.end mark.body over.names_nothing) (λ n x. over.names_nothing n) v.item_is (omega (arith, size))
       (λ n x d. v.others n d)
 
   after_mark_is : After source opener old mid tables tables

@@ -13,7 +13,7 @@ use Rattle.markdown_base.specs.declared.node.Node.{Node}
 use Rattle.markdown_base.proofs.ArenaForestLemmas.{opens}
 use Rattle.markdown_base.proofs.ArenaLemmas.{length-changed_at}
 use Rattle.markdown_document.specs.Document.{label_of}
-use Rattle.markdown_document.specs.Places.{IsSameAt, IsPlaced, label_at, trees_from}
+use Rattle.markdown_document.specs.Places.{IsSameAt, IsPlaced, label_at, trees_from, origin_start}
 use Rattle.markdown_document.specs.Stages.{times_in}
 use Rattle.markdown_document.specs.Tables.{Tables, HasGrown, Named}
 use Rattle.markdown_document.specs.Totals.{total, same, times_named, weight_at}
@@ -161,7 +161,7 @@ module _ (source : List ℕ) (tables t : Tables) (grown : HasGrown tables t) (ol
     placed = record {
       lies = rw item_is puts.lies;
       named = rw item_is (entries_of_none tables t text.body grown names_nothing puts.named);
-      slices = rw item_is (slices-none source tables text.end text.body names_nothing);
+      slices = rw item_is (slices-none source tables (origin_start source text.start) text.end text.body names_nothing);
       keeps = keeps-closed source (numbered folded first) (child_of folded first) (next_at folded first) (rw item_is puts.closed)
           (rw follows tt);
     }

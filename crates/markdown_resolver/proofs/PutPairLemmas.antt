@@ -25,7 +25,7 @@ use Rattle.markdown_document.proofs.FrameLemmas.{label-same}
 use Rattle.markdown_document.proofs.TablesLemmas.{same-refl, grown-nothing, grown-longer}
 use Rattle.markdown_spans.specs.ChainInArena.{LeadsThrough}
 use Rattle.markdown_resolver.specs.Chains.{CanResolve}
-use Rattle.markdown_resolver.specs.Rewritten.{Rewrites, Puts, replaced, first_past, pair, IsFoundAt, CanPutPair, numbered_past_byte}
+use Rattle.markdown_resolver.specs.Rewritten.{Rewrites, Puts, replaced, first_past, pair, IsFoundAt, CanPutPair, numbered_past_byte, MayBeCut}
 use Rattle.markdown_resolver.specs.Settling.{IsWritten, begun_from}
 use Rattle.markdown_resolver.proofs.ChainOrderLemmas.{StandsPast, AllPast, rest_past, leads_kept, leads_lower}
 use Rattle.markdown_resolver.proofs.ComposeLemmas.{Stands, stands_ready, Moves, changes_move, moves_none, moves_twice, first_leaves}
@@ -189,7 +189,7 @@ pair_begun source ix closer first second old mid tables t grown finds can v =
     let size = v.size in
     let h = closed_head source ix first old mid tables tables (grown-nothing tables) opener.closed opener.lies
     (entries_of_none tables t first.body grown can.names_nothing opener.named)
-    (slices-none source tables first.end first.body can.names_nothing) (λ n k. can.names_nothing n) v.item_is (omega (arith, size))
+    (slices-none source tables first.start first.end first.body can.names_nothing) (λ n k. can.names_nothing n) v.item_is (omega (arith, size))
     (λ n k d. v.others n d) in
     let a = after_head source ix old mid tables tables (stands_ready source tables old (Some ix) finds.ready) h in
     let listed : roots (forest_at (links_of mid) l) ≡ can.before ++ closer ∷ can.after = ap (λ (f : Forest ℕ). roots f) a.rest.forest
@@ -275,7 +275,7 @@ module _ (source : List ℕ) (ix closer : ℕ) (first second : Item) (next : Opt
       sym (first_kept old mid second.end (forest_at (links_of old) l) items_same)
       ∙ ap (λ (f : Forest ℕ). first_past mid second.end (roots f)) (sym opener_after.rest.forest) ∙ begun.skips.first ∙ sym link
 
-  between : (n : ℕ) → next ≡ Some n → (item_at mid n).start < second.end → is_open (item_at mid n).body ≡ false
+  between : (n : ℕ) → next ≡ Some n → (item_at mid n).start < second.end → MayBeCut (item_at mid n).body
   between n e = rw (items_same n (first_there old second.end n (forest_at (links_of old) l) (first_is ∙ e)))
       (finds.between n (first_is ∙ e))
 

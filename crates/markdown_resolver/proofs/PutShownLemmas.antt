@@ -1,6 +1,6 @@
 -- A wikilink is put into the node of its opener, with what is inside from a byte offset on below it.
 use Rattle.std.proofs.Common.{◌≡◌, ℕ, ◌+◌, ◌-◌, ◌<◌, ◌≤◌, max, false, List, [], ◌∷◌, ◌++◌, length, Option, Some, None, refl, sym, ap, ◌∙◌}
-use Rattle.std.proofs.Common.{subst, ⊎_elim, arith, nat_le}
+use Rattle.std.proofs.Common.{subst, ⊎_elim, arith, nat_le, true}
 use Rattle.std.proofs.lemmas.Bool.{cases_eq, cases_lt}
 use Rattle.std.proofs.lemmas.Bool.Decides.{nat_tests}
 use Rattle.std.specs.Prelude.{IsCharBoundary}
@@ -15,7 +15,7 @@ use Rattle.markdown_base.proofs.ArenaForestLemmas.{opens, forest_at-none}
 use Rattle.markdown_base.proofs.ArenaLemmas.{length-changed_at}
 use Rattle.markdown_document.specs.ChainRest.{begun_at, past_byte}
 use Rattle.markdown_document.specs.Document.{Plain}
-use Rattle.markdown_document.specs.Places.{IsSameAt, IsPlaced, label_at, trees_from}
+use Rattle.markdown_document.specs.Places.{IsSameAt, IsPlaced, label_at, trees_from, ComesFromPlace, follows_pipe}
 use Rattle.markdown_document.specs.Stages.{times_in, named_in}
 use Rattle.markdown_document.specs.Tables.{Tables, HasGrown, Named, number_of, size_for}
 use Rattle.markdown_document.specs.Totals.{total, same, naming}
@@ -33,6 +33,7 @@ use Rattle.markdown_resolver.proofs.FoldLemmas.{stands_once, whole_childless}
 use Rattle.markdown_resolver.proofs.NodeChangeLemmas.{changed_other, changed_here}
 use Rattle.markdown_resolver.proofs.PastByteLemmas.{Begun, Dropped, begun_is, first_begun}
 use Rattle.markdown_resolver.proofs.PutLinkLemmas.{fold_puts}
+use Rattle.markdown_document.proofs.OriginLemmas.{slices_past_pipe}
 
 -- the first of a chain leave it, up to a node
 drops : (source : List ℕ) (tables : Tables) (nodes : List (Node Item)) (skipped : List ℕ) (first : ℕ) (shown : List ℕ) (l : Option ℕ)
@@ -68,21 +69,28 @@ drops source tables nodes (x ∷ skipped) first shown (Some ix) s e =
 begun_there : (source : List ℕ) (tables : Tables) (nodes : List (Node Item)) (ix i : ℕ) → Stands source tables nodes (Some ix)
     → ((item_at nodes ix).start < i → IsCharBoundary source i)
     → i < (item_at nodes ix).end → ((item_at nodes ix).start < i → is_open (item_at nodes ix).body ≡ false)
-    → Begun source tables (Some ix) i nodes (begun_from (Some ix) i nodes)
-begun_there source tables nodes ix i s boundary ends closed =
+    → follows_pipe source i ≡ true → Begun source tables (Some ix) i nodes (begun_from (Some ix) i nodes)
+begun_there source tables nodes ix i s boundary ends closed piped =
     let item = item_at nodes ix in
     let o = opens (links_of nodes) (IsPlaced source tables nodes) ix s.reaches in
     ⊎_elim
     (λ (l : item.start < i).
     begun_is source tables nodes (Some ix) i s (boundary l)
     (λ n e. let is : ix ≡ n = cc e in subst (λ (m : ℕ). i ≤ (item_at nodes m).end) is (omega (arith, ends)))
-    (λ n e. let is : ix ≡ n = cc e in subst (λ (m : ℕ). (item_at nodes m).start < i → is_open (item_at nodes m).body ≡ false) is closed))
+    (λ n e. let is : ix ≡ n = cc e in subst (λ (m : ℕ). (item_at nodes m).start < i → is_open (item_at nodes m).body ≡ false) is closed)
+    (λ n e. let is : ix ≡ n = cc e in subst (λ (m : ℕ). (item_at nodes m).start < i
+    → ComesFromPlace source tables (begun_item i (item_at nodes m))) is (λ k.
+    let there : i ≡ max item.start i = omega arith in
+    subst (λ (start : ℕ). ComesFromPlace source tables (record { start = start; end = item.end; body = item.body })) there
+    (slices_past_pipe source tables item i piped o.holds.slices))))
     (λ (l : i ≤ item.start).
     let lies = o.holds.lies in
     let b = begun_is source tables nodes (Some ix) item.start s lies.start
     (λ n e. let is : ix ≡ n = cc e in subst (λ (m : ℕ). item.start ≤ (item_at nodes m).end) is lies.ordered)
     (λ n e. let is : ix ≡ n = cc e in subst (λ (m : ℕ). (item_at nodes m).start < item.start → is_open (item_at nodes m).body ≡ false) is
-    (λ k. absurd (omega (arith, k)))) in
+    (λ k. absurd (omega (arith, k))))
+    (λ n e. let is : ix ≡ n = cc e in subst (λ (m : ℕ). (item_at nodes m).start < item.start
+    → ComesFromPlace source tables (begun_item item.start (item_at nodes m))) is (λ k. absurd (omega (arith, k)))) in
     let e : max item.start item.start ≡ max item.start i = omega arith in
     let d : item.start - item.start ≡ i - item.start = omega arith in
     let label : begun_at item.start (label_at source tables nodes ix) ≡ begun_at i (label_at source tables nodes ix) = rw (d, e) refl in
@@ -178,7 +186,7 @@ module _ (source : List ℕ) (tables : Tables) (old enclosed : List (Node Item))
 
   begins : Begun source tables (Some first) from enclosed begun
   begins = begun_there source tables enclosed first from dropped_there.moves.stands (rw (v.items first) shows.boundary) ends_past
-      (rw (v.items first) shows.not_cut)
+      (rw (v.items first) shows.not_cut) shows.piped
 
   moved : Moves source (child_of enclosed opener) (Some first) enclosed begun tables tables
   moved = moves_twice source (child_of enclosed opener) (Some first) (Some first) enclosed enclosed begun tables tables tables

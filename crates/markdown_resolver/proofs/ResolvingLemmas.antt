@@ -11,7 +11,7 @@ use Rattle.markdown_delims.specs.Pairing.{paired}
 use Rattle.markdown_delims.specs.PairingLaws.{NothingOpen, below_trees}
 use Rattle.markdown_delims.proofs.BeginLawLemmas.{begins-law}
 use Rattle.markdown_delims.proofs.LawLemmas.{closed-law, order-law, paired-keeps}
-use Rattle.markdown_resolver.specs.Kept.{IsQuiet, IsQuietBelow, IsKept, IsSettled}
+use Rattle.markdown_resolver.specs.Kept.{IsQuiet, IsQuietBelow, IsKept, IsSettled, IsUnread}
 use Rattle.markdown_resolver.specs.PassOne.{pass_one}
 use Rattle.markdown_resolver.specs.Resolved.{resolved, then_paired, paired_if_open, all_paired}
 use Rattle.markdown_resolver.proofs.PassOneLemmas.{pass_one-first, pass_one-stays}
@@ -50,10 +50,14 @@ module _ {A : Type 0} where
   quiet_below (node a below after) q = (q.1, q.2, quiet_below after q.3)
 
   -- what is quiet or settled keeps its chains
+  quiet_unread : (f : Forest (Label A)) → IsQuiet f → IsUnread f
+  quiet_unread nil q = tt
+  quiet_unread (node a below after) q = (λ read. cc (read, q.0), quiet_unread after q.3)
+
   pub IsKept-from_IsQuiet : (f : Forest (Label A)) → IsQuiet f → IsKept f
   IsKept-from_IsQuiet nil q = tt
   IsKept-from_IsQuiet (node a below after) q = (
-    λ h. quiet_below (node a below after) q,
+    λ h. (quiet_below (node a below after) q, quiet_unread (node a below after) q),
     IsKept-from_IsQuiet below q.2,
     IsKept-from_IsQuiet
         after q.3,

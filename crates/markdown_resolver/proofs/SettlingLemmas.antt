@@ -20,7 +20,7 @@ use Rattle.markdown_document.specs.ChainRest.{joined_chains}
 use Rattle.markdown_document.specs.Document.{Plain, Shape, leaf, enclosed, plain, backslash_break, unresolved, is_unresolved, shape_of}
 use Rattle.markdown_document.specs.Document.{label_of}
 use Rattle.markdown_document.specs.ItemRules.{ComesBefore, KeepsItemRules}
-use Rattle.markdown_document.specs.Places.{HasSlices, IsPlaced, trees_from}
+use Rattle.markdown_document.specs.Places.{HasSlices, IsPlaced, trees_from, origin_start}
 use Rattle.markdown_document.specs.Tables.{Tables, Named, some_text, some_link, some_alignments, NamesEntries}
 use Rattle.markdown_document.specs.Totals.{same, times_named, weight_if}
 use Rattle.markdown_document.specs.Waiting.{waits_for_pairing, is_quiet}
@@ -74,10 +74,10 @@ in_table_settled : (is : Bool) (b : ItemBody) (tables : Tables) → NamesEntries
 in_table_settled true b tables h = record { text = tt; link = tt; alignments = tt; attributes = tt }
 in_table_settled false b tables h = h
 
-slices_settled : (source : List ℕ) (is : Bool) (end : ℕ) (b : ItemBody) (tables : Tables) → HasSlices source tables end b
-    → HasSlices source tables end (settled_if is b)
-slices_settled source true end b tables h = tt
-slices_settled source false end b tables h = h
+slices_settled : (source : List ℕ) (is : Bool) (start end : ℕ) (b : ItemBody) (tables : Tables) → HasSlices source tables start end b
+    → HasSlices source tables start end (settled_if is b)
+slices_settled source true start end b tables h = tt
+slices_settled source false start end b tables h = h
 
 weight_settled : (is : Bool) (b : ItemBody) → weight_if (is_open (settled_if is b)) ≤ weight_if (is_open b)
 weight_settled true b = some_weight (is_open b)
@@ -208,7 +208,8 @@ head_settled source tables nodes ix s =
       more = omega (arith, size);
       grown = grown-nothing tables;
       lies = rw c.item (record { ordered = lies.ordered; start = lies.start; end = lies.end });
-      slices = rw c.item (slices_settled source (becomes_text item.body) item.end item.body tables o.holds.slices);
+      slices = rw c.item (slices_settled source (becomes_text item.body) (origin_start source item.start) item.end item.body tables
+          o.holds.slices);
       entries = rw c.item (in_table_settled (becomes_text item.body) item.body tables o.holds.named);
       markup = rw c.item keeps.markup_is_there;
       childless = rw (c.item, c.child) keeps.childless;

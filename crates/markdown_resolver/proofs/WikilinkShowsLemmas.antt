@@ -34,8 +34,9 @@ use Rattle.markdown_document.specs.Places.{IsPlaced}
 use Rattle.markdown_document.specs.Tables.{Tables}
 use Rattle.markdown_document.specs.Waiting.{is_quiet, waits_for_pairing}
 use Rattle.markdown_document.proofs.PlaceLemmas.{open-unresolved, shape-open}
-use Rattle.markdown_spans.proofs.SliceLemmas.{slice_between, slice_inside, slice_wider}
-use Rattle.markdown_resolver.specs.Closes.{FirstLies, IsNotCut, NoneOpenAround, ShowsWell}
+use Rattle.markdown_spans.proofs.SliceLemmas.{slice_between, slice_inside}
+use Rattle.markdown_document.proofs.OriginLemmas.{slice_wider}
+use Rattle.markdown_resolver.specs.Closes.{FirstLies, IsNotCut, NoneOpenAround, ShowsWell, IsNamedIn}
 use Rattle.markdown_resolver.specs.Kept.{IsQuiet}
 use Rattle.markdown_resolver.specs.PutsTrees.{numbered_label}
 use Rattle.markdown_resolver.specs.ReadOn.{StandsTo}
@@ -304,24 +305,24 @@ body_slice text block_end start end = by (nat_lt start end) refl _
     by false e found h = tt
 
 name_slice : (w : Around) (f : Forest (Label ℕ)) (end : ℕ)
-    → IfSome (wikilink_in w f end) (λ v. IsSliceWithin w.setting.text 0 end v.name)
+    → IfSome (wikilink_in w f end) (λ v. IsNamedIn w.setting.text f end v.name)
 name_slice w nil end = tt
 name_slice w (node first below after) end = by (wikilink_body w.setting.text w.above.block_end (start_of first) end)
     (body_slice w.setting.text w.above.block_end (start_of first) end)
   where
-    made : (b : WikilinkBody) (children : Option (Forest (Label ℕ))) → IsSliceWithin w.setting.text 0 end b.name
+    made : (b : WikilinkBody) (children : Option (Forest (Label ℕ))) → IsSliceWithin w.setting.text (start_of first) end b.name
         → IfSome {T = Wikilink ℕ} (option_map (λ children. record { name = b.name; has_pothole = has_pothole b.shows; children = children })
-        children) (λ v. IsSliceWithin w.setting.text 0 end v.name)
+        children) (λ v. IsSliceWithin w.setting.text (start_of first) end v.name)
     made b None h = tt
     made b (Some children) h = h
 
     by : (found : Option WikilinkBody) → IfSome found (λ b. IsSliceWithin w.setting.text (start_of first) end b.name)
-        → IfSome (option_and_then (wikilink_by w first (node first below after) end) found) (λ v. IsSliceWithin w.setting.text 0 end v.name)
+        → IfSome (option_and_then (wikilink_by w first (node first below after) end) found)
+        (λ v. IsSliceWithin w.setting.text (start_of first) end v.name)
     by None h = tt
-    by (Some b) h = made b (shown_children w first (node first below after) end b.shows)
-        (slice_wider w.setting.text (start_of first) end 0 end b.name (omega arith) (omega arith) h)
+    by (Some b) h = made b (shown_children w first (node first below after) end b.shows) h
 
 pub names_slice : (w : Around) (f : Forest (Label ℕ)) (end : ℕ) (v : Wikilink ℕ) → wikilink_in w f end ≡ Some v
-    → IsSliceWithin w.setting.text 0 end v.name
-names_slice w f end v e = subst (λ (found : Option (Wikilink ℕ)). IfSome found (λ v. IsSliceWithin w.setting.text 0 end v.name)) e
+    → IsNamedIn w.setting.text f end v.name
+names_slice w f end v e = subst (λ (found : Option (Wikilink ℕ)). IfSome found (λ v. IsNamedIn w.setting.text f end v.name)) e
     (name_slice w f end)

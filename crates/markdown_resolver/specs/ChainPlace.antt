@@ -6,8 +6,10 @@ use Rattle.markdown_base.specs.declared.item.Item.{Item}
 use Rattle.markdown_brackets.specs.LeftList.{Entry}
 use Rattle.markdown_brackets.specs.Openers.{Waiting}
 use Rattle.markdown_document.specs.Above.{above_cursor}
+use Rattle.markdown_document.specs.Places.{trees_from}
 use Rattle.markdown_document.specs.Tables.{tables_of}
 use Rattle.markdown_resolver.specs.Chains.{AreAbove, CanResolve}
+use Rattle.markdown_resolver.specs.Kept.{IsUnread}
 use Rattle.markdown_resolver.specs.ReadOn.{AreHeld, StandsTo}
 use Rattle.markdown_document.specs.declared.chain_place.ChainPlace.{ChainPlace}
 use Rattle.markdown_defs.specs.Allocations.{Allocated}
@@ -22,6 +24,7 @@ pub record IsPlaceOf (place : ChainPlace) (tree : Arena Item) : Type 0 where
 pub record CanReadItem (place : ChainPlace) (tree : Arena Item) (held : Allocated) (ix : ℕ) : Type 0 where
   pub stands : IsPlaceOf place tree
   pub ready : CanResolve place.text.now (tables_of held) tree.nodes (Some ix)
+  pub unread : IsUnread (trees_from place.text.now (tables_of held) tree.nodes (Some ix))
   pub above : AreAbove place.text.now tree.nodes (Some ix) tree.spine
 
 -- a chain was read up to the item of a node, which can be read: from the node `first` on is a left list, whose openers
@@ -31,4 +34,5 @@ pub record CanReadOn (place : ChainPlace) (tree : Arena Item) (held : Allocated)
   pub stands : IsPlaceOf place tree
   pub above : AreAbove place.text.now tree.nodes (Some first) tree.spine
   pub so_far : StandsTo place.text.now (tables_of held) tree.nodes first (Some ix) left
+  pub unread : IsUnread (trees_from place.text.now (tables_of held) tree.nodes (Some ix))
   pub openers : AreHeld brackets wikilinks left

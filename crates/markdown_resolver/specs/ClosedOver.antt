@@ -11,12 +11,12 @@ use Rattle.markdown_base.specs.declared.item.Item.{Item}
 use Rattle.markdown_base.specs.declared.node.Node.{Node}
 use Rattle.markdown_document.specs.ChainRest.{joined_chains, past, past_byte}
 use Rattle.markdown_document.specs.Document.{Plain, label_of}
-use Rattle.markdown_document.specs.Places.{IsSameAt}
+use Rattle.markdown_document.specs.Places.{IsSameAt, follows_pipe}
 use Rattle.markdown_document.specs.Tables.{Tables, Named}
 use Rattle.markdown_document.specs.Totals.{times_named}
 use Rattle.markdown_spans.specs.ChainInArena.{LeadsThrough}
 use Rattle.markdown_resolver.specs.Chains.{CanResolve}
-use Rattle.markdown_resolver.specs.Rewritten.{Rewrites, LeavesRest, CanPut, first_past, numbered_past_byte}
+use Rattle.markdown_resolver.specs.Rewritten.{CanPut, LeavesRest, MayBeCut, Rewrites, first_past, numbered_past_byte}
 
 -- the first k trees of a chain
 abbrev pub first_trees : {A : Type 0} → ℕ → Forest A → Forest A
@@ -82,9 +82,9 @@ pub record CanClose (source : List ℕ) (tables : Tables) (nodes : List (Node It
   pub closer_no_run : run_character (item_at nodes closer).body ≡ None
   pub closer_ends : (item_at nodes closer).end ≤ byte
   pub boundary : IsCharBoundary source byte
-  -- no open item has bytes both before and after that offset
+  -- an item that has bytes both before and after that offset may be cut there
   pub between : (next : ℕ) → first_past nodes byte after ≡ Some next → (item_at nodes next).start < byte
-      → is_open (item_at nodes next).body ≡ false
+      → MayBeCut (item_at nodes next).body
 
 -- an item can be put into the node of that opener: it starts where the opener does, and ends at or before the byte
 -- offset
@@ -94,14 +94,15 @@ pub record CanPutOver (source : List ℕ) (tables tables' : Tables) (nodes : Lis
   pub starts : item.start ≡ (item_at nodes opener).start
   pub ends : item.end ≤ byte
 
--- what is inside can be shown from a byte offset on, which begins in the node `first`: that node ends past the offset,
--- and is not cut there where it is open
+-- what is inside can be shown from a byte offset after a pipe on, which begins in the node `first`: that node ends past
+-- the offset, and is not cut there where it is open
 pub record CanShow (source : List ℕ) (nodes : List (Node Item)) (inside : List ℕ) (skipped : List ℕ) (first from : ℕ)
     : Type 0 where
   pub shown : List ℕ
   pub inside_is : inside ≡ skipped ++ first ∷ shown
   pub boundary : (item_at nodes first).start < from → IsCharBoundary source from
   pub ends_past : from < (item_at nodes first).end
+  pub piped : follows_pipe source from ≡ true
   pub not_cut : (item_at nodes first).start < from → is_open (item_at nodes first).body ≡ false
 
 -- two items can be put there: a Text for the opener's first byte, and an item in the node of the closer, which ends

@@ -24,6 +24,7 @@ use Rattle.markdown_document.specs.Tables.{Tables}
 use Rattle.markdown_spans.specs.SpanClosers.{HoldsFrom, Learned}
 use Rattle.markdown_spans.specs.declared.span_text.SpanKind.{SpanKind}
 use Rattle.markdown_resolver.specs.Chains.{ChangesChain}
+use Rattle.markdown_resolver.specs.Kept.{IsUnmade}
 use Rattle.markdown_resolver.specs.PutsTrees.{numbered_from, numbered_label}
 use Rattle.markdown_resolver.specs.ReadOn.{StandsTo, left_without_numbers}
 
@@ -58,14 +59,19 @@ FirstLies source nil = ⊤
 FirstLies source (node a below after) = (start_of a ≤ end_of a) × IsCharBoundary source (start_of a)
     × IsCharBoundary source (end_of a)
 
+-- a wikilink's name is a slice of the source from the start of the first tree of its body on
+abbrev pub IsNamedIn : List ℕ → (body : Forest (Label ℕ)) → (end : ℕ) → (name : List ℕ) → Type 0
+IsNamedIn source nil end name = ⊥
+IsNamedIn source (node a below after) end name = IsSliceWithin source (start_of a) end name
+
 -- what a wikilink shows of its body starts and ends between characters, and is not cut where it is open
 pub record ShowsWell (source : List ℕ) (body children : Forest (Label ℕ)) : Type 0 where
   pub lies : FirstLies source children
   pub not_cut : (at : ℕ) → past_byte at body ≡ children → NoneOpenAround at body
 
 -- what a `]` becomes ends between characters, at or after the end of the `]`, and no later than where the chain
--- continues; a link is neither an autolink nor a wikilink; and the name of a wikilink is a slice
--- of the source before its end
+-- continues; a link is neither an autolink nor a wikilink; and the name of a wikilink is a slice of its body in the
+-- source
 abbrev pub EndsWell : List ℕ → Closing ℕ → Becomes ℕ → Type 0
 EndsWell source c a_text = ⊤
 EndsWell source c (a_link o target end next) =
@@ -74,7 +80,7 @@ EndsWell source c (a_link o target end next) =
 EndsWell source c (a_footnote o name) = CanGoOn source c (end_of c.label)
 EndsWell source c (a_wikilink o found end) =
     CanGoOn source c end × ShowsWell source (past_second (inside o)) found.children
-    × IsSliceWithin source 0 end found.name
+    × IsNamedIn source (past_second (inside o)) end found.name
 
 -- after a left list there is a `]` of an arena, which becomes this
 pub record ClosesAt (source : List ℕ) (tables : Tables) (nodes : List (Node Item)) (first closer : ℕ)
@@ -84,6 +90,7 @@ pub record ClosesAt (source : List ℕ) (tables : Tables) (nodes : List (Node It
   pub label_is : c.label ≡ numbered_label source tables nodes closer
   pub rest_is : c.rest ≡ numbered_from source tables nodes (sibling_of nodes closer)
   pub text_is : w.setting.text ≡ source
+  pub unmade : IsUnmade (trees_from source tables nodes (sibling_of nodes closer))
   pub splits : SplitsAs left becomes
   pub ends : EndsWell source c becomes
 

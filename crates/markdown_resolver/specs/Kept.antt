@@ -1,7 +1,8 @@
 -- What resolving a chain requires of its items, and what it leaves open.
-use Rattle.std.specs.Prelude.{◌≡◌, ⊤, true, false, is_some}
+use Rattle.std.specs.Prelude.{◌≡◌, ⊤, Bool, true, false, is_some}
+use Rattle.markdown_base.specs.Event.{code, display_math, image, inline_math, link}
 use Rattle.markdown_base.specs.Forest.{Forest, nil, node}
-use Rattle.markdown_document.specs.Document.{Label, is_unresolved}
+use Rattle.markdown_document.specs.Document.{Label, Shape, enclosed, is_unresolved, leaf}
 use Rattle.markdown_document.specs.Waiting.{is_quiet}
 
 -- no item of a forest is open except those that wait for pairing, and none is a block, at every depth
@@ -15,11 +16,31 @@ abbrev pub IsQuietBelow : {A : Type 0} → Forest (Label A) → Type 0
 IsQuietBelow nil = ⊤
 IsQuietBelow (node a below after) = (is_some a.part.block ≡ false) × IsQuiet below × IsQuietBelow after
 
--- each chain is quiet below, from its first open item on
+-- pass one makes items of this shape: code, math, links and images
+abbrev pub is_made : Shape → Bool
+is_made (leaf (code t) origins) = true
+is_made (leaf (inline_math t) origins) = true
+is_made (leaf (display_math t) origins) = true
+is_made (enclosed (link l)) = true
+is_made (enclosed (image l)) = true
+is_made other = false
+
+-- pass one has made no item of a chain
+abbrev pub IsUnmade : {A : Type 0} → Forest (Label A) → Type 0
+IsUnmade nil = ⊤
+IsUnmade (node a below after) = (is_made a.part.shape ≡ false) × IsUnmade after
+
+-- no item of a chain that pass one has made follows one that it has still to read
+abbrev pub IsUnread : {A : Type 0} → Forest (Label A) → Type 0
+IsUnread nil = ⊤
+IsUnread (node a below after) = (is_quiet a.part.shape ≡ false → IsUnmade after) × IsUnread after
+
+-- each chain can be resolved from its first open item on: it is quiet below, and what has still to be read comes last
 abbrev pub IsKept : {A : Type 0} → Forest (Label A) → Type 0
 IsKept nil = ⊤
-IsKept (node a below after) = (is_unresolved a.part.shape ≡ true → IsQuietBelow (node a below after)) × IsKept below
-    × IsKept after
+IsKept (node a below after) =
+    (is_unresolved a.part.shape ≡ true → IsQuietBelow (node a below after) × IsUnread (node a below after))
+    × IsKept below × IsKept after
 
 -- no item of the chain itself is open, and its chains of children are quiet
 abbrev pub IsSettled : {A : Type 0} → Forest (Label A) → Type 0

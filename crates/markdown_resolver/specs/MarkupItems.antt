@@ -21,12 +21,11 @@ item_to nodes ix end b = record { start = (item_at nodes ix).start; end = end; b
 abbrev pub address_to : List (Node Item) → (ix end : ℕ) → Item
 address_to nodes ix end = record { start = (item_at nodes ix).end; end = end - 1; body = body.Text false }
 
--- the text of an autolink is not empty and lies in the source, and the URI is a slice of the source
--- before its end
+-- the text of an autolink is not empty and lies in the source, and the URI is a slice of its range there
 pub record IsAddress (source : List ℕ) (nodes : List (Node Item)) (ix end : ℕ) (uri : List ℕ) : Type 0 where
   pub some : (item_at nodes ix).end < end
   pub lies : LiesIn source (address_to nodes ix end)
-  pub slice : IsSliceWithin source 0 end uri
+  pub slice : IsSliceWithin source (item_at nodes ix).start end uri
 
 -- where an autolink was found, it has such a text
 abbrev pub HasAddress : List ℕ → List (Node Item) → ℕ → Markup → Type 0

@@ -11,11 +11,12 @@ use Rattle.markdown_brackets.specs.declared.closing_bracket.ClosedBracket.{Close
 use Rattle.markdown_brackets.specs.declared.spent_ends.SpentEnds.{SpentEnds}
 use Rattle.markdown_document.specs.Above.{above_cursor}
 use Rattle.markdown_document.specs.Setting.{Setting, rules_from, setting_of, uses_of}
-use Rattle.markdown_document.specs.Stages.{Stage, items_from, stage}
+use Rattle.markdown_document.specs.Stages.{Stage, chain_at, items_from, stage}
 use Rattle.markdown_document.specs.Tables.{tables_of}
 use Rattle.markdown_spans.specs.SpanClosers.{HoldsFrom, Learned, has_failed}
 use Rattle.markdown_spans.specs.declared.span_text.SpanKind.{SpanKind}
 use Rattle.markdown_resolver.specs.ChainPlace.{CanReadOn}
+use Rattle.markdown_resolver.specs.Kept.{IsUnread}
 use Rattle.markdown_resolver.specs.Closes.{closing_at}
 use Rattle.markdown_resolver.specs.PassOne.{around}
 use Rattle.markdown_resolver.specs.ReadOn.{ReadsOn, StopsOn}
@@ -65,6 +66,8 @@ pub record GoesOnTo {C : Type 0} (step : C → Question → Option Answer → C 
       → ReadsOn step (setting_by old) (above_cursor old.text.now tree) first (Some ix) next left (stage_by tree old)
       (stage_by tree' new) old.spent new.spent new.openers.brackets new.openers.wikilinks
   pub fewer : items_from tree'.nodes next < items_from tree.nodes (Some ix)
+  pub unread : IsUnread (chain_at old.text.now (stage_by tree old) (Some ix))
+      → IsUnread (chain_at old.text.now (stage_by tree' new) next)
   pub place_is : tree' ≡ record tree { nodes = tree'.nodes }
 
 -- a resolver has read the bracket of a node: what searches have learned of what follows the bracket is true of what is

@@ -9,6 +9,7 @@ use Rattle.markdown_base.specs.Forest.{Forest, nil, node, roots}
 use Rattle.markdown_base.specs.Item.{LiesIn, is_block, is_open}
 use Rattle.markdown_base.specs.WellFormed.{RunsAreWhole, run_character}
 use Rattle.markdown_base.specs.declared.item.Item.{Item}
+use Rattle.markdown_base.specs.declared.item.ItemBody.{ItemBody}
 use Rattle.markdown_base.specs.declared.node.Node.{Node}
 use Rattle.markdown_document.specs.ChainRest.{joined_chains, past}
 use Rattle.markdown_document.specs.Document.{Plain, as_text, label_of}
@@ -87,24 +88,30 @@ abbrev pub first_past : List (Node Item) → ℕ → List ℕ → Option ℕ
 first_past nodes i [] = None
 first_past nodes i (ix ∷ after) = if nat_le (item_at nodes ix).end i then first_past nodes i after else Some ix
 
+-- an item with this body may lose its first bytes: it is not open, and nothing that it refers to has to come from the
+-- source
+pub record MayBeCut (b : ItemBody) : Type 0 where
+  pub closed : is_open b ≡ false
+  pub no_slices : (source : List ℕ) (tables : Tables) (start end : ℕ) → HasSlices source tables start end b
+
 -- something that ends at a byte offset was found at the node of an opener, and what is left of the chain can begin
 -- there
 pub record IsFoundAt (source : List ℕ) (tables : Tables) (nodes : List (Node Item)) (ix end : ℕ) : Type 0 where
   pub ready : CanResolve source tables nodes (Some ix)
   pub was_open : is_open (item_at nodes ix).body ≡ true
   pub no_run : run_character (item_at nodes ix).body ≡ None
-  -- no open item has bytes both before and after that offset
+  -- an item that has bytes both before and after that offset may be cut there
   pub between : (next : ℕ) → first_past nodes end (roots (forest_at (links_of nodes) (sibling_of nodes ix))) ≡ Some next
-      → (item_at nodes next).start < end → is_open (item_at nodes next).body ≡ false
+      → (item_at nodes next).start < end → MayBeCut (item_at nodes next).body
 
 -- an item can be put into a node: it is not open and not a block, lies in the text, and refers only to new entries,
--- which come from the source before its end where they have to
+-- which come from its range in the source where they have to
 pub record CanPut (source : List ℕ) (tables tables' : Tables) (item : Item) : Type 0 where
   pub closed : is_open item.body ≡ false
   pub no_block : is_block item.body ≡ false
   pub lies : LiesIn source item
   pub named : NamesEntries tables' item.body
-  pub slices : HasSlices source tables' item.end item.body
+  pub slices : HasSlices source tables' item.start item.end item.body
   pub new_names : (n : Named) → number_of n < size_for tables n → times_named n item.body ≡ 0
 
 -- the first item of a chain was read in place, and the chain continues at a link

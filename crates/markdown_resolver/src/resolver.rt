@@ -57,6 +57,7 @@ impl<'a, F: BrokenLinkCallback<'a>> Resolver<'a, F> {
     ghost use Rattle.markdown_document.specs.Above.{above_cursor};
     ghost use Rattle.markdown_document.specs.Counts.{RisesAtMost};
     ghost use Rattle.markdown_document.specs.Document.{plain_tags};
+    ghost use Rattle.markdown_document.specs.Places.{trees_from};
     ghost use Rattle.markdown_document.specs.Setting.{rules_from, setting_of};
     ghost use Rattle.markdown_document.specs.Stages.{items_from, stage};
     ghost use Rattle.markdown_document.specs.Tables.{tables_of};
@@ -65,6 +66,7 @@ impl<'a, F: BrokenLinkCallback<'a>> Resolver<'a, F> {
     ghost use Rattle.markdown_resolver.specs.BracketKinds.{kind_of};
     ghost use Rattle.markdown_resolver.specs.ChainPlace.{CanReadItem};
     ghost use Rattle.markdown_resolver.specs.Chains.{CanResolve, AreAbove, ResolvesChain, ResolvesFrom, StopsIn};
+    ghost use Rattle.markdown_resolver.specs.Kept.{IsUnread};
     ghost use Rattle.markdown_resolver.specs.PassOne.{pass_one};
     ghost use Rattle.markdown_resolver.specs.ReadOn.{StopsInPassOne};
     ghost use Rattle.markdown_resolver.specs.ReadsBracket.{CanReadNode, ChangesForBracket, ChangesForNode};
@@ -313,6 +315,8 @@ impl<'a, F: BrokenLinkCallback<'a>> Resolver<'a, F> {
         requires can_ask { IfSome self.old.callback F.can_ask }
         requires ready { CanResolve self.old.text.now (tables_of self.old.tables) tree.old.nodes
             (Some first) }
+        requires unread { IsUnread (trees_from self.old.text.now (tables_of self.old.tables)
+            tree.old.nodes (Some first)) }
         requires above { AreAbove self.old.text.now tree.old.nodes (Some first) tree.old.spine }
         ensures reads { IfOk result (λ _. ResolvesFrom F.answers self.old.text.now
             (pass_one (setting_by self.old) plain_tags (above_cursor self.old.text.now tree.old))
@@ -374,6 +378,8 @@ impl<'a, F: BrokenLinkCallback<'a>> Resolver<'a, F> {
         requires can_ask { IfSome self.old.callback F.can_ask }
         requires ready { CanResolve self.old.text.now (tables_of self.old.tables) tree.old.nodes
             (Some first) }
+        requires unread { IsUnread (trees_from self.old.text.now (tables_of self.old.tables)
+            tree.old.nodes (Some first)) }
         requires open { is_open (item_at tree.old.nodes first).body ≡ true }
         requires above { AreAbove self.old.text.now tree.old.nodes (Some first) tree.old.spine }
         ensures resolves { IfOk result (λ _. ResolvesChain F.answers

@@ -6,6 +6,7 @@ use Rattle.std.proofs.Math.Logic.{∥∥₁_map}
 use Rattle.std.proofs.lemmas.Bool.{cases_lt}
 use Rattle.std.proofs.lemmas.List.{drop-drop, length-take, take-take, take_all}
 use Rattle.markdown_document.specs.Origins.{IsSliceWithin, IsSlicedOf, Origin}
+use Rattle.markdown_document.proofs.OriginLemmas.{slice_wider}
 
 -- the bytes between two byte offsets of a text are a slice of it, and so are all its bytes
 pub slice_between : (text : List ℕ) (start end : ℕ) (bytes : List ℕ) → bytes ≡ take (end - start) (drop start text)
@@ -16,17 +17,6 @@ pub slice_whole : (text : List ℕ) → IsSliceWithin text 0 (length text) text
 slice_whole text =
     let all : length text - 0 ≡ length text = omega arith in
     slice_between text 0 (length text) text (sym (ap (λ n. take n text) all ∙ take_all (length text) text (omega arith)))
-
--- a slice within a range is one within a wider range
-pub slice_wider : (text : List ℕ) (start end start' end' : ℕ) (bytes : List ℕ) → start' ≤ start → end ≤ end'
-    → IsSliceWithin text start end bytes → IsSliceWithin text start' end' bytes
-slice_wider text start end start' end' bytes low high h =
-    ∥∥₁_map h (λ (p : (range : Range ℕ) × (start ≤ range.start) × (range.end ≤ end) × (bytes ≡ slice_range text range.start range.end)). (
-      p.0,
-      omega (arith, low, p.1),
-      omega (arith, high, p.2),
-      p.3,
-    ))
 
 first_of_none : (n : ℕ) → let none : List ℕ = [] in none ≡ take n none
 first_of_none zero = refl

@@ -10,6 +10,6 @@ returns-clause-tag c = ap image (sym (link_at-read c.args.tables.now.links c.arg
     c.take_link-link_type.ensures.taken))
 
 pub returns-clause-from : goal.returns-clause-from
-returns-clause-from c source end slices =
-    leads_from source end (tables_of c.args.tables.now) c.args.ix.0 c.take_link-link_type.result c.requires c.take_link-link_type.ensures.taken
+returns-clause-from c source start end slices =
+    leads_from source start end (tables_of c.args.tables.now) c.args.ix.0 c.take_link-link_type.result c.requires c.take_link-link_type.ensures.taken
     slices

@@ -8,6 +8,7 @@ use Rattle.markdown_document.specs.Document.{inlined}
 use Rattle.markdown_inline.proofs.TakingLemmas.{is_from, no_start, opens_made, opens_slice, opens_span, text_at-read}
 use Rattle.markdown_inline.proofs.TakingLemmas.{takes_text}
 use Rattle.markdown_inline.proofs.bodies.leaf_event.Goals as goal
+use Rattle.markdown_document.specs.Places.{origin_start}
 
 pub returns-in-Text-clause-opens : goal.returns-in-Text-clause-opens
 returns-in-Text-clause-opens c = rw c.in-Text.is (opens_slice c.args.text.now (range_of c.args.item) text step.Text c.slice_of.result
@@ -81,12 +82,12 @@ returns-in-Math-clause-opens c =
     record {
       origins = origin_at cows ix ∷ [];
       begins = rw (c.in-Math.is, c.math_event.ensures.event, read) refl;
-      texts = rw (c.math_event.ensures.text, c.math_event.ensures.from c.args.item.start) (
-        is_from c.args.text.now 0 c.args.item.end cows ix c.take_cow-in-Math.result within taken
+      texts = rw (c.math_event.ensures.text, c.math_event.ensures.from c.args.text.now c.args.item.start) (
+        is_from c.args.text.now (origin_start c.args.text.now c.args.item.start) c.args.item.end cows ix c.take_cow-in-Math.result within taken
             (rw c.in-Math.is at c.requires.can.slices),
         tt,
       );
-      start = no_start c.args.text.now c.args.item.end c.math_event.result c.take_cow-in-Math.result c.math_event.ensures.text;
+      start = no_start c.args.text.now c.args.item.start c.args.item.end c.math_event.result c.take_cow-in-Math.result c.math_event.ensures.text;
     }
 
 pub returns-in-Math-clause-taken : goal.returns-in-Math-clause-taken

@@ -48,7 +48,7 @@ pub returns-in-Link-clause-tag : goal.returns-in-Link-clause-tag
 returns-in-Link-clause-tag c over = rw c.in-Link.is (ap enclosed (sym c.link_tag.ensures.tag))
 
 pub returns-in-Link-clause-from : goal.returns-in-Link-clause-from
-returns-in-Link-clause-from c source end slices = c.link_tag.ensures.from source end (rw c.in-Link.is at slices)
+returns-in-Link-clause-from c source start end slices = c.link_tag.ensures.from source start end (rw c.in-Link.is at slices)
 
 pub returns-in-Link-clause-taken : goal.returns-in-Link-clause-taken
 returns-in-Link-clause-taken c = rw c.in-Link.is (takes_link _ c.args.tables.now c.link_tag.new.tables c.in-Link.ix refl
@@ -58,7 +58,7 @@ pub returns-in-Image-clause-tag : goal.returns-in-Image-clause-tag
 returns-in-Image-clause-tag c over = rw c.in-Image.is (ap enclosed (sym c.image_tag.ensures.tag))
 
 pub returns-in-Image-clause-from : goal.returns-in-Image-clause-from
-returns-in-Image-clause-from c source end slices = c.image_tag.ensures.from source end (rw c.in-Image.is at slices)
+returns-in-Image-clause-from c source start end slices = c.image_tag.ensures.from source start end (rw c.in-Image.is at slices)
 
 pub returns-in-Image-clause-taken : goal.returns-in-Image-clause-taken
 returns-in-Image-clause-taken c = rw c.in-Image.is (takes_link _ c.args.tables.now c.image_tag.new.tables c.in-Image.ix refl
@@ -71,7 +71,7 @@ returns-in_default-clause-tag c over =
     c.in_default.not-FootnoteDefinition c.in_default.not-Table c.in_default.not-Link c.in_default.not-Image) c.container_tag.ensures.tag
 
 pub returns-in_default-clause-from : goal.returns-in_default-clause-from
-returns-in_default-clause-from c source end slices = c.container_tag.ensures.from source end
+returns-in_default-clause-from c source start end slices = c.container_tag.ensures.from source start end
 
 pub returns-in_default-clause-taken : goal.returns-in_default-clause-taken
 returns-in_default-clause-taken c = takes_nothing c.args.body c.args.tables.now

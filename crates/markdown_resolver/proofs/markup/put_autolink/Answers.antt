@@ -1,6 +1,6 @@
 -- The link is the last entry of its table, and its text the item below it.
 use Rattle.std.proofs.Common.{◌-◌, Some, false, refl, sym, subst}
-use Rattle.markdown_base.specs.BlockTree.{no_item}
+use Rattle.markdown_base.specs.BlockTree.{item_at, no_item}
 use Rattle.markdown_base.specs.declared.item.Item.{Item}
 use Rattle.markdown_base.specs.declared.item.ItemBody.TheVariants as body
 use Rattle.markdown_document.specs.Origins.{sliced}
@@ -25,10 +25,10 @@ put_parent-requires c =
     let over : Item → Item = λ item. record { start = item.start; end = end; body = body.Link link } in
     let inside : Item → Item = λ item. record { start = item.end; end = end - 1; body = body.Text false } in
     let uri = c.args.uri.now in
-    let put : PutsLink source end (tables_of held) (tables_of held') link (address uri) =
-    link_put source end held held' _ link (address uri)
+    let put : PutsLink source (item_at nodes ix).start end (tables_of held) (tables_of held') link (address uri) =
+    link_put source (item_at nodes ix).start end held held' _ link (address uri)
     c.in_ok-link.ensures.put c.in_ok-link.ensures.number
-    (address_from source end sliced uri at.address.slice) refl in
+    (address_from source (item_at nodes ix).start end sliced uri at.address.slice) refl in
     let can = can_put_autolink source (tables_of held) (tables_of held') link uri nodes ix end put at.lies at.address in
     let here = subst (λ (item : Item). CanPutParent source (tables_of held) (tables_of held') nodes ix (over item) (inside item))
     (sym (c.item-item.ensures no_item)) can in
@@ -49,10 +49,10 @@ returns-clause-puts c = λ source rules at.
     let next = c.in_ok-put_parent.field-0 in
     let over : Item → Item = λ item. record { start = item.start; end = end; body = body.Link link } in
     let inside : Item → Item = λ item. record { start = item.end; end = end - 1; body = body.Text false } in
-    let put : PutsLink source end tables tables' link (address uri) =
-    link_put source end held held' _ link (address uri) c.in_ok-link.ensures.put
+    let put : PutsLink source (item_at old ix).start end tables tables' link (address uri) =
+    link_put source (item_at old ix).start end held held' _ link (address uri) c.in_ok-link.ensures.put
     c.in_ok-link.ensures.number
-    (address_from source end sliced uri at.address.slice) refl in
+    (address_from source (item_at old ix).start end sliced uri at.address.slice) refl in
     let can = can_put_autolink source tables tables' link uri old ix end put at.lies at.address in
     let puts =
     subst (λ (item : Item). CanPutParent source tables tables' old ix (over item) (inside item)

@@ -75,7 +75,9 @@ put_found-requires c =
     let p = puts_math c.args.place.now.text.now tables tables' c.args.tree.now.nodes c.args.ix c.in-Some.math c.item-item.result.now
     c.item-2.result.now c.in_ok-cow.cow _ c.in_ok-math.field-0 c.math_text_start-start.result c.item.result.now c.requires.chain.ready
     c.requires.opener c.in_ok-math.ensures.found c.in-Some.is opens (c.item-2.ensures no_item)
-    (c.item.ensures no_item) stored in
+    (c.item.ensures no_item)
+    (start_is c.args.place.now.text.now (tables_of c.args.tables.now) c.args.tree.now.nodes c.args.ix c.math_text_start-start.result
+    c.requires.chain.ready c.math_text_start-start.ensures) stored in
     (c.args.place.now.text.now, tables, tables', stored.grown, p.found, p.can, ap (λ (i : Item). i.start) opens)
 
 put_here : (c : goal.After-put_found) → PutsMath c.args.place.now.text.now (tables_of c.args.tables.now) (tables_of c.store_text.new.tables)
@@ -86,7 +88,10 @@ put_here c =
     c.in-Some.math c.item-item.result.now c.item-2.result.now c.in_ok-cow.cow _ c.in_ok-math.field-0 c.math_text_start-start.result
     c.item.result.now c.requires.chain.ready c.requires.opener c.in_ok-math.ensures.found c.in-Some.is (c.item-item.ensures no_item)
     (c.item-2.ensures no_item)
-    (c.item.ensures no_item) c.in_ok-cow.ensures.stored
+    (c.item.ensures no_item)
+    (start_is c.args.place.now.text.now (tables_of c.args.tables.now) c.args.tree.now.nodes c.args.ix c.math_text_start-start.result
+    c.requires.chain.ready c.math_text_start-start.ensures)
+    c.in_ok-cow.ensures.stored
 
 abbrev standing_item : goal.After-put_found → Item
 standing_item c = math_item c.args.tree.now.nodes c.args.ix c.in-Some.math c.in_ok-cow.cow

@@ -2,7 +2,8 @@ use Rattle.std.proofs.Common.{◌≡◌, ◌∙◌, ◌-◌, length, arith, sym,
 use Rattle.std.proofs.lemmas.Str.{IsCharBoundary-after_ascii}
 use Rattle.markdown_spans.specs.CodeText.{has_outer_spaces}
 use Rattle.markdown_spans.proofs.CodeTextLemmas.{spaced}
-use Rattle.markdown_spans.proofs.SliceLemmas.{slice_between, slice_whole, slice_wider}
+use Rattle.markdown_spans.proofs.SliceLemmas.{slice_between, slice_whole}
+use Rattle.markdown_document.proofs.OriginLemmas.{slice_wider}
 use Rattle.markdown_spans.proofs.span_text.slice_outer_spaces.Goals as goal
 
 pub range-requires-clause-start_boundary : goal.range-requires-clause-start_boundary

@@ -2,7 +2,7 @@
 use Rattle.markdown_document.specs.Tables.{tables_of}
 use Rattle.std.proofs.Common.{refl}
 use Rattle.markdown_inline.specs.ParserLeft.{parser_setting}
-use Rattle.markdown_inline.proofs.ParserLemmas.{before_chain, above_chain, stands_chain, moved_give, moved_past, moved_skip}
+use Rattle.markdown_inline.proofs.ParserLemmas.{above_chain, before_chain, moved_give, moved_past, moved_skip, stands_chain, unread_chain}
 use Rattle.markdown_inline.proofs.ParserLemmas.{moved_chain, moved_done, moved_refused, moved_stopped}
 use Rattle.markdown_base.specs.Item.{range_of}
 use Rattle.markdown_inline.proofs.WalkStepsLemmas.{stands_ended, stopped}
@@ -18,8 +18,11 @@ resolve_chain-requires g c κs =
         (
           rw h.1 (before_chain s.resolver.text.now s.tree s.resolver.tables c.in-Ok-Chain.first s.stands h.0),
           (
-            rw h.1 h.0.is_open,
-            rw h.1 (above_chain s.resolver.text.now s.tree s.resolver.tables c.in-Ok-Chain.first s.stands h.0),
+            rw h.1 (unread_chain s.resolver.text.now s.tree s.resolver.tables c.in-Ok-Chain.first s.stands h.0),
+            (
+              rw h.1 h.0.is_open,
+              rw h.1 (above_chain s.resolver.text.now s.tree s.resolver.tables c.in-Ok-Chain.first s.stands h.0),
+            ),
           ),
         ),
       ),

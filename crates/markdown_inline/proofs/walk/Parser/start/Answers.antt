@@ -7,6 +7,7 @@ use Rattle.markdown_inline.proofs.ParserLemmas.{over_ended}
 use Rattle.markdown_inline.proofs.TakingLemmas.{opens_start}
 use Rattle.markdown_inline.proofs.WalkStepsLemmas.{stands_ended, stopped}
 use Rattle.markdown_inline.proofs.walk.Parser.start.Goals as goal
+use Rattle.markdown_document.specs.Places.{origin_start}
 
 pub invariant_of-self : goal.invariant_of-self
 invariant_of-self g c = record { stands = c.requires.begins.stands _ c.in-Ok.ensures.taken }
@@ -29,7 +30,8 @@ returns-in-Ok-clause-begun g c = record {
     tables = c.in-Ok.ensures.taken;
   };
   opens = opens_start c.args.self.now.resolver.text.now (range_of c.args.item) _ c.in-Ok.tag (c.in-Ok.ensures.tag _)
-      (c.in-Ok.ensures.from c.args.self.now.resolver.text.now c.args.item.end c.requires.begins.can.slices);
+      (c.in-Ok.ensures.from c.args.self.now.resolver.text.now (origin_start c.args.self.now.resolver.text.now c.args.item.start)
+      c.args.item.end c.requires.begins.can.slices);
 }
 
 pub returns-in-Err-clause-begun : goal.returns-in-Err-clause-begun

@@ -24,6 +24,7 @@ chain-init g c =
     rw c.begin_chain.ensures.kept (record {
       reads = up_to_none g.F.BrokenLinkCallback.answers (setting_of s.text.now (rules_from s.options s.tables (is_some s.callback)))
           c.args.first c.args.tree.now s.tables s.limit s.callback b.spent b.openers.brackets b.openers.wikilinks c.requires.ready
+          c.requires.unread
           c.begin_chain.ensures.spent c.begin_chain.ensures.brackets c.begin_chain.ensures.wikilinks;
       can_ask = c.requires.can_ask;
       scanner =
@@ -105,7 +106,7 @@ chain-preserved g c =
       reads = up_to_more i.reads c.requires.above (setting_of at.text.now (rules_from at.options at.tables (is_some at.callback))) ix next
           new.tree new.self.tables new.self.limit new.self.callback
           new.self.spent new.self.openers.brackets new.self.openers.wikilinks same c.in-Some.is reads.goes_on.place_is
-          (reads.goes_on.reads c.args.first i.reads.reads.left_then can);
+          (reads.goes_on.reads c.args.first i.reads.reads.left_then can) reads.goes_on.unread;
       can_ask = c.read_item.ensures.again;
       scanner = rw c.read_item.ensures.scanner i.scanner;
       code_learned = reads.code_learned;
