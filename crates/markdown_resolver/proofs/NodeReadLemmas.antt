@@ -35,9 +35,9 @@ module _ {C : Type 0} {step : C → Question → Option Answer → C → Type 0}
   -- a bracket leaves searches as they are
   pub bracket_read : HoldsFrom SpanKind.Code old.code_closers tree.nodes (Some ix)
       → HoldsFrom SpanKind.Math old.math_closers tree.nodes (Some ix)
-      → old.work.code_visits < 2 ^ 128 → old.work.math_visits < 2 ^ 128 → ChangesForBracket old new
+      → ChangesForBracket old new
       → ReadsBracket step place ix next tree tree' old new → ReadsNode step place ix next tree tree' old new
-  bracket_read code math code_bound math_bound changes r =
+  bracket_read code math changes r =
       let leads = chain_leads place.text.now (tables_of old.tables) tree.nodes (Some ix) (ready_here can.was_read) in
       let holds : (kind : SpanKind) (learned : Learned) → HoldsFrom kind learned tree.nodes (Some ix)
       → HoldsFrom kind learned tree'.nodes next =
@@ -52,19 +52,18 @@ module _ {C : Type 0} {step : C → Question → Option Answer → C → Type 0}
             (holds SpanKind.Math old.math_closers math);
         code_looks = subst (λ (x : Resolver C). LooksAt (has_failed old.code_closers) (has_failed x.code_closers) old.work.code_visits
             x.work.code_visits before after) (sym changes.kept)
-            (looks_at_none (has_failed old.code_closers) old.work.code_visits before after code_bound r.goes_on.fewer);
+            (looks_at_none (has_failed old.code_closers) old.work.code_visits before after r.goes_on.fewer);
         math_looks = subst (λ (x : Resolver C). LooksAt (has_failed old.math_closers) (has_failed x.math_closers) old.work.math_visits
             x.work.math_visits before after) (sym changes.kept)
-            (looks_at_none (has_failed old.math_closers) old.work.math_visits before after math_bound r.goes_on.fewer);
+            (looks_at_none (has_failed old.math_closers) old.work.math_visits before after r.goes_on.fewer);
       }
 
 -- so it does where memory is refused
-pub bracket_stops : {C : Type 0} (ix : ℕ) (tree : Arena Item) (old new : Resolver C) → old.work.code_visits < 2 ^ 128
-    → old.work.math_visits < 2 ^ 128 → ChangesForBracket old new → StopsLooking ix tree old new
-bracket_stops {C} ix tree old new code_bound math_bound changes =
+pub bracket_stops : {C : Type 0} (ix : ℕ) (tree : Arena Item) (old new : Resolver C) → ChangesForBracket old new → StopsLooking ix tree old new
+bracket_stops {C} ix tree old new changes =
     subst (λ (x : Resolver C). StopsLooking ix tree old x) (sym changes.kept) (record {
-      code_looks = stops_at_none (has_failed old.code_closers) old.work.code_visits _ code_bound;
-      math_looks = stops_at_none (has_failed old.math_closers) old.work.math_visits _ math_bound;
+      code_looks = stops_at_none (has_failed old.code_closers) old.work.code_visits _;
+      math_looks = stops_at_none (has_failed old.math_closers) old.work.math_visits _;
     })
 
 -- an item that is not a bracket changes only the texts and links that were appended, and what searches hold and count

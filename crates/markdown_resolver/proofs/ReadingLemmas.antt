@@ -1,6 +1,6 @@
 -- A chain is read in place, item by item: what is true of the items that are left.
 use Rattle.std.proofs.Common.{◌≡◌, ℕ, zero, suc, ◌+◌, ◌-◌, ◌^◌, ◌<◌, ◌≤◌, min, Bool, true, false, ◌⊎◌, inr, ⊎_elim, List, length}
-use Rattle.std.proofs.Common.{take, rules, Option, Some, None, refl, sym, subst, arith}
+use Rattle.std.proofs.Common.{take, rules, Option, Some, None, refl, sym, subst, arith, ◌∙◌, ap}
 use Rattle.std.proofs.lemmas.Result.{IfOk-weaker}
 use Rattle.std.specs.Prelude.{Result, Ok, Err, IfOk, slice_range}
 use Rattle.markdown_base.specs.Arena.{Arena, sibling_of, child_of}
@@ -35,6 +35,7 @@ use Rattle.markdown_resolver.specs.ReadsItem.{LooksAt, LooksAtMost, ReadsItem}
 use Rattle.markdown_document.specs.declared.chain_place.ChainPlace.{ChainPlace}
 use Rattle.markdown_resolver.proofs.ChainLeadsLemmas.{chain_leads, holds_next}
 use Rattle.markdown_resolver.proofs.ReadsItemLemmas.{reads_item}
+use Rattle.markdown_document.proofs.CountLemmas.{risen_twice}
 
 -- the node of a chain's first item exists
 pub node_within : (source : List ℕ) (tables : Tables) (nodes : List (Node Item)) (ix : ℕ)
@@ -70,36 +71,24 @@ items_some source tables nodes ix ready =
 pub items_none : (nodes : List (Node Item)) → items_from nodes None ≡ 0
 items_none nodes = rw (forest_at-none (links_of nodes)) refl
 
--- of all items some were counted, up to the maximum, and the others follow
+-- of all items some were counted, and the others follow
 pub record Counted (old now all rest : ℕ) : Type 0 where
   pub done : ℕ
   pub is_all : all ≡ done + rest
-  pub count : ((done ≡ 0) × (now ≡ old)) ⊎ (now ≡ min (old + done) (2 ^ 128 - 1))
+  pub count : now ≡ risen done old
 
--- one more was counted, after some or none
-one_more : (old now new done most : ℕ) → new ≡ min (now + 1) most
-    → ((done ≡ 0) × (now ≡ old)) ⊎ (now ≡ min (old + done) most) → new ≡ min (old + suc done) most
-one_more old now new done most e h =
-    ⊎_elim (λ (z : (done ≡ 0) × (now ≡ old)). omega (arith, e, z.0, z.1)) (λ z. omega (arith, e, z)) h
-
-pub counted_more : (old now new all rest more : ℕ) → Counted old now all rest → rest ≡ suc more
-    → new ≡ min (now + 1) (2 ^ 128 - 1) → Counted old new all more
+-- one more was counted
+pub counted_more : (old now new all rest more : ℕ) → Counted old now all rest → rest ≡ suc more → new ≡ risen 1 now
+    → Counted old new all more
 counted_more old now new all rest more c r e = record {
-  done = suc c.done;
+  done = c.done + 1;
   is_all = omega (arith, c.is_all, r);
-  count = inr (one_more old now new c.done (2 ^ 128 - 1) e c.count);
+  count = e ∙ ap (risen 1) c.count ∙ risen_twice c.done 1 old;
 }
 
--- where the counted ones are all, the count is of all
-all_done : (old now done all most : ℕ) → done ≡ all → 0 < all
-    → ((done ≡ 0) × (now ≡ old)) ⊎ (now ≡ min (old + done) most) → now ≡ min (old + all) most
-all_done old now done all most e l h =
-    ⊎_elim (λ (z : (done ≡ 0) × (now ≡ old)). absurd (omega (arith, e, l, z.0))) (λ z. omega (arith, e, z)) h
-
--- so in the end all were counted, of which there was one at least
-pub counted_all : (old now all rest : ℕ) → Counted old now all rest → rest ≡ 0 → 0 < all
-    → now ≡ min (old + all) (2 ^ 128 - 1)
-counted_all old now all rest c r l = all_done old now c.done all (2 ^ 128 - 1) (omega (arith, c.is_all, r)) l c.count
+-- so in the end all were counted
+pub counted_all : (old now all rest : ℕ) → Counted old now all rest → rest ≡ 0 → now ≡ risen all old
+counted_all old now all rest c r = let whole : c.done ≡ all = omega (arith, c.is_all, r) in c.count ∙ ap (λ n. risen n old) whole
 
 -- nothing is found at an item with this body
 pub record FindsNothing (b : ItemBody) : Type 0 where
@@ -156,21 +145,21 @@ settled_reads s above ix next old new tables ready nothing_there puts =
     reads_item ready (record { standing = reads.0; ends = reads.1 }) puts
 
 -- where no search was made, none examined an item
-pub looks_at_none : (failed : Bool) (visits items items' : ℕ) → visits < 2 ^ 128 → items' < items
+pub looks_at_none : (failed : Bool) (visits items items' : ℕ) → items' < items
     → LooksAt failed failed visits visits items items'
-looks_at_none failed visits items items' bound fewer = record {
+looks_at_none failed visits items items' fewer = record {
   more = 0;
-  counted = omega arith;
+  counted = refl;
   within = omega arith;
   none = λ e. (refl, e);
   past = λ e. omega arith;
 }
 
 -- nor did any where memory was refused
-pub stops_at_none : (failed : Bool) (visits items : ℕ) → visits < 2 ^ 128 → LooksAtMost failed failed visits visits items
-stops_at_none failed visits items bound = record {
+pub stops_at_none : (failed : Bool) (visits items : ℕ) → LooksAtMost failed failed visits visits items
+stops_at_none failed visits items = record {
   more = 0;
-  counted = omega arith;
+  counted = refl;
   within = omega arith;
   none = λ e. (refl, e);
   past = λ e. omega arith;
@@ -183,7 +172,7 @@ pub record ReadsAlone {E : Type 0} (r : Result (Option ℕ) E) (s : Setting) (ab
   pub reads : IfOk r (λ next. ReadsItem s above ix next old new tables tables')
   pub holds : (kind : SpanKind) (learned : Learned) → HoldsFrom kind learned old (Some ix)
       → IfOk r (λ next. HoldsFrom kind learned new next)
-  pub looks : (failed : Bool) (visits : ℕ) → visits < 2 ^ 128
+  pub looks : (failed : Bool) (visits : ℕ)
       → IfOk r (λ next. LooksAt failed failed visits visits (items_from old (Some ix)) (items_from new next))
 
 pub reads_alone : {E : Type 0} (r : Result (Option ℕ) E) (s : Setting) (above : Above) (ix : ℕ) (old new : List (Node Item))
@@ -193,12 +182,12 @@ reads_alone (Ok next) s above ix old new tables tables' ready reads = record {
   reads = reads;
   holds = λ kind learned h.
       reads.holds kind learned (holds_next kind learned old ix (chain_leads s.text tables old (Some ix) ready) h);
-  looks = λ failed visits bound. looks_at_none failed visits (items_from old (Some ix)) (items_from new next) bound reads.leaves.fewer;
+  looks = λ failed visits. looks_at_none failed visits (items_from old (Some ix)) (items_from new next) reads.leaves.fewer;
 }
 reads_alone (Err fault) s above ix old new tables tables' ready reads = record {
   reads = tt;
   holds = λ kind learned h. tt;
-  looks = λ failed visits bound. tt;
+  looks = λ failed visits. tt;
 }
 
 -- so it is by the rules of a setting, where it is so by any rules with its footnotes
@@ -228,32 +217,22 @@ pub record LookedUpTo (failed : Bool) (old now all rest : ℕ) : Type 0 where
 pub looked_none : (failed : Bool) (old all : ℕ) → LookedUpTo failed old old all all
 looked_none failed old all = record { more = 0; counted = refl; within = omega arith; past = λ e. omega arith }
 
--- a count that has risen is the sum, up to the maximum
-risen_is : (n old : ℕ) → old < 2 ^ 128 → risen n old ≡ min (old + n) (2 ^ 128 - 1)
-risen_is zero old bound = omega arith
-risen_is (suc n) old bound = refl
-
--- so it is where it has risen twice
-risen_more : (more n old now new : ℕ) → old < 2 ^ 128 → now ≡ risen more old → new ≡ min (now + n) (2 ^ 128 - 1)
-    → new ≡ risen (more + n) old
-risen_more more n old now new bound e h = omega (arith, risen_is more old bound, risen_is (more + n) old bound, e, h)
-
 -- one more search was made, or none
-pub looked_more : (before after : Bool) (old now new all items items' : ℕ) → old < 2 ^ 128 → LookedUpTo before old now all items
+pub looked_more : (before after : Bool) (old now new all items items' : ℕ) → LookedUpTo before old now all items
     → LooksAt before after now new items items' → LookedUpTo after old new all items'
-looked_more true after old now new all items items' bound l a =
+looked_more true after old now new all items items' l a =
     let none = a.none refl in
     record {
       more = l.more + a.more;
-      counted = risen_more l.more a.more old now new bound l.counted a.counted;
+      counted = a.counted ∙ ap (risen a.more) l.counted ∙ risen_twice l.more a.more old;
       within = omega (arith, l.within, none.0);
       past = λ e. cc (none.1, e);
     }
-looked_more false after old now new all items items' bound l a =
+looked_more false after old now new all items items' l a =
     let past = l.past refl in
     record {
       more = l.more + a.more;
-      counted = risen_more l.more a.more old now new bound l.counted a.counted;
+      counted = a.counted ∙ ap (risen a.more) l.counted ∙ risen_twice l.more a.more old;
       within = omega (arith, past, a.within);
       past = λ e. omega (arith, past, a.past e);
     }

@@ -25,6 +25,7 @@ use Rattle.markdown_resolver.proofs.CodeSpanLemmas.{closed_code, closes_by_numbe
 use Rattle.markdown_resolver.proofs.MathSpanLemmas.{MathStands, close_of, math_by_number, stands_of}
 use Rattle.markdown_resolver.proofs.SpanFindLemmas.{StandsAmong, code_close_shown, first_dollar_shown, math_from_shown, number_alike}
 use Rattle.markdown_resolver.proofs.SpanFindLemmas.{searched_shown, shown_close, shown_dollar}
+use Rattle.markdown_document.specs.Counts.{RisesAtMost}
 
 -- a search examines no more items than there are; none without an opener; and where it finds, none past what is left
 pub looks_at : (learned : Learned) (after searched found : Bool) (looked old new items items' : ℕ)
@@ -218,43 +219,43 @@ math_looks {source} {tables} {tables'} {old} {new} {ix} {m} {trees} {next} learn
     (unless_math (item_at old ix) chain) (λ found. omega (arith, up_to, left, fewer, o.items))
 
 -- memory was refused to a search, which has learned nothing
-refused_at : (learned : Learned) (looked old new items : ℕ) → old ≤ new → new < 2 ^ 128 → new ≤ old + unless_failed learned looked
+refused_at : (learned : Learned) (looked old new items : ℕ) → RisesAtMost (unless_failed learned looked) old new
     → looked ≤ items → LooksAtMost (has_failed learned) (has_failed learned) old new items
-refused_at None looked old new items rises bound at_most within = record {
-  more = new - old;
-  counted = omega (arith, rises, bound);
-  within = omega (arith, rises, at_most, within);
+refused_at None looked old new items at_most within = record {
+  more = at_most.more;
+  counted = at_most.counted;
+  within = omega (arith, at_most.within, within);
   none = λ before. cc before;
-  past = λ works. omega (arith, rises, at_most, within);
+  past = λ works. omega (arith, at_most.within, within);
 }
-refused_at (Some known) looked old new items rises bound at_most within = record {
-  more = 0;
-  counted = omega (arith, rises, bound, at_most);
-  within = omega arith;
-  none = λ before. (refl, refl);
+refused_at (Some known) looked old new items at_most within = record {
+  more = at_most.more;
+  counted = at_most.counted;
+  within = omega (arith, at_most.within);
+  none = λ before. (omega (arith, at_most.within), refl);
   past = λ works. cc works;
 }
 
 module _ {source : List ℕ} {tables : Tables} {old : List (Node Item)} {ix : ℕ} (learned : Learned) (visits visits' : ℕ)
     (ready : CanResolve source tables old (Some ix)) where
-  pub code_refused : visits ≤ visits' → visits' < 2 ^ 128 → LooksForCodeAtMost learned old ix visits visits'
+  pub code_refused : LooksForCodeAtMost learned old ix visits visits'
       → LooksAtMost (has_failed learned) (has_failed learned) visits visits' (items_from old (Some ix))
-  code_refused rises bound at_most =
+  code_refused at_most =
       let o = opens_chain source tables old ix ready in
       let chain = map (numbered old) (followers old ix) in
       let size = length-map (followers old ix) (numbered old) in
       let within = code_visit_law.within (item_at old ix).body chain in
-      refused_at learned (looked_for_code_close item_in (item_at old ix).body chain) visits visits' (items_from old (Some ix)) rises bound
+      refused_at learned (looked_for_code_close item_in (item_at old ix).body chain) visits visits' (items_from old (Some ix))
       (at_most (suc ix) chain o.leads) (omega (arith, within, size, o.items))
 
-  pub math_refused : visits ≤ visits' → visits' < 2 ^ 128 → LooksForMathAtMost learned old ix visits visits'
+  pub math_refused : LooksForMathAtMost learned old ix visits visits'
       → LooksAtMost (has_failed learned) (has_failed learned) visits visits' (items_from old (Some ix))
-  math_refused rises bound at_most =
+  math_refused at_most =
       let o = opens_chain source tables old ix ready in
       let chain = map (numbered old) (followers old ix) in
       let size = length-map (followers old ix) (numbered old) in
       let within = math_visit_law.within (item_at old ix) chain in
-      refused_at learned (looked_for_math_from item_in (item_at old ix) chain) visits visits' (items_from old (Some ix)) rises bound
+      refused_at learned (looked_for_math_from item_in (item_at old ix) chain) visits visits' (items_from old (Some ix))
       (at_most (suc ix) chain o.leads) (omega (arith, within, size, o.items))
 
   -- it was refused to what a search has found

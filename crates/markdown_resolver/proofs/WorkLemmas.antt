@@ -32,14 +32,6 @@ chain_items source tables nodes l =
     ap length (roots-relabelled (label_at source tables nodes) (forest_at (links_of nodes) l))
     ∙ length-map (roots (forest_at (links_of nodes) l)) (label_at source tables nodes)
 
-some_root : (nodes : List (Node Item)) (ix : ℕ) (f : Forest ℕ) → Spells (links_of nodes) (Some ix) f → 0 < length (roots f)
-some_root nodes ix nil s = cc s
-some_root nodes ix (node j below after) s = omega arith
-
-some_items : (nodes : List (Node Item)) (ix : ℕ) → Spells (links_of nodes) (Some ix) (forest_at (links_of nodes) (Some ix))
-    → 0 < items_from nodes (Some ix)
-some_items nodes ix spelled = some_root nodes ix (forest_at (links_of nodes) (Some ix)) spelled
-
 -- a count that is at most the maximum rises by nothing, or by something up to the maximum
 stays_below : (count most : ℕ) → count ≤ most → min (count + 0) most ≡ count
 stays_below count most l = omega arith
@@ -47,10 +39,6 @@ stays_below count most l = omega arith
 risen_is : (n count : ℕ) → count ≤ 2 ^ 128 - 1 → min (count + n) (2 ^ 128 - 1) ≡ risen n count
 risen_is zero count l = stays_below count (2 ^ 128 - 1) l
 risen_is (suc n) count l = refl
-
-risen_some : (n count : ℕ) → 0 < n → min (count + n) (2 ^ 128 - 1) ≡ risen n count
-risen_some zero count l = absurd (omega (arith, l))
-risen_some (suc n) count l = refl
 
 -- the counts that may rise by nothing are at most the maximum
 pub record AreCounts (w : Work) : Type 0 where
@@ -61,12 +49,12 @@ pub record AreCounts (w : Work) : Type 0 where
 same_rise : (most most' old new new' : ℕ) → most' ≡ most → new' ≡ new → RisesAtMost most old new → RisesAtMost most' old new'
 same_rise most most' old new new' e e' r = record { more = r.more; within = omega (arith, e, r.within); counted = e' ∙ r.counted }
 
-work_rises : (n : ChainCounts) (old new : Work) → AreCounts old → 0 < n.items → new.items ≡ min (old.items + n.items) (2 ^ 128 - 1)
+work_rises : (n : ChainCounts) (old new : Work) → AreCounts old → new.items ≡ risen n.items old.items
     → new.delimiters ≡ min (old.delimiters + n.delimiters) (2 ^ 128 - 1)
     → ExaminesAtMost (comparisons_per_delimiter * n.delimiters) old.examined new.examined → RisesAtLeast n.found old.examined new.examined
     → RisesAtMost n.items old.code_visits new.code_visits → RisesAtMost n.items old.math_visits new.math_visits → WorkRises n old new
-work_rises n old new fits some items delimiters examined found code math = record {
-  items = items ∙ risen_some n.items old.items some;
+work_rises n old new fits items delimiters examined found code math = record {
+  items = items;
   delimiters = delimiters ∙ risen_is n.delimiters old.delimiters fits.delimiters;
   examined = record {
     more = examined.examined;
@@ -81,7 +69,7 @@ work_rises n old new fits some items delimiters examined found code math = recor
 
 -- what reading a chain with this number of items makes of the counts
 pub record ReadCounts (items : ℕ) (old new : Work) : Type 0 where
-  pub items_counted : new.items ≡ min (old.items + items) (2 ^ 128 - 1)
+  pub items_counted : new.items ≡ risen items old.items
   pub same_delimiters : new.delimiters ≡ old.delimiters
   pub same_examined : new.examined ≡ old.examined
   pub code : RisesAtMost items old.code_visits new.code_visits
@@ -106,19 +94,17 @@ found_by f f' old old' new e e' h = rw (sym e, sym e') h
 
 -- where a chain was read, the counts rose by those of a part of it: of its items, and of no delimiter character
 pub read_in_part : {C : Type 0} (s : Setting) (above : Above) (first : ℕ) (old : Stage C) (known : Known) (work new : Work)
-    → Spells (links_of old.nodes) (Some first) (forest_at (links_of old.nodes) (Some first))
     → ReadCounts (items_from old.nodes (Some first)) work new
     → RisesInPart (chain_counts s plain_tags above (chain_at s.text old (Some first)) known) work new
-read_in_part s above first old known work new spelled read =
+read_in_part s above first old known work new read =
     let n = chain_counts s plain_tags above (chain_at s.text old (Some first)) known in
     let items = chain_items s.text old.tables old.nodes (Some first) in
-    let some : 0 < n.items = omega (arith, items, some_items old.nodes first spelled) in
     record {
       part = record { items = n.items; delimiters = 0; found = 0 };
       items = omega arith;
       delimiters = omega arith;
       rises = record {
-        items = read.items_counted ∙ ap (λ k. min (work.items + k) (2 ^ 128 - 1)) (sym items) ∙ risen_some n.items work.items some;
+        items = read.items_counted ∙ ap (λ k. risen k work.items) (sym items);
         delimiters = read.same_delimiters;
         examined = record { more = 0; within = omega arith; counted = read.same_examined };
         found = omega (arith, read.same_examined);
@@ -132,7 +118,6 @@ read_in_part s above first old known work new spelled read =
 -- where a chain was read, and then paired, the counts rose by those of the chain, with so many searches that find
 module _ {C : Type 0} (step : C → Question → Option Answer → C → Type 0) (s : Setting) (above : Above) (first : ℕ)
     (old mid : Stage C) (work then new : Work)
-    (spelled : Spells (links_of old.nodes) (Some first) (forest_at (links_of old.nodes) (Some first)))
     (r : ResolvesFrom step s.text (pass_one s plain_tags above) (Some first) old mid)
     (fits : AreCounts work) (read : ReadCounts (items_from old.nodes (Some first)) work then) where
   abbrev counts_of : (later : Answers) → ChainCounts
@@ -145,9 +130,8 @@ module _ {C : Type 0} (step : C → Question → Option Answer → C → Type 0)
       let d = delimiters_of (trees_at mid.nodes (Some first)) in
       let items = chain_items s.text old.tables old.nodes (Some first) in
       let left = delimiters_left step s above first old mid r later in
-      let some : 0 < n.items = omega (arith, items, some_items old.nodes first spelled) in
-      work_rises (record n { found = found }) work new fits some
-      (ap (λ (w : Work). w.items) paired.counted ∙ read.items_counted ∙ ap (λ k. min (work.items + k) (2 ^ 128 - 1)) (sym items))
+      work_rises (record n { found = found }) work new fits
+      (ap (λ (w : Work). w.items) paired.counted ∙ read.items_counted ∙ ap (λ k. risen k work.items) (sym items))
       (ap (λ (w : Work). w.delimiters) paired.counted ∙ ap (λ k. min (k + d) (2 ^ 128 - 1)) read.same_delimiters
       ∙ ap (λ k. min (work.delimiters + k) (2 ^ 128 - 1)) left)
       (examined_by d n.delimiters then.examined work.examined new.examined left read.same_examined paired.compared)

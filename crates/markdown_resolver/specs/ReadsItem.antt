@@ -1,10 +1,11 @@
 -- An item of a chain that is not a bracket was read in place.
-use Rattle.std.specs.Prelude.{◌≡◌, ℕ, ◌+◌, ◌≤◌, ◌-◌, ◌^◌, min, Bool, true, false, List, Option}
+use Rattle.std.specs.Prelude.{◌≡◌, ℕ, ◌+◌, ◌≤◌, Bool, true, false, List, Option}
 use Rattle.markdown_base.specs.Arena.{child_of, sibling_of}
 use Rattle.markdown_base.specs.declared.item.Item.{Item}
 use Rattle.markdown_base.specs.declared.node.Node.{Node}
 use Rattle.markdown_document.specs.Above.{Above}
 use Rattle.markdown_document.specs.ChainRest.{past}
+use Rattle.markdown_document.specs.Counts.{risen}
 use Rattle.markdown_document.specs.Document.{plain_tags}
 use Rattle.markdown_document.specs.Places.{label_at, trees_from}
 use Rattle.markdown_document.specs.Setting.{Setting}
@@ -37,7 +38,7 @@ pub record ReadsItem (s : Setting) (above : Above) (ix : ℕ) (next : Option ℕ
 -- unless one has failed now, by none of what is left
 pub record LooksAt (before after : Bool) (old new items items' : ℕ) : Type 0 where
   pub more : ℕ
-  pub counted : new ≡ min (old + more) (2 ^ 128 - 1)
+  pub counted : new ≡ risen more old
   pub within : more ≤ items
   pub none : before ≡ true → (more ≡ 0) × (after ≡ true)
   pub past : after ≡ false → more + items' ≤ items

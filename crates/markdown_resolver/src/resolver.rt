@@ -48,14 +48,14 @@ pub struct Resolver<'a, F> {
 }
 
 impl<'a, F: BrokenLinkCallback<'a>> Resolver<'a, F> {
-    ghost use Rattle.std.specs.Prelude.{◌≡◌, ◌+◌, ◌-◌, ◌^◌, ℕ, List, min, true, Some, IfOk, IfErr, IfSome};
+    ghost use Rattle.std.specs.Prelude.{◌≡◌, ℕ, List, true, Some, IfOk, IfErr, IfSome};
     ghost use Rattle.std.specs.Prelude.{is_some, take, false, None, []};
     ghost use Rattle.markdown_base.specs.BlockTree.{item_at};
     ghost use Rattle.markdown_base.specs.declared.item.ItemBody.TheVariants as body;
     ghost use Rattle.markdown_brackets.specs.SpentEnds.{is_spent};
     ghost use Rattle.markdown_base.specs.Item.{is_open};
     ghost use Rattle.markdown_document.specs.Above.{above_cursor};
-    ghost use Rattle.markdown_document.specs.Counts.{RisesAtMost};
+    ghost use Rattle.markdown_document.specs.Counts.{RisesAtMost, risen};
     ghost use Rattle.markdown_document.specs.Document.{plain_tags};
     ghost use Rattle.markdown_document.specs.Places.{trees_from};
     ghost use Rattle.markdown_document.specs.Setting.{rules_from, setting_of};
@@ -127,9 +127,6 @@ impl<'a, F: BrokenLinkCallback<'a>> Resolver<'a, F> {
         ensures scanner { scanner.new.text ≡ scanner.old.text }
         ensures refused { IfErr result (λ fault. fault ≡ Fault.Memory) }
     {
-        // reading the counts shows that they fit their type
-        let _code_visits = self.work.code_visits;
-        let _math_visits = self.work.math_visits;
         match tree.item(ix).body {
             ItemBody::MaybeCode(_, _) => read_code(
                 self.alloc,
@@ -257,9 +254,6 @@ impl<'a, F: BrokenLinkCallback<'a>> Resolver<'a, F> {
         ensures scanner { scanner.new.text ≡ scanner.old.text }
         ensures kept { ChangesForNode self.old self.new }
     {
-        // reading the counts shows that they fit their type
-        let _code_visits = self.work.code_visits;
-        let _math_visits = self.work.math_visits;
         match kind_of(tree.item(ix).body) {
             Some(bracket) => self.read_bracket(tree, place, ix, bracket),
             None => self.read_other(tree, place, scanner, ix),
@@ -272,8 +266,7 @@ impl<'a, F: BrokenLinkCallback<'a>> Resolver<'a, F> {
             (Some first) }
         ensures { self.new ≡ record self.old {
           work = record self.old.work {
-            items = min (self.old.work.items + items_from tree.now.nodes (Some first))
-                (2 ^ 128 - 1);
+            items = risen (items_from tree.now.nodes (Some first)) self.old.work.items;
           };
         } }
     {
@@ -295,8 +288,7 @@ impl<'a, F: BrokenLinkCallback<'a>> Resolver<'a, F> {
           openers = self.new.openers;
           spent = self.new.spent;
           work = record self.old.work {
-            items = min (self.old.work.items + items_from tree.now.nodes (Some first))
-                (2 ^ 128 - 1);
+            items = risen (items_from tree.now.nodes (Some first)) self.old.work.items;
           };
           code_closers = None;
           math_closers = None;
@@ -326,8 +318,7 @@ impl<'a, F: BrokenLinkCallback<'a>> Resolver<'a, F> {
 
         // on an error, and in any case
         ensures items { self.new.work.items
-            ≡ min (self.old.work.items + items_from tree.old.nodes (Some first))
-            (2 ^ 128 - 1) }
+            ≡ risen (items_from tree.old.nodes (Some first)) self.old.work.items }
         ensures code_visits { RisesAtMost (items_from tree.old.nodes (Some first))
             self.old.work.code_visits self.new.work.code_visits }
         ensures math_visits { RisesAtMost (items_from tree.old.nodes (Some first))
@@ -359,9 +350,6 @@ impl<'a, F: BrokenLinkCallback<'a>> Resolver<'a, F> {
             ≡ is_some (footnote_at self.old.tables.footdefs name) }
         ensures refused { IfErr result (λ fault. fault ≡ Fault.Memory) }
     {
-        // reading the counts shows that they fit their type
-        let _code_visits = self.work.code_visits;
-        let _math_visits = self.work.math_visits;
         self.begin_chain(tree, first);
         let place = place_of_chain(tree, self.text, self.options);
         let mut scanner = RawHtmlScanner::new(self.text[..place.block_end].as_bytes());

@@ -214,10 +214,7 @@ pub(crate) fn read_code<'a>(
     ensures tables { tables.new ≡ record tables.old { cows = tables.new.cows } }
     ensures refused { IfErr result (λ fault. fault ≡ Fault.Memory) }
 {
-    let found = closers.find_code_closer(tree, ix, visits);
-    // bounds the count
-    let _visits = *visits;
-    let Some(closer) = found? else {
+    let Some(closer) = closers.find_code_closer(tree, ix, visits)? else {
         return Ok(settle(tree, ix));
     };
     let item = *tree.item(ix);
@@ -267,10 +264,7 @@ pub(crate) fn read_math<'a>(
     ensures tables { tables.new ≡ record tables.old { cows = tables.new.cows } }
     ensures refused { IfErr result (λ fault. fault ≡ Fault.Memory) }
 {
-    let found = closers.find_math_closer(tree, ix, visits);
-    // bounds the count
-    let _visits = *visits;
-    let Some(math) = found? else {
+    let Some(math) = closers.find_math_closer(tree, ix, visits)? else {
         return Ok(settle(tree, ix));
     };
     let item = *tree.item(ix);

@@ -12,6 +12,7 @@ use Rattle.markdown_spans.specs.SpanClosers.{RisesBy}
 use Rattle.markdown_spans.specs.SpanMarks.{is_wanted, mark_at, marks_in}
 use Rattle.markdown_spans.specs.declared.span_marks.SpanMark.{SpanMark}
 use Rattle.markdown_spans.specs.declared.span_text.SpanKind.{SpanKind}
+use Rattle.markdown_document.proofs.CountLemmas.{risen_twice}
 
 -- a chain that begins at a node
 pub record ChainAt (nodes : List (Node Item)) (ix : ℕ) : Type 0 where
@@ -77,28 +78,19 @@ none_sought-push kind wanted [] a h e = (e, tt)
 none_sought-push kind wanted (b ∷ passed) a h e = (h.0, none_sought-push kind wanted passed a h.1 e)
 
 pub rises_on : (old n mid k new : ℕ) → RisesBy n old mid → RisesBy k mid new → RisesBy (n + k) old new
-rises_on old n mid k new p q = rw (q, p) (twice old n k (2 ^ 128 - 1))
-  where
-    twice : (v n k most : ℕ) → min (min (v + n) most + k) most ≡ min (v + (n + k)) most
-    twice v n k most = omega arith
-
-pub rises_by_none : (v : ℕ) → v ≤ 2 ^ 128 - 1 → RisesBy 0 v v
-rises_by_none v h = at_most v (2 ^ 128 - 1) h
-  where
-    at_most : (v most : ℕ) → v ≤ most → v ≡ min (v + 0) most
-    at_most v most h = omega arith
+rises_on old n mid k new p q = rw (q, p) (risen_twice n k old)
 
 pub walk_begins : (kind : SpanKind) (wanted : Option ℕ) (nodes : List (Node Item)) (chain : List Numbered)
     (first : Option ℕ)
-    (noted : List SpanMark) (visits low : ℕ) → visits ≤ 2 ^ 128 - 1 → LeadsThrough nodes low first chain
+    (noted : List SpanMark) (visits low : ℕ) → LeadsThrough nodes low first chain
     → Passes kind wanted nodes chain first noted noted visits visits
-walk_begins kind wanted nodes chain first noted visits low fits h = record {
+walk_begins kind wanted nodes chain first noted visits low h = record {
   passed = [];
   rest = chain;
   parts = refl;
   none = tt;
   notes = sym (append-nil noted);
-  counts = rises_by_none visits fits;
+  counts = refl;
   low = low;
   leads = h;
 }
@@ -153,16 +145,16 @@ walk_finds kind wanted nodes chain ix old noted visits at_ix later p hit one = r
 }
 
 none_there : (kind : SpanKind) (wanted : Option ℕ) (nodes : List (Node Item)) (low : ℕ) (rest : List Numbered) (v : ℕ)
-    → v ≤ 2 ^ 128 - 1 → LeadsThrough nodes low None rest → FirstIsSought kind wanted rest × RisesBy (one_of rest) v v
-none_there kind wanted nodes low [] v fits h = (tt, rises_by_none v fits)
-none_there kind wanted nodes low (a ∷ after) v fits h = cc (h.0)
+    → LeadsThrough nodes low None rest → FirstIsSought kind wanted rest × RisesBy (one_of rest) v v
+none_there kind wanted nodes low [] v h = (tt, refl)
+none_there kind wanted nodes low (a ∷ after) v h = cc (h.0)
 
 pub walk_ends : (kind : SpanKind) (wanted : Option ℕ) (nodes : List (Node Item)) (chain : List Numbered)
-    (old noted : List SpanMark) (visits at_end : ℕ) → at_end ≤ 2 ^ 128 - 1 →
+    (old noted : List SpanMark) (visits at_end : ℕ) →
     Passes kind wanted nodes chain None old noted visits at_end
     → WalksTo kind wanted nodes chain None old noted visits at_end
-walk_ends kind wanted nodes chain old noted visits at_end fits p =
-    let last = none_there kind wanted nodes p.low p.rest at_end fits p.leads in
+walk_ends kind wanted nodes chain old noted visits at_end p =
+    let last = none_there kind wanted nodes p.low p.rest at_end p.leads in
     record { before = at_end; passes = p; stops = last.0; counts = last.1 }
 
 -- memory was refused for a mark that is not sought

@@ -17,7 +17,6 @@ use Rattle.markdown_spans.specs.Closers.{opens_code}
 use Rattle.markdown_spans.specs.SpanClosers.{ClosesCode, HoldsFrom, HoldsOf, Learned, LooksForCode, RisesBy, failed_by_now, has_failed}
 use Rattle.markdown_spans.specs.SpanClosers.{item_in, unless_failed}
 use Rattle.markdown_spans.specs.SpanMarks.{known_after, known_closer, mark_at}
-use Rattle.markdown_spans.proofs.ChainWalkLemmas.{rises_by_none}
 use Rattle.markdown_spans.proofs.LearnedLemmas.{KnownHere, from_opener, knows_all, known_here}
 use Rattle.markdown_spans.proofs.SpanSearchLemmas.{first_is_code}
 use Rattle.markdown_spans.specs.declared.span_marks.KnownCloser.{KnownCloser}
@@ -53,21 +52,21 @@ none_unless_failed : (learned : Learned) (n : ℕ) → n ≡ 0 → unless_failed
 none_unless_failed None n e = e
 none_unless_failed (Some known) n e = refl
 
-pub looks_at_none : (learned : Learned) (n v : ℕ) → n ≡ 0 → v ≤ 2 ^ 128 - 1 → RisesBy (unless_failed learned n) v v
-looks_at_none learned n v e fits = rw (none_unless_failed learned n e) (rises_by_none v fits)
+pub looks_at_none : (learned : Learned) (n v : ℕ) → n ≡ 0 → RisesBy (unless_failed learned n) v v
+looks_at_none learned n v e = rw (none_unless_failed learned n e) refl
 
 pub looks_without_mark : (nodes : List (Node Item)) (ix : ℕ) (learned : Learned) (v : ℕ) →
-    mark_at Code ix (item_at nodes ix).body ≡ None → v ≤ 2 ^ 128 - 1
+    mark_at Code ix (item_at nodes ix).body ≡ None
     → LooksForCode learned nodes ix v v
-looks_without_mark nodes ix learned v e fits low after leads =
-    looks_at_none learned _ v (looked_without_mark ix (item_at nodes ix).body e after) fits
+looks_without_mark nodes ix learned v e low after leads =
+    looks_at_none learned _ v (looked_without_mark ix (item_at nodes ix).body e after)
 
 pub looks_at_escaped : (nodes : List (Node Item)) (ix : ℕ) (m : SpanMark) (learned : Learned) (v : ℕ) →
-    mark_at Code ix (item_at nodes ix).body ≡ Some m → m.wanted ≡ 0 → v ≤ 2 ^ 128 - 1
+    mark_at Code ix (item_at nodes ix).body ≡ Some m → m.wanted ≡ 0
     → LooksForCode learned nodes ix v v
-looks_at_escaped nodes ix m learned v is e fits low after leads =
+looks_at_escaped nodes ix m learned v is e low after leads =
     looks_at_none learned _ v ((opens_mark ix (item_at nodes ix).body m is).looked after
-    ∙ ap (λ (n : ℕ). if n == 0 then 0 else looked_for_code item_in n after) e) fits
+    ∙ ap (λ (n : ℕ). if n == 0 then 0 else looked_for_code item_in n after) e)
 
 is_some_count : (n : ℕ) → (n ≡ 0 → ⊥) → (n == 0) ≡ false
 is_some_count n h = grind (arith, nat_tests)
@@ -107,9 +106,8 @@ finds_known nodes ix m learned known found h holds e is some value low after lea
     ∙ (sym (first_is_code m.wanted after) ∙ (sym here.closer ∙ sym value))
 
 pub looks_at_known : (nodes : List (Node Item)) (ix : ℕ) (learned : Learned) (known : List KnownCloser) (v : ℕ) →
-    learned ≡ Some known → v ≤ 2 ^ 128 - 1 → LooksForCode learned nodes ix v v
-looks_at_known nodes ix learned known v e fits low after leads =
-    rw e (rises_by_none v fits)
+    learned ≡ Some known → LooksForCode learned nodes ix v v
+looks_at_known nodes ix learned known v e low after leads = rw e refl
 
 -- what is left holds of the items after it
 pub holds_left : (kind : SpanKind) (nodes : List (Node Item)) (ix : ℕ) (m : SpanMark) (learned : Learned)

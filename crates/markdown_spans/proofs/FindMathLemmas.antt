@@ -23,13 +23,15 @@ use Rattle.markdown_spans.proofs.FindCodeLemmas.{here_of, holds_left}
 use Rattle.markdown_spans.proofs.LearnedLemmas.{KnownHere, mark_number}
 use Rattle.markdown_spans.proofs.MathOpeningLemmas.{OpenerIs, Searched, closes_by, dollar_mark, first_within, found_or_not, looked_within}
 use Rattle.markdown_spans.proofs.MathOpeningLemmas.{math_stands, opener_is, opener_mark, opener_number, searched}
-use Rattle.markdown_spans.proofs.SpanSearchLemmas.{breaks_for_dollar, nothing_left, first_is_dollar, rises_at_most, walk_for_dollar}
+use Rattle.markdown_spans.proofs.SpanSearchLemmas.{breaks_for_dollar, nothing_left, first_is_dollar, walk_for_dollar}
 use Rattle.markdown_spans.specs.declared.math_opener.MathOpener.{MathOpener}
 use Rattle.markdown_spans.specs.declared.span_closers.FoundMath.{FoundMath}
 use Rattle.markdown_spans.specs.declared.span_marks.KnownCloser.{KnownCloser}
 use Rattle.markdown_spans.specs.declared.span_marks.SpanMark.{SpanMark}
 use Rattle.markdown_spans.specs.declared.span_text.SpanKind.{SpanKind}
 use Rattle.markdown_spans.specs.declared.span_text.SpanKind.TheVariants.{Math}
+use Rattle.markdown_document.specs.Counts.{RisesAtMost}
+use Rattle.markdown_document.proofs.CountLemmas.{rises_at_more, rises_at_most_twice, rises_by_most}
 
 -- a walk that comes to the end
 pub record WalksAll (kind : SpanKind) (chain : List Numbered) (old new : List SpanMark)
@@ -177,38 +179,32 @@ notes_on nodes o low after ix close old mid at_ix new v v1 v' is second e none w
     }
 
 -- memory was refused
-at_most_more : (v v' n m : ℕ) → v' ≤ v + n → n ≤ m → v' ≤ v + m
-at_most_more v v' n m h le = omega arith
-
 pub breaks_before : (nodes : List (Node Item)) (o : MathOpener) (low : ℕ) (after : List Numbered) (v v' : ℕ) →
     opener_at nodes o.number ≡ Some o
     → ((low : ℕ) (chain : List Numbered) → LeadsThrough nodes low (searched_from nodes o) chain →
     LooksAlong Math (Some o.context) chain v v')
-    → LeadsThrough nodes low (sibling_of nodes o.number) after → v' ≤ v + looked_for_math item_in o.end o.context after
+    → LeadsThrough nodes low (sibling_of nodes o.number) after → RisesAtMost (looked_for_math item_in o.end o.context after) v v'
 breaks_before nodes o low after v v' is along h =
     let s = searched nodes o low after (opener_is nodes o is) h in
     rw (looked_if nodes o after s (is_some (math_close item_in o.end o.context after)) refl)
-    (at_most_more v v' _ _ (breaks_for_dollar o.context s.items v v' (along s.low s.items s.leads))
+    (rises_at_more _ _ v v' (breaks_for_dollar o.context s.items v v' (along s.low s.items s.leads))
     (dollars_within o.context s.items (is_some (math_close item_in o.end o.context after))))
-
-after_both : (v v1 v' n m k : ℕ) → v1 ≤ v + n → v' ≤ v1 + m → n + m ≡ k → v' ≤ v + k
-after_both v v1 v' n m k h g e = omega arith
 
 pub breaks_after : (nodes : List (Node Item)) (o : MathOpener) (low : ℕ) (after : List Numbered) (ix : ℕ)
     (close : Option FoundMath) (mid at_ix : List SpanMark) (v v1 v' : ℕ) → opener_at nodes o.number ≡ Some o
     → close ≡ closed_at nodes o ix → is_some close ≡ false
     → ((low : ℕ) (chain : List Numbered) → LeadsThrough nodes low (searched_from nodes o) chain →
     WalksTo Math (Some o.context) nodes chain (Some ix) mid at_ix v v1)
-    → ((low : ℕ) (after : List Numbered) → LeadsThrough nodes low (sibling_of nodes ix) after → v' ≤ v1 + length after)
-    → LeadsThrough nodes low (sibling_of nodes o.number) after → v' ≤ v + looked_for_math item_in o.end o.context after
+    → ((low : ℕ) (after : List Numbered) → LeadsThrough nodes low (sibling_of nodes ix) after → RisesAtMost (length after) v1 v')
+    → LeadsThrough nodes low (sibling_of nodes o.number) after → RisesAtMost (looked_for_math item_in o.end o.context after) v v'
 breaks_after nodes o low after ix close mid at_ix v v1 v' is e none walks most h =
     let s = searched nodes o low after (opener_is nodes o is) h in
     let w = walks s.low s.items s.leads in
     let first = (walk_for_dollar o.context nodes s.items (Some ix) mid at_ix v v1 w).finds in
     let g = stopped_at nodes ix o.context s.items mid at_ix v v1 w in
-    rw (looked_if nodes o after s false (found_some nodes o after s (Some ix) first ∙ (ap is_some (sym e) ∙ none)))
-    (after_both v v1 v' g.size (length g.after) (length s.items) (rises_at_most g.size v v1 g.counts)
-    (most g.low g.after g.leads) g.sizes)
+    rw (looked_if nodes o after s false (found_some nodes o after s (Some ix) first ∙ (ap is_some (sym e) ∙ none)), ← g.sizes)
+    (rises_at_most_twice g.size (length g.after) v v1 v' (rises_by_most g.size g.size v v1 g.counts (omega arith))
+    (most g.low g.after g.leads))
 
 -- what a search finds, counts and learns, where it fails and where it finds
 pub search_math_fails : (o : MathOpener) (after : List Numbered) (found : Option FoundMath) (old new : List SpanMark)

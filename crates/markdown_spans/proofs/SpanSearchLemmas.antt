@@ -19,6 +19,8 @@ use Rattle.markdown_spans.specs.declared.span_marks.KnownCloser.{KnownCloser}
 use Rattle.markdown_spans.specs.declared.span_marks.SpanMark.{SpanMark}
 use Rattle.markdown_spans.specs.declared.span_text.SpanKind.{SpanKind}
 use Rattle.markdown_spans.specs.declared.span_text.SpanKind.TheVariants.{Code, Math}
+use Rattle.markdown_document.specs.Counts.{RisesAtMost}
+use Rattle.markdown_document.proofs.CountLemmas.{rises_by_most}
 
 -- a search for n backticks finds marks of n backticks
 sought_code : (n number : ℕ) (b : ItemBody) → is_wanted (Some n) (code_mark number b) ≡ is_code_of n b
@@ -143,22 +145,20 @@ walk_for_dollar context nodes chain found old new visits visits' w =
     }
 
 -- a search that ends because an allocation is refused examines no more items
-no_more : (v n k most new : ℕ) → new ≡ min (v + n) most → new ≤ v + (n + k)
-no_more v n k most new e = omega arith
-
 pub breaks_for_code : (n : ℕ) (chain : List Numbered) (visits visits' : ℕ) →
     LooksAlong Code (Some n) chain visits visits'
-    → visits' ≤ visits + looked_for_code item_in n chain
+    → RisesAtMost (looked_for_code item_in n chain) visits visits'
 breaks_for_code n chain visits visits' w =
     rw (w.parts, looked_past_code n w.passed w.rest w.none)
-    (no_more visits (length w.passed) (looked_for_code item_in n w.rest) (2 ^ 128 - 1) visits' w.counts)
+    (rises_by_most (length w.passed) (length w.passed + looked_for_code item_in n w.rest) visits visits' w.counts (omega arith))
 
 pub breaks_for_dollar : (context : ℕ) (chain : List Numbered) (visits visits' : ℕ) →
     LooksAlong Math (Some context) chain visits visits'
-    → visits' ≤ visits + looked_for_dollar item_in context chain
+    → RisesAtMost (looked_for_dollar item_in context chain) visits visits'
 breaks_for_dollar context chain visits visits' w =
     rw (w.parts, looked_past_dollar context w.passed w.rest w.none)
-    (no_more visits (length w.passed) (looked_for_dollar item_in context w.rest) (2 ^ 128 - 1) visits' w.counts)
+    (rises_by_most (length w.passed) (length w.passed + looked_for_dollar item_in context w.rest) visits visits' w.counts
+    (omega arith))
 
 -- where a walk fails, it has noted all marks of the chain
 pub nothing_left : (nodes : List (Node Item)) (low : ℕ) (rest : List Numbered) → LeadsThrough nodes low None rest →
@@ -241,10 +241,3 @@ search_code_finds n nodes chain old new None learned visits visits' w some e = c
 search_code_finds n nodes chain old new (Some ix) learned visits visits' w some e =
     let found = walk_for_code n nodes chain (Some ix) old new visits visits' w in
     record { finds = found.finds; learns = e; counts = found.counts }
-
--- a count that has risen by so much has risen by no more
-pub rises_at_most : (n visits visits' : ℕ) → RisesBy n visits visits' → visits' ≤ visits + n
-rises_at_most n visits visits' r = at_most visits n (2 ^ 128 - 1) visits' r
-  where
-    at_most : (v n most new : ℕ) → new ≡ min (v + n) most → new ≤ v + n
-    at_most v n most new e = omega arith

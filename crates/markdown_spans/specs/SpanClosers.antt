@@ -1,12 +1,13 @@
 -- What searches for closers of spans find in a chain of an arena, what they have learned about it, and the number of
 -- items that they examine.
-use Rattle.std.specs.Prelude.{◌≡◌, ℕ, ◌+◌, ◌-◌, ◌^◌, ◌<◌, ◌≤◌, min, Bool, not, ◌&&◌, ◌||◌, List, [], ◌∷◌, ◌++◌, Option}
+use Rattle.std.specs.Prelude.{◌≡◌, ℕ, ◌<◌, Bool, not, ◌&&◌, ◌||◌, List, [], ◌∷◌, ◌++◌, Option}
 use Rattle.std.specs.Prelude.{Some, None, is_some, length}
 use Rattle.std.specs.Option.{option_map}
 use Rattle.markdown_base.specs.declared.item.Item.{Item}
 use Rattle.markdown_base.specs.declared.node.Node.{Node}
 use Rattle.markdown_base.specs.Arena.{sibling_of}
 use Rattle.markdown_base.specs.BlockTree.{Numbered, item_at}
+use Rattle.markdown_document.specs.Counts.{RisesAtMost, risen}
 use Rattle.markdown_spans.specs.ChainInArena.{LeadsThrough}
 use Rattle.markdown_spans.specs.Closers.{MathClose, code_close, looked_for_code_close, looked_for_math_from}
 use Rattle.markdown_spans.specs.Closers.{math_close_from}
@@ -25,7 +26,7 @@ found_math m = record { display = m.display; closer = m.closer.number; last = m.
 
 -- a count rises by n, up to its maximum
 abbrev pub RisesBy : ℕ → (old new : ℕ) → Type 0
-RisesBy n old new = new ≡ min (old + n) (2 ^ 128 - 1)
+RisesBy n old new = new ≡ risen n old
 
 -- the number of the node that closes the code span that a node opens
 abbrev pub ClosesCode : List (Node Item) → (opener : ℕ) → Option ℕ → Type 0
@@ -77,13 +78,14 @@ LooksForMath learned nodes opener visits visits' =
 abbrev pub LooksForCodeAtMost : Learned → List (Node Item) → (opener : ℕ) → ℕ → ℕ → Type 0
 LooksForCodeAtMost learned nodes opener visits visits' =
     (low : ℕ) (after : List Numbered) → LeadsThrough nodes low (sibling_of nodes opener) after
-    → visits' ≤ visits + unless_failed learned (looked_for_code_close item_in (item_at nodes opener).body after)
+    → RisesAtMost (unless_failed learned (looked_for_code_close item_in (item_at nodes opener).body after)) visits
+    visits'
 
 -- a search for the end of math examines at most those items
 abbrev pub LooksForMathAtMost : Learned → List (Node Item) → (opener : ℕ) → ℕ → ℕ → Type 0
 LooksForMathAtMost learned nodes opener visits visits' =
     (low : ℕ) (after : List Numbered) → LeadsThrough nodes low (sibling_of nodes opener) after
-    → visits' ≤ visits + unless_failed learned (looked_for_math_from item_in (item_at nodes opener) after)
+    → RisesAtMost (unless_failed learned (looked_for_math_from item_in (item_at nodes opener) after)) visits visits'
 
 -- a number is less than those of a chain
 abbrev pub IsBefore : List Numbered → ℕ → Type 0

@@ -1,8 +1,9 @@
 //! Closers of spans: searches along a chain for what closes code and math.
-ghost use Rattle.std.specs.Prelude.{◌≡◌, ◌++◌, ◌+◌, ◌<◌, ◌≤◌, ℕ, List, None, Some, length, reverse, IfErr, IfOk};
+ghost use Rattle.std.specs.Prelude.{◌≡◌, ◌++◌, ◌<◌, ℕ, List, None, Some, length, reverse, IfErr, IfOk};
 ghost use Rattle.std.specs.Prelude.{IfSome, OnErr, OnOk, is_some};
 ghost use Rattle.markdown_base.specs.Arena.{sibling_of};
 ghost use Rattle.markdown_base.specs.BlockTree.{Numbered, item_at};
+ghost use Rattle.markdown_document.specs.Counts.{RisesAtMost};
 ghost use Rattle.markdown_spans.specs.ChainInArena.{HasChain, LeadsThrough};
 ghost use Rattle.markdown_spans.specs.ChainSearch.{NotesMath, NotesRest, SearchesCode, SearchesMath, known_dollar};
 ghost use Rattle.markdown_spans.specs.ChainSearch.{next_closer};
@@ -147,10 +148,7 @@ fn walk_on(
         → NotesRest tree.now.nodes ix after noted.old.items noted.new.items visits.old visits.new) }
     ensures refused { IfErr result (λ _. (low : ℕ) (after : List Numbered)
         → LeadsThrough tree.now.nodes low (sibling_of tree.now.nodes ix) after
-        → visits.new ≤ visits.old + length after) }
-
-    // whatever comes
-    ensures rises { visits.old ≤ visits.new }
+        → RisesAtMost (length after) visits.old visits.new) }
 {
     note(noted, mark_of(SpanKind::Math, ix, tree.item(ix).body))?;
     walk_to(tree, tree.next(ix), SpanKind::Math, None, noted, visits)?;
@@ -172,10 +170,8 @@ fn walk_for_math(
         → NotesMath opener after found noted.old.items noted.new.items visits.old visits.new) }
     ensures refused { IfErr result (λ _. (low : ℕ) (after : List Numbered)
         → LeadsThrough tree.now.nodes low (sibling_of tree.now.nodes opener.number) after
-        → visits.new ≤ visits.old + looked_for_math item_in opener.end opener.context after) }
-
-    // whatever comes
-    ensures rises { visits.old ≤ visits.new }
+        → RisesAtMost (looked_for_math item_in opener.end opener.context after) visits.old
+        visits.new) }
 {
     note_second(tree, opener, noted)?;
     let first = opener.searched_from(tree);
@@ -234,10 +230,7 @@ impl SpanClosers {
         ensures refused { OnErr result (self.new ≡ None) }
         ensures at_most { IfErr result (λ _. (low : ℕ) (chain : List Numbered)
             → LeadsThrough tree.now.nodes low first chain
-            → visits.new ≤ visits.old + looked_for_code item_in wanted chain) }
-
-        // whatever comes
-        ensures rises { visits.old ≤ visits.new }
+            → RisesAtMost (looked_for_code item_in wanted chain) visits.old visits.new) }
     {
         self.noted.clear();
         let found = walk_to(
@@ -272,10 +265,8 @@ impl SpanClosers {
         ensures refused { OnErr result (self.new ≡ None) }
         ensures at_most { IfErr result (λ _. (low : ℕ) (after : List Numbered)
             → LeadsThrough tree.now.nodes low (sibling_of tree.now.nodes opener.number) after
-            → visits.new ≤ visits.old + looked_for_math item_in opener.end opener.context after) }
-
-        // whatever comes
-        ensures rises { visits.old ≤ visits.new }
+            → RisesAtMost (looked_for_math item_in opener.end opener.context after) visits.old
+            visits.new) }
     {
         self.noted.clear();
         let found = walk_for_math(tree, opener, &mut self.noted, visits)?;
@@ -313,11 +304,7 @@ impl SpanClosers {
         ensures counted_at_most { IfErr result (λ _.
             LooksForCodeAtMost self.old tree.now.nodes opener visits.old
             visits.new) }
-
-        // whatever comes
-        ensures rises { visits.old ≤ visits.new }
     {
-        let _from = *visits;
         let Some(mark) = mark_of(SpanKind::Code, opener, tree.item(opener).body) else {
             return Ok(None);
         };
@@ -357,11 +344,7 @@ impl SpanClosers {
         ensures counted_at_most { IfErr result (λ _.
             LooksForMathAtMost self.old tree.now.nodes opener visits.old
             visits.new) }
-
-        // whatever comes
-        ensures rises { visits.old ≤ visits.new }
     {
-        let _from = *visits;
         let Some(opening) = MathOpener::of_node(tree, opener) else {
             return Ok(None);
         };

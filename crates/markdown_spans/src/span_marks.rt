@@ -1,10 +1,11 @@
 //! Marks of spans in a chain, which are backticks and `$`, and searches along the chain for the next one with a given
 //! key.
-ghost use Rattle.std.specs.Prelude.{◌≡◌, ◌≤◌, ℕ, ◌+◌, ◌-◌, ◌^◌, ◌++◌, List, min, IfErr, IfOk, OnOk, option_to_list};
+ghost use Rattle.std.specs.Prelude.{◌≡◌, ℕ, ◌++◌, List, IfErr, IfOk, OnOk, option_to_list};
 ghost use Rattle.markdown_base.specs.BlockTree.{Numbered};
 ghost use Rattle.markdown_spans.specs.ChainInArena.{HasChain, LeadsThrough};
 ghost use Rattle.markdown_spans.specs.ChainWalk.{LooksAlong, WalksTo};
 ghost use Rattle.markdown_spans.specs.Closers.{closing_count};
+ghost use Rattle.markdown_spans.specs.SpanClosers.{RisesBy};
 ghost use Rattle.markdown_spans.specs.SpanMarks.{code_mark, is_wanted, mark_at, math_mark};
 
 use crate::span_text::SpanKind;
@@ -34,7 +35,7 @@ pub struct KnownCloser {
 
 /// Counts one more item that was examined, up to the maximum of the count.
 fn count_visit(visits: &mut u128)
-    ensures { visits.new ≡ min (visits.old + 1) (2 ^ 128 - 1) }
+    ensures { RisesBy 1 visits.old visits.new }
 {
     *visits = visits.saturating_add(1);
 }
@@ -129,11 +130,7 @@ pub fn walk_to(
     ensures refused { IfErr result (λ _. (low : ℕ) (chain : List Numbered)
         → LeadsThrough tree.now.nodes low first chain
         → LooksAlong kind wanted chain visits.old visits.new) }
-
-    // whatever comes
-    ensures rises { visits.old ≤ visits.new }
 {
-    let _from = *visits;
     let mut link = first;
     'walk: while let Some(ix) = link {
         count_visit(visits);

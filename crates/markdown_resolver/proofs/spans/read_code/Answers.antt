@@ -20,8 +20,8 @@ use Rattle.markdown_resolver.proofs.ReadsItemLemmas.{holds_put, reads_item}
 use Rattle.markdown_resolver.proofs.SpanLooksLemmas.{code_looks, code_refused, code_stops, nothing_looks}
 use Rattle.markdown_resolver.proofs.spans.read_code.Goals as goal
 
-pub find_code_closer-found-requires-clause-chain : goal.find_code_closer-found-requires-clause-chain
-find_code_closer-found-requires-clause-chain c =
+pub find_code_closer-requires-clause-chain : goal.find_code_closer-requires-clause-chain
+find_code_closer-requires-clause-chain c =
     chain_leads c.args.place.now.text.now (tables_of c.args.tables.now) c.args.tree.now.nodes (Some c.args.ix) c.requires.chain.ready
 
 -- nothing closes it: it is settled
@@ -40,13 +40,13 @@ returns-in_default-clause-reads c = λ rules gfm.
 
 pub returns-in_default-clause-learned : goal.returns-in_default-clause-learned
 returns-in_default-clause-learned c =
-    holds_put Code c.find_code_closer-found.new.self c.requires.chain.ready
+    holds_put Code c.find_code_closer.new.self c.requires.chain.ready
     (c.settle.ensures.puts c.args.place.now.text.now (tables_of c.args.tables.now) c.requires.chain.ready) c.in_ok-closer.ensures.learned
 
 pub returns-in_default-clause-looks : goal.returns-in_default-clause-looks
 returns-in_default-clause-looks c =
     let found = c.in_ok-closer.ensures in
-    nothing_looks c.args.closers.now c.find_code_closer-found.new.self c.args.visits.now c.find_code_closer-found.new.visits
+    nothing_looks c.args.closers.now c.find_code_closer.new.self c.args.visits.now c.find_code_closer.new.visits
     c.requires.chain.ready found.counted found.failed c.in_default.is
     (c.settle.ensures.puts c.args.place.now.text.now (tables_of c.args.tables.now) c.requires.chain.ready)
 
@@ -123,12 +123,12 @@ returns-clause-reads c = λ rules gfm.
 
 pub returns-clause-learned : goal.returns-clause-learned
 returns-clause-learned c =
-    holds_put Code c.find_code_closer-found.new.self c.requires.chain.ready (was_put c) c.in_ok-closer.ensures.learned
+    holds_put Code c.find_code_closer.new.self c.requires.chain.ready (was_put c) c.in_ok-closer.ensures.learned
 
 pub returns-clause-looks : goal.returns-clause-looks
 returns-clause-looks c =
     let found = c.in_ok-closer.ensures in
-    code_looks c.args.closers.now c.find_code_closer-found.new.self c.args.visits.now c.find_code_closer-found.new.visits c.requires.chain.ready
+    code_looks c.args.closers.now c.find_code_closer.new.self c.args.visits.now c.find_code_closer.new.visits c.requires.chain.ready
     c.requires.opener.2 (put_here c).closes found.counted found.failed c.in-Some.is (was_put c)
 
 -- memory was refused to the search
@@ -136,13 +136,13 @@ pub returns-in_err-closer-clause-stops_looking : goal.returns-in_err-closer-clau
 returns-in_err-closer-clause-stops_looking c =
     let refused = c.in_err-closer.ensures in
     if_err c.from_residual.result
-    (rw refused.unchanged (code_refused c.args.closers.now c.args.visits.now c.find_code_closer-found.new.visits c.requires.chain.ready
-    c.find_code_closer-found.ensures.rises (omega arith) refused.counted_at_most))
+    (rw refused.unchanged (code_refused c.args.closers.now c.args.visits.now c.find_code_closer.new.visits c.requires.chain.ready
+    refused.counted_at_most))
 
 -- or to the text of what it has found
 pub returns-in_err-cow-clause-stops_looking : goal.returns-in_err-cow-clause-stops_looking
 returns-in_err-cow-clause-stops_looking c =
     let found = c.in_ok-closer.ensures in
     if_err c.from_residual-in_err-cow.result
-    (code_stops c.args.closers.now c.args.visits.now c.find_code_closer-found.new.visits c.requires.chain.ready c.find_code_closer-found.new.self _
+    (code_stops c.args.closers.now c.args.visits.now c.find_code_closer.new.visits c.requires.chain.ready c.find_code_closer.new.self _
     found.counted found.failed)

@@ -19,8 +19,8 @@ use Rattle.markdown_resolver.proofs.ReadsItemLemmas.{holds_put, reads_item}
 use Rattle.markdown_resolver.proofs.SpanLooksLemmas.{math_looks, math_refused, math_stops, no_math_looks}
 use Rattle.markdown_resolver.proofs.spans.read_math.Goals as goal
 
-pub find_math_closer-found-requires-clause-chain : goal.find_math_closer-found-requires-clause-chain
-find_math_closer-found-requires-clause-chain c =
+pub find_math_closer-requires-clause-chain : goal.find_math_closer-requires-clause-chain
+find_math_closer-requires-clause-chain c =
     chain_leads c.args.place.now.text.now (tables_of c.args.tables.now) c.args.tree.now.nodes (Some c.args.ix) c.requires.chain.ready
 
 -- nothing closes it: it is settled
@@ -40,13 +40,13 @@ returns-in_default-clause-reads c = λ rules gfm.
 
 pub returns-in_default-clause-learned : goal.returns-in_default-clause-learned
 returns-in_default-clause-learned c =
-    holds_put Math c.find_math_closer-found.new.self c.requires.chain.ready
+    holds_put Math c.find_math_closer.new.self c.requires.chain.ready
     (c.settle.ensures.puts c.args.place.now.text.now (tables_of c.args.tables.now) c.requires.chain.ready) c.in_ok-math.ensures.learned
 
 pub returns-in_default-clause-looks : goal.returns-in_default-clause-looks
 returns-in_default-clause-looks c =
     let found = c.in_ok-math.ensures in
-    no_math_looks c.args.closers.now c.find_math_closer-found.new.self c.args.visits.now c.find_math_closer-found.new.visits
+    no_math_looks c.args.closers.now c.find_math_closer.new.self c.args.visits.now c.find_math_closer.new.visits
     c.requires.chain.ready found.counted found.failed c.in_default.is
     (c.settle.ensures.puts c.args.place.now.text.now (tables_of c.args.tables.now) c.requires.chain.ready)
 
@@ -137,12 +137,12 @@ returns-clause-reads c = λ rules gfm.
 
 pub returns-clause-learned : goal.returns-clause-learned
 returns-clause-learned c =
-    holds_put Math c.find_math_closer-found.new.self c.requires.chain.ready (was_put c) c.in_ok-math.ensures.learned
+    holds_put Math c.find_math_closer.new.self c.requires.chain.ready (was_put c) c.in_ok-math.ensures.learned
 
 pub returns-clause-looks : goal.returns-clause-looks
 returns-clause-looks c =
     let found = c.in_ok-math.ensures in
-    math_looks c.args.closers.now c.find_math_closer-found.new.self c.args.visits.now c.find_math_closer-found.new.visits c.requires.chain.ready
+    math_looks c.args.closers.now c.find_math_closer.new.self c.args.visits.now c.find_math_closer.new.visits c.requires.chain.ready
     (put_here c).closes found.counted found.failed c.in-Some.is (was_put c)
 
 -- memory was refused to the search
@@ -150,13 +150,13 @@ pub returns-in_err-math-clause-stops_looking : goal.returns-in_err-math-clause-s
 returns-in_err-math-clause-stops_looking c =
     let refused = c.in_err-math.ensures in
     if_err c.from_residual.result
-    (rw refused.unchanged (math_refused c.args.closers.now c.args.visits.now c.find_math_closer-found.new.visits c.requires.chain.ready
-    c.find_math_closer-found.ensures.rises (omega arith) refused.counted_at_most))
+    (rw refused.unchanged (math_refused c.args.closers.now c.args.visits.now c.find_math_closer.new.visits c.requires.chain.ready
+    refused.counted_at_most))
 
 -- or to the text of what it has found
 pub returns-in_err-cow-clause-stops_looking : goal.returns-in_err-cow-clause-stops_looking
 returns-in_err-cow-clause-stops_looking c =
     let found = c.in_ok-math.ensures in
     if_err c.from_residual-in_err-cow.result
-    (math_stops c.args.closers.now c.args.visits.now c.find_math_closer-found.new.visits c.requires.chain.ready c.find_math_closer-found.new.self _
+    (math_stops c.args.closers.now c.args.visits.now c.find_math_closer.new.visits c.requires.chain.ready c.find_math_closer.new.self _
     found.counted found.failed)

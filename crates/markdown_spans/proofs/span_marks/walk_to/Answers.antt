@@ -1,5 +1,5 @@
 -- Each step of the walk, by the chain that begins at the node.
-use Rattle.std.proofs.Common.{◌≡◌, ◌++◌, sym, ◌∙◌, ap, arith, true, false}
+use Rattle.std.proofs.Common.{◌≡◌, ◌++◌, sym, ◌∙◌, ap, true, false}
 use Rattle.std.specs.Prelude.{option_to_list}
 use Rattle.std.proofs.lemmas.Result.{err_from_is_err_and}
 use Rattle.markdown_base.specs.BlockTree.{item_at, no_item}
@@ -12,9 +12,7 @@ pub walk-init : goal.walk-init
 walk-init c = record {
   some = c.requires;
   passes = λ low chain h. walk_begins c.args.kind c.args.wanted c.args.tree.now.nodes chain c.args.first
-      c.args.noted.now.items c.args.visits.now low (omega arith) h;
-  fits = omega arith;
-  rises = omega arith;
+      c.args.noted.now.items c.args.visits.now low h;
 }
 
 pub item-requires : goal.item-requires
@@ -73,11 +71,9 @@ walk-preserved c =
           c.walk.noted.items c.note.new.noted.items
           c.args.visits.now c.walk.visits c.count_visit.new.visits
           (rw c.in-Some.is at (c.walk.invariant.passes low chain h)) miss noted c.count_visit.ensures);
-      fits = omega arith;
-      rises = omega arith;
     }
 
 pub returns-clause-walks : goal.returns-clause-walks
 returns-clause-walks c = λ low chain h. walk_ends c.args.kind c.args.wanted c.args.tree.now.nodes chain
     c.args.noted.now.items c.walk.noted.items
-    c.args.visits.now c.walk.visits c.walk.invariant.fits (rw c.in_default.is at (c.walk.invariant.passes low chain h))
+    c.args.visits.now c.walk.visits (rw c.in_default.is at (c.walk.invariant.passes low chain h))

@@ -4,7 +4,7 @@ use Rattle.markdown_document.specs.Stages.{items_from}
 use Rattle.markdown_document.specs.Tables.{tables_of}
 use Rattle.markdown_document.specs.declared.work.Work.{Work}
 use Rattle.markdown_resolver.specs.declared.resolver.Resolver.{Resolver}
-use Rattle.markdown_resolver.proofs.ReadingLemmas.{node_within, ready_next, items_next, items_some, items_none, counted_more, counted_all}
+use Rattle.markdown_resolver.proofs.ReadingLemmas.{node_within, ready_next, items_next, items_none, counted_more, counted_all}
 use Rattle.markdown_resolver.proofs.resolver.Resolver.count_items.Goals as goal
 
 pub next-at-requires : goal.next-at-requires
@@ -38,6 +38,5 @@ returns g c =
     let s = c.args.self.now in
     let i = c.chain.invariant in
     let nodes = c.args.tree.now.nodes in
-    let items = counted_all s.work.items c.chain.self.work.items _ _ i.counted (ap (items_from nodes) c.in_default.is ∙ items_none nodes)
-    (items_some s.text.now (tables_of s.tables) nodes c.args.first c.requires) in
+    let items = counted_all s.work.items c.chain.self.work.items _ _ i.counted (ap (items_from nodes) c.in_default.is ∙ items_none nodes) in
     i.resolver ∙ ap (λ (n : ℕ). let r : Resolver g.row.F.Denot = record s { work = record s.work { items = n } } in r) items

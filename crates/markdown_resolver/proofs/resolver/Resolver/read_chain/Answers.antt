@@ -113,10 +113,10 @@ chain-preserved g c =
       math_learned = reads.math_learned;
       code_looks = looked_more (has_failed at.code_closers) (has_failed new.self.code_closers) s.work.code_visits at.work.code_visits
           new.self.work.code_visits _ _ _
-          (omega arith) (rw c.in-Some.is at i.code_looks) reads.code_looks;
+          (rw c.in-Some.is at i.code_looks) reads.code_looks;
       math_looks = looked_more (has_failed at.math_closers) (has_failed new.self.math_closers) s.work.math_visits at.work.math_visits
           new.self.work.math_visits _ _ _
-          (omega arith) (rw c.in-Some.is at i.math_looks) reads.math_looks;
+          (rw c.in-Some.is at i.math_looks) reads.math_looks;
       footnotes = λ name. c.read_item.ensures.kept.footnotes name ∙ i.footnotes name;
       kept = kept ∙ ap (λ (r : Resolver g.row.F.Denot). let x : Resolver g.row.F.Denot = record r {
         tables = record r.tables { cows = new.self.tables.cows; links = new.self.tables.links; footdefs = new.self.tables.footdefs };
@@ -140,7 +140,7 @@ returns-in_err-at-clause-code_visits g c =
     let at = c.chain.self in
     let new = c.read_item.new.self in
     let looks = looked_more (has_failed at.code_closers) (has_failed new.code_closers) c.args.self.now.work.code_visits at.work.code_visits
-    new.work.code_visits _ _ 0 (omega arith) (rw c.in-Some.is at c.chain.invariant.code_looks) c.in_err-at.ensures.stops_looking.code_looks in
+    new.work.code_visits _ _ 0 (rw c.in-Some.is at c.chain.invariant.code_looks) c.in_err-at.ensures.stops_looking.code_looks in
     record { more = looks.more; within = looks.within; counted = looks.counted }
 
 pub returns-in_err-at-clause-math_visits : goal.returns-in_err-at-clause-math_visits
@@ -148,7 +148,7 @@ returns-in_err-at-clause-math_visits g c =
     let at = c.chain.self in
     let new = c.read_item.new.self in
     let looks = looked_more (has_failed at.math_closers) (has_failed new.math_closers) c.args.self.now.work.math_visits at.work.math_visits
-    new.work.math_visits _ _ 0 (omega arith) (rw c.in-Some.is at c.chain.invariant.math_looks) c.in_err-at.ensures.stops_looking.math_looks in
+    new.work.math_visits _ _ 0 (rw c.in-Some.is at c.chain.invariant.math_looks) c.in_err-at.ensures.stops_looking.math_looks in
     record { more = looks.more; within = looks.within; counted = looks.counted }
 
 pub returns-in_err-at-clause-kept : goal.returns-in_err-at-clause-kept

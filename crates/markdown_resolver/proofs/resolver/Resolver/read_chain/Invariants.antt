@@ -8,6 +8,7 @@ use Rattle.markdown_resolver.proofs.ChainReadLemmas.{ReadsUpTo}
 use Rattle.markdown_resolver.proofs.ReadingLemmas.{LookedUpTo}
 use Rattle.markdown_resolver.proofs.resolver.Resolver.read_chain.Given as goal
 use Rattle.markdown_defs.specs.Footnotes.{footnote_at}
+use Rattle.markdown_document.specs.Counts.{risen}
 
 abbrev pub invariant-chain : goal.invariant-chain
 invariant-chain g l = record {
@@ -31,7 +32,7 @@ invariant-chain g l = record {
     openers = l.self.openers;
     spent = l.self.spent;
     work = record l.fn.self.work {
-      items = min (l.fn.self.work.items + items_from l.fn.tree.nodes (Some l.first)) (2 ^ 128 - 1);
+      items = risen (items_from l.fn.tree.nodes (Some l.first)) l.fn.self.work.items;
       code_visits = l.self.work.code_visits;
       math_visits = l.self.work.math_visits;
     };

@@ -31,10 +31,10 @@ returns-in-Some g c =
     let e = c.read_bracket.ensures in
     record {
       reads = IfOk-weaker c.read_bracket.result _ _ (λ next r.
-          bracket_read c.requires.ready c.requires.code_learned c.requires.math_learned (omega arith) (omega arith) e.kept r) e.reads;
+          bracket_read c.requires.ready c.requires.code_learned c.requires.math_learned e.kept r) e.reads;
       stops = e.stops;
       stops_looking = if_err c.read_bracket.result (bracket_stops c.args.ix c.args.tree.now c.args.self.now c.read_bracket.new.self
-          (omega arith) (omega arith) e.kept);
+          e.kept);
       again = e.again;
       refused = e.refused;
       scanner = refl;

@@ -1,5 +1,5 @@
 -- Each kind of item is read by its own function; at any other item nothing is found.
-use Rattle.std.proofs.Common.{ℕ, Option, Some, refl, sym, ap, ◌∙◌, subst, arith}
+use Rattle.std.proofs.Common.{ℕ, Option, Some, refl, sym, ap, ◌∙◌, subst}
 use Rattle.std.specs.Prelude.{Result, Ok, is_some}
 use Rattle.markdown_base.specs.BlockTree.{no_item}
 use Rattle.markdown_base.specs.EnabledOptions.{gfm_footnotes_on}
@@ -40,10 +40,10 @@ returns-in-MaybeCode g c =
       code_learned = c.read_code.ensures.learned;
       math_learned = read.holds SpanKind.Math s.math_closers c.requires.math_learned;
       code_looks = c.read_code.ensures.looks;
-      math_looks = read.looks (has_failed s.math_closers) s.work.math_visits (omega arith);
+      math_looks = read.looks (has_failed s.math_closers) s.work.math_visits;
       stops_looking = if_err_then c.read_code.result c.read_code.ensures.stops_looking (λ looks. record {
         code_looks = looks;
-        math_looks = stops_at_none (has_failed s.math_closers) s.work.math_visits _ (omega arith);
+        math_looks = stops_at_none (has_failed s.math_closers) s.work.math_visits _;
       });
       place = c.read_code.ensures.place;
       kept = rw c.read_code.ensures.tables refl;
@@ -62,10 +62,10 @@ returns-in-MaybeMath g c =
       reads = read.reads;
       code_learned = read.holds SpanKind.Code s.code_closers c.requires.code_learned;
       math_learned = c.read_math.ensures.learned;
-      code_looks = read.looks (has_failed s.code_closers) s.work.code_visits (omega arith);
+      code_looks = read.looks (has_failed s.code_closers) s.work.code_visits;
       math_looks = c.read_math.ensures.looks;
       stops_looking = if_err_then c.read_math.result c.read_math.ensures.stops_looking (λ looks. record {
-        code_looks = stops_at_none (has_failed s.code_closers) s.work.code_visits _ (omega arith);
+        code_looks = stops_at_none (has_failed s.code_closers) s.work.code_visits _;
         math_looks = looks;
       });
       place = c.read_math.ensures.place;
@@ -85,11 +85,11 @@ returns-in-MaybeHtml g c =
       reads = read.reads;
       code_learned = read.holds SpanKind.Code s.code_closers c.requires.code_learned;
       math_learned = read.holds SpanKind.Math s.math_closers c.requires.math_learned;
-      code_looks = read.looks (has_failed s.code_closers) s.work.code_visits (omega arith);
-      math_looks = read.looks (has_failed s.math_closers) s.work.math_visits (omega arith);
+      code_looks = read.looks (has_failed s.code_closers) s.work.code_visits;
+      math_looks = read.looks (has_failed s.math_closers) s.work.math_visits;
       stops_looking = if_err c.read_markup.result (record {
-        code_looks = stops_at_none (has_failed s.code_closers) s.work.code_visits _ (omega arith);
-        math_looks = stops_at_none (has_failed s.math_closers) s.work.math_visits _ (omega arith);
+        code_looks = stops_at_none (has_failed s.code_closers) s.work.code_visits _;
+        math_looks = stops_at_none (has_failed s.math_closers) s.work.math_visits _;
       });
       place = c.read_markup.ensures.place;
       kept = rw c.read_markup.ensures.tables refl;
@@ -117,8 +117,8 @@ returns-in_default g c =
       reads = read.reads;
       code_learned = read.holds SpanKind.Code s.code_closers c.requires.code_learned;
       math_learned = read.holds SpanKind.Math s.math_closers c.requires.math_learned;
-      code_looks = read.looks (has_failed s.code_closers) s.work.code_visits (omega arith);
-      math_looks = read.looks (has_failed s.math_closers) s.work.math_visits (omega arith);
+      code_looks = read.looks (has_failed s.code_closers) s.work.code_visits;
+      math_looks = read.looks (has_failed s.math_closers) s.work.math_visits;
       stops_looking = tt;
       place = c.settle.ensures.place;
       kept = refl;

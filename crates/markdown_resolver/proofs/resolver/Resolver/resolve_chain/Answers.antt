@@ -45,7 +45,7 @@ returns-in_err-read_chain-clause-stops g c =
     (stage c.args.tree.now s.tables s.limit s.callback) c.read_chain.new.self.callback s.work c.read_chain.new.self.work
     c.in_err-read_chain.ensures.stops
     (λ later. read_in_part (setting_of s.text.now rules) (above_cursor s.text.now c.args.tree.now) c.args.first
-    (stage c.args.tree.now s.tables s.limit s.callback) _ s.work c.read_chain.new.self.work c.requires.ready.reaches.spelled read))
+    (stage c.args.tree.now s.tables s.limit s.callback) _ s.work c.read_chain.new.self.work read))
 
 pub returns-in_err-pair_chain-clause-stops : goal.returns-in_err-pair_chain-clause-stops
 returns-in_err-pair_chain-clause-stops g c =
@@ -69,7 +69,7 @@ returns-in_err-pair_chain-clause-stops g c =
     } in
     if_err c.from_residual-in_err-pair_chain.result
     (stops_in step setting above c.args.first old mid s.work c.pair_chain.new.work reads
-    (counts_in_part step setting above c.args.first old mid s.work after.work c.pair_chain.new.work c.requires.ready.reaches.spelled
+    (counts_in_part step setting above c.args.first old mid s.work after.work c.pair_chain.new.work
     reads fits read
     (record { counted = paired.counted; compared = paired.examined; finds = omega (arith, paired.examined.counted) })))
 
@@ -106,7 +106,7 @@ returns-clause-resolves g c =
       tables = rw kept refl;
       footnotes = λ name. c.read_chain.ensures.footnotes name;
       chain = then_pairs step setting above c.args.first old mid c.pair_chain.new.tree.nodes c.requires.ready.quiet_below reads.reads pairs;
-      counted = counts_rise step setting above c.args.first old mid s.work after.work c.pair_chain.new.work c.requires.ready.reaches.spelled
+      counted = counts_rise step setting above c.args.first old mid s.work after.work c.pair_chain.new.work
           reads.reads fits read
           (record { counted = c.pair_chain.ensures.counted; compared = c.pair_chain.ensures.examined; finds = finds });
     }

@@ -1,5 +1,5 @@
 -- No backticks, or a single escaped one, open nothing; else what was learned is read, or a walk is made.
-use Rattle.std.proofs.Common.{◌≡◌, Some, None, reverse, ap, sym, ◌∙◌, arith}
+use Rattle.std.proofs.Common.{◌≡◌, Some, None, reverse, ap, sym, ◌∙◌}
 use Rattle.std.proofs.lemmas.Result.{IfOk-weaker}
 use Rattle.markdown_base.specs.BlockTree.{item_at, no_item}
 use Rattle.markdown_base.specs.declared.item.Item.{Item}
@@ -26,7 +26,7 @@ returns-in_default-clause-counted c =
     let is : mark_at Code c.args.opener (item_at c.args.tree.now.nodes c.args.opener).body ≡ None =
     ap (λ (item : Item). mark_at Code c.args.opener item.body) (sym (c.item.ensures no_item))
     ∙ (sym c.mark_of.ensures ∙ c.in_default.is) in
-    looks_without_mark c.args.tree.now.nodes c.args.opener c.args.self.now c.args.visits.now is (omega arith)
+    looks_without_mark c.args.tree.now.nodes c.args.opener c.args.self.now c.args.visits.now is
 
 pub returns-in_default-clause-learned : goal.returns-in_default-clause-learned
 returns-in_default-clause-learned c = holds_next Code c.args.tree.now.nodes c.args.opener c.args.self.now
@@ -38,7 +38,7 @@ returns-then-mark-eq0-clause-counted c =
     ap (λ (item : Item). mark_at Code c.args.opener item.body) (sym (c.item.ensures no_item))
     ∙ (sym c.mark_of.ensures ∙ c.in-Some.is) in
     looks_at_escaped c.args.tree.now.nodes c.args.opener c.in-Some.mark c.args.self.now c.args.visits.now is
-    c.if-mark-eq0.true (omega arith)
+    c.if-mark-eq0.true
 
 pub returns-then-mark-eq0-clause-learned : goal.returns-then-mark-eq0-clause-learned
 returns-then-mark-eq0-clause-learned c = holds_next Code c.args.tree.now.nodes c.args.opener c.args.self.now
@@ -60,7 +60,7 @@ returns-then-self-clause-counted c =
     looks_at_known c.args.tree.now.nodes c.args.opener c.args.self.now
     (reverse c.self.inside.ahead.items) c.args.visits.now
     (learned_from c.self.inside.failed (reverse c.self.inside.ahead.items) c.args.self.now c.self.view_is
-    c.if-self.true) (omega arith)
+    c.if-self.true)
 
 pub returns-then-self-clause-learned : goal.returns-then-self-clause-learned
 returns-then-self-clause-learned c =

@@ -1,8 +1,9 @@
 -- Where the walk fails, the marks that it noted are those of the chain; where it finds, nothing was learned.
-use Rattle.std.proofs.Common.{◌∙◌, ap, not}
+use Rattle.std.proofs.Common.{◌∙◌, ap, not, arith}
 use Rattle.std.proofs.lemmas.Result.{err_from_is_err_and}
-use Rattle.markdown_spans.proofs.SpanSearchLemmas.{breaks_for_code, rises_at_most, search_code_fails, search_code_finds, walk_for_code}
+use Rattle.markdown_spans.proofs.SpanSearchLemmas.{breaks_for_code, search_code_fails, search_code_finds, walk_for_code}
 use Rattle.markdown_spans.proofs.span_closers.SpanClosers.search_code.Goals as goal
+use Rattle.markdown_document.proofs.CountLemmas.{rises_by_most}
 
 pub returns-in_err-found-clause-at_most : goal.returns-in_err-found-clause-at_most
 returns-in_err-found-clause-at_most c =
@@ -13,10 +14,10 @@ returns-in_err-found-clause-at_most c =
 pub returns-in_err-fill_ahead-clause-at_most : goal.returns-in_err-fill_ahead-clause-at_most
 returns-in_err-fill_ahead-clause-at_most c =
     let p = err_from_is_err_and c.from_residual-in_err-fill_ahead.result c.from_residual-in_err-fill_ahead.ensures.1 in
-    rw p.1 (λ low chain h. rises_at_most _ c.args.visits.now c.walk_to.new.visits
+    rw p.1 (λ low chain h. rises_by_most _ _ c.args.visits.now c.walk_to.new.visits
     (walk_for_code c.args.wanted c.args.tree.now.nodes chain c.in_ok-found.found c.clear.new.self.items
     c.walk_to.new.noted.items c.args.visits.now c.walk_to.new.visits
-    (c.in_ok-found.ensures.walks low chain h)).counts)
+    (c.in_ok-found.ensures.walks low chain h)).counts (omega arith))
 
 pub returns-in_ok-fill_ahead-clause-searches : goal.returns-in_ok-fill_ahead-clause-searches
 returns-in_ok-fill_ahead-clause-searches c = λ low chain h.

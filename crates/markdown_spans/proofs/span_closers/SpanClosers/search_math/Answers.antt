@@ -1,15 +1,15 @@
 -- Where the walk fails, the `$` that it noted are those of the chain; where it finds, nothing was learned.
-use Rattle.std.proofs.Common.{◌∙◌, ap, not}
+use Rattle.std.proofs.Common.{◌∙◌, ap, not, arith}
 use Rattle.std.proofs.lemmas.Result.{err_from_is_err_and}
 use Rattle.markdown_spans.proofs.FindMathLemmas.{search_math_fails, search_math_finds}
-use Rattle.markdown_spans.proofs.SpanSearchLemmas.{rises_at_most}
 use Rattle.markdown_spans.proofs.span_closers.SpanClosers.search_math.Goals as goal
+use Rattle.markdown_document.proofs.CountLemmas.{rises_by_most}
 
 pub returns-in_err-fill_ahead-clause-at_most : goal.returns-in_err-fill_ahead-clause-at_most
 returns-in_err-fill_ahead-clause-at_most c =
     let p = err_from_is_err_and c.from_residual-in_err-fill_ahead.result c.from_residual-in_err-fill_ahead.ensures.1 in
-    rw p.1 (λ low after h. rises_at_most _ c.args.visits.now c.walk_for_math.new.visits
-    (c.in_ok-found.ensures.notes low after h).counts)
+    rw p.1 (λ low after h. rises_by_most _ _ c.args.visits.now c.walk_for_math.new.visits
+    (c.in_ok-found.ensures.notes low after h).counts (omega arith))
 
 pub returns-in_ok-fill_ahead-clause-searches : goal.returns-in_ok-fill_ahead-clause-searches
 returns-in_ok-fill_ahead-clause-searches c = λ low after h.
