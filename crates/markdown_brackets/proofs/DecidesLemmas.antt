@@ -13,7 +13,7 @@ use Rattle.markdown_brackets.specs.Decides.{Decides, StandsBefore, TakesNone, Ta
 use Rattle.markdown_brackets.specs.DecisionView.{knowing, opener_of}
 use Rattle.markdown_brackets.specs.Finish.{SplitsAs}
 use Rattle.markdown_brackets.specs.LeftList.{Entry, Split, nearest, opens_bracket, without_bracket, bracket_taken, wikilink_taken}
-use Rattle.markdown_brackets.specs.LeftList.{brackets_of}
+use Rattle.markdown_brackets.specs.HeldOpeners.{brackets_of}
 use Rattle.markdown_brackets.specs.Openers.{Waiting}
 use Rattle.markdown_brackets.specs.ReadChain.{begun}
 use Rattle.markdown_brackets.specs.StandsAt.{AreTaken, ComesToOpener, TriesOpener}

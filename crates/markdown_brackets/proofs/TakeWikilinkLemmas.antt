@@ -21,7 +21,8 @@ use Rattle.markdown_brackets.specs.Decides.{StandsBefore, TakesNone, TakesWikili
 use Rattle.markdown_brackets.specs.DecisionView.{opener_of}
 use Rattle.markdown_brackets.specs.Finish.{IsSplit}
 use Rattle.markdown_brackets.specs.LeftList.{Entry, Split, inside, is_live, nearest, opens_bracket, opens_wikilink, without_bracket}
-use Rattle.markdown_brackets.specs.LeftList.{without_wikilink, bracket_taken, wikilink_taken, brackets_of, wikilinks_of, trees_onto}
+use Rattle.markdown_brackets.specs.LeftList.{without_wikilink, bracket_taken, wikilink_taken, trees_onto}
+use Rattle.markdown_brackets.specs.HeldOpeners.{brackets_of, wikilinks_of}
 use Rattle.markdown_brackets.specs.Openers.{Waiting}
 use Rattle.markdown_brackets.specs.Reference.{is_closer}
 use Rattle.markdown_brackets.specs.StandsAt.{FindsWikilink, IsWikilink, HoldsInside, TriesWikilink}

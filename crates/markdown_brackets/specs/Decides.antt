@@ -14,8 +14,9 @@ use Rattle.markdown_brackets.specs.BracketDecision.{one_decided}
 use Rattle.markdown_brackets.specs.ChainHeld.{Holds, numbers_of, times_of}
 use Rattle.markdown_brackets.specs.DecisionView.{IsBecome, knowing}
 use Rattle.markdown_brackets.specs.Finish.{IsSplit, SplitsAs}
-use Rattle.markdown_brackets.specs.LeftList.{Entry, Split, bracket_taken, wikilink_taken, brackets_of, wikilinks_of}
+use Rattle.markdown_brackets.specs.LeftList.{Entry, Split, bracket_taken, wikilink_taken}
 use Rattle.markdown_brackets.specs.LeftList.{trees_onto}
+use Rattle.markdown_brackets.specs.HeldOpeners.{brackets_of, wikilinks_of}
 use Rattle.markdown_brackets.specs.Openers.{Waiting}
 use Rattle.markdown_brackets.specs.ReadChain.{among}
 use Rattle.markdown_brackets.specs.SpentEnds.{is_spent}
