@@ -1,5 +1,5 @@
 -- The decision at a `]` of an arena, with stacks of waiting openers.
-use Rattle.std.specs.Prelude.{◌≡◌, ℕ, ◌≤◌, ◌++◌, ◌||◌, List, [], ◌∷◌, Option, Some, None}
+use Rattle.std.specs.Prelude.{◌≡◌, ℕ, ◌<◌, ◌≤◌, length, ◌++◌, ◌||◌, List, [], ◌∷◌, Option, Some, None}
 use Rattle.markdown_base.specs.ArenaForest.{links_of, forest_at}
 use Rattle.markdown_base.specs.Forest.{Forest, nil, node}
 use Rattle.markdown_base.specs.Questions.{Question, Answer, Answers}
@@ -20,13 +20,24 @@ use Rattle.markdown_brackets.specs.HeldOpeners.{brackets_of, wikilinks_of}
 use Rattle.markdown_brackets.specs.Openers.{Waiting}
 use Rattle.markdown_brackets.specs.ReadChain.{among}
 use Rattle.markdown_brackets.specs.SpentEnds.{is_spent}
+use Rattle.markdown_brackets.specs.WikilinkNodes.{CanFindWikilink}
+use Rattle.markdown_brackets.specs.WrittenView.{CanTry}
+use Rattle.markdown_brackets.specs.declared.chain_openers.ChainOpeners.{ChainOpeners}
 use Rattle.markdown_brackets.specs.declared.closing_bracket.ClosedBracket.{ClosedBracket}
 use Rattle.markdown_brackets.specs.declared.spent_ends.SpentEnds.{SpentEnds}
+use Rattle.markdown_document.specs.declared.chain_place.ChainPlace.{ChainPlace}
 
 -- p holds for each waiting opener
 abbrev pub EachOpener : (ℕ → Type 0) → List Waiting → Type 0
 EachOpener p [] = Unit {0}
 EachOpener p (t ∷ held) = p t.opener.node × EachOpener p held
+
+-- it can be decided what the `]` of a node becomes: each opener that waits can be tried
+pub record CanDecide (nodes : List (Node Item)) (place : ChainPlace) (closer : ℕ) (openers : ChainOpeners) : Type 0
+  where
+    pub within : closer < length nodes
+    pub brackets : EachOpener (CanTry nodes place closer) openers.brackets
+    pub wikilinks : EachOpener (λ n. CanFindWikilink nodes place.text.now n closer) openers.wikilinks
 
 -- an arena contains a left list, followed by the `]` of a node and a chain, with no node twice
 pub record StandsBefore (nodes : List (Node Item)) (closer : ℕ) (left : List (Entry ℕ)) (c : Closing ℕ) : Type 0 where

@@ -1,36 +1,58 @@
 -- A `]` in an arena, with the opener that is tried for it.
-use Rattle.std.specs.Prelude.{◌≡◌, ℕ, ◌-◌, ◌<◌, ◌≤◌, ◌||◌, Bool, List, Option, Some, None, if◌then◌else◌, length}
+use Rattle.std.specs.Prelude.{◌≡◌, ℕ, ◌≤◌, ◌&&◌, ◌||◌, not, Bool, List, [], Option, Some, None, if◌then◌else◌}
 use Rattle.markdown_base.specs.Arena.{sibling_of}
 use Rattle.markdown_base.specs.ArenaForest.{links_of, forest_at}
 use Rattle.markdown_base.specs.BlockTree.{item_at}
 use Rattle.markdown_base.specs.Questions.{Question, Answer}
 use Rattle.markdown_base.specs.declared.item.Item.{Item}
+use Rattle.markdown_base.specs.declared.item.ItemBody.{ItemBody}
+use Rattle.markdown_base.specs.declared.tag.LinkType.{LinkType}
+use Rattle.markdown_base.specs.declared.tag.LinkType.TheVariants as kind
 use Rattle.markdown_base.specs.declared.node.Node.{Node}
 use Rattle.markdown_document.specs.ChainRest.{start_of, end_of}
 use Rattle.markdown_document.specs.Tables.{Tables}
 use Rattle.markdown_document.specs.ChainRest.{joined_chains}
 use Rattle.markdown_document.specs.Document.{Label}
 use Rattle.markdown_base.specs.Forest.{Forest, nil, node}
-use Rattle.markdown_brackets.specs.BracketDecision.{Around, Closing, Wikilink, opener_tried, past_second, wikilink_in}
+use Rattle.markdown_brackets.specs.BracketDecision.{Around, Closing, Try, Wikilink, past_second, spent_by, wikilink_in}
+use Rattle.markdown_brackets.specs.Reference.{could_be_reference}
 use Rattle.markdown_brackets.specs.Wikilink.{WikilinkBody, has_pothole}
 use Rattle.markdown_brackets.specs.declared.wikilink_nodes.ShownNodes.{ShownNodes}
 use Rattle.markdown_brackets.specs.declared.closing_bracket.ClosedBracket.TheVariants.{Wikilinked}
 use Rattle.markdown_brackets.specs.ChainHeld.{Holds, numbers_of, times_of, link_to}
-use Rattle.markdown_brackets.specs.DecisionView.{ComesTo, first_shown, opener_of, shown_of}
+use Rattle.markdown_brackets.specs.DecisionView.{ComesTo, around_by, first_shown, opener_of, shown_of}
 use Rattle.markdown_brackets.specs.LeftList.{Split, inside, is_live}
 use Rattle.markdown_brackets.specs.ReadChain.{among}
 use Rattle.markdown_brackets.specs.SpentEnds.{is_spent}
-use Rattle.markdown_brackets.specs.WrittenView.{CanRead}
+use Rattle.markdown_brackets.specs.declared.closer.Closer.{Closer}
 use Rattle.markdown_brackets.specs.declared.closing_bracket.ClosedBracket.{ClosedBracket}
+use Rattle.markdown_brackets.specs.declared.look_up.LabelLookup.{LabelLookup}
 use Rattle.markdown_brackets.specs.declared.openers.Opener.{Opener}
 use Rattle.markdown_brackets.specs.declared.spent_ends.SpentEnds.{SpentEnds}
-use Rattle.markdown_document.specs.declared.chain_place.ChainPlace.{ChainPlace}
 
--- an opener can be tried: it is a node, it has bytes, and its `[` is at a byte offset from which the text can be read
-pub record CanTry (nodes : List (Node Item)) (place : ChainPlace) (closer opener : ℕ) : Type 0 where
-  pub within : opener < length nodes
-  pub opens : (item_at nodes opener).start < (item_at nodes opener).end
-  pub reads : CanRead nodes place closer ((item_at nodes opener).end - 1)
+-- the `]` of a node could be a reference, and does not end the label of an earlier one
+abbrev pub could_be_at : List (Node Item) → (closer : ℕ) → SpentEnds → Bool
+could_be_at nodes closer spent =
+    could_be_reference (item_at nodes closer).body && not (is_spent spent (item_at nodes closer).end)
+
+-- the reference is one whose label is that from the opener to the `]`
+abbrev pub IsOwn : LinkType → Type 0
+IsOwn kind.Collapsed = Unit {0}
+IsOwn kind.Shortcut = Unit {0}
+IsOwn other = ⊥
+
+-- the ends of `]` that are used up, after a reference whose label ends at a byte offset was looked up
+abbrev pub Spends : LinkType → (end : ℕ) → SpentEnds → SpentEnds → Type 0
+Spends link_type end spent spent' =
+    (other : ℕ) → is_spent spent' other ≡ (among other (spent_by link_type end []) || is_spent spent other)
+
+-- a try of an opener at a `]` comes to what the rules say, where that opener is the one of a split
+abbrev pub Tries : {C R : Type 0} → (C → Question → Option Answer → C → Type 0) → Closer R → Opener
+    → (old new : LabelLookup C) → (spent spent' : SpentEnds) → (Around → Split ℕ → Try ℕ) → ClosedBracket → Type 0
+Tries step at opener old new spent spent' try found = (skipped : List ℕ → ℕ) (bodies : List ItemBody) (o : Split ℕ)
+    → opener ≡ opener_of o → (item_at at.tree.now.nodes opener.node).start ≡ start_of o.opener
+    → ComesTo step (around_by at.place.now skipped bodies old) (try (around_by at.place.now skipped bodies old) o) old
+    new spent spent' found
 
 -- the opener that was taken off a stack is this one of the left list, and has its range
 pub record IsTaken (nodes : List (Node Item)) (t : Opener × Bool) (o : Split ℕ) : Type 0 where
@@ -56,14 +78,6 @@ pub record TriesOpener (nodes : List (Node Item)) (closer : ℕ) (could_be : Boo
   pub ends : (item_at nodes closer).end ≡ end_of c.label
   pub could : c.could_be_reference ≡ could_be
   pub openers : AreTaken nodes taken o
-
--- the result of trying an opener, and the ends of `]` that it used up
-pub record ComesToOpener {C : Type 0} (step : C → Question → Option Answer → C → Type 0) (w : Around) (c : Closing ℕ)
-    (o : Option (Split ℕ)) (limit limit' : ℕ) (uses uses' : List ℕ → ℕ) (spent spent' : SpentEnds)
-    (callback callback' : Option C) (found : ClosedBracket) : Type 0 where
-  pub more : List ℕ
-  pub comes : ComesTo step w (opener_tried w c o) more limit limit' uses uses' callback callback' found
-  pub spends : (end : ℕ) → is_spent spent' end ≡ (among end more || is_spent spent end)
 
 -- a returned value is the wikilink with this body and these shown nodes, or `None` if there is none
 abbrev pub IsWikilinkAt : Opener → (end : ℕ) → Option (WikilinkBody × ShownNodes) → Option ClosedBracket → Type 0
