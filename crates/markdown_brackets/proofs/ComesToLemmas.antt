@@ -27,14 +27,14 @@ use Rattle.markdown_brackets.specs.BracketDecision.{footnote_used, to_be, Around
 use Rattle.markdown_brackets.specs.BracketDecision.{Written, after_look_up, inline_link, inline_target, question_at, spent_by, tail_or, target_tried, tried}
 use Rattle.markdown_brackets.specs.BracketDecision.{link_reference, footnote_label}
 use Rattle.markdown_brackets.specs.BracketOptions.{footnote_style}
-use Rattle.markdown_brackets.specs.DecisionView.{ComesTo, IsBecome, around_by, knowing}
+use Rattle.markdown_brackets.specs.DecisionView.{IsBecome, knowing}
 use Rattle.markdown_brackets.specs.FootnoteUse.{is_reference}
 use Rattle.markdown_brackets.specs.LeftList.{Split}
 use Rattle.markdown_brackets.specs.LinkTail as scanned
 use Rattle.markdown_brackets.specs.LinkTailView.{IsTail, ReadsTail}
 use Rattle.markdown_brackets.specs.Lookup.{LookedUp, answered, asked, defined_or_asked, finds_nothing, look_up, unknown}
 use Rattle.markdown_brackets.specs.LookupView.{LooksUp}
-use Rattle.markdown_brackets.specs.StandsAt.{IsOwn, Spends}
+use Rattle.markdown_brackets.specs.StandsAt.{IsOwn, Spends, ComesTo, around_by}
 use Rattle.markdown_brackets.specs.SpentEnds.{is_spent}
 use Rattle.markdown_brackets.specs.TargetOrigins.{IsLookedUp, IsTargetFrom}
 use Rattle.markdown_brackets.specs.declared.closing_bracket.ClosedBracket.{ClosedBracket}

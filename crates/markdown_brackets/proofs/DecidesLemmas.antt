@@ -9,14 +9,14 @@ use Rattle.markdown_base.specs.declared.node.Node.{Node}
 use Rattle.markdown_document.specs.ChainRest.{end_of}
 use Rattle.markdown_document.specs.Setting.{Known, uses_of}
 use Rattle.markdown_brackets.specs.BracketDecision.{Around, Closing, Decision, Progress, a_wikilink, opener_tried}
-use Rattle.markdown_brackets.specs.Decides.{Decides, StandsBefore, TakesNone, TakesOne}
-use Rattle.markdown_brackets.specs.DecisionView.{ComesTo, knowing, opener_of}
+use Rattle.markdown_brackets.specs.Decides.{Decides, StandsBefore}
+use Rattle.markdown_brackets.specs.DecisionView.{knowing, opener_of}
 use Rattle.markdown_brackets.specs.Finish.{SplitsAs}
 use Rattle.markdown_brackets.specs.LeftList.{Entry, Split, nearest, opens_bracket, without_bracket, bracket_taken, wikilink_taken}
 use Rattle.markdown_brackets.specs.HeldOpeners.{brackets_of}
 use Rattle.markdown_brackets.specs.Openers.{Waiting}
 use Rattle.markdown_brackets.specs.ReadChain.{begun}
-use Rattle.markdown_brackets.specs.StandsAt.{AreTaken, TriesOpener}
+use Rattle.markdown_brackets.specs.StandsAt.{AreTaken, TriesOpener, TakesNone, TakesOne, ComesTo}
 use Rattle.markdown_brackets.specs.declared.closing_bracket.ClosedBracket.{ClosedBracket}
 use Rattle.markdown_brackets.specs.declared.look_up.LabelLookup.{LabelLookup}
 use Rattle.markdown_brackets.specs.declared.openers.Opener.{Opener}

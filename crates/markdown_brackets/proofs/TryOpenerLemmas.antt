@@ -16,11 +16,11 @@ use Rattle.markdown_brackets.specs.BracketDecision.{Around, Closing, Progress, a
 use Rattle.markdown_brackets.specs.BracketDecision.{Written, opener_tried, reference_written, start_of_first_past, tail_or, tried, written}
 use Rattle.markdown_brackets.specs.BracketOptions.{footnote_style}
 use Rattle.markdown_brackets.specs.ChainAhead.{reaches_closer, starts_from}
-use Rattle.markdown_brackets.specs.DecisionView.{ComesTo, around_by, knowing, opener_of}
+use Rattle.markdown_brackets.specs.DecisionView.{knowing, opener_of}
 use Rattle.markdown_brackets.specs.LeftList.{Split, is_live}
 use Rattle.markdown_brackets.specs.LinkTail.{link_tail}
 use Rattle.markdown_brackets.specs.Reference.{Form, FoundLabel, reference, collapsed, shortcut, form_at, own_label}
-use Rattle.markdown_brackets.specs.StandsAt.{TriesOpener}
+use Rattle.markdown_brackets.specs.StandsAt.{TriesOpener, ComesTo, around_by}
 use Rattle.markdown_brackets.specs.WrittenView.{form_ahead, written_at}
 use Rattle.markdown_brackets.specs.declared.closing_bracket.ClosedBracket.{ClosedBracket}
 use Rattle.markdown_brackets.specs.declared.closing_bracket.ClosedBracket.TheVariants.{Text}

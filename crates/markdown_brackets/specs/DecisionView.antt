@@ -1,31 +1,24 @@
 -- What a `]` becomes in an arena, as contracts describe it.
-use Rattle.std.specs.Prelude.{◌≡◌, ℕ, ◌++◌, ◌||◌, Bool, List, Option, Some, is_some}
+use Rattle.std.specs.Prelude.{◌≡◌, ℕ, Bool, List, Option, Some, is_some}
 use Rattle.markdown_base.specs.CowText.{text_of}
 use Rattle.markdown_base.specs.Forest.{Forest, nil, node}
-use Rattle.markdown_base.specs.Questions.{Question, Answer, Answers}
+use Rattle.markdown_base.specs.Questions.{Answers}
 use Rattle.markdown_base.specs.declared.item.ItemBody.{ItemBody}
 use Rattle.markdown_document.specs.ChainRest.{past_byte, start_of}
 use Rattle.markdown_document.specs.Document.{Label}
-use Rattle.markdown_document.specs.Setting.{uses_of}
 use Rattle.markdown_defs.specs.Allocations.{Allocated}
-use Rattle.markdown_defs.specs.Callback.{Asks}
 use Rattle.markdown_defs.specs.Definitions.{Labelled}
 use Rattle.markdown_defs.specs.Footnotes.{footnote_at}
 use Rattle.markdown_defs.specs.declared.footnotes.FootnoteDefs.{FootnoteDefs}
 use Rattle.markdown_brackets.specs.BracketDecision.{Around, Becomes, a_text, a_link, a_footnote, a_wikilink, Progress}
-use Rattle.markdown_brackets.specs.BracketDecision.{Try}
 use Rattle.markdown_brackets.specs.BracketDecision.{past_second, text_from}
 use Rattle.markdown_brackets.specs.ChainHeld.{link_to}
 use Rattle.markdown_brackets.specs.LeftList.{Split, inside}
 use Rattle.markdown_brackets.specs.LookupView.{target_view}
-use Rattle.markdown_brackets.specs.ReadChain.{among}
-use Rattle.markdown_brackets.specs.SpentEnds.{is_spent}
 use Rattle.markdown_brackets.specs.TargetOrigins.{IsTargetFrom}
 use Rattle.markdown_brackets.specs.declared.closing_bracket.ClosedBracket.{ClosedBracket}
 use Rattle.markdown_brackets.specs.declared.closing_bracket.ClosedBracket.TheVariants.{Text, Link, Footnote, Wikilinked}
-use Rattle.markdown_brackets.specs.declared.look_up.LabelLookup.{LabelLookup}
 use Rattle.markdown_brackets.specs.declared.openers.Opener.{Opener}
-use Rattle.markdown_brackets.specs.declared.spent_ends.SpentEnds.{SpentEnds}
 use Rattle.markdown_brackets.specs.declared.wikilink_nodes.ShownNodes.{ShownNodes}
 use Rattle.markdown_brackets.specs.declared.wikilink_nodes.ShownNodes.TheVariants.{Over, From}
 use Rattle.markdown_document.specs.declared.chain_place.ChainPlace.{ChainPlace}
@@ -84,31 +77,6 @@ pub record CountsUses (old new : Allocated) : Type 0 where
   pub others : new ≡ record old { footdefs = new.footdefs }
   pub names : (name : List ℕ) → is_some (footnote_at new.footdefs name) ≡ is_some (footnote_at old.footdefs name)
 
--- what the brackets of a chain at this place depend on, by what labels are looked up in
-abbrev pub around_by : {C : Type 0} → ChainPlace → (List ℕ → ℕ) → List ItemBody → LabelLookup C → Around
-around_by place skipped bodies lookup =
-    around_at place skipped bodies lookup.tables.refdefs lookup.tables.footdefs (is_some lookup.callback)
-
 -- the progress with this limit, these answers and these counts of uses
 abbrev pub knowing : ℕ → Answers → (List ℕ → ℕ) → Progress ℕ → Progress ℕ
 knowing limit answers uses p = record p { known = record { limit = limit; answers = answers; uses = uses } }
-
--- the result of a step of the decision: the callback answered these questions, at most one, and the result is what the
--- rules say whatever answers follow, which are left
-pub record ComesTo {C : Type 0} (step : C → Question → Option Answer → C → Type 0) (w : Around) (try : Try ℕ)
-    (old new : LabelLookup C) (spent spent' : SpentEnds) (found : ClosedBracket) : Type 0 where
-  pub answers : Answers
-  pub questions : List Question
-  pub asked : Asks step old.callback questions answers new.callback
-  pub becomes : Becomes ℕ
-  pub more : List ℕ
-  pub comes : (p : Progress ℕ) (later : Answers)
-      → try (knowing old.limit (answers ++ later) (uses_of old.tables.footdefs) p)
-      ≡ record {
-        becomes = becomes;
-        progress =
-            record (knowing new.limit later (uses_of new.tables.footdefs) p)
-            { spent = more ++ p.spent; asked = p.asked ++ questions };
-      }
-  pub spends : (end : ℕ) → is_spent spent' end ≡ (among end more || is_spent spent end)
-  pub is : IsBecome w becomes found

@@ -1,7 +1,6 @@
 -- What is read at a `]` of an arena, as contracts describe it.
-use Rattle.std.specs.Prelude.{◌≡◌, ℕ, ◌-◌, ◌<◌, ◌≤◌, Bool, List, Option, Some, length, take}
+use Rattle.std.specs.Prelude.{ℕ, ◌-◌, Bool, List, Option, take}
 use Rattle.std.specs.Option.{option_and_then, option_map}
-use Rattle.std.specs.Str.{IsCharBoundary}
 use Rattle.markdown_base.specs.Arena.{sibling_of}
 use Rattle.markdown_base.specs.BlockTree.{item_at}
 use Rattle.markdown_base.specs.CowText.{text_of}
@@ -10,7 +9,7 @@ use Rattle.markdown_base.specs.declared.tag.LinkType.TheVariants as kind
 use Rattle.markdown_base.specs.declared.node.Node.{Node}
 use Rattle.markdown_brackets.specs.BracketDecision.{Written, reference_written, tail_or}
 use Rattle.markdown_brackets.specs.BracketOptions.{footnote_style}
-use Rattle.markdown_brackets.specs.ChainAhead.{IsChain, reaches_closer, starts_from}
+use Rattle.markdown_brackets.specs.ChainAhead.{reaches_closer, starts_from}
 use Rattle.markdown_brackets.specs.LinkTail as tail
 use Rattle.markdown_brackets.specs.LinkTail.{link_tail}
 use Rattle.markdown_brackets.specs.Reference.{FoundLabel, Form, form_at, own_label}
@@ -18,25 +17,6 @@ use Rattle.markdown_brackets.specs.declared.link_tail.LinkTail.{LinkTail}
 use Rattle.markdown_document.specs.LinkOrigins.{IsTitleFrom}
 use Rattle.markdown_document.specs.Origins.{origin_of}
 use Rattle.markdown_document.specs.declared.chain_place.ChainPlace.{ChainPlace}
-
--- the `]` of a node can be read, and a label to it from a byte offset: the `]` is in a chain, it ends between
--- characters, as each item after it starts, and the label's `[` precedes it
-pub record CanRead (nodes : List (Node Item)) (place : ChainPlace) (closer start : ℕ) : Type 0 where
-  pub within : closer < length nodes
-  pub chain : IsChain nodes (sibling_of nodes closer)
-  pub block : IsCharBoundary place.text.now place.block_end
-  pub later : (n s : ℕ) → starts_from nodes (sibling_of nodes closer) n ≡ Some s
-      → IsCharBoundary place.text.now s
-  pub some : 0 < (item_at nodes closer).end
-  pub opens : IsCharBoundary place.text.now start
-  pub closes : IsCharBoundary place.text.now (item_at nodes closer).end
-  pub order : start ≤ (item_at nodes closer).end
-
--- an opener can be tried: it is a node, it has bytes, and its `[` is at a byte offset from which the text can be read
-pub record CanTry (nodes : List (Node Item)) (place : ChainPlace) (closer opener : ℕ) : Type 0 where
-  pub within : opener < length nodes
-  pub opens : (item_at nodes opener).start < (item_at nodes opener).end
-  pub reads : CanRead nodes place closer ((item_at nodes opener).end - 1)
 
 -- the title of an inline link comes from the source, from this byte offset on and up to the link's end
 abbrev pub IsTailFrom : List ℕ → (start : ℕ) → LinkTail → Type 0

@@ -8,7 +8,8 @@ ghost use Rattle.markdown_brackets.specs.LinkTailView.{ReadsTail};
 ghost use Rattle.markdown_brackets.specs.Reference.{could_be_reference, own_label};
 ghost use Rattle.markdown_brackets.specs.ReferenceView.{form_view, label_view};
 ghost use Rattle.markdown_brackets.specs.SpentEnds.{is_spent};
-ghost use Rattle.markdown_brackets.specs.WrittenView.{CanRead, IsTailFrom, form_ahead, tail_ahead};
+ghost use Rattle.markdown_brackets.specs.WrittenView.{IsTailFrom, form_ahead, tail_ahead};
+ghost use Rattle.markdown_brackets.specs.Decides.{CanRead};
 
 use crate::items_ahead::{ItemsAhead, link_after, linked_item};
 use crate::link_tail::{LinkTail, scan_link_tail};

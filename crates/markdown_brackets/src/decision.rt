@@ -9,15 +9,15 @@ ghost use Rattle.markdown_document.specs.Setting.{uses_of};
 ghost use Rattle.markdown_defs.specs.Definitions.{Labelled};
 ghost use Rattle.markdown_defs.specs.declared.footnotes.FootnoteDefs.{FootnoteDefs};
 ghost use Rattle.markdown_brackets.specs.BracketDecision.{Around, Closing};
-ghost use Rattle.markdown_brackets.specs.Decides.{CanDecide, Decides, EachOpener, StandsBefore, TakesWikilink};
+ghost use Rattle.markdown_brackets.specs.Decides.{CanDecide, Decides, EachOpener, StandsBefore};
 ghost use Rattle.markdown_brackets.specs.DecisionView.{CountsUses, GoesOnBehind, around_at};
 ghost use Rattle.markdown_brackets.specs.HeldOpeners.{brackets_of, wikilinks_of};
 ghost use Rattle.markdown_brackets.specs.LeftList.{Entry, Split};
 ghost use Rattle.markdown_brackets.specs.Reference.{could_be_reference};
 ghost use Rattle.markdown_brackets.specs.SpentEnds.{is_spent};
-ghost use Rattle.markdown_brackets.specs.StandsAt.{FindsWikilink, IsWikilinkAt, TriesWikilink};
+ghost use Rattle.markdown_brackets.specs.StandsAt.{FindsWikilink, IsWikilinkAt, TriesWikilink, TakesWikilink, wikilink_nodes};
 ghost use Rattle.markdown_brackets.specs.Wikilink.{has_pothole};
-ghost use Rattle.markdown_brackets.specs.WikilinkNodes.{CanFindWikilink, wikilink_nodes};
+ghost use Rattle.markdown_brackets.specs.WikilinkNodes.{CanFindWikilink};
 ghost use Rattle.markdown_brackets.specs.WikilinkView.{shown_view};
 
 use crate::closer::Closer;

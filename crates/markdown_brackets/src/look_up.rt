@@ -63,20 +63,19 @@ fn title_or_empty(title: Option<CowStr<'_>>) -> CowStr<'_>
 fn defined_target<'a>(
     alloc: Global,
     definition: &LinkDef<'a>,
-    link_type: LinkType,
-    id: CowStr<'a>,
+    about: BrokenLink<'a>,
 ) -> Result<Target<'a>, Fault>
     ensures value { IfOk result (λ t.
-        target_view t ≡ lookup.defined_target link_type (definition_view definition.now)
-        (text_of id.entry)) }
+        target_view t ≡ lookup.defined_target about.entry.link_type
+        (definition_view definition.now) (text_of about.entry.reference)) }
     ensures refused { IfErr result (λ fault. fault ≡ Fault.Memory) }
 {
     let copy = definition.try_clone(alloc)?;
     Ok(Target {
-        link_type,
+        link_type: about.link_type,
         destination: copy.dest,
         title: title_or_empty(copy.title),
-        id,
+        id: about.reference,
     })
 }
 
@@ -153,12 +152,7 @@ fn find_target<'a, F: BrokenLinkCallback<'a>>(
     ensures unchanged { OnErr result (callback.new ≡ callback.old) }
 {
     match definitions.get(about.reference.as_str())? {
-        Some(definition) => Ok(Some(defined_target(
-            alloc,
-            definition,
-            about.link_type,
-            about.reference,
-        )?)),
+        Some(definition) => Ok(Some(defined_target(alloc, definition, about)?)),
         None => ask(alloc, callback, about),
     }
 }

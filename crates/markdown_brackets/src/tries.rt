@@ -12,15 +12,16 @@ ghost use Rattle.markdown_document.specs.ChainRest.{start_of};
 ghost use Rattle.markdown_brackets.specs.BracketDecision.{Around, Closing, a_link, footnote_label, inline_target};
 ghost use Rattle.markdown_brackets.specs.BracketDecision.{link_reference, no_link, opener_tried, own_written, tried};
 ghost use Rattle.markdown_brackets.specs.ChainAhead.{IsChain, reaches_closer};
-ghost use Rattle.markdown_brackets.specs.DecisionView.{ComesTo, CountsUses, GoesOnBehind, IsBecome, around_by};
+ghost use Rattle.markdown_brackets.specs.DecisionView.{CountsUses, GoesOnBehind, IsBecome};
 ghost use Rattle.markdown_brackets.specs.DecisionView.{opener_of};
 ghost use Rattle.markdown_brackets.specs.LeftList.{Split};
 ghost use Rattle.markdown_brackets.specs.LinkTail as scanned;
 ghost use Rattle.markdown_brackets.specs.LinkTailView.{IsTail};
-ghost use Rattle.markdown_brackets.specs.StandsAt.{IsOwn, Spends, Tries, TriesOpener, could_be_at};
+ghost use Rattle.markdown_brackets.specs.StandsAt.{CanTryInside, IsFull, IsOwn, Spends, Tries, TriesOpener, could_be_at, ComesTo, around_by};
 ghost use Rattle.markdown_brackets.specs.TargetOrigins.{IsLookedUp};
-ghost use Rattle.markdown_brackets.specs.WrittenView.{CanTry, IsTailFrom, own_label_at, reference_at, written_at};
+ghost use Rattle.markdown_brackets.specs.WrittenView.{IsTailFrom, own_label_at, reference_at, written_at};
 ghost use Rattle.markdown_brackets.specs.declared.spent_ends.SpentEnds.{SpentEnds};
+ghost use Rattle.markdown_brackets.specs.Decides.{CanTry};
 
 use crate::closer::Closer;
 use crate::closing_bracket::ClosedBracket;
@@ -125,11 +126,8 @@ fn try_full<'a, R, F: BrokenLinkCallback<'a>>(
     spent: &mut SpentEnds,
     lookup: &mut LabelLookup<'a, F>,
 ) -> Result<ClosedBracket<'a>, Fault>
-    requires within { at.now.node < length at.now.tree.now.nodes }
-    requires chain { IsChain at.now.tree.now.nodes (sibling_of at.now.tree.now.nodes at.now.node) }
-    requires some { 0 < about.span.end }
-    requires kind { about.link_type ≡ kind.Reference }
-    requires starts { about.span.start ≡ (item_at at.now.tree.now.nodes opener.node).start }
+    requires ready { CanTry at.now.tree.now.nodes at.now.place.now at.now.node opener.node }
+    requires full { IsFull at.now.tree.now.nodes opener about }
     requires asks { IfSome lookup.old.callback F.can_ask }
     ensures comes { IfOk result (λ found.
         Tries F.answers at.now opener lookup.old lookup.new spent.old spent.new
@@ -160,8 +158,7 @@ fn try_own<'a, R: LineRule, F: BrokenLinkCallback<'a>>(
     next: usize,
     lookup: &mut LabelLookup<'a, F>,
 ) -> Result<ClosedBracket<'a>, Fault>
-    requires ready { CanTry at.now.tree.now.nodes at.now.place.now at.now.node opener.node }
-    requires inside { (item_at at.now.tree.now.nodes at.now.node).end ≤ at.now.place.now.block_end }
+    requires ready { CanTryInside at.now.tree.now.nodes at.now.place.now at.now.node opener.node }
     requires kind { IsOwn link_type }
     requires asks { IfSome lookup.old.callback F.can_ask }
     ensures comes { IfOk result (λ found. (spent : SpentEnds)
@@ -198,8 +195,7 @@ fn try_reference<'a, R: LineRule, F: BrokenLinkCallback<'a>>(
     spent: &mut SpentEnds,
     lookup: &mut LabelLookup<'a, F>,
 ) -> Result<ClosedBracket<'a>, Fault>
-    requires ready { CanTry at.now.tree.now.nodes at.now.place.now at.now.node opener.node }
-    requires inside { (item_at at.now.tree.now.nodes at.now.node).end ≤ at.now.place.now.block_end }
+    requires ready { CanTryInside at.now.tree.now.nodes at.now.place.now at.now.node opener.node }
     requires asks { IfSome lookup.old.callback F.can_ask }
     ensures comes { IfOk result (λ found.
         Tries F.answers at.now opener lookup.old lookup.new spent.old spent.new

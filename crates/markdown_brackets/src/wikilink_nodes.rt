@@ -3,8 +3,9 @@ ghost use Rattle.std.specs.Prelude.{◌≡◌, ◌<◌, Some, IfSome, length};
 ghost use Rattle.markdown_base.specs.Arena.{sibling_of};
 ghost use Rattle.markdown_base.specs.BlockTree.{item_at};
 ghost use Rattle.markdown_brackets.specs.ChainAhead.{IsChain};
-ghost use Rattle.markdown_brackets.specs.WikilinkNodes.{body_start, shown_in, shown_from_node, unless_is};
+ghost use Rattle.markdown_brackets.specs.WikilinkNodes.{body_start, unless_is};
 ghost use Rattle.markdown_brackets.specs.WikilinkView.{shown_view};
+ghost use Rattle.markdown_brackets.specs.StandsAt.{shown_in, shown_from_node};
 
 use crate::items_ahead::first_past;
 use crate::wikilink::Shown;

@@ -2,12 +2,10 @@
 use Rattle.std.proofs.Common.{◌≡◌, ◌&&◌, not, is_some, sym, ◌∙◌, ap, subst}
 use Rattle.markdown_base.specs.BlockTree.{item_at}
 use Rattle.markdown_document.specs.ChainRest.{end_of}
-use Rattle.markdown_brackets.specs.Decides.{TakesWikilink}
-use Rattle.markdown_brackets.specs.DecisionView.{around_by}
 use Rattle.markdown_brackets.specs.LeftList.{nearest, opens_bracket}
 use Rattle.markdown_brackets.specs.Reference.{could_be_reference}
 use Rattle.markdown_brackets.specs.SpentEnds.{is_spent}
-use Rattle.markdown_brackets.specs.StandsAt.{could_be_at}
+use Rattle.markdown_brackets.specs.StandsAt.{could_be_at, TakesWikilink, around_by}
 use Rattle.markdown_brackets.proofs.AheadOfBracketLemmas.{same_end}
 use Rattle.markdown_brackets.proofs.DecidesLemmas.{decides_one, decides_wikilink, tries_nearest}
 use Rattle.markdown_brackets.proofs.TakeWikilinkLemmas.{closer_found}

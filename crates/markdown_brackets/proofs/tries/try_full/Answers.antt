@@ -6,10 +6,10 @@ use Rattle.markdown_base.specs.CowText.{text_of}
 use Rattle.markdown_base.specs.declared.tag.LinkType.TheVariants as kind
 use Rattle.markdown_brackets.specs.BracketDecision.{Written, a_text, link_reference, no_link, tried}
 use Rattle.markdown_brackets.specs.ChainAhead.{reaches_closer}
-use Rattle.markdown_brackets.specs.DecisionView.{around_by}
 use Rattle.markdown_brackets.specs.declared.closing_bracket.ClosedBracket.TheVariants.{Text}
 use Rattle.markdown_brackets.proofs.ComesToLemmas.{comes_quietly, spends_end, tried_as}
 use Rattle.markdown_brackets.proofs.WrittenLemmas.{ok_map}
+use Rattle.markdown_brackets.specs.StandsAt.{around_by}
 use Rattle.markdown_brackets.proofs.tries.try_full.Goals as goal
 
 pub returns-then-not-reaches_closer-clause-comes : goal.returns-then-not-reaches_closer-clause-comes
@@ -33,7 +33,7 @@ returns-clause-comes g c =
     (sym c.reaches_closer.ensures ∙ c.if-not-reaches_closer.false) in
     let by : Bool → Written = λ b. if b then link_reference kind.Reference (text_of c.args.about.reference) end end else no_link in
     ok_map c.find_reference.result _ _ c.find_reference.ensures.comes (λ found comes skipped bodies o opener start.
-    tried_as o (ap (λ k. link_reference k (text_of c.args.about.reference) end end) c.requires.kind ∙ ap by (sym one))
+    tried_as o (ap (λ k. link_reference k (text_of c.args.about.reference) end end) c.requires.full.kind_is ∙ ap by (sym one))
     (comes c.args.spent.now c.insert.new.self
-    (spends_end c.args.about.link_type end c.args.spent.now c.insert.new.self c.requires.kind c.in_ok-insert.ensures.put) skipped bodies o
+    (spends_end c.args.about.link_type end c.args.spent.now c.insert.new.self c.requires.full.kind_is c.in_ok-insert.ensures.put) skipped bodies o
     opener start))

@@ -5,9 +5,8 @@ use Rattle.markdown_base.specs.BlockTree.{item_at, no_item}
 use Rattle.markdown_base.specs.declared.item.Item.{Item}
 use Rattle.markdown_document.specs.ChainRest.{start_of}
 use Rattle.markdown_brackets.specs.BracketDecision.{a_text, no_link, tried}
-use Rattle.markdown_brackets.specs.DecisionView.{around_by}
 use Rattle.markdown_brackets.specs.LinkTailView.{ReadsTail}
-use Rattle.markdown_brackets.specs.StandsAt.{could_be_at}
+use Rattle.markdown_brackets.specs.StandsAt.{could_be_at, around_by}
 use Rattle.markdown_brackets.specs.WrittenView.{IsTailFrom, reference_at, tail_ahead}
 use Rattle.markdown_brackets.specs.declared.closing_bracket.ClosedBracket.TheVariants.{Text}
 use Rattle.markdown_brackets.proofs.ComesToLemmas.{comes_quietly, comes_to_tail, tried_as}

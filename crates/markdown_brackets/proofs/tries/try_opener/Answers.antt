@@ -3,9 +3,9 @@ use Rattle.std.proofs.Common.{subst}
 use Rattle.std.proofs.Math.Path.{fun_ext}
 use Rattle.std.specs.Prelude.{IfSome}
 use Rattle.markdown_brackets.specs.StandsAt.{TriesOpener, could_be_at}
-use Rattle.markdown_brackets.specs.WrittenView.{CanTry}
 use Rattle.markdown_brackets.proofs.TryOpenerLemmas.{comes_by_dead, comes_by_live, comes_by_none}
 use Rattle.markdown_brackets.proofs.WrittenLemmas.{ok_map}
+use Rattle.markdown_brackets.specs.Decides.{CanTry}
 use Rattle.markdown_brackets.proofs.tries.try_opener.Goals as goal
 
 pub returns-in_default-clause-tries : goal.returns-in_default-clause-tries

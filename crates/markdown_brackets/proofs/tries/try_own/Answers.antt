@@ -6,13 +6,13 @@ use Rattle.markdown_base.specs.BlockTree.{item_at, no_item}
 use Rattle.markdown_base.specs.CowText.{text_of}
 use Rattle.markdown_base.specs.declared.item.Item.{Item}
 use Rattle.markdown_brackets.specs.BracketDecision.{Written, a_text, footnote_label, link_reference, no_link, own_written, tried}
-use Rattle.markdown_brackets.specs.DecisionView.{around_by}
 use Rattle.markdown_brackets.specs.Reference.{FoundLabel}
 use Rattle.markdown_brackets.specs.ReferenceView.{label_view}
 use Rattle.markdown_brackets.specs.WrittenView.{own_label_at}
 use Rattle.markdown_brackets.specs.declared.closing_bracket.ClosedBracket.TheVariants.{Text}
 use Rattle.markdown_brackets.proofs.ComesToLemmas.{comes_quietly, spends_none, tried_as}
 use Rattle.markdown_brackets.proofs.WrittenLemmas.{ok_map}
+use Rattle.markdown_brackets.specs.StandsAt.{around_by}
 use Rattle.markdown_brackets.proofs.tries.try_own.Goals as goal
 
 pub returns-in_default-clause-comes : goal.returns-in_default-clause-comes

@@ -7,10 +7,9 @@ use Rattle.markdown_base.specs.declared.tag.LinkType.{LinkType}
 use Rattle.markdown_base.specs.declared.tag.LinkType.TheVariants as kind
 use Rattle.markdown_brackets.specs.BracketDecision.{Written, a_text, no_link, own_written, reference_written, tried}
 use Rattle.markdown_brackets.specs.ChainAhead.{reaches_closer}
-use Rattle.markdown_brackets.specs.DecisionView.{around_by}
 use Rattle.markdown_brackets.specs.Reference.{Form, collapsed, shortcut}
 use Rattle.markdown_brackets.specs.ReferenceView.{form_view}
-use Rattle.markdown_brackets.specs.StandsAt.{could_be_at}
+use Rattle.markdown_brackets.specs.StandsAt.{could_be_at, around_by}
 use Rattle.markdown_brackets.specs.WrittenView.{form_ahead, own_label_at}
 use Rattle.markdown_brackets.specs.declared.closing_bracket.ClosedBracket.TheVariants.{Text}
 use Rattle.markdown_brackets.proofs.AheadOfBracketLemmas.{EndsBehind, form_behind}
@@ -21,11 +20,17 @@ use Rattle.markdown_brackets.proofs.tries.try_reference.Goals.{in-Collapsed, in-
 
 pub try_full-requires : goal.try_full-requires
 try_full-requires g c k =
-    let can = c.requires.ready.reads in
+    let can = c.requires.ready.can in
     let form = sym (ap form_view c.in-Reference.is) ∙ c.in_ok-label.ensures.form in
-    let some : 0 < c.in-Reference.end = subst (EndsBehind 0) (sym form) (form_behind _ _ _ _ _ _ _ can.some) in (
+    let some : 0 < c.in-Reference.end = subst (EndsBehind 0) (sym form) (form_behind _ _ _ _ _ _ _ can.reads.some) in (
       (refl, tt),
-      (can.within, (can.chain, (some, (refl, (ap (λ (i : Item). i.start) (c.item-in-Reference.ensures no_item), c.requires.asks))))),
+      (
+        can,
+        (
+          record { some = some; kind_is = refl; starts = ap (λ (i : Item). i.start) (c.item-in-Reference.ensures no_item) },
+          c.requires.asks,
+        ),
+      ),
     )
 
 pub returns-in-Reference-clause-comes : goal.returns-in-Reference-clause-comes
