@@ -17,9 +17,8 @@ use Rattle.markdown_document.specs.Tables.{Tables}
 use Rattle.markdown_brackets.specs.BracketDecision.{closer_ends_at, first_item, second_item, start_of_first_past}
 use Rattle.markdown_brackets.specs.ChainAhead.{begins_with_closer, first_start, numbers_past, reaches_closer, starts_from}
 use Rattle.markdown_brackets.specs.ChainHeld.{Holds, numbers_of}
-use Rattle.markdown_brackets.specs.Reference.{FoundLabel, reference, collapsed, shortcut, form_at, form_by_label, is_closer, is_opener}
+use Rattle.markdown_brackets.specs.Reference.{FoundLabel, Form, reference, collapsed, shortcut, form_at, form_by_label, is_closer, is_opener}
 use Rattle.markdown_brackets.specs.Reference.{bracket_label, stands_at}
-use Rattle.markdown_brackets.specs.WrittenView.{EndsBehind}
 use Rattle.markdown_brackets.specs.declared.footnote.FootnoteStyle.{FootnoteStyle}
 use Rattle.markdown_brackets.proofs.ChainAheadLemmas.{below_is, not_below_is, is_below, is_not_below}
 
@@ -131,7 +130,12 @@ module _ (source : List ℕ) (tables : Tables) (nodes : List (Node Item)) where
             (λ a r. refl) l f h,
       ) refl
 
--- the label of a full reference ends after its `]`
+-- the label of a full reference ends after a byte offset
+abbrev pub EndsBehind : ℕ → Form → Type 0
+EndsBehind at (reference label end) = at < end
+EndsBehind at other = Unit {0}
+
+-- it ends after its `]`
 label_behind : (at : ℕ) (l : Option FoundLabel) → 0 < at → EndsBehind 0 (form_by_label at l)
 label_behind at None some = tt
 label_behind at (Some l) some = by l.is_footnote

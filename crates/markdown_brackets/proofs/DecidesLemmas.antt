@@ -7,17 +7,18 @@ use Rattle.markdown_base.specs.Questions.{Question, Answer}
 use Rattle.markdown_base.specs.declared.item.Item.{Item}
 use Rattle.markdown_base.specs.declared.node.Node.{Node}
 use Rattle.markdown_document.specs.ChainRest.{end_of}
-use Rattle.markdown_document.specs.Setting.{Known}
-use Rattle.markdown_brackets.specs.BracketDecision.{Around, Closing, Decision, Progress, a_wikilink}
-use Rattle.markdown_brackets.specs.Decides.{Decides, StandsBefore, TakesNone, TakesOne}
+use Rattle.markdown_document.specs.Setting.{Known, uses_of}
+use Rattle.markdown_brackets.specs.BracketDecision.{Around, Closing, Decision, Progress, a_wikilink, opener_tried}
+use Rattle.markdown_brackets.specs.Decides.{Decides, StandsBefore}
 use Rattle.markdown_brackets.specs.DecisionView.{knowing, opener_of}
 use Rattle.markdown_brackets.specs.Finish.{SplitsAs}
 use Rattle.markdown_brackets.specs.LeftList.{Entry, Split, nearest, opens_bracket, without_bracket, bracket_taken, wikilink_taken}
-use Rattle.markdown_brackets.specs.LeftList.{brackets_of}
+use Rattle.markdown_brackets.specs.HeldOpeners.{brackets_of}
 use Rattle.markdown_brackets.specs.Openers.{Waiting}
 use Rattle.markdown_brackets.specs.ReadChain.{begun}
-use Rattle.markdown_brackets.specs.StandsAt.{AreTaken, ComesToOpener, TriesOpener}
+use Rattle.markdown_brackets.specs.StandsAt.{AreTaken, TriesOpener, TakesNone, TakesOne, ComesTo}
 use Rattle.markdown_brackets.specs.declared.closing_bracket.ClosedBracket.{ClosedBracket}
+use Rattle.markdown_brackets.specs.declared.look_up.LabelLookup.{LabelLookup}
 use Rattle.markdown_brackets.specs.declared.openers.Opener.{Opener}
 use Rattle.markdown_brackets.specs.declared.spent_ends.SpentEnds.{SpentEnds}
 use Rattle.markdown_brackets.proofs.AheadOfBracketLemmas.{same_start, same_end}
@@ -33,12 +34,13 @@ left_of None old new m = m.1 ∙ sym (ap rest_of m.0)
 left_of (Some t) old new m = sym (ap rest_of m)
 
 module _ {C : Type 0} (step : C → Question → Option Answer → C → Type 0) (w : Around) (c : Closing ℕ) (left : List (Entry ℕ))
-    (limit : ℕ) (uses : List ℕ → ℕ) (spent : SpentEnds) (callback : Option C)
+    (lookup : LabelLookup C) (spent : SpentEnds)
     (taken : Option (Opener × Bool)) (old new held : List Waiting) (old_is : old ≡ brackets_of left)
     (m : MatchOption taken ((old ≡ []) × (new ≡ [])) (λ t. old ≡ record { opener = t.0; is_live = t.1 } ∷ new)) (found : ClosedBracket)
   where
     pub decides_wikilink : TakesOne w c left held found
-        → Decides step w c left limit limit uses uses spent spent callback callback new held found
+        → Decides step w c left lookup.limit lookup.limit (uses_of lookup.tables.footdefs) (uses_of lookup.tables.footdefs) spent spent
+        lookup.callback lookup.callback new held found
     decides_wikilink t = record {
       answers = [];
       questions = [];
@@ -49,11 +51,11 @@ module _ {C : Type 0} (step : C → Question → Option Answer → C → Type 0)
       splits = t.splits;
       more = [];
       decides = λ p later.
-          t.decides (knowing limit later uses p)
+          t.decides (knowing lookup.limit later (uses_of lookup.tables.footdefs) p)
           ∙ ap (λ (asked : List Question). let d : Decision ℕ = record {
             becomes = a_wikilink t.opener t.wikilink t.end;
             progress =
-                record (knowing limit later uses p) { left = wikilink_taken (bracket_taken left); asked = asked };
+                record (knowing lookup.limit later (uses_of lookup.tables.footdefs) p) { left = wikilink_taken (bracket_taken left); asked = asked };
           } in d)
           (sym (append-nil p.asked));
       spends = λ end. refl;
@@ -61,27 +63,28 @@ module _ {C : Type 0} (step : C → Question → Option Answer → C → Type 0)
       wikilinks_are = t.held_is;
     }
 
-    pub decides_one : (limit' : ℕ) (uses' : List ℕ → ℕ) (spent' : SpentEnds) (callback' : Option C) (t : TakesNone w c left held)
-        → ComesToOpener step w c (nearest opens_bracket t.left_then) limit limit' uses uses' spent spent' callback callback' found
-        → Decides step w c left limit limit' uses uses' spent spent' callback callback' new held found
-    decides_one limit' uses' spent' callback' t h = record {
-      answers = h.comes.answers;
-      questions = h.comes.questions;
-      asked = h.comes.asked;
-      becomes = h.comes.becomes;
-      is = h.comes.is;
+    pub decides_one : (lookup' : LabelLookup C) (spent' : SpentEnds) (t : TakesNone w c left held)
+        → ComesTo step w (opener_tried w c (nearest opens_bracket t.left_then)) lookup lookup' spent spent' found
+        → Decides step w c left lookup.limit lookup'.limit (uses_of lookup.tables.footdefs) (uses_of lookup'.tables.footdefs) spent spent'
+        lookup.callback lookup'.callback new held found
+    decides_one lookup' spent' t h = record {
+      answers = h.answers;
+      questions = h.questions;
+      asked = h.asked;
+      becomes = h.becomes;
+      is = h.is;
       left_then = bracket_taken t.left_then;
       splits =
           let none : Known = record { limit = 0; answers = []; uses = λ name. 0 } in
           let start : Progress ℕ = begun none in
-          subst (λ becomes. SplitsAs (bracket_taken t.left_then) becomes) (ap (λ (d : Decision ℕ). d.becomes) (h.comes.comes start []))
-          (opener_splits w c (bracket_taken t.left_then) (nearest opens_bracket t.left_then) (knowing limit (h.comes.answers ++ []) uses
-          start)
+          subst (λ becomes. SplitsAs (bracket_taken t.left_then) becomes) (ap (λ (d : Decision ℕ). d.becomes) (h.comes start []))
+          (opener_splits w c (bracket_taken t.left_then) (nearest opens_bracket t.left_then)
+          (knowing lookup.limit (h.answers ++ []) (uses_of lookup.tables.footdefs) start)
           (taken_splits opens_bracket without_bracket t.left_then));
       more = h.more;
       decides = λ p later.
-          t.decides (knowing limit (h.comes.answers ++ later) uses p)
-          ∙ h.comes.comes (record p { left = bracket_taken t.left_then }) later;
+          t.decides (knowing lookup.limit (h.answers ++ later) (uses_of lookup.tables.footdefs) p)
+          ∙ h.comes (record p { left = bracket_taken t.left_then }) later;
       spends = h.spends;
       brackets_are = left_of taken old new m ∙ (ap rest_of (old_is ∙ sym t.brackets) ∙ rest_brackets t.left_then);
       wikilinks_are = t.held_is ∙ sym (wikilinks_stay t.left_then);

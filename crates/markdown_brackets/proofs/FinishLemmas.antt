@@ -16,9 +16,10 @@ use Rattle.markdown_brackets.specs.ClosingBracket.{footnote_onto, put}
 use Rattle.markdown_brackets.specs.DecisionView.{IsBecome, opener_of}
 use Rattle.markdown_brackets.specs.Decides.{EachOpener, StandsBefore}
 use Rattle.markdown_brackets.specs.Finish.{AreBehind, AreRising, IsSplit, LeftRises, SplitsAs}
-use Rattle.markdown_brackets.specs.LeftList.{Entry, Flag, Mark, Split, before_footnote, before_link, before_wikilink, brackets_of, disabled}
-use Rattle.markdown_brackets.specs.LeftList.{disabled_flag, disabled_mark, done, gone, held_as, live, on_marks, second_folded, trees_onto}
-use Rattle.markdown_brackets.specs.LeftList.{waits, wikilinks_of, without_bracket, without_wikilink}
+use Rattle.markdown_brackets.specs.LeftList.{Entry, Flag, Mark, Split, before_footnote, before_link, before_wikilink, disabled}
+use Rattle.markdown_brackets.specs.LeftList.{disabled_flag, disabled_mark, done, gone, live, on_marks, second_folded, trees_onto}
+use Rattle.markdown_brackets.specs.LeftList.{waits, without_bracket, without_wikilink}
+use Rattle.markdown_brackets.specs.HeldOpeners.{brackets_of, held_as, wikilinks_of}
 use Rattle.markdown_brackets.specs.Openers.{Waiting, before}
 use Rattle.markdown_brackets.specs.Openers as openers
 use Rattle.markdown_brackets.specs.SecondBracket.{without_second}

@@ -1,7 +1,8 @@
 -- What a stack holds is what the left list says: disabling, and what is gone.
 use Rattle.std.proofs.Common.{◌≡◌, ℕ, Bool, true, false, List, [], ◌∷◌, map, refl, ap, ◌∙◌}
 use Rattle.markdown_brackets.specs.LeftList.{Entry, done, waits, Flag, live, disabled, gone, on_marks, disabled_mark, disabled_flag}
-use Rattle.markdown_brackets.specs.LeftList.{without_bracket, without_wikilink, brackets_of, wikilinks_of, held_as}
+use Rattle.markdown_brackets.specs.LeftList.{without_bracket, without_wikilink}
+use Rattle.markdown_brackets.specs.HeldOpeners.{brackets_of, wikilinks_of, held_as}
 use Rattle.markdown_brackets.specs.Openers as openers
 use Rattle.markdown_brackets.specs.Openers.{Waiting}
 

@@ -6,90 +6,91 @@ use Rattle.markdown_base.specs.BlockParts.{definition_view}
 use Rattle.markdown_base.specs.Event.{LinkView}
 use Rattle.markdown_base.specs.Questions.{Question, Answer, Answers}
 use Rattle.markdown_base.specs.declared.block_parts.LinkDef.{LinkDef}
+use Rattle.markdown_defs.specs.Callback.{Asks}
 use Rattle.markdown_defs.specs.Definitions as definitions
-use Rattle.markdown_defs.specs.Definitions.{Labelled}
-use Rattle.markdown_brackets.specs.Lookup.{look_up, finds_nothing, defined_target, defined_or_asked, limit_after, asked}
+use Rattle.markdown_brackets.specs.Lookup.{LookedUp, look_up, finds_nothing, defined_target, defined_or_asked, limit_after, asked}
 use Rattle.markdown_brackets.specs.LookupView.{LooksUp, IsAnswered, FindsTarget, target_by}
+use Rattle.markdown_brackets.specs.declared.look_up.LabelLookup.{LabelLookup}
 
--- at a limit of 0
-pub LooksUp-at_zero : {C : Type 0} (step : C → Question → Option Answer → C → Type 0) (defined : List Labelled) (asks : Bool) (q : Question)
-    (limit : ℕ) (callback : Option C)
-    → limit ≡ 0 → LooksUp step defined asks q limit limit callback callback None
-LooksUp-at_zero step defined asks q limit callback none = record {
-  answers = [];
-  questions = [];
-  asked = refl;
-  finds = λ later. let P : ℕ → Type 0 = λ n. look_up defined asks n later q ≡ finds_nothing n later [] in subst P (sym none) refl;
-}
+module _ {C : Type 0} (step : C → Question → Option Answer → C → Type 0) (old : LabelLookup C) (q : Question) where
+  -- at a limit of 0
+  pub LooksUp-at_zero : old.limit ≡ 0 → LooksUp step old old q None
+  LooksUp-at_zero none = record {
+    answers = [];
+    questions = [];
+    asked = refl;
+    finds = λ later.
+        let P : ℕ → Type 0 = λ n. look_up old.tables.refdefs (is_some old.callback) n later q ≡ finds_nothing n later [] in
+        subst P (sym none) refl;
+  }
 
--- a definition
-pub LooksUp-defined : {C : Type 0} (step : C → Question → Option Answer → C → Type 0) (defined : List Labelled) (asks : Bool) (q : Question)
-    (limit : ℕ) (callback : Option C) (d : LinkDef) (target : Option LinkView)
-    → (limit == 0) ≡ false → definitions.find_definition q.reference defined ≡ Some d
-    → target ≡ Some (defined_target q.link_type (definition_view d) q.reference)
-    → LooksUp step defined asks q limit (limit_after limit target) callback callback target
-LooksUp-defined step defined asks q limit callback d target some found is = record {
-  answers = [];
-  questions = [];
-  asked = refl;
-  finds = λ later.
-      ap (λ b. cond b (finds_nothing limit later []) (defined_or_asked asks limit later q (definitions.find_definition q.reference defined))) some
-      ∙ ap (defined_or_asked asks limit later q) found
-      ∙ ap (λ (t : Option LinkView). record { target = t; questions = []; limit = limit_after limit t; answers = later }) (sym is);
-}
+  -- what the label finds: by its definition, or by a question
+  pub LooksUp-found : (new : LabelLookup C) (target : Option LinkView) → 0 < old.limit → new.limit ≡ limit_after old.limit target
+      → FindsTarget step old.tables.refdefs q old.callback new.callback target → LooksUp step old new q target
+  LooksUp-found new target some left found = by (definitions.find_definition q.reference old.tables.refdefs) refl found
+    where
+      not_zero : (n : ℕ) → 0 < n → (n == 0) ≡ false
+      not_zero n h = grind (arith, nat_tests)
 
--- a question
-pub LooksUp-answered : {C : Type 0} (step : C → Question → Option Answer → C → Type 0) (defined : List Labelled) (q : Question) (limit : ℕ)
-    (callback callback' : Option C) (target : Option LinkView)
-    → (limit == 0) ≡ false → definitions.find_definition q.reference defined ≡ None
-    → IsAnswered step q callback callback' target
-    → LooksUp step defined (is_some callback) q limit (limit_after limit target) callback callback' target
-LooksUp-answered step defined q limit None callback' target some found answered = record {
-  answers = [];
-  questions = [];
-  asked = sym answered.0;
-  finds = λ later.
-      ap (λ b. cond b (finds_nothing limit later []) (defined_or_asked false limit later q (definitions.find_definition q.reference defined))) some
-      ∙ ap (defined_or_asked false limit later q) found
-      ∙ ap (λ (t : Option LinkView). record { target = t; questions = []; limit = limit_after limit t; answers = later }) (sym answered.1);
-}
-LooksUp-answered {C} step defined q limit (Some old) callback' target some found (then, answer, stepped, new, is) = record {
-  answers = answer ∷ [];
-  questions = q ∷ [];
-  asked = (then, stepped, sym new);
-  finds = λ later.
-      ap (λ b. cond b (finds_nothing limit (answer ∷ later) []) (defined_or_asked true limit (answer ∷ later) q
-      (definitions.find_definition q.reference defined))) some
-      ∙ ap (defined_or_asked true limit (answer ∷ later) q) found
-      ∙ by_answer answer later
-      ∙ ap (λ (t : Option LinkView). record { target = t; questions = q ∷ []; limit = limit_after limit t; answers = later }) (sym is);
-}
-  where
-    by_answer : (a : Option Answer) (later : Answers)
-        → asked limit (a ∷ later) q ≡ record {
-          target = target_by q a;
-          questions = q ∷ [];
-          limit = limit_after limit (target_by q a);
-          answers = later;
-        }
-    by_answer None later = refl
-    by_answer (Some a) later = refl
+      -- the result of a look-up, with this callback or none
+      Result : Bool → Answers → LookedUp
+      Result asks answers = look_up old.tables.refdefs asks old.limit answers q
 
--- what the label finds
-pub LooksUp-found : {C : Type 0} (step : C → Question → Option Answer → C → Type 0) (defined : List Labelled) (q : Question) (limit : ℕ)
-    (callback callback' : Option C) (target : Option LinkView)
-    → 0 < limit → FindsTarget step defined q callback callback' target
-    → LooksUp step defined (is_some callback) q limit (limit_after limit target) callback callback' target
-LooksUp-found {C} step defined q limit callback callback' target some found = by (definitions.find_definition q.reference defined) refl found
-  where
-    not_zero : (n : ℕ) → 0 < n → (n == 0) ≡ false
-    not_zero n h = grind (arith, nat_tests)
+      finds_as : (questions : List Question) (answers : Answers) → LookedUp
+      finds_as questions answers =
+          record { target = target; questions = questions; limit = new.limit; answers = answers }
 
-    by : (o : Option LinkDef) → definitions.find_definition q.reference defined ≡ o
-        → MatchOption o (IsAnswered step q callback callback' target) (λ d. (callback' ≡ callback)
-        × (target ≡ Some (defined_target q.link_type (definition_view d) q.reference)))
-        → LooksUp step defined (is_some callback) q limit (limit_after limit target) callback callback' target
-    by None e answered = LooksUp-answered step defined q limit callback callback' target (not_zero limit some) e answered
-    by (Some d) e is =
-        let P : Option C → Type 0 = λ c. LooksUp step defined (is_some callback) q limit (limit_after limit target) callback c target in
-        subst P (sym is.0) (LooksUp-defined step defined (is_some callback) q limit callback d target (not_zero limit some) e is.1)
+      opens : (asks : Bool) (answers : Answers) (o : Option LinkDef)
+          → definitions.find_definition q.reference old.tables.refdefs ≡ o
+          → Result asks answers ≡ defined_or_asked asks old.limit answers q o
+      opens asks answers o e =
+          ap (λ b. cond b (finds_nothing old.limit answers []) (defined_or_asked asks old.limit answers q
+          (definitions.find_definition q.reference old.tables.refdefs))) (not_zero old.limit some)
+          ∙ ap (defined_or_asked asks old.limit answers q) e
+
+      leaves : (questions : List Question) (answers : Answers) (t : Option LinkView) → target ≡ t
+          → record { target = t; questions = questions; limit = limit_after old.limit t; answers = answers }
+          ≡ finds_as questions answers
+      leaves questions answers t is = rw (left, is) refl
+
+      by_answer : (a : Option Answer) (later : Answers)
+          → asked old.limit (a ∷ later) q ≡ record {
+            target = target_by q a;
+            questions = q ∷ [];
+            limit = limit_after old.limit (target_by q a);
+            answers = later;
+          }
+      by_answer None later = refl
+      by_answer (Some a) later = refl
+
+      answered : (callback : Option C) → old.callback ≡ callback
+          → definitions.find_definition q.reference old.tables.refdefs ≡ None
+          → IsAnswered step q callback new.callback target → LooksUp step old new q target
+      answered None e found is = record {
+        answers = [];
+        questions = [];
+        asked = e ∙ sym is.0;
+        finds = λ later. ap (λ c. Result (is_some c) later) e ∙ (opens false later None found ∙ leaves [] later None is.1);
+      }
+      answered (Some callback) e found (then, answer, stepped, now, is) = record {
+        answers = answer ∷ [];
+        questions = q ∷ [];
+        asked = subst (λ c. Asks step c (q ∷ []) (answer ∷ []) new.callback) (sym e) (then, stepped, sym now);
+        finds = λ later.
+            ap (λ c. Result (is_some c) (answer ∷ later)) e
+            ∙ (opens true (answer ∷ later) None found ∙ (by_answer answer later ∙ leaves (q ∷ []) later (target_by q answer) is));
+      }
+
+      by : (o : Option LinkDef) → definitions.find_definition q.reference old.tables.refdefs ≡ o
+          → MatchOption o (IsAnswered step q old.callback new.callback target) (λ d. (new.callback ≡ old.callback)
+          × (target ≡ Some (defined_target q.link_type (definition_view d) q.reference)))
+          → LooksUp step old new q target
+      by None e is = answered old.callback refl e is
+      by (Some d) e is = record {
+        answers = [];
+        questions = [];
+        asked = sym is.0;
+        finds = λ later.
+            opens (is_some old.callback) later (Some d) e
+            ∙ leaves [] later (Some (defined_target q.link_type (definition_view d) q.reference)) is.1;
+      }

@@ -8,7 +8,8 @@ use Rattle.markdown_document.specs.Document.{Label}
 use Rattle.markdown_brackets.specs.DecisionView.{opener_of}
 use Rattle.markdown_brackets.specs.LeftList.{Flag, live, disabled, gone, Mark, Entry, done, waits, is_live, trees_onto, Split, behind}
 use Rattle.markdown_brackets.specs.LeftList.{nearest, change_nearest, opens_bracket, opens_wikilink, without_bracket, without_wikilink}
-use Rattle.markdown_brackets.specs.LeftList.{bracket_taken, wikilink_taken, brackets_of, wikilinks_of, held_as}
+use Rattle.markdown_brackets.specs.LeftList.{bracket_taken, wikilink_taken}
+use Rattle.markdown_brackets.specs.HeldOpeners.{brackets_of, wikilinks_of, held_as}
 
 -- the nearest opener for a `]` is on top of the stack, and taking it off is taking it off the stack
 abbrev pub TopBracket : List (Entry ℕ) → Option (Split ℕ) → Type 0

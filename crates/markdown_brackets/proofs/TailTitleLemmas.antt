@@ -2,7 +2,7 @@
 use Rattle.std.proofs.Common.{◌≡◌, ℕ, suc, ◌+◌, ◌-◌, ◌≤◌, ◌==◌, Bool, true, false, List, [], ◌∷◌, Option, Some, None, take, drop}
 use Rattle.std.proofs.Common.{slice_range, refl, ◌∙◌, ap, subst, arith}
 use Rattle.std.specs.Option.{option_map}
-use Rattle.std.specs.Prelude.{slice_index, if◌then◌else◌, ⊤}
+use Rattle.std.specs.Prelude.{slice_index, if◌then◌else◌, ⊤, IfSome}
 use Rattle.markdown_base.specs.CowText.{text_of, IsBorrowed}
 use Rattle.markdown_base.specs.declared.cow_str.CowStr.{CowStr}
 use Rattle.markdown_base.specs.declared.cow_str.CowStr.TheVariants.{Boxed, Borrowed, Inlined}
@@ -18,9 +18,7 @@ use Rattle.markdown_document.proofs.OriginLemmas.{title_wider}
 use Rattle.markdown_brackets.specs.LinkTail as tail
 use Rattle.markdown_brackets.specs.LinkTail.{after_destination, after_title, closed_at, destination_at, link_tail, past_separator}
 use Rattle.markdown_brackets.specs.LinkTailView.{BorrowsTail, ReadsTail}
-use Rattle.markdown_brackets.specs.WrittenView.{WrittenIsFrom}
-use Rattle.markdown_brackets.specs.declared.written.Written.{Written}
-use Rattle.markdown_brackets.specs.declared.written.Written.TheVariants.{Footnote, Inline, Label, Nothing}
+use Rattle.markdown_brackets.specs.WrittenView.{IsTailFrom}
 use Rattle.markdown_brackets.specs.declared.link_tail.LinkTail.{LinkTail}
 
 -- a title from the byte i on, no line of which is joined, is the bytes up to its closing mark
@@ -153,19 +151,17 @@ module _ (in_table : Bool) (skipped : List ℕ → Option ℕ) (starts : ℕ →
 
 -- the title of a tail that was read up to a block's end
 pub has_title : (in_table : Bool) (skipped : List ℕ → Option ℕ) (starts : ℕ → Option ℕ) (source bytes : List ℕ) (block_end at : ℕ)
-    (found : LinkTail) → bytes ≡ take block_end source
-    → ReadsTail in_table (link_tail skipped starts bytes at) (Some found) → BorrowsTail (link_tail skipped starts bytes at) (Some found)
-    → WrittenIsFrom source at (Inline found)
-has_title in_table skipped starts source bytes block_end at found e reads borrows some =
+    (read : Option LinkTail) → bytes ≡ take block_end source
+    → ReadsTail in_table (link_tail skipped starts bytes at) read → BorrowsTail (link_tail skipped starts bytes at) read
+    → IfSome read (IsTailFrom source at)
+has_title in_table skipped starts source bytes block_end at None e reads borrows = tt
+has_title in_table skipped starts source bytes block_end at (Some found) e reads borrows = λ some.
     let t = λ (bytes : List ℕ). link_tail skipped starts bytes at in
     ∣ tail_titled in_table skipped starts source block_end at found (subst (λ bytes. ReadsTail in_table (t bytes) (Some found)) e reads)
     (subst (λ bytes. BorrowsTail (t bytes) (Some found)) e borrows) some ∣₁
 
--- what is written from a range is written from a wider one
-pub written_wider : (source : List ℕ) (start start' : ℕ) (read : Written) → start' ≤ start → WrittenIsFrom source start read
-    → WrittenIsFrom source start' read
-written_wider source start start' (Inline found) low h =
+-- what comes from a range comes from a wider one
+pub tail_wider : (source : List ℕ) (start start' : ℕ) (found : LinkTail) → start' ≤ start → IsTailFrom source start found
+    → IsTailFrom source start' found
+tail_wider source start start' found low h =
     title_wider source start found.end start' found.end kind.Inline (origin_of found.title) (text_of found.title) low (omega arith) h
-written_wider source start start' (Label link_type label end next) low h = h
-written_wider source start start' (Footnote name) low h = tt
-written_wider source start start' Nothing low h = tt

@@ -26,8 +26,8 @@ use Rattle.markdown_brackets.specs.Wikilink.{WikilinkBody, Shows, shows_name, sh
 use Rattle.markdown_brackets.specs.Wikilink.{shown_from, wikilink_body}
 use Rattle.markdown_base.proofs.ArenaForestLemmas.{height}
 use Rattle.markdown_brackets.specs.LeftList.{Split, inside, is_live}
-use Rattle.markdown_brackets.specs.StandsAt.{FindsWikilink, IsWikilink, IsWikilinkAt, TriesWikilink}
-use Rattle.markdown_brackets.specs.WikilinkNodes.{body_start, wikilink_nodes, shown_from_node, shown_in, wikilink_from}
+use Rattle.markdown_brackets.specs.StandsAt.{FindsWikilink, IsWikilink, IsWikilinkAt, TriesWikilink, wikilink_nodes, shown_from_node, shown_in, wikilink_from}
+use Rattle.markdown_brackets.specs.WikilinkNodes.{body_start}
 use Rattle.markdown_brackets.specs.declared.closing_bracket.ClosedBracket.{ClosedBracket}
 use Rattle.markdown_brackets.specs.declared.closing_bracket.ClosedBracket.TheVariants.{Text, Link, Footnote, Wikilinked}
 use Rattle.markdown_brackets.specs.declared.openers.Opener.{Opener}

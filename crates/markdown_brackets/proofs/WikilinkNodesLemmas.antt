@@ -15,10 +15,11 @@ use Rattle.markdown_document.proofs.TablesLemmas.{same-refl}
 use Rattle.markdown_brackets.specs.BracketDecision.{past_second}
 use Rattle.markdown_brackets.specs.ChainAhead.{numbers_past}
 use Rattle.markdown_brackets.specs.ChainHeld.{Holds, numbers_of, times_of, link_to}
-use Rattle.markdown_brackets.specs.WikilinkNodes.{unless_is, body_start, shown_from_node}
+use Rattle.markdown_brackets.specs.WikilinkNodes.{unless_is, body_start}
 use Rattle.markdown_brackets.specs.declared.wikilink_nodes.ShownNodes.TheVariants.{From}
 use Rattle.markdown_brackets.proofs.AheadOfBracketLemmas.{same_end}
 use Rattle.markdown_brackets.proofs.ChainAheadLemmas.{below_is}
+use Rattle.markdown_brackets.specs.StandsAt.{shown_from_node}
 
 is_itself : (n : ℕ) → (n == n) ≡ true
 is_itself n = grind (arith, nat_tests)

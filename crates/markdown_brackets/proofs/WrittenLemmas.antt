@@ -1,6 +1,6 @@
--- An inline link's tail is what is written, and where there is none, a reference is.
+-- What is read of a block's text, and that nothing is read past its end.
 use Rattle.std.proofs.Common.{rules, ◌≡◌, ℕ, ◌<◌, ◌≤◌, Bool, List, Option, Some, None, Result, Ok, Err, get_or, length, min, take, arith}
-use Rattle.std.proofs.Common.{◌+◌, ◌&&◌, true, false, refl, sym, ◌∙◌, ap, subst, if◌then◌else◌}
+use Rattle.std.proofs.Common.{◌+◌, ◌&&◌, true, false, refl, ◌∙◌, ap, subst, sym, if◌then◌else◌}
 use Rattle.std.proofs.lemmas.List.{get_or-take, length-take}
 use Rattle.std.specs.Str.{IsCharBoundary}
 use Rattle.std.specs.Prelude.{IfOk, OnOk, slice_range}
@@ -14,38 +14,19 @@ use Rattle.markdown_brackets.specs.BracketDecision.{reference_written, tail_or}
 use Rattle.markdown_brackets.specs.BracketOptions.{footnote_style}
 use Rattle.markdown_brackets.specs.ChainAhead.{reaches_closer, starts_from}
 use Rattle.markdown_brackets.specs.BracketDecision as decision
-use Rattle.markdown_brackets.specs.LinkTail.{link_tail}
 use Rattle.markdown_brackets.specs.LinkTail as scanned
 use Rattle.markdown_brackets.specs.LinkTailView.{ReadsTail}
-use Rattle.markdown_brackets.specs.Reference.{Form, FoundLabel, collapsed, shortcut, is_closer, is_opener, stands_at}
-use Rattle.markdown_brackets.specs.WrittenView.{IsRead, form_ahead, reference_at, written_at}
-use Rattle.markdown_brackets.specs.declared.link_tail.LinkTail.{LinkTail}
-use Rattle.markdown_brackets.specs.declared.written.Written.{Written}
-use Rattle.markdown_brackets.specs.declared.written.Written.TheVariants.{Inline}
+use Rattle.markdown_brackets.specs.Reference.{FoundLabel, collapsed, shortcut, is_closer, is_opener, stands_at}
+use Rattle.markdown_brackets.specs.WrittenView.{form_ahead, reference_at, written_at}
 use Rattle.markdown_brackets.proofs.LabelLengthLemmas.{no_label_past_block}
 use Rattle.markdown_brackets.proofs.LinkTailLemmas.{tail_past_end}
 use Rattle.markdown_brackets.proofs.ReferenceLemmas.{form_past}
 
-pub read_tail : (in_table : Bool) (other : decision.Written) (t : Option scanned.LinkTail) (found : LinkTail)
-    → ReadsTail in_table t (Some found)
-    → IsRead in_table (tail_or other t) (Inline found)
-read_tail in_table other None found h = absurd h
-read_tail in_table other (Some t) found h = h
-
-pub read_other : {E : Type 0} (in_table : Bool) (other : decision.Written) (t : Option scanned.LinkTail) (r : Result Written E)
-    → ReadsTail in_table t None
-    → IfOk r (λ found. (b : Bool) → IsRead b other found) → IfOk r (IsRead in_table (tail_or other t))
-read_other in_table other None (Ok found) h k = k in_table
-read_other in_table other (Some t) (Ok found) h k = absurd h
-read_other in_table other t (Err e) h k = tt
-
--- the same of what the reader of tails was given
-pub tail_at : (in_table : Bool) (skipped : List ℕ → Option ℕ) (nodes : List (Node Item)) (next next' : Option ℕ) (text text' : List ℕ)
-    (item item' : Item)
-    (found found' : Option LinkTail) → next ≡ next' → text ≡ text' → item ≡ item' → found ≡ found'
-    → ReadsTail in_table (link_tail skipped (starts_from nodes next) text item.end) found
-    → ReadsTail in_table (link_tail skipped (starts_from nodes next') text' item'.end) found'
-tail_at in_table skipped nodes next next' text text' item item' found found' en et ei ef h = rw (← en, ← et, ← ei, ← ef) h
+-- where there is no tail, a reference is written
+pub other_written : (in_table : Bool) (other : decision.Written) (t : Option scanned.LinkTail) → ReadsTail in_table t None
+    → other ≡ tail_or other t
+other_written in_table other None h = refl
+other_written in_table other (Some t) h = absurd h
 
 pub whole_range : (text : List ℕ) (end : ℕ) → slice_range text 0 end ≡ take end text
 whole_range text end = search rules
@@ -95,13 +76,12 @@ nothing_past_block nodes place skipped closer could_be start past =
     let text : List ℕ = take place.block_end place.text.now in
     let next = sibling_of nodes closer in
     let within : length text ≤ end = omega (arith, past, length-take place.block_end place.text.now) in
-    let form : Form = form_ahead nodes place skipped closer in
     let after : Option Item = option_map (item_at nodes) next in
     let second : Option Item = option_map (item_at nodes) (option_and_then (sibling_of nodes) next) in
     let closes : ℕ → Bool = λ i. reaches_closer nodes i next in
-    ap (tail_or (reference_at nodes place skipped closer could_be start form))
+    ap (tail_or (reference_at nodes place skipped closer could_be start))
     (tail_past_end skipped (starts_from nodes next) text end within)
-    ∙ ap (λ (own : Option FoundLabel). reference_written could_be end closes own form)
+    ∙ ap (λ (own : Option FoundLabel). reference_written could_be end closes own (form_ahead nodes place skipped closer))
     (no_label_past_block place.in_table (footnote_style place.options) skipped place.text.now place.block_end start end past)
     ∙ ap (reference_written could_be end closes None)
     (form_past (footnote_style place.options) skipped place.in_table text end after second within)

@@ -1,23 +1,18 @@
 -- What a `]` becomes in an arena, as contracts describe it.
-use Rattle.std.specs.Prelude.{◌≡◌, ⊤, ℕ, ◌++◌, Bool, true, false, List, [], Option, Some, None, is_some}
+use Rattle.std.specs.Prelude.{◌≡◌, ⊤, ℕ, Bool, true, List, Option, Some, is_some}
 use Rattle.markdown_base.specs.CowText.{text_of}
-use Rattle.markdown_base.specs.Event.{LinkView}
 use Rattle.markdown_base.specs.Forest.{Forest, nil, node}
-use Rattle.markdown_base.specs.Questions.{Question, Answer, Answers}
+use Rattle.markdown_base.specs.Questions.{Answers}
 use Rattle.markdown_base.specs.declared.item.ItemBody.{ItemBody}
 use Rattle.markdown_document.specs.ChainRest.{past_byte, start_of}
 use Rattle.markdown_document.specs.Document.{Label}
 use Rattle.markdown_document.specs.Places.{follows_pipe}
-use Rattle.markdown_defs.specs.Callback.{Asks}
+use Rattle.markdown_defs.specs.Allocations.{Allocated}
 use Rattle.markdown_defs.specs.Definitions.{Labelled}
 use Rattle.markdown_defs.specs.Footnotes.{footnote_at}
 use Rattle.markdown_defs.specs.declared.footnotes.FootnoteDefs.{FootnoteDefs}
 use Rattle.markdown_brackets.specs.BracketDecision.{Around, Becomes, a_text, a_link, a_footnote, a_wikilink, Progress}
-use Rattle.markdown_brackets.specs.BracketDecision.{Try}
-use Rattle.markdown_brackets.specs.BracketDecision.{past_second, spent_by, text_from, link_reference}
-use Rattle.markdown_brackets.specs.BracketDecision as decision
-use Rattle.markdown_brackets.specs.BracketOptions.{footnote_style}
-use Rattle.markdown_brackets.specs.declared.footnote.FootnoteStyle.{FootnoteStyle}
+use Rattle.markdown_brackets.specs.BracketDecision.{past_second, text_from}
 use Rattle.markdown_brackets.specs.ChainHeld.{link_to}
 use Rattle.markdown_brackets.specs.LeftList.{Split, inside}
 use Rattle.markdown_brackets.specs.LookupView.{target_view}
@@ -83,48 +78,11 @@ IsBecome w (a_wikilink o v end) (Wikilinked opener name has_pothole shown found_
     × (found_end ≡ end) × IsShownAfterPipe w.setting.text shown
 IsBecome w other found = ⊥
 
--- a returned value is a link to this target, or a Text if there is none
-abbrev pub IsLinkOr : Opener → (end next : ℕ) → Option LinkView → ClosedBracket → Type 0
-IsLinkOr opener end next None Text = Unit {0}
-IsLinkOr opener end next (Some target) (Link found_opener found found_end found_next) =
-    (found_opener ≡ opener) × (target_view found ≡ target) × (found_end ≡ end) × (found_next ≡ next)
-IsLinkOr opener end next target found = ⊥
-
--- a returned value is a footnote reference, or a Text if the label is not one
-abbrev pub IsFootnoteOr : Opener → List ℕ → Bool → ClosedBracket → Type 0
-IsFootnoteOr opener name false Text = Unit {0}
-IsFootnoteOr opener name true (Footnote found_opener found) = (found_opener ≡ opener) × (text_of found ≡ name)
-IsFootnoteOr opener name is_one found = ⊥
-
--- the rules use these definitions and footnotes, this style, and a callback or none
-pub record KnowsRules (w : Around) (definitions : List Labelled) (footnotes : FootnoteDefs) (asks : Bool)
-    (style : FootnoteStyle) : Type 0 where
-  pub definitions_are : w.setting.rules.definitions ≡ definitions
-  pub footnotes_are : (name : List ℕ) → w.setting.rules.is_footnote name ≡ is_some (footnote_at footnotes name)
-  pub asks_is : w.setting.rules.asks ≡ asks
-  pub style_is : footnote_style w.setting.rules.options ≡ style
+-- of these tables only uses of footnotes were counted
+pub record CountsUses (old new : Allocated) : Type 0 where
+  pub others : new ≡ record old { footdefs = new.footdefs }
+  pub names : (name : List ℕ) → is_some (footnote_at new.footdefs name) ≡ is_some (footnote_at old.footdefs name)
 
 -- the progress with this limit, these answers and these counts of uses
 abbrev pub knowing : ℕ → Answers → (List ℕ → ℕ) → Progress ℕ → Progress ℕ
 knowing limit answers uses p = record p { known = record { limit = limit; answers = answers; uses = uses } }
-
--- the ends of `]` that what is written uses up
-abbrev pub spent_in : decision.Written → List ℕ
-spent_in (link_reference link_type label end next) = spent_by link_type end []
-spent_in other = []
-
--- the result of a step of the decision: the callback answered these questions, at most one, and the result is what the
--- rules say whatever answers follow, which are left
-pub record ComesTo {C : Type 0} (step : C → Question → Option Answer → C → Type 0) (w : Around) (try : Try ℕ)
-    (more : List ℕ) (limit limit' : ℕ) (uses uses' : List ℕ → ℕ) (callback callback' : Option C)
-    (found : ClosedBracket) : Type 0 where
-  pub answers : Answers
-  pub questions : List Question
-  pub asked : Asks step callback questions answers callback'
-  pub becomes : Becomes ℕ
-  pub comes : (p : Progress ℕ) (later : Answers) → try (knowing limit (answers ++ later) uses p)
-      ≡ record {
-        becomes = becomes;
-        progress = record (knowing limit' later uses' p) { spent = more ++ p.spent; asked = p.asked ++ questions };
-      }
-  pub is : IsBecome w becomes found

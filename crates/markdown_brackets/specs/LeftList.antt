@@ -1,10 +1,9 @@
 -- The left list of a chain while its items are read: trees that are complete, and waiting openers `[` and `![`, the
 -- nearest first.
-use Rattle.std.specs.Prelude.{ℕ, Bool, true, false, not, if◌then◌else◌, List, [], ◌∷◌, map, Option, Some, None}
+use Rattle.std.specs.Prelude.{Bool, true, false, not, if◌then◌else◌, List, [], ◌∷◌, map, Option, Some, None}
 use Rattle.std.specs.Option.{option_map}
 use Rattle.markdown_base.specs.Forest.{Forest, nil, node}
 use Rattle.markdown_document.specs.Document.{Label}
-use Rattle.markdown_brackets.specs.Openers.{Waiting}
 
 -- whether an opener can still become something; it is gone once it was tried for a `]`
 pub data Flag : Type 0 where
@@ -72,27 +71,27 @@ change_nearest test f (done a below ∷ left) = done a below ∷ change_nearest 
 change_nearest test f (waits m a ∷ left) =
     if test m then waits (f m) a ∷ left else waits m a ∷ change_nearest test f left
 
--- the opener waits on the stack of brackets
+-- the opener still waits to open a link or an image
 abbrev pub opens_bracket : Mark → Bool
 opens_bracket m = not (is_gone m.bracket)
 
--- the opener waits on the stack of wikilinks
+-- the opener still waits to open a wikilink
 abbrev pub opens_wikilink : Mark → Bool
 opens_wikilink m = not (is_gone m.wikilink)
 
--- the opener is taken off the stack of brackets
+-- the opener no longer waits to open a link or an image
 abbrev pub without_bracket : Mark → Mark
 without_bracket m = record m { bracket = gone }
 
--- the opener is taken off the stack of wikilinks
+-- the opener no longer waits to open a wikilink
 abbrev pub without_wikilink : Mark → Mark
 without_wikilink m = record m { wikilink = gone }
 
--- the nearest opener on the stack of brackets is taken off
+-- the nearest opener that waits to open a link or an image is taken off
 abbrev pub bracket_taken : {A : Type 0} → List (Entry A) → List (Entry A)
 bracket_taken left = change_nearest opens_bracket without_bracket left
 
--- the nearest opener on the stack of wikilinks is taken off
+-- the nearest opener that waits to open a wikilink is taken off
 abbrev pub wikilink_taken : {A : Type 0} → List (Entry A) → List (Entry A)
 wikilink_taken left = change_nearest opens_wikilink without_wikilink left
 
@@ -135,23 +134,3 @@ before_wikilink left = on_marks without_wikilink (on_marks disabled_mark left)
 -- the entries before a footnote reference
 abbrev pub before_footnote : {A : Type 0} → List (Entry A) → List (Entry A)
 before_footnote left = on_marks without_bracket (second_folded left)
-
--- an opener of this state is added to a stack, unless it is gone
-abbrev pub held_as : ℕ → Bool → Flag → List Waiting → List Waiting
-held_as number is_image live held =
-    record { opener = record { node = number; is_image = is_image }; is_live = true } ∷ held
-held_as number is_image disabled held =
-    record { opener = record { node = number; is_image = is_image }; is_live = false } ∷ held
-held_as number is_image gone held = held
-
--- the openers on the stack of brackets, the nearest first
-abbrev pub brackets_of : List (Entry ℕ) → List Waiting
-brackets_of [] = []
-brackets_of (done a below ∷ left) = brackets_of left
-brackets_of (waits m a ∷ left) = held_as a.tag m.is_image m.bracket (brackets_of left)
-
--- the openers on the stack of wikilinks, the nearest first
-abbrev pub wikilinks_of : List (Entry ℕ) → List Waiting
-wikilinks_of [] = []
-wikilinks_of (done a below ∷ left) = wikilinks_of left
-wikilinks_of (waits m a ∷ left) = held_as a.tag m.is_image m.wikilink (wikilinks_of left)

@@ -32,6 +32,7 @@ pub mod QuietItems
 -- brackets of an arena
 pub mod ChainHeld
 pub mod ChainAhead
+pub mod HeldOpeners
 pub mod SpentEnds
 pub mod WrittenView
 pub mod WikilinkNodes

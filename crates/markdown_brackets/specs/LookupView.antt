@@ -1,21 +1,15 @@
 -- Look-ups, as contracts describe them: the callback answered at most one question.
-use Rattle.std.specs.Prelude.{◌≡◌, ℕ, ◌++◌, Bool, List, Option, Some, None, MatchOption}
-use Rattle.std.specs.declared.ops.Range.{Range}
+use Rattle.std.specs.Prelude.{◌≡◌, ◌++◌, List, Option, Some, None, MatchOption, is_some}
 use Rattle.markdown_base.specs.BlockParts.{definition_view}
 use Rattle.markdown_base.specs.CowText.{text_of}
 use Rattle.markdown_base.specs.Event.{LinkView}
 use Rattle.markdown_base.specs.Questions.{Question, Answer, Answers}
-use Rattle.markdown_base.specs.declared.cow_str.CowStr.{CowStr}
-use Rattle.markdown_base.specs.declared.tag.LinkType.{LinkType}
 use Rattle.markdown_defs.specs.Callback.{Asks}
 use Rattle.markdown_defs.specs.Definitions as definitions
 use Rattle.markdown_defs.specs.Definitions.{Labelled}
 use Rattle.markdown_brackets.specs.Lookup.{look_up, answered_target, defined_target}
+use Rattle.markdown_brackets.specs.declared.look_up.LabelLookup.{LabelLookup}
 use Rattle.markdown_brackets.specs.declared.look_up.Target.{Target}
-
--- the question about a link label
-abbrev pub question_about : Range ℕ → LinkType → CowStr → Question
-question_about span link_type label = record { span = span; link_type = link_type; reference = text_of label }
 
 -- a target, by the bytes of its texts
 abbrev pub target_view : Target → LinkView
@@ -48,11 +42,10 @@ FindsTarget step defined q old new target =
 
 -- the target of a look-up: the callback answered the questions asked, and the result is the defined one whatever
 -- answers follow, which are left
-pub record LooksUp {C : Type 0} (step : C → Question → Option Answer → C → Type 0) (defined : List Labelled)
-    (asks : Bool) (q : Question) (limit limit' : ℕ) (callback callback' : Option C) (target : Option LinkView) : Type 0
-  where
-    pub answers : Answers
-    pub questions : List Question
-    pub asked : Asks step callback questions answers callback'
-    pub finds : (later : Answers) → look_up defined asks limit (answers ++ later) q
-        ≡ record { target = target; questions = questions; limit = limit'; answers = later }
+pub record LooksUp {C : Type 0} (step : C → Question → Option Answer → C → Type 0) (old new : LabelLookup C)
+    (q : Question) (target : Option LinkView) : Type 0 where
+  pub answers : Answers
+  pub questions : List Question
+  pub asked : Asks step old.callback questions answers new.callback
+  pub finds : (later : Answers) → look_up old.tables.refdefs (is_some old.callback) old.limit (answers ++ later) q
+      ≡ record { target = target; questions = questions; limit = new.limit; answers = later }

@@ -78,6 +78,11 @@ abbrev pub is_closer : ItemBody → Bool
 is_closer (body.MaybeLinkClose could_be_ref) = true
 is_closer other = false
 
+-- the body is a `]` that could be a reference
+abbrev pub could_be_reference : ItemBody → Bool
+could_be_reference (body.MaybeLinkClose could_be_ref) = could_be_ref
+could_be_reference other = false
+
 -- the item starts at this byte offset and is of this kind
 abbrev pub stands_at : ℕ → (ItemBody → Bool) → Option Item → Bool
 stands_at at is_kind None = false

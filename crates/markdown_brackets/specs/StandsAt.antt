@@ -1,36 +1,108 @@
 -- A `]` in an arena, with the opener that is tried for it.
-use Rattle.std.specs.Prelude.{◌≡◌, ℕ, ◌-◌, ◌<◌, ◌≤◌, ◌||◌, Bool, List, Option, Some, None, if◌then◌else◌, length}
+use Rattle.std.specs.Prelude.{◌≡◌, ℕ, ◌<◌, ◌≤◌, ◌&&◌, ◌||◌, ◌++◌, ◌==◌, not, Bool, List, [], Option, Some, None, is_some}
+use Rattle.std.specs.Prelude.{if◌then◌else◌}
+use Rattle.std.specs.Option.{option_and_then, option_map}
 use Rattle.markdown_base.specs.Arena.{sibling_of}
 use Rattle.markdown_base.specs.ArenaForest.{links_of, forest_at}
 use Rattle.markdown_base.specs.BlockTree.{item_at}
-use Rattle.markdown_base.specs.Questions.{Question, Answer}
+use Rattle.markdown_base.specs.Questions.{Question, Answer, Answers}
 use Rattle.markdown_base.specs.declared.item.Item.{Item}
+use Rattle.markdown_base.specs.declared.item.ItemBody.{ItemBody}
+use Rattle.markdown_base.specs.declared.tag.LinkType.{LinkType}
+use Rattle.markdown_base.specs.declared.tag.LinkType.TheVariants as kind
 use Rattle.markdown_base.specs.declared.node.Node.{Node}
 use Rattle.markdown_document.specs.ChainRest.{start_of, end_of}
 use Rattle.markdown_document.specs.Tables.{Tables}
 use Rattle.markdown_document.specs.ChainRest.{joined_chains}
 use Rattle.markdown_document.specs.Document.{Label}
-use Rattle.markdown_base.specs.Forest.{Forest, nil, node}
-use Rattle.markdown_brackets.specs.BracketDecision.{Around, Closing, Wikilink, opener_tried, past_second, wikilink_in}
-use Rattle.markdown_brackets.specs.Wikilink.{WikilinkBody, has_pothole}
+use Rattle.markdown_base.specs.Forest.{Forest, nil, node, first_root}
+use Rattle.markdown_brackets.specs.BracketDecision.{Around, Becomes, Closing, Progress, Try, Wikilink, a_wikilink, decided}
+use Rattle.markdown_brackets.specs.BracketDecision.{one_decided, past_second, spent_by, wikilink_in}
+use Rattle.markdown_brackets.specs.Reference.{could_be_reference}
+use Rattle.markdown_brackets.specs.Wikilink.{WikilinkBody, has_pothole, Shows, shows_name, shows_nothing, shows_from, wikilink_body}
 use Rattle.markdown_brackets.specs.declared.wikilink_nodes.ShownNodes.{ShownNodes}
 use Rattle.markdown_brackets.specs.declared.closing_bracket.ClosedBracket.TheVariants.{Wikilinked}
 use Rattle.markdown_brackets.specs.ChainHeld.{Holds, numbers_of, times_of, link_to}
-use Rattle.markdown_brackets.specs.DecisionView.{ComesTo, IsShownAfterPipe, first_shown, opener_of, shown_of}
-use Rattle.markdown_brackets.specs.LeftList.{Split, inside, is_live}
+use Rattle.markdown_brackets.specs.DecisionView.{IsBecome, IsShownAfterPipe, around_at, first_shown, knowing, opener_of, shown_of}
+use Rattle.markdown_brackets.specs.LeftList.{Split, inside, is_live, Entry, trees_onto, bracket_taken, wikilink_taken}
 use Rattle.markdown_brackets.specs.ReadChain.{among}
 use Rattle.markdown_brackets.specs.SpentEnds.{is_spent}
-use Rattle.markdown_brackets.specs.WrittenView.{CanRead}
+use Rattle.markdown_brackets.specs.declared.closer.Closer.{Closer}
 use Rattle.markdown_brackets.specs.declared.closing_bracket.ClosedBracket.{ClosedBracket}
+use Rattle.markdown_brackets.specs.declared.look_up.LabelLookup.{LabelLookup}
 use Rattle.markdown_brackets.specs.declared.openers.Opener.{Opener}
 use Rattle.markdown_brackets.specs.declared.spent_ends.SpentEnds.{SpentEnds}
 use Rattle.markdown_document.specs.declared.chain_place.ChainPlace.{ChainPlace}
+use Rattle.markdown_document.specs.Setting.{uses_of}
+use Rattle.markdown_defs.specs.Callback.{Asks}
+use Rattle.markdown_brackets.specs.declared.wikilink_nodes.ShownNodes.TheVariants.{Over, From}
+use Rattle.markdown_brackets.specs.Openers.{Waiting}
+use Rattle.markdown_brackets.specs.ChainAhead.{numbers_past}
+use Rattle.markdown_brackets.specs.Finish.{IsSplit}
+use Rattle.markdown_brackets.specs.HeldOpeners.{brackets_of, wikilinks_of}
+use Rattle.markdown_defs.specs.declared.callback.BrokenLink.{BrokenLink}
+use Rattle.markdown_brackets.specs.WikilinkNodes.{body_start}
+use Rattle.markdown_brackets.specs.Decides.{CanTry}
 
--- an opener can be tried: it is a node, it has bytes, and its `[` is at a byte offset from which the text can be read
-pub record CanTry (nodes : List (Node Item)) (place : ChainPlace) (closer opener : ℕ) : Type 0 where
-  pub within : opener < length nodes
-  pub opens : (item_at nodes opener).start < (item_at nodes opener).end
-  pub reads : CanRead nodes place closer ((item_at nodes opener).end - 1)
+-- the `]` of a node could be a reference, and does not end the label of an earlier one
+abbrev pub could_be_at : List (Node Item) → (closer : ℕ) → SpentEnds → Bool
+could_be_at nodes closer spent =
+    could_be_reference (item_at nodes closer).body && not (is_spent spent (item_at nodes closer).end)
+
+-- an opener can be tried, and the `]` is in the block
+pub record CanTryInside (nodes : List (Node Item)) (place : ChainPlace) (closer opener : ℕ) : Type 0 where
+  pub can : CanTry nodes place closer opener
+  pub inside : (item_at nodes closer).end ≤ place.block_end
+
+-- a full reference from the opener on
+pub record IsFull (nodes : List (Node Item)) (opener : Opener) (about : BrokenLink) : Type 0 where
+  pub some : 0 < about.span.end
+  pub kind_is : about.link_type ≡ kind.Reference
+  pub starts : about.span.start ≡ (item_at nodes opener.node).start
+
+-- the reference is one whose label is that from the opener to the `]`
+abbrev pub IsOwn : LinkType → Type 0
+IsOwn kind.Collapsed = Unit {0}
+IsOwn kind.Shortcut = Unit {0}
+IsOwn other = ⊥
+
+-- the ends of `]` that are used up, after a reference whose label ends at a byte offset was looked up
+abbrev pub Spends : LinkType → (end : ℕ) → SpentEnds → SpentEnds → Type 0
+Spends link_type end spent spent' =
+    (other : ℕ) → is_spent spent' other ≡ (among other (spent_by link_type end []) || is_spent spent other)
+
+-- what the brackets of a chain at this place depend on, by what labels are looked up in
+abbrev pub around_by : {C : Type 0} → ChainPlace → (List ℕ → ℕ) → List ItemBody → LabelLookup C → Around
+around_by place skipped bodies lookup =
+    around_at place skipped bodies lookup.tables.refdefs lookup.tables.footdefs (is_some lookup.callback)
+
+-- the result of a step of the decision: the callback answered these questions, at most one, and the result is what the
+-- rules say whatever answers follow, which are left
+pub record ComesTo {C : Type 0} (step : C → Question → Option Answer → C → Type 0) (w : Around) (try : Try ℕ)
+    (old new : LabelLookup C) (spent spent' : SpentEnds) (found : ClosedBracket) : Type 0 where
+  pub answers : Answers
+  pub questions : List Question
+  pub asked : Asks step old.callback questions answers new.callback
+  pub becomes : Becomes ℕ
+  pub more : List ℕ
+  pub comes : (p : Progress ℕ) (later : Answers)
+      → try (knowing old.limit (answers ++ later) (uses_of old.tables.footdefs) p)
+      ≡ record {
+        becomes = becomes;
+        progress =
+            record (knowing new.limit later (uses_of new.tables.footdefs) p)
+            { spent = more ++ p.spent; asked = p.asked ++ questions };
+      }
+  pub spends : (end : ℕ) → is_spent spent' end ≡ (among end more || is_spent spent end)
+  pub is : IsBecome w becomes found
+
+-- a try of an opener at a `]` comes to what the rules say, where that opener is the one of a split
+abbrev pub Tries : {C R : Type 0} → (C → Question → Option Answer → C → Type 0) → Closer R → Opener
+    → (old new : LabelLookup C) → (spent spent' : SpentEnds) → (Around → Split ℕ → Try ℕ) → ClosedBracket → Type 0
+Tries step at opener old new spent spent' try found = (skipped : List ℕ → ℕ) (bodies : List ItemBody) (o : Split ℕ)
+    → opener ≡ opener_of o → (item_at at.tree.now.nodes opener.node).start ≡ start_of o.opener
+    → ComesTo step (around_by at.place.now skipped bodies old) (try (around_by at.place.now skipped bodies old) o) old
+    new spent spent' found
 
 -- the opener that was taken off a stack is this one of the left list, and has its range
 pub record IsTaken (nodes : List (Node Item)) (t : Opener × Bool) (o : Split ℕ) : Type 0 where
@@ -57,13 +129,36 @@ pub record TriesOpener (nodes : List (Node Item)) (closer : ℕ) (could_be : Boo
   pub could : c.could_be_reference ≡ could_be
   pub openers : AreTaken nodes taken o
 
--- the result of trying an opener, and the ends of `]` that it used up
-pub record ComesToOpener {C : Type 0} (step : C → Question → Option Answer → C → Type 0) (w : Around) (c : Closing ℕ)
-    (o : Option (Split ℕ)) (limit limit' : ℕ) (uses uses' : List ℕ → ℕ) (spent spent' : SpentEnds)
-    (callback callback' : Option C) (found : ClosedBracket) : Type 0 where
-  pub more : List ℕ
-  pub comes : ComesTo step w (opener_tried w c o) more limit limit' uses uses' callback callback' found
-  pub spends : (end : ℕ) → is_spent spent' end ≡ (among end more || is_spent spent end)
+-- what a wikilink shows begins at this node, unless that is the `]`
+abbrev pub shown_from_node : (closer at : ℕ) → Option ℕ → Option ShownNodes
+shown_from_node closer at None = None
+shown_from_node closer at (Some ix) = if ix == closer then None else Some (From ix at)
+
+-- what a wikilink shows of its body, in nodes
+abbrev pub shown_in : List (Node Item) → (first closer : ℕ) → Shows → (start end : ℕ) → Option ShownNodes
+shown_in nodes first closer shows_name start end = Some (Over first start end)
+shown_in nodes first closer (shows_nothing at) start end = Some (Over first at at)
+shown_in nodes first closer (shows_from at) start end =
+    shown_from_node closer at (first_root (numbers_past nodes at (forest_at (links_of nodes) (Some first))))
+
+-- the wikilink with this body, whose first node is given, if it shows anything
+abbrev pub wikilink_of : List (Node Item) → (first closer : ℕ) → WikilinkBody → Option (WikilinkBody × ShownNodes)
+wikilink_of nodes first closer b =
+    option_map (λ shown. (b, shown))
+    (shown_in nodes first closer b.shows (item_at nodes first).start (item_at nodes closer).start)
+
+-- the body of a wikilink, and what is shown, from the first node of its body
+abbrev pub wikilink_from : List (Node Item) → List ℕ → (block_end closer first : ℕ)
+    → Option (WikilinkBody × ShownNodes)
+wikilink_from nodes text block_end closer first =
+    option_and_then (wikilink_of nodes first closer)
+    (wikilink_body text block_end (item_at nodes first).start (item_at nodes closer).start)
+
+-- the body of a wikilink, and what is shown, from the nodes of its brackets
+abbrev pub wikilink_nodes : List (Node Item) → List ℕ → (block_end opener closer : ℕ)
+    → Option (WikilinkBody × ShownNodes)
+wikilink_nodes nodes text block_end opener closer =
+    option_and_then (wikilink_from nodes text block_end closer) (body_start nodes opener closer)
 
 -- a returned value is the wikilink with this body and these shown nodes, or `None` if there is none
 abbrev pub IsWikilinkAt : Opener → (end : ℕ) → Option (WikilinkBody × ShownNodes) → Option ClosedBracket → Type 0
@@ -118,3 +213,33 @@ FindsWikilink w end c None found = found ≡ None
 FindsWikilink w end c (Some o) found =
     IsWikilink w (opener_of o) end (past_second (inside o))
     (if is_live o.mark.wikilink then wikilink_in w (past_second (inside o)) (start_of c.label) else None) found
+
+-- no wikilink is found: a single `]` is decided, with a left list without the opener that was tried
+pub record TakesNone (w : Around) (c : Closing ℕ) (left : List (Entry ℕ)) (held : List Waiting) : Type 0 where
+  pub left_then : List (Entry ℕ)
+  pub held_is : held ≡ wikilinks_of left_then
+  pub brackets : brackets_of left_then ≡ brackets_of left
+  pub trees : (later : Forest (Label ℕ)) → trees_onto left_then later ≡ trees_onto left later
+  pub decides : (p : Progress ℕ) → decided w c (record p { left = left })
+      ≡ one_decided w c (record p { left = left_then })
+
+-- a wikilink is found
+pub record TakesOne (w : Around) (c : Closing ℕ) (left : List (Entry ℕ)) (held : List Waiting) (found : ClosedBracket)
+    : Type 0 where
+  pub opener : Split ℕ
+  pub wikilink : Wikilink ℕ
+  pub end : ℕ
+  pub held_is : held ≡ wikilinks_of (wikilink_taken (bracket_taken left))
+  pub splits : IsSplit (wikilink_taken (bracket_taken left)) opener
+  pub decides : (p : Progress ℕ) → decided w c (record p { left = left })
+      ≡ record {
+        becomes = a_wikilink opener wikilink end;
+        progress =
+            record p { left = wikilink_taken (bracket_taken left) };
+      }
+  pub is : IsBecome w (a_wikilink opener wikilink end) found
+
+-- a wikilink is found, or none
+abbrev pub TakesWikilink : Around → Closing ℕ → List (Entry ℕ) → List Waiting → Option ClosedBracket → Type 0
+TakesWikilink w c left held None = TakesNone w c left held
+TakesWikilink w c left held (Some found) = TakesOne w c left held found

@@ -4,6 +4,7 @@
 
 mod byte_at;
 pub mod chain_openers;
+pub mod closer;
 pub mod closing_bracket;
 pub mod decision;
 pub mod finish;
@@ -15,10 +16,12 @@ pub mod link_tail;
 pub mod link_title;
 pub mod look_up;
 pub mod openers;
+pub mod options;
 pub mod reference;
 pub mod separator;
 pub mod spent_ends;
 mod title_text;
+mod tries;
+pub mod waiting;
 pub mod wikilink;
 pub mod wikilink_nodes;
-pub mod written;

@@ -1,21 +1,31 @@
 //! Look-ups of link labels, and questions to the callback about labels that are not defined.
-ghost use Rattle.std.specs.Prelude.{◌≡◌, ◌-◌, IfErr, IfOk, IfSome, OnErr, is_some, unwrap_or, length, []};
+ghost use Rattle.std.specs.Prelude.{◌≡◌, ◌-◌, IfErr, IfOk, IfSome, OnErr, unwrap_or, length, []};
 ghost use Rattle.std.specs.Option.{option_map};
 ghost use Rattle.markdown_base.specs.BlockParts.{definition_view};
 ghost use Rattle.markdown_base.specs.CowText.{text_of};
+ghost use Rattle.markdown_base.specs.Questions.{Question};
 ghost use Rattle.markdown_base.specs.declared.fault.Fault.{Fault};
-ghost use Rattle.markdown_defs.specs.Callback.{answer_of};
+ghost use Rattle.markdown_defs.specs.Callback.{answer_of, question_of};
 ghost use Rattle.markdown_brackets.specs.Lookup as lookup;
-ghost use Rattle.markdown_brackets.specs.LookupView.{question_about, target_view, target_by};
-ghost use Rattle.markdown_brackets.specs.LookupView.{FindsTarget, IsAnswered, LooksUp};
+ghost use Rattle.markdown_brackets.specs.LookupView.{FindsTarget, IsAnswered, LooksUp, target_by, target_view};
 
 use markdown_base::block_parts::LinkDef;
 use markdown_base::cow_str::CowStr;
 use markdown_base::fault::Fault;
 use markdown_base::tag::LinkType;
-use markdown_defs::{BrokenLink, BrokenLinkCallback, RefDefs};
+use markdown_defs::{Allocations, BrokenLink, BrokenLinkCallback, RefDefs};
 use std::alloc::Global;
-use std::ops::Range;
+
+/// What labels are looked up in, and what look-ups use up.
+#[derive(Drop)]
+pub struct LabelLookup<'a, F> {
+    /// The definitions and the footnotes, beside the other parts that items refer to by number.
+    pub tables: Allocations<'a>,
+    /// The number of bytes that references may still expand to.
+    pub limit: usize,
+    /// The callback to ask about labels that are not defined, if there is one.
+    pub callback: Option<F>,
+}
 
 /// The target of a link.
 #[derive(Debug, Drop)]
@@ -53,20 +63,19 @@ fn title_or_empty(title: Option<CowStr<'_>>) -> CowStr<'_>
 fn defined_target<'a>(
     alloc: Global,
     definition: &LinkDef<'a>,
-    link_type: LinkType,
-    id: CowStr<'a>,
+    about: BrokenLink<'a>,
 ) -> Result<Target<'a>, Fault>
     ensures value { IfOk result (λ t.
-        target_view t ≡ lookup.defined_target link_type (definition_view definition.now)
-        (text_of id.entry)) }
+        target_view t ≡ lookup.defined_target about.entry.link_type
+        (definition_view definition.now) (text_of about.entry.reference)) }
     ensures refused { IfErr result (λ fault. fault ≡ Fault.Memory) }
 {
     let copy = definition.try_clone(alloc)?;
     Ok(Target {
-        link_type,
+        link_type: about.link_type,
         destination: copy.dest,
         title: title_or_empty(copy.title),
-        id,
+        id: about.reference,
     })
 }
 
@@ -76,8 +85,8 @@ fn answered_target<'a>(
     link_type: LinkType,
     id: CowStr<'a>,
 ) -> Option<Target<'a>>
-    ensures { (span : _) → option_map target_view result
-        ≡ target_by (question_about span link_type id.entry) (answer_of answer.entry) }
+    ensures { (q : Question) → q.link_type ≡ link_type → q.reference ≡ text_of id.entry
+        → option_map target_view result ≡ target_by q (answer_of answer.entry) }
 {
     match answer {
         Some((destination, title)) => Some(Target {
@@ -98,22 +107,25 @@ fn answered_target<'a>(
 fn ask<'a, F: BrokenLinkCallback<'a>>(
     alloc: Global,
     callback: &mut Option<F>,
-    span: Range<usize>,
-    link_type: LinkType,
-    id: CowStr<'a>,
+    about: BrokenLink<'a>,
 ) -> Result<Option<Target<'a>>, Fault>
     requires { IfSome callback.old F.can_ask }
     ensures answered { IfOk result (λ target.
-        IsAnswered F.answers (question_about span link_type id.entry) callback.old callback.new
+        IsAnswered F.answers (question_of about.entry) callback.old callback.new
         (option_map target_view target)) }
     ensures again { IfSome callback.new F.can_ask }
     ensures refused { IfErr result (λ fault. fault ≡ Fault.Memory) }
     ensures unchanged { OnErr result (callback.new ≡ callback.old) }
 {
     let Some(callback) = callback else {
-        drop(id);
+        drop(about);
         return Ok(None);
     };
+    let BrokenLink {
+        span,
+        link_type,
+        reference: id,
+    } = about;
     let reference = id.try_clone(alloc)?;
     let answer = callback.handle_broken_link(BrokenLink {
         span,
@@ -129,22 +141,19 @@ fn find_target<'a, F: BrokenLinkCallback<'a>>(
     alloc: Global,
     definitions: &RefDefs<'a>,
     callback: &mut Option<F>,
-    span: Range<usize>,
-    link_type: LinkType,
-    label: CowStr<'a>,
+    about: BrokenLink<'a>,
 ) -> Result<Option<Target<'a>>, Fault>
     requires { IfSome callback.old F.can_ask }
     ensures finds { IfOk result (λ target.
-        FindsTarget F.answers definitions.now (question_about span link_type label.entry)
-        callback.old callback.new
+        FindsTarget F.answers definitions.now (question_of about.entry) callback.old callback.new
         (option_map target_view target)) }
     ensures again { IfSome callback.new F.can_ask }
     ensures refused { IfErr result (λ fault. fault ≡ Fault.Memory) }
     ensures unchanged { OnErr result (callback.new ≡ callback.old) }
 {
-    match definitions.get(label.as_str())? {
-        Some(definition) => Ok(Some(defined_target(alloc, definition, link_type, label)?)),
-        None => ask(alloc, callback, span, link_type, label),
+    match definitions.get(about.reference.as_str())? {
+        Some(definition) => Ok(Some(defined_target(alloc, definition, about)?)),
+        None => ask(alloc, callback, about),
     }
 }
 
@@ -160,36 +169,29 @@ fn limit_after(limit: usize, target: &Option<Target<'_>>) -> usize
     }
 }
 
-/// Looks up the link label of a reference over the byte range `span`, in the form `link_type`. At a limit of 0, nothing
-/// is found and the callback is not called. Otherwise, the definition with equal case folding is found; if there is
-/// none and there is a callback, that is called once. The limit falls by the number of bytes of the destination and
-/// title that are found, but not below 0. The only error is `Fault::Memory`, in which case the callback was not called
-/// and the limit is unchanged. Upstream: `fetch_link_type_url_title`.
+/// Looks up the link label of a reference. At a limit of 0, nothing is found and the callback is not called. Otherwise,
+/// the definition with equal case folding is found; if there is none and there is a callback, that is called once. The
+/// limit falls by the number of bytes of the destination and title that are found, but not below 0. The only error is
+/// `Fault::Memory`, after which nothing has changed. Upstream: `fetch_link_type_url_title`.
 pub fn look_up_label<'a, F: BrokenLinkCallback<'a>>(
     alloc: Global,
-    definitions: &RefDefs<'a>,
-    callback: &mut Option<F>,
-    limit: &mut usize,
-    span: Range<usize>,
-    link_type: LinkType,
-    label: CowStr<'a>,
+    lookup: &mut LabelLookup<'a, F>,
+    about: BrokenLink<'a>,
 ) -> Result<Option<Target<'a>>, Fault>
-    requires { IfSome callback.old F.can_ask }
+    requires { IfSome lookup.old.callback F.can_ask }
     ensures looks_up { IfOk result (λ target.
-        LooksUp F.answers definitions.now (is_some callback.old)
-        (question_about span link_type label.entry)
-        limit.old limit.new callback.old callback.new (option_map target_view target)) }
-
-    ensures again { IfSome callback.new F.can_ask }
+        LooksUp F.answers lookup.old lookup.new (question_of about.entry)
+        (option_map target_view target)) }
+    ensures again { IfSome lookup.new.callback F.can_ask }
+    ensures tables { lookup.new.tables ≡ lookup.old.tables }
     ensures refused { IfErr result (λ fault. fault ≡ Fault.Memory) }
-    ensures nothing_asked { OnErr result (callback.new ≡ callback.old) }
-    ensures nothing_taken { OnErr result (limit.new ≡ limit.old) }
+    ensures unchanged { OnErr result (lookup.new ≡ lookup.old) }
 {
-    if *limit == 0 {
-        drop(label);
+    if lookup.limit == 0 {
+        drop(about);
         return Ok(None);
     }
-    let target = find_target(alloc, definitions, callback, span, link_type, label)?;
-    *limit = limit_after(*limit, &target);
+    let target = find_target(alloc, &lookup.tables.refdefs, &mut lookup.callback, about)?;
+    lookup.limit = limit_after(lookup.limit, &target);
     Ok(target)
 }

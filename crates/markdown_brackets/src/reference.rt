@@ -188,6 +188,16 @@ pub(crate) fn is_closer(body: ItemBody) -> bool
     matches!(body, ItemBody::MaybeLinkClose(_))
 }
 
+/// Returns whether a `]` could be a reference.
+pub(crate) fn could_be_reference(body: ItemBody) -> bool
+    ensures { result ≡ def.could_be_reference body }
+{
+    match body {
+        ItemBody::MaybeLinkClose(could_be) => could_be,
+        _ => false,
+    }
+}
+
 // Returns whether the two items are a `[` at the byte offset `at` and a `]` directly after it.
 fn is_empty_pair(at: usize, next: Option<Item>, after: Option<Item>) -> bool
     requires { at + 1 < 2 ^ 64 }

@@ -1,9 +1,11 @@
 //! Wikilinks in a tree: the nodes of a wikilink's body, and those that it shows.
 ghost use Rattle.std.specs.Prelude.{◌≡◌, ◌<◌, Some, IfSome, length};
 ghost use Rattle.markdown_base.specs.Arena.{sibling_of};
+ghost use Rattle.markdown_base.specs.BlockTree.{item_at};
 ghost use Rattle.markdown_brackets.specs.ChainAhead.{IsChain};
-ghost use Rattle.markdown_brackets.specs.WikilinkNodes.{body_start, shown_in, shown_from_node, unless_is};
+ghost use Rattle.markdown_brackets.specs.WikilinkNodes.{body_start, unless_is};
 ghost use Rattle.markdown_brackets.specs.WikilinkView.{shown_view};
+ghost use Rattle.markdown_brackets.specs.StandsAt.{shown_in, shown_from_node};
 
 use crate::items_ahead::first_past;
 use crate::wikilink::Shown;
@@ -58,24 +60,25 @@ fn from_node(node: Option<usize>, closer: usize, at: usize) -> Option<ShownNodes
     }
 }
 
-/// Returns what a wikilink shows of its body, which starts at the byte offset `start` in the node `first` and ends at
-/// the byte offset `end`; `None` if nothing of it precedes the `]`.
+/// Returns what a wikilink shows of its body, which begins with the node `first` and ends where the `]` starts; `None` if
+/// nothing of it precedes the `]`.
 pub(crate) fn find_shown(
     tree: &Tree<Item>,
     first: usize,
     closer: usize,
     shown: Shown,
-    start: usize,
-    end: usize,
 ) -> Option<ShownNodes>
-    requires { IsChain tree.now.nodes (Some first) }
-    ensures { result ≡ shown_in tree.now.nodes first closer (shown_view shown) start end }
+    requires chain { IsChain tree.now.nodes (Some first) }
+    requires within { first < length tree.now.nodes }
+    requires closes { closer < length tree.now.nodes }
+    ensures { result ≡ shown_in tree.now.nodes first closer (shown_view shown)
+        (item_at tree.now.nodes first).start (item_at tree.now.nodes closer).start }
 {
     match shown {
         Shown::Name => Some(ShownNodes::Over {
             node: first,
-            start,
-            end,
+            start: tree.item(first).start,
+            end: tree.item(closer).start,
         }),
         Shown::Nothing(at) => Some(ShownNodes::Over {
             node: first,

@@ -5,18 +5,18 @@ use Rattle.markdown_brackets.proofs.WikilinkFoundLemmas.{finds_dead, finds_live,
 use Rattle.markdown_brackets.proofs.decision.try_wikilink.Goals as goal
 
 pub returns-in_default : goal.returns-in_default
-returns-in_default c w cl o text block t =
-    finds_none c.args.tree.now.nodes w c.args.end c.args.closer cl o
-    (subst (λ taken. TriesWikilink c.args.tree.now.nodes c.args.closer taken cl o) c.in_default.is t)
+returns-in_default g c w cl o text block t =
+    finds_none c.args.at.now.tree.now.nodes w c.args.end c.args.at.now.node cl o
+    (subst (λ taken. TriesWikilink c.args.at.now.tree.now.nodes c.args.at.now.node taken cl o) c.in_default.is t)
 
 pub returns-then-not-is_live : goal.returns-then-not-is_live
-returns-then-not-is_live c w cl o text block t =
-    finds_dead c.args.tree.now.nodes w c.args.end c.args.closer c.in-Some.opener c.in-Some.is_live cl o c.if-not-is_live.true
-    (subst (λ taken. TriesWikilink c.args.tree.now.nodes c.args.closer taken cl o) c.in-Some.is t)
+returns-then-not-is_live g c w cl o text block t =
+    finds_dead c.args.at.now.tree.now.nodes w c.args.end c.args.at.now.node c.in-Some.opener c.in-Some.is_live cl o c.if-not-is_live.true
+    (subst (λ taken. TriesWikilink c.args.at.now.tree.now.nodes c.args.at.now.node taken cl o) c.in-Some.is t)
 
 pub returns : goal.returns
-returns c w cl o text block t =
-    finds_live c.args.tree.now.nodes w c.args.end c.args.closer c.in-Some.opener c.in-Some.is_live cl o c.find_wikilink.result
+returns g c w cl o text block t =
+    finds_live c.args.at.now.tree.now.nodes w c.args.end c.args.at.now.node c.in-Some.opener c.in-Some.is_live cl o c.find_wikilink.result
     c.if-not-is_live.false
     (rw (text, block) c.find_wikilink.ensures)
-    (subst (λ taken. TriesWikilink c.args.tree.now.nodes c.args.closer taken cl o) c.in-Some.is t)
+    (subst (λ taken. TriesWikilink c.args.at.now.tree.now.nodes c.args.at.now.node taken cl o) c.in-Some.is t)
