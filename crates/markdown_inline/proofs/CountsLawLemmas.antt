@@ -170,7 +170,7 @@ ahead-few s tables nodes l spine known =
 parser-few : {F : Type 0} (p : Parser F) (answers : Answers) → AreFew (parser_counts p answers) (parser_steps p)
 parser-few p answers =
     few-more (parser_counts p answers) (weight_to_come p.tree.nodes p.tree.cursor p.tree.spine) (parser_steps p) (omega arith)
-    (ahead-few (parser_setting p) (tables_of p.resolver.tables) p.tree.nodes p.tree.cursor p.tree.spine (parser_known p answers))
+    (ahead-few (parser_setting p) (tables_of p.resolver.lookup.tables) p.tree.nodes p.tree.cursor p.tree.spine (parser_known p answers))
 
 -- counts, with what the steps to come may still add to them, are small
 record Fits (work : Work) (left : ℕ) : Type 0 where

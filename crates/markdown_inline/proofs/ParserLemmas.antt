@@ -46,7 +46,7 @@ use Rattle.markdown_resolver.specs.Kept.{IsUnread}
 
 -- the elements that are left, by a parser's parts
 pub elements-parts : {F : Type 0} (p : Parser F) (answers : Answers)
-    → elements p answers ≡ tree_left (parser_setting p) (tables_of p.resolver.tables) p.tree (parser_known p answers)
+    → elements p answers ≡ tree_left (parser_setting p) (tables_of p.resolver.lookup.tables) p.tree (parser_known p answers)
 unfolding elements
 elements-parts p answers = refl
 
@@ -54,26 +54,26 @@ elements-parts p answers = refl
 pub record SameBut {F : Type 0} (s t : Parser F) : Type 0 where
   pub text : t.resolver.text ≡ s.resolver.text
   pub options : t.resolver.options ≡ s.resolver.options
-  pub callback : t.resolver.callback ≡ s.resolver.callback
-  pub limit : t.resolver.limit ≡ s.resolver.limit
+  pub callback : t.resolver.lookup.callback ≡ s.resolver.lookup.callback
+  pub limit : t.resolver.lookup.limit ≡ s.resolver.lookup.limit
   pub work : t.resolver.work ≡ s.resolver.work
 
 -- a step over the tree gives its events
 pub gave_step : {F : Type 0} (s t : Parser F) (given : List Placed) → SameBut s t
-    → Went s.resolver.text.now s.tree t.tree s.resolver.tables t.resolver.tables given → Gave s t given
+    → Went s.resolver.text.now s.tree t.tree s.resolver.lookup.tables t.resolver.lookup.tables given → Gave s t given
 gave_step s t given k w = record {
   callback = sym k.callback;
   ahead = λ answers.
       rw (k.text, k.options, k.callback, k.limit, w.tables)
-      (rw w.tables at (w.ahead (rules_from s.resolver.options s.resolver.tables (is_some s.resolver.callback)) (parser_known s answers)));
+      (rw w.tables at (w.ahead (rules_from s.resolver.options s.resolver.lookup.tables (is_some s.resolver.lookup.callback)) (parser_known s answers)));
   work = k.work;
   left = λ later.
       rw (elements-parts s later, elements-parts t later, k.text, k.options, k.callback, k.limit, w.tables)
-      (rw w.tables at (w.left (rules_from s.resolver.options s.resolver.tables (is_some s.resolver.callback)) (parser_known s later)));
+      (rw w.tables at (w.left (rules_from s.resolver.options s.resolver.lookup.tables (is_some s.resolver.lookup.callback)) (parser_known s later)));
 }
 
 pub moved_give : {F : Type 0} (s t : Parser F) (e : Event) (range : Range ℕ) → SameBut s t
-    → Gives s.resolver.text.now s.tree t.tree s.resolver.tables t.resolver.tables e range
+    → Gives s.resolver.text.now s.tree t.tree s.resolver.lookup.tables t.resolver.lookup.tables e range
     → GaveEvent s t e range × (parser_steps t < parser_steps s)
 moved_give s t e range k g = (
   record {
@@ -97,16 +97,16 @@ took_same s t u item k took = record {
 
 -- what is given of a step past the beginning of an item
 past_gives : {F : Type 0} (s t u : Parser F) (item : Item) (e : Event)
-    → PassedBeginning t.resolver.text.now s.tree t.tree t.resolver.tables item → Took t u item
+    → PassedBeginning t.resolver.text.now s.tree t.tree t.resolver.lookup.tables item → Took t u item
     → OpensWith (parser_text t) (range_of item) (shape_in t item) e
-    → Gives t.resolver.text.now s.tree u.tree t.resolver.tables u.resolver.tables e (range_of item)
+    → Gives t.resolver.text.now s.tree u.tree t.resolver.lookup.tables u.resolver.lookup.tables e (range_of item)
 past_gives s t u item e p took o = record {
   origins = o.origins;
   texts = o.texts;
   start = o.start;
-  went = subst (λ (tree : Arena Item). Went t.resolver.text.now s.tree tree t.resolver.tables u.resolver.tables
+  went = subst (λ (tree : Arena Item). Went t.resolver.text.now s.tree tree t.resolver.lookup.tables u.resolver.lookup.tables
       ((event_view e, range_of item, o.origins) ∷ []))
-      (sym took.tree) (p.went u.resolver.tables (event_view e) o.origins took.tables o.begins);
+      (sym took.tree) (p.went u.resolver.lookup.tables (event_view e) o.origins took.tables o.begins);
 }
 
 -- the same of an equal text and equal tables
@@ -115,12 +115,12 @@ same_gives : (x y : List ℕ) (s t : Arena Item) (a b held : Allocated) (e : Eve
 same_gives x y s t a b held e range p q g = rw (← p, ← q) g
 
 -- past the beginning of an item
-pub moved_past : {F : Type 0} (s t : Parser F) (item : Item) (w : Way) → SameBut s t → t.resolver.tables ≡ s.resolver.tables
-    → PassedBeginning t.resolver.text.now s.tree t.tree t.resolver.tables item × (way_at item.body ≡ w) → WentPast s t item w
+pub moved_past : {F : Type 0} (s t : Parser F) (item : Item) (w : Way) → SameBut s t → t.resolver.lookup.tables ≡ s.resolver.lookup.tables
+    → PassedBeginning t.resolver.text.now s.tree t.tree t.resolver.lookup.tables item × (way_at item.body ≡ w) → WentPast s t item w
 moved_past s t item w k same p = record {
   ready = record { can = p.0.can; stands = p.0.stands; goes = p.1 };
   gave = λ u e took o. (moved_give s u e (range_of item) (took_same s t u item k took)
-      (same_gives t.resolver.text.now s.resolver.text.now s.tree u.tree t.resolver.tables s.resolver.tables u.resolver.tables e
+      (same_gives t.resolver.text.now s.resolver.text.now s.tree u.tree t.resolver.lookup.tables s.resolver.lookup.tables u.resolver.lookup.tables e
       (range_of item) (ap (λ (text : Bor (List ℕ)). text.now) k.text) same (past_gives s t u item e p.0 took o))).0;
   callback = k.callback;
   work = k.work;
@@ -145,7 +145,7 @@ leads_gave : {F : Type 0} (step : F → Question → Option Answer → F → Typ
 leads_gave step s t given g = record { answers = []; questions = []; asked = g.callback; left = λ later. g.left later }
 
 pub moved_skip : {F : Type 0} (step : F → Question → Option Answer → F → Type 0) (s t : Parser F) → SameBut s t
-    → Went s.resolver.text.now s.tree t.tree s.resolver.tables t.resolver.tables [] → WentOn step s t × (parser_steps t < parser_steps s)
+    → Went s.resolver.text.now s.tree t.tree s.resolver.lookup.tables t.resolver.lookup.tables [] → WentOn step s t × (parser_steps t < parser_steps s)
 unfolding leads_gave
 moved_skip step s t k w =
     let g = gave_step s t [] k w in (
@@ -190,47 +190,47 @@ stands_chain step g s t held held' first limit limit' c d work work' w b r =
 
 -- the rules depend on the names of footnotes, and not on their uses
 setting_kept : {F : Type 0} (s t : Parser F) → t.resolver.text ≡ s.resolver.text → t.resolver.options ≡ s.resolver.options
-    → is_some s.resolver.callback ≡ is_some t.resolver.callback
-    → t.resolver.tables ≡ record s.resolver.tables {
-      cows = t.resolver.tables.cows;
-      links = t.resolver.tables.links;
+    → is_some s.resolver.lookup.callback ≡ is_some t.resolver.lookup.callback
+    → t.resolver.lookup.tables ≡ record s.resolver.lookup.tables {
+      cows = t.resolver.lookup.tables.cows;
+      links = t.resolver.lookup.tables.links;
       footdefs =
-          t.resolver.tables.footdefs;
+          t.resolver.lookup.tables.footdefs;
     }
-    → ((name : List ℕ) → is_some (footnote_at t.resolver.tables.footdefs name) ≡ is_some (footnote_at s.resolver.tables.footdefs name))
+    → ((name : List ℕ) → is_some (footnote_at t.resolver.lookup.tables.footdefs name) ≡ is_some (footnote_at s.resolver.lookup.tables.footdefs name))
     → parser_setting t ≡ parser_setting s
 setting_kept s t x o some tables names =
-    let is_name : List ℕ → Bool = λ name. is_some (footnote_at t.resolver.tables.footdefs name) in
-    let was_name : List ℕ → Bool = λ name. is_some (footnote_at s.resolver.tables.footdefs name) in
+    let is_name : List ℕ → Bool = λ name. is_some (footnote_at t.resolver.lookup.tables.footdefs name) in
+    let was_name : List ℕ → Bool = λ name. is_some (footnote_at s.resolver.lookup.tables.footdefs name) in
     let same : is_name ≡ was_name = fun_ext names in
-    let definitions : t.resolver.tables.refdefs ≡ s.resolver.tables.refdefs = ap (λ (held : Allocated). held.refdefs) tables in
+    let definitions : t.resolver.lookup.tables.refdefs ≡ s.resolver.lookup.tables.refdefs = ap (λ (held : Allocated). held.refdefs) tables in
     rw (x, o, ← some, definitions)
     (ap (λ (f : List ℕ → Bool). let g : Setting = setting_of s.resolver.text.now
     (record {
       options = s.resolver.options;
-      definitions = s.resolver.tables.refdefs;
+      definitions = s.resolver.lookup.tables.refdefs;
       is_footnote = f;
-      asks = is_some s.resolver.callback;
+      asks = is_some s.resolver.lookup.callback;
     }) in g) same)
 
 -- a chain that is resolved: its questions, and then an event
 pub moved_chain : {F : Type 0} (step : F → Question → Option Answer → F → Type 0) (s t : Parser F) (first : ℕ)
     → t.resolver.text ≡ s.resolver.text → t.resolver.options ≡ s.resolver.options
-    → TreeStands s.resolver.text.now (tables_of s.resolver.tables) s.tree → IsBeforeChain s.tree first
-    → ResolvesChain step (parser_setting s) first s.tree t.tree s.resolver.tables t.resolver.tables s.resolver.limit t.resolver.limit
-    s.resolver.callback t.resolver.callback
+    → TreeStands s.resolver.text.now (tables_of s.resolver.lookup.tables) s.tree → IsBeforeChain s.tree first
+    → ResolvesChain step (parser_setting s) first s.tree t.tree s.resolver.lookup.tables t.resolver.lookup.tables s.resolver.lookup.limit t.resolver.lookup.limit
+    s.resolver.lookup.callback t.resolver.lookup.callback
     s.resolver.work t.resolver.work
     → WentOn step s t × (parser_steps t < parser_steps s)
 moved_chain step s t first x o w b q =
-    let m = chain_moves step (parser_setting s) s.tree t.tree s.resolver.tables t.resolver.tables first s.resolver.limit t.resolver.limit
-    s.resolver.callback t.resolver.callback s.resolver.work t.resolver.work w b q in
-    let some : is_some s.resolver.callback ≡ is_some t.resolver.callback = Asks-some step s.resolver.callback t.resolver.callback
+    let m = chain_moves step (parser_setting s) s.tree t.tree s.resolver.lookup.tables t.resolver.lookup.tables first s.resolver.lookup.limit t.resolver.lookup.limit
+    s.resolver.lookup.callback t.resolver.lookup.callback s.resolver.work t.resolver.work w b q in
+    let some : is_some s.resolver.lookup.callback ≡ is_some t.resolver.lookup.callback = Asks-some step s.resolver.lookup.callback t.resolver.lookup.callback
     q.chain.questions q.chain.answers q.chain.asked in
-    let now : (later : Answers) → elements t later ≡ left_of (parser_setting s) (tables_of t.resolver.tables) t.tree.nodes (Some first)
+    let now : (later : Answers) → elements t later ≡ left_of (parser_setting s) (tables_of t.resolver.lookup.tables) t.tree.nodes (Some first)
     s.tree.spine (parser_known t later) =
     λ later. elements-parts t later ∙ rw (setting_kept s t x o some q.tables q.footnotes, q.tree, b.cursor) refl in
     let counted : Answers → ChainCounts = λ later. chain_counts (parser_setting s) plain_tags (above_cursor s.resolver.text.now s.tree)
-    (trees_from s.resolver.text.now (tables_of s.resolver.tables) s.tree.nodes (Some first)) (parser_known s (q.chain.answers ++ later)) in
+    (trees_from s.resolver.text.now (tables_of s.resolver.lookup.tables) s.tree.nodes (Some first)) (parser_known s (q.chain.answers ++ later)) in
     let before : (later : Answers) → parser_counts s (q.chain.answers ++ later) ≡ counted later =
     λ later. rw b.cursor (ap (λ (c : Counting). c (parser_known s (q.chain.answers ++ later))) m.was_ahead) in
     let after : (later : Answers) → parser_counts t later ≡ no_counts =
@@ -255,25 +255,25 @@ moved_chain step s t first x o w b q =
 -- a walk that has ended is over
 pub over_ended : {F : Type 0} (t : Parser F) → HasEnded t.tree → IsOver t
 over_ended t e = record {
-  left = λ answers. elements-parts t answers ∙ left_of_ended (parser_setting t) (tables_of t.resolver.tables) t.tree e
+  left = λ answers. elements-parts t answers ∙ left_of_ended (parser_setting t) (tables_of t.resolver.lookup.tables) t.tree e
       (parser_known t answers);
   steps = steps_ended t.tree e;
 }
 
-pub moved_done : {F : Type 0} (s t : Parser F) → HasEnded s.tree → t.tree ≡ s.tree → t.resolver.callback ≡ s.resolver.callback
+pub moved_done : {F : Type 0} (s t : Parser F) → HasEnded s.tree → t.tree ≡ s.tree → t.resolver.lookup.callback ≡ s.resolver.lookup.callback
     → t.resolver.work ≡ s.resolver.work → Ended s t
 moved_done s t e same c d = record {
   was = over_ended s e;
   is = over_ended t (rw same e);
   callback = sym c;
-  ahead = λ answers. ap (λ (c : Counting). c (parser_known s answers)) (counts_ended (parser_setting s) (tables_of s.resolver.tables) s.tree
+  ahead = λ answers. ap (λ (c : Counting). c (parser_known s answers)) (counts_ended (parser_setting s) (tables_of s.resolver.lookup.tables) s.tree
       e);
   work = d;
 }
 
 -- a step that was refused asked nothing
 pub moved_refused : {F : Type 0} (step : F → Question → Option Answer → F → Type 0) (s t : Parser F) (after : Arena Item)
-    → t.resolver.callback ≡ s.resolver.callback → t.resolver.work ≡ s.resolver.work → IsRefused s.tree after → HasEnded t.tree
+    → t.resolver.lookup.callback ≡ s.resolver.lookup.callback → t.resolver.work ≡ s.resolver.work → IsRefused s.tree after → HasEnded t.tree
     → Failed step s t
 moved_refused step s t after c k r e = record {
   is = over_ended t e;
@@ -288,25 +288,25 @@ moved_refused step s t after c k r e = record {
 
 -- a chain at which memory was refused
 pub moved_stopped : {F : Type 0} (step : F → Question → Option Answer → F → Type 0) (s t : Parser F) (first : ℕ)
-    → TreeStands s.resolver.text.now (tables_of s.resolver.tables) s.tree → IsBeforeChain s.tree first
-    → StopsIn step (parser_setting s) (above_cursor s.resolver.text.now s.tree) first (stage s.tree s.resolver.tables s.resolver.limit
-    s.resolver.callback) t.resolver.callback s.resolver.work t.resolver.work → HasEnded t.tree → Failed step s t
+    → TreeStands s.resolver.text.now (tables_of s.resolver.lookup.tables) s.tree → IsBeforeChain s.tree first
+    → StopsIn step (parser_setting s) (above_cursor s.resolver.text.now s.tree) first (stage s.tree s.resolver.lookup.tables s.resolver.lookup.limit
+    s.resolver.lookup.callback) t.resolver.lookup.callback s.resolver.work t.resolver.work → HasEnded t.tree → Failed step s t
 moved_stopped step s t first w b r e = record {
   is = over_ended t e;
-  more = steps_at_cursor s.resolver.text.now (tables_of s.resolver.tables) s.tree first w b.cursor;
+  more = steps_at_cursor s.resolver.text.now (tables_of s.resolver.lookup.tables) s.tree first w b.cursor;
   questions = r.questions;
   answers = r.answers;
   asked = r.asked;
   begins = λ later. rw (elements-parts s (r.answers ++ later), b.cursor)
-      (stops_chain step (parser_setting s) first s.tree.spine (stage s.tree s.resolver.tables s.resolver.limit s.resolver.callback)
-      t.resolver.callback s.resolver.work t.resolver.work (rw b.cursor at w) b.is_open r later);
+      (stops_chain step (parser_setting s) first s.tree.spine (stage s.tree s.resolver.lookup.tables s.resolver.lookup.limit s.resolver.lookup.callback)
+      t.resolver.lookup.callback s.resolver.work t.resolver.work (rw b.cursor at w) b.is_open r later);
   counts = λ later.
       let known = parser_known s (r.answers ++ later) in
       let ahead : parser_counts s (r.answers ++ later) ≡ chain_counts (parser_setting s) plain_tags
       (above_cursor s.resolver.text.now s.tree)
-      (trees_from s.resolver.text.now (tables_of s.resolver.tables) s.tree.nodes (Some first)) known =
+      (trees_from s.resolver.text.now (tables_of s.resolver.lookup.tables) s.tree.nodes (Some first)) known =
       rw b.cursor (ap (λ (c : Counting). c known)
-      (chain_ahead (parser_setting s) (tables_of s.resolver.tables) s.tree.nodes first s.tree.spine (rw b.cursor at w) b.is_open)) in
+      (chain_ahead (parser_setting s) (tables_of s.resolver.lookup.tables) s.tree.nodes first s.tree.spine (rw b.cursor at w) b.is_open)) in
       rw ahead (r.counts later);
 }
 

@@ -318,10 +318,10 @@ uses_held blocks held h =
 
 -- at the start what is left is the whole reading
 pub starts_left : {F : Type 0} (blocks : Blocks) (p : Parser F) (answers : Answers) → p.resolver.text.now ≡ text_of_blocks blocks
-    → p.resolver.options ≡ block_options blocks → HoldsParts (block_parts blocks) p.resolver.tables
+    → p.resolver.options ≡ block_options blocks → HoldsParts (block_parts blocks) p.resolver.lookup.tables
     → (tree : Arena Item) → tree ≡ block_tree blocks → p.tree ≡ record tree { spine = []; cursor = child_of tree.nodes 0 }
-    → p.resolver.limit ≡ expansion_limit (text_of_blocks blocks)
-    → elements p answers ≡ reading_of blocks (is_some p.resolver.callback) answers
+    → p.resolver.lookup.limit ≡ expansion_limit (text_of_blocks blocks)
+    → elements p answers ≡ reading_of blocks (is_some p.resolver.lookup.callback) answers
 unfolding left_of
 starts_left blocks p answers text options held tree same reset limit =
     elements-parts p answers
@@ -329,10 +329,10 @@ starts_left blocks p answers text options held tree same reset limit =
       reset,
       same,
       text,
-      tables_held (block_parts blocks) p.resolver.tables held,
+      tables_held (block_parts blocks) p.resolver.lookup.tables held,
       limit,
-      uses_held blocks p.resolver.tables held,
-      rules_held blocks p.resolver.tables p.resolver.options (is_some p.resolver.callback) held options,
+      uses_held blocks p.resolver.lookup.tables held,
+      rules_held blocks p.resolver.lookup.tables p.resolver.options (is_some p.resolver.lookup.callback) held options,
       ← document-trees
           (text_of_blocks blocks) (tables_at_start (block_parts blocks)) (block_tree blocks).nodes,
     ) refl

@@ -100,12 +100,12 @@ pub record HasGone {F : Type 0} (step : F → Question → Option Answer → F �
 
 -- the shape of an item, from the text and the tables of a parser
 abbrev pub shape_in : {F : Type 0} → Parser F → Item → Shape
-shape_in p item = shape_of (tables_of p.resolver.tables) (slice_range (parser_text p) item.start item.end) item.body
+shape_in p item = shape_of (tables_of p.resolver.lookup.tables) (slice_range (parser_text p) item.start item.end) item.body
 
 -- the event of an item can be made, and the walk keeps its invariant when what the item refers to is taken
 pub record IsToBegin {F : Type 0} (s : Parser F) (item : Item) (w : Way) : Type 0 where
-  pub can : CanBegin (parser_text s) (tables_of s.resolver.tables) item
-  pub stands : (held : Allocated) → TakesOnly item.body s.resolver.tables held
+  pub can : CanBegin (parser_text s) (tables_of s.resolver.lookup.tables) item
+  pub stands : (held : Allocated) → TakesOnly item.body s.resolver.lookup.tables held
       → TreeStands (parser_text s) (tables_of held) s.tree
   pub goes : way_at item.body ≡ w
 
@@ -113,11 +113,11 @@ pub record IsToBegin {F : Type 0} (s : Parser F) (item : Item) (w : Way) : Type 
 pub record Took {F : Type 0} (s t : Parser F) (item : Item) : Type 0 where
   pub text : t.resolver.text ≡ s.resolver.text
   pub options : t.resolver.options ≡ s.resolver.options
-  pub callback : t.resolver.callback ≡ s.resolver.callback
-  pub limit : t.resolver.limit ≡ s.resolver.limit
+  pub callback : t.resolver.lookup.callback ≡ s.resolver.lookup.callback
+  pub limit : t.resolver.lookup.limit ≡ s.resolver.lookup.limit
   pub work : t.resolver.work ≡ s.resolver.work
   pub tree : t.tree ≡ s.tree
-  pub tables : TakesOnly item.body s.resolver.tables t.resolver.tables
+  pub tables : TakesOnly item.body s.resolver.lookup.tables t.resolver.lookup.tables
 
 -- the event of an item was made
 pub record Began {F : Type 0} (s t : Parser F) (item : Item) (e : Event) : Type 0 where
@@ -128,7 +128,7 @@ pub record Began {F : Type 0} (s t : Parser F) (item : Item) (e : Event) : Type 
 pub record RefusedAt {F : Type 0} (s t : Parser F) (fault : Fault) : Type 0 where
   pub memory : fault ≡ Memory
   pub is : IsOver t
-  pub callback : t.resolver.callback ≡ s.resolver.callback
+  pub callback : t.resolver.lookup.callback ≡ s.resolver.lookup.callback
   pub work : t.resolver.work ≡ s.resolver.work
   pub keeps : Keeps s t
 

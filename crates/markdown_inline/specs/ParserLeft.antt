@@ -58,11 +58,11 @@ parser_text p = p.resolver.text.now
 
 -- the reference definitions that its chains can find
 abbrev pub parser_definitions : {F : Type 0} → Parser F → List Labelled
-parser_definitions p = p.resolver.tables.refdefs
+parser_definitions p = p.resolver.lookup.tables.refdefs
 
 -- the callback that it holds
 abbrev pub parser_callback : {F : Type 0} → Parser F → Option F
-parser_callback p = p.resolver.callback
+parser_callback p = p.resolver.lookup.callback
 
 -- the counts of the work that it has done
 abbrev pub parser_work : {F : Type 0} → Parser F → Work
@@ -74,24 +74,24 @@ parser_tree p = p.tree
 
 -- what resolving its chains depends on
 abbrev pub parser_setting : {F : Type 0} → Parser F → Setting
-parser_setting p = setting_of p.resolver.text.now (rules_from p.resolver.options p.resolver.tables
-    (is_some p.resolver.callback))
+parser_setting p = setting_of p.resolver.text.now (rules_from p.resolver.options p.resolver.lookup.tables
+    (is_some p.resolver.lookup.callback))
 
 -- what is known when the next chain is reached, where these answers are still to come
 abbrev pub parser_known : {F : Type 0} → Parser F → Answers → Known
 parser_known p answers = record {
-  limit = p.resolver.limit;
+  limit = p.resolver.lookup.limit;
   answers = answers;
-  uses = uses_of p.resolver.tables.footdefs;
+  uses = uses_of p.resolver.lookup.tables.footdefs;
 }
 
 -- the counts of the chain that it resolves before its next event, for these answers; none where it resolves no chain
 abbrev pub parser_counts : {F : Type 0} → Parser F → Answers → ChainCounts
-parser_counts p answers = tree_counts (parser_setting p) (tables_of p.resolver.tables) p.tree (parser_known p answers)
+parser_counts p answers = tree_counts (parser_setting p) (tables_of p.resolver.lookup.tables) p.tree (parser_known p answers)
 
 -- the elements that are left of it
 unfoldable pub elements : {F : Type 0} → Parser F → Answers → List Element
-elements p answers = tree_left (parser_setting p) (tables_of p.resolver.tables) p.tree (parser_known p answers)
+elements p answers = tree_left (parser_setting p) (tables_of p.resolver.lookup.tables) p.tree (parser_known p answers)
 
 -- all of the reading of a block result is left, for every list of answers
 abbrev pub ReadsBlocks : {F : Type 0} → Blocks → Parser F → Type 0

@@ -11,8 +11,8 @@ use markdown_base::options::Options;
 use markdown_base::tag::TagEnd;
 use markdown_base::tree::Tree;
 use markdown_blocks::{Blocks, Fault};
-use markdown_brackets::chain_openers::ChainOpeners;
-use markdown_brackets::spent_ends::SpentEnds;
+use markdown_brackets::look_up::LabelLookup;
+use markdown_brackets::waiting::WaitingBrackets;
 use markdown_defs::{Allocations, BrokenLinkCallback, DefaultBrokenLinkCallback, RefDefs};
 use markdown_delims::open_runs::OpenRuns;
 use markdown_document::work::Work;
@@ -53,8 +53,8 @@ pub struct Parser<'input, F = DefaultBrokenLinkCallback> {
     alloc: Global,
     tree: Tree<Item>,
     resolver: Resolver<'input, F>,
-    ghost stands: { Stands resolver.text.now (tables_of resolver.tables)
-        tree.nodes tree.cursor tree.spine } by { Stands-prop resolver.text.now (tables_of resolver.tables)
+    ghost stands: { Stands resolver.text.now (tables_of resolver.lookup.tables)
+        tree.nodes tree.cursor tree.spine } by { Stands-prop resolver.text.now (tables_of resolver.lookup.tables)
             tree.nodes tree.cursor tree.spine },
 }
 
@@ -129,7 +129,7 @@ impl<'input, F: BrokenLinkCallback<'input>> Parser<'input, F> {
         ensures begun { MatchResult result (Began self.old self.new item)
             (RefusedAt self.old self.new) }
     {
-        match start_tag(self.alloc, &mut self.resolver.tables, item.body) {
+        match start_tag(self.alloc, &mut self.resolver.lookup.tables, item.body) {
             Ok(tag) => Ok(Event::Start(tag)),
             Err(_) => {
                 self.tree.stop();
@@ -149,7 +149,7 @@ impl<'input, F: BrokenLinkCallback<'input>> Parser<'input, F> {
         match self.advance() {
             Stop::Over => None,
             Stop::Leaf(item) => {
-                let event = leaf_event(self.resolver.text, &mut self.resolver.tables, item);
+                let event = leaf_event(self.resolver.text, &mut self.resolver.lookup.tables, item);
                 Some(Ok((event, item.start..item.end)))
             }
             Stop::Start(item) => match self.start(item) {
@@ -199,7 +199,8 @@ impl<'input, F> Parser<'input, F> {
         ensures { result ≡ parser_callback self.entry }
     {
         let Parser { resolver, .. } = self;
-        let Resolver { callback, .. } = resolver;
+        let Resolver { lookup, .. } = resolver;
+        let LabelLookup { callback, .. } = lookup;
         callback
     }
 
@@ -238,7 +239,7 @@ impl<'input, F: BrokenLinkCallback<'input>> Iterator for Parser<'input, F> {
         match self.advance() {
             Stop::Over => None,
             Stop::Leaf(item) => {
-                let event = leaf_event(self.resolver.text, &mut self.resolver.tables, item);
+                let event = leaf_event(self.resolver.text, &mut self.resolver.lookup.tables, item);
                 Some(Ok(event))
             }
             Stop::Start(item) => Some(self.start(item)),
@@ -393,12 +394,13 @@ impl<'input, F: BrokenLinkCallback<'input>> Parser<'input, F> {
                 alloc,
                 text,
                 options,
-                tables,
-                limit: text.len().max(100000),
-                callback,
+                lookup: LabelLookup {
+                    tables,
+                    limit: text.len().max(100000),
+                    callback,
+                },
                 work: Work::none(),
-                openers: ChainOpeners::new(alloc),
-                spent: SpentEnds::new(alloc),
+                waiting: WaitingBrackets::new(alloc),
                 code_closers: SpanClosers::new(alloc),
                 math_closers: SpanClosers::new(alloc),
                 open_runs: OpenRuns::new(alloc),
@@ -418,7 +420,7 @@ impl<'input, F: BrokenLinkCallback<'input>> Parser<'input, F> {
     pub fn reference_definitions(&self) -> &RefDefs<'input>
         ensures { result.now ≡ parser_definitions self.now }
     {
-        &self.resolver.tables.refdefs
+        &self.resolver.lookup.tables.refdefs
     }
 
     /// Returns the counts of the work done so far.

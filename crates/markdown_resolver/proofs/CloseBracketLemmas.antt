@@ -2,7 +2,7 @@
 -- in place.
 use Rattle.markdown_base.specs.declared.item.ItemBody.TheVariants as body
 use Rattle.std.proofs.Common.{◌≡◌, ℕ, ◌-◌, ◌<◌, Bool, not, ◌&&◌, List, [], ◌++◌, Option, Some, None, length, drop, refl, sym, ap, ◌∙◌}
-use Rattle.std.proofs.Common.{subst, arith}
+use Rattle.std.proofs.Common.{subst, arith, true}
 use Rattle.std.proofs.Math.Path.{fun_ext}
 use Rattle.std.proofs.lemmas.List.{length-drop, length-take}
 use Rattle.std.specs.Prelude.{Result, Ok, Err, IfErr, IfOk, is_some, slice_range}
@@ -20,10 +20,11 @@ use Rattle.markdown_brackets.specs.Decides.{Decides, EachOpener, StandsBefore}
 use Rattle.markdown_brackets.specs.ClosingBracket.{put}
 use Rattle.markdown_brackets.specs.DecisionView.{GoesOnBehind, IsBecome, around_at}
 use Rattle.markdown_brackets.specs.Finish.{LeftRises, SplitsAs}
-use Rattle.markdown_brackets.specs.LeftList.{Entry, brackets_of, wikilinks_of}
+use Rattle.markdown_brackets.specs.LeftList.{Entry}
+use Rattle.markdown_brackets.specs.HeldOpeners.{brackets_of, wikilinks_of}
 use Rattle.markdown_brackets.specs.Openers.{Waiting}
 use Rattle.markdown_brackets.specs.SpentEnds.{is_spent}
-use Rattle.markdown_brackets.specs.StandsAt.{CanTry}
+use Rattle.markdown_brackets.specs.Decides.{CanTry}
 use Rattle.markdown_brackets.specs.WikilinkNodes.{CanFindWikilink}
 use Rattle.markdown_brackets.specs.declared.chain_openers.ChainOpeners.{ChainOpeners}
 use Rattle.markdown_brackets.specs.declared.closing_bracket.ClosedBracket.{ClosedBracket}
@@ -43,7 +44,7 @@ use Rattle.markdown_resolver.specs.Closes.{ClosesAt, PutsClosed, closing_at}
 use Rattle.markdown_resolver.specs.PassOne.{around}
 use Rattle.markdown_resolver.specs.ReadOn.{IsOpener, ReadsOn, StandsTo}
 use Rattle.markdown_resolver.specs.ReadsBracket.{CanReadNode, DecidesClosing, ReadsBracket, StopsAtNode, WasReadTo}
-use Rattle.markdown_resolver.specs.ReadsBracket.{setting_by, stage_by}
+use Rattle.markdown_resolver.specs.ReadsBracket.{setting_by, stage_by, ChangesForDecision}
 use Rattle.markdown_resolver.specs.declared.resolver.Resolver.{Resolver}
 use Rattle.markdown_resolver.proofs.ChainPlaceLemmas.{prefix_is}
 use Rattle.markdown_resolver.proofs.CloserOnLemmas.{reads_on_closer, stops_at_closer}
@@ -61,6 +62,8 @@ use Rattle.markdown_resolver.specs.Kept.{IsUnread}
 use Rattle.markdown_document.specs.Places.{trees_from}
 use Rattle.markdown_document.specs.Waiting.{waits_for_pairing}
 use Rattle.markdown_base.specs.Item.{is_open}
+use Rattle.markdown_brackets.specs.Reference.{could_be_reference, is_closer}
+use Rattle.markdown_resolver.proofs.OpenerReadLemmas.{closer_body}
 
 -- a prefix is that of the lines of a chain at a place
 pub record IsPrefixOf (place : ChainPlace) (prefix : ContainerPrefix) (tree : Arena Item) : Type 0 where
@@ -191,35 +194,37 @@ may_close step source rules above tables nodes first ix left could_be limit limi
 
 -- the decision, as the rules of pass one have it, unless memory was refused
 pub decides_here : {C E : Type 0} (step : C → Question → Option Answer → C → Type 0) (place : ChainPlace)
-    (prefix : ContainerPrefix) (tree : Arena Item) (options : Options) (inside held held' : Allocated) (limit limit' : ℕ)
-    (spent spent' : SpentEnds) (callback callback' : Option C) (openers openers' : ChainOpeners) (ix : ℕ) (could_be : Bool)
-    (r : Result ClosedBracket E) → inside ≡ held → place.options ≡ options
-    → IsPrefixOf place prefix tree → (item_at tree.nodes ix).body ≡ body.MaybeLinkClose could_be
+    (prefix : ContainerPrefix) (tree : Arena Item) (old new : Resolver C) (ix : ℕ) (r : Result ClosedBracket E)
+    → place.text.now ≡ old.text.now → place.options ≡ old.options → IsPrefixOf place prefix tree
+    → is_closer (item_at tree.nodes ix).body ≡ true
     → IfOk r (λ found. (bodies : List ItemBody) (skipped : List ℕ → ℕ) (left : List (Entry ℕ)) (c : Closing ℕ)
     → GoesOnBehind (λ rest. Some (length_by prefix rest)) skipped → StandsBefore tree.nodes ix left c
-    → c.could_be_reference ≡ (could_be && not (is_spent spent (end_of c.label)))
-    → openers.brackets ≡ brackets_of left → openers.wikilinks ≡ wikilinks_of left
-    → Decides step (around_at place skipped bodies inside.refdefs inside.footdefs (is_some callback)) c
-    left limit limit' (uses_of inside.footdefs) (uses_of held'.footdefs) spent spent' callback callback' openers'.brackets
-    openers'.wikilinks found)
-    → IfOk r (λ found. DecidesClosing step place place.text.now options tree ix could_be held held' limit limit' spent spent' callback
-    callback' openers openers' found)
-decides_here step place prefix tree options inside held held' limit limit' spent spent' callback callback' openers openers' ix
-    could_be (Ok found) view options_are prefix_is_its is decides = record {
-      decides = λ first left can.
-          let source = place.text.now in
-          let c = closing_at source (tables_of held) tree.nodes spent could_be ix in
-          let before = stands_before source (tables_of held) tree.nodes first ix left c could_be can.so_far refl refl is in
-          let d = decides (above_cursor source tree).bodies (length_by prefix) left c (λ rest. refl) before refl can.openers.brackets_are can.openers.wikilinks_are in
-          let viewed = subst (λ (h : Allocated). Decides step (around_at place (length_by prefix)
-          (above_cursor source tree).bodies h.refdefs h.footdefs (is_some callback)) c left limit limit' (uses_of h.footdefs)
-          (uses_of held'.footdefs) spent spent' callback callback' openers'.brackets openers'.wikilinks found) view d in
-          subst (λ (w : Around). Decides step w c left limit limit' (uses_of held.footdefs) (uses_of held'.footdefs) spent spent' callback
-          callback' openers'.brackets openers'.wikilinks found)
-          (around_is place prefix tree source options held (is_some callback) refl options_are can.stands prefix_is_its) viewed;
-    }
-decides_here step place prefix tree options inside held held' limit limit' spent spent' callback callback' openers openers' ix
-    could_be (Err fault) view options_are prefix_is_its is decides = tt
+    → c.could_be_reference ≡ (could_be_reference (item_at tree.nodes ix).body && not (is_spent old.waiting.spent (end_of c.label)))
+    → old.waiting.openers.brackets ≡ brackets_of left → old.waiting.openers.wikilinks ≡ wikilinks_of left
+    → Decides step (around_at place skipped bodies old.lookup.tables.refdefs old.lookup.tables.footdefs (is_some old.lookup.callback)) c
+    left old.lookup.limit new.lookup.limit (uses_of old.lookup.tables.footdefs) (uses_of new.lookup.tables.footdefs) old.waiting.spent
+    new.waiting.spent old.lookup.callback new.lookup.callback new.waiting.openers.brackets new.waiting.openers.wikilinks found)
+    → IfOk r (λ found. DecidesClosing step place tree ix old new found)
+decides_here step place prefix tree old new ix (Ok found) text options_are prefix_is_its closes decides = record {
+  decides = λ first left can.
+      let could_be = could_be_reference (item_at tree.nodes ix).body in
+      let held = old.lookup.tables in
+      let c = closing_at place.text.now (tables_of held) tree.nodes old.waiting.spent could_be ix in
+      let before = stands_before place.text.now (tables_of held) tree.nodes first ix left c could_be can.so_far refl refl
+      (closer_body (item_at tree.nodes ix).body closes) in
+      let d = decides (above_cursor place.text.now tree).bodies (length_by prefix) left c (λ rest. refl) before refl
+      can.openers.brackets_are can.openers.wikilinks_are in
+      let here = subst (λ (w : Around). Decides step w c left old.lookup.limit new.lookup.limit (uses_of held.footdefs)
+      (uses_of new.lookup.tables.footdefs) old.waiting.spent new.waiting.spent old.lookup.callback new.lookup.callback
+      new.waiting.openers.brackets new.waiting.openers.wikilinks found)
+      (around_is place prefix tree place.text.now old.options held (is_some old.lookup.callback) refl options_are can.stands prefix_is_its) d
+      in
+      subst (λ (t : List ℕ). Decides step (around (setting_of t (rules_from old.options held (is_some old.lookup.callback)))
+      (above_cursor t tree)) (closing_at t (tables_of held) tree.nodes old.waiting.spent could_be ix) left old.lookup.limit
+      new.lookup.limit (uses_of held.footdefs) (uses_of new.lookup.tables.footdefs) old.waiting.spent new.waiting.spent
+      old.lookup.callback new.lookup.callback new.waiting.openers.brackets new.waiting.openers.wikilinks found) text here;
+}
+decides_here step place prefix tree old new ix (Err fault) text options_are prefix_is_its closes decides = tt
 
 -- what is left after a `]` was not read
 unread_closed : (source : List ℕ) (tables tables' : Tables) (old new : List (Node Item)) (first closer : ℕ) (next : Option ℕ)
@@ -239,64 +244,60 @@ unread_closed source tables tables' old new first closer next left w c becomes r
     (unread_after source tables old closer ready h))
 
 -- a resolver has decided what a `]` becomes
-module _ {C : Type 0} (step : C → Question → Option Answer → C → Type 0) (place : ChainPlace) (tree : Arena Item) (old : Resolver C)
-    (held1 : Allocated) (limit1 : ℕ) (spent1 : SpentEnds) (callback1 : Option C) (openers1 : ChainOpeners) (found : ClosedBracket) (ix : ℕ)
-    (could_be : Bool) (can : CanReadNode place tree old ix) (text_is : IsUtf8 place.text.now)
-    (is : (item_at tree.nodes ix).body ≡ body.MaybeLinkClose could_be) (kept : held1 ≡ record old.tables { footdefs = held1.footdefs })
-    (decision : DecidesClosing step place place.text.now old.options tree ix could_be old.tables held1 old.limit limit1 old.spent spent1
-    old.callback callback1 old.openers openers1 found) where
-  abbrev pub mid : Resolver C
-  mid = record old { tables = held1; limit = limit1; spent = spent1; callback = callback1; openers = openers1 }
-
+module _ {C : Type 0} (step : C → Question → Option Answer → C → Type 0) (place : ChainPlace) (tree : Arena Item) (old mid : Resolver C)
+    (found : ClosedBracket) (ix : ℕ) (can : CanReadNode place tree old ix) (text_is : IsUtf8 place.text.now)
+    (is_close : is_closer (item_at tree.nodes ix).body ≡ true) (changes : ChangesForDecision old mid)
+    (decision : DecidesClosing step place tree ix old mid found) where
   utf8 : IsUtf8 old.text.now
   utf8 = subst IsUtf8 can.text text_is
 
-  tables : tables_of mid.tables ≡ tables_of old.tables
-  tables = ap (λ (h : Allocated). tables_of h) kept
+  abbrev could_be : Bool
+  could_be = could_be_reference (item_at tree.nodes ix).body
 
-  decides : DecidesClosing step place old.text.now old.options tree ix could_be old.tables mid.tables old.limit mid.limit old.spent
-      mid.spent old.callback mid.callback old.openers mid.openers found
-  decides = subst (λ (t : List ℕ). DecidesClosing step place t old.options tree ix could_be old.tables held1 old.limit limit1 old.spent
-      spent1 old.callback callback1 old.openers openers1 found) can.text decision
+  is : (item_at tree.nodes ix).body ≡ body.MaybeLinkClose could_be
+  is = closer_body (item_at tree.nodes ix).body is_close
+
+  tables : tables_of mid.lookup.tables ≡ tables_of old.lookup.tables
+  tables = ap (λ (r : Resolver C). tables_of r.lookup.tables) changes.kept
 
   abbrev around_here : Around
   around_here = around (setting_by old) (above_cursor old.text.now tree)
 
   abbrev closing_here : Closing ℕ
-  closing_here = closing_at old.text.now (tables_of old.tables) tree.nodes old.spent could_be ix
+  closing_here = closing_at old.text.now (tables_of old.lookup.tables) tree.nodes old.waiting.spent could_be ix
 
   here_stands : (first : ℕ) (left : List (Entry ℕ)) → WasReadTo place tree old first ix left
-      → StandsTo old.text.now (tables_of old.tables) tree.nodes first (Some ix) left
+      → StandsTo old.text.now (tables_of old.lookup.tables) tree.nodes first (Some ix) left
   here_stands first left was_read = rw (← can.text) was_read.so_far
 
   closes_here : (first : ℕ) (left : List (Entry ℕ)) (was_read : WasReadTo place tree old first ix left)
-      → (let d = decides.decides first left was_read in
-      MayClose old.text.now (tables_of old.tables) tree.nodes first ix around_here closing_here d.left_then d.becomes)
+      → (let d = decision.decides first left was_read in
+      MayClose old.text.now (tables_of old.lookup.tables) tree.nodes first ix around_here closing_here d.left_then d.becomes)
   closes_here first left was_read =
-      may_close step old.text.now (rules_from old.options old.tables (is_some old.callback)) (above_cursor old.text.now tree)
-      (tables_of old.tables) tree.nodes first ix left could_be old.limit mid.limit (uses_of old.tables.footdefs)
-      (uses_of mid.tables.footdefs) old.spent mid.spent old.callback mid.callback mid.openers.brackets mid.openers.wikilinks found utf8
-      (here_stands first left was_read) (rw (← can.text) was_read.unread) is (decides.decides first left was_read)
+      may_close step old.text.now (rules_from old.options old.lookup.tables (is_some old.lookup.callback)) (above_cursor old.text.now tree)
+      (tables_of old.lookup.tables) tree.nodes first ix left could_be old.lookup.limit mid.lookup.limit (uses_of old.lookup.tables.footdefs)
+      (uses_of mid.lookup.tables.footdefs) old.waiting.spent mid.waiting.spent old.lookup.callback mid.lookup.callback mid.waiting.openers.brackets mid.waiting.openers.wikilinks found utf8
+      (here_stands first left was_read) (rw (← can.text) was_read.unread) is (decision.decides first left was_read)
 
   closes_there : (first : ℕ) (left : List (Entry ℕ)) (was_read : WasReadTo place tree old first ix left)
-      → (let d = decides.decides first left was_read in
-      ClosesAt old.text.now (tables_of mid.tables) tree.nodes first ix d.left_then around_here closing_here d.becomes)
+      → (let d = decision.decides first left was_read in
+      ClosesAt old.text.now (tables_of mid.lookup.tables) tree.nodes first ix d.left_then around_here closing_here d.becomes)
   closes_there first left was_read =
-      let d = decides.decides first left was_read in
+      let d = decision.decides first left was_read in
       subst (λ (t : Tables). ClosesAt old.text.now t tree.nodes first ix d.left_then around_here closing_here d.becomes) (sym tables)
       (closes_here first left was_read).closes
 
   -- it can be put in place: the openers that are left are nodes
   pub record MayPut : Type 0 where
-    pub within : EachOpener (λ n. n < length tree.nodes) mid.openers.wikilinks
+    pub within : EachOpener (λ n. n < length tree.nodes) mid.waiting.openers.wikilinks
     pub left_then : List (Entry ℕ)
     pub becomes : Becomes ℕ
-    pub closes : ClosesAt old.text.now (tables_of mid.tables) tree.nodes can.first ix left_then around_here closing_here becomes
+    pub closes : ClosesAt old.text.now (tables_of mid.lookup.tables) tree.nodes can.first ix left_then around_here closing_here becomes
     pub is_become : IsBecome around_here becomes found
 
   pub may_put : MayPut
   may_put =
-      let d = decides.decides can.first can.left can.was_read in
+      let d = decision.decides can.first can.left can.was_read in
       record {
         within = subst (λ (w : List Waiting). EachOpener (λ n. n < length tree.nodes) w) (sym d.wikilinks_are)
             (each_follows (IsOpener old.text.now tree.nodes) (λ n. n < length tree.nodes) (wikilinks_of d.left_then) (λ n o. o.within)
@@ -312,30 +313,33 @@ module _ {C : Type 0} (step : C → Question → Option Answer → C → Type 0)
     -- what is put in place, whatever was decided
     abbrev pub PutsEach : Option ℕ → Type 0
     PutsEach next = (source : List ℕ) (first : ℕ) (left : List (Entry ℕ)) (w : Around) (c : Closing ℕ) (becomes : Becomes ℕ)
-        → ClosesAt source (tables_of mid.tables) tree.nodes first ix left w c becomes → IsBecome w becomes found
-        → PutsClosed source first ix next left w c becomes tree.nodes tree'.nodes (tables_of mid.tables) (tables_of held)
+        → ClosesAt source (tables_of mid.lookup.tables) tree.nodes first ix left w c becomes → IsBecome w becomes found
+        → PutsClosed source first ix next left w c becomes tree.nodes tree'.nodes (tables_of mid.lookup.tables) (tables_of held)
 
     -- and what the stacks hold then
     abbrev pub FinishesEach : Type 0
     FinishesEach = (w : Around) (c : Closing ℕ) (closer : ℕ) (left : List (Entry ℕ)) (becomes : Becomes ℕ) (p : Progress ℕ)
         → StandsBefore tree.nodes closer left c → LeftRises left → SplitsAs left becomes → IsBecome w becomes found
-        → mid.openers.brackets ≡ brackets_of left → mid.openers.wikilinks ≡ wikilinks_of left → p.left ≡ left
+        → mid.waiting.openers.brackets ≡ brackets_of left → mid.waiting.openers.wikilinks ≡ wikilinks_of left → p.left ≡ left
         → (openers.brackets ≡ brackets_of (put w c becomes p).left) × (openers.wikilinks ≡ wikilinks_of (put w c becomes p).left)
 
     abbrev pub put_then : Resolver C
-    put_then = record mid { tables = held; openers = openers }
+    put_then = record mid {
+      lookup = record mid.lookup { tables = held };
+      waiting = record mid.waiting { openers = openers };
+    }
 
     puts_here : (next : Option ℕ) (first : ℕ) (left : List (Entry ℕ)) (was_read : WasReadTo place tree old first ix left) → PutsEach next
-        → (let d = decides.decides first left was_read in
-        PutsClosed old.text.now first ix next d.left_then around_here closing_here d.becomes tree.nodes tree'.nodes (tables_of old.tables)
+        → (let d = decision.decides first left was_read in
+        PutsClosed old.text.now first ix next d.left_then around_here closing_here d.becomes tree.nodes tree'.nodes (tables_of old.lookup.tables)
         (tables_of held))
     puts_here next first left was_read puts =
-        let d = decides.decides first left was_read in
+        let d = decision.decides first left was_read in
         subst (λ (t : Tables). PutsClosed old.text.now first ix next d.left_then around_here closing_here d.becomes tree.nodes tree'.nodes t
         (tables_of held)) tables
         (puts old.text.now first d.left_then around_here closing_here d.becomes (closes_there first left was_read) d.is)
 
-    pub reads_closed : {E : Type 0} (r : Result (Option ℕ) E) → held.footdefs ≡ mid.tables.footdefs → FinishesEach → IfOk r PutsEach
+    pub reads_closed : {E : Type 0} (r : Result (Option ℕ) E) → held.footdefs ≡ mid.lookup.tables.footdefs → FinishesEach → IfOk r PutsEach
         → IfOk r (λ next. tree' ≡ record tree { nodes = tree'.nodes })
         → IfOk r (λ next. ReadsBracket step place ix next tree tree' old put_then)
     reads_closed (Ok next) footdefs finishes puts place_is =
@@ -343,23 +347,23 @@ module _ {C : Type 0} (step : C → Question → Option Answer → C → Type 0)
         record {
           goes_on = record {
             reads = λ first left was_read.
-                let d = decides.decides first left was_read in
+                let d = decision.decides first left was_read in
                 let m = closes_here first left was_read in
                 subst (λ (f : FootnoteDefs). ReadsOn step (setting_by old) (above_cursor old.text.now tree) first (Some ix) next left
-                (stage_by tree old) (record (stage_by tree' put_then) { uses = uses_of f }) old.spent mid.spent openers.brackets
+                (stage_by tree old) (record (stage_by tree' put_then) { uses = uses_of f }) old.waiting.spent mid.waiting.spent openers.brackets
                 openers.wikilinks) (sym footdefs)
                 (reads_on_closer step (setting_by old) (above_cursor old.text.now tree) first ix left could_be (stage_by tree old)
-                (record (stage_by tree' put_then) { uses = uses_of mid.tables.footdefs }) old.spent mid.spent mid.openers.brackets
-                mid.openers.wikilinks found next openers.brackets openers.wikilinks d (here_stands first left was_read) is
+                (record (stage_by tree' put_then) { uses = uses_of mid.lookup.tables.footdefs }) old.waiting.spent mid.waiting.spent mid.waiting.openers.brackets
+                mid.waiting.openers.wikilinks found next openers.brackets openers.wikilinks d (here_stands first left was_read) is
                 (puts_here next first left was_read puts)
                 (record {
                   holds = λ q e. finishes around_here closing_here ix d.left_then d.becomes q m.before m.rises d.splits d.is d.brackets_are
                       d.wikilinks_are e;
                 }));
             fewer = here.fewer;
-            unread = λ h. unread_closed old.text.now (tables_of old.tables) (tables_of held) tree.nodes tree'.nodes can.first ix next
-                (decides.decides can.first can.left can.was_read).left_then around_here closing_here
-                (decides.decides can.first can.left can.was_read).becomes (stands_rest old.text.now (tables_of old.tables) tree.nodes
+            unread = λ h. unread_closed old.text.now (tables_of old.lookup.tables) (tables_of held) tree.nodes tree'.nodes can.first ix next
+                (decision.decides can.first can.left can.was_read).left_then around_here closing_here
+                (decision.decides can.first can.left can.was_read).becomes (stands_rest old.text.now (tables_of old.lookup.tables) tree.nodes
                 can.first (Some ix) can.left (here_stands can.first can.left can.was_read)) here h;
             place_is = place_is;
           };
@@ -367,9 +371,9 @@ module _ {C : Type 0} (step : C → Question → Option Answer → C → Type 0)
         }
     reads_closed (Err fault) footdefs finishes puts place_is = tt
 
-  pub stops_decided : {E : Type 0} (r : Result (Option ℕ) E) → IfErr r (λ fault. StopsAtNode step place ix tree old mid.callback)
+  pub stops_decided : {E : Type 0} (r : Result (Option ℕ) E) → IfErr r (λ fault. StopsAtNode step place ix tree old mid.lookup.callback)
   stops_decided (Ok next) = tt
   stops_decided (Err fault) = λ first left was_read.
       stops_at_closer step (setting_by old) (above_cursor old.text.now tree) first ix left could_be (stage_by tree old)
-      (stage_by tree mid) old.spent mid.spent mid.openers.brackets mid.openers.wikilinks found (decides.decides first left was_read)
+      (stage_by tree mid) old.waiting.spent mid.waiting.spent mid.waiting.openers.brackets mid.waiting.openers.wikilinks found (decision.decides first left was_read)
       (here_stands first left was_read) is

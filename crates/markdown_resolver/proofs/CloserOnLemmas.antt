@@ -12,7 +12,8 @@ use Rattle.markdown_brackets.specs.BracketDecision.{Around, Becomes, Closing, De
 use Rattle.markdown_brackets.specs.BracketTags.{retag_progress}
 use Rattle.markdown_brackets.specs.ClosingBracket.{closed, put, put_decided}
 use Rattle.markdown_brackets.specs.Decides.{Decides}
-use Rattle.markdown_brackets.specs.LeftList.{Entry, brackets_of, wikilinks_of}
+use Rattle.markdown_brackets.specs.LeftList.{Entry}
+use Rattle.markdown_brackets.specs.HeldOpeners.{brackets_of, wikilinks_of}
 use Rattle.markdown_brackets.specs.Openers.{Waiting}
 use Rattle.markdown_brackets.specs.ReadChain.{closing_of}
 use Rattle.markdown_brackets.specs.declared.closing_bracket.ClosedBracket.{ClosedBracket}

@@ -38,7 +38,7 @@ module _ {C : Type 0} {step : C → Question → Option Answer → C → Type 0}
       → ChangesForBracket old new
       → ReadsBracket step place ix next tree tree' old new → ReadsNode step place ix next tree tree' old new
   bracket_read code math changes r =
-      let leads = chain_leads place.text.now (tables_of old.tables) tree.nodes (Some ix) (ready_here can.was_read) in
+      let leads = chain_leads place.text.now (tables_of old.lookup.tables) tree.nodes (Some ix) (ready_here can.was_read) in
       let holds : (kind : SpanKind) (learned : Learned) → HoldsFrom kind learned tree.nodes (Some ix)
       → HoldsFrom kind learned tree'.nodes next =
       λ kind learned h. r.holds kind learned (holds_next kind learned tree.nodes ix leads h) in
@@ -69,7 +69,9 @@ bracket_stops {C} ix tree old new changes =
 -- an item that is not a bracket changes only the texts and links that were appended, and what searches hold and count
 abbrev pub IsKeptByOther : {C : Type 0} → Resolver C → Resolver C → Type 0
 IsKeptByOther old new = new ≡ record old {
-  tables = record old.tables { cows = new.tables.cows; links = new.tables.links };
+  lookup = record old.lookup {
+    tables = record old.lookup.tables { cows = new.lookup.tables.cows; links = new.lookup.tables.links };
+  };
   work = record old.work { code_visits = new.work.code_visits; math_visits = new.work.math_visits };
   code_closers = new.code_closers;
   math_closers = new.math_closers;
@@ -79,36 +81,41 @@ IsKeptByOther old new = new ≡ record old {
 pub other_on : {C : Type 0} (step : C → Question → Option Answer → C → Type 0) (place : ChainPlace) (ix : ℕ) (next : Option ℕ)
     (tree tree' : Arena Item) (old new : Resolver C) → CanReadNode place tree old ix → kind_of (item_at tree.nodes ix).body ≡ None
     → IsKeptByOther old new
-    → ReadsItem (setting_by old) (above_cursor old.text.now tree) ix next tree.nodes tree'.nodes (tables_of old.tables)
-    (tables_of new.tables)
+    → ReadsItem (setting_by old) (above_cursor old.text.now tree) ix next tree.nodes tree'.nodes (tables_of old.lookup.tables)
+    (tables_of new.lookup.tables)
     → (first : ℕ) (left : List (Entry ℕ)) → WasReadTo place tree old first ix left
     → ReadsOn step (setting_by old) (above_cursor old.text.now tree) first (Some ix) next left (stage_by tree old)
-    (stage_by tree' new) old.spent new.spent new.openers.brackets new.openers.wikilinks
+    (stage_by tree' new) old.waiting.spent new.waiting.spent new.waiting.openers.brackets new.waiting.openers.wikilinks
 other_on {C} step place ix next tree tree' old new can kind kept r first left was_read =
-    let so_far : StandsTo old.text.now (tables_of old.tables) tree.nodes first (Some ix) left = rw (← can.text) was_read.so_far in
-    let same : stage_by tree' new ≡ record (stage_by tree old) { nodes = tree'.nodes; tables = tables_of new.tables } =
+    let so_far : StandsTo old.text.now (tables_of old.lookup.tables) tree.nodes first (Some ix) left = rw (← can.text) was_read.so_far in
+    let same : stage_by tree' new ≡ record (stage_by tree old) { nodes = tree'.nodes; tables = tables_of new.lookup.tables } =
     ap (λ (x : Resolver C). let y : Stage C = record {
       nodes = tree'.nodes;
-      tables = tables_of new.tables;
-      limit = x.limit;
-      uses = uses_of x.tables.footdefs;
-      callback = x.callback;
+      tables = tables_of new.lookup.tables;
+      limit = x.lookup.limit;
+      uses = uses_of x.lookup.tables.footdefs;
+      callback = x.lookup.callback;
     } in y) kept in
     subst (λ (x : Resolver C). ReadsOn step (setting_by old) (above_cursor old.text.now tree) first (Some ix) next left
-    (stage_by tree old) (stage_by tree' new) old.spent x.spent x.openers.brackets x.openers.wikilinks) (sym kept)
+    (stage_by tree old) (stage_by tree' new) old.waiting.spent x.waiting.spent x.waiting.openers.brackets x.waiting.openers.wikilinks) (sym kept)
     (reads_on_item step (setting_by old) (above_cursor old.text.now tree) first ix next left (stage_by tree old) (stage_by tree' new)
-    old.spent old.openers.brackets old.openers.wikilinks same so_far was_read.openers
+    old.waiting.spent old.waiting.openers.brackets old.waiting.openers.wikilinks same so_far was_read.openers
     (other_kind (item_at tree.nodes ix).body kind) r)
 
 -- what a bracket changes, an item may
 pub bracket_changes : {C : Type 0} {old new : Resolver C} → ChangesForBracket old new → ChangesForNode old new
 bracket_changes {C} {old} {new} changes = record {
   kept = changes.kept ∙ ap (λ (r : Resolver C). let x : Resolver C = record old {
-    tables = record old.tables { cows = new.tables.cows; links = new.tables.links; footdefs = new.tables.footdefs };
-    limit = new.limit;
-    callback = new.callback;
-    openers = new.openers;
-    spent = new.spent;
+    lookup = record old.lookup {
+      tables = record old.lookup.tables {
+        cows = new.lookup.tables.cows;
+        links = new.lookup.tables.links;
+        footdefs = new.lookup.tables.footdefs;
+      };
+      limit = new.lookup.limit;
+      callback = new.lookup.callback;
+    };
+    waiting = new.waiting;
     work = record old.work { code_visits = r.work.code_visits; math_visits = r.work.math_visits };
     code_closers = r.code_closers;
     math_closers = r.math_closers;
@@ -120,16 +127,21 @@ bracket_changes {C} {old} {new} changes = record {
 pub other_changes : {C : Type 0} {old new : Resolver C} → IsKeptByOther old new → ChangesForNode old new
 other_changes {C} {old} {new} kept = record {
   kept = kept ∙ ap (λ (r : Resolver C). let x : Resolver C = record old {
-    tables = record old.tables { cows = new.tables.cows; links = new.tables.links; footdefs = r.tables.footdefs };
-    limit = r.limit;
-    callback = r.callback;
-    openers = r.openers;
-    spent = r.spent;
+    lookup = record old.lookup {
+      tables = record old.lookup.tables {
+        cows = new.lookup.tables.cows;
+        links = new.lookup.tables.links;
+        footdefs = r.lookup.tables.footdefs;
+      };
+      limit = r.lookup.limit;
+      callback = r.lookup.callback;
+    };
+    waiting = r.waiting;
     work = record old.work { code_visits = new.work.code_visits; math_visits = new.work.math_visits };
     code_closers = new.code_closers;
     math_closers = new.math_closers;
   } in x) (sym kept);
-  footnotes = λ name. ap (λ (r : Resolver C). is_some (footnote_at r.tables.footdefs name)) kept;
+  footnotes = λ name. ap (λ (r : Resolver C). is_some (footnote_at r.lookup.tables.footdefs name)) kept;
 }
 
 -- what is left after it was not read
@@ -141,8 +153,8 @@ unread_read s above ix next old new tables tables' ready reads h =
     (unread_after s.text tables old ix ready h))
 
 ready_before : {C : Type 0} {place : ChainPlace} {tree : Arena Item} {old : Resolver C} {ix : ℕ} (can : CanReadNode place tree old ix)
-    → CanResolve old.text.now (tables_of old.tables) tree.nodes (Some ix)
-ready_before {C} {place} {tree} {old} {ix} can = subst (λ (text : List ℕ). CanResolve text (tables_of old.tables) tree.nodes (Some ix)) can.text
+    → CanResolve old.text.now (tables_of old.lookup.tables) tree.nodes (Some ix)
+ready_before {C} {place} {tree} {old} {ix} can = subst (λ (text : List ℕ). CanResolve text (tables_of old.lookup.tables) tree.nodes (Some ix)) can.text
     (ready_here can.was_read)
 
 -- an item that is not a bracket was read, unless memory was refused
@@ -150,8 +162,8 @@ pub other_read : {C E : Type 0} (r : Result (Option ℕ) E) (step : C → Questi
     (ix : ℕ) (tree tree' : Arena Item) (old new : Resolver C) → CanReadNode place tree old ix
     → kind_of (item_at tree.nodes ix).body ≡ None
     → IsKeptByOther old new
-    → IfOk r (λ next. ReadsItem (setting_by old) (above_cursor old.text.now tree) ix next tree.nodes tree'.nodes (tables_of old.tables)
-    (tables_of new.tables))
+    → IfOk r (λ next. ReadsItem (setting_by old) (above_cursor old.text.now tree) ix next tree.nodes tree'.nodes (tables_of old.lookup.tables)
+    (tables_of new.lookup.tables))
     → IfOk r (λ next. HoldsFrom SpanKind.Code new.code_closers tree'.nodes next)
     → IfOk r (λ next. HoldsFrom SpanKind.Math new.math_closers tree'.nodes next)
     → IfOk r (λ next. LooksAt (has_failed old.code_closers) (has_failed new.code_closers) old.work.code_visits new.work.code_visits
@@ -165,8 +177,8 @@ other_read (Ok next) step place ix tree tree' old new can kind kept reads code_l
       goes_on = record {
         reads = other_on step place ix next tree tree' old new can kind kept reads;
         fewer = reads.leaves.fewer;
-        unread = λ h. unread_read (setting_by old) (above_cursor old.text.now tree) ix next tree.nodes tree'.nodes (tables_of old.tables)
-            (tables_of new.tables) (ready_before can) reads h;
+        unread = λ h. unread_read (setting_by old) (above_cursor old.text.now tree) ix next tree.nodes tree'.nodes (tables_of old.lookup.tables)
+            (tables_of new.lookup.tables) (ready_before can) reads h;
         place_is = place_is;
       };
       code_learned = code_learned;

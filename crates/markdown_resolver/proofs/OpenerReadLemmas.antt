@@ -12,7 +12,7 @@ use Rattle.markdown_base.specs.EnabledOptions.{wikilinks_on}
 use Rattle.markdown_brackets.specs.LeftList.{Entry}
 use Rattle.markdown_brackets.specs.Openers as waiting
 use Rattle.markdown_brackets.specs.Openers.{Waiting}
-use Rattle.markdown_brackets.specs.Reference.{is_opener}
+use Rattle.markdown_brackets.specs.Reference.{is_opener, could_be_reference, is_closer}
 use Rattle.markdown_brackets.specs.declared.chain_openers.ChainOpeners.{ChainOpeners}
 use Rattle.markdown_document.specs.Above.{above_cursor}
 use Rattle.markdown_document.specs.Tables.{Tables, tables_of}
@@ -40,24 +40,24 @@ opener_same a b e = cc e
 pub opener_kind : (is_image : Bool) (b : ItemBody) → kind_of b ≡ Some (Opener is_image) → b ≡ opener_body is_image
 opener_kind is_image body.MaybeLinkOpen e = let same : false ≡ is_image = opener_same false is_image e in rw (← same) refl
 opener_kind is_image body.MaybeImage e = let same : true ≡ is_image = opener_same true is_image e in rw (← same) refl
-opener_kind is_image (body.MaybeLinkClose could_be) e = let no : ◌≡◌ {A = Option BracketKind} (Some (Closer could_be))
-    (Some (Opener is_image)) = e in cc no
+opener_kind is_image (body.MaybeLinkClose could_be) e = let no : ◌≡◌ {A = Option BracketKind} (Some Closer) (Some (Opener is_image)) = e
+    in cc no
 opener_kind is_image other e = let no : ◌≡◌ {A = Option BracketKind} None (Some (Opener is_image)) = e in cc no
 
-closer_same : (a b : Bool) → ◌≡◌ {A = Option BracketKind} (Some (Closer a)) (Some (Closer b)) → a ≡ b
-closer_same a b e = cc e
+pub closer_kind : (b : ItemBody) → kind_of b ≡ Some Closer → is_closer b ≡ true
+closer_kind body.MaybeLinkOpen e = let no : ◌≡◌ {A = Option BracketKind} (Some (Opener false)) (Some Closer) = e in cc no
+closer_kind body.MaybeImage e = let no : ◌≡◌ {A = Option BracketKind} (Some (Opener true)) (Some Closer) = e in cc no
+closer_kind (body.MaybeLinkClose could_be) e = refl
+closer_kind other e = let no : ◌≡◌ {A = Option BracketKind} None (Some Closer) = e in cc no
 
-pub closer_kind : (could_be : Bool) (b : ItemBody) → kind_of b ≡ Some (Closer could_be) → b ≡ body.MaybeLinkClose could_be
-closer_kind could_be body.MaybeLinkOpen e = let no : ◌≡◌ {A = Option BracketKind} (Some (Opener false)) (Some (Closer could_be)) = e
-    in cc no
-closer_kind could_be body.MaybeImage e = let no : ◌≡◌ {A = Option BracketKind} (Some (Opener true)) (Some (Closer could_be)) = e in cc no
-closer_kind could_be (body.MaybeLinkClose x) e = let same : x ≡ could_be = closer_same x could_be e in rw same refl
-closer_kind could_be other e = let no : ◌≡◌ {A = Option BracketKind} None (Some (Closer could_be)) = e in cc no
+pub closer_body : (b : ItemBody) → is_closer b ≡ true → b ≡ body.MaybeLinkClose (could_be_reference b)
+closer_body (body.MaybeLinkClose could_be) e = refl
+closer_body other e = cc e
 
 pub other_kind : (b : ItemBody) → kind_of b ≡ None → NoBracket b
 other_kind body.MaybeLinkOpen e = let no : ◌≡◌ {A = Option BracketKind} (Some (Opener false)) None = e in cc no
 other_kind body.MaybeImage e = let no : ◌≡◌ {A = Option BracketKind} (Some (Opener true)) None = e in cc no
-other_kind (body.MaybeLinkClose could_be) e = let no : ◌≡◌ {A = Option BracketKind} (Some (Closer could_be)) None = e in cc no
+other_kind (body.MaybeLinkClose could_be) e = let no : ◌≡◌ {A = Option BracketKind} (Some Closer) None = e in cc no
 other_kind other e = refl
 
 -- what is true of an error where memory was refused
@@ -85,27 +85,27 @@ pub reads_opener : {C E : Type 0} (step : C → Question → Option Answer → C
     (tree tree' : Arena Item) (old : Resolver C) (openers : ChainOpeners) (r : Result (Option ℕ) E)
     → CanReadNode place tree old ix → kind_of (item_at tree.nodes ix).body ≡ Some (Opener is_image)
     → IfOk r (λ next. IsOpened tree tree' ix next) → IfOk r (λ next. tree' ≡ record tree { nodes = tree'.nodes })
-    → OnOk r (openers.brackets ≡ waiting.live_opener (record { node = ix; is_image = is_image }) ∷ old.openers.brackets)
+    → OnOk r (openers.brackets ≡ waiting.live_opener (record { node = ix; is_image = is_image }) ∷ old.waiting.openers.brackets)
     → OnOk r (openers.wikilinks
     ≡ (if wikilinks_on old.options && option_map_or (λ n. is_opener (item_at tree.nodes n).body) (sibling_of tree.nodes ix) false
-    then waiting.live_opener (record { node = ix; is_image = is_image }) ∷ old.openers.wikilinks else old.openers.wikilinks))
-    → IfOk r (λ next. ReadsBracket step place ix next tree tree' old (record old { openers = openers }))
+    then waiting.live_opener (record { node = ix; is_image = is_image }) ∷ old.waiting.openers.wikilinks else old.waiting.openers.wikilinks))
+    → IfOk r (λ next. ReadsBracket step place ix next tree tree' old (record old { waiting = record old.waiting { openers = openers } }))
 reads_opener step place ix is_image tree tree' old openers (Ok next) can kind puts place_is brackets_are wikilinks_are =
     let ready = ready_here can.was_read in
-    let put = puts place.text.now (tables_of old.tables) ready in
+    let put = puts place.text.now (tables_of old.lookup.tables) ready in
     record {
       goes_on = record {
         reads = λ first left was_read.
-            let so_far : StandsTo old.text.now (tables_of old.tables) tree.nodes first (Some ix) left = rw (← can.text) was_read.so_far in
-            let here = stands_rest old.text.now (tables_of old.tables) tree.nodes first (Some ix) left so_far in
+            let so_far : StandsTo old.text.now (tables_of old.lookup.tables) tree.nodes first (Some ix) left = rw (← can.text) was_read.so_far in
+            let here = stands_rest old.text.now (tables_of old.lookup.tables) tree.nodes first (Some ix) left so_far in
             reads_on_opener step (setting_by old) (above_cursor old.text.now tree) first ix next left is_image (stage_by tree old)
-            (stage_by tree' old) old.spent old.openers.brackets old.openers.wikilinks openers.brackets openers.wikilinks refl so_far
-            was_read.openers (opener_kind is_image (item_at tree.nodes ix).body kind) (puts old.text.now (tables_of old.tables) here)
+            (stage_by tree' old) old.waiting.spent old.waiting.openers.brackets old.waiting.openers.wikilinks openers.brackets openers.wikilinks refl so_far
+            was_read.openers (opener_kind is_image (item_at tree.nodes ix).body kind) (puts old.text.now (tables_of old.lookup.tables) here)
             brackets_are wikilinks_are;
         fewer = put.leaves.fewer;
         unread = λ h.
             let source = old.text.now in
-            let tables = tables_of old.tables in
+            let tables = tables_of old.lookup.tables in
             let so_far : StandsTo source tables tree.nodes can.first (Some ix) can.left = rw (← can.text) can.was_read.so_far in
             let here = stands_rest source tables tree.nodes can.first (Some ix) can.left so_far in
             let settled_there = settled_at source tables tree.nodes tree'.nodes can.first ix next can.left is_image so_far

@@ -16,7 +16,7 @@ use Rattle.markdown_brackets.specs.ChainHeld.{numbers_of}
 use Rattle.markdown_brackets.specs.Decides.{EachOpener}
 use Rattle.markdown_brackets.specs.LeftList.{Entry, Split, done, trees_onto, waits}
 use Rattle.markdown_brackets.specs.Openers.{Waiting}
-use Rattle.markdown_brackets.specs.StandsAt.{CanTry}
+use Rattle.markdown_brackets.specs.Decides.{CanTry}
 use Rattle.markdown_brackets.specs.WikilinkNodes.{CanFindWikilink, unless_is}
 use Rattle.markdown_document.specs.declared.chain_place.ChainPlace.{ChainPlace}
 use Rattle.markdown_document.specs.ChainRest.{joined_chains}

@@ -9,5 +9,5 @@ use Rattle.markdown_resolver.specs.declared.bracket_kind.BracketKind.TheVariants
 abbrev pub kind_of : ItemBody → Option BracketKind
 kind_of body.MaybeLinkOpen = Some (Opener false)
 kind_of body.MaybeImage = Some (Opener true)
-kind_of (body.MaybeLinkClose could_be) = Some (Closer could_be)
+kind_of (body.MaybeLinkClose could_be) = Some Closer
 kind_of other = None

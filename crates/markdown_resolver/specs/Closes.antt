@@ -11,7 +11,8 @@ use Rattle.markdown_brackets.specs.BracketDecision.{Around, Becomes, a_text, a_l
 use Rattle.markdown_brackets.specs.BracketDecision.{Progress, past_second}
 use Rattle.markdown_brackets.specs.ClosingBracket.{put}
 use Rattle.markdown_brackets.specs.Finish.{SplitsAs}
-use Rattle.markdown_brackets.specs.LeftList.{Entry, brackets_of, inside, wikilinks_of}
+use Rattle.markdown_brackets.specs.LeftList.{Entry, inside}
+use Rattle.markdown_brackets.specs.HeldOpeners.{brackets_of, wikilinks_of}
 use Rattle.markdown_brackets.specs.SpentEnds.{is_spent}
 use Rattle.markdown_brackets.specs.declared.spent_ends.SpentEnds.{SpentEnds}
 use Rattle.markdown_document.specs.ChainRest.{end_of, past, past_byte, start_of}

@@ -1,14 +1,13 @@
 -- How a resolver reads an item of a chain in place, a bracket or another: the terms of private contracts.
-use Rattle.std.specs.Prelude.{◌≡◌, ℕ, ◌<◌, Bool, List, Option, Some, is_some}
+use Rattle.std.specs.Prelude.{◌≡◌, ℕ, ◌<◌, List, Option, Some, is_some}
 use Rattle.markdown_base.specs.Arena.{Arena, sibling_of}
+use Rattle.markdown_base.specs.BlockTree.{item_at}
 use Rattle.markdown_base.specs.Questions.{Question, Answer}
 use Rattle.markdown_base.specs.declared.item.Item.{Item}
-use Rattle.markdown_base.specs.declared.options.Options.{Options}
 use Rattle.markdown_brackets.specs.Decides.{Decides}
 use Rattle.markdown_brackets.specs.LeftList.{Entry}
-use Rattle.markdown_brackets.specs.declared.chain_openers.ChainOpeners.{ChainOpeners}
+use Rattle.markdown_brackets.specs.Reference.{could_be_reference}
 use Rattle.markdown_brackets.specs.declared.closing_bracket.ClosedBracket.{ClosedBracket}
-use Rattle.markdown_brackets.specs.declared.spent_ends.SpentEnds.{SpentEnds}
 use Rattle.markdown_document.specs.Above.{above_cursor}
 use Rattle.markdown_document.specs.Setting.{Setting, rules_from, setting_of, uses_of}
 use Rattle.markdown_document.specs.Stages.{Stage, chain_at, items_from, stage}
@@ -23,21 +22,20 @@ use Rattle.markdown_resolver.specs.ReadOn.{ReadsOn, StopsOn}
 use Rattle.markdown_resolver.specs.ReadsItem.{LooksAt, LooksAtMost}
 use Rattle.markdown_document.specs.declared.chain_place.ChainPlace.{ChainPlace}
 use Rattle.markdown_resolver.specs.declared.resolver.Resolver.{Resolver}
-use Rattle.markdown_defs.specs.Allocations.{Allocated}
 use Rattle.markdown_defs.specs.Footnotes.{footnote_at}
 
 -- the setting of a resolver
 abbrev pub setting_by : {C : Type 0} → Resolver C → Setting
-setting_by r = setting_of r.text.now (rules_from r.options r.tables (is_some r.callback))
+setting_by r = setting_of r.text.now (rules_from r.options r.lookup.tables (is_some r.lookup.callback))
 
 -- the stage of a resolver, with the chain in a tree
 abbrev pub stage_by : {C : Type 0} → Arena Item → Resolver C → Stage C
-stage_by tree r = stage tree r.tables r.limit r.callback
+stage_by tree r = stage tree r.lookup.tables r.lookup.limit r.lookup.callback
 
 -- a resolver has read a chain up to the item of a node: from the node `first` on is a left list, whose openers it holds
 abbrev pub WasReadTo : {C : Type 0} → ChainPlace → Arena Item → Resolver C → (first ix : ℕ) → List (Entry ℕ) → Type 0
 WasReadTo place tree r first ix left =
-    CanReadOn place tree r.tables r.openers.brackets r.openers.wikilinks first ix left
+    CanReadOn place tree r.lookup.tables r.waiting.openers.brackets r.waiting.openers.wikilinks first ix left
 
 -- a resolver can read the item of a node
 pub record CanReadNode {C : Type 0} (place : ChainPlace) (tree : Arena Item) (r : Resolver C) (ix : ℕ) : Type 0 where
@@ -49,22 +47,21 @@ pub record CanReadNode {C : Type 0} (place : ChainPlace) (tree : Arena Item) (r 
 
 -- it was decided what the `]` of a node becomes: after any left list there, it is what pass one decides
 pub record DecidesClosing {C : Type 0} (step : C → Question → Option Answer → C → Type 0) (place : ChainPlace)
-    (source : List ℕ) (options : Options) (tree : Arena Item) (ix : ℕ) (could_be : Bool) (held held' : Allocated)
-    (limit limit' : ℕ) (spent spent' : SpentEnds) (callback callback' : Option C) (openers openers' : ChainOpeners)
-    (found : ClosedBracket) : Type 0 where
-  pub decides : (first : ℕ) (left : List (Entry ℕ))
-      → CanReadOn place tree held openers.brackets openers.wikilinks first ix left
-      → Decides step
-      (around (setting_of source (rules_from options held (is_some callback))) (above_cursor source tree))
-      (closing_at source (tables_of held) tree.nodes spent could_be ix) left limit limit' (uses_of held.footdefs)
-      (uses_of held'.footdefs) spent spent' callback callback' openers'.brackets openers'.wikilinks found
+    (tree : Arena Item) (ix : ℕ) (old new : Resolver C) (found : ClosedBracket) : Type 0 where
+  pub decides : (first : ℕ) (left : List (Entry ℕ)) → WasReadTo place tree old first ix left
+      → Decides step (around (setting_by old) (above_cursor old.text.now tree))
+      (closing_at old.text.now (tables_of old.lookup.tables) tree.nodes old.waiting.spent
+      (could_be_reference (item_at tree.nodes ix).body) ix)
+      left old.lookup.limit new.lookup.limit (uses_of old.lookup.tables.footdefs) (uses_of new.lookup.tables.footdefs)
+      old.waiting.spent new.waiting.spent old.lookup.callback new.lookup.callback new.waiting.openers.brackets
+      new.waiting.openers.wikilinks found
 
 -- after any left list there, the chain was read on from the item of a node to a link, from which fewer items are left
 pub record GoesOnTo {C : Type 0} (step : C → Question → Option Answer → C → Type 0) (place : ChainPlace) (ix : ℕ)
     (next : Option ℕ) (tree tree' : Arena Item) (old new : Resolver C) : Type 0 where
   pub reads : (first : ℕ) (left : List (Entry ℕ)) → WasReadTo place tree old first ix left
       → ReadsOn step (setting_by old) (above_cursor old.text.now tree) first (Some ix) next left (stage_by tree old)
-      (stage_by tree' new) old.spent new.spent new.openers.brackets new.openers.wikilinks
+      (stage_by tree' new) old.waiting.spent new.waiting.spent new.waiting.openers.brackets new.waiting.openers.wikilinks
   pub fewer : items_from tree'.nodes next < items_from tree.nodes (Some ix)
   pub unread : IsUnread (chain_at old.text.now (stage_by tree old) (Some ix))
       → IsUnread (chain_at old.text.now (stage_by tree' new) next)
@@ -95,7 +92,7 @@ abbrev pub StopsAtNode : {C : Type 0} → (C → Question → Option Answer → 
     → Arena Item → (old : Resolver C) → (callback' : Option C) → Type 0
 StopsAtNode step place ix tree old callback' = (first : ℕ) (left : List (Entry ℕ))
     → WasReadTo place tree old first ix left
-    → StopsOn step (setting_by old) (above_cursor old.text.now tree) (Some ix) left (stage_by tree old) old.spent
+    → StopsOn step (setting_by old) (above_cursor old.text.now tree) (Some ix) left (stage_by tree old) old.waiting.spent
     callback'
 
 -- and searches have looked at no more items than there are from that node on
@@ -105,35 +102,51 @@ pub record StopsLooking {C : Type 0} (ix : ℕ) (tree : Arena Item) (old new : R
   pub math_looks : LooksAtMost (has_failed old.math_closers) (has_failed new.math_closers) old.work.math_visits
       new.work.math_visits (items_from tree.nodes (Some ix))
 
+-- on success and on error, a decision has changed only the uses of footnotes, what asking changes, and what is held of
+-- brackets; the names of footnotes are the same
+pub record ChangesForDecision {C : Type 0} (old new : Resolver C) : Type 0 where
+  pub kept : new ≡ record old {
+    lookup = record old.lookup {
+      tables = record old.lookup.tables { footdefs = new.lookup.tables.footdefs };
+      limit = new.lookup.limit;
+      callback = new.lookup.callback;
+    };
+    waiting = new.waiting;
+  }
+  pub footnotes : (name : List ℕ)
+      → is_some (footnote_at new.lookup.tables.footdefs name) ≡ is_some (footnote_at old.lookup.tables.footdefs name)
+
 -- on success and on error, reading a bracket has changed only the texts and links that were appended, the uses of
 -- footnotes, what asking changes, and what is held of brackets; the names of footnotes are the same
 pub record ChangesForBracket {C : Type 0} (old new : Resolver C) : Type 0 where
   pub kept : new ≡ record old {
-    tables = record old.tables {
-      cows = new.tables.cows;
-      links = new.tables.links;
-      footdefs = new.tables.footdefs;
+    lookup = record old.lookup {
+      tables = record old.lookup.tables {
+        cows = new.lookup.tables.cows;
+        links = new.lookup.tables.links;
+        footdefs = new.lookup.tables.footdefs;
+      };
+      limit = new.lookup.limit;
+      callback = new.lookup.callback;
     };
-    limit = new.limit;
-    callback = new.callback;
-    openers = new.openers;
-    spent = new.spent;
+    waiting = new.waiting;
   }
   pub footnotes : (name : List ℕ)
-      → is_some (footnote_at new.tables.footdefs name) ≡ is_some (footnote_at old.tables.footdefs name)
+      → is_some (footnote_at new.lookup.tables.footdefs name) ≡ is_some (footnote_at old.lookup.tables.footdefs name)
 
 -- reading an item has changed only these, and what searches hold and count
 pub record ChangesForNode {C : Type 0} (old new : Resolver C) : Type 0 where
   pub kept : new ≡ record old {
-    tables = record old.tables {
-      cows = new.tables.cows;
-      links = new.tables.links;
-      footdefs = new.tables.footdefs;
+    lookup = record old.lookup {
+      tables = record old.lookup.tables {
+        cows = new.lookup.tables.cows;
+        links = new.lookup.tables.links;
+        footdefs = new.lookup.tables.footdefs;
+      };
+      limit = new.lookup.limit;
+      callback = new.lookup.callback;
     };
-    limit = new.limit;
-    callback = new.callback;
-    openers = new.openers;
-    spent = new.spent;
+    waiting = new.waiting;
     work = record old.work {
       code_visits = new.work.code_visits;
       math_visits = new.work.math_visits;
@@ -142,4 +155,4 @@ pub record ChangesForNode {C : Type 0} (old new : Resolver C) : Type 0 where
     math_closers = new.math_closers;
   }
   pub footnotes : (name : List ℕ)
-      → is_some (footnote_at new.tables.footdefs name) ≡ is_some (footnote_at old.tables.footdefs name)
+      → is_some (footnote_at new.lookup.tables.footdefs name) ≡ is_some (footnote_at old.lookup.tables.footdefs name)

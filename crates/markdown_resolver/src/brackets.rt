@@ -19,12 +19,9 @@ ghost use Rattle.markdown_brackets.specs.Reference.{is_opener};
 ghost use Rattle.markdown_brackets.specs.TargetOrigins.{IsTargetFrom};
 ghost use Rattle.markdown_document.specs.ChainRest.{start_of};
 ghost use Rattle.markdown_document.specs.Tables.{Tables, tables_of};
-ghost use Rattle.markdown_resolver.specs.ChainPlace.{CanReadOn};
 ghost use Rattle.markdown_resolver.specs.Chains.{CanResolve};
 ghost use Rattle.markdown_resolver.specs.Closes.{ClosesAt, PutsClosed};
-ghost use Rattle.markdown_resolver.specs.ReadsBracket.{DecidesClosing};
 ghost use Rattle.markdown_resolver.specs.Rewritten.{Puts, settled};
-ghost use Rattle.markdown_defs.specs.Footnotes.{footnote_at};
 
 use crate::found::settle;
 use crate::links::{
@@ -39,16 +36,11 @@ use markdown_base::tag::LinkType;
 use markdown_base::tree::Tree;
 use markdown_brackets::chain_openers::ChainOpeners;
 use markdown_brackets::closing_bracket::ClosedBracket;
-use markdown_brackets::decision::decide_bracket;
 use markdown_brackets::look_up::Target;
 use markdown_brackets::openers::Opener;
-use markdown_brackets::spent_ends::SpentEnds;
+use markdown_brackets::options::wikilinks_on;
 use markdown_brackets::wikilink_nodes::ShownNodes;
-use markdown_brackets::written::wikilinks_on;
-use markdown_defs::{Allocations, BrokenLinkCallback};
-use markdown_document::chain_place::ChainPlace;
-use markdown_spans::prefixes::ContainerPrefix;
-use std::alloc::Global;
+use markdown_defs::Allocations;
 
 /// Returns whether a link leads to a `[`.
 fn leads_to_opener(tree: &Tree<Item>, link: Option<usize>) -> bool
@@ -318,56 +310,4 @@ pub(crate) fn put_closed<'a>(
             end,
         } => put_wikilink(tree, tables, closer, opener, name, has_pothole, shown, end),
     }
-}
-
-/// Returns what a `]` of a chain becomes, by the openers that wait, the reference and footnote definitions, and the
-/// answer of the callback. The only error is `Fault::Memory`; the callback was then not asked.
-pub(crate) fn decide_closing<'a, F: BrokenLinkCallback<'a>>(
-    alloc: Global,
-    tree: &Tree<Item>,
-    place: &ChainPlace<'a>,
-    options: Options,
-    ix: usize,
-    could_be: bool,
-    openers: &mut ChainOpeners,
-    spent: &mut SpentEnds,
-    tables: &mut Allocations<'a>,
-    callback: &mut Option<F>,
-    limit: &mut usize,
-) -> Result<ClosedBracket<'a>, Fault>
-    requires can_ask { IfSome callback.old F.can_ask }
-    requires ready { (first : ℕ) × (left : List (Entry ℕ))
-        × CanReadOn place.now tree.now tables.old openers.old.brackets openers.old.wikilinks first
-        ix left }
-    requires options { place.now.options ≡ options }
-    requires closes { (item_at tree.now.nodes ix).body ≡ body.MaybeLinkClose could_be }
-    ensures decides { IfOk result (λ found.
-        DecidesClosing F.answers place.now place.now.text.now options tree.now ix
-        could_be tables.old tables.new limit.old limit.new spent.old spent.new callback.old
-        callback.new
-        openers.old openers.new found) }
-
-    // on an error, and in any case
-    ensures nothing_asked { OnErr result (callback.new ≡ callback.old) }
-    ensures again { IfSome callback.new F.can_ask }
-    ensures refused { IfErr result (λ fault. fault ≡ Fault.Memory) }
-    ensures tables { tables.new ≡ record tables.old { footdefs = tables.new.footdefs } }
-    ensures names { (name : List ℕ)
-        → is_some (footnote_at tables.new.footdefs name)
-        ≡ is_some (footnote_at tables.old.footdefs name) }
-{
-    decide_bracket(
-        alloc,
-        tree,
-        ix,
-        could_be,
-        place,
-        &ContainerPrefix::new(tree, place.gfm_footnotes()),
-        openers,
-        spent,
-        &tables.refdefs,
-        &mut tables.footdefs,
-        callback,
-        limit,
-    )
 }

@@ -1,7 +1,7 @@
 //! Resolving chains: a chain of inline items is resolved in place, in the arena, from its first open item on. Pass one
 //! reads it, and then its delimiters are paired.
 use crate::bracket_kind::{BracketKind, kind_of};
-use crate::brackets::{decide_closing, open_bracket, put_closed};
+use crate::brackets::{open_bracket, put_closed};
 use crate::chain_place::place_of_chain;
 use crate::found::settle;
 use crate::markup::read_markup;
@@ -10,15 +10,19 @@ use markdown_base::fault::Fault;
 use markdown_base::item::{Item, ItemBody};
 use markdown_base::options::Options;
 use markdown_base::tree::Tree;
-use markdown_brackets::chain_openers::ChainOpeners;
+use markdown_brackets::closer::Closer;
+use markdown_brackets::closing_bracket::ClosedBracket;
+use markdown_brackets::decision::decide_bracket;
 use markdown_brackets::finish::finish_bracket;
-use markdown_brackets::spent_ends::SpentEnds;
-use markdown_defs::{Allocations, BrokenLinkCallback};
+use markdown_brackets::look_up::LabelLookup;
+use markdown_brackets::waiting::WaitingBrackets;
+use markdown_defs::BrokenLinkCallback;
 use markdown_delims::chain::pair_chain;
 use markdown_delims::open_runs::OpenRuns;
 use markdown_document::chain_place::ChainPlace;
 use markdown_document::work::Work;
 use markdown_raw_html::raw_html::RawHtmlScanner;
+use markdown_spans::prefixes::ContainerPrefix;
 use markdown_spans::span_closers::SpanClosers;
 use std::alloc::Global;
 
@@ -28,17 +32,11 @@ pub struct Resolver<'a, F> {
     pub alloc: Global,
     pub text: &'a str,
     pub options: Options,
-    /// The entries that items refer to by number, and the definitions that are found by name.
-    pub tables: Allocations<'a>,
-    /// The number of bytes that references may still expand to.
-    pub limit: usize,
-    /// The callback to ask about references without a definition, if any.
-    pub callback: Option<F>,
+    /// What labels are looked up in, and the other entries that items refer to by number.
+    pub lookup: LabelLookup<'a, F>,
     pub work: Work,
-    /// The openers of a chain that wait for their `]`, and the ends of the `]` that cannot end a reference any more.
-    /// Both are emptied for each chain, and keep their memory.
-    pub openers: ChainOpeners,
-    pub spent: SpentEnds,
+    /// What waits for the `]` of a chain. It is emptied for each chain, and keeps its memory.
+    pub waiting: WaitingBrackets,
     /// What the searches for the closers of code spans, and of math spans, have learned in a chain. Both are emptied
     /// for each chain, and keep their memory.
     pub code_closers: SpanClosers,
@@ -49,9 +47,9 @@ pub struct Resolver<'a, F> {
 
 impl<'a, F: BrokenLinkCallback<'a>> Resolver<'a, F> {
     ghost use Rattle.std.specs.Prelude.{◌≡◌, ℕ, List, true, Some, IfOk, IfErr, IfSome};
-    ghost use Rattle.std.specs.Prelude.{is_some, take, false, None, []};
+    ghost use Rattle.std.specs.Prelude.{OnErr, is_some, take, false, None, []};
     ghost use Rattle.markdown_base.specs.BlockTree.{item_at};
-    ghost use Rattle.markdown_base.specs.declared.item.ItemBody.TheVariants as body;
+    ghost use Rattle.markdown_brackets.specs.Reference.{is_closer};
     ghost use Rattle.markdown_brackets.specs.SpentEnds.{is_spent};
     ghost use Rattle.markdown_base.specs.Item.{is_open};
     ghost use Rattle.markdown_document.specs.Above.{above_cursor};
@@ -69,7 +67,8 @@ impl<'a, F: BrokenLinkCallback<'a>> Resolver<'a, F> {
     ghost use Rattle.markdown_resolver.specs.Kept.{IsUnread};
     ghost use Rattle.markdown_resolver.specs.PassOne.{pass_one};
     ghost use Rattle.markdown_resolver.specs.ReadOn.{StopsInPassOne};
-    ghost use Rattle.markdown_resolver.specs.ReadsBracket.{CanReadNode, ChangesForBracket, ChangesForNode};
+    ghost use Rattle.markdown_resolver.specs.ReadsBracket.{CanReadNode, ChangesForBracket, ChangesForDecision};
+    ghost use Rattle.markdown_resolver.specs.ReadsBracket.{ChangesForNode, DecidesClosing};
     ghost use Rattle.markdown_resolver.specs.ReadsBracket.{ReadsBracket, ReadsNode, StopsAtNode, StopsLooking};
     ghost use Rattle.markdown_resolver.specs.ReadsBracket.{setting_by, stage_by};
     ghost use Rattle.markdown_resolver.specs.ReadsItem.{LooksAt, ReadsItem};
@@ -84,7 +83,7 @@ impl<'a, F: BrokenLinkCallback<'a>> Resolver<'a, F> {
         scanner: &mut RawHtmlScanner<'a>,
         ix: usize,
     ) -> Result<Option<usize>, Fault>
-        requires chain { CanReadItem place.now tree.old self.old.tables ix }
+        requires chain { CanReadItem place.now tree.old self.old.lookup.tables ix }
         requires text { place.now.text.now ≡ self.old.text.now }
         requires options { place.now.options ≡ self.old.options }
         requires scanner { scanner.old.text.now ≡ take place.now.block_end place.now.text.now }
@@ -94,8 +93,8 @@ impl<'a, F: BrokenLinkCallback<'a>> Resolver<'a, F> {
             (Some ix) }
         ensures reads { IfOk result (λ next.
             ReadsItem (setting_by self.old) (above_cursor self.old.text.now tree.old)
-            ix next tree.old.nodes tree.new.nodes (tables_of self.old.tables)
-            (tables_of self.new.tables)) }
+            ix next tree.old.nodes tree.new.nodes (tables_of self.old.lookup.tables)
+            (tables_of self.new.lookup.tables)) }
         ensures code_learned { IfOk result (λ next.
             HoldsFrom SpanKind.Code self.new.code_closers tree.new.nodes next) }
         ensures math_learned { IfOk result (λ next.
@@ -113,9 +112,11 @@ impl<'a, F: BrokenLinkCallback<'a>> Resolver<'a, F> {
         // on error, and then on success and on error
         ensures stops_looking { IfErr result (λ _. StopsLooking ix tree.old self.old self.new) }
         ensures kept { self.new ≡ record self.old {
-          tables = record self.old.tables {
-            cows = self.new.tables.cows;
-            links = self.new.tables.links;
+          lookup = record self.old.lookup {
+            tables = record self.old.lookup.tables {
+              cows = self.new.lookup.tables.cows;
+              links = self.new.lookup.tables.links;
+            };
           };
           work = record self.old.work {
             code_visits = self.new.work.code_visits;
@@ -132,7 +133,7 @@ impl<'a, F: BrokenLinkCallback<'a>> Resolver<'a, F> {
                 self.alloc,
                 tree,
                 place,
-                &mut self.tables,
+                &mut self.lookup.tables,
                 &mut self.code_closers,
                 &mut self.work.code_visits,
                 ix,
@@ -141,16 +142,54 @@ impl<'a, F: BrokenLinkCallback<'a>> Resolver<'a, F> {
                 self.alloc,
                 tree,
                 place,
-                &mut self.tables,
+                &mut self.lookup.tables,
                 &mut self.math_closers,
                 &mut self.work.math_visits,
                 ix,
             ),
             ItemBody::MaybeHtml => {
-                read_markup(self.alloc, tree, place, &mut self.tables, scanner, ix)
+                read_markup(
+                    self.alloc,
+                    tree,
+                    place,
+                    &mut self.lookup.tables,
+                    scanner,
+                    ix,
+                )
             }
             _ => Ok(settle(tree, ix)),
         }
+    }
+
+    /// Returns what a `]` of a chain becomes, by the openers that wait, the reference and footnote definitions, and the
+    /// answer of the callback. The only error is `Fault::Memory`; the callback was then not asked.
+    fn decide_closing(
+        &mut self,
+        tree: &Tree<Item>,
+        place: &ChainPlace<'a>,
+        ix: usize,
+    ) -> Result<ClosedBracket<'a>, Fault>
+        requires can_ask { IfSome self.old.lookup.callback F.can_ask }
+        requires ready { CanReadNode place.now tree.now self.old ix }
+        requires closes { is_closer (item_at tree.now.nodes ix).body ≡ true }
+        ensures decides { IfOk result (λ found.
+            DecidesClosing F.answers place.now tree.now ix self.old self.new found) }
+
+        // on an error, and in any case
+        ensures nothing_asked { OnErr result (self.new.lookup.callback ≡ self.old.lookup.callback) }
+        ensures again { IfSome self.new.lookup.callback F.can_ask }
+        ensures refused { IfErr result (λ fault. fault ≡ Fault.Memory) }
+        ensures kept { ChangesForDecision self.old self.new }
+    {
+        let rule = ContainerPrefix::new(tree, place.gfm_footnotes());
+        let closer = Closer {
+            alloc: self.alloc,
+            tree,
+            node: ix,
+            place,
+            rule: &rule,
+        };
+        decide_bracket(&closer, &mut self.waiting, &mut self.lookup)
     }
 
     /// Reads a `]`: decides what it becomes, and puts that in place. Returns the node at which the chain continues. The
@@ -160,39 +199,25 @@ impl<'a, F: BrokenLinkCallback<'a>> Resolver<'a, F> {
         tree: &mut Tree<Item>,
         place: &ChainPlace<'a>,
         ix: usize,
-        could_be: bool,
     ) -> Result<Option<usize>, Fault>
-        requires can_ask { IfSome self.old.callback F.can_ask }
+        requires can_ask { IfSome self.old.lookup.callback F.can_ask }
         requires ready { CanReadNode place.now tree.old self.old ix }
-        requires closes { (item_at tree.old.nodes ix).body ≡ body.MaybeLinkClose could_be }
+        requires closes { is_closer (item_at tree.old.nodes ix).body ≡ true }
         ensures reads { IfOk result (λ next.
             ReadsBracket F.answers place.now ix next tree.old tree.new self.old self.new) }
 
         // on an error, and in any case
         ensures stops { IfErr result (λ _.
-            StopsAtNode F.answers place.now ix tree.old self.old self.new.callback) }
-        ensures again { IfSome self.new.callback F.can_ask }
+            StopsAtNode F.answers place.now ix tree.old self.old self.new.lookup.callback) }
+        ensures again { IfSome self.new.lookup.callback F.can_ask }
         ensures refused { IfErr result (λ fault. fault ≡ Fault.Memory) }
         ensures kept { ChangesForBracket self.old self.new }
     {
         // reading the text shows that it is valid UTF-8
         let _text = place.text.as_bytes();
-        let options = self.options;
-        let found = decide_closing(
-            self.alloc,
-            tree,
-            place,
-            options,
-            ix,
-            could_be,
-            &mut self.openers,
-            &mut self.spent,
-            &mut self.tables,
-            &mut self.callback,
-            &mut self.limit,
-        )?;
-        finish_bracket(&mut self.openers, tree, &found);
-        put_closed(tree, &mut self.tables, ix, found)
+        let found = self.decide_closing(tree, place, ix)?;
+        finish_bracket(&mut self.waiting.openers, tree, &found);
+        put_closed(tree, &mut self.lookup.tables, ix, found)
     }
 
     /// Reads a bracket of a chain. Returns the node at which the chain continues. The only error is `Fault::Memory`.
@@ -203,7 +228,7 @@ impl<'a, F: BrokenLinkCallback<'a>> Resolver<'a, F> {
         ix: usize,
         bracket: BracketKind,
     ) -> Result<Option<usize>, Fault>
-        requires can_ask { IfSome self.old.callback F.can_ask }
+        requires can_ask { IfSome self.old.lookup.callback F.can_ask }
         requires ready { CanReadNode place.now tree.old self.old ix }
         requires bracket { kind_of (item_at tree.old.nodes ix).body ≡ Some bracket }
         ensures reads { IfOk result (λ next.
@@ -211,16 +236,16 @@ impl<'a, F: BrokenLinkCallback<'a>> Resolver<'a, F> {
 
         // on an error, and in any case
         ensures stops { IfErr result (λ _.
-            StopsAtNode F.answers place.now ix tree.old self.old self.new.callback) }
-        ensures again { IfSome self.new.callback F.can_ask }
+            StopsAtNode F.answers place.now ix tree.old self.old self.new.lookup.callback) }
+        ensures again { IfSome self.new.lookup.callback F.can_ask }
         ensures refused { IfErr result (λ fault. fault ≡ Fault.Memory) }
         ensures kept { ChangesForBracket self.old self.new }
     {
         match bracket {
             BracketKind::Opener { is_image } => {
-                open_bracket(tree, &mut self.openers, self.options, ix, is_image)
+                open_bracket(tree, &mut self.waiting.openers, self.options, ix, is_image)
             }
-            BracketKind::Closer { could_be } => self.close_bracket(tree, place, ix, could_be),
+            BracketKind::Closer => self.close_bracket(tree, place, ix),
         }
     }
 
@@ -235,7 +260,7 @@ impl<'a, F: BrokenLinkCallback<'a>> Resolver<'a, F> {
         scanner: &mut RawHtmlScanner<'a>,
         ix: usize,
     ) -> Result<Option<usize>, Fault>
-        requires can_ask { IfSome self.old.callback F.can_ask }
+        requires can_ask { IfSome self.old.lookup.callback F.can_ask }
         requires ready { CanReadNode place.now tree.old self.old ix }
         requires scanner { scanner.old.text.now ≡ take place.now.block_end place.now.text.now }
         requires code_learned { HoldsFrom SpanKind.Code self.old.code_closers tree.old.nodes
@@ -247,8 +272,8 @@ impl<'a, F: BrokenLinkCallback<'a>> Resolver<'a, F> {
 
         // on an error, and in any case
         ensures stops { IfErr result (λ _.
-            StopsAtNode F.answers place.now ix tree.old self.old self.new.callback) }
-        ensures again { IfSome self.new.callback F.can_ask }
+            StopsAtNode F.answers place.now ix tree.old self.old self.new.lookup.callback) }
+        ensures again { IfSome self.new.lookup.callback F.can_ask }
         ensures stops_looking { IfErr result (λ _. StopsLooking ix tree.old self.old self.new) }
         ensures refused { IfErr result (λ fault. fault ≡ Fault.Memory) }
         ensures scanner { scanner.new.text ≡ scanner.old.text }
@@ -262,7 +287,7 @@ impl<'a, F: BrokenLinkCallback<'a>> Resolver<'a, F> {
 
     /// Counts the items of the chain from the node `first` on.
     fn count_items(&mut self, tree: &Tree<Item>, first: usize)
-        requires { CanResolve self.old.text.now (tables_of self.old.tables) tree.now.nodes
+        requires { CanResolve self.old.text.now (tables_of self.old.lookup.tables) tree.now.nodes
             (Some first) }
         ensures { self.new ≡ record self.old {
           work = record self.old.work {
@@ -279,14 +304,13 @@ impl<'a, F: BrokenLinkCallback<'a>> Resolver<'a, F> {
 
     /// Begins the chain from the node `first` on: counts its items, and discards what was held for the last chain.
     fn begin_chain(&mut self, tree: &Tree<Item>, first: usize)
-        requires { CanResolve self.old.text.now (tables_of self.old.tables) tree.now.nodes
+        requires { CanResolve self.old.text.now (tables_of self.old.lookup.tables) tree.now.nodes
             (Some first) }
-        ensures brackets { self.new.openers.brackets ≡ [] }
-        ensures wikilinks { self.new.openers.wikilinks ≡ [] }
-        ensures spent { (end : ℕ) → is_spent self.new.spent end ≡ false }
+        ensures brackets { self.new.waiting.openers.brackets ≡ [] }
+        ensures wikilinks { self.new.waiting.openers.wikilinks ≡ [] }
+        ensures spent { (end : ℕ) → is_spent self.new.waiting.spent end ≡ false }
         ensures kept { self.new ≡ record self.old {
-          openers = self.new.openers;
-          spent = self.new.spent;
+          waiting = self.new.waiting;
           work = record self.old.work {
             items = risen (items_from tree.now.nodes (Some first)) self.old.work.items;
           };
@@ -295,8 +319,7 @@ impl<'a, F: BrokenLinkCallback<'a>> Resolver<'a, F> {
         } }
     {
         self.count_items(tree, first);
-        self.openers.clear();
-        self.spent.clear();
+        self.waiting.clear();
         self.code_closers.clear();
         self.math_closers.clear();
     }
@@ -304,10 +327,10 @@ impl<'a, F: BrokenLinkCallback<'a>> Resolver<'a, F> {
     /// Reads the chain from the node `first` on in place, in pass one: counts its items, and then reads them from left
     /// to right. The only error is `Fault::Memory`.
     fn read_chain(&mut self, tree: &mut Tree<Item>, first: usize) -> Result<(), Fault>
-        requires can_ask { IfSome self.old.callback F.can_ask }
-        requires ready { CanResolve self.old.text.now (tables_of self.old.tables) tree.old.nodes
+        requires can_ask { IfSome self.old.lookup.callback F.can_ask }
+        requires ready { CanResolve self.old.text.now (tables_of self.old.lookup.tables) tree.old.nodes
             (Some first) }
-        requires unread { IsUnread (trees_from self.old.text.now (tables_of self.old.tables)
+        requires unread { IsUnread (trees_from self.old.text.now (tables_of self.old.lookup.tables)
             tree.old.nodes (Some first)) }
         requires above { AreAbove self.old.text.now tree.old.nodes (Some first) tree.old.spine }
         ensures reads { IfOk result (λ _. ResolvesFrom F.answers self.old.text.now
@@ -325,18 +348,19 @@ impl<'a, F: BrokenLinkCallback<'a>> Resolver<'a, F> {
             self.old.work.math_visits self.new.work.math_visits }
         ensures stops { IfErr result (λ _. StopsInPassOne F.answers (setting_by self.old)
             (above_cursor self.old.text.now tree.old) first (stage_by tree.old self.old)
-            self.new.callback) }
-        ensures again { IfSome self.new.callback F.can_ask }
+            self.new.lookup.callback) }
+        ensures again { IfSome self.new.lookup.callback F.can_ask }
         ensures kept { self.new ≡ record self.old {
-          tables = record self.old.tables {
-            cows = self.new.tables.cows;
-            links = self.new.tables.links;
-            footdefs = self.new.tables.footdefs;
+          lookup = record self.old.lookup {
+            tables = record self.old.lookup.tables {
+              cows = self.new.lookup.tables.cows;
+              links = self.new.lookup.tables.links;
+              footdefs = self.new.lookup.tables.footdefs;
+            };
+            limit = self.new.lookup.limit;
+            callback = self.new.lookup.callback;
           };
-          limit = self.new.limit;
-          callback = self.new.callback;
-          openers = self.new.openers;
-          spent = self.new.spent;
+          waiting = self.new.waiting;
           work = record self.old.work {
             items = self.new.work.items;
             code_visits = self.new.work.code_visits;
@@ -346,8 +370,8 @@ impl<'a, F: BrokenLinkCallback<'a>> Resolver<'a, F> {
           math_closers = self.new.math_closers;
         } }
         ensures footnotes { (name : List ℕ)
-            → is_some (footnote_at self.new.tables.footdefs name)
-            ≡ is_some (footnote_at self.old.tables.footdefs name) }
+            → is_some (footnote_at self.new.lookup.tables.footdefs name)
+            ≡ is_some (footnote_at self.old.lookup.tables.footdefs name) }
         ensures refused { IfErr result (λ fault. fault ≡ Fault.Memory) }
     {
         self.begin_chain(tree, first);
@@ -363,31 +387,31 @@ impl<'a, F: BrokenLinkCallback<'a>> Resolver<'a, F> {
     /// Resolves the chain from the node `first` on, which is open, in place: below the nodes of the tree's spine. The
     /// only error is `Fault::Memory`; the tree and the tables are then in an unspecified state.
     pub fn resolve_chain(&mut self, tree: &mut Tree<Item>, first: usize) -> Result<(), Fault>
-        requires can_ask { IfSome self.old.callback F.can_ask }
-        requires ready { CanResolve self.old.text.now (tables_of self.old.tables) tree.old.nodes
+        requires can_ask { IfSome self.old.lookup.callback F.can_ask }
+        requires ready { CanResolve self.old.text.now (tables_of self.old.lookup.tables) tree.old.nodes
             (Some first) }
-        requires unread { IsUnread (trees_from self.old.text.now (tables_of self.old.tables)
+        requires unread { IsUnread (trees_from self.old.text.now (tables_of self.old.lookup.tables)
             tree.old.nodes (Some first)) }
         requires open { is_open (item_at tree.old.nodes first).body ≡ true }
         requires above { AreAbove self.old.text.now tree.old.nodes (Some first) tree.old.spine }
         ensures resolves { IfOk result (λ _. ResolvesChain F.answers
             (setting_of self.old.text.now
-            (rules_from self.old.options self.old.tables (is_some self.old.callback)))
-            first tree.old tree.new self.old.tables self.new.tables self.old.limit self.new.limit
-            self.old.callback self.new.callback self.old.work self.new.work) }
+            (rules_from self.old.options self.old.lookup.tables (is_some self.old.lookup.callback)))
+            first tree.old tree.new self.old.lookup.tables self.new.lookup.tables self.old.lookup.limit self.new.lookup.limit
+            self.old.lookup.callback self.new.lookup.callback self.old.work self.new.work) }
 
         // on an error, and in any case
         ensures refused { IfErr result (λ fault. fault ≡ Fault.Memory) }
         ensures stops { IfErr result (λ _. StopsIn F.answers
             (setting_of self.old.text.now
-            (rules_from self.old.options self.old.tables (is_some self.old.callback)))
+            (rules_from self.old.options self.old.lookup.tables (is_some self.old.lookup.callback)))
             (above_cursor self.old.text.now tree.old) first
-            (stage tree.old self.old.tables self.old.limit self.old.callback) self.new.callback
+            (stage tree.old self.old.lookup.tables self.old.lookup.limit self.old.lookup.callback) self.new.lookup.callback
             self.old.work self.new.work) }
-        ensures again { IfSome self.new.callback F.can_ask }
+        ensures again { IfSome self.new.lookup.callback F.can_ask }
         ensures text { self.new.text ≡ self.old.text }
         ensures options { self.new.options ≡ self.old.options }
-        ensures definitions { self.new.tables.refdefs ≡ self.old.tables.refdefs }
+        ensures definitions { self.new.lookup.tables.refdefs ≡ self.old.lookup.tables.refdefs }
     {
         // reading the counts shows that they fit their type
         let _delimiters = self.work.delimiters;

@@ -11,17 +11,17 @@ use Rattle.markdown_inline.proofs.walk.Parser.advance_once.Goals as goal
 pub resolve_chain-requires : goal.resolve_chain-requires
 resolve_chain-requires g c κs =
     let s = c.args.self.now in
-    let h = rw c.in-Ok-Chain.field-0-is at (c.in-Ok-Chain.ensures s.resolver.text.now s.resolver.tables s.stands) in (
+    let h = rw c.in-Ok-Chain.field-0-is at (c.in-Ok-Chain.ensures s.resolver.text.now s.resolver.lookup.tables s.stands) in (
       (refl, tt),
       (
         c.requires,
         (
-          rw h.1 (before_chain s.resolver.text.now s.tree s.resolver.tables c.in-Ok-Chain.first s.stands h.0),
+          rw h.1 (before_chain s.resolver.text.now s.tree s.resolver.lookup.tables c.in-Ok-Chain.first s.stands h.0),
           (
-            rw h.1 (unread_chain s.resolver.text.now s.tree s.resolver.tables c.in-Ok-Chain.first s.stands h.0),
+            rw h.1 (unread_chain s.resolver.text.now s.tree s.resolver.lookup.tables c.in-Ok-Chain.first s.stands h.0),
             (
               rw h.1 h.0.is_open,
-              rw h.1 (above_chain s.resolver.text.now s.tree s.resolver.tables c.in-Ok-Chain.first s.stands h.0),
+              rw h.1 (above_chain s.resolver.text.now s.tree s.resolver.lookup.tables c.in-Ok-Chain.first s.stands h.0),
             ),
           ),
         ),
@@ -31,11 +31,11 @@ resolve_chain-requires g c κs =
 pub invariant_of-self-in-Ok : goal.invariant_of-self-in-Ok
 invariant_of-self-in-Ok g c =
     let s = c.args.self.now in
-    let h = rw c.in-Ok-Chain.field-0-is at (c.in-Ok-Chain.ensures s.resolver.text.now s.resolver.tables s.stands) in
+    let h = rw c.in-Ok-Chain.field-0-is at (c.in-Ok-Chain.ensures s.resolver.text.now s.resolver.lookup.tables s.stands) in
     record {
       stands = rw c.in-Ok.ensures.text (stands_chain g.F.BrokenLinkCallback.answers (parser_setting s) s.tree c.resolve_chain.new.tree
-          s.resolver.tables c.resolve_chain.new.self.tables c.in-Ok-Chain.first
-          s.resolver.limit c.resolve_chain.new.self.limit s.resolver.callback c.resolve_chain.new.self.callback s.resolver.work
+          s.resolver.lookup.tables c.resolve_chain.new.self.lookup.tables c.in-Ok-Chain.first
+          s.resolver.lookup.limit c.resolve_chain.new.self.lookup.limit s.resolver.lookup.callback c.resolve_chain.new.self.lookup.callback s.resolver.work
           c.resolve_chain.new.self.work
           s.stands h.0 (rw h.1 at c.in-Ok.ensures.resolves));
     }
@@ -43,64 +43,64 @@ invariant_of-self-in-Ok g c =
 pub invariant_of-self-in-Ok-Skip : goal.invariant_of-self-in-Ok-Skip
 invariant_of-self-in-Ok-Skip g c =
     let s = c.args.self.now in
-    let h = rw c.in-Ok-Skip.field-0-is at (c.in-Ok-Skip.ensures s.resolver.text.now s.resolver.tables s.stands) in
+    let h = rw c.in-Ok-Skip.field-0-is at (c.in-Ok-Skip.ensures s.resolver.text.now s.resolver.lookup.tables s.stands) in
     record { stands = h.stands }
 
 pub invariant_of-self-in-Err-resolve_chain : goal.invariant_of-self-in-Err-resolve_chain
 invariant_of-self-in-Err-resolve_chain g c =
     record {
-      stands = stands_ended c.resolve_chain.new.self.text.now (tables_of c.resolve_chain.new.self.tables) c.stop.new.self
+      stands = stands_ended c.resolve_chain.new.self.text.now (tables_of c.resolve_chain.new.self.lookup.tables) c.stop.new.self
           (stopped c.resolve_chain.new.tree c.stop.new.self c.stop.ensures);
     }
 
 pub invariant_of-self-in-Err : goal.invariant_of-self-in-Err
 invariant_of-self-in-Err g c =
     record {
-      stands = stands_ended c.args.self.now.resolver.text.now (tables_of c.args.self.now.resolver.tables) c.stop-in-Err.new.self
+      stands = stands_ended c.args.self.now.resolver.text.now (tables_of c.args.self.now.resolver.lookup.tables) c.stop-in-Err.new.self
           (stopped c.take_step.new.tree c.stop-in-Err.new.self c.stop-in-Err.ensures);
     }
 
 pub returns-in-Ok-Done-clause-moves : goal.returns-in-Ok-Done-clause-moves
 returns-in-Ok-Done-clause-moves g c =
     let s = c.args.self.now in
-    let h = rw c.in-Ok-Done.field-0-is at (c.in-Ok-Done.ensures s.resolver.text.now s.resolver.tables s.stands) in
+    let h = rw c.in-Ok-Done.field-0-is at (c.in-Ok-Done.ensures s.resolver.text.now s.resolver.lookup.tables s.stands) in
     moved_done s _ h.0 h.1 refl refl
 
 pub returns-in-Ok-Skip-clause-moves : goal.returns-in-Ok-Skip-clause-moves
 returns-in-Ok-Skip-clause-moves g c =
     let s = c.args.self.now in
-    let h = rw c.in-Ok-Skip.field-0-is at (c.in-Ok-Skip.ensures s.resolver.text.now s.resolver.tables s.stands) in
+    let h = rw c.in-Ok-Skip.field-0-is at (c.in-Ok-Skip.ensures s.resolver.text.now s.resolver.lookup.tables s.stands) in
     moved_skip g.F.BrokenLinkCallback.answers s _ (record { text = refl; options = refl; callback = refl; limit = refl; work = refl }) h
 
 pub returns-in-Ok-Leaf-clause-moves : goal.returns-in-Ok-Leaf-clause-moves
 returns-in-Ok-Leaf-clause-moves g c =
     let s = c.args.self.now in
-    let h = rw c.in-Ok-Leaf.field-0-is at (c.in-Ok-Leaf.ensures s.resolver.text.now s.resolver.tables s.stands) in
+    let h = rw c.in-Ok-Leaf.field-0-is at (c.in-Ok-Leaf.ensures s.resolver.text.now s.resolver.lookup.tables s.stands) in
     moved_past s _ c.in-Ok-Leaf.item _ (record { text = refl; options = refl; callback = refl; limit = refl; work = refl }) refl h
 
 pub returns-in-Ok-Start-clause-moves : goal.returns-in-Ok-Start-clause-moves
 returns-in-Ok-Start-clause-moves g c =
     let s = c.args.self.now in
-    let h = rw c.in-Ok-Start.field-0-is at (c.in-Ok-Start.ensures s.resolver.text.now s.resolver.tables s.stands) in
+    let h = rw c.in-Ok-Start.field-0-is at (c.in-Ok-Start.ensures s.resolver.text.now s.resolver.lookup.tables s.stands) in
     moved_past s _ c.in-Ok-Start.item _ (record { text = refl; options = refl; callback = refl; limit = refl; work = refl }) refl h
 
 pub returns-in-Ok-End-clause-moves : goal.returns-in-Ok-End-clause-moves
 returns-in-Ok-End-clause-moves g c =
     let s = c.args.self.now in
-    let h = rw c.in-Ok-End.field-0-is at (c.in-Ok-End.ensures s.resolver.text.now s.resolver.tables s.stands) in
+    let h = rw c.in-Ok-End.field-0-is at (c.in-Ok-End.ensures s.resolver.text.now s.resolver.lookup.tables s.stands) in
     moved_give s _ _ (range_of c.in-Ok-End.item) (record { text = refl; options = refl; callback = refl; limit = refl; work = refl }) h
 
 pub returns-in-Ok-clause-moves : goal.returns-in-Ok-clause-moves
 returns-in-Ok-clause-moves g c =
     let s = c.args.self.now in
-    let h = rw c.in-Ok-Chain.field-0-is at (c.in-Ok-Chain.ensures s.resolver.text.now s.resolver.tables s.stands) in
+    let h = rw c.in-Ok-Chain.field-0-is at (c.in-Ok-Chain.ensures s.resolver.text.now s.resolver.lookup.tables s.stands) in
     moved_chain g.F.BrokenLinkCallback.answers c.args.self.now _ c.in-Ok-Chain.first c.in-Ok.ensures.text c.in-Ok.ensures.options
     c.args.self.now.stands h.0 (rw h.1 at c.in-Ok.ensures.resolves)
 
 pub returns-in-Err-resolve_chain-clause-moves : goal.returns-in-Err-resolve_chain-clause-moves
 returns-in-Err-resolve_chain-clause-moves g c =
     let s = c.args.self.now in
-    let h = rw c.in-Ok-Chain.field-0-is at (c.in-Ok-Chain.ensures s.resolver.text.now s.resolver.tables s.stands) in
+    let h = rw c.in-Ok-Chain.field-0-is at (c.in-Ok-Chain.ensures s.resolver.text.now s.resolver.lookup.tables s.stands) in
     moved_stopped g.F.BrokenLinkCallback.answers c.args.self.now _ c.in-Ok-Chain.first c.args.self.now.stands h.0
     (rw h.1 at c.in-Err-resolve_chain.ensures.stops)
     (stopped c.resolve_chain.new.tree c.stop.new.self c.stop.ensures)
@@ -109,5 +109,5 @@ pub returns-in-Err-clause-moves : goal.returns-in-Err-clause-moves
 returns-in-Err-clause-moves g c =
     let s = c.args.self.now in
     moved_refused g.F.BrokenLinkCallback.answers s _ c.take_step.new.tree refl refl
-    (c.in-Err.ensures s.resolver.text.now s.resolver.tables s.stands)
+    (c.in-Err.ensures s.resolver.text.now s.resolver.lookup.tables s.stands)
     (stopped c.take_step.new.tree c.stop-in-Err.new.self c.stop-in-Err.ensures)

@@ -6,4 +6,4 @@ use Rattle.markdown_inline.proofs.walk.Parser.reads_one_forest.Goals as goal
 pub returns : goal.returns
 returns g c =
     let p = c.args.self.now in
-    one_forest p.resolver.text.now (tables_of p.resolver.tables) p.tree p.stands
+    one_forest p.resolver.text.now (tables_of p.resolver.lookup.tables) p.tree p.stands

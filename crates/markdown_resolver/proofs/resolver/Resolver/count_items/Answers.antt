@@ -10,14 +10,14 @@ use Rattle.markdown_resolver.proofs.resolver.Resolver.count_items.Goals as goal
 pub next-at-requires : goal.next-at-requires
 next-at-requires g c =
     let s = c.args.self.now in
-    node_within s.text.now (tables_of s.tables) c.args.tree.now.nodes c.in-Some.ix (rw c.in-Some.is at c.chain.invariant.ready)
+    node_within s.text.now (tables_of s.lookup.tables) c.args.tree.now.nodes c.in-Some.ix (rw c.in-Some.is at c.chain.invariant.ready)
 
 pub chain-smaller : goal.chain-smaller
 chain-smaller g c =
     let s = c.args.self.now in
     let ready = rw c.in-Some.is at c.chain.invariant.ready in
     rw (c.in-Some.is, c.next-at.ensures.value)
-    (omega (arith, items_next s.text.now (tables_of s.tables) c.args.tree.now.nodes c.in-Some.ix ready))
+    (omega (arith, items_next s.text.now (tables_of s.lookup.tables) c.args.tree.now.nodes c.in-Some.ix ready))
 
 pub chain-preserved : goal.chain-preserved
 chain-preserved g c =
@@ -27,10 +27,10 @@ chain-preserved g c =
     let ix = c.in-Some.ix in
     let ready = rw c.in-Some.is at i.ready in
     rw c.next-at.ensures.value (record {
-      ready = ready_next s.text.now (tables_of s.tables) nodes ix ready;
+      ready = ready_next s.text.now (tables_of s.lookup.tables) nodes ix ready;
       resolver = rw (c.count_item.ensures, i.resolver) refl;
       counted = counted_more _ c.chain.self.work.items _ _ _ _ i.counted (ap (items_from nodes) c.in-Some.is
-          ∙ items_next s.text.now (tables_of s.tables) nodes ix ready) (ap (λ (w : Work). w.items) c.count_item.ensures);
+          ∙ items_next s.text.now (tables_of s.lookup.tables) nodes ix ready) (ap (λ (w : Work). w.items) c.count_item.ensures);
     })
 
 pub returns : goal.returns

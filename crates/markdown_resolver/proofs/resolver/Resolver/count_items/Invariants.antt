@@ -8,7 +8,7 @@ use Rattle.markdown_resolver.proofs.resolver.Resolver.count_items.Given as goal
 
 abbrev pub invariant-chain : goal.invariant-chain
 invariant-chain g l = record {
-  ready : CanResolve l.fn.self.text.now (tables_of l.fn.self.tables) l.tree.nodes l.at;
+  ready : CanResolve l.fn.self.text.now (tables_of l.fn.self.lookup.tables) l.tree.nodes l.at;
   resolver : l.self ≡ record l.fn.self { work = record l.fn.self.work { items = l.self.work.items } };
   counted : Counted l.fn.self.work.items l.self.work.items (items_from l.tree.nodes (Some l.first)) (items_from l.tree.nodes l.at);
 }

@@ -22,8 +22,8 @@ chain-init g c =
     let all = items_from c.args.tree.now.nodes (Some c.args.first) in
     let b = c.begin_chain.new.self in
     rw c.begin_chain.ensures.kept (record {
-      reads = up_to_none g.F.BrokenLinkCallback.answers (setting_of s.text.now (rules_from s.options s.tables (is_some s.callback)))
-          c.args.first c.args.tree.now s.tables s.limit s.callback b.spent b.openers.brackets b.openers.wikilinks c.requires.ready
+      reads = up_to_none g.F.BrokenLinkCallback.answers (setting_of s.text.now (rules_from s.options s.lookup.tables (is_some s.lookup.callback)))
+          c.args.first c.args.tree.now s.lookup.tables s.lookup.limit s.lookup.callback b.waiting.spent b.waiting.openers.brackets b.waiting.openers.wikilinks c.requires.ready
           c.requires.unread
           c.begin_chain.ensures.spent c.begin_chain.ensures.brackets c.begin_chain.ensures.wikilinks;
       can_ask = c.requires.can_ask;
@@ -76,12 +76,12 @@ returns-in_err-at-clause-stops g c =
     let text : c.place_of_chain-place.result.text.now ≡ s.text.now = c.place_of_chain-place.ensures.text
     ∙ ap (λ (r : Resolver g.row.F.Denot). r.text.now) c.begin_chain.ensures.kept in
     let can = can_read_on i.reads c.requires.above c.place_of_chain-place.result c.in-Some.ix c.in-Some.is text c.place_of_chain-place.ensures.place in
-    let same = same_setting s.text.now at.text.now s.options at.options s.tables at.tables (is_some s.callback) (is_some at.callback)
+    let same = same_setting s.text.now at.text.now s.options at.options s.lookup.tables at.lookup.tables (is_some s.lookup.callback) (is_some at.lookup.callback)
     (ap (λ (r : Resolver g.row.F.Denot). r.text.now) i.kept) (ap (λ (r : Resolver g.row.F.Denot). r.options) i.kept)
-    (ap (λ (r : Resolver g.row.F.Denot). r.tables.refdefs) i.kept)
+    (ap (λ (r : Resolver g.row.F.Denot). r.lookup.tables.refdefs) i.kept)
     i.footnotes (still_asks i.reads c.requires.above) in
     if_err c.from_residual.result (up_to_stops i.reads c.requires.above
-    (setting_of at.text.now (rules_from at.options at.tables (is_some at.callback))) c.in-Some.ix c.read_item.new.self.callback same
+    (setting_of at.text.now (rules_from at.options at.lookup.tables (is_some at.lookup.callback))) c.in-Some.ix c.read_item.new.self.lookup.callback same
     c.in-Some.is
     (c.in_err-at.ensures.stops c.args.first i.reads.reads.left_then can))
 
@@ -98,14 +98,14 @@ chain-preserved g c =
     let text : c.place_of_chain-place.result.text.now ≡ s.text.now = c.place_of_chain-place.ensures.text
     ∙ ap (λ (r : Resolver g.row.F.Denot). r.text.now) c.begin_chain.ensures.kept in
     let can = can_read_on i.reads c.requires.above c.place_of_chain-place.result ix c.in-Some.is text c.place_of_chain-place.ensures.place in
-    let same = same_setting s.text.now at.text.now s.options at.options s.tables at.tables (is_some s.callback) (is_some at.callback)
+    let same = same_setting s.text.now at.text.now s.options at.options s.lookup.tables at.lookup.tables (is_some s.lookup.callback) (is_some at.lookup.callback)
     (ap (λ (r : Resolver g.row.F.Denot). r.text.now) i.kept) (ap (λ (r : Resolver g.row.F.Denot). r.options) i.kept)
-    (ap (λ (r : Resolver g.row.F.Denot). r.tables.refdefs) i.kept)
+    (ap (λ (r : Resolver g.row.F.Denot). r.lookup.tables.refdefs) i.kept)
     i.footnotes (still_asks i.reads c.requires.above) in
     record {
-      reads = up_to_more i.reads c.requires.above (setting_of at.text.now (rules_from at.options at.tables (is_some at.callback))) ix next
-          new.tree new.self.tables new.self.limit new.self.callback
-          new.self.spent new.self.openers.brackets new.self.openers.wikilinks same c.in-Some.is reads.goes_on.place_is
+      reads = up_to_more i.reads c.requires.above (setting_of at.text.now (rules_from at.options at.lookup.tables (is_some at.lookup.callback))) ix next
+          new.tree new.self.lookup.tables new.self.lookup.limit new.self.lookup.callback
+          new.self.waiting.spent new.self.waiting.openers.brackets new.self.waiting.openers.wikilinks same c.in-Some.is reads.goes_on.place_is
           (reads.goes_on.reads c.args.first i.reads.reads.left_then can) reads.goes_on.unread;
       can_ask = c.read_item.ensures.again;
       scanner = rw c.read_item.ensures.scanner i.scanner;
@@ -119,11 +119,16 @@ chain-preserved g c =
           (rw c.in-Some.is at i.math_looks) reads.math_looks;
       footnotes = λ name. c.read_item.ensures.kept.footnotes name ∙ i.footnotes name;
       kept = kept ∙ ap (λ (r : Resolver g.row.F.Denot). let x : Resolver g.row.F.Denot = record r {
-        tables = record r.tables { cows = new.self.tables.cows; links = new.self.tables.links; footdefs = new.self.tables.footdefs };
-        limit = new.self.limit;
-        callback = new.self.callback;
-        openers = new.self.openers;
-        spent = new.self.spent;
+        lookup = record r.lookup {
+          tables = record r.lookup.tables {
+            cows = new.self.lookup.tables.cows;
+            links = new.self.lookup.tables.links;
+            footdefs = new.self.lookup.tables.footdefs;
+          };
+          limit = new.self.lookup.limit;
+          callback = new.self.lookup.callback;
+        };
+        waiting = new.self.waiting;
         work = record r.work { code_visits = new.self.work.code_visits; math_visits = new.self.work.math_visits };
         code_closers = new.self.code_closers;
         math_closers = new.self.math_closers;

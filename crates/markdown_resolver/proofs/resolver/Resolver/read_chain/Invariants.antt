@@ -13,10 +13,10 @@ use Rattle.markdown_document.specs.Counts.{risen}
 abbrev pub invariant-chain : goal.invariant-chain
 invariant-chain g l = record {
   reads : ReadsUpTo g.F.BrokenLinkCallback.answers
-      (setting_of l.fn.self.text.now (rules_from l.fn.self.options l.fn.self.tables (is_some l.fn.self.callback))) l.first l.at
-      l.fn.tree l.tree l.fn.self.tables l.self.tables l.fn.self.limit l.self.limit l.fn.self.callback l.self.callback l.self.spent
-      l.self.openers.brackets l.self.openers.wikilinks;
-  can_ask : IfSome l.self.callback g.F.BrokenLinkCallback.can_ask;
+      (setting_of l.fn.self.text.now (rules_from l.fn.self.options l.fn.self.lookup.tables (is_some l.fn.self.lookup.callback))) l.first l.at
+      l.fn.tree l.tree l.fn.self.lookup.tables l.self.lookup.tables l.fn.self.lookup.limit l.self.lookup.limit l.fn.self.lookup.callback l.self.lookup.callback l.self.waiting.spent
+      l.self.waiting.openers.brackets l.self.waiting.openers.wikilinks;
+  can_ask : IfSome l.self.lookup.callback g.F.BrokenLinkCallback.can_ask;
   scanner : l.scanner.text.now ≡ take l.place.block_end l.place.text.now;
   code_learned : HoldsFrom SpanKind.Code l.self.code_closers l.tree.nodes l.at;
   math_learned : HoldsFrom SpanKind.Math l.self.math_closers l.tree.nodes l.at;
@@ -24,13 +24,18 @@ invariant-chain g l = record {
       (items_from l.fn.tree.nodes (Some l.first)) (items_from l.tree.nodes l.at);
   math_looks : LookedUpTo (has_failed l.self.math_closers) l.fn.self.work.math_visits l.self.work.math_visits
       (items_from l.fn.tree.nodes (Some l.first)) (items_from l.tree.nodes l.at);
-  footnotes : (name : List ℕ) → is_some (footnote_at l.self.tables.footdefs name) ≡ is_some (footnote_at l.fn.self.tables.footdefs name);
+  footnotes : (name : List ℕ) → is_some (footnote_at l.self.lookup.tables.footdefs name) ≡ is_some (footnote_at l.fn.self.lookup.tables.footdefs name);
   kept : l.self ≡ record l.fn.self {
-    tables = record l.fn.self.tables { cows = l.self.tables.cows; links = l.self.tables.links; footdefs = l.self.tables.footdefs };
-    limit = l.self.limit;
-    callback = l.self.callback;
-    openers = l.self.openers;
-    spent = l.self.spent;
+    lookup = record l.fn.self.lookup {
+      tables = record l.fn.self.lookup.tables {
+        cows = l.self.lookup.tables.cows;
+        links = l.self.lookup.tables.links;
+        footdefs = l.self.lookup.tables.footdefs;
+      };
+      limit = l.self.lookup.limit;
+      callback = l.self.lookup.callback;
+    };
+    waiting = l.self.waiting;
     work = record l.fn.self.work {
       items = risen (items_from l.fn.tree.nodes (Some l.first)) l.fn.self.work.items;
       code_visits = l.self.work.code_visits;

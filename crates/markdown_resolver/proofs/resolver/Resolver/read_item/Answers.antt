@@ -17,7 +17,7 @@ use Rattle.markdown_resolver.proofs.StopsLemmas.{stops_here}
 use Rattle.markdown_resolver.proofs.resolver.Resolver.read_item.Goals as goal
 
 pub item-requires : goal.item-requires
-item-requires g c = node_within c.args.place.now.text.now (tables_of c.args.self.now.tables) c.args.tree.now.nodes c.args.ix
+item-requires g c = node_within c.args.place.now.text.now (tables_of c.args.self.now.lookup.tables) c.args.tree.now.nodes c.args.ix
     (ready_here c.requires.ready.was_read)
 
 pub read_bracket-requires : goal.read_bracket-requires
@@ -60,10 +60,10 @@ returns-in-None g c =
       reads = other_read c.read_other.result g.F.BrokenLinkCallback.answers c.args.place.now c.args.ix t new.tree s new.self
           c.requires.ready kind e.kept e.reads e.code_learned e.math_learned e.code_looks e.math_looks e.place;
       stops = if_err c.read_other.result (λ first left was_read.
-          stops_here g.F.BrokenLinkCallback.answers (setting_by s) (above_cursor s.text.now t) (Some c.args.ix) left (stage_by t s) s.spent
-          new.self.callback (ap (λ (r : Resolver g.row.F.Denot). r.callback) e.kept));
+          stops_here g.F.BrokenLinkCallback.answers (setting_by s) (above_cursor s.text.now t) (Some c.args.ix) left (stage_by t s) s.waiting.spent
+          new.self.lookup.callback (ap (λ (r : Resolver g.row.F.Denot). r.lookup.callback) e.kept));
       stops_looking = e.stops_looking;
-      again = subst (λ (r : Resolver g.row.F.Denot). IfSome r.callback g.F.BrokenLinkCallback.can_ask) (sym e.kept) c.requires.can_ask;
+      again = subst (λ (r : Resolver g.row.F.Denot). IfSome r.lookup.callback g.F.BrokenLinkCallback.can_ask) (sym e.kept) c.requires.can_ask;
       refused = e.refused;
       scanner = e.scanner;
       kept = other_changes e.kept;

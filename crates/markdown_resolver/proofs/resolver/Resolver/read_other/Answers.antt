@@ -19,7 +19,7 @@ use Rattle.markdown_resolver.proofs.resolver.Resolver.read_other.Goals as goal
 
 pub item-requires : goal.item-requires
 item-requires g c =
-    node_within c.args.place.now.text.now (tables_of c.args.self.now.tables) c.args.tree.now.nodes c.args.ix c.requires.chain.ready
+    node_within c.args.place.now.text.now (tables_of c.args.self.now.lookup.tables) c.args.tree.now.nodes c.args.ix c.requires.chain.ready
 
 pub read_code-requires-clause-opener : goal.read_code-requires-clause-opener
 read_code-requires-clause-opener g c = (
@@ -32,8 +32,8 @@ pub returns-in-MaybeCode : goal.returns-in-MaybeCode
 returns-in-MaybeCode g c =
     let s = c.args.self.now in
     let new = c.read_code.new in
-    let read = reads_by_rules c.read_code.result c.args.place.now s.text.now (rules_from s.options s.tables (is_some s.callback))
-    c.args.tree.now c.args.ix new.tree.nodes (tables_of s.tables) (tables_of new.tables) c.requires.chain.ready c.requires.text
+    let read = reads_by_rules c.read_code.result c.args.place.now s.text.now (rules_from s.options s.lookup.tables (is_some s.lookup.callback))
+    c.args.tree.now c.args.ix new.tree.nodes (tables_of s.lookup.tables) (tables_of new.tables) c.requires.chain.ready c.requires.text
     (ap gfm_footnotes_on c.requires.options) c.read_code.ensures.reads in
     record {
       reads = read.reads;
@@ -55,8 +55,8 @@ pub returns-in-MaybeMath : goal.returns-in-MaybeMath
 returns-in-MaybeMath g c =
     let s = c.args.self.now in
     let new = c.read_math.new in
-    let read = reads_by_rules c.read_math.result c.args.place.now s.text.now (rules_from s.options s.tables (is_some s.callback))
-    c.args.tree.now c.args.ix new.tree.nodes (tables_of s.tables) (tables_of new.tables) c.requires.chain.ready c.requires.text
+    let read = reads_by_rules c.read_math.result c.args.place.now s.text.now (rules_from s.options s.lookup.tables (is_some s.lookup.callback))
+    c.args.tree.now c.args.ix new.tree.nodes (tables_of s.lookup.tables) (tables_of new.tables) c.requires.chain.ready c.requires.text
     (ap gfm_footnotes_on c.requires.options) c.read_math.ensures.reads in
     record {
       reads = read.reads;
@@ -78,8 +78,8 @@ pub returns-in-MaybeHtml : goal.returns-in-MaybeHtml
 returns-in-MaybeHtml g c =
     let s = c.args.self.now in
     let new = c.read_markup.new in
-    let read = reads_by_rules c.read_markup.result c.args.place.now s.text.now (rules_from s.options s.tables (is_some s.callback))
-    c.args.tree.now c.args.ix new.tree.nodes (tables_of s.tables) (tables_of new.tables) c.requires.chain.ready c.requires.text
+    let read = reads_by_rules c.read_markup.result c.args.place.now s.text.now (rules_from s.options s.lookup.tables (is_some s.lookup.callback))
+    c.args.tree.now c.args.ix new.tree.nodes (tables_of s.lookup.tables) (tables_of new.tables) c.requires.chain.ready c.requires.text
     (ap gfm_footnotes_on c.requires.options) c.read_markup.ensures.reads in
     record {
       reads = read.reads;
@@ -101,7 +101,7 @@ pub returns-in_default : goal.returns-in_default
 returns-in_default g c =
     let s = c.args.self.now in
     let nodes = c.args.tree.now.nodes in
-    let tables = tables_of s.tables in
+    let tables = tables_of s.lookup.tables in
     let nodes' = c.settle.new.tree.nodes in
     let set = setting_by s in
     let above = above_cursor s.text.now c.args.tree.now in

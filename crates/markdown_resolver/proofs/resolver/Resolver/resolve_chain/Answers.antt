@@ -22,17 +22,17 @@ if_err (Err fault) p = p
 pub pair_chain-requires : goal.pair_chain-requires
 pair_chain-requires g c =
     let s = c.args.self.now in
-    let rules = rules_from s.options s.tables (is_some s.callback) in
+    let rules = rules_from s.options s.lookup.tables (is_some s.lookup.callback) in
     let after = c.read_chain.new.self in
     let can = read_can_pair g.F.BrokenLinkCallback.answers (setting_of s.text.now rules) (above_cursor s.text.now c.args.tree.now)
-    c.args.first (stage c.args.tree.now s.tables s.limit s.callback)
-    (stage c.read_chain.new.tree after.tables after.limit after.callback) c.requires.ready.quiet_below c.in_ok-read_chain.ensures.reads in
+    c.args.first (stage c.args.tree.now s.lookup.tables s.lookup.limit s.lookup.callback)
+    (stage c.read_chain.new.tree after.lookup.tables after.lookup.limit after.lookup.callback) c.requires.ready.quiet_below c.in_ok-read_chain.ensures.reads in
     record { chain = rw c.read_chain.ensures.kept can }
 
 pub returns-in_err-read_chain-clause-stops : goal.returns-in_err-read_chain-clause-stops
 returns-in_err-read_chain-clause-stops g c =
     let s = c.args.self.now in
-    let rules = rules_from s.options s.tables (is_some s.callback) in
+    let rules = rules_from s.options s.lookup.tables (is_some s.lookup.callback) in
     let read : ReadCounts (items_from c.args.tree.now.nodes (Some c.args.first)) s.work c.read_chain.new.self.work = record {
       items_counted = c.read_chain.ensures.items;
       same_delimiters = ap (λ (r : Resolver g.row.F.Denot). r.work.delimiters) c.read_chain.ensures.kept;
@@ -42,21 +42,21 @@ returns-in_err-read_chain-clause-stops g c =
     } in
     if_err c.from_residual.result
     (stops_resolving g.F.BrokenLinkCallback.answers (setting_of s.text.now rules) (above_cursor s.text.now c.args.tree.now) c.args.first
-    (stage c.args.tree.now s.tables s.limit s.callback) c.read_chain.new.self.callback s.work c.read_chain.new.self.work
+    (stage c.args.tree.now s.lookup.tables s.lookup.limit s.lookup.callback) c.read_chain.new.self.lookup.callback s.work c.read_chain.new.self.work
     c.in_err-read_chain.ensures.stops
     (λ later. read_in_part (setting_of s.text.now rules) (above_cursor s.text.now c.args.tree.now) c.args.first
-    (stage c.args.tree.now s.tables s.limit s.callback) _ s.work c.read_chain.new.self.work read))
+    (stage c.args.tree.now s.lookup.tables s.lookup.limit s.lookup.callback) _ s.work c.read_chain.new.self.work read))
 
 pub returns-in_err-pair_chain-clause-stops : goal.returns-in_err-pair_chain-clause-stops
 returns-in_err-pair_chain-clause-stops g c =
     let s = c.args.self.now in
-    let rules = rules_from s.options s.tables (is_some s.callback) in
+    let rules = rules_from s.options s.lookup.tables (is_some s.lookup.callback) in
     let setting = setting_of s.text.now rules in
     let above = above_cursor s.text.now c.args.tree.now in
     let step = g.F.BrokenLinkCallback.answers in
     let after = c.read_chain.new.self in
-    let old = stage c.args.tree.now s.tables s.limit s.callback in
-    let mid = stage c.read_chain.new.tree after.tables after.limit after.callback in
+    let old = stage c.args.tree.now s.lookup.tables s.lookup.limit s.lookup.callback in
+    let mid = stage c.read_chain.new.tree after.lookup.tables after.lookup.limit after.lookup.callback in
     let reads = c.in_ok-read_chain.ensures.reads in
     let paired = c.pair_chain.ensures in
     let fits : AreCounts s.work = record { delimiters = omega arith; examined = omega arith } in
@@ -76,22 +76,22 @@ returns-in_err-pair_chain-clause-stops g c =
 pub returns-clause-resolves : goal.returns-clause-resolves
 returns-clause-resolves g c =
     let s = c.args.self.now in
-    let rules = rules_from s.options s.tables (is_some s.callback) in
+    let rules = rules_from s.options s.lookup.tables (is_some s.lookup.callback) in
     let setting = setting_of s.text.now rules in
     let above = above_cursor s.text.now c.args.tree.now in
     let step = g.F.BrokenLinkCallback.answers in
     let after = c.read_chain.new.self in
-    let old = stage c.args.tree.now s.tables s.limit s.callback in
-    let mid = stage c.read_chain.new.tree after.tables after.limit after.callback in
+    let old = stage c.args.tree.now s.lookup.tables s.lookup.limit s.lookup.callback in
+    let mid = stage c.read_chain.new.tree after.lookup.tables after.lookup.limit after.lookup.callback in
     let kept = c.read_chain.ensures.kept in
     let reads = c.in_ok-read_chain.ensures in
     let pairs = rw kept at (c.in_ok-pair_chain.ensures.pairs rules (rw kept refl)) in
     let finds : RisesAtLeast (finds_in setting (chain_at s.text.now mid (Some c.args.first))) after.work.examined
     c.pair_chain.new.work.examined =
-    subst (λ text. RisesAtLeast (finds_in (setting_of text rules) (trees_from text (tables_of after.tables) c.read_chain.new.tree.nodes
+    subst (λ text. RisesAtLeast (finds_in (setting_of text rules) (trees_from text (tables_of after.lookup.tables) c.read_chain.new.tree.nodes
     (Some c.args.first)))
     after.work.examined c.pair_chain.new.work.examined) (ap (λ (r : Resolver g.row.F.Denot). r.text.now) kept)
-    (c.in_ok-pair_chain.ensures.found rules (tables_of after.tables) (rw kept refl)) in
+    (c.in_ok-pair_chain.ensures.found rules (tables_of after.lookup.tables) (rw kept refl)) in
     let fits : AreCounts s.work = record { delimiters = omega arith; examined = omega arith } in
     let read : ReadCounts (items_from c.args.tree.now.nodes (Some c.args.first)) s.work c.read_chain.new.self.work = record {
       items_counted = c.read_chain.ensures.items;

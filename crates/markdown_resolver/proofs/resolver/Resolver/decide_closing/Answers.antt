@@ -1,0 +1,46 @@
+-- What a `]` becomes is decided, by the rules of pass one.
+use Rattle.std.proofs.Common.{Some, refl, ◌∙◌}
+use Rattle.markdown_base.specs.BlockTree.{item_at}
+use Rattle.markdown_document.specs.Tables.{tables_of}
+use Rattle.markdown_resolver.proofs.ChainPlaceLemmas.{has_blocks}
+use Rattle.markdown_resolver.proofs.CloseBracketLemmas.{IsPrefixOf, decides_here, finds_each, tries_each}
+use Rattle.markdown_resolver.proofs.OpenerReadLemmas.{closer_body, ready_here}
+use Rattle.markdown_resolver.proofs.ReadingLemmas.{node_within}
+use Rattle.markdown_resolver.proofs.resolver.Resolver.decide_closing.Goals as goal
+
+pub new-rule-requires : goal.new-rule-requires
+new-rule-requires g c = has_blocks c.args.place.now.text.now c.args.tree.now (Some c.requires.ready.first) c.requires.ready.was_read.above
+
+pub decide_bracket-requires : goal.decide_bracket-requires
+decide_bracket-requires g c κs =
+    let can = c.requires.ready.was_read in
+    let is = closer_body (item_at c.args.tree.now.nodes c.args.ix).body c.requires.closes in (
+      (refl, tt),
+      (
+        record {
+          within = node_within c.args.place.now.text.now (tables_of c.args.self.now.lookup.tables) c.args.tree.now.nodes c.args.ix
+              (ready_here can);
+          brackets = tries_each can _ is;
+          wikilinks = finds_each can _ is;
+        },
+        c.requires.can_ask,
+      ),
+    )
+
+pub returns : goal.returns
+returns g c =
+    let prefix : IsPrefixOf c.args.place.now c.new-rule.result c.args.tree.now = record {
+      here = c.new-rule.ensures.tree;
+      gfm = c.new-rule.ensures.footnotes ∙ c.gfm_footnotes.ensures;
+    } in
+    record {
+      decides = decides_here g.F.BrokenLinkCallback.answers c.args.place.now c.new-rule.result c.args.tree.now c.args.self.now _ c.args.ix
+          c.decide_bracket.result c.requires.ready.text c.requires.ready.options prefix c.requires.closes c.decide_bracket.ensures.decides;
+      nothing_asked = c.decide_bracket.ensures.nothing_asked;
+      again = c.decide_bracket.ensures.again;
+      refused = c.decide_bracket.ensures.refused;
+      kept = record {
+        kept = rw c.decide_bracket.ensures.uses.others refl;
+        footnotes = c.decide_bracket.ensures.uses.names;
+      };
+    }
