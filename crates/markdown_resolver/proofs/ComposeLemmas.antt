@@ -16,7 +16,7 @@ use Rattle.markdown_base.specs.declared.node.Node.{Node}
 use Rattle.markdown_base.proofs.ArenaForestLemmas.{opens}
 use Rattle.markdown_document.specs.Document.{label_of}
 use Rattle.markdown_document.specs.ItemRules.{ComesBefore}
-use Rattle.markdown_document.specs.Places.{HasSlices, IsSameAt, IsPlaced, label_at, trees_from, ComesFromPlace, origin_start}
+use Rattle.markdown_document.specs.Places.{IsSameAt, IsPlaced, label_at, trees_from, ComesFromPlace, origin_start}
 use Rattle.markdown_document.specs.Stages.{times_in, named_in, weight_in}
 use Rattle.markdown_document.specs.Tables.{Tables, Named, number_of, size_for, NamesEntries, IsNoShorter, HasGrown}
 use Rattle.markdown_document.specs.Totals.{total, same, naming, times_named, weight_at}

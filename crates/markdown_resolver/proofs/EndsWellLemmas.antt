@@ -39,7 +39,7 @@ use Rattle.markdown_brackets.proofs.OpenerHeldLemmas.{trees_stay}
 use Rattle.markdown_document.specs.ChainRest.{end_of, open_body, start_of}
 use Rattle.markdown_document.specs.Document.{Label}
 use Rattle.markdown_document.specs.LinkOrigins.{destination_origin}
-use Rattle.markdown_document.specs.Origins.{IsSliceWithin, made}
+use Rattle.markdown_document.specs.Origins.{made}
 use Rattle.markdown_document.specs.Tables.{Tables}
 use Rattle.markdown_defs.specs.Definitions as definitions
 use Rattle.markdown_defs.specs.Definitions.{Labelled}

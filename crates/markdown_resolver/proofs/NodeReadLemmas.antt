@@ -1,5 +1,5 @@
 -- An item of a chain was read in place: what is true of a bracket, and of another item, is true of any.
-use Rattle.std.proofs.Common.{◌≡◌, ℕ, ◌^◌, ◌<◌, List, Option, Some, None, sym, ap, ◌∙◌, subst}
+use Rattle.std.proofs.Common.{◌≡◌, ℕ, List, Option, Some, None, sym, ap, ◌∙◌, subst}
 use Rattle.std.specs.Prelude.{Result, Ok, Err, IfOk, is_some}
 use Rattle.markdown_base.specs.Arena.{Arena, sibling_of}
 use Rattle.markdown_base.specs.BlockTree.{item_at}
@@ -7,7 +7,7 @@ use Rattle.markdown_base.specs.Questions.{Question, Answer}
 use Rattle.markdown_base.specs.declared.item.Item.{Item}
 use Rattle.markdown_brackets.specs.LeftList.{Entry}
 use Rattle.markdown_document.specs.Above.{above_cursor, Above}
-use Rattle.markdown_document.specs.Setting.{uses_of, Setting}
+use Rattle.markdown_document.specs.Setting.{uses_of, Setting, Rules, rules_from, setting_of}
 use Rattle.markdown_document.specs.Stages.{Stage, items_from}
 use Rattle.markdown_document.specs.Tables.{tables_of, Tables}
 use Rattle.markdown_spans.specs.SpanClosers.{HoldsFrom, Learned, has_failed}
@@ -15,29 +15,29 @@ use Rattle.markdown_spans.specs.declared.span_text.SpanKind.{SpanKind}
 use Rattle.markdown_resolver.specs.BracketKinds.{kind_of}
 use Rattle.markdown_resolver.specs.ReadOn.{ReadsOn, StandsTo}
 use Rattle.markdown_resolver.specs.ReadsBracket.{CanReadNode, ChangesForBracket, ChangesForNode, ReadsBracket, ReadsNode}
-use Rattle.markdown_resolver.specs.ReadsBracket.{StopsLooking, WasReadTo, setting_by, stage_by}
-use Rattle.markdown_resolver.specs.ReadsItem.{LooksAt, ReadsItem, read_at}
+use Rattle.markdown_resolver.specs.ReadsBracket.{StopsLooking, WasReadTo, setting_by, stage_by, ChangesForOther, HasLearned, Looked, ReadsOther, CanReadOther}
+use Rattle.markdown_resolver.specs.ReadsItem.{ReadsItem, read_at}
 use Rattle.markdown_document.specs.declared.chain_place.ChainPlace.{ChainPlace}
 use Rattle.markdown_resolver.specs.declared.resolver.Resolver.{Resolver}
 use Rattle.markdown_resolver.proofs.ChainLeadsLemmas.{chain_leads, holds_next}
 use Rattle.markdown_resolver.proofs.ItemOnLemmas.{reads_on_item}
 use Rattle.markdown_resolver.proofs.OpenerReadLemmas.{other_kind, ready_here}
-use Rattle.markdown_resolver.proofs.ReadingLemmas.{looks_at_none, stops_at_none}
+use Rattle.markdown_resolver.proofs.ReadingLemmas.{looks_at_none, stops_at_none, reads_by_rules}
 use Rattle.markdown_defs.specs.Footnotes.{footnote_at}
 use Rattle.markdown_resolver.proofs.UnreadLemmas.{unread_after, unread_past}
 use Rattle.markdown_resolver.specs.Kept.{IsUnread}
 use Rattle.markdown_resolver.specs.Chains.{CanResolve}
 use Rattle.markdown_document.specs.Places.{trees_from}
 use Rattle.markdown_base.specs.declared.node.Node.{Node}
+use Rattle.markdown_base.specs.EnabledOptions.{gfm_footnotes_on}
+use Rattle.markdown_base.specs.declared.fault.Fault.{Fault}
 
 module _ {C : Type 0} {step : C → Question → Option Answer → C → Type 0} {place : ChainPlace} {ix : ℕ} {next : Option ℕ}
     {tree tree' : Arena Item} {old new : Resolver C} (can : CanReadNode place tree old ix) where
   -- a bracket leaves searches as they are
-  pub bracket_read : HoldsFrom SpanKind.Code old.code_closers tree.nodes (Some ix)
-      → HoldsFrom SpanKind.Math old.math_closers tree.nodes (Some ix)
-      → ChangesForBracket old new
-      → ReadsBracket step place ix next tree tree' old new → ReadsNode step place ix next tree tree' old new
-  bracket_read code math changes r =
+  pub bracket_read : ChangesForBracket old new → ReadsBracket step place ix next tree tree' old new
+      → ReadsNode step place ix next tree tree' old new
+  bracket_read changes r =
       let leads = chain_leads place.text.now (tables_of old.lookup.tables) tree.nodes (Some ix) (ready_here can.was_read) in
       let holds : (kind : SpanKind) (learned : Learned) → HoldsFrom kind learned tree.nodes (Some ix)
       → HoldsFrom kind learned tree'.nodes next =
@@ -46,16 +46,14 @@ module _ {C : Type 0} {step : C → Question → Option Answer → C → Type 0}
       let after = items_from tree'.nodes next in
       record {
         goes_on = r.goes_on;
-        code_learned = subst (λ (x : Resolver C). HoldsFrom SpanKind.Code x.code_closers tree'.nodes next) (sym changes.kept)
-            (holds SpanKind.Code old.code_closers code);
-        math_learned = subst (λ (x : Resolver C). HoldsFrom SpanKind.Math x.math_closers tree'.nodes next) (sym changes.kept)
-            (holds SpanKind.Math old.math_closers math);
-        code_looks = subst (λ (x : Resolver C). LooksAt (has_failed old.code_closers) (has_failed x.code_closers) old.work.code_visits
-            x.work.code_visits before after) (sym changes.kept)
-            (looks_at_none (has_failed old.code_closers) old.work.code_visits before after r.goes_on.fewer);
-        math_looks = subst (λ (x : Resolver C). LooksAt (has_failed old.math_closers) (has_failed x.math_closers) old.work.math_visits
-            x.work.math_visits before after) (sym changes.kept)
-            (looks_at_none (has_failed old.math_closers) old.work.math_visits before after r.goes_on.fewer);
+        learned = subst (λ (x : Resolver C). HasLearned x tree'.nodes next) (sym changes.kept) (record {
+          code = holds SpanKind.Code old.code_closers can.learned.code;
+          math = holds SpanKind.Math old.math_closers can.learned.math;
+        });
+        looked = subst (λ (x : Resolver C). Looked ix next tree tree' old x) (sym changes.kept) (record {
+          code = looks_at_none (has_failed old.code_closers) old.work.code_visits before after r.goes_on.fewer;
+          math = looks_at_none (has_failed old.math_closers) old.work.math_visits before after r.goes_on.fewer;
+        });
       }
 
 -- so it does where memory is refused
@@ -66,21 +64,10 @@ bracket_stops {C} ix tree old new changes =
       math_looks = stops_at_none (has_failed old.math_closers) old.work.math_visits _;
     })
 
--- an item that is not a bracket changes only the texts and links that were appended, and what searches hold and count
-abbrev pub IsKeptByOther : {C : Type 0} → Resolver C → Resolver C → Type 0
-IsKeptByOther old new = new ≡ record old {
-  lookup = record old.lookup {
-    tables = record old.lookup.tables { cows = new.lookup.tables.cows; links = new.lookup.tables.links };
-  };
-  work = record old.work { code_visits = new.work.code_visits; math_visits = new.work.math_visits };
-  code_closers = new.code_closers;
-  math_closers = new.math_closers;
-}
-
 -- another item was read, after any left list
 pub other_on : {C : Type 0} (step : C → Question → Option Answer → C → Type 0) (place : ChainPlace) (ix : ℕ) (next : Option ℕ)
     (tree tree' : Arena Item) (old new : Resolver C) → CanReadNode place tree old ix → kind_of (item_at tree.nodes ix).body ≡ None
-    → IsKeptByOther old new
+    → ChangesForOther old new
     → ReadsItem (setting_by old) (above_cursor old.text.now tree) ix next tree.nodes tree'.nodes (tables_of old.lookup.tables)
     (tables_of new.lookup.tables)
     → (first : ℕ) (left : List (Entry ℕ)) → WasReadTo place tree old first ix left
@@ -124,7 +111,7 @@ bracket_changes {C} {old} {new} changes = record {
 }
 
 -- another item changes no more either
-pub other_changes : {C : Type 0} {old new : Resolver C} → IsKeptByOther old new → ChangesForNode old new
+pub other_changes : {C : Type 0} {old new : Resolver C} → ChangesForOther old new → ChangesForNode old new
 other_changes {C} {old} {new} kept = record {
   kept = kept ∙ ap (λ (r : Resolver C). let x : Resolver C = record old {
     lookup = record old.lookup {
@@ -160,30 +147,44 @@ ready_before {C} {place} {tree} {old} {ix} can = subst (λ (text : List ℕ). Ca
 -- an item that is not a bracket was read, unless memory was refused
 pub other_read : {C E : Type 0} (r : Result (Option ℕ) E) (step : C → Question → Option Answer → C → Type 0) (place : ChainPlace)
     (ix : ℕ) (tree tree' : Arena Item) (old new : Resolver C) → CanReadNode place tree old ix
-    → kind_of (item_at tree.nodes ix).body ≡ None
-    → IsKeptByOther old new
-    → IfOk r (λ next. ReadsItem (setting_by old) (above_cursor old.text.now tree) ix next tree.nodes tree'.nodes (tables_of old.lookup.tables)
-    (tables_of new.lookup.tables))
-    → IfOk r (λ next. HoldsFrom SpanKind.Code new.code_closers tree'.nodes next)
-    → IfOk r (λ next. HoldsFrom SpanKind.Math new.math_closers tree'.nodes next)
-    → IfOk r (λ next. LooksAt (has_failed old.code_closers) (has_failed new.code_closers) old.work.code_visits new.work.code_visits
-    (items_from tree.nodes (Some ix)) (items_from tree'.nodes next))
-    → IfOk r (λ next. LooksAt (has_failed old.math_closers) (has_failed new.math_closers) old.work.math_visits new.work.math_visits
-    (items_from tree.nodes (Some ix)) (items_from tree'.nodes next))
-    → IfOk r (λ next. tree' ≡ record tree { nodes = tree'.nodes })
+    → kind_of (item_at tree.nodes ix).body ≡ None → ChangesForOther old new → IfOk r (λ next. ReadsOther ix next tree tree' old new)
     → IfOk r (λ next. ReadsNode step place ix next tree tree' old new)
-other_read (Ok next) step place ix tree tree' old new can kind kept reads code_learned math_learned code_looks math_looks place_is =
+other_read (Ok next) step place ix tree tree' old new can kind kept reads = record {
+  goes_on = record {
+    reads = other_on step place ix next tree tree' old new can kind kept reads.item;
+    fewer = reads.item.leaves.fewer;
+    unread = λ h. unread_read (setting_by old) (above_cursor old.text.now tree) ix next tree.nodes tree'.nodes
+        (tables_of old.lookup.tables) (tables_of new.lookup.tables) (ready_before can) reads.item h;
+    place_is = reads.place_is;
+  };
+  learned = reads.learned;
+  looked = reads.looked;
+}
+other_read (Err fault) step place ix tree tree' old new can kind kept reads = tt
+
+-- an item was read without a search, by any rules with the footnotes of its place
+pub only_reads : {C E : Type 0} (r : Result (Option ℕ) E) (place : ChainPlace) (tree : Arena Item) (old new : Resolver C) (ix : ℕ)
+    (tree' : Arena Item) → CanReadOther place tree old ix → IfOk r (λ next. tree' ≡ record tree { nodes = tree'.nodes })
+    → IfOk r (λ next. (rules : Rules) → gfm_footnotes_on rules.options ≡ gfm_footnotes_on place.options
+    → ReadsItem (setting_of place.text.now rules) (above_cursor place.text.now tree) ix next tree.nodes tree'.nodes
+    (tables_of old.lookup.tables) (tables_of new.lookup.tables))
+    → new.code_closers ≡ old.code_closers → new.math_closers ≡ old.math_closers → new.work ≡ old.work
+    → IfOk r (λ next. ReadsOther ix next tree tree' old new)
+only_reads (Ok next) place tree old new ix tree' can place_is reads code math work =
+    let result : Result (Option ℕ) Fault = Ok next in
+    let read = reads_by_rules result place old.text.now (rules_from old.options old.lookup.tables (is_some old.lookup.callback)) tree ix
+    tree'.nodes (tables_of old.lookup.tables) (tables_of new.lookup.tables) can.chain.ready can.text (ap gfm_footnotes_on can.options)
+    reads in
     record {
-      goes_on = record {
-        reads = other_on step place ix next tree tree' old new can kind kept reads;
-        fewer = reads.leaves.fewer;
-        unread = λ h. unread_read (setting_by old) (above_cursor old.text.now tree) ix next tree.nodes tree'.nodes (tables_of old.lookup.tables)
-            (tables_of new.lookup.tables) (ready_before can) reads h;
-        place_is = place_is;
+      item = read.reads;
+      learned = record {
+        code = rw code (read.holds SpanKind.Code old.code_closers can.learned.code);
+        math = rw math (read.holds SpanKind.Math old.math_closers can.learned.math);
       };
-      code_learned = code_learned;
-      math_learned = math_learned;
-      code_looks = code_looks;
-      math_looks = math_looks;
+      looked = record {
+        code = rw (code, work) (read.looks (has_failed old.code_closers) old.work.code_visits);
+        math = rw (math, work) (read.looks (has_failed old.math_closers) old.work.math_visits);
+      };
+      place_is = place_is;
     }
-other_read (Err fault) step place ix tree tree' old new can kind kept reads code_learned math_learned code_looks math_looks place_is = tt
+only_reads (Err fault) place tree old new ix tree' can place_is reads code math work = tt

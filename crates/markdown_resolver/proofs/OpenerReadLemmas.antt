@@ -75,6 +75,11 @@ pub ready_here : {place : ChainPlace} {tree : Arena Item} {held : Allocated} {br
 ready_here {place} {tree} {held} {brackets} {wikilinks} {first} {ix} {left} can = stands_rest place.text.now (tables_of held) tree.nodes
     first (Some ix) left can.so_far
 
+-- two facts of an error, together
+pub if_err_both : {X E : Type 0} (r : Result X E) (P Q : E → Type 0) → IfErr r P → IfErr r Q → IfErr r (λ fault. P fault × Q fault)
+if_err_both (Ok x) P Q p q = tt
+if_err_both (Err fault) P Q p q = (p, q)
+
 -- what was put in place for an opener, whatever the text and its tables are
 abbrev pub IsOpened : Arena Item → Arena Item → ℕ → Option ℕ → Type 0
 IsOpened old new ix next = (source : List ℕ) (tables : Tables) → CanResolve source tables old.nodes (Some ix)

@@ -35,7 +35,6 @@ use Rattle.markdown_document.specs.Tables.{Tables}
 use Rattle.markdown_document.specs.Waiting.{is_quiet, waits_for_pairing}
 use Rattle.markdown_document.proofs.PlaceLemmas.{open-unresolved, shape-open}
 use Rattle.markdown_spans.proofs.SliceLemmas.{slice_between, slice_inside}
-use Rattle.markdown_document.proofs.OriginLemmas.{slice_wider}
 use Rattle.markdown_resolver.specs.Closes.{FirstLies, IsNotCut, NoneOpenAround, ShowsWell, IsNamedIn}
 use Rattle.markdown_resolver.specs.Kept.{IsQuiet}
 use Rattle.markdown_resolver.specs.PutsTrees.{numbered_label}

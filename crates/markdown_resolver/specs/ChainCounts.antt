@@ -1,5 +1,5 @@
 -- The counts of resolving a chain.
-use Rattle.std.specs.Prelude.{ℕ, ◌≤◌, length}
+use Rattle.std.specs.Prelude.{◌≤◌, length}
 use Rattle.markdown_base.specs.Forest.{Forest, roots}
 use Rattle.markdown_document.specs.Above.{Above}
 use Rattle.markdown_document.specs.Counts.{ChainCounts, WorkRises}

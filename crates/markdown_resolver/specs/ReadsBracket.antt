@@ -14,15 +14,17 @@ use Rattle.markdown_document.specs.Stages.{Stage, chain_at, items_from, stage}
 use Rattle.markdown_document.specs.Tables.{tables_of}
 use Rattle.markdown_spans.specs.SpanClosers.{HoldsFrom, Learned, has_failed}
 use Rattle.markdown_spans.specs.declared.span_text.SpanKind.{SpanKind}
-use Rattle.markdown_resolver.specs.ChainPlace.{CanReadOn}
+use Rattle.markdown_resolver.specs.ChainPlace.{CanReadOn, CanReadItem}
 use Rattle.markdown_resolver.specs.Kept.{IsUnread}
 use Rattle.markdown_resolver.specs.Closes.{closing_at}
 use Rattle.markdown_resolver.specs.PassOne.{around}
 use Rattle.markdown_resolver.specs.ReadOn.{ReadsOn, StopsOn}
-use Rattle.markdown_resolver.specs.ReadsItem.{LooksAt, LooksAtMost}
+use Rattle.markdown_resolver.specs.ReadsItem.{LooksAt, LooksAtMost, ReadsItem}
 use Rattle.markdown_document.specs.declared.chain_place.ChainPlace.{ChainPlace}
 use Rattle.markdown_resolver.specs.declared.resolver.Resolver.{Resolver}
 use Rattle.markdown_defs.specs.Footnotes.{footnote_at}
+use Rattle.markdown_base.specs.declared.node.Node.{Node}
+use Rattle.markdown_base.specs.declared.fault.Fault.{Fault}
 
 -- the setting of a resolver
 abbrev pub setting_by : {C : Type 0} → Resolver C → Setting
@@ -37,6 +39,11 @@ abbrev pub WasReadTo : {C : Type 0} → ChainPlace → Arena Item → Resolver C
 WasReadTo place tree r first ix left =
     CanReadOn place tree r.lookup.tables r.waiting.openers.brackets r.waiting.openers.wikilinks first ix left
 
+-- what searches have learned is true of the chain from a link on
+pub record HasLearned {C : Type 0} (r : Resolver C) (nodes : List (Node Item)) (l : Option ℕ) : Type 0 where
+  pub code : HoldsFrom SpanKind.Code r.code_closers nodes l
+  pub math : HoldsFrom SpanKind.Math r.math_closers nodes l
+
 -- a resolver can read the item of a node
 pub record CanReadNode {C : Type 0} (place : ChainPlace) (tree : Arena Item) (r : Resolver C) (ix : ℕ) : Type 0 where
   pub first : ℕ
@@ -44,6 +51,14 @@ pub record CanReadNode {C : Type 0} (place : ChainPlace) (tree : Arena Item) (r 
   pub was_read : WasReadTo place tree r first ix left
   pub text : place.text.now ≡ r.text.now
   pub options : place.options ≡ r.options
+  pub learned : HasLearned r tree.nodes (Some ix)
+
+-- a resolver can read the item of a node, which is not a bracket
+pub record CanReadOther {C : Type 0} (place : ChainPlace) (tree : Arena Item) (r : Resolver C) (ix : ℕ) : Type 0 where
+  pub chain : CanReadItem place tree r.lookup.tables ix
+  pub text : place.text.now ≡ r.text.now
+  pub options : place.options ≡ r.options
+  pub learned : HasLearned r tree.nodes (Some ix)
 
 -- it was decided what the `]` of a node becomes: after any left list there, it is what pass one decides
 pub record DecidesClosing {C : Type 0} (step : C → Question → Option Answer → C → Type 0) (place : ChainPlace)
@@ -75,17 +90,30 @@ pub record ReadsBracket {C : Type 0} (step : C → Question → Option Answer �
   pub holds : (kind : SpanKind) (learned : Learned) → HoldsFrom kind learned tree.nodes (sibling_of tree.nodes ix)
       → HoldsFrom kind learned tree'.nodes next
 
+-- searches have examined items of the chain from the item of a node on, of which the chain from a link on is left
+pub record Looked {C : Type 0} (ix : ℕ) (next : Option ℕ) (tree tree' : Arena Item) (old new : Resolver C) : Type 0
+  where
+    pub code : LooksAt (has_failed old.code_closers) (has_failed new.code_closers) old.work.code_visits
+        new.work.code_visits (items_from tree.nodes (Some ix)) (items_from tree'.nodes next)
+    pub math : LooksAt (has_failed old.math_closers) (has_failed new.math_closers) old.work.math_visits
+        new.work.math_visits (items_from tree.nodes (Some ix)) (items_from tree'.nodes next)
+
 -- a resolver has read the item of a node: what it has learned from searches is true of what is left, and they have
 -- examined no item of that, unless one failed
 pub record ReadsNode {C : Type 0} (step : C → Question → Option Answer → C → Type 0) (place : ChainPlace) (ix : ℕ)
     (next : Option ℕ) (tree tree' : Arena Item) (old new : Resolver C) : Type 0 where
   pub goes_on : GoesOnTo step place ix next tree tree' old new
-  pub code_learned : HoldsFrom SpanKind.Code new.code_closers tree'.nodes next
-  pub math_learned : HoldsFrom SpanKind.Math new.math_closers tree'.nodes next
-  pub code_looks : LooksAt (has_failed old.code_closers) (has_failed new.code_closers) old.work.code_visits
-      new.work.code_visits (items_from tree.nodes (Some ix)) (items_from tree'.nodes next)
-  pub math_looks : LooksAt (has_failed old.math_closers) (has_failed new.math_closers) old.work.math_visits
-      new.work.math_visits (items_from tree.nodes (Some ix)) (items_from tree'.nodes next)
+  pub learned : HasLearned new tree'.nodes next
+  pub looked : Looked ix next tree tree' old new
+
+-- the same for an item that is not a bracket, by the rules of pass one
+pub record ReadsOther {C : Type 0} (ix : ℕ) (next : Option ℕ) (tree tree' : Arena Item) (old new : Resolver C) : Type 0
+  where
+    pub item : ReadsItem (setting_by old) (above_cursor old.text.now tree) ix next tree.nodes tree'.nodes
+        (tables_of old.lookup.tables) (tables_of new.lookup.tables)
+    pub learned : HasLearned new tree'.nodes next
+    pub looked : Looked ix next tree tree' old new
+    pub place_is : tree' ≡ record tree { nodes = tree'.nodes }
 
 -- memory was refused to the resolver while it read the item of a node
 abbrev pub StopsAtNode : {C : Type 0} → (C → Question → Option Answer → C → Type 0) → ChainPlace → (ix : ℕ)
@@ -101,6 +129,26 @@ pub record StopsLooking {C : Type 0} (ix : ℕ) (tree : Arena Item) (old new : R
       new.work.code_visits (items_from tree.nodes (Some ix))
   pub math_looks : LooksAtMost (has_failed old.math_closers) (has_failed new.math_closers) old.work.math_visits
       new.work.math_visits (items_from tree.nodes (Some ix))
+
+-- the only error is a refusal of memory; then the callback was asked, and searches have looked, as they are at the item
+-- of a node
+pub record StopsReading {C : Type 0} (step : C → Question → Option Answer → C → Type 0) (place : ChainPlace) (ix : ℕ)
+    (tree : Arena Item) (old new : Resolver C) (fault : Fault) : Type 0 where
+  pub memory : fault ≡ Fault.Memory
+  pub at_node : StopsAtNode step place ix tree old new.lookup.callback
+  pub looking : StopsLooking ix tree old new
+
+-- reading an item that is not a bracket has changed only the texts and links that were appended, and what searches hold
+-- and count
+abbrev pub ChangesForOther : {C : Type 0} → Resolver C → Resolver C → Type 0
+ChangesForOther old new = new ≡ record old {
+  lookup = record old.lookup {
+    tables = record old.lookup.tables { cows = new.lookup.tables.cows; links = new.lookup.tables.links };
+  };
+  work = record old.work { code_visits = new.work.code_visits; math_visits = new.work.math_visits };
+  code_closers = new.code_closers;
+  math_closers = new.math_closers;
+}
 
 -- on success and on error, a decision has changed only the uses of footnotes, what asking changes, and what is held of
 -- brackets; the names of footnotes are the same

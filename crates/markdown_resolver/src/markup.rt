@@ -3,68 +3,63 @@ ghost use Rattle.std.specs.Prelude.{◌≡◌, ◌==◌, ◌<◌, ℕ, List, Som
 ghost use Rattle.std.specs.Option.{option_map_or};
 ghost use Rattle.markdown_base.specs.BlockTree.{item_at};
 ghost use Rattle.markdown_base.specs.declared.item.ItemBody.TheVariants as body;
-ghost use Rattle.markdown_document.specs.Above.{above_cursor};
-ghost use Rattle.markdown_document.specs.Setting.{Rules, setting_of};
+ghost use Rattle.markdown_document.specs.Setting.{Rules};
 ghost use Rattle.markdown_document.specs.Tables.{HasGrown, Tables, tables_of};
 ghost use Rattle.markdown_spans.specs.AfterLess.{autolink};
-ghost use Rattle.markdown_base.specs.EnabledOptions.{gfm_footnotes_on};
 ghost use Rattle.markdown_spans.specs.Finds.{end_of_markup};
 ghost use Rattle.markdown_spans.specs.MarkupView.{markup_of};
-ghost use Rattle.markdown_resolver.specs.ChainPlace.{CanReadItem};
 ghost use Rattle.markdown_resolver.specs.MarkupItems.{IsMarkupAt, item_to, standing_for};
 ghost use Rattle.markdown_resolver.specs.Rewritten.{CanPut, IsFoundAt, Puts, one_item};
-ghost use Rattle.markdown_resolver.specs.ReadsItem.{ReadsItem};
 
 use crate::found::{put_found, put_parent, settle};
+use crate::resolver::Resolver;
 use markdown_base::cow_str::CowStr;
 use markdown_base::fault::Fault;
 use markdown_base::item::{Item, ItemBody};
 use markdown_base::tag::LinkType;
 use markdown_base::tree::Tree;
-use markdown_defs::Allocations;
+use markdown_defs::{Allocations, BrokenLinkCallback};
 use markdown_document::chain_place::ChainPlace;
 use markdown_raw_html::raw_html::RawHtmlScanner;
 use markdown_spans::after_less::{MarkupFound, scan_after_less};
 use markdown_spans::prefixes::ContainerPrefix;
-use std::alloc::Global;
 
-/// Reads a `<`: an absolute-URI autolink (CommonMark 6.5) or raw HTML (6.6), if there is one and the next item starts
-/// directly after the `<`; otherwise the `<` becomes a Text, as it does where it is not before the block's end. The
-/// scanner has to be one of the text up to that end. Returns the node at which the chain continues. The only error is
-/// `Fault::Memory`.
-pub(crate) fn read_markup<'a>(
-    alloc: Global,
-    tree: &mut Tree<Item>,
-    place: &ChainPlace<'a>,
-    tables: &mut Allocations<'a>,
-    scanner: &mut RawHtmlScanner<'a>,
-    ix: usize,
-) -> Result<Option<usize>, Fault>
-    requires chain { CanReadItem place.now tree.old tables.old ix }
-    requires opener { (item_at tree.old.nodes ix).body ≡ body.MaybeHtml }
-    requires scanner { scanner.old.text.now ≡ take place.now.block_end place.now.text.now }
-    ensures reads { IfOk result (λ next. (rules : Rules)
-        → gfm_footnotes_on rules.options ≡ gfm_footnotes_on place.now.options
-        → ReadsItem (setting_of place.now.text.now rules) (above_cursor place.now.text.now tree.old)
-        ix next
-        tree.old.nodes tree.new.nodes (tables_of tables.old) (tables_of tables.new)) }
-    ensures place { IfOk result (λ _. tree.new ≡ record tree.old { nodes = tree.new.nodes }) }
+impl<'a, F: BrokenLinkCallback<'a>> Resolver<'a, F> {
+    ghost use Rattle.markdown_resolver.specs.ReadsBracket.{CanReadOther, ChangesForOther, ReadsOther, StopsLooking};
 
-    // on success and on error
-    ensures tables { tables.new
-        ≡ record tables.old { cows = tables.new.cows; links = tables.new.links } }
-    ensures scanner { scanner.new.text ≡ scanner.old.text }
-    ensures refused { IfErr result (λ fault. fault ≡ Fault.Memory) }
-{
-    let item = *tree.item(ix);
-    if item.end > place.block_end || !starts_at(tree, tree.next(ix), item.end) {
-        return Ok(settle(tree, ix));
-    }
-    let prefix = ContainerPrefix::new(tree, place.gfm_footnotes());
-    let text = &place.text[..place.block_end];
-    match scan_after_less(alloc, text, item.start, item.end, scanner, &prefix)? {
-        None => Ok(settle(tree, ix)),
-        Some(found) => put_markup(tree, tables, ix, found),
+    /// Reads a `<`: an absolute-URI autolink (CommonMark 6.5) or raw HTML (6.6), if there is one and the next item
+    /// starts directly after the `<`; otherwise the `<` becomes a Text, as it does where it is not before the block's
+    /// end. The scanner has to be one of the text up to that end. Returns the node at which the chain continues. The
+    /// only error is `Fault::Memory`.
+    pub(crate) fn read_markup(
+        &mut self,
+        tree: &mut Tree<Item>,
+        place: &ChainPlace<'a>,
+        scanner: &mut RawHtmlScanner<'a>,
+        ix: usize,
+    ) -> Result<Option<usize>, Fault>
+        requires ready { CanReadOther place.now tree.old self.old ix }
+        requires opener { (item_at tree.old.nodes ix).body ≡ body.MaybeHtml }
+        requires scanner { scanner.old.text.now ≡ take place.now.block_end place.now.text.now }
+        ensures reads { IfOk result (λ next.
+            ReadsOther ix next tree.old tree.new self.old self.new) }
+
+        // on error, and then on success and on error
+        ensures stops { IfErr result (λ _. StopsLooking ix tree.old self.old self.new) }
+        ensures refused { IfErr result (λ fault. fault ≡ Fault.Memory) }
+        ensures kept { ChangesForOther self.old self.new }
+        ensures scanner { scanner.new.text ≡ scanner.old.text }
+    {
+        let item = *tree.item(ix);
+        if item.end > place.block_end || !starts_at(tree, tree.next(ix), item.end) {
+            return Ok(settle(tree, ix));
+        }
+        let prefix = ContainerPrefix::new(tree, place.gfm_footnotes());
+        let text = &place.text[..place.block_end];
+        match scan_after_less(self.alloc, text, item.start, item.end, scanner, &prefix)? {
+            None => Ok(settle(tree, ix)),
+            Some(found) => put_markup(tree, &mut self.lookup.tables, ix, found),
+        }
     }
 }
 

@@ -4,8 +4,6 @@ use crate::bracket_kind::{BracketKind, kind_of};
 use crate::brackets::{open_bracket, put_closed};
 use crate::chain_place::place_of_chain;
 use crate::found::settle;
-use crate::markup::read_markup;
-use crate::spans::{read_code, read_math};
 use markdown_base::fault::Fault;
 use markdown_base::item::{Item, ItemBody};
 use markdown_base::options::Options;
@@ -59,19 +57,16 @@ impl<'a, F: BrokenLinkCallback<'a>> Resolver<'a, F> {
     ghost use Rattle.markdown_document.specs.Setting.{rules_from, setting_of};
     ghost use Rattle.markdown_document.specs.Stages.{items_from, stage};
     ghost use Rattle.markdown_document.specs.Tables.{tables_of};
-    ghost use Rattle.markdown_spans.specs.SpanClosers.{HoldsFrom, has_failed};
-    ghost use Rattle.markdown_spans.specs.declared.span_text.SpanKind.{SpanKind};
     ghost use Rattle.markdown_resolver.specs.BracketKinds.{kind_of};
-    ghost use Rattle.markdown_resolver.specs.ChainPlace.{CanReadItem};
     ghost use Rattle.markdown_resolver.specs.Chains.{CanResolve, AreAbove, ResolvesChain, ResolvesFrom, StopsIn};
     ghost use Rattle.markdown_resolver.specs.Kept.{IsUnread};
     ghost use Rattle.markdown_resolver.specs.PassOne.{pass_one};
     ghost use Rattle.markdown_resolver.specs.ReadOn.{StopsInPassOne};
     ghost use Rattle.markdown_resolver.specs.ReadsBracket.{CanReadNode, ChangesForBracket, ChangesForDecision};
     ghost use Rattle.markdown_resolver.specs.ReadsBracket.{ChangesForNode, DecidesClosing};
-    ghost use Rattle.markdown_resolver.specs.ReadsBracket.{ReadsBracket, ReadsNode, StopsAtNode, StopsLooking};
+    ghost use Rattle.markdown_resolver.specs.ReadsBracket.{CanReadOther, ChangesForOther, ReadsBracket, ReadsNode};
+    ghost use Rattle.markdown_resolver.specs.ReadsBracket.{ReadsOther, StopsAtNode, StopsLooking, StopsReading};
     ghost use Rattle.markdown_resolver.specs.ReadsBracket.{setting_by, stage_by};
-    ghost use Rattle.markdown_resolver.specs.ReadsItem.{LooksAt, ReadsItem};
     ghost use Rattle.markdown_defs.specs.Footnotes.{footnote_at};
 
     /// Reads the item of a node of a chain, which is not a bracket. The scanner has to be one of the text up to the
@@ -83,80 +78,21 @@ impl<'a, F: BrokenLinkCallback<'a>> Resolver<'a, F> {
         scanner: &mut RawHtmlScanner<'a>,
         ix: usize,
     ) -> Result<Option<usize>, Fault>
-        requires chain { CanReadItem place.now tree.old self.old.lookup.tables ix }
-        requires text { place.now.text.now ≡ self.old.text.now }
-        requires options { place.now.options ≡ self.old.options }
+        requires ready { CanReadOther place.now tree.old self.old ix }
         requires scanner { scanner.old.text.now ≡ take place.now.block_end place.now.text.now }
-        requires code_learned { HoldsFrom SpanKind.Code self.old.code_closers tree.old.nodes
-            (Some ix) }
-        requires math_learned { HoldsFrom SpanKind.Math self.old.math_closers tree.old.nodes
-            (Some ix) }
         ensures reads { IfOk result (λ next.
-            ReadsItem (setting_by self.old) (above_cursor self.old.text.now tree.old)
-            ix next tree.old.nodes tree.new.nodes (tables_of self.old.lookup.tables)
-            (tables_of self.new.lookup.tables)) }
-        ensures code_learned { IfOk result (λ next.
-            HoldsFrom SpanKind.Code self.new.code_closers tree.new.nodes next) }
-        ensures math_learned { IfOk result (λ next.
-            HoldsFrom SpanKind.Math self.new.math_closers tree.new.nodes next) }
-        ensures code_looks { IfOk result (λ next. LooksAt (has_failed self.old.code_closers)
-            (has_failed self.new.code_closers)
-            self.old.work.code_visits self.new.work.code_visits
-            (items_from tree.old.nodes (Some ix)) (items_from tree.new.nodes next)) }
-        ensures math_looks { IfOk result (λ next. LooksAt (has_failed self.old.math_closers)
-            (has_failed self.new.math_closers)
-            self.old.work.math_visits self.new.work.math_visits
-            (items_from tree.old.nodes (Some ix)) (items_from tree.new.nodes next)) }
-        ensures place { IfOk result (λ _. tree.new ≡ record tree.old { nodes = tree.new.nodes }) }
+            ReadsOther ix next tree.old tree.new self.old self.new) }
 
         // on error, and then on success and on error
-        ensures stops_looking { IfErr result (λ _. StopsLooking ix tree.old self.old self.new) }
-        ensures kept { self.new ≡ record self.old {
-          lookup = record self.old.lookup {
-            tables = record self.old.lookup.tables {
-              cows = self.new.lookup.tables.cows;
-              links = self.new.lookup.tables.links;
-            };
-          };
-          work = record self.old.work {
-            code_visits = self.new.work.code_visits;
-            math_visits = self.new.work.math_visits;
-          };
-          code_closers = self.new.code_closers;
-          math_closers = self.new.math_closers;
-        } }
-        ensures scanner { scanner.new.text ≡ scanner.old.text }
+        ensures stops { IfErr result (λ _. StopsLooking ix tree.old self.old self.new) }
         ensures refused { IfErr result (λ fault. fault ≡ Fault.Memory) }
+        ensures kept { ChangesForOther self.old self.new }
+        ensures scanner { scanner.new.text ≡ scanner.old.text }
     {
         match tree.item(ix).body {
-            ItemBody::MaybeCode(_, _) => read_code(
-                self.alloc,
-                tree,
-                place,
-                &mut self.lookup.tables,
-                &mut self.code_closers,
-                &mut self.work.code_visits,
-                ix,
-            ),
-            ItemBody::MaybeMath(_, _, _) => read_math(
-                self.alloc,
-                tree,
-                place,
-                &mut self.lookup.tables,
-                &mut self.math_closers,
-                &mut self.work.math_visits,
-                ix,
-            ),
-            ItemBody::MaybeHtml => {
-                read_markup(
-                    self.alloc,
-                    tree,
-                    place,
-                    &mut self.lookup.tables,
-                    scanner,
-                    ix,
-                )
-            }
+            ItemBody::MaybeCode(_, _) => self.read_code(tree, place, ix),
+            ItemBody::MaybeMath(_, _, _) => self.read_math(tree, place, ix),
+            ItemBody::MaybeHtml => self.read_markup(tree, place, scanner, ix),
             _ => Ok(settle(tree, ix)),
         }
     }
@@ -263,19 +199,13 @@ impl<'a, F: BrokenLinkCallback<'a>> Resolver<'a, F> {
         requires can_ask { IfSome self.old.lookup.callback F.can_ask }
         requires ready { CanReadNode place.now tree.old self.old ix }
         requires scanner { scanner.old.text.now ≡ take place.now.block_end place.now.text.now }
-        requires code_learned { HoldsFrom SpanKind.Code self.old.code_closers tree.old.nodes
-            (Some ix) }
-        requires math_learned { HoldsFrom SpanKind.Math self.old.math_closers tree.old.nodes
-            (Some ix) }
         ensures reads { IfOk result (λ next.
             ReadsNode F.answers place.now ix next tree.old tree.new self.old self.new) }
 
         // on an error, and in any case
-        ensures stops { IfErr result (λ _.
-            StopsAtNode F.answers place.now ix tree.old self.old self.new.lookup.callback) }
+        ensures stops { IfErr result (StopsReading F.answers place.now ix tree.old self.old
+            self.new) }
         ensures again { IfSome self.new.lookup.callback F.can_ask }
-        ensures stops_looking { IfErr result (λ _. StopsLooking ix tree.old self.old self.new) }
-        ensures refused { IfErr result (λ fault. fault ≡ Fault.Memory) }
         ensures scanner { scanner.new.text ≡ scanner.old.text }
         ensures kept { ChangesForNode self.old self.new }
     {

@@ -8,7 +8,6 @@ ghost use Rattle.markdown_base.specs.declared.item.ItemBody.TheVariants as body;
 ghost use Rattle.markdown_document.specs.Above.{above_cursor};
 ghost use Rattle.markdown_document.specs.Origins.{IsSlicedOf, origin_of};
 ghost use Rattle.markdown_document.specs.Setting.{Rules, setting_of};
-ghost use Rattle.markdown_document.specs.Stages.{items_from};
 ghost use Rattle.markdown_document.specs.Tables.{Tables, tables_of, text_at};
 ghost use Rattle.markdown_spans.specs.BlocksAbove.{HasBlocks};
 ghost use Rattle.markdown_spans.specs.ChainInArena.{HasChain};
@@ -17,89 +16,56 @@ ghost use Rattle.markdown_spans.specs.CodeText.{span_origin};
 ghost use Rattle.markdown_base.specs.EnabledOptions.{gfm_footnotes_on};
 ghost use Rattle.markdown_spans.specs.Finds.{is_escaped, text_between};
 ghost use Rattle.markdown_spans.specs.MathOpening.{dollar_at};
-ghost use Rattle.markdown_spans.specs.SpanClosers.{HoldsFrom, has_failed};
-ghost use Rattle.markdown_resolver.specs.ChainPlace.{CanReadItem, IsPlaceOf};
+ghost use Rattle.markdown_resolver.specs.ChainPlace.{IsPlaceOf};
 ghost use Rattle.markdown_resolver.specs.PutCode.{CanPutCode, code_standing};
 ghost use Rattle.markdown_resolver.specs.Rewritten.{Puts};
 ghost use Rattle.markdown_resolver.specs.StoredText.{CanCut, StoresText};
-ghost use Rattle.markdown_resolver.specs.ReadsItem.{LooksAt, LooksAtMost, ReadsItem};
 
 use crate::found::{put_found, put_pair, settle};
+use crate::resolver::Resolver;
 use markdown_base::cow_str::CowStr;
 use markdown_base::fault::Fault;
 use markdown_base::index::CowIndex;
 use markdown_base::item::{Item, ItemBody};
 use markdown_base::tree::Tree;
-use markdown_defs::Allocations;
+use markdown_defs::BrokenLinkCallback;
 use markdown_document::chain_place::ChainPlace;
 use markdown_spans::prefixes::ContainerPrefix;
-use markdown_spans::span_closers::SpanClosers;
 use markdown_spans::span_text::{SpanKind, span_text};
 use std::alloc::Global;
+use std::ops::Range;
 
-/// Returns the text of a span whose content is from byte offset `start` to `end`. The only error is `Fault::Memory`.
+/// Returns the text of a span with this content, a range of byte offsets. The only error is `Fault::Memory`.
 fn text_between<'a>(
     alloc: Global,
     tree: &Tree<Item>,
     place: &ChainPlace<'a>,
     kind: SpanKind,
-    start: usize,
-    end: usize,
+    content: Range<usize>,
 ) -> Result<CowStr<'a>, Fault>
     requires place { IsPlaceOf place.now tree.now }
     requires above { HasBlocks tree.now }
-    requires cut { CanCut place.now.text.now start end }
+    requires cut { CanCut place.now.text.now content.start content.end }
     ensures value { IfOk result (λ made. (rules : Rules)
         → gfm_footnotes_on rules.options ≡ gfm_footnotes_on place.now.options
         → text_of made ≡ text_between (setting_of place.now.text.now rules)
         (above_cursor place.now.text.now tree.now)
-        kind start end) }
+        kind content.start content.end) }
     ensures origin { IfOk result (λ span. origin_of span
         ≡ span_origin (above_cursor place.now.text.now tree.now).in_table
-        (slice_range place.now.text.now start end)) }
-    ensures slice { IfOk result (λ span.
-        IsSlicedOf place.now.text.now start end (origin_of span) (text_of span)) }
+        (slice_range place.now.text.now content.start content.end)) }
+    ensures slice { IfOk result (λ span. IsSlicedOf place.now.text.now content.start content.end
+        (origin_of span) (text_of span)) }
     ensures refused { IfErr result (λ fault. fault ≡ Fault.Memory) }
 {
     let prefix = ContainerPrefix::new(tree, place.gfm_footnotes());
     Ok(span_text(
         alloc,
-        &place.text[start..end],
+        &place.text[content.start..content.end],
         kind,
         place.in_table,
         &prefix,
     )?)
-}
-
-/// Appends the text of a span, whose content is from byte offset `start` to `end`, to the table of texts, and returns
-/// its number. The only error is `Fault::Memory`.
-fn store_text<'a>(
-    alloc: Global,
-    tree: &Tree<Item>,
-    place: &ChainPlace<'a>,
-    tables: &mut Allocations<'a>,
-    kind: SpanKind,
-    start: usize,
-    end: usize,
-) -> Result<CowIndex, Fault>
-    requires place { IsPlaceOf place.now tree.now }
-    requires above { HasBlocks tree.now }
-    requires cut { CanCut place.now.text.now start end }
-    ensures stored { IfOk result (λ cow.
-        StoresText place.now.text.now start end (tables_of tables.old)
-        (tables_of tables.new) cow
-        (span_origin (above_cursor place.now.text.now tree.now).in_table
-        (slice_range place.now.text.now start end))) }
-    ensures text { IfOk result (λ cow. (rules : Rules)
-        → gfm_footnotes_on rules.options ≡ gfm_footnotes_on place.now.options
-        → text_at tables.new.cows cow.0 ≡ text_between (setting_of place.now.text.now rules)
-        (above_cursor place.now.text.now tree.now) kind start end) }
-
-    // on success and on error
-    ensures tables { tables.new ≡ record tables.old { cows = tables.new.cows } }
-    ensures refused { IfErr result (λ fault. fault ≡ Fault.Memory) }
-{
-    tables.allocate_cow(text_between(alloc, tree, place, kind, start, end)?)
 }
 
 /// Returns the byte offset at which the item of a node ends.
@@ -179,102 +145,102 @@ fn math_text_start(tree: &Tree<Item>, ix: usize) -> usize
     }
 }
 
-/// Reads a backtick run: a code span (CommonMark 6.1), if an item closes it, and otherwise a Text. Where a backslash
-/// precedes the run, its first backtick becomes a Text, and the span goes into the closer's node. Returns the node at
-/// which the chain continues. The only error is `Fault::Memory`.
-pub(crate) fn read_code<'a>(
-    alloc: Global,
-    tree: &mut Tree<Item>,
-    place: &ChainPlace<'a>,
-    tables: &mut Allocations<'a>,
-    closers: &mut SpanClosers,
-    visits: &mut u128,
-    ix: usize,
-) -> Result<Option<usize>, Fault>
-    requires chain { CanReadItem place.now tree.old tables.old ix }
-    requires opener { (count : ℕ) × (escaped : Bool)
-        × ((item_at tree.old.nodes ix).body ≡ body.MaybeCode count escaped) }
-    requires learned { HoldsFrom SpanKind.Code closers.old tree.old.nodes (Some ix) }
-    ensures reads { IfOk result (λ next. (rules : Rules)
-        → gfm_footnotes_on rules.options ≡ gfm_footnotes_on place.now.options
-        → ReadsItem (setting_of place.now.text.now rules) (above_cursor place.now.text.now tree.old)
-        ix next
-        tree.old.nodes tree.new.nodes (tables_of tables.old) (tables_of tables.new)) }
-    ensures learned { IfOk result (λ next.
-        HoldsFrom SpanKind.Code closers.new tree.new.nodes next) }
-    ensures looks { IfOk result (λ next.
-        LooksAt (has_failed closers.old) (has_failed closers.new) visits.old visits.new
-        (items_from tree.old.nodes (Some ix)) (items_from tree.new.nodes next)) }
-    ensures place { IfOk result (λ _. tree.new ≡ record tree.old { nodes = tree.new.nodes }) }
+impl<'a, F: BrokenLinkCallback<'a>> Resolver<'a, F> {
+    ghost use Rattle.markdown_resolver.specs.ReadsBracket.{CanReadOther, ChangesForOther, ReadsOther, StopsLooking};
 
-    // on error, and then on success and on error
-    ensures stops_looking { IfErr result (λ _.
-        LooksAtMost (has_failed closers.old) (has_failed closers.new) visits.old visits.new
-        (items_from tree.old.nodes (Some ix))) }
-    ensures tables { tables.new ≡ record tables.old { cows = tables.new.cows } }
-    ensures refused { IfErr result (λ fault. fault ≡ Fault.Memory) }
-{
-    let Some(closer) = closers.find_code_closer(tree, ix, visits)? else {
-        return Ok(settle(tree, ix));
-    };
-    let item = *tree.item(ix);
-    let close = *tree.item(closer);
-    let cow = store_text(
-        alloc,
-        tree,
-        place,
-        tables,
-        SpanKind::Code,
-        item.end,
-        close.start,
-    )?;
-    Ok(put_code(tree, ix, closer, ItemBody::Code(cow)))
-}
+    /// Appends the text of a span with this content, a range of byte offsets, to the table of texts, and returns its
+    /// number. The only error is `Fault::Memory`.
+    fn store_text(
+        &mut self,
+        tree: &Tree<Item>,
+        place: &ChainPlace<'a>,
+        kind: SpanKind,
+        content: Range<usize>,
+    ) -> Result<CowIndex, Fault>
+        requires place { IsPlaceOf place.now tree.now }
+        requires above { HasBlocks tree.now }
+        requires cut { CanCut place.now.text.now content.start content.end }
+        ensures stored { IfOk result (λ cow.
+            StoresText place.now.text.now content.start content.end
+            (tables_of self.old.lookup.tables) (tables_of self.new.lookup.tables) cow
+            (span_origin (above_cursor place.now.text.now tree.now).in_table
+            (slice_range place.now.text.now content.start content.end))) }
+        ensures text { IfOk result (λ cow. (rules : Rules)
+            → gfm_footnotes_on rules.options ≡ gfm_footnotes_on place.now.options
+            → text_at self.new.lookup.tables.cows cow.0
+            ≡ text_between (setting_of place.now.text.now rules)
+            (above_cursor place.now.text.now tree.now) kind content.start content.end) }
 
-/// Reads a `$`: a math span, if an item closes it, and otherwise a Text. Returns the node at which the chain continues.
-/// The only error is `Fault::Memory`.
-pub(crate) fn read_math<'a>(
-    alloc: Global,
-    tree: &mut Tree<Item>,
-    place: &ChainPlace<'a>,
-    tables: &mut Allocations<'a>,
-    closers: &mut SpanClosers,
-    visits: &mut u128,
-    ix: usize,
-) -> Result<Option<usize>, Fault>
-    requires chain { CanReadItem place.now tree.old tables.old ix }
-    requires opener { is_dollar (item_at tree.old.nodes ix).body ≡ true }
-    requires learned { HoldsFrom SpanKind.Math closers.old tree.old.nodes (Some ix) }
-    ensures reads { IfOk result (λ next. (rules : Rules)
-        → gfm_footnotes_on rules.options ≡ gfm_footnotes_on place.now.options
-        → ReadsItem (setting_of place.now.text.now rules) (above_cursor place.now.text.now tree.old)
-        ix next
-        tree.old.nodes tree.new.nodes (tables_of tables.old) (tables_of tables.new)) }
-    ensures learned { IfOk result (λ next.
-        HoldsFrom SpanKind.Math closers.new tree.new.nodes next) }
-    ensures looks { IfOk result (λ next.
-        LooksAt (has_failed closers.old) (has_failed closers.new) visits.old visits.new
-        (items_from tree.old.nodes (Some ix)) (items_from tree.new.nodes next)) }
-    ensures place { IfOk result (λ _. tree.new ≡ record tree.old { nodes = tree.new.nodes }) }
+        // on success and on error
+        ensures kept { self.new ≡ record self.old {
+          lookup = record self.old.lookup {
+            tables = record self.old.lookup.tables { cows = self.new.lookup.tables.cows };
+          };
+        } }
+        ensures refused { IfErr result (λ fault. fault ≡ Fault.Memory) }
+    {
+        let text = text_between(self.alloc, tree, place, kind, content)?;
+        self.lookup.tables.allocate_cow(text)
+    }
 
-    // on error, and then on success and on error
-    ensures stops_looking { IfErr result (λ _.
-        LooksAtMost (has_failed closers.old) (has_failed closers.new) visits.old visits.new
-        (items_from tree.old.nodes (Some ix))) }
-    ensures tables { tables.new ≡ record tables.old { cows = tables.new.cows } }
-    ensures refused { IfErr result (λ fault. fault ≡ Fault.Memory) }
-{
-    let Some(math) = closers.find_math_closer(tree, ix, visits)? else {
-        return Ok(settle(tree, ix));
-    };
-    let item = *tree.item(ix);
-    let start = math_text_start(tree, ix);
-    let text_end = tree.item(math.closer).start;
-    let cow = store_text(alloc, tree, place, tables, SpanKind::Math, start, text_end)?;
-    let found = Item {
-        start: item.start,
-        end: tree.item(math.last).end,
-        body: ItemBody::Math(cow, math.display),
-    };
-    Ok(put_found(tree, ix, found))
+    /// Reads a backtick run: a code span (CommonMark 6.1), if an item closes it, and otherwise a Text. Where a backslash
+    /// precedes the run, its first backtick becomes a Text, and the span goes into the closer's node. Returns the node
+    /// at which the chain continues. The only error is `Fault::Memory`.
+    pub(crate) fn read_code(
+        &mut self,
+        tree: &mut Tree<Item>,
+        place: &ChainPlace<'a>,
+        ix: usize,
+    ) -> Result<Option<usize>, Fault>
+        requires ready { CanReadOther place.now tree.old self.old ix }
+        requires opener { (count : ℕ) × (escaped : Bool)
+            × ((item_at tree.old.nodes ix).body ≡ body.MaybeCode count escaped) }
+        ensures reads { IfOk result (λ next.
+            ReadsOther ix next tree.old tree.new self.old self.new) }
+
+        // on error, and then on success and on error
+        ensures stops { IfErr result (λ _. StopsLooking ix tree.old self.old self.new) }
+        ensures refused { IfErr result (λ fault. fault ≡ Fault.Memory) }
+        ensures kept { ChangesForOther self.old self.new }
+    {
+        let visits = &mut self.work.code_visits;
+        let Some(closer) = self.code_closers.find_code_closer(tree, ix, visits)? else {
+            return Ok(settle(tree, ix));
+        };
+        let content = tree.item(ix).end..tree.item(closer).start;
+        let cow = self.store_text(tree, place, SpanKind::Code, content)?;
+        Ok(put_code(tree, ix, closer, ItemBody::Code(cow)))
+    }
+
+    /// Reads a `$`: a math span, if an item closes it, and otherwise a Text. Returns the node at which the chain
+    /// continues. The only error is `Fault::Memory`.
+    pub(crate) fn read_math(
+        &mut self,
+        tree: &mut Tree<Item>,
+        place: &ChainPlace<'a>,
+        ix: usize,
+    ) -> Result<Option<usize>, Fault>
+        requires ready { CanReadOther place.now tree.old self.old ix }
+        requires opener { is_dollar (item_at tree.old.nodes ix).body ≡ true }
+        ensures reads { IfOk result (λ next.
+            ReadsOther ix next tree.old tree.new self.old self.new) }
+
+        // on error, and then on success and on error
+        ensures stops { IfErr result (λ _. StopsLooking ix tree.old self.old self.new) }
+        ensures refused { IfErr result (λ fault. fault ≡ Fault.Memory) }
+        ensures kept { ChangesForOther self.old self.new }
+    {
+        let visits = &mut self.work.math_visits;
+        let Some(math) = self.math_closers.find_math_closer(tree, ix, visits)? else {
+            return Ok(settle(tree, ix));
+        };
+        let content = math_text_start(tree, ix)..tree.item(math.closer).start;
+        let cow = self.store_text(tree, place, SpanKind::Math, content)?;
+        let found = Item {
+            start: tree.item(ix).start,
+            end: tree.item(math.last).end,
+            body: ItemBody::Math(cow, math.display),
+        };
+        Ok(put_found(tree, ix, found))
+    }
 }

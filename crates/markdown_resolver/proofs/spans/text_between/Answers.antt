@@ -36,5 +36,5 @@ returns-clause-origin c =
 pub returns-clause-slice : goal.returns-clause-slice
 returns-clause-slice c =
     let text = c.in_ok-span_text.field-0 in
-    sliced_inside c.args.place.now.text.now c.args.start c.args.end _ (origin_of text) (text_of text) c.requires.cut.ordered
+    sliced_inside c.args.place.now.text.now c.args.content.start c.args.content.end _ (origin_of text) (text_of text) c.requires.cut.ordered
     (subst (λ (b : List ℕ). IsSlicedOf b 0 (length b) (origin_of text) (text_of text)) c.range.ensures.value c.in_ok-span_text.ensures.slice)

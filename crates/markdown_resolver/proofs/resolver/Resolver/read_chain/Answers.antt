@@ -1,16 +1,16 @@
 -- One item of the chain after another is read.
-use Rattle.std.proofs.Common.{◌≡◌, ℕ, false, Option, Some, take, sym, ap, ◌∙◌, refl, subst, arith}
+use Rattle.std.proofs.Common.{◌≡◌, ℕ, false, Option, Some, take, sym, ap, ◌∙◌, refl, subst}
 use Rattle.std.specs.Prelude.{is_some}
 use Rattle.markdown_document.specs.Setting.{rules_from, setting_of}
 use Rattle.markdown_document.specs.Stages.{items_from}
-use Rattle.markdown_spans.specs.SpanClosers.{HoldsFrom, has_failed}
-use Rattle.markdown_spans.specs.declared.span_text.SpanKind.{SpanKind}
+use Rattle.markdown_spans.specs.SpanClosers.{has_failed}
 use Rattle.markdown_resolver.specs.declared.resolver.Resolver.{Resolver}
 use Rattle.markdown_resolver.proofs.ChainReadLemmas.{can_read_on, same_setting, still_asks, up_to_all}
 use Rattle.markdown_resolver.proofs.ChainReadLemmas.{up_to_more, up_to_none, up_to_stops}
 use Rattle.markdown_resolver.proofs.OpenerReadLemmas.{if_err}
 use Rattle.markdown_resolver.proofs.ReadingLemmas.{looked_more, looked_none, up_to}
 use Rattle.markdown_resolver.proofs.resolver.Resolver.read_chain.Goals as goal
+use Rattle.markdown_resolver.specs.ReadsBracket.{HasLearned}
 
 pub place_of_chain-place-requires : goal.place_of_chain-place-requires
 place_of_chain-place-requires g c = (Some c.args.first, rw c.begin_chain.ensures.kept c.requires.above)
@@ -30,8 +30,7 @@ chain-init g c =
       scanner =
           c.new-scanner.ensures ∙ c.as_bytes.ensures.value ∙ c.range.ensures.value
           ∙ up_to c.begin_chain.new.self.text.now place.block_end ∙ ap (take place.block_end) (sym c.place_of_chain-place.ensures.text);
-      code_learned = λ low chain leads. tt;
-      math_learned = λ low chain leads. tt;
+      learned = record { code = λ low chain leads. tt; math = λ low chain leads. tt };
       code_looks = looked_none false s.work.code_visits all;
       math_looks = looked_none false s.work.math_visits all;
       footnotes = λ name. refl;
@@ -56,14 +55,9 @@ read_item-requires g c κs =
             was_read = can;
             text = text ∙ sym (ap (λ (r : Resolver g.row.F.Denot). r.text.now) i.kept);
             options = c.place_of_chain-place.ensures.options ∙ options;
+            learned = subst (λ (l : Option ℕ). HasLearned c.chain.self c.chain.tree.nodes l) c.in-Some.is i.learned;
           },
-          (
-            i.scanner,
-            (
-              subst (λ (l : Option ℕ). HoldsFrom SpanKind.Code c.chain.self.code_closers c.chain.tree.nodes l) c.in-Some.is i.code_learned,
-              subst (λ (l : Option ℕ). HoldsFrom SpanKind.Math c.chain.self.math_closers c.chain.tree.nodes l) c.in-Some.is i.math_learned,
-            ),
-          ),
+          i.scanner,
         ),
       ),
     )
@@ -83,7 +77,7 @@ returns-in_err-at-clause-stops g c =
     if_err c.from_residual.result (up_to_stops i.reads c.requires.above
     (setting_of at.text.now (rules_from at.options at.lookup.tables (is_some at.lookup.callback))) c.in-Some.ix c.read_item.new.self.lookup.callback same
     c.in-Some.is
-    (c.in_err-at.ensures.stops c.args.first i.reads.reads.left_then can))
+    (c.in_err-at.ensures.stops.at_node c.args.first i.reads.reads.left_then can))
 
 pub chain-preserved : goal.chain-preserved
 chain-preserved g c =
@@ -109,14 +103,13 @@ chain-preserved g c =
           (reads.goes_on.reads c.args.first i.reads.reads.left_then can) reads.goes_on.unread;
       can_ask = c.read_item.ensures.again;
       scanner = rw c.read_item.ensures.scanner i.scanner;
-      code_learned = reads.code_learned;
-      math_learned = reads.math_learned;
+      learned = reads.learned;
       code_looks = looked_more (has_failed at.code_closers) (has_failed new.self.code_closers) s.work.code_visits at.work.code_visits
           new.self.work.code_visits _ _ _
-          (rw c.in-Some.is at i.code_looks) reads.code_looks;
+          (rw c.in-Some.is at i.code_looks) reads.looked.code;
       math_looks = looked_more (has_failed at.math_closers) (has_failed new.self.math_closers) s.work.math_visits at.work.math_visits
           new.self.work.math_visits _ _ _
-          (rw c.in-Some.is at i.math_looks) reads.math_looks;
+          (rw c.in-Some.is at i.math_looks) reads.looked.math;
       footnotes = λ name. c.read_item.ensures.kept.footnotes name ∙ i.footnotes name;
       kept = kept ∙ ap (λ (r : Resolver g.row.F.Denot). let x : Resolver g.row.F.Denot = record r {
         lookup = record r.lookup {
@@ -145,7 +138,7 @@ returns-in_err-at-clause-code_visits g c =
     let at = c.chain.self in
     let new = c.read_item.new.self in
     let looks = looked_more (has_failed at.code_closers) (has_failed new.code_closers) c.args.self.now.work.code_visits at.work.code_visits
-    new.work.code_visits _ _ 0 (rw c.in-Some.is at c.chain.invariant.code_looks) c.in_err-at.ensures.stops_looking.code_looks in
+    new.work.code_visits _ _ 0 (rw c.in-Some.is at c.chain.invariant.code_looks) c.in_err-at.ensures.stops.looking.code_looks in
     record { more = looks.more; within = looks.within; counted = looks.counted }
 
 pub returns-in_err-at-clause-math_visits : goal.returns-in_err-at-clause-math_visits
@@ -153,7 +146,7 @@ returns-in_err-at-clause-math_visits g c =
     let at = c.chain.self in
     let new = c.read_item.new.self in
     let looks = looked_more (has_failed at.math_closers) (has_failed new.math_closers) c.args.self.now.work.math_visits at.work.math_visits
-    new.work.math_visits _ _ 0 (rw c.in-Some.is at c.chain.invariant.math_looks) c.in_err-at.ensures.stops_looking.math_looks in
+    new.work.math_visits _ _ 0 (rw c.in-Some.is at c.chain.invariant.math_looks) c.in_err-at.ensures.stops.looking.math_looks in
     record { more = looks.more; within = looks.within; counted = looks.counted }
 
 pub returns-in_err-at-clause-kept : goal.returns-in_err-at-clause-kept

@@ -1,14 +1,14 @@
 -- What was read so far of a chain, and what is true of the rest.
-use Rattle.std.specs.Prelude.{◌≡◌, ℕ, ◌+◌, ◌-◌, ◌^◌, List, min, IfSome, Some, is_some, take}
+use Rattle.std.specs.Prelude.{◌≡◌, ℕ, List, IfSome, Some, is_some, take}
 use Rattle.markdown_document.specs.Setting.{rules_from, setting_of}
 use Rattle.markdown_document.specs.Stages.{items_from}
-use Rattle.markdown_spans.specs.SpanClosers.{HoldsFrom, has_failed}
-use Rattle.markdown_spans.specs.declared.span_text.SpanKind.{SpanKind}
+use Rattle.markdown_spans.specs.SpanClosers.{has_failed}
 use Rattle.markdown_resolver.proofs.ChainReadLemmas.{ReadsUpTo}
 use Rattle.markdown_resolver.proofs.ReadingLemmas.{LookedUpTo}
 use Rattle.markdown_resolver.proofs.resolver.Resolver.read_chain.Given as goal
 use Rattle.markdown_defs.specs.Footnotes.{footnote_at}
 use Rattle.markdown_document.specs.Counts.{risen}
+use Rattle.markdown_resolver.specs.ReadsBracket.{HasLearned}
 
 abbrev pub invariant-chain : goal.invariant-chain
 invariant-chain g l = record {
@@ -18,8 +18,7 @@ invariant-chain g l = record {
       l.self.waiting.openers.brackets l.self.waiting.openers.wikilinks;
   can_ask : IfSome l.self.lookup.callback g.F.BrokenLinkCallback.can_ask;
   scanner : l.scanner.text.now ≡ take l.place.block_end l.place.text.now;
-  code_learned : HoldsFrom SpanKind.Code l.self.code_closers l.tree.nodes l.at;
-  math_learned : HoldsFrom SpanKind.Math l.self.math_closers l.tree.nodes l.at;
+  learned : HasLearned l.self l.tree.nodes l.at;
   code_looks : LookedUpTo (has_failed l.self.code_closers) l.fn.self.work.code_visits l.self.work.code_visits
       (items_from l.fn.tree.nodes (Some l.first)) (items_from l.tree.nodes l.at);
   math_looks : LookedUpTo (has_failed l.self.math_closers) l.fn.self.work.math_visits l.self.work.math_visits

@@ -1,6 +1,6 @@
 -- A bracket is read, or another item.
-use Rattle.std.proofs.Common.{◌≡◌, Some, None, refl, sym, ap, ◌∙◌, subst, arith}
-use Rattle.std.proofs.lemmas.Result.{IfOk-weaker}
+use Rattle.std.proofs.Common.{◌≡◌, Some, None, refl, sym, ap, ◌∙◌, subst}
+use Rattle.std.proofs.lemmas.Result.{IfOk-weaker, IfErr-weaker}
 use Rattle.std.specs.Prelude.{IfSome}
 use Rattle.markdown_base.specs.BlockTree.{item_at, no_item}
 use Rattle.markdown_base.specs.declared.item.Item.{Item}
@@ -11,7 +11,7 @@ use Rattle.markdown_resolver.specs.ReadsBracket.{setting_by, stage_by}
 use Rattle.markdown_resolver.specs.declared.resolver.Resolver.{Resolver}
 use Rattle.markdown_resolver.proofs.ChainReadLemmas.{can_read_item}
 use Rattle.markdown_resolver.proofs.NodeReadLemmas.{bracket_changes, bracket_read, bracket_stops, other_changes, other_read}
-use Rattle.markdown_resolver.proofs.OpenerReadLemmas.{if_err, ready_here}
+use Rattle.markdown_resolver.proofs.OpenerReadLemmas.{if_err_both, ready_here}
 use Rattle.markdown_resolver.proofs.ReadingLemmas.{node_within}
 use Rattle.markdown_resolver.proofs.StopsLemmas.{stops_here}
 use Rattle.markdown_resolver.proofs.resolver.Resolver.read_item.Goals as goal
@@ -29,14 +29,15 @@ read_bracket-requires g c κs =
 pub returns-in-Some : goal.returns-in-Some
 returns-in-Some g c =
     let e = c.read_bracket.ensures in
+    let new = c.read_bracket.new.self in
     record {
-      reads = IfOk-weaker c.read_bracket.result _ _ (λ next r.
-          bracket_read c.requires.ready c.requires.code_learned c.requires.math_learned e.kept r) e.reads;
-      stops = e.stops;
-      stops_looking = if_err c.read_bracket.result (bracket_stops c.args.ix c.args.tree.now c.args.self.now c.read_bracket.new.self
-          e.kept);
+      reads = IfOk-weaker c.read_bracket.result _ _ (λ next r. bracket_read c.requires.ready e.kept r) e.reads;
+      stops = IfErr-weaker c.read_bracket.result _ _ (λ fault both. record {
+        memory = both.0;
+        at_node = both.1;
+        looking = bracket_stops c.args.ix c.args.tree.now c.args.self.now new e.kept;
+      }) (if_err_both c.read_bracket.result _ _ e.refused e.stops);
       again = e.again;
-      refused = e.refused;
       scanner = refl;
       kept = bracket_changes e.kept;
     }
@@ -45,7 +46,10 @@ pub read_other-requires : goal.read_other-requires
 read_other-requires g c κs =
     let can = c.requires.ready in (
       (refl, tt),
-      (can_read_item can.was_read, (can.text, (can.options, (c.requires.scanner, (c.requires.code_learned, c.requires.math_learned))))),
+      (
+        record { chain = can_read_item can.was_read; text = can.text; options = can.options; learned = can.learned },
+        c.requires.scanner,
+      ),
     )
 
 pub returns-in-None : goal.returns-in-None
@@ -58,13 +62,15 @@ returns-in-None g c =
     ap (λ (item : Item). kind_of item.body) (sym (c.item.ensures no_item)) ∙ sym c.kind_of.ensures ∙ c.in-None.is in
     record {
       reads = other_read c.read_other.result g.F.BrokenLinkCallback.answers c.args.place.now c.args.ix t new.tree s new.self
-          c.requires.ready kind e.kept e.reads e.code_learned e.math_learned e.code_looks e.math_looks e.place;
-      stops = if_err c.read_other.result (λ first left was_read.
-          stops_here g.F.BrokenLinkCallback.answers (setting_by s) (above_cursor s.text.now t) (Some c.args.ix) left (stage_by t s) s.waiting.spent
-          new.self.lookup.callback (ap (λ (r : Resolver g.row.F.Denot). r.lookup.callback) e.kept));
-      stops_looking = e.stops_looking;
+          c.requires.ready kind e.kept e.reads;
+      stops = IfErr-weaker c.read_other.result _ _ (λ fault both. record {
+        memory = both.0;
+        at_node = λ first left was_read.
+            stops_here g.F.BrokenLinkCallback.answers (setting_by s) (above_cursor s.text.now t) (Some c.args.ix) left (stage_by t s)
+            s.waiting.spent new.self.lookup.callback (ap (λ (r : Resolver g.row.F.Denot). r.lookup.callback) e.kept);
+        looking = both.1;
+      }) (if_err_both c.read_other.result _ _ e.refused e.stops);
       again = subst (λ (r : Resolver g.row.F.Denot). IfSome r.lookup.callback g.F.BrokenLinkCallback.can_ask) (sym e.kept) c.requires.can_ask;
-      refused = e.refused;
       scanner = e.scanner;
       kept = other_changes e.kept;
     }
