@@ -1,10 +1,10 @@
-"""Markdown as people write it: `documents.py SIZE [FOLDER ..]` prints files of this machine, `documents.py --links SIZE ..` links.
+"""Markdown as people write it: `documents.py [--links] SIZE [FOLDER ..]` prints files of this machine, cut to a size.
 
-They are the `.md` and `.markdown` files below the folders, gzipped ones too: what Debian's packages and the toolchain bring,
-unless folders are named. Equal files count once, and their contents' hashes order them, so equal files give an equal text
-wherever they are. With `--links` those with the most links for each byte come first. What is not UTF-8 is left out, and so is
-what `cmark` leaves open at its end, as a fence that is not closed, since it would take in all files behind it. Where there are
-too few bytes the text is repeated, which standard error says.
+They are the Markdown files below the folders, gzipped ones too: what Debian's packages and the toolchain bring, unless
+folders are named. Equal files count once, and the hash of its content gives each its place, so the same files make the
+same text wherever they are. With `--links`, those with the most links for each byte come first. What is not UTF-8 is left
+out, and so is what `cmark` leaves open at its end, as a fence that is not closed, since it would take in all files behind
+it. Where there are too few bytes the text is repeated, as standard error then says.
 """
 import gzip
 import hashlib
