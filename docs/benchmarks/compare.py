@@ -15,6 +15,8 @@ TEXTS = {
     "10 MB of prose": ["prose.py", "10000000"],
     "10 MB of mixed documents": ["mixed.py", "10000000"],
     "1 MB of links": ["hostile.py", "links", "1000000"],
+    "10 MB of documents": ["documents.py", "10000000"],
+    "1 MB of documents with links": ["documents.py", "--links", "1000000"],
 }
 
 

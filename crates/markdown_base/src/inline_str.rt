@@ -10,6 +10,8 @@ pub const MAX_INLINE_STR_LEN: usize = 22;
 /// A text of at most 22 bytes, stored inline.
 #[derive(Clone, Copy)]
 pub struct InlineStr {
+    // No bytes, but the others begin at a whole word, so that a text is moved word by word.
+    aligned: [u64; 0],
     bytes: [u8; MAX_INLINE_STR_LEN],
     len: u8,
     ghost fits: { len ≤ 22 },
@@ -31,6 +33,7 @@ impl InlineStr {
         let mut bytes = [0; MAX_INLINE_STR_LEN];
         (&mut bytes[..len]).copy_from_slice(text.as_bytes());
         Some(InlineStr {
+            aligned: [],
             bytes,
             len: len as u8,
         })

@@ -124,7 +124,21 @@ fn long_label(
     }
 }
 
-/// Returns the link label whose `[` is at `at`.
+/// Returns false only where the bytes after a `[` show that no definition begins there: the first bracket after it in
+/// its line opens another label, or no colon follows it. This is so in most paragraphs that begin with a link.
+fn may_define(content: &[u8]) -> bool {
+    let mut escaped = false;
+    for (i, found) in content.iter().enumerate() {
+        let byte = *found;
+        if !escaped && (byte == b']' || byte == b'[') {
+            return byte == b']' && content[i..].starts_with(b"]:");
+        }
+        escaped = !escaped && byte == b'\\';
+    }
+    true
+}
+
+/// Returns the link label whose `[` is at `at`, unless no colon follows it.
 fn any_label<'a>(
     alloc: Global,
     text: &'a str,
@@ -135,6 +149,9 @@ fn any_label<'a>(
         return Ok(None);
     };
     let source = part_of(text, at.saturating_add(1), first.stop);
+    if !may_define(source.as_bytes()) {
+        return Ok(None);
+    }
     if let Some((length, label)) = scan_link_label(alloc, source, &OneLine, false)? {
         return Ok(Some(Label {
             text: label,

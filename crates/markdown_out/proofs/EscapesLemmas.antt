@@ -2,14 +2,17 @@
 use Rattle.std.proofs.Common.{◌≡◌, ◌++◌, ◌<◌, ◌≤◌, ◌+◌, ◌-◌, ℕ, List, [], ◌∷◌, length, take, drop}
 use Rattle.std.proofs.Common.{get_or}
 use Rattle.std.proofs.Common.{refl, sym, ap, ◌∙◌, append_assoc, append-nil, arith, length-drop, ◌⊎◌}
-use Rattle.std.proofs.Common.{inl, inr}
-use Rattle.std.specs.List.{flat_map}
+use Rattle.std.proofs.Common.{inl, inr, true, false}
+use Rattle.std.specs.List.{flat_map, list_all}
 use Rattle.std.specs.Str.{IsUtf8, IsCharBoundary}
 use Rattle.std.proofs.lemmas.List.{take_more, flat_map_more, get_or-drop}
 use Rattle.std.proofs.lemmas.List.{take-append-drop}
 use Rattle.std.proofs.lemmas.List.Concat.{flat_map-append}
 use Rattle.std.proofs.lemmas.Str.{IsCharBoundary-before_ascii, IsCharBoundary-after_ascii}
+use Rattle.std.proofs.lemmas.Bool.{and_parts, cases_eq, ne_eqb}
+use Rattle.markdown_base.specs.Bytes.{ampersand, apostrophe}
 use Rattle.markdown_out.specs.ByteLists.{AppendsPrefix}
+use Rattle.markdown_out.specs.Escapes.{destination_byte, destination_escaped, is_kept_byte}
 
 -- the bytes from one place to another
 abbrev pub slice : ℕ → ℕ → List ℕ → List ℕ
@@ -124,3 +127,23 @@ Cuts-keep bytes from to u h k a c = record {
     start_at (inl l) = c.start l
     start_at (inr e) = let k' : from < length bytes = omega arith in
         let a' : get_or bytes from 0 < 128 = rw e a in IsCharBoundary-before_ascii bytes from k' a'
+
+-- a byte that a destination keeps is written as it is
+kept_stays : (byte : ℕ) → is_kept_byte byte ≡ true → destination_byte byte ≡ byte ∷ []
+kept_stays byte kept = elim (cases_eq byte ampersand) [
+  | inl same ↦ absurd (no_mark (rw same at kept))
+  | inr other ↦ elim (cases_eq byte apostrophe) [
+    | inl same ↦ absurd (no_mark (rw same at kept))
+    | inr neither ↦ rw (ne_eqb byte ampersand other, ne_eqb byte apostrophe neither, kept) refl
+  ]
+]
+  where
+    no_mark : false ≡ true → ⊥
+    no_mark h = cc
+
+-- bytes that a destination keeps are written as they are
+pub all_kept : (bytes : List ℕ) → list_all is_kept_byte bytes ≡ true → destination_escaped bytes ≡ bytes
+all_kept [] kept = refl
+all_kept (b ∷ bytes) kept =
+    let parts = and_parts (is_kept_byte b) (list_all is_kept_byte bytes) kept in
+    rw (kept_stays b parts.0, all_kept bytes parts.1) refl

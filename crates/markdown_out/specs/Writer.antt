@@ -118,12 +118,6 @@ AddsAlt (end tag) = ⊥
 AddsAlt (footnote_reference name) = ⊥
 AddsAlt e = Unit {0}
 
--- an event that is neither a Text nor an End
-abbrev pub IsRarer : EventView → Type 0
-IsRarer (text t) = ⊥
-IsRarer (end tag) = ⊥
-IsRarer e = Unit {0}
-
 -- an event that is not a Start, an End, a footnote reference or a Text
 abbrev pub IsSingle : EventView → Type 0
 IsSingle (text t) = ⊥

@@ -1,7 +1,7 @@
 //! The escapes of HTML. Between two replaced bytes, the text is copied as one slice.
 ghost use Rattle.std.specs.Prelude.{◌≡◌, ◌++◌, ◌<◌, ◌≤◌, ◌-◌, OnOk, OnErr, MatchOption, [], ◌∷◌};
 ghost use Rattle.std.specs.Prelude.{take, drop, length};
-ghost use Rattle.std.specs.List.{flat_map, list_any};
+ghost use Rattle.std.specs.List.{flat_map, list_all, list_any};
 ghost use Rattle.std.specs.Str.{IsCharBoundary};
 ghost use Rattle.std.specs.String.{string_bytes};
 ghost use Rattle.markdown_out.specs.ByteLists.{Appends, AppendsPart};
@@ -143,6 +143,17 @@ fn is_kept(byte: u8) -> bool
     KEPT[byte as usize] != b'^'
 }
 
+/// Returns whether a destination keeps all of the bytes.
+fn are_kept(bytes: &[u8]) -> bool
+    ensures { result ≡ list_all is_kept_byte bytes.now }
+{
+    let mut kept = true;
+    for byte in bytes {
+        kept &= is_kept(*byte);
+    }
+    kept
+}
+
 /// Returns what replaces a byte of a destination, or `None` where the byte is kept.
 fn destination_replacement(byte: u8) -> Option<&'static str>
     ensures { MatchOption result ((destination_byte byte ≡ byte ∷ []) × (byte < 128))
@@ -173,6 +184,9 @@ pub(crate) fn push_destination(out: &mut String, destination: &str) -> Result<()
     ensures err { OnErr result (AppendsPart out.old out.new (destination_escaped destination.now)) }
 {
     let bytes = destination.as_bytes();
+    if are_kept(bytes) {
+        return push_any(out, destination);
+    }
     let mut from = 0;
     for (i, byte) in bytes.iter().enumerate() {
         if let Some(replacement) = destination_replacement(*byte) {

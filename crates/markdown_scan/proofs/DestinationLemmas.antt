@@ -1,13 +1,15 @@
 -- Steps of the scanner of a destination: the length of the whole is the number of bytes before an offset and the length
 -- of the rest.
-use Rattle.std.proofs.Common.{◌≡◌, ◌≢◌, ℕ, ◌+◌, List, ◌∷◌, Bool, true, false, Option, Some, None, drop, refl, ◌∙◌, ap, arith}
+use Rattle.std.proofs.Common.{◌≡◌, ℕ, zero, suc, ◌+◌, ◌<◌, ◌==◌, ◌||◌, List, ◌∷◌, Bool, true, false, Option, Some, None, drop}
+use Rattle.std.proofs.Common.{length, get_or, refl, ◌∙◌, sym, ap, arith}
 use Rattle.std.specs.Option.{option_map}
-use Rattle.std.proofs.lemmas.Bool.{ne_eqb}
-use Rattle.std.proofs.lemmas.List.{drop-drop}
+use Rattle.std.proofs.lemmas.List.{drop-drop, drop_more}
 use Rattle.markdown_base.specs.Bytes.{backslash, close_parenthesis, open_parenthesis}
+use Rattle.markdown_base.proofs.ByteListLemmas.{neither}
 use Rattle.markdown_scan.specs.AsciiKinds.{is_control_or_space}
 use Rattle.markdown_scan.specs.Backslash.{is_bare}
 use Rattle.markdown_scan.specs.Destination.{angle_length, is_refused, bare_length, is_past_bare, is_too_deep, open_after}
+use Rattle.markdown_scan.specs.Together.{may_matter, IsPast}
 
 -- one more byte after `at` bytes
 pub one_more : (at : ℕ) (o : Option ℕ) → option_map (λ n. at + n) (option_map (λ n. 1 + n) o) ≡ option_map (λ n. at + 1 + n) o
@@ -35,18 +37,40 @@ bare_step max_nesting whole escaped opened at b tail was no_end fits =
     rw (no_end, fits) at was ∙ one_more at (bare_length max_nesting (is_bare escaped b backslash) (open_after escaped b opened) tail)
 
 -- a byte other than a mark is not that mark, escaped or not
-not_bare : (escaped : Bool) (b mark : ℕ) → b ≢ mark → is_bare escaped b mark ≡ false
+not_bare : (escaped : Bool) (b mark : ℕ) → (b == mark) ≡ false → is_bare escaped b mark ≡ false
 not_bare true b mark other = refl
-not_bare false b mark other = ne_eqb b mark other
+not_bare false b mark other = other
 
 -- after a byte of a destination without angle brackets that neither ends it nor counts in it
 pub ordinary_step : (max_nesting : ℕ) (whole : Option ℕ) (escaped : Bool) (opened at b : ℕ) (tail : List ℕ)
     → whole ≡ option_map (λ n. at + n) (bare_length max_nesting escaped opened (b ∷ tail))
-    → is_control_or_space b ≡ false → b ≢ open_parenthesis → b ≢ close_parenthesis → b ≢ backslash
+    → may_matter b ≡ false
     → whole ≡ option_map (λ n. at + 1 + n) (bare_length max_nesting false opened tail)
-ordinary_step max_nesting whole escaped opened at b tail was shown opens closes escapes =
-    let no_open = not_bare escaped b open_parenthesis opens in
-    let no_close = not_bare escaped b close_parenthesis closes in
-    let no_escape = not_bare escaped b backslash escapes in
+ordinary_step max_nesting whole escaped opened at b tail was ordinary =
+    let shown =
+    neither (is_control_or_space b)
+    ((b == open_parenthesis) || ((b == close_parenthesis) || (b == backslash))) ordinary in
+    let opens = neither (b == open_parenthesis) ((b == close_parenthesis) || (b == backslash)) shown.1 in
+    let closes = neither (b == close_parenthesis) (b == backslash) opens.1 in
+    let no_open = not_bare escaped b open_parenthesis opens.0 in
+    let no_close = not_bare escaped b close_parenthesis closes.0 in
+    let no_escape = not_bare escaped b backslash closes.1 in
     rw (no_open, no_close, no_escape) at (bare_step max_nesting whole escaped opened at b tail was
-    (rw (shown, no_close) refl) (rw no_open refl))
+    (rw (shown.0, no_close) refl) (rw no_open refl))
+
+-- after as many bytes as the first of them are such
+pub ordinary_steps : (max_nesting : ℕ) (bytes : List ℕ) (n : ℕ) → IsPast may_matter bytes n
+    → bare_length max_nesting false 0 bytes ≡ option_map (λ k. n + k) (bare_length max_nesting false 0 (drop n bytes))
+ordinary_steps max_nesting bytes zero past = sym (none_more (bare_length max_nesting false 0 bytes))
+  where
+    none_more : (o : Option ℕ) → option_map (λ k. 0 + k) o ≡ o
+    none_more None = refl
+    none_more (Some k) = let sum : 0 + k ≡ k = omega arith in ap (λ n. Some n) sum
+ordinary_steps max_nesting bytes (suc n) past =
+    let within = past.within in
+    let here : n < length bytes = omega (arith, within) in
+    let before = ordinary_steps max_nesting bytes n
+    (record { within = omega (arith, within); none = λ at h. past.none at (omega (arith, h)) }) in
+    let next : n + 1 ≡ suc n = omega arith in
+    rw next at (ordinary_step max_nesting (bare_length max_nesting false 0 bytes) false 0 n (get_or bytes n 0)
+    (drop (n + 1) bytes) (rw (drop_more bytes n 0 here) at before) (past.none n (omega arith)))

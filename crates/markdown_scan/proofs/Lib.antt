@@ -9,3 +9,4 @@ pub mod BeginsWithLemmas
 pub mod EntityLemmas
 pub mod UnescapeLemmas
 pub mod ScanLawsLemmas
+pub mod TogetherLemmas

@@ -1,6 +1,6 @@
 -- What a text stands for, step by step, and that a reference is longer than what it stands for.
-use Rattle.std.proofs.Common.{◌≡◌, ℕ, suc, zero, ◌+◌, ◌-◌, ◌<◌, ◌≤◌, Bool, true, ◌&&◌, ◌||◌, ◌==◌, List, [], ◌∷◌, ◌++◌, Option, Some, None}
-use Rattle.std.proofs.Common.{IfSome, length, get_or, take, drop, nat_le, codes, encode_utf8, cond, append_assoc, arith, refl, sym, ap, ◌∙◌}
+use Rattle.std.proofs.Common.{◌≡◌, ℕ, suc, zero, ◌+◌, ◌-◌, ◌<◌, ◌≤◌, Bool, true, ◌&&◌, ◌||◌, ◌==◌, false, List, [], ◌∷◌, ◌++◌, Option, Some, None}
+use Rattle.std.proofs.Common.{IfSome, length, get_or, take, drop, nat_le, codes, encode_utf8, cond, append_assoc, arith, rules, refl, sym, ap, ◌∙◌}
 use Rattle.std.proofs.Common.{lit<, lit≤, IsUtf8, IsCharBoundary}
 use Rattle.std.proofs.lemmas.Bool.{cond_both, and_parts, leb-true}
 use Rattle.std.proofs.lemmas.Bool.Decides.{nat_tests}
@@ -9,9 +9,11 @@ use Rattle.std.proofs.lemmas.Str.{length-encode, len_utf8_bounds, len_utf8_ascii
 use Rattle.std.specs.Char.{digit_value, len_utf8, is_ascii_punctuation}
 use Rattle.std.specs.Option.{option_or, option_map_or}
 use Rattle.markdown_scan.specs.Entity.{character_of, digits_of, entity, is_no_scalar, digits_value, numeric_reference}
-use Rattle.markdown_base.specs.Bytes.{pipe, backslash}
+use Rattle.markdown_base.specs.Bytes.{pipe, backslash, ampersand}
+use Rattle.markdown_base.proofs.ByteListLemmas.{neither}
 use Rattle.markdown_scan.specs.Beginnings.{begins_with}
 use Rattle.markdown_scan.specs.Unescape.{escape, escape_or_entity, unescaped, unescaped_past}
+use Rattle.markdown_scan.specs.Together.{may_begin_reference, IsPast}
 use Rattle.markdown_scan.proofs.BeginsWithLemmas.{begins_with-fits, begins_with-reads}
 
 -- what a reference of these bytes is like: it ends with ASCII, and its character takes fewer bytes
@@ -145,6 +147,13 @@ pub step_byte : (in_table : Bool) (b : ℕ) (bytes : List ℕ) → escape_or_ent
     → unescaped in_table (b ∷ bytes) ≡ b ∷ unescaped in_table bytes
 step_byte in_table b bytes e = rw e refl
 
+-- a byte with which none begins stands for itself
+pub no_reference : (in_table : Bool) (b : ℕ) (bytes : List ℕ) → may_begin_reference b ≡ false
+    → escape_or_entity in_table (b ∷ bytes) ≡ None
+no_reference in_table b bytes none =
+    let other = neither (b == backslash) (b == ampersand) none in
+    search (rules, other.0, other.1)
+
 -- a reference
 pub step_reference : (in_table : Bool) (bytes : List ℕ) (n c : ℕ)
     → escape_or_entity in_table bytes ≡ Some (n, c)
@@ -202,6 +211,19 @@ unescaped_at_byte in_table text at h none was =
     was ∙ (ap (λ x. take at text ++ unescaped in_table x) here ∙ (ap (λ x. take at text ++ x) step
     ∙ (sym (append_assoc (take at text) (byte ∷ []) (unescaped in_table (drop (at + 1) text)))
     ∙ ap (λ x. x ++ unescaped in_table (drop (at + 1) text)) (sym (take_more text at 0 h)))))
+
+-- the bytes up to a place stand for themselves
+pub unescaped_past_plain : (in_table : Bool) (text : List ℕ) (n : ℕ) → IsPast may_begin_reference text n
+    → unescaped in_table text ≡ take n text ++ unescaped in_table (drop n text)
+unescaped_past_plain in_table text zero past = refl
+unescaped_past_plain in_table text (suc n) past =
+    let within = past.within in
+    let here : n < length text = omega (arith, within) in
+    let before = unescaped_past_plain in_table text n
+    (record { within = omega (arith, within); none = λ at h. past.none at (omega (arith, h)) }) in
+    let next : n + 1 ≡ suc n = omega arith in
+    rw next at (unescaped_at_byte in_table text n here (rw (drop_more text n 0 here) (no_reference in_table
+    (get_or text n 0) (drop (n + 1) text) (past.none n (omega arith)))) before)
 
 -- a reference stands at a place
 pub unescaped_at_reference : (in_table : Bool) (text : List ℕ) (at n c : ℕ)

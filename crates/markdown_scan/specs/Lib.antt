@@ -17,5 +17,6 @@ pub mod ScanLaws
 pub mod LabelScan
 pub mod LabelText
 pub mod LineSteps
+pub mod Together
 -- the definitions of a lower crate that clauses here cite
 pub use Rattle.markdown_base.specs.CowText

@@ -2,10 +2,9 @@
 ghost use Rattle.std.specs.Prelude.{◌≡◌, ◌==◌, ◌≤◌, ◌<◌, ◌+◌, ◌^◌, false, IfSome, IsTrue, drop, length, slice_index};
 ghost use Rattle.std.specs.Option.{option_map};
 ghost use Rattle.std.specs.Str.{IsCharBoundary};
-ghost use Rattle.std.specs.Prelude.{◌≢◌, true};
-ghost use Rattle.markdown_base.specs.Bytes.{backslash, close_parenthesis, open_parenthesis};
-ghost use Rattle.markdown_scan.specs.AsciiKinds.{is_control_or_space};
+ghost use Rattle.std.specs.List.{list_any};
 ghost use Rattle.markdown_scan.specs.Destination as destination;
+ghost use Rattle.markdown_scan.specs.Together.{may_matter, IsPast};
 
 use crate::ascii_kinds::is_control_or_space;
 use crate::backslash::is_bare;
@@ -70,16 +69,41 @@ fn is_too_deep(max_nesting: usize, escaped: bool, opened: usize, byte: u8) -> bo
     is_bare(escaped, byte, b'(') && max_nesting < opened
 }
 
-// Returns true only for a byte that neither ends a destination without angle brackets nor opens, closes or escapes
-// anything in it. Most bytes are such, and need no other test.
+// Returns whether the byte may end a destination without angle brackets, or open, close or escape something in it. Most
+// bytes may not, and need no other test.
 #[inline(always)]
-fn is_ordinary(byte: u8) -> bool
-    ensures shown { result ≡ true → is_control_or_space byte ≡ false }
-    ensures no_parenthesis { result ≡ true
-        → (byte ≢ open_parenthesis) × (byte ≢ close_parenthesis) }
-    ensures no_backslash { result ≡ true → byte ≢ backslash }
+fn may_matter(byte: u8) -> bool
+    ensures { result ≡ may_matter byte }
 {
-    byte > b' ' && byte < 0x7f && byte != b'(' && byte != b')' && byte != b'\\'
+    is_control_or_space(byte) || byte == b'(' || byte == b')' || byte == b'\\'
+}
+
+// The number of bytes that are tested together, without a branch for each.
+const TOGETHER: usize = 16;
+
+// Returns whether one of the bytes may matter.
+#[inline(always)]
+fn holds_any(bytes: &[u8]) -> bool
+    ensures { result ≡ list_any may_matter bytes.now }
+{
+    let mut found = false;
+    for byte in bytes {
+        found |= may_matter(*byte);
+    }
+    found
+}
+
+// Returns an offset such that no byte before it may matter, close to the first that may.
+fn past_ordinary(bytes: &[u8]) -> usize
+    ensures { IsPast may_matter bytes.now result }
+{
+    let mut start = 0;
+    'ordinary: while bytes.len() - start >= TOGETHER
+        && !holds_any(&bytes[start..start + TOGETHER])
+    {
+        start += TOGETHER;
+    }
+    start
 }
 
 // Returns the length in bytes of a destination without angle brackets; `None` if its parentheses are nested too deeply
@@ -89,13 +113,14 @@ fn bare_length(bytes: &[u8], max_nesting: usize) -> Option<usize>
     ensures within { IfSome result (λ n. n ≤ length bytes.now) }
     ensures ascii { IfSome result (λ n. n < length bytes.now → slice_index bytes.now n < 128) }
 {
-    let mut rest = bytes;
-    let mut at = 0;
+    let start = past_ordinary(bytes);
+    let mut rest = &bytes[start..];
+    let mut at = start;
     let mut escaped = false;
     let mut opened = 0;
     while let Some((first, tail)) = rest.split_first() {
         let byte = *first;
-        if is_ordinary(byte) {
+        if !may_matter(byte) {
             escaped = false;
             rest = tail;
             at += 1;

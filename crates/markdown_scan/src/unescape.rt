@@ -1,9 +1,11 @@
 //! Backslash escapes (CommonMark 2.4) and entities (2.5) in a text, replaced by their characters.
 ghost use Rattle.std.specs.Prelude.{◌≡◌, ◌≢◌, ◌<◌, ◌≤◌, ◌++◌, IfNone, IfOk, IfSome, IsOk, encode_utf8, length};
 ghost use Rattle.std.specs.Prelude.{slice_index, string_bytes};
+ghost use Rattle.std.specs.List.{list_any};
 ghost use Rattle.markdown_base.specs.Bytes.{backslash};
 ghost use Rattle.markdown_base.specs.CowText.{text_of, IsBorrowed};
 ghost use Rattle.markdown_scan.specs.Unescape.{escape_or_entity, unescaped};
+ghost use Rattle.markdown_scan.specs.Together.{may_begin_reference, IsPast};
 
 use crate::entity::scan_entity;
 use markdown_base::cow_str::CowStr;
@@ -38,6 +40,41 @@ fn scan_reference(bytes: &[u8], in_table: bool) -> Option<(usize, char)>
     }
 }
 
+/// The number of bytes that are tested together, without a branch for each.
+const TOGETHER: usize = 16;
+
+/// Returns whether one of the bytes is a backslash or an ampersand, with which escapes and entities begin.
+#[inline(always)]
+fn may_hold_reference(bytes: &[u8]) -> bool
+    ensures { result ≡ list_any may_begin_reference bytes.now }
+{
+    let mut found = false;
+    for byte in bytes {
+        found |= *byte == b'\\' || *byte == b'&';
+    }
+    found
+}
+
+/// Returns an offset such that no backslash or ampersand is before it: the length, or an offset close to the first one.
+fn past_plain(bytes: &[u8]) -> usize
+    ensures { IsPast may_begin_reference bytes.now result }
+{
+    let mut start = 0;
+    'plain: while bytes.len() - start >= TOGETHER
+        && !may_hold_reference(&bytes[start..start + TOGETHER])
+    {
+        start += TOGETHER;
+    }
+    let end = bytes.len();
+    if end >= TOGETHER
+        && end - start < TOGETHER
+        && !may_hold_reference(&bytes[end - TOGETHER..end])
+    {
+        return end;
+    }
+    start
+}
+
 /// Returns the text before the first escape or entity, the character of that, and the text after it; `None` if there is
 /// none.
 fn split_at_reference<'t>(text: &'t str, in_table: bool) -> Option<(&'t str, char, &'t str)>
@@ -48,7 +85,7 @@ fn split_at_reference<'t>(text: &'t str, in_table: bool) -> Option<(&'t str, cha
     ensures shorter { IfSome result (λ parts. length parts.2.now < length text.now) }
 {
     let bytes = text.as_bytes();
-    for (at, _) in bytes.iter().enumerate() {
+    for at in past_plain(bytes)..bytes.len() {
         if let Some((length, character)) = scan_reference(&bytes[at..], in_table) {
             return Some((&text[..at], character, &text[at + length..]));
         }

@@ -12,7 +12,7 @@ use markdown_base::event::Event;
 use std::alloc::AllocError;
 
 impl<'a> Writer<'a> {
-    ghost use Rattle.markdown_out.specs.Writer.{view, view_after, IsRarer, IsSingle, IsVerbatim};
+    ghost use Rattle.markdown_out.specs.Writer.{view, view_after, IsSingle, IsVerbatim};
 
     /// Appends a Text outside images; in metadata it writes nothing.
     fn text(&mut self, s: &mut String, words: &str) -> Result<(), AllocError>
@@ -119,10 +119,10 @@ impl<'a> Writer<'a> {
         }
     }
 
-    /// Appends an event outside images that is neither a Text nor an End.
-    fn rarer(&mut self, s: &mut String, event: Event<'a>) -> Result<(), AllocError>
+    /// Appends an event outside images that is neither a Start, an End, a Text nor a footnote reference, and drops it.
+    fn owned_single(&mut self, s: &mut String, event: Event<'a>) -> Result<(), AllocError>
         requires outside { self.old.image ≡ None }
-        requires rarer { IsRarer (event_view event) }
+        requires single { IsSingle (event_view event) }
         ensures ok { OnOk result (Appends s.old s.new (joined (outside_parts (view self.old)
             (event_view event.entry)))) }
         ensures told { OnOk result (view self.new ≡ view_after (view self.old)
@@ -130,15 +130,9 @@ impl<'a> Writer<'a> {
         ensures err { OnErr result (AppendsPart s.old s.new (joined (outside_parts (view self.old)
             (event_view event.entry)))) }
     {
-        match event {
-            Event::Start(tag) => self.start(s, tag),
-            Event::FootnoteReference(name) => self.footnote_reference(s, name),
-            single => {
-                let done = self.single(s, &single);
-                drop(single);
-                done
-            }
-        }
+        let done = self.single(s, &event);
+        drop(event);
+        done
     }
 
     /// Appends the HTML of an event outside images. The most frequent events are taken apart here, so that only the
@@ -156,7 +150,9 @@ impl<'a> Writer<'a> {
             Event::Text(words) => self.any_text(s, words),
             Event::End(tag) => self.end(s, tag),
             Event::SoftBreak => self.raw(s, "\n"),
-            rarer => self.rarer(s, rarer),
+            Event::Start(tag) => self.start(s, tag),
+            Event::FootnoteReference(name) => self.footnote_reference(s, name),
+            single => self.owned_single(s, single),
         }
     }
 }

@@ -1,8 +1,10 @@
 use Rattle.std.proofs.Common.{◌≡◌, ◌++◌, ◌<◌, ◌+◌, ◌∷◌, [], length, arith}
-use Rattle.std.proofs.Common.{ap, ◌∙◌, get_or}
+use Rattle.std.proofs.Common.{ap, ◌∙◌, get_or, sym, true}
 use Rattle.std.specs.String.{string_bytes}
 use Rattle.std.proofs.lemmas.Result.{err_from_is_err_and}
-use Rattle.markdown_out.specs.Escapes.{destination_byte}
+use Rattle.std.specs.List.{list_all}
+use Rattle.markdown_out.specs.Escapes.{destination_byte, is_kept_byte}
+use Rattle.markdown_out.proofs.EscapesLemmas.{all_kept}
 use Rattle.markdown_out.proofs.EscapesLemmas.{Copied-keep, Copied-write, Cuts-none, Cuts-keep}
 use Rattle.markdown_out.proofs.EscapesLemmas.{prefix-waiting, prefix-written, slice}
 use Rattle.markdown_out.proofs.escape.push_destination.Goals as goal
@@ -10,6 +12,12 @@ use Rattle.markdown_out.proofs.escape.push_destination.Goals.{
   in-Some+in_ok-push_any+in_ok-push_str,
 }
 use Rattle.markdown_out.proofs.escape.push_destination.Goals.{in_default}
+
+pub returns-then-are_kept-clause-ok : goal.returns-then-are_kept-clause-ok
+returns-then-are_kept-clause-ok c =
+    let a = c.as_bytes-bytes.ensures.value in
+    let kept : list_all is_kept_byte c.args.destination.now ≡ true = rw a at (sym c.if-are_kept.ensures) in
+    rw (all_kept c.args.destination.now kept) c.push_any.ensures.ok
 
 pub returns-in_err-push_any-clause-err : goal.returns-in_err-push_any-clause-err
 returns-in_err-push_any-clause-err c =

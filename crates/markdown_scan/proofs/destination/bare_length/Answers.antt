@@ -1,6 +1,7 @@
 use Rattle.std.proofs.Common.{refl, sym, ◌∙◌, arith, false}
+use Rattle.std.proofs.lemmas.List.{length-drop, take_rest}
 use Rattle.markdown_scan.specs.Destination.{bare_length}
-use Rattle.markdown_scan.proofs.DestinationLemmas.{bare_step, drop_next, ordinary_step}
+use Rattle.markdown_scan.proofs.DestinationLemmas.{bare_step, drop_next, ordinary_step, ordinary_steps}
 use Rattle.markdown_scan.proofs.destination.bare_length.Goals as goal
 
 pub loop-first-preserved : goal.loop-first-preserved
@@ -18,12 +19,10 @@ loop-first-preserved c =
           ∙ c.if-is_too_deep.false));
     }
 
-pub loop-first-preserved-then-is_ordinary : goal.loop-first-preserved-then-is_ordinary
-loop-first-preserved-then-is_ordinary c =
+pub loop-first-preserved-then-not-may_matter : goal.loop-first-preserved-then-not-may_matter
+loop-first-preserved-then-not-may_matter c =
     let split = c.in-Some.ensures.cases in
     let invariant = c.loop-first.invariant in
-    let is = c.if-is_ordinary.ensures in
-    let marks = is.no_parenthesis refl in
     record {
       sum = omega (arith, split.1, invariant.sum);
       here = drop_next c.args.bytes.now c.in-Some.tail.now c.loop-first.at c.in-Some.first.now (sym split.0 ∙ invariant.here);
@@ -31,5 +30,15 @@ loop-first-preserved-then-is_ordinary c =
       value =
           ordinary_step c.args.max_nesting (bare_length c.args.max_nesting false 0 c.args.bytes.now) c.loop-first.escaped
           c.loop-first.opened c.loop-first.at c.in-Some.first.now c.in-Some.tail.now (rw split.0 at invariant.value)
-          (is.shown refl) marks.0 marks.1 (is.no_backslash refl);
+          (sym c.if-not-may_matter.ensures);
     }
+
+pub loop-first-init : goal.loop-first-init
+loop-first-init c =
+    let past = c.past_ordinary-start.ensures in
+    rw take_rest (record {
+      sum = omega (arith, past.within, length-drop c.past_ordinary-start.result c.args.bytes.now);
+      here = refl;
+      few = omega arith;
+      value = ordinary_steps c.args.max_nesting c.args.bytes.now c.past_ordinary-start.result past;
+    })

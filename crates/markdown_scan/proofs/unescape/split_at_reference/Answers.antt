@@ -2,7 +2,7 @@ use Rattle.std.proofs.Common.{◌<◌, ◌+◌, length, arith, sym, drop}
 use Rattle.std.proofs.Math.Nat.{sub-zero}
 use Rattle.std.proofs.lemmas.List.{take_rest, length-drop}
 use Rattle.markdown_scan.proofs.UnescapeLemmas.{cut_after, reference_is, unescaped_changes}
-use Rattle.markdown_scan.proofs.UnescapeLemmas.{unescaped_at_byte, unescaped_at_reference}
+use Rattle.markdown_scan.proofs.UnescapeLemmas.{unescaped_at_byte, unescaped_at_reference, unescaped_past_plain}
 use Rattle.markdown_scan.proofs.unescape.split_at_reference.Goals as goal
 
 pub range_from-requires : goal.range_from-requires
@@ -49,3 +49,8 @@ loop-at-preserved c =
     let here : c.loop-at.at < length c.args.text.now = rw a at c.loop-at-test.true in
     let none = rw (a, take_rest) at (sym c.in_default.ensures.value) in
     unescaped_at_byte c.args.in_table c.args.text.now c.loop-at.at here none c.loop-at.invariant
+
+pub loop-at-init : goal.loop-at-init
+loop-at-init c =
+    let a = c.as_bytes-bytes.ensures.value in
+    unescaped_past_plain c.args.in_table c.args.text.now c.past_plain-at.result (rw a at c.past_plain-at.ensures)
