@@ -17,7 +17,7 @@ use Rattle.markdown_document.specs.ChainRest.{joined_chains}
 use Rattle.markdown_document.specs.Document.{Label}
 use Rattle.markdown_base.specs.Forest.{Forest, nil, node, first_root}
 use Rattle.markdown_brackets.specs.BracketDecision.{Around, Becomes, Closing, Progress, Try, Wikilink, a_wikilink, decided}
-use Rattle.markdown_brackets.specs.BracketDecision.{one_decided, past_second, spent_by, wikilink_in}
+use Rattle.markdown_brackets.specs.BracketDecision.{one_decided, past_second, spent_by, to_be, wikilink_in}
 use Rattle.markdown_brackets.specs.Reference.{could_be_reference}
 use Rattle.markdown_brackets.specs.Wikilink.{WikilinkBody, has_pothole, Shows, shows_name, shows_nothing, shows_from, wikilink_body}
 use Rattle.markdown_brackets.specs.declared.wikilink_nodes.ShownNodes.{ShownNodes}
@@ -87,12 +87,8 @@ pub record ComesTo {C : Type 0} (step : C → Question → Option Answer → C �
   pub more : List ℕ
   pub comes : (p : Progress ℕ) (later : Answers)
       → try (knowing old.limit (answers ++ later) (uses_of old.tables.footdefs) p)
-      ≡ record {
-        becomes = becomes;
-        progress =
-            record (knowing new.limit later (uses_of new.tables.footdefs) p)
-            { spent = more ++ p.spent; asked = p.asked ++ questions };
-      }
+      ≡ to_be becomes (record (knowing new.limit later (uses_of new.tables.footdefs) p)
+      { spent = more ++ p.spent; asked = p.asked ++ questions })
   pub spends : (end : ℕ) → is_spent spent' end ≡ (among end more || is_spent spent end)
   pub is : IsBecome w becomes found
 
@@ -184,7 +180,8 @@ pub record HoldsInside (nodes : List (Node Item)) (closer : ℕ) (opener : Opene
     0 where
   pub source : List ℕ
   pub tables : Tables
-  pub holds : Holds source tables nodes (sibling_of nodes opener.node) (joined_chains (inside o) (node c.label nil c.rest))
+  pub holds : Holds source tables nodes (sibling_of nodes opener.node)
+      (joined_chains (inside o) (node c.label nil c.rest))
   pub found : forest_at (links_of nodes) (sibling_of nodes opener.node)
       ≡ numbers_of (joined_chains (inside o) (node c.label nil c.rest))
   pub apart : times_of c.label.tag (inside o) ≡ 0
@@ -232,11 +229,7 @@ pub record TakesOne (w : Around) (c : Closing ℕ) (left : List (Entry ℕ)) (he
   pub held_is : held ≡ wikilinks_of (wikilink_taken (bracket_taken left))
   pub splits : IsSplit (wikilink_taken (bracket_taken left)) opener
   pub decides : (p : Progress ℕ) → decided w c (record p { left = left })
-      ≡ record {
-        becomes = a_wikilink opener wikilink end;
-        progress =
-            record p { left = wikilink_taken (bracket_taken left) };
-      }
+      ≡ to_be (a_wikilink opener wikilink end) (record p { left = wikilink_taken (bracket_taken left) })
   pub is : IsBecome w (a_wikilink opener wikilink end) found
 
 -- a wikilink is found, or none
