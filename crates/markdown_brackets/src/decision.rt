@@ -1,6 +1,6 @@
 //! The decision what a closing bracket becomes: it reads a tree and does not change it.
-ghost use Rattle.std.specs.Prelude.{◌≡◌, ◌<◌, ◌&&◌, ℕ, Bool, List, Option, IfErr, IfOk, IfSome, OnErr, is_some, length};
-ghost use Rattle.std.specs.Prelude.{not};
+ghost use Rattle.std.specs.Prelude.{◌≡◌, ◌<◌, ◌&&◌, ℕ, Bool, List, Option, IfErr, IfOk, IfSome, OnErr};
+ghost use Rattle.std.specs.Prelude.{is_some, length, not};
 ghost use Rattle.markdown_base.specs.BlockTree.{item_at};
 ghost use Rattle.markdown_base.specs.declared.fault.Fault.{Fault};
 ghost use Rattle.markdown_base.specs.declared.item.ItemBody.{ItemBody};
@@ -15,7 +15,8 @@ ghost use Rattle.markdown_brackets.specs.HeldOpeners.{brackets_of, wikilinks_of}
 ghost use Rattle.markdown_brackets.specs.LeftList.{Entry, Split};
 ghost use Rattle.markdown_brackets.specs.Reference.{could_be_reference};
 ghost use Rattle.markdown_brackets.specs.SpentEnds.{is_spent};
-ghost use Rattle.markdown_brackets.specs.StandsAt.{FindsWikilink, IsWikilinkAt, TriesWikilink, TakesWikilink, wikilink_nodes};
+ghost use Rattle.markdown_brackets.specs.StandsAt.{FindsWikilink, IsWikilinkAt, TriesWikilink};
+ghost use Rattle.markdown_brackets.specs.StandsAt.{TakesWikilink, wikilink_nodes};
 ghost use Rattle.markdown_brackets.specs.Wikilink.{has_pothole};
 ghost use Rattle.markdown_brackets.specs.WikilinkNodes.{CanFindWikilink};
 ghost use Rattle.markdown_brackets.specs.WikilinkView.{shown_view};

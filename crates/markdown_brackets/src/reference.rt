@@ -6,7 +6,8 @@ ghost use Rattle.std.specs.Str.{IsCharBoundary};
 ghost use Rattle.markdown_scan.specs.Label.{link_label};
 ghost use Rattle.markdown_brackets.specs.Reference as def;
 ghost use Rattle.markdown_brackets.specs.declared.footnote.FootnoteStyle.{FootnoteStyle};
-ghost use Rattle.markdown_brackets.specs.ReferenceView.{label_view, form_view, name_start, BorrowsLabel, BorrowsName};
+ghost use Rattle.markdown_brackets.specs.ReferenceView.{label_view, form_view, name_start};
+ghost use Rattle.markdown_brackets.specs.ReferenceView.{BorrowsLabel, BorrowsName};
 
 use crate::block_rules::BlockRules;
 use crate::byte_at::after_byte;
