@@ -12,8 +12,10 @@ use Rattle.markdown_scan.specs.Backslash.{is_bare}
 use Rattle.markdown_scan.specs.Unescape.{unescaped}
 use Rattle.markdown_document.specs.LinkTitle.{Title, after_text, byte_shown, first_closer, is_line, next_line, opened_by, passed_with}
 use Rattle.markdown_document.specs.LinkTitle.{refuses, title_at, title_from}
-use Rattle.markdown_document.specs.LinkOrigins.{IsWrittenTitle}
-use Rattle.markdown_document.specs.Origins.{origin_of, sliced}
+use Rattle.markdown_base.specs.declared.tag.LinkType.{LinkType}
+use Rattle.markdown_base.specs.declared.tag.LinkType.TheVariants as kind
+use Rattle.markdown_document.specs.LinkOrigins.{IsTitleFrom, IsWrittenTitle}
+use Rattle.markdown_document.specs.Origins.{Origin, origin_of, sliced}
 use Rattle.markdown_brackets.specs.LinkTail as tail
 use Rattle.markdown_brackets.specs.LinkTail.{after_destination, after_title, closed_at, destination_at, link_tail, past_separator}
 use Rattle.markdown_brackets.specs.LinkTailView.{BorrowsTail, ReadsTail}
@@ -160,10 +162,11 @@ has_title in_table skipped starts source bytes block_end at (Some found) e reads
     (subst (λ bytes. BorrowsTail (t bytes) (Some found)) e borrows) some ∣₁
 
 -- what comes from a range comes from a wider one
-pub tail_wider : (source : List ℕ) (start start' : ℕ) (found : LinkTail) → start' ≤ start → IsTailFrom source start found
-    → IsTailFrom source start' found
-tail_wider source start start' found low h = λ some.
-    ∥∥₁_map (h some) (λ (w : IsWrittenTitle source start found.end (origin_of found.title) (text_of found.title)). record {
+pub title_wider : (source : List ℕ) (start end start' end' : ℕ) (link_type : LinkType) (origin : Origin) (title : List ℕ)
+    → start' ≤ start → end ≤ end' → IsTitleFrom source start end link_type origin title
+    → IsTitleFrom source start' end' link_type origin title
+title_wider source start end start' end' kind.Inline origin title low high h = λ some.
+    ∥∥₁_map (h some) (λ (w : IsWrittenTitle source start end origin title). record {
       starts = w.starts;
       block_end = w.block_end;
       at = w.at;
@@ -171,7 +174,8 @@ tail_wider source start start' found low h = λ some.
       written = w.written;
       is_written = w.is_written;
       from = omega (arith, low, w.from);
-      to = w.to;
+      to = omega (arith, high, w.to);
       reads = w.reads;
       slice = w.slice;
     })
+title_wider source start end start' end' other origin title low high h = tt
