@@ -1,6 +1,6 @@
 -- A `]` in an arena, with the opener that is tried for it.
-use Rattle.std.specs.Prelude.{◌≡◌, ℕ, ◌<◌, ◌≤◌, ◌&&◌, ◌||◌, ◌++◌, ◌==◌, not, Bool, List, [], Option, Some, None, is_some}
-use Rattle.std.specs.Prelude.{if◌then◌else◌}
+use Rattle.std.specs.Prelude.{◌≡◌, ℕ, ◌<◌, ◌≤◌, ◌&&◌, ◌||◌, ◌++◌, ◌==◌, not, Bool, List, [], Option, Some, None}
+use Rattle.std.specs.Prelude.{is_some, if◌then◌else◌}
 use Rattle.std.specs.Option.{option_and_then, option_map}
 use Rattle.markdown_base.specs.Arena.{sibling_of}
 use Rattle.markdown_base.specs.ArenaForest.{links_of, forest_at}
@@ -16,10 +16,11 @@ use Rattle.markdown_document.specs.Tables.{Tables}
 use Rattle.markdown_document.specs.ChainRest.{joined_chains}
 use Rattle.markdown_document.specs.Document.{Label}
 use Rattle.markdown_base.specs.Forest.{Forest, nil, node, first_root}
-use Rattle.markdown_brackets.specs.BracketDecision.{Around, Becomes, Closing, Progress, Try, Wikilink, a_wikilink, decided}
-use Rattle.markdown_brackets.specs.BracketDecision.{one_decided, past_second, spent_by, to_be, wikilink_in}
+use Rattle.markdown_brackets.specs.BracketDecision.{Around, Becomes, Closing, Progress, Try, Wikilink, a_wikilink}
+use Rattle.markdown_brackets.specs.BracketDecision.{decided, one_decided, past_second, spent_by, to_be, wikilink_in}
 use Rattle.markdown_brackets.specs.Reference.{could_be_reference}
-use Rattle.markdown_brackets.specs.Wikilink.{WikilinkBody, has_pothole, Shows, shows_name, shows_nothing, shows_from, wikilink_body}
+use Rattle.markdown_brackets.specs.Wikilink.{WikilinkBody, has_pothole, Shows, shows_name, shows_nothing, shows_from}
+use Rattle.markdown_brackets.specs.Wikilink.{wikilink_body}
 use Rattle.markdown_brackets.specs.declared.wikilink_nodes.ShownNodes.{ShownNodes}
 use Rattle.markdown_brackets.specs.declared.closing_bracket.ClosedBracket.TheVariants.{Wikilinked}
 use Rattle.markdown_brackets.specs.ChainHeld.{Holds, numbers_of, times_of, link_to}

@@ -63,8 +63,8 @@ impl<'r, 'a, R: LineRule> Closer<'r, 'a, R> {
     /// Returns the tail of an inline link after the `]`, which is in the block, and `None` if there is none. The error
     /// is a refused allocation.
     pub(crate) fn read_tail(&self) -> Result<Option<LinkTail<'a>>, AllocError>
-        requires ready { (start : ℕ) × CanRead self.now.tree.now.nodes self.now.place.now self.now.node
-            start }
+        requires ready { (start : ℕ)
+            × CanRead self.now.tree.now.nodes self.now.place.now self.now.node start }
         requires inside { (item_at self.now.tree.now.nodes self.now.node).end
             ≤ self.now.place.now.block_end }
         ensures value { IfOk result (ReadsTail self.now.place.now.in_table
@@ -85,8 +85,8 @@ impl<'r, 'a, R: LineRule> Closer<'r, 'a, R> {
     /// Returns the form of a reference, from what follows the `]`, which is in the block. The error is a refused
     /// allocation.
     pub(crate) fn read_form(&self) -> Result<Form<'a>, AllocError>
-        requires ready { (start : ℕ) × CanRead self.now.tree.now.nodes self.now.place.now self.now.node
-            start }
+        requires ready { (start : ℕ)
+            × CanRead self.now.tree.now.nodes self.now.place.now self.now.node start }
         requires inside { (item_at self.now.tree.now.nodes self.now.node).end
             ≤ self.now.place.now.block_end }
         ensures form { IfOk result (λ form. form_view form

@@ -108,8 +108,8 @@ fn take_wikilink<'a, R>(
         (footnotes : FootnoteDefs) (asks : Bool) (left : List (Entry ℕ)) (c : Closing ℕ)
         → StandsBefore at.now.tree.now.nodes at.now.node left c
         → wikilinks.old ≡ wikilinks_of left
-        → TakesWikilink (around_at at.now.place.now skipped bodies definitions footnotes asks) c left
-        wikilinks.new result }
+        → TakesWikilink (around_at at.now.place.now skipped bodies definitions footnotes asks) c
+        left wikilinks.new result }
 {
     if !wikilinks_on(at.place.options) {
         return None;
@@ -140,7 +140,8 @@ pub fn decide_bracket<'a, R: LineRule, F: BrokenLinkCallback<'a>>(
         (bodies : List ItemBody) (skipped : List ℕ → ℕ) (left : List (Entry ℕ))
         (c : Closing ℕ) → GoesOnBehind (R.skipped at.now.rule.now) skipped
         → StandsBefore at.now.tree.now.nodes at.now.node left c
-        → c.could_be_reference ≡ (could_be_reference (item_at at.now.tree.now.nodes at.now.node).body
+        → c.could_be_reference
+        ≡ (could_be_reference (item_at at.now.tree.now.nodes at.now.node).body
         && not (is_spent waiting.old.spent (end_of c.label)))
         → waiting.old.openers.brackets ≡ brackets_of left
         → waiting.old.openers.wikilinks ≡ wikilinks_of left

@@ -164,9 +164,9 @@ fn try_own<'a, R: LineRule, F: BrokenLinkCallback<'a>>(
     requires asks { IfSome lookup.old.callback F.can_ask }
     ensures comes { IfOk result (λ found. (spent : SpentEnds)
         → Tries F.answers at.now opener lookup.old lookup.new spent spent
-        (λ w o. tried w o (own_written link_type (item_at at.now.tree.now.nodes at.now.node).end next
-        (own_label_at at.now.tree.now.nodes at.now.place.now (R.skipped at.now.rule.now) at.now.node
-        ((item_at at.now.tree.now.nodes opener.node).end - 1)))) found) }
+        (λ w o. tried w o (own_written link_type (item_at at.now.tree.now.nodes at.now.node).end
+        next (own_label_at at.now.tree.now.nodes at.now.place.now (R.skipped at.now.rule.now)
+        at.now.node ((item_at at.now.tree.now.nodes opener.node).end - 1)))) found) }
     ensures uses { CountsUses lookup.old.tables lookup.new.tables }
     ensures again { IfSome lookup.new.callback F.can_ask }
     ensures refused { IfErr result (λ fault. fault ≡ Fault.Memory) }
@@ -275,8 +275,8 @@ pub(crate) fn try_opener<'a, R: LineRule, F: BrokenLinkCallback<'a>>(
         → TriesOpener at.now.tree.now.nodes at.now.node
         (could_be_at at.now.tree.now.nodes at.now.node spent.old) taken c o
         → ComesTo F.answers (around_by at.now.place.now skipped bodies lookup.old)
-        (opener_tried (around_by at.now.place.now skipped bodies lookup.old) c o) lookup.old lookup.new
-        spent.old spent.new found) }
+        (opener_tried (around_by at.now.place.now skipped bodies lookup.old) c o) lookup.old
+        lookup.new spent.old spent.new found) }
     ensures uses { CountsUses lookup.old.tables lookup.new.tables }
     ensures again { IfSome lookup.new.callback F.can_ask }
     ensures refused { IfErr result (λ fault. fault ≡ Fault.Memory) }
