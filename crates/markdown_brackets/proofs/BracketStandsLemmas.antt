@@ -1,21 +1,15 @@
 -- A left list and its `]` in an arena: their parts are chains of the arena.
-use Rattle.std.proofs.Common.{◌≡◌, ℕ, ◌≤◌, List, Option, length, sym, subst, arith}
-use Rattle.std.specs.Prelude.{⊤}
+use Rattle.std.proofs.Common.{◌≡◌, ℕ, ◌≤◌, List, Option, length, arith}
 use Rattle.markdown_base.specs.Arena.{sibling_of}
-use Rattle.markdown_base.specs.ArenaForest.{Links, links_of, Spells, forest_at}
-use Rattle.markdown_base.specs.Forest.{Forest, nil, node, Each}
+use Rattle.markdown_base.specs.ArenaForest.{Links, links_of, forest_at}
+use Rattle.markdown_base.specs.Forest.{Forest, node}
 use Rattle.markdown_base.specs.declared.item.Item.{Item}
 use Rattle.markdown_base.specs.declared.node.Node.{Node}
 use Rattle.markdown_base.proofs.ArenaForestLemmas.{height, height-followed, forest_at-fits}
 use Rattle.markdown_document.specs.Document.{Label}
 use Rattle.markdown_document.specs.Tables.{Tables}
-use Rattle.markdown_brackets.specs.ChainAhead.{IsChain}
 use Rattle.markdown_brackets.specs.ChainHeld.{Holds, numbers_of}
 use Rattle.markdown_brackets.proofs.HeldTreesLemmas.{Holds-spells}
-
-each_true : (f : Forest ℕ) → Each (λ ix. ⊤) f
-each_true nil = tt
-each_true (node ix below after) = (tt, each_true below, each_true after)
 
 pub height_found : (k : Links) (l : Option ℕ) → height (forest_at k l) ≤ k.size
 unfolding forest_at
@@ -30,12 +24,6 @@ module _ (source : List ℕ) (tables : Tables) (nodes : List (Node Item)) where
 
   pub found_at : (l : Option ℕ) (f : Forest (Label ℕ)) → Found l f → forest_at (links_of nodes) l ≡ numbers_of f
   found_at l f s = forest_at-fits (links_of nodes) l (numbers_of f) (Holds-spells source tables nodes l f s.holds) s.low
-
-  pub chain_at : (l : Option ℕ) (f : Forest (Label ℕ)) → Found l f → IsChain nodes l
-  chain_at l f s = record {
-    spelled = subst (λ g. Spells (links_of nodes) l g) (sym (found_at l f s)) (Holds-spells source tables nodes l f s.holds);
-    each = each_true (forest_at (links_of nodes) l);
-  }
 
   pub found_after : (l : Option ℕ) (a : Label ℕ) (below after : Forest (Label ℕ)) → Found l (node a below after)
       → Found (sibling_of nodes a.tag) after

@@ -3,7 +3,7 @@ use Rattle.std.proofs.Common.{◌≡◌, ℕ, ◌++◌, Bool, true, false, List,
 use Rattle.std.specs.Option.{option_map}
 use Rattle.std.proofs.Common.{arith}
 use Rattle.std.proofs.lemmas.Bool.Decides.{nat_tests}
-use Rattle.std.specs.Prelude.{IfSome, ◌==◌, ◌||◌, if◌then◌else◌}
+use Rattle.std.specs.Prelude.{IfSome, ◌==◌, ◌||◌, if◌then◌else◌, unwrap_or}
 use Rattle.markdown_base.specs.CowText.{text_of}
 use Rattle.markdown_base.specs.Event.{LinkView}
 use Rattle.markdown_base.specs.Questions.{Question, Answer, Answers}
@@ -23,7 +23,7 @@ use Rattle.markdown_defs.specs.Definitions.{Labelled}
 use Rattle.markdown_defs.specs.Folding.{is_match}
 use Rattle.markdown_defs.specs.Footnotes.{footnote_at}
 use Rattle.markdown_defs.specs.Footnotes as footnotes
-use Rattle.markdown_brackets.specs.BracketDecision.{footnote_used, to_be, Around, Becomes, Decision, Progress, Try, a_text, a_link, a_footnote}
+use Rattle.markdown_brackets.specs.BracketDecision.{footnote_used, to_be, Around, Becomes, Progress, Try, a_text, a_link, a_footnote}
 use Rattle.markdown_brackets.specs.BracketDecision.{Written, after_look_up, inline_link, inline_target, question_at, spent_by, tail_or, target_tried, tried}
 use Rattle.markdown_brackets.specs.BracketDecision.{link_reference, footnote_label}
 use Rattle.markdown_brackets.specs.BracketOptions.{footnote_style}
@@ -111,8 +111,7 @@ comes_quietly step w old spent try becomes found tries is = record {
   comes = λ p later.
       let now : Progress ℕ = knowing old.limit later (uses_of old.tables.footdefs) p in
       tries now
-      ∙ ap (λ (asked : List Question). let d : Decision ℕ = record { becomes = becomes; progress = record now { asked = asked } } in d)
-      (sym (append-nil p.asked));
+      ∙ ap (λ (asked : List Question). to_be becomes (record now { asked = asked })) (sym (append-nil p.asked));
   spends = λ end. refl;
   is = is;
 }
@@ -160,8 +159,7 @@ module _ {C : Type 0} (step : C → Question → Option Answer → C → Type 0)
 
   -- a label that was looked up
   abbrev pub link_or_text : (end next : ℕ) → Option LinkView → Becomes ℕ
-  link_or_text end next None = a_text
-  link_or_text end next (Some target) = a_link o target end next
+  link_or_text end next target = unwrap_or (option_map (λ t. a_link o t end next) target) a_text
 
   pub comes_to_reference : (about : BrokenLink) (next : ℕ) (spent spent' : SpentEnds) (target : Option LinkView) (found : ClosedBracket)
       → about.span.start ≡ start_of o.opener → new.tables ≡ old.tables → Spends about.link_type about.span.end spent spent'
@@ -178,8 +176,7 @@ module _ {C : Type 0} (step : C → Question → Option Answer → C → Type 0)
         let uses = uses_of old.tables.footdefs in
         let before : Progress ℕ = record (knowing old.limit (looks.answers ++ later) uses p) { spent = spent_by link_type end p.spent } in
         ap (λ (f : LookedUp). target_tried o end next f.target (after_look_up f before)) (looks.finds later)
-        ∙ (by target p later
-        ∙ rw (same, ← spent_grows link_type end p.spent) refl);
+        ∙ rw (same, ← spent_grows link_type end p.spent) refl;
     spends = spends;
     is = is (subst (λ (f : LookedUp). IsNoInline f.target) (looks.finds [])
         (none_inline old.tables.refdefs (is_some old.callback) old.limit (looks.answers ++ []) (question_at o link_type label end) kind));
@@ -199,15 +196,6 @@ module _ {C : Type 0} (step : C → Question → Option Answer → C → Type 0)
           subst (λ n. let q : Question =
           record { span = record { start = n; end = end }; link_type = link_type; reference = label } in LooksUp step old new q target)
           start asks
-
-      by : (target : Option LinkView) (p : Progress ℕ) (later : Answers)
-          → let now : Progress ℕ = record (knowing new.limit later (uses_of old.tables.footdefs) p) {
-            spent = spent_by link_type end p.spent;
-            asked = p.asked
-                ++ looks.questions;
-          } in target_tried o end next target now ≡ record { becomes = link_or_text end next target; progress = now }
-      by None p later = refl
-      by (Some t) p later = refl
 
   -- a footnote label
   module _ (name : List ℕ) (spent : SpentEnds) (limit : new.limit ≡ old.limit) (callback : new.callback ≡ old.callback)
@@ -237,8 +225,7 @@ module _ {C : Type 0} (step : C → Question → Option Answer → C → Type 0)
       comes = λ p later.
           let now : Progress ℕ = knowing new.limit later (uses_of new.tables.footdefs) p in
           tries p later
-          ∙ ap (λ (asked : List Question). let d : Decision ℕ = record { becomes = becomes; progress = record now { asked = asked } } in d)
-          (sym (append-nil p.asked));
+          ∙ ap (λ (asked : List Question). to_be becomes (record now { asked = asked })) (sym (append-nil p.asked));
       spends = λ end. refl;
       is = is;
     }

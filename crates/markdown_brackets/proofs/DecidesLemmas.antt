@@ -8,7 +8,7 @@ use Rattle.markdown_base.specs.declared.item.Item.{Item}
 use Rattle.markdown_base.specs.declared.node.Node.{Node}
 use Rattle.markdown_document.specs.ChainRest.{end_of}
 use Rattle.markdown_document.specs.Setting.{Known, uses_of}
-use Rattle.markdown_brackets.specs.BracketDecision.{Around, Closing, Decision, Progress, a_wikilink, opener_tried}
+use Rattle.markdown_brackets.specs.BracketDecision.{Around, Closing, Decision, Progress, a_wikilink, opener_tried, to_be}
 use Rattle.markdown_brackets.specs.Decides.{Decides, StandsBefore}
 use Rattle.markdown_brackets.specs.DecisionView.{knowing, opener_of}
 use Rattle.markdown_brackets.specs.Finish.{SplitsAs}
@@ -51,13 +51,10 @@ module _ {C : Type 0} (step : C → Question → Option Answer → C → Type 0)
       splits = t.splits;
       more = [];
       decides = λ p later.
-          t.decides (knowing lookup.limit later (uses_of lookup.tables.footdefs) p)
-          ∙ ap (λ (asked : List Question). let d : Decision ℕ = record {
-            becomes = a_wikilink t.opener t.wikilink t.end;
-            progress =
-                record (knowing lookup.limit later (uses_of lookup.tables.footdefs) p) { left = wikilink_taken (bracket_taken left); asked = asked };
-          } in d)
-          (sym (append-nil p.asked));
+          let now : Progress ℕ = knowing lookup.limit later (uses_of lookup.tables.footdefs) p in
+          t.decides now
+          ∙ ap (λ (asked : List Question). to_be (a_wikilink t.opener t.wikilink t.end)
+          (record now { left = wikilink_taken (bracket_taken left); asked = asked })) (sym (append-nil p.asked));
       spends = λ end. refl;
       brackets_are = left_of taken old new m ∙ (ap rest_of old_is ∙ (rest_brackets left ∙ sym (brackets_stay (bracket_taken left))));
       wikilinks_are = t.held_is;

@@ -1,22 +1,11 @@
--- Names of labels, as slices of the label and of what follows its first bytes; and the form of a reference where no
--- text is left.
-use Rattle.std.proofs.Common.{◌≡◌, ℕ, ◌+◌, ◌-◌, ◌≤◌, ◌&&◌, Bool, true, false, List, [], Option, length, take, drop, slice_range, refl, sym}
-use Rattle.std.proofs.Common.{◌∙◌, ap, arith}
+-- The form of a reference where no text is left.
+use Rattle.std.proofs.Common.{◌≡◌, ℕ, ◌+◌, ◌≤◌, ◌&&◌, Bool, true, false, List, [], Option, length, refl}
+use Rattle.std.proofs.Common.{◌∙◌, ap}
 use Rattle.std.specs.Prelude.{if◌then◌else◌}
 use Rattle.std.proofs.lemmas.List.{drop_all}
 use Rattle.markdown_base.specs.declared.item.Item.{Item}
 use Rattle.markdown_brackets.specs.Reference.{collapsed, form_at, form_by_label, is_closer, is_opener, bracket_label, shortcut, stands_at}
 use Rattle.markdown_brackets.specs.declared.footnote.FootnoteStyle.{FootnoteStyle}
-use Rattle.markdown_brackets.specs.ReferenceView.{BorrowsLabel, BorrowsName, name_start}
-use Rattle.markdown_brackets.specs.declared.reference.FoundLabel.{FoundLabel}
-
--- a slice where it is one after the first bytes
-pub BorrowsName-from_rest : (text rest : List ℕ) (start : ℕ) (l : FoundLabel) → rest ≡ drop start text → name_start l.is_footnote ≡ start
-    → BorrowsLabel start rest l → BorrowsName text l
-BorrowsName-from_rest text rest start l is kind borrows e =
-    let n : l.length - 1 - start ≡ l.length - start - 1 = omega arith in
-    borrows (e ∙ ap (λ (k : ℕ). slice_range text k (l.length - 1)) kind ∙ ap (λ (k : ℕ). take k (drop start text)) n
-    ∙ ap (take (l.length - start - 1)) (sym is))
 
 -- there is no label after the text's end
 by_items : (style : FootnoteStyle) (skipped : List ℕ → Option ℕ) (in_table : Bool) (at : ℕ) (empty starts : Bool)

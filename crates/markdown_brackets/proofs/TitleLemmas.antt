@@ -140,9 +140,6 @@ whole_past_end whole starts closer i escaped so joined text start was here bare 
 pub ReadsTitle-none : (in_table : Bool) (whole : Option Title) → whole ≡ None → ReadsTitle in_table whole None
 ReadsTitle-none in_table whole e = subst (λ (t : Option Title). ReadsTitle in_table t None) (sym e) tt
 
-pub BorrowsTitle-none : (whole : Option Title) (found : Option (ℕ × CowStr)) → whole ≡ None → BorrowsTitle whole found
-BorrowsTitle-none whole found e = subst (λ (t : Option Title). BorrowsTitle t found) (sym e) tt
-
 -- what starts later is asked of what ends past the next byte alone
 pub next_line_same : (starts starts' : ℕ → Option ℕ) (i b : ℕ) → starts (i + 1) ≡ starts' (i + 1)
     → next_line starts i b ≡ next_line starts' i b

@@ -1,9 +1,8 @@
 -- What is read of a block's text, and that nothing is read past its end.
-use Rattle.std.proofs.Common.{rules, ◌≡◌, ℕ, ◌<◌, ◌≤◌, Bool, List, Option, Some, None, Result, Ok, Err, get_or, length, min, take, arith}
-use Rattle.std.proofs.Common.{◌+◌, ◌&&◌, true, false, refl, ◌∙◌, ap, subst, sym, if◌then◌else◌}
-use Rattle.std.proofs.lemmas.List.{get_or-take, length-take}
-use Rattle.std.specs.Str.{IsCharBoundary}
-use Rattle.std.specs.Prelude.{IfOk, OnOk, slice_range}
+use Rattle.std.proofs.Common.{rules, ◌≡◌, ℕ, ◌<◌, ◌≤◌, Bool, List, Option, Some, None, Result, Ok, Err, length, take, arith}
+use Rattle.std.proofs.Common.{◌+◌, ◌&&◌, true, false, refl, ◌∙◌, ap, if◌then◌else◌}
+use Rattle.std.proofs.lemmas.List.{length-take}
+use Rattle.std.specs.Prelude.{IfOk, slice_range}
 use Rattle.std.specs.Option.{option_and_then, option_map}
 use Rattle.markdown_base.specs.Arena.{sibling_of}
 use Rattle.markdown_base.specs.BlockTree.{item_at}
@@ -36,28 +35,9 @@ pub ok_map : {X E : Type 0} (r : Result X E) (P G : X → Type 0) → IfOk r P �
 ok_map (Ok x) P G h f = f x h
 ok_map (Err e) P G h f = tt
 
-pub ok_with : {X E : Type 0} (r : Result X E) (P G : X → Type 0) (Q : Type 0) → IfOk r P → OnOk r Q → ((x : X) → P x → Q → G x) → IfOk r G
-ok_with (Ok x) P G Q h k f = f x h k
-ok_with (Err e) P G Q h k f = tt
-
 pub ok_both : {X E : Type 0} (r : Result X E) (P Q G : X → Type 0) → IfOk r P → IfOk r Q → ((x : X) → P x → Q x → G x) → IfOk r G
 ok_both (Ok x) P Q G h k f = f x h k
 ok_both (Err e) P Q G h k f = tt
-
--- what is a boundary of a text is one of its beginning too
-pub boundary_within : (text : List ℕ) (end s : ℕ) → IsCharBoundary text s → s ≤ end → IsCharBoundary (take end text) s
-boundary_within text end s h le =
-    let size : length (take end text) ≡ min end (length text) = length-take end text in (
-      omega (arith, size, h.0, le),
-      λ inside high.
-          let before : s < end = omega (arith, inside, size) in
-          let all : s < length text = omega (arith, inside, size) in
-          let same : get_or (take end text) s 0 ≡ get_or text s 0 = get_or-take end text s 0 before in
-          subst (λ b. 192 ≤ b) (sym same) (h.1 all (subst (λ b. 128 ≤ b) same high)),
-    )
-
-pub within_taken : (text : List ℕ) (end s : ℕ) → s ≤ length (take end text) → s ≤ end
-within_taken text end s h = omega (arith, h, length-take end text)
 
 -- if the bytes from the opener to the `]` are no label, the `]` is not a collapsed or shortcut reference
 no_reference : (could_be : Bool) (end : ℕ) (closes : ℕ → Bool) (empty : Bool)

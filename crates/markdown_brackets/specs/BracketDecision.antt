@@ -1,7 +1,7 @@
 -- What a closing bracket becomes (CommonMark 6.3 and 6.4, with footnotes and wikilinks), from the left list before it,
 -- the chain after it and what is known: the decision, before the tree is changed.
-use Rattle.std.specs.Prelude.{ℕ, ◌+◌, ◌-◌, Bool, true, false, ◌&&◌, ◌==◌, List, [], ◌∷◌, ◌++◌, Option, Some}
-use Rattle.std.specs.Prelude.{None, if◌then◌else◌, nat_lt, min, ◌^◌, slice_range, take}
+use Rattle.std.specs.Prelude.{ℕ, ◌+◌, ◌-◌, Bool, true, false, ◌&&◌, ◌==◌, List, [], ◌∷◌, ◌++◌, Option, Some, None}
+use Rattle.std.specs.Prelude.{if◌then◌else◌, nat_lt, min, ◌^◌, slice_range, take, unwrap_or}
 use Rattle.std.specs.Option.{option_map, option_and_then}
 use Rattle.markdown_base.specs.Event.{LinkView}
 use Rattle.markdown_base.specs.Forest.{Forest, nil, node}
@@ -11,8 +11,7 @@ use Rattle.markdown_base.specs.declared.item.ItemBody.{ItemBody}
 use Rattle.markdown_base.specs.declared.tag.LinkType.{LinkType}
 use Rattle.markdown_base.specs.declared.tag.LinkType.TheVariants as kind
 use Rattle.markdown_document.specs.Above.{Above}
-use Rattle.markdown_document.specs.Document.{Shape, Label}
-use Rattle.markdown_document.specs.Document.{text_over}
+use Rattle.markdown_document.specs.Document.{Shape, Label, text_over}
 use Rattle.markdown_document.specs.Setting.{Setting, Known}
 use Rattle.markdown_scan.specs.Unescape.{unescaped}
 use Rattle.markdown_defs.specs.Folding.{is_match}
@@ -20,8 +19,8 @@ use Rattle.markdown_document.specs.ChainRest.{start_of, end_of, open_body, as_it
 use Rattle.markdown_base.specs.EnabledOptions.{wikilinks_on}
 use Rattle.markdown_brackets.specs.BracketOptions.{footnote_style}
 use Rattle.markdown_brackets.specs.FootnoteUse.{is_reference}
-use Rattle.markdown_brackets.specs.LeftList.{Entry, Split, inside, is_live, nearest, opens_bracket}
-use Rattle.markdown_brackets.specs.LeftList.{opens_wikilink, bracket_taken, wikilink_taken}
+use Rattle.markdown_brackets.specs.LeftList.{Entry, Split, inside, is_live, nearest, opens_bracket, opens_wikilink}
+use Rattle.markdown_brackets.specs.LeftList.{bracket_taken, wikilink_taken}
 use Rattle.markdown_brackets.specs.LinkTail.{LinkTail, link_tail}
 use Rattle.markdown_brackets.specs.Lookup.{LookedUp, look_up}
 use Rattle.markdown_brackets.specs.Reference.{FoundLabel, Form, reference, collapsed, shortcut, form_at, own_label}
@@ -176,8 +175,7 @@ reference_written could_be end closes own shortcut =
 
 -- an inline link, or else a reference
 abbrev pub tail_or : Written → Option LinkTail → Written
-tail_or other None = other
-tail_or other (Some t) = inline_link t
+tail_or other tail = unwrap_or (option_map inline_link tail) other
 
 -- what is written from an opener on: an inline link, a reference, a footnote label, or no link
 abbrev pub written : {A : Type 0} → Around → Closing A → Split A → Written
@@ -206,8 +204,7 @@ footnote_tried w o name p =
 
 -- the `]` becomes a link or an image if a target was found, and otherwise a Text
 abbrev pub target_tried : {A : Type 0} → Split A → (end next : ℕ) → Option LinkView → Try A
-target_tried o end next None p = to_be a_text p
-target_tried o end next (Some target) p = to_be (a_link o target end next) p
+target_tried o end next target = to_be (unwrap_or (option_map (λ t. a_link o t end next) target) a_text)
 
 -- the progress after a look-up: the questions asked, and the limit and the answers that are left
 abbrev pub after_look_up : {A : Type 0} → LookedUp → Step A

@@ -1,7 +1,6 @@
 -- A chain of an arena from a link on, by the numbers of its nodes, and its trees from the first on that ends after a
 -- byte offset.
-use Rattle.std.specs.Prelude.{ℕ, Bool, false, ◌&&◌, ◌==◌, List, Option, Some, None, ⊤, if◌then◌else◌, nat_lt}
-use Rattle.std.specs.Prelude.{◌-◌}
+use Rattle.std.specs.Prelude.{ℕ, Bool, false, ◌&&◌, ◌==◌, List, Option, Some, None, ⊤, if◌then◌else◌, nat_lt, ◌-◌}
 use Rattle.std.specs.Coded.{Unit-prop}
 use Rattle.markdown_base.specs.ArenaForest.{links_of, forest_at}
 use Rattle.markdown_base.specs.ArenaWalk.{Reaches, Reaches-prop}

@@ -2,11 +2,10 @@
 use Rattle.std.specs.Prelude.{◌≡◌, ℕ, ◌<◌, List, Option, Some, None, length}
 use Rattle.markdown_base.specs.Arena.{child_of, sibling_of}
 use Rattle.markdown_base.specs.BlockTree.{item_at}
-use Rattle.markdown_base.specs.Forest.{Forest, nil, node, Each, relabelled}
+use Rattle.markdown_base.specs.Forest.{Forest, nil, node, relabelled}
 use Rattle.markdown_base.specs.declared.item.Item.{Item}
 use Rattle.markdown_base.specs.declared.node.Node.{Node}
 use Rattle.markdown_document.specs.Document.{Label, Plain, part_of}
-use Rattle.markdown_document.specs.Places.{IsPlaced}
 use Rattle.markdown_document.specs.Tables.{Tables}
 use Rattle.markdown_document.specs.Totals.{total, same}
 
@@ -34,7 +33,3 @@ times_of n f = total (same n) (numbers_of f)
 abbrev pub link_to : Forest (Label ℕ) → Option ℕ
 link_to nil = None
 link_to (node a below after) = Some a.tag
-
--- all nodes of a forest are placed
-abbrev pub ArePlaced : List ℕ → Tables → List (Node Item) → Forest (Label ℕ) → Type 0
-ArePlaced source tables nodes f = Each (IsPlaced source tables nodes) (numbers_of f)

@@ -1,17 +1,14 @@
 -- The effect of a closing bracket on a chain, from the left list before it, the chain after it, and what is known.
-use Rattle.std.specs.Prelude.{ℕ, ◌+◌, Bool, true, false, List, [], ◌∷◌, Some}
-use Rattle.std.specs.Prelude.{if◌then◌else◌}
+use Rattle.std.specs.Prelude.{ℕ, ◌+◌, Bool, true, false, List, [], ◌∷◌, Some, if◌then◌else◌}
 use Rattle.markdown_base.specs.Event.{LinkView, TagView, link, image, footnote_reference}
 use Rattle.markdown_base.specs.Forest.{nil}
 use Rattle.markdown_base.specs.declared.tag.LinkType.TheVariants as kind
-use Rattle.markdown_document.specs.Document.{made, leaf, enclosed, Label}
-use Rattle.markdown_document.specs.Document.{as_text}
+use Rattle.markdown_document.specs.Document.{made, leaf, enclosed, Label, as_text}
 use Rattle.markdown_document.specs.ChainRest.{start_of, end_of}
 use Rattle.markdown_brackets.specs.BracketDecision.{Around, Becomes, Closing, Decision, Progress, Step, Wikilink}
 use Rattle.markdown_brackets.specs.BracketDecision.{a_footnote, a_link, a_text, a_wikilink, decided, over, text_from}
-use Rattle.markdown_brackets.specs.LeftList.{Mark, Entry, done, Split, inside}
-use Rattle.markdown_brackets.specs.LeftList.{before_link}
-use Rattle.markdown_brackets.specs.LeftList.{before_wikilink, before_footnote}
+use Rattle.markdown_brackets.specs.LeftList.{Mark, Entry, done, Split, inside, before_link, before_wikilink}
+use Rattle.markdown_brackets.specs.LeftList.{before_footnote}
 
 -- the tag of a link or an image
 abbrev pub tag_for : Mark → LinkView → TagView

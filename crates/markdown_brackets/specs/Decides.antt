@@ -8,12 +8,11 @@ use Rattle.markdown_base.specs.declared.node.Node.{Node}
 use Rattle.markdown_document.specs.ChainRest.{start_of, end_of}
 use Rattle.markdown_document.specs.Tables.{Tables}
 use Rattle.markdown_defs.specs.Callback.{Asks}
-use Rattle.markdown_brackets.specs.BracketDecision.{Around, Becomes, Closing, Progress, decided}
+use Rattle.markdown_brackets.specs.BracketDecision.{Around, Becomes, Closing, Progress, decided, to_be}
 use Rattle.markdown_brackets.specs.ChainHeld.{Holds, numbers_of, times_of}
 use Rattle.markdown_brackets.specs.DecisionView.{IsBecome, knowing}
 use Rattle.markdown_brackets.specs.Finish.{SplitsAs}
-use Rattle.markdown_brackets.specs.LeftList.{Entry}
-use Rattle.markdown_brackets.specs.LeftList.{trees_onto}
+use Rattle.markdown_brackets.specs.LeftList.{Entry, trees_onto}
 use Rattle.markdown_brackets.specs.HeldOpeners.{brackets_of, wikilinks_of}
 use Rattle.markdown_brackets.specs.Openers.{Waiting}
 use Rattle.markdown_brackets.specs.ReadChain.{among}
@@ -85,15 +84,8 @@ pub record Decides {C : Type 0} (step : C → Question → Option Answer → C �
   pub more : List ℕ
   pub decides : (p : Progress ℕ) (later : Answers)
       → decided w c (knowing limit (answers ++ later) uses (record p { left = left }))
-      ≡ record {
-        becomes = becomes;
-        progress = record (knowing limit' later uses' p) {
-          left = left_then;
-          spent = more ++ p.spent;
-          asked = p.asked
-              ++ questions;
-        };
-      }
+      ≡ to_be becomes (record (knowing limit' later uses' p)
+      { left = left_then; spent = more ++ p.spent; asked = p.asked ++ questions })
   pub spends : (end : ℕ) → is_spent spent' end ≡ (among end more || is_spent spent end)
   pub brackets_are : brackets ≡ brackets_of left_then
   pub wikilinks_are : wikilinks ≡ wikilinks_of left_then

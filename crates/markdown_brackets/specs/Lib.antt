@@ -34,13 +34,13 @@ pub mod ChainHeld
 pub mod ChainAhead
 pub mod HeldOpeners
 pub mod SpentEnds
-pub mod WrittenView
 pub mod WikilinkNodes
 pub mod DecisionView
-pub mod StandsAt
 pub mod Finish
 pub mod Decides
 -- for private clauses
+pub mod WrittenView
+pub mod StandsAt
 pub mod SecondBracket
 pub mod TitleText
 pub mod TitlePart

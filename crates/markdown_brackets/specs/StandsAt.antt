@@ -1,6 +1,6 @@
 -- A `]` in an arena, with the opener that is tried for it.
-use Rattle.std.specs.Prelude.{◌≡◌, ℕ, ◌<◌, ◌≤◌, ◌&&◌, ◌||◌, ◌++◌, ◌==◌, not, Bool, List, [], Option, Some, None, is_some}
-use Rattle.std.specs.Prelude.{if◌then◌else◌}
+use Rattle.std.specs.Prelude.{◌≡◌, ℕ, ◌<◌, ◌≤◌, ◌&&◌, ◌||◌, ◌++◌, ◌==◌, not, Bool, List, [], Option, Some, None}
+use Rattle.std.specs.Prelude.{is_some, if◌then◌else◌}
 use Rattle.std.specs.Option.{option_and_then, option_map}
 use Rattle.markdown_base.specs.Arena.{sibling_of}
 use Rattle.markdown_base.specs.ArenaForest.{links_of, forest_at}
@@ -16,10 +16,11 @@ use Rattle.markdown_document.specs.Tables.{Tables}
 use Rattle.markdown_document.specs.ChainRest.{joined_chains}
 use Rattle.markdown_document.specs.Document.{Label}
 use Rattle.markdown_base.specs.Forest.{Forest, nil, node, first_root}
-use Rattle.markdown_brackets.specs.BracketDecision.{Around, Becomes, Closing, Progress, Try, Wikilink, a_wikilink, decided}
-use Rattle.markdown_brackets.specs.BracketDecision.{one_decided, past_second, spent_by, wikilink_in}
+use Rattle.markdown_brackets.specs.BracketDecision.{Around, Becomes, Closing, Progress, Try, Wikilink, a_wikilink}
+use Rattle.markdown_brackets.specs.BracketDecision.{decided, one_decided, past_second, spent_by, to_be, wikilink_in}
 use Rattle.markdown_brackets.specs.Reference.{could_be_reference}
-use Rattle.markdown_brackets.specs.Wikilink.{WikilinkBody, has_pothole, Shows, shows_name, shows_nothing, shows_from, wikilink_body}
+use Rattle.markdown_brackets.specs.Wikilink.{WikilinkBody, has_pothole, Shows, shows_name, shows_nothing, shows_from}
+use Rattle.markdown_brackets.specs.Wikilink.{wikilink_body}
 use Rattle.markdown_brackets.specs.declared.wikilink_nodes.ShownNodes.{ShownNodes}
 use Rattle.markdown_brackets.specs.declared.closing_bracket.ClosedBracket.TheVariants.{Wikilinked}
 use Rattle.markdown_brackets.specs.ChainHeld.{Holds, numbers_of, times_of, link_to}
@@ -87,12 +88,8 @@ pub record ComesTo {C : Type 0} (step : C → Question → Option Answer → C �
   pub more : List ℕ
   pub comes : (p : Progress ℕ) (later : Answers)
       → try (knowing old.limit (answers ++ later) (uses_of old.tables.footdefs) p)
-      ≡ record {
-        becomes = becomes;
-        progress =
-            record (knowing new.limit later (uses_of new.tables.footdefs) p)
-            { spent = more ++ p.spent; asked = p.asked ++ questions };
-      }
+      ≡ to_be becomes (record (knowing new.limit later (uses_of new.tables.footdefs) p)
+      { spent = more ++ p.spent; asked = p.asked ++ questions })
   pub spends : (end : ℕ) → is_spent spent' end ≡ (among end more || is_spent spent end)
   pub is : IsBecome w becomes found
 
@@ -184,7 +181,8 @@ pub record HoldsInside (nodes : List (Node Item)) (closer : ℕ) (opener : Opene
     0 where
   pub source : List ℕ
   pub tables : Tables
-  pub holds : Holds source tables nodes (sibling_of nodes opener.node) (joined_chains (inside o) (node c.label nil c.rest))
+  pub holds : Holds source tables nodes (sibling_of nodes opener.node)
+      (joined_chains (inside o) (node c.label nil c.rest))
   pub found : forest_at (links_of nodes) (sibling_of nodes opener.node)
       ≡ numbers_of (joined_chains (inside o) (node c.label nil c.rest))
   pub apart : times_of c.label.tag (inside o) ≡ 0
@@ -232,11 +230,7 @@ pub record TakesOne (w : Around) (c : Closing ℕ) (left : List (Entry ℕ)) (he
   pub held_is : held ≡ wikilinks_of (wikilink_taken (bracket_taken left))
   pub splits : IsSplit (wikilink_taken (bracket_taken left)) opener
   pub decides : (p : Progress ℕ) → decided w c (record p { left = left })
-      ≡ record {
-        becomes = a_wikilink opener wikilink end;
-        progress =
-            record p { left = wikilink_taken (bracket_taken left) };
-      }
+      ≡ to_be (a_wikilink opener wikilink end) (record p { left = wikilink_taken (bracket_taken left) })
   pub is : IsBecome w (a_wikilink opener wikilink end) found
 
 -- a wikilink is found, or none

@@ -1,5 +1,5 @@
 -- What is read at a `]` of an arena, as contracts describe it.
-use Rattle.std.specs.Prelude.{ℕ, ◌-◌, Bool, List, Option, take}
+use Rattle.std.specs.Prelude.{ℕ, Bool, List, Option, take}
 use Rattle.std.specs.Option.{option_and_then, option_map}
 use Rattle.markdown_base.specs.Arena.{sibling_of}
 use Rattle.markdown_base.specs.BlockTree.{item_at}

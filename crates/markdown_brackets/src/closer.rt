@@ -11,6 +11,7 @@ ghost use Rattle.markdown_brackets.specs.SpentEnds.{is_spent};
 ghost use Rattle.markdown_brackets.specs.WrittenView.{IsTailFrom, form_ahead, tail_ahead};
 ghost use Rattle.markdown_brackets.specs.Decides.{CanRead};
 
+use crate::block_rules::BlockRules;
 use crate::items_ahead::{ItemsAhead, link_after, linked_item};
 use crate::link_tail::{LinkTail, scan_link_tail};
 use crate::options::footnote_style;
@@ -35,6 +36,20 @@ pub struct Closer<'r, 'a, R> {
 }
 
 impl<'r, 'a, R: LineRule> Closer<'r, 'a, R> {
+    // Returns how the parts of links are read in the block.
+    fn rules(&self) -> BlockRules<'r, R>
+        ensures rule { result.rule.now ≡ self.now.rule.now }
+        ensures in_table { result.in_table ≡ self.now.place.now.in_table }
+        ensures style { result.style ≡ footnote_style self.now.place.now.options }
+    {
+        BlockRules {
+            alloc: self.alloc,
+            rule: self.rule,
+            in_table: self.place.in_table,
+            style: footnote_style(self.place.options),
+        }
+    }
+
     /// Returns whether the `]` could be a reference, and does not end the label of an earlier one.
     pub(crate) fn could_be_reference(&self, spent: &SpentEnds) -> bool
         requires { self.now.node < length self.now.tree.now.nodes }
@@ -48,8 +63,8 @@ impl<'r, 'a, R: LineRule> Closer<'r, 'a, R> {
     /// Returns the tail of an inline link after the `]`, which is in the block, and `None` if there is none. The error
     /// is a refused allocation.
     pub(crate) fn read_tail(&self) -> Result<Option<LinkTail<'a>>, AllocError>
-        requires ready { (start : ℕ) × CanRead self.now.tree.now.nodes self.now.place.now self.now.node
-            start }
+        requires ready { (start : ℕ)
+            × CanRead self.now.tree.now.nodes self.now.place.now self.now.node start }
         requires inside { (item_at self.now.tree.now.nodes self.now.node).end
             ≤ self.now.place.now.block_end }
         ensures value { IfOk result (ReadsTail self.now.place.now.in_table
@@ -64,21 +79,14 @@ impl<'r, 'a, R: LineRule> Closer<'r, 'a, R> {
             next: self.tree.next(self.node),
         };
         let text = &self.place.text[..self.place.block_end];
-        scan_link_tail(
-            self.alloc,
-            text,
-            end,
-            self.place.in_table,
-            self.rule,
-            &mut items,
-        )
+        scan_link_tail(&self.rules(), text, end, &mut items)
     }
 
     /// Returns the form of a reference, from what follows the `]`, which is in the block. The error is a refused
     /// allocation.
     pub(crate) fn read_form(&self) -> Result<Form<'a>, AllocError>
-        requires ready { (start : ℕ) × CanRead self.now.tree.now.nodes self.now.place.now self.now.node
-            start }
+        requires ready { (start : ℕ)
+            × CanRead self.now.tree.now.nodes self.now.place.now self.now.node start }
         requires inside { (item_at self.now.tree.now.nodes self.now.node).end
             ≤ self.now.place.now.block_end }
         ensures form { IfOk result (λ form. form_view form
@@ -90,18 +98,8 @@ impl<'r, 'a, R: LineRule> Closer<'r, 'a, R> {
         let next = self.tree.next(self.node);
         let first = linked_item(self.tree, next);
         let second = linked_item(self.tree, link_after(self.tree, next));
-        let style = footnote_style(self.place.options);
         let text = &self.place.text[..self.place.block_end];
-        scan_form(
-            self.alloc,
-            text,
-            end,
-            style,
-            self.rule,
-            self.place.in_table,
-            first,
-            second,
-        )
+        scan_form(&self.rules(), text, end, first, second)
     }
 
     /// Returns the label from a `[` at the byte offset `start` through the `]`, which is in the block; `None` if the
@@ -117,16 +115,7 @@ impl<'r, 'a, R: LineRule> Closer<'r, 'a, R> {
             (item_at self.now.tree.now.nodes self.now.node).end) }
     {
         let end = self.tree.item(self.node).end;
-        let style = footnote_style(self.place.options);
         let text = &self.place.text[..self.place.block_end];
-        scan_own_label(
-            self.alloc,
-            text,
-            start,
-            end,
-            style,
-            self.rule,
-            self.place.in_table,
-        )
+        scan_own_label(&self.rules(), text, start, end)
     }
 }

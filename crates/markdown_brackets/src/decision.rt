@@ -1,6 +1,6 @@
 //! The decision what a closing bracket becomes: it reads a tree and does not change it.
-ghost use Rattle.std.specs.Prelude.{◌≡◌, ◌<◌, ◌&&◌, ℕ, Bool, List, Option, IfErr, IfOk, IfSome, OnErr, is_some, length};
-ghost use Rattle.std.specs.Prelude.{not};
+ghost use Rattle.std.specs.Prelude.{◌≡◌, ◌<◌, ◌&&◌, ℕ, Bool, List, Option, IfErr, IfOk, IfSome, OnErr};
+ghost use Rattle.std.specs.Prelude.{is_some, length, not};
 ghost use Rattle.markdown_base.specs.BlockTree.{item_at};
 ghost use Rattle.markdown_base.specs.declared.fault.Fault.{Fault};
 ghost use Rattle.markdown_base.specs.declared.item.ItemBody.{ItemBody};
@@ -15,7 +15,8 @@ ghost use Rattle.markdown_brackets.specs.HeldOpeners.{brackets_of, wikilinks_of}
 ghost use Rattle.markdown_brackets.specs.LeftList.{Entry, Split};
 ghost use Rattle.markdown_brackets.specs.Reference.{could_be_reference};
 ghost use Rattle.markdown_brackets.specs.SpentEnds.{is_spent};
-ghost use Rattle.markdown_brackets.specs.StandsAt.{FindsWikilink, IsWikilinkAt, TriesWikilink, TakesWikilink, wikilink_nodes};
+ghost use Rattle.markdown_brackets.specs.StandsAt.{FindsWikilink, IsWikilinkAt, TriesWikilink};
+ghost use Rattle.markdown_brackets.specs.StandsAt.{TakesWikilink, wikilink_nodes};
 ghost use Rattle.markdown_brackets.specs.Wikilink.{has_pothole};
 ghost use Rattle.markdown_brackets.specs.WikilinkNodes.{CanFindWikilink};
 ghost use Rattle.markdown_brackets.specs.WikilinkView.{shown_view};
@@ -107,8 +108,8 @@ fn take_wikilink<'a, R>(
         (footnotes : FootnoteDefs) (asks : Bool) (left : List (Entry ℕ)) (c : Closing ℕ)
         → StandsBefore at.now.tree.now.nodes at.now.node left c
         → wikilinks.old ≡ wikilinks_of left
-        → TakesWikilink (around_at at.now.place.now skipped bodies definitions footnotes asks) c left
-        wikilinks.new result }
+        → TakesWikilink (around_at at.now.place.now skipped bodies definitions footnotes asks) c
+        left wikilinks.new result }
 {
     if !wikilinks_on(at.place.options) {
         return None;
@@ -139,7 +140,8 @@ pub fn decide_bracket<'a, R: LineRule, F: BrokenLinkCallback<'a>>(
         (bodies : List ItemBody) (skipped : List ℕ → ℕ) (left : List (Entry ℕ))
         (c : Closing ℕ) → GoesOnBehind (R.skipped at.now.rule.now) skipped
         → StandsBefore at.now.tree.now.nodes at.now.node left c
-        → c.could_be_reference ≡ (could_be_reference (item_at at.now.tree.now.nodes at.now.node).body
+        → c.could_be_reference
+        ≡ (could_be_reference (item_at at.now.tree.now.nodes at.now.node).body
         && not (is_spent waiting.old.spent (end_of c.label)))
         → waiting.old.openers.brackets ≡ brackets_of left
         → waiting.old.openers.wikilinks ≡ wikilinks_of left

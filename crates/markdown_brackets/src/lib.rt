@@ -2,6 +2,7 @@
 //! the bodies of wikilinks, the waiting openers, and the decision, which reads a tree.
 #![tactic(auto)]
 
+pub mod block_rules;
 mod byte_at;
 pub mod chain_openers;
 pub mod closer;

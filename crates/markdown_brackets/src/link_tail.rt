@@ -7,6 +7,7 @@ ghost use Rattle.markdown_brackets.specs.LinkTailView.{ReadsTail, BorrowsTail};
 ghost use Rattle.markdown_document.specs.LinkTitle.{title_at};
 ghost use Rattle.markdown_brackets.specs.TitlePart.{IsTitlePart};
 
+use crate::block_rules::BlockRules;
 use crate::byte_at::stands_at;
 use crate::items_after::ItemsAfter;
 use crate::link_title::scan_link_title;
@@ -60,24 +61,22 @@ fn scan_destination(text: &str, at: usize) -> Option<(usize, &str)>
 // Returns the title at the byte offset `at`, and the byte offset after it and the separator that follows; `at` and an
 // empty title if there is none. The error is a refused allocation.
 fn scan_title_part<'t, R: LineRule, I: ItemsAfter>(
-    alloc: Global,
+    rules: &BlockRules<'_, R>,
     text: &'t str,
     at: usize,
-    in_table: bool,
-    rule: &R,
     items: &mut I,
 ) -> Result<(usize, CowStr<'t>), AllocError>
     requires at { IsCharBoundary text.now at }
     requires items { (n s : ℕ) → I.starts items.old n ≡ Some s → s ≤ length text.now
         → IsCharBoundary text.now s }
     ensures value { IfOk result (λ part.
-        IsTitlePart (R.skipped rule.now) in_table text.now at
+        IsTitlePart (R.skipped rules.now.rule.now) rules.now.in_table text.now at
         (title_at (I.starts items.old) text.now at)
         part.0 part.1) }
 {
-    match scan_link_title(alloc, text, at, in_table, items)? {
+    match scan_link_title(rules.alloc, text, at, rules.in_table, items)? {
         None => Ok((at, CowStr::Borrowed(""))),
-        Some((end, title)) => Ok((past_separator(text, end, rule), title)),
+        Some((end, title)) => Ok((past_separator(text, end, rules.rule), title)),
     }
 }
 
@@ -86,35 +85,34 @@ fn scan_title_part<'t, R: LineRule, I: ItemsAfter>(
 /// title are replaced; either is a slice of the source if it does not change. Returns `None` if there is no tail at
 /// `at`. The error is a refused allocation. Upstream: `scan_inline_link`.
 pub fn scan_link_tail<'t, R: LineRule, I: ItemsAfter>(
-    alloc: Global,
+    rules: &BlockRules<'_, R>,
     text: &'t str,
     at: usize,
-    in_table: bool,
-    rule: &R,
     items: &mut I,
 ) -> Result<Option<LinkTail<'t>>, AllocError>
     requires at { IsCharBoundary text.now at }
     requires items { (n s : ℕ) → I.starts items.old n ≡ Some s → s ≤ length text.now
         → IsCharBoundary text.now s }
     ensures value { IfOk result
-        (ReadsTail in_table (link_tail (R.skipped rule.now) (I.starts items.old) text.now at)) }
+        (ReadsTail rules.now.in_table
+        (link_tail (R.skipped rules.now.rule.now) (I.starts items.old) text.now at)) }
     ensures borrowed { IfOk result
-        (BorrowsTail (link_tail (R.skipped rule.now) (I.starts items.old) text.now at)) }
+        (BorrowsTail (link_tail (R.skipped rules.now.rule.now) (I.starts items.old) text.now at)) }
 {
     if !stands_at(text, at, b'(') {
         return Ok(None);
     }
-    let start = past_separator(text, at + 1, rule);
+    let start = past_separator(text, at + 1, rules.rule);
     let Some((length, written)) = scan_destination(text, start) else {
         return Ok(None);
     };
-    let next = past_separator(text, start + length, rule);
-    let (close, title) = scan_title_part(alloc, text, next, in_table, rule, items)?;
+    let next = past_separator(text, start + length, rules.rule);
+    let (close, title) = scan_title_part(rules, text, next, items)?;
     if !stands_at(text, close, b')') {
         drop(title);
         return Ok(None);
     }
-    let destination = unescape(alloc, written, in_table)?;
+    let destination = unescape(rules.alloc, written, rules.in_table)?;
     Ok(Some(LinkTail {
         end: close + 1,
         destination,

@@ -67,38 +67,47 @@ fn next_line<I: ItemsAfter>(items: &mut I, at: usize, byte: u8) -> Option<usize>
     }
 }
 
-// Reads a title from the byte offset `start` to the mark that closes it. Returns the byte offset after that mark, and
+// The text of a title: where it starts, and the mark that closes it.
+#[derive(Clone, Copy, Drop)]
+struct TitleStart {
+    start: usize,
+    closer: u8,
+}
+
+// Reads a title to the mark that closes it. Returns the byte offset after that mark, and
 // the title's text; `None` if no mark closes it, a line of it continues after the text's end, or it contains a `(` that
 // is not allowed. The error is a refused allocation.
 fn scan_title_text<'t, I: ItemsAfter>(
     alloc: Global,
     text: &'t str,
-    start: usize,
-    closer: u8,
+    from: TitleStart,
     in_table: bool,
     items: &mut I,
 ) -> Result<Option<(usize, CowStr<'t>)>, AllocError>
-    requires start { IsCharBoundary text.now start }
-    requires ascii { closer < 128 }
+    requires start { IsCharBoundary text.now from.start }
+    requires ascii { from.closer < 128 }
     requires items { (n s : ℕ) → I.starts items.old n ≡ Some s → s ≤ length text.now
         → IsCharBoundary text.now s }
     ensures value { IfOk result (
         ReadsTitle in_table
-        (title_from (I.starts items.old) closer start false 0 (drop start text.now))) }
+        (title_from (I.starts items.old) from.closer from.start false 0
+        (drop from.start text.now))) }
     ensures borrowed { IfOk result (
-        BorrowsTitle (title_from (I.starts items.old) closer start false 0 (drop start text.now))) }
+        BorrowsTitle
+        (title_from (I.starts items.old) from.closer from.start false 0
+        (drop from.start text.now))) }
     ensures within { IfOk result (λ found. IfSome found (λ t. IsCharBoundary text.now t.0)) }
 {
     let bytes = text.as_bytes();
-    let mut title = TitleText::new(alloc, text, start);
-    let mut at = start;
+    let mut title = TitleText::new(alloc, text, from.start);
+    let mut at = from.start;
     let mut escaped = false;
     'title: while at < bytes.len() {
         let byte = bytes[at];
-        if is_bare(escaped, byte, closer) {
+        if is_bare(escaped, byte, from.closer) {
             return Ok(Some((at + 1, title.finish(alloc, at, in_table)?)));
         }
-        if refuses(closer, escaped, byte) {
+        if refuses(from.closer, escaped, byte) {
             return Ok(None);
         }
         escaped = is_bare(escaped, byte, b'\\');
@@ -136,7 +145,13 @@ pub fn scan_link_title<'t, I: ItemsAfter>(
     ensures within { IfOk result (λ found. IfSome found (λ t. IsCharBoundary text.now t.0)) }
 {
     match closer_at(text, at) {
-        Some(closer) => scan_title_text(alloc, text, at + 1, closer, in_table, items),
+        Some(closer) => {
+            let from = TitleStart {
+                start: at + 1,
+                closer,
+            };
+            scan_title_text(alloc, text, from, in_table, items)
+        }
         None => Ok(None),
     }
 }

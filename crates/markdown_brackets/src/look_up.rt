@@ -1,5 +1,5 @@
 //! Look-ups of link labels, and questions to the callback about labels that are not defined.
-ghost use Rattle.std.specs.Prelude.{◌≡◌, ◌-◌, IfErr, IfOk, IfSome, OnErr, unwrap_or, length, []};
+ghost use Rattle.std.specs.Prelude.{◌≡◌, ◌-◌, IfErr, IfOk, IfSome, OnErr, unwrap_or, []};
 ghost use Rattle.std.specs.Option.{option_map};
 ghost use Rattle.markdown_base.specs.BlockParts.{definition_view};
 ghost use Rattle.markdown_base.specs.CowText.{text_of};
@@ -7,7 +7,8 @@ ghost use Rattle.markdown_base.specs.Questions.{Question};
 ghost use Rattle.markdown_base.specs.declared.fault.Fault.{Fault};
 ghost use Rattle.markdown_defs.specs.Callback.{answer_of, question_of};
 ghost use Rattle.markdown_brackets.specs.Lookup as lookup;
-ghost use Rattle.markdown_brackets.specs.LookupView.{FindsTarget, IsAnswered, LooksUp, target_by, target_view};
+ghost use Rattle.markdown_brackets.specs.LookupView.{FindsTarget, IsAnswered, LooksUp};
+ghost use Rattle.markdown_brackets.specs.LookupView.{target_by, target_view};
 
 use markdown_base::block_parts::LinkDef;
 use markdown_base::cow_str::CowStr;

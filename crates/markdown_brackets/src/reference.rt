@@ -6,8 +6,10 @@ ghost use Rattle.std.specs.Str.{IsCharBoundary};
 ghost use Rattle.markdown_scan.specs.Label.{link_label};
 ghost use Rattle.markdown_brackets.specs.Reference as def;
 ghost use Rattle.markdown_brackets.specs.declared.footnote.FootnoteStyle.{FootnoteStyle};
-ghost use Rattle.markdown_brackets.specs.ReferenceView.{label_view, form_view, BorrowsLabel, BorrowsName};
+ghost use Rattle.markdown_brackets.specs.ReferenceView.{label_view, form_view, name_start};
+ghost use Rattle.markdown_brackets.specs.ReferenceView.{BorrowsLabel, BorrowsName};
 
+use crate::block_rules::BlockRules;
 use crate::byte_at::after_byte;
 use crate::footnote::FootnoteStyle;
 use markdown_base::cow_str::CowStr;
@@ -37,30 +39,38 @@ pub enum Form<'t> {
     Shortcut,
 }
 
-// Returns the label whose text is at the beginning of `text`, after the first `before` bytes of the label; `None` if
-// there is no label. The error is a refused allocation.
+// Returns the offset of the name in a label.
+fn name_start(is_footnote: bool) -> usize
+    ensures { result ≡ name_start is_footnote }
+{
+    if is_footnote { 2 } else { 1 }
+}
+
+// Returns the label whose text is at the beginning of `text`, after its opening brackets; `None` if there is no label.
+// The error is a refused allocation.
 fn scan_name<'t, R: LineRule>(
     alloc: Global,
     text: &'t str,
     rule: &R,
     in_table: bool,
     is_footnote: bool,
-    before: usize,
 ) -> Result<Option<FoundLabel<'t>>, AllocError>
-    requires { before + length text.now < 2 ^ 64 }
+    requires { name_start is_footnote + length text.now < 2 ^ 64 }
     ensures value { IfOk result (λ found.
         option_map label_view found
-        ≡ def.label_past is_footnote before (link_label (R.skipped rule.now) in_table text.now)) }
-    ensures borrowed { IfOk result (λ found. IfSome found (BorrowsLabel before text.now)) }
+        ≡ def.label_past is_footnote (name_start is_footnote)
+        (link_label (R.skipped rule.now) in_table text.now)) }
+    ensures borrowed { IfOk result (λ found.
+        IfSome found (BorrowsLabel (name_start is_footnote) text.now)) }
     ensures kind { IfOk result (λ found. IfSome found (λ l. l.is_footnote ≡ is_footnote)) }
     ensures within { IfOk result (λ found. IfSome found (λ l. l.length
-        ≤ before + length text.now)) }
+        ≤ name_start is_footnote + length text.now)) }
 {
     match scan_link_label(alloc, text, rule, in_table)? {
         None => Ok(None),
         Some((length, name)) => Ok(Some(FoundLabel {
             is_footnote,
-            length: before + length,
+            length: name_start(is_footnote) + length,
             name,
         })),
     }
@@ -83,7 +93,7 @@ fn scan_after_caret<'t, R: LineRule>(
     ensures within { IfOk result (λ found. IfSome found (λ l. l.length ≤ 1 + length text.now)) }
 {
     match after_byte(text, b'^') {
-        Some(name) => scan_name(alloc, name, rule, in_table, true, 2),
+        Some(name) => scan_name(alloc, name, rule, in_table, true),
         None => Ok(None),
     }
 }
@@ -91,49 +101,45 @@ fn scan_after_caret<'t, R: LineRule>(
 // Returns the footnote label of this style whose bytes after its `[` the text begins with; `None` if there is none. The
 // error is a refused allocation.
 fn scan_footnote_label<'t, R: LineRule>(
-    alloc: Global,
+    rules: &BlockRules<'_, R>,
     text: &'t str,
-    style: FootnoteStyle,
-    rule: &R,
-    in_table: bool,
 ) -> Result<Option<FoundLabel<'t>>, AllocError>
     requires { 1 + length text.now < 2 ^ 64 }
     ensures value { IfOk result (λ found.
         option_map label_view found
-        ≡ def.footnote_label_in style (R.skipped rule.now) in_table text.now) }
+        ≡ def.footnote_label_in rules.now.style (R.skipped rules.now.rule.now) rules.now.in_table
+        text.now) }
     ensures borrowed { IfOk result (λ found. IfSome found (BorrowsLabel 2 (drop 1 text.now))) }
     ensures kind { IfOk result (λ found. IfSome found (λ l. l.is_footnote ≡ true)) }
     ensures within { IfOk result (λ found. IfSome found (λ l. l.length ≤ 1 + length text.now)) }
 {
-    match style {
+    match rules.style {
         FootnoteStyle::Off => Ok(None),
-        FootnoteStyle::Gfm => scan_after_caret(alloc, text, &OneLine, in_table),
-        FootnoteStyle::Old => scan_after_caret(alloc, text, rule, in_table),
+        FootnoteStyle::Gfm => scan_after_caret(rules.alloc, text, &OneLine, rules.in_table),
+        FootnoteStyle::Old => scan_after_caret(rules.alloc, text, rules.rule, rules.in_table),
     }
 }
 
-/// Returns the label that the text begins with, from its `[` on: a footnote label `[^name]` of this style, or otherwise
-/// a link label; `None` if there is neither. In GitHub's style, a footnote label is on one line. The error is a refused
-/// allocation.
+/// Returns the label that the text begins with, from its `[` on: a footnote label `[^name]` in the style of the rules, or
+/// otherwise a link label; `None` if there is neither. In GitHub's style, a footnote label is on one line. The error is
+/// a refused allocation.
 pub fn scan_label<'t, R: LineRule>(
-    alloc: Global,
+    rules: &BlockRules<'_, R>,
     text: &'t str,
-    style: FootnoteStyle,
-    rule: &R,
-    in_table: bool,
 ) -> Result<Option<FoundLabel<'t>>, AllocError>
     ensures value { IfOk result (λ found.
         option_map label_view found
-        ≡ def.bracket_label style (R.skipped rule.now) in_table text.now) }
+        ≡ def.bracket_label rules.now.style (R.skipped rules.now.rule.now) rules.now.in_table
+        text.now) }
     ensures borrowed { IfOk result (λ found. IfSome found (BorrowsName text.now)) }
     ensures within { IfOk result (λ found. IfSome found (λ l. l.length ≤ length text.now)) }
 {
     let Some(rest) = after_byte(text, b'[') else {
         return Ok(None);
     };
-    match scan_footnote_label(alloc, rest, style, rule, in_table)? {
+    match scan_footnote_label(rules, rest)? {
         Some(label) => Ok(Some(label)),
-        None => scan_name(alloc, rest, rule, in_table, false, 1),
+        None => scan_name(rules.alloc, rest, rules.rule, rules.in_table, false),
     }
 }
 
@@ -153,24 +159,22 @@ fn of_length(label: FoundLabel<'_>, length: usize) -> Option<FoundLabel<'_>>
 /// Returns the bytes from an opener's `[` at `start` through its `]`, which ends at `end`, as a label; `None` if they
 /// are not exactly one label. The error is a refused allocation.
 pub fn scan_own_label<'t, R: LineRule>(
-    alloc: Global,
+    rules: &BlockRules<'_, R>,
     text: &'t str,
     start: usize,
     end: usize,
-    style: FootnoteStyle,
-    rule: &R,
-    in_table: bool,
 ) -> Result<Option<FoundLabel<'t>>, AllocError>
     requires start { IsCharBoundary text.now start }
     requires end { IsCharBoundary text.now end }
     requires order { start ≤ end }
     ensures value { IfOk result (λ found.
         option_map label_view found
-        ≡ def.own_label style (R.skipped rule.now) in_table text.now start end) }
+        ≡ def.own_label rules.now.style (R.skipped rules.now.rule.now) rules.now.in_table text.now
+        start end) }
     ensures borrowed { IfOk result (λ found.
         IfSome found (BorrowsName (slice_range text.now start end))) }
 {
-    match scan_label(alloc, &text[start..end], style, rule, in_table)? {
+    match scan_label(rules, &text[start..end])? {
         None => Ok(None),
         Some(label) => Ok(of_length(label, end - start)),
     }
@@ -243,18 +247,16 @@ fn form_of(at: usize, label: FoundLabel<'_>) -> Form<'_>
 /// `Collapsed` if these are a `[` and a `]` directly after it, `Reference` if an item and a link label start there, and
 /// otherwise `Shortcut`. The error is a refused allocation. Upstream: `scan_reference`.
 pub fn scan_form<'t, R: LineRule>(
-    alloc: Global,
+    rules: &BlockRules<'_, R>,
     text: &'t str,
     at: usize,
-    style: FootnoteStyle,
-    rule: &R,
-    in_table: bool,
     next: Option<Item>,
     after: Option<Item>,
 ) -> Result<Form<'t>, AllocError>
     requires at { IsCharBoundary text.now at }
     ensures { IfOk result (λ form.
-        form_view form ≡ def.form_at style (R.skipped rule.now) in_table text.now at next after) }
+        form_view form ≡ def.form_at rules.now.style (R.skipped rules.now.rule.now)
+        rules.now.in_table text.now at next after) }
 {
     if is_empty_pair(at, next, after) {
         return Ok(Form::Collapsed);
@@ -262,7 +264,7 @@ pub fn scan_form<'t, R: LineRule>(
     if !starts_at(at, next) {
         return Ok(Form::Shortcut);
     }
-    match scan_label(alloc, &text[at..], style, rule, in_table)? {
+    match scan_label(rules, &text[at..])? {
         None => Ok(Form::Shortcut),
         Some(label) => Ok(form_of(at, label)),
     }

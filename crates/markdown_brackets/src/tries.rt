@@ -1,7 +1,7 @@
 //! What is tried for the opener of a closing bracket: an inline link, a full reference, a collapsed or shortcut
 //! reference, and a footnote reference.
-ghost use Rattle.std.specs.Prelude.{◌≡◌, ◌<◌, ◌≤◌, ◌-◌, ℕ, List, Option, IfErr, IfOk, IfSome, OnErr, if◌then◌else◌};
-ghost use Rattle.std.specs.Prelude.{length};
+ghost use Rattle.std.specs.Prelude.{◌≡◌, ◌-◌, ℕ, List, Option, IfErr, IfOk, IfSome, OnErr};
+ghost use Rattle.std.specs.Prelude.{if◌then◌else◌};
 ghost use Rattle.markdown_base.specs.Arena.{sibling_of};
 ghost use Rattle.markdown_base.specs.BlockTree.{item_at};
 ghost use Rattle.markdown_base.specs.CowText.{text_of};
@@ -9,19 +9,20 @@ ghost use Rattle.markdown_base.specs.declared.fault.Fault.{Fault};
 ghost use Rattle.markdown_base.specs.declared.item.ItemBody.{ItemBody};
 ghost use Rattle.markdown_base.specs.declared.tag.LinkType.TheVariants as kind;
 ghost use Rattle.markdown_document.specs.ChainRest.{start_of};
-ghost use Rattle.markdown_brackets.specs.BracketDecision.{Around, Closing, a_link, footnote_label, inline_target};
-ghost use Rattle.markdown_brackets.specs.BracketDecision.{link_reference, no_link, opener_tried, own_written, tried};
-ghost use Rattle.markdown_brackets.specs.ChainAhead.{IsChain, reaches_closer};
-ghost use Rattle.markdown_brackets.specs.DecisionView.{CountsUses, GoesOnBehind, IsBecome};
-ghost use Rattle.markdown_brackets.specs.DecisionView.{opener_of};
+ghost use Rattle.markdown_brackets.specs.BracketDecision.{Around, Closing, a_link, footnote_label};
+ghost use Rattle.markdown_brackets.specs.BracketDecision.{inline_target, link_reference, no_link};
+ghost use Rattle.markdown_brackets.specs.BracketDecision.{opener_tried, own_written, tried};
+ghost use Rattle.markdown_brackets.specs.ChainAhead.{reaches_closer};
+ghost use Rattle.markdown_brackets.specs.Decides.{CanTry};
+ghost use Rattle.markdown_brackets.specs.DecisionView.{CountsUses, GoesOnBehind, IsBecome, opener_of};
 ghost use Rattle.markdown_brackets.specs.LeftList.{Split};
 ghost use Rattle.markdown_brackets.specs.LinkTail as scanned;
 ghost use Rattle.markdown_brackets.specs.LinkTailView.{IsTail};
-ghost use Rattle.markdown_brackets.specs.StandsAt.{CanTryInside, IsFull, IsOwn, Spends, Tries, TriesOpener, could_be_at, ComesTo, around_by};
+ghost use Rattle.markdown_brackets.specs.StandsAt.{CanTryInside, ComesTo, IsFull, IsOwn, Spends};
+ghost use Rattle.markdown_brackets.specs.StandsAt.{Tries, TriesOpener, around_by, could_be_at};
 ghost use Rattle.markdown_brackets.specs.TargetOrigins.{IsLookedUp};
 ghost use Rattle.markdown_brackets.specs.WrittenView.{IsTailFrom, own_label_at, reference_at, written_at};
 ghost use Rattle.markdown_brackets.specs.declared.spent_ends.SpentEnds.{SpentEnds};
-ghost use Rattle.markdown_brackets.specs.Decides.{CanTry};
 
 use crate::closer::Closer;
 use crate::closing_bracket::ClosedBracket;
@@ -163,9 +164,9 @@ fn try_own<'a, R: LineRule, F: BrokenLinkCallback<'a>>(
     requires asks { IfSome lookup.old.callback F.can_ask }
     ensures comes { IfOk result (λ found. (spent : SpentEnds)
         → Tries F.answers at.now opener lookup.old lookup.new spent spent
-        (λ w o. tried w o (own_written link_type (item_at at.now.tree.now.nodes at.now.node).end next
-        (own_label_at at.now.tree.now.nodes at.now.place.now (R.skipped at.now.rule.now) at.now.node
-        ((item_at at.now.tree.now.nodes opener.node).end - 1)))) found) }
+        (λ w o. tried w o (own_written link_type (item_at at.now.tree.now.nodes at.now.node).end
+        next (own_label_at at.now.tree.now.nodes at.now.place.now (R.skipped at.now.rule.now)
+        at.now.node ((item_at at.now.tree.now.nodes opener.node).end - 1)))) found) }
     ensures uses { CountsUses lookup.old.tables lookup.new.tables }
     ensures again { IfSome lookup.new.callback F.can_ask }
     ensures refused { IfErr result (λ fault. fault ≡ Fault.Memory) }
@@ -274,8 +275,8 @@ pub(crate) fn try_opener<'a, R: LineRule, F: BrokenLinkCallback<'a>>(
         → TriesOpener at.now.tree.now.nodes at.now.node
         (could_be_at at.now.tree.now.nodes at.now.node spent.old) taken c o
         → ComesTo F.answers (around_by at.now.place.now skipped bodies lookup.old)
-        (opener_tried (around_by at.now.place.now skipped bodies lookup.old) c o) lookup.old lookup.new
-        spent.old spent.new found) }
+        (opener_tried (around_by at.now.place.now skipped bodies lookup.old) c o) lookup.old
+        lookup.new spent.old spent.new found) }
     ensures uses { CountsUses lookup.old.tables lookup.new.tables }
     ensures again { IfSome lookup.new.callback F.can_ask }
     ensures refused { IfErr result (λ fault. fault ≡ Fault.Memory) }

@@ -18,9 +18,9 @@ returns-then-is_bare-clause-borrowed g c =
     let here : c.title.at < length text = rw bytes at c.title-test.true in
     let bare = rw bytes at (sym c.is_bare.ensures ∙ c.if-is_bare.true) in
     let so = so_far c.title.title c.title.at in
-    BorrowsTitle-closed (title_from (g.I.ItemsAfter.starts c.args.items.now) c.args.closer c.args.start false 0 (drop c.args.start text)) so
+    BorrowsTitle-closed (title_from (g.I.ItemsAfter.starts c.args.items.now) c.args.from.closer c.args.from.start false 0 (drop c.args.from.start text)) so
     c.title.title.is_joined c.title.at c.in_ok-finish.field-0
-    (whole_closes _ (g.I.ItemsAfter.starts c.args.items.now) c.args.closer c.title.at c.title.escaped so c.title.title.is_joined text
+    (whole_closes _ (g.I.ItemsAfter.starts c.args.items.now) c.args.from.closer c.title.at c.title.escaped so c.title.title.is_joined text
     c.title.invariant.value here bare)
     c.in_ok-finish.ensures.borrowed
 
@@ -29,7 +29,7 @@ returns-then-is_bare-clause-within g c =
     let text = c.args.text.now in
     let bytes = c.as_bytes-bytes.ensures.value in
     let here : c.title.at < length text = rw bytes at c.title-test.true in
-    let is = bare_is c.title.escaped (get_or text c.title.at 0) c.args.closer (rw bytes at (sym c.is_bare.ensures ∙ c.if-is_bare.true)) in
+    let is = bare_is c.title.escaped (get_or text c.title.at 0) c.args.from.closer (rw bytes at (sym c.is_bare.ensures ∙ c.if-is_bare.true)) in
     let ascii : get_or text c.title.at 0 < 128 = omega (arith, is, c.requires.ascii) in
     IsCharBoundary-after_ascii text c.title.at c.utf8.text here ascii
 
@@ -53,8 +53,8 @@ returns-then-line-bytes-clause-value g c =
     let same = sym (next_line_same (g.I.ItemsAfter.starts c.title.items) starts at (get_or text at 0)
     (invariant.later (at + 1) (omega arith))) ∙ line in
     let past : length text < c.in-Some.line = rw bytes at c.if-line-bytes.true in
-    ReadsTitle-none c.args.in_table (title_from starts c.args.closer c.args.start false 0 (drop c.args.start text))
-    (whole_past_end _ starts c.args.closer at c.title.escaped (so_far c.title.title at) c.title.title.is_joined text c.in-Some.line
+    ReadsTitle-none c.args.in_table (title_from starts c.args.from.closer c.args.from.start false 0 (drop c.args.from.start text))
+    (whole_past_end _ starts c.args.from.closer at c.title.escaped (so_far c.title.title at) c.title.title.is_joined text c.in-Some.line
     invariant.value here bare refused same
     c.in-Some.ensures.past.0 (omega (arith, past)))
 
@@ -79,7 +79,7 @@ title-preserved-in-Some g c =
     let nothing = ap (λ (k : ℕ). slice_range next.text.now k c.in-Some.line) joined.from ∙ slice_empty next.text.now c.in-Some.line in
     let written = sym (ap (λ (z : List ℕ). string_bytes next.joined ++ z) nothing ∙ append-nil (string_bytes next.joined) ∙ joined.joined)
     in
-    let rest = λ (e : Bool). title_from starts c.args.closer c.in-Some.line e 0 (drop c.in-Some.line text) in
+    let rest = λ (e : Bool). title_from starts c.args.from.closer c.in-Some.line e 0 (drop c.in-Some.line text) in
     record {
       order = omega (arith, joined.from);
       text = joined.text ∙ invariant.text;
@@ -88,7 +88,7 @@ title-preserved-in-Some g c =
       later = λ n le. c.next_line.ensures.later n (omega (arith, le, c.in-Some.ensures.past.0))
           ∙ invariant.later n (omega (arith, le, c.in-Some.ensures.past.0));
       value =
-          whole_past_line _ starts c.args.closer at c.title.escaped so c.title.title.is_joined text c.in-Some.line invariant.value here bare
+          whole_past_line _ starts c.args.from.closer at c.title.escaped so c.title.title.is_joined text c.in-Some.line invariant.value here bare
           refused same c.in-Some.ensures.past.0
           ∙ ap (λ (s : List ℕ). option_map (after_text s true) (rest (is_bare c.title.escaped (get_or text at 0) 92))) written
           ∙ ap (λ (j : Bool). option_map (after_text (so_far next c.in-Some.line) j) (rest (is_bare c.title.escaped (get_or text at 0) 92)))
@@ -117,7 +117,7 @@ title-preserved g c =
     ++ get_or l at 0 ∷ []) invariant.text in
     let written = sym (ap (λ (z : List ℕ). string_bytes title.joined ++ z) more
     ∙ sym (append_assoc (string_bytes title.joined) (slice_range title.text.now title.from at) (get_or text at 0 ∷ []))) in
-    let rest = λ (e : Bool). title_from starts c.args.closer (at + 1) e 0 (drop (at + 1) text) in
+    let rest = λ (e : Bool). title_from starts c.args.from.closer (at + 1) e 0 (drop (at + 1) text) in
     record {
       order = omega (arith, invariant.order);
       text = invariant.text;
@@ -125,7 +125,7 @@ title-preserved g c =
       plain = invariant.plain;
       later = λ n le. c.next_line.ensures.later n le ∙ invariant.later n (omega (arith, le));
       value =
-          whole_past_byte _ starts c.args.closer at c.title.escaped so title.is_joined text invariant.value here bare refused same
+          whole_past_byte _ starts c.args.from.closer at c.title.escaped so title.is_joined text invariant.value here bare refused same
           ∙ ap (λ (s : List ℕ). option_map (after_text s title.is_joined) (rest (is_bare c.title.escaped (get_or text at 0) 92))) written
           ∙ ap (λ (e : Bool). option_map (after_text (so_far title (at + 1)) title.is_joined) (rest e))
           (sym (rw bytes at c.is_bare-escaped.ensures));

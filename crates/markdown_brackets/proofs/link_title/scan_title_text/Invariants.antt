@@ -13,8 +13,8 @@ invariant-title g l = record {
   boundary : IsCharBoundary l.text l.title.from;
   plain : l.title.is_joined ≡ false → string_bytes l.title.joined ≡ [];
   later : (n : ℕ) → l.at ≤ n → g.I.ItemsAfter.starts l.items n ≡ g.I.ItemsAfter.starts l.initial.items n;
-  value : title_from (g.I.ItemsAfter.starts l.initial.items) l.closer l.start false 0 (drop l.start l.text)
-      ≡ option_map (after_text (so_far l.title l.at) l.title.is_joined) (title_from (g.I.ItemsAfter.starts l.initial.items) l.closer l.at
+  value : title_from (g.I.ItemsAfter.starts l.initial.items) l.from.closer l.from.start false 0 (drop l.from.start l.text)
+      ≡ option_map (after_text (so_far l.title l.at) l.title.is_joined) (title_from (g.I.ItemsAfter.starts l.initial.items) l.from.closer l.at
       l.escaped 0 (drop l.at l.text));
 }
 

@@ -10,7 +10,7 @@ use Rattle.markdown_brackets.specs.ChainAhead.{reaches_closer}
 use Rattle.markdown_brackets.specs.Reference.{Form, collapsed, shortcut}
 use Rattle.markdown_brackets.specs.ReferenceView.{form_view}
 use Rattle.markdown_brackets.specs.StandsAt.{could_be_at, around_by}
-use Rattle.markdown_brackets.specs.WrittenView.{form_ahead, own_label_at}
+use Rattle.markdown_brackets.specs.WrittenView.{own_label_at}
 use Rattle.markdown_brackets.specs.declared.closing_bracket.ClosedBracket.TheVariants.{Text}
 use Rattle.markdown_brackets.proofs.AheadOfBracketLemmas.{EndsBehind, form_behind}
 use Rattle.markdown_brackets.proofs.ComesToLemmas.{comes_quietly, tried_as}
@@ -47,17 +47,14 @@ pub returns-then-not-could_be_reference-clause-comes : goal.returns-then-not-cou
 returns-then-not-could_be_reference-clause-comes g c skipped bodies o opener start =
     let at = c.args.at.now in
     let nodes = at.tree.now.nodes in
-    let by : Bool → Form → Written = λ could_be form.
-    reference_written could_be (item_at nodes at.node).end (λ i. reaches_closer nodes i (sibling_of nodes at.node))
+    let by : Bool → Form → Written = λ could form.
+    reference_written could (item_at nodes at.node).end (λ i. reaches_closer nodes i (sibling_of nodes at.node))
     (own_label_at nodes at.place.now (g.R.LineRule.skipped at.rule.now) at.node ((item_at nodes c.args.opener.node).end - 1)) form in
-    let could_not : could_be_at nodes at.node c.args.spent.now ≡ false =
-    sym c.could_be_reference.ensures ∙ c.if-not-could_be_reference.true in
-    let ahead : Form = form_ahead nodes at.place.now (g.R.LineRule.skipped at.rule.now) at.node in
-    let none : no_link ≡ by (could_be_at nodes at.node c.args.spent.now) ahead = elim c.match-branch-2.branch [
-      | in-Collapsed w ↦ ap (λ b. by b collapsed) (sym could_not) ∙ ap (by (could_be_at nodes at.node c.args.spent.now)) (sym (ap form_view w.in-Collapsed.is)
-          ∙ c.in_ok-label.ensures.form)
-      | in-Shortcut w ↦ ap (λ b. by b shortcut) (sym could_not) ∙ ap (by (could_be_at nodes at.node c.args.spent.now)) (sym (ap form_view w.in-Shortcut.is)
-          ∙ c.in_ok-label.ensures.form)
+    let could : could_be_at nodes at.node c.args.spent.now ≡ false = sym c.could_be_reference.ensures ∙ c.if-not-could_be_reference.true in
+    let form = c.in_ok-label.ensures.form in
+    let none : no_link ≡ by (could_be_at nodes at.node c.args.spent.now) _ = elim c.match-branch-2.branch [
+      | in-Collapsed w ↦ ap (λ b. by b collapsed) (sym could) ∙ ap (by _) (sym (ap form_view w.in-Collapsed.is) ∙ form)
+      | in-Shortcut w ↦ ap (λ b. by b shortcut) (sym could) ∙ ap (by _) (sym (ap form_view w.in-Shortcut.is) ∙ form)
     ] in
     let here = around_by at.place.now skipped bodies c.args.lookup.now in
     tried_as o none
@@ -69,21 +66,18 @@ returns-clause-comes g c =
     let nodes = at.tree.now.nodes in
     let end = (item_at nodes at.node).end in
     let own = own_label_at nodes at.place.now (g.R.LineRule.skipped at.rule.now) at.node ((item_at nodes c.args.opener.node).end - 1) in
-    let by : Bool → Form → Written = λ could_be form.
-    reference_written could_be end (λ i. reaches_closer nodes i (sibling_of nodes at.node)) own form in
-    let could : could_be_at nodes at.node c.args.spent.now ≡ true =
-    sym c.could_be_reference.ensures ∙ c.if-not-could_be_reference.false in
-    let ahead : Form = form_ahead nodes at.place.now (g.R.LineRule.skipped at.rule.now) at.node in
+    let by : Bool → Form → Written = λ could form.
+    reference_written could end (λ i. reaches_closer nodes i (sibling_of nodes at.node)) own form in
+    let could : could_be_at nodes at.node c.args.spent.now ≡ true = sym c.could_be_reference.ensures ∙ c.if-not-could_be_reference.false in
+    let form = c.in_ok-label.ensures.form in
     let ends : c.item.result.now.end ≡ end = ap (λ (i : Item). i.end) (c.item.ensures no_item) in
     let link = c.match-branch-2.link_type in
-    let written : own_written link.0 end link.1 own ≡ by (could_be_at nodes at.node c.args.spent.now) ahead =
-    elim c.match-branch-2.branch [
-      | in-Collapsed w ↦ ap (λ (k : LinkType × ℕ). own_written k.0 end k.1 own) w.link_type-is ∙ (ap (λ n. own_written kind.Collapsed end (n + 2) own) ends
-          ∙ (ap (λ b. by b collapsed) (sym could) ∙ ap (by (could_be_at nodes at.node c.args.spent.now)) (sym (ap form_view w.in-Collapsed.is)
-          ∙ c.in_ok-label.ensures.form)))
-      | in-Shortcut w ↦ ap (λ (k : LinkType × ℕ). own_written k.0 end k.1 own) w.link_type-is ∙ (ap (λ n. own_written kind.Shortcut end n own) ends
-          ∙ (ap (λ b. by b shortcut) (sym could) ∙ ap (by (could_be_at nodes at.node c.args.spent.now)) (sym (ap form_view w.in-Shortcut.is)
-          ∙ c.in_ok-label.ensures.form)))
+    let link_by : LinkType × ℕ → Written = λ k. own_written k.0 end k.1 own in
+    let written : link_by link ≡ by (could_be_at nodes at.node c.args.spent.now) _ = elim c.match-branch-2.branch [
+      | in-Collapsed w ↦ ap link_by w.link_type-is ∙ (ap (λ n. link_by (kind.Collapsed, n + 2)) ends
+          ∙ (ap (λ b. by b collapsed) (sym could) ∙ ap (by _) (sym (ap form_view w.in-Collapsed.is) ∙ form)))
+      | in-Shortcut w ↦ ap link_by w.link_type-is ∙ (ap (λ n. link_by (kind.Shortcut, n)) ends
+          ∙ (ap (λ b. by b shortcut) (sym could) ∙ ap (by _) (sym (ap form_view w.in-Shortcut.is) ∙ form)))
     ] in
     ok_map c.try_own.result _ _ c.try_own.ensures.comes (λ found comes skipped bodies o opener start.
     tried_as o written (comes c.args.spent.now skipped bodies o opener start))
