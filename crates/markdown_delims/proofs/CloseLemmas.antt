@@ -11,7 +11,7 @@ use Rattle.markdown_delims.specs.declared.marks.Marks.{Marks}
 use Rattle.markdown_delims.specs.declared.run.Characters.{Characters}
 use Rattle.markdown_delims.specs.declared.run.Delimiter.{Delimiter}
 use Rattle.markdown_delims.specs.declared.run.Run.{Run}
-use Rattle.markdown_delims.specs.MayPair.{OpenRun, Found, may_take, nearest_run, drop_run, dropped_by}
+use Rattle.markdown_delims.specs.RunSearch.{OpenRun, Found, may_take, nearest_run, drop_run, dropped_by}
 use Rattle.markdown_delims.specs.Entries.{Entry, settled, lone, waiting, character, characters, characters_after, flat, open_of, Taken}
 use Rattle.markdown_delims.specs.Entries.{search, enclosed, rest_open, without_last, entries_dropped, kept}
 use Rattle.markdown_delims.specs.Views.{View, view_of, Cut, top}

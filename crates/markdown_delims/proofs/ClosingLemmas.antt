@@ -8,7 +8,7 @@ use Rattle.markdown_base.specs.BlockTree.{Numbered}
 use Rattle.markdown_base.specs.Forest.{Forest, nil}
 use Rattle.markdown_delims.specs.declared.marks.Marks.{Marks}
 use Rattle.markdown_delims.specs.declared.run.Characters.{Characters}
-use Rattle.markdown_delims.specs.MayPair.{OpenRun, nearest_run, dropped_by}
+use Rattle.markdown_delims.specs.RunSearch.{OpenRun, nearest_run, dropped_by}
 use Rattle.markdown_delims.specs.Entries.{Entry, characters, open_of, Taken, search, rest_open, with_pair, without_last, without_first}
 use Rattle.markdown_delims.specs.Entries.{entries_dropped, kept, after_search, closed_in}
 use Rattle.markdown_delims.specs.Views.{View, view_of, Holds, Kept}

@@ -3,7 +3,7 @@ use Rattle.std.proofs.Common.{◌≡◌, ℕ, suc, ◌+◌, ◌-◌, ◌<◌, �
 use Rattle.std.specs.Prelude.{if◌then◌else◌}
 use Rattle.std.proofs.lemmas.Bool.{lt-ltb, le-ltb}
 use Rattle.markdown_delims.specs.declared.run.Run.{Run}
-use Rattle.markdown_delims.specs.MayPair.{OpenRun, Found, nearest_run}
+use Rattle.markdown_delims.specs.RunSearch.{OpenRun, Found, nearest_run}
 use Rattle.markdown_delims.specs.EntryFinds.{search_finds, closer_finds, run_finds}
 
 -- one turn of a closer

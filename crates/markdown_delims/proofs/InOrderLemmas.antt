@@ -21,7 +21,8 @@ use Rattle.markdown_delims.specs.Entries.{Entry, settled, lone, waiting, labelle
 use Rattle.markdown_delims.specs.Entries.{entries_dropped, enclosed, without_first, rest_open, with_pair, kept, after_search, closed_in}
 use Rattle.markdown_delims.specs.Entries.{with_run, all_of_run, after_tree, paired_from, paired}
 use Rattle.markdown_delims.specs.MarkBodies.{body_of_two, run_if, item_run}
-use Rattle.markdown_delims.specs.MayPair.{delimiter_of, may_take}
+use Rattle.markdown_delims.specs.MayPair.{delimiter_of}
+use Rattle.markdown_delims.specs.RunSearch.{may_take}
 use Rattle.markdown_delims.specs.PairedChain.{HasNoBlock}
 use Rattle.markdown_delims.specs.QuoteBodies.{turn_at, quoted_after}
 use Rattle.markdown_delims.specs.RunReading.{StandsWhole, HasWholeRuns}

@@ -20,7 +20,8 @@ use Rattle.markdown_delims.specs.Entries.{Entry, settled, lone, waiting as open_
 use Rattle.markdown_delims.specs.Entries.{flat, read_back, Taken, search, entries_dropped, enclosed, rest_open, kept}
 use Rattle.markdown_delims.specs.Layers.{enclosed_if, marks_of, layer_of_one, layer_of_two, spanned}
 use Rattle.markdown_delims.specs.MarkBodies.{whole_text, body_of_one, body_of_two}
-use Rattle.markdown_delims.specs.MayPair.{drops, may_take}
+use Rattle.markdown_delims.specs.MayPair.{drops}
+use Rattle.markdown_delims.specs.RunSearch.{may_take}
 use Rattle.markdown_delims.specs.Pairing.{Read, done_read, waiting, texts_before, characters_done, read_trees, FoundOpener, found_if, nearest_opener}
 use Rattle.markdown_delims.specs.Pairing.{drop_read, Layers, layers, trees_done, still_waiting, last_first, opened_if}
 use Rattle.markdown_delims.specs.Pairing.{left_over}

@@ -19,7 +19,7 @@ use Rattle.markdown_delims.specs.Entries.{Entry, settled, lone, waiting, labelle
 use Rattle.markdown_delims.specs.Entries.{search, entries_dropped, enclosed, rest_open, without_last, without_first, with_pair}
 use Rattle.markdown_delims.specs.Entries.{kept, after_search, closed_in, with_run, all_of_run, after_tree, paired_from, paired}
 use Rattle.markdown_delims.specs.MarkBodies.{whole_text, body_of_one, body_of_two, item_run}
-use Rattle.markdown_delims.specs.MayPair.{may_take}
+use Rattle.markdown_delims.specs.RunSearch.{may_take}
 use Rattle.markdown_delims.specs.QuoteBodies.{kind_of, is_closed_later, is_nil, with_body, turn_of, turn_at, quoted_after, quoted}
 
 -- a body that is made by pairing: it names no entry of a table, and is not open

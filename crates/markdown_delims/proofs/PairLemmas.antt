@@ -10,7 +10,7 @@ use Rattle.markdown_base.specs.Forest.{Forest, nil, node}
 use Rattle.markdown_delims.specs.declared.marks.Marks.{Marks}
 use Rattle.markdown_delims.specs.declared.run.Characters.{Characters}
 use Rattle.markdown_delims.specs.declared.run.Run.{Run}
-use Rattle.markdown_delims.specs.MayPair.{OpenRun, may_take}
+use Rattle.markdown_delims.specs.RunSearch.{OpenRun, may_take}
 use Rattle.markdown_delims.specs.Entries.{Entry, settled, lone, waiting, character, characters, characters_after, flat, Taken, search}
 use Rattle.markdown_delims.specs.Entries.{enclosed, rest_open, with_pair}
 use Rattle.markdown_delims.specs.Views.{View, view_of, Writes, Wrote, Holds, LeftHolds, next_number, Rises, LeftRises, Cut, top}

@@ -23,7 +23,8 @@ use Rattle.markdown_delims.specs.EntryFinds.{search_finds as entry_search_finds,
 use Rattle.markdown_delims.specs.EntryFinds.{tree_finds as entry_tree_finds, finds_from as entry_finds_from}
 use Rattle.markdown_delims.specs.Layers.{marks_of, run_of}
 use Rattle.markdown_delims.specs.MarkBodies.{run_if, item_run as run_of_item}
-use Rattle.markdown_delims.specs.MayPair.{delimiter_of, Found, nearest_run}
+use Rattle.markdown_delims.specs.MayPair.{delimiter_of}
+use Rattle.markdown_delims.specs.RunSearch.{Found, nearest_run}
 use Rattle.markdown_delims.specs.PairedChain.{CanPair}
 use Rattle.markdown_delims.specs.Pairing.{Read, done_read, nearest_opener, layers, run_read}
 use Rattle.markdown_delims.specs.PairingFinds.{search_finds, closer_finds, run_finds, tree_finds, finds_from, finds_in}

@@ -24,7 +24,8 @@ use Rattle.markdown_delims.specs.Entries.{after_search as entries_after, closed_
 use Rattle.markdown_delims.specs.Entries.{paired_from, paired as paired_nodes}
 use Rattle.markdown_delims.specs.Layers.{marks_of, run_of_shape, run_of}
 use Rattle.markdown_delims.specs.MarkBodies.{run_if, item_run as run_of_item}
-use Rattle.markdown_delims.specs.MayPair.{delimiter_of, may_take}
+use Rattle.markdown_delims.specs.MayPair.{delimiter_of}
+use Rattle.markdown_delims.specs.RunSearch.{may_take}
 use Rattle.markdown_document.specs.Waiting.{text_if}
 use Rattle.markdown_delims.specs.Pairing.{Read, done_read, read_trees, nearest_opener, Layers, layers, trees_done, still_waiting, left_over}
 use Rattle.markdown_delims.specs.Pairing.{after_layers, after_search, closed_by, run_read, first_texts, after_tree, reads_from, runs_paired}

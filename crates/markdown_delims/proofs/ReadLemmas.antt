@@ -14,7 +14,7 @@ use Rattle.markdown_delims.specs.declared.marks.Marks.{Marks}
 use Rattle.markdown_delims.specs.declared.run.Delimiter.{Delimiter}
 use Rattle.markdown_delims.specs.declared.run.Run.{Run}
 use Rattle.markdown_delims.specs.EntryFinds.{run_finds, finds_from, tree_finds}
-use Rattle.markdown_delims.specs.MayPair.{OpenRun}
+use Rattle.markdown_delims.specs.RunSearch.{OpenRun}
 use Rattle.markdown_delims.specs.OpenRuns.{Openers}
 use Rattle.markdown_delims.specs.MarkBodies.{run_if, item_run}
 use Rattle.markdown_delims.specs.Entries.{Entry, settled, flat, open_of, with_run, all_of_run, after_tree, paired_from}

@@ -10,7 +10,7 @@ use Rattle.markdown_delims.specs.declared.run.Delimiter.{Delimiter}
 use Rattle.markdown_delims.specs.declared.run.Run.{Run}
 use Rattle.markdown_delims.specs.declared.run.Characters.{Characters}
 use Rattle.markdown_delims.specs.MarkBodies.{whole_text, body_of_one, body_of_two, item_run}
-use Rattle.markdown_delims.specs.MayPair.{OpenRun, drop_run, may_take}
+use Rattle.markdown_delims.specs.RunSearch.{OpenRun, drop_run, may_take}
 
 -- what was read of a chain: a tree; characters that remain text; or a run that is still open, dropped or not.
 -- Characters are given by the number of their first node and their first byte offset.

@@ -5,7 +5,7 @@ use Rattle.markdown_base.specs.Forest.{Forest, nil, node}
 use Rattle.markdown_delims.specs.declared.marks.Marks.{Marks}
 use Rattle.markdown_delims.specs.declared.run.Run.{Run}
 use Rattle.markdown_delims.specs.MarkBodies.{item_run}
-use Rattle.markdown_delims.specs.MayPair.{OpenRun, Found, nearest_run}
+use Rattle.markdown_delims.specs.RunSearch.{OpenRun, Found, nearest_run}
 use Rattle.markdown_delims.specs.Entries.{Entry, settled, open_of, with_run, all_of_run}
 
 -- a search that finds an opener counts one; if the closer has characters left, it searches again with those

@@ -7,7 +7,7 @@ use Rattle.markdown_base.specs.Forest.{Forest, nil, node, first_root}
 use Rattle.markdown_base.specs.WellFormed.{RunCharacter, StandsInRun, run_character}
 use Rattle.markdown_document.specs.Counts.{comparisons_per_delimiter}
 use Rattle.markdown_delims.specs.declared.marks.Marks.{Marks}
-use Rattle.markdown_delims.specs.MayPair.{OpenRun}
+use Rattle.markdown_delims.specs.RunSearch.{OpenRun}
 use Rattle.markdown_delims.specs.OpenRuns.{Openers}
 use Rattle.markdown_delims.specs.Entries.{Entry, open_of, characters, paired_from}
 use Rattle.markdown_delims.specs.EntryFinds.{finds_from}

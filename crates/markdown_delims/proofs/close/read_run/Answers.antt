@@ -10,7 +10,7 @@ use Rattle.markdown_delims.specs.declared.marks.Marks.{Marks}
 use Rattle.markdown_delims.specs.declared.run.Characters.{Characters}
 use Rattle.markdown_delims.specs.ChainStanding.{Chain, IsRead}
 use Rattle.markdown_delims.specs.Entries.{Entry, kept, closed_in, with_run}
-use Rattle.markdown_delims.specs.MayPair.{OpenRun}
+use Rattle.markdown_delims.specs.RunSearch.{OpenRun}
 use Rattle.markdown_delims.proofs.CloseLemmas.{last_within}
 use Rattle.markdown_delims.proofs.EntryFindsLemmas.{finding_begin, finding_more, finding_last, finding_none}
 use Rattle.markdown_delims.proofs.ClosingLemmas.{closing_begin, can_keep, closing_none, opener_before, can_pair, closing_more, closing_used}
