@@ -1,5 +1,5 @@
 -- The search of the stack is the search of what was read; and what a find, or none, leaves.
-use Rattle.std.proofs.Common.{◌≡◌, ℕ, zero, suc, ◌+◌, ◌-◌, ◌<◌, ◌≤◌, min, Bool, true, false, List, [], ◌∷◌, map, Option, Some, None, length}
+use Rattle.std.proofs.Common.{◌≡◌, ℕ, suc, ◌+◌, ◌-◌, ◌<◌, min, Bool, true, false, List, [], ◌∷◌, map, Option, Some, None, length}
 use Rattle.std.proofs.Common.{refl, ap, sym, ◌∙◌, subst, arith}
 use Rattle.std.specs.Prelude.{not, ◌&&◌, ◌||◌}
 use Rattle.markdown_base.specs.declared.item.Item.{Item}
@@ -15,7 +15,7 @@ use Rattle.markdown_delims.specs.ChainStanding.{Stands, StandsAt, IsRead}
 use Rattle.markdown_delims.specs.MayPair.{drops, may_pair}
 use Rattle.markdown_delims.specs.Pairing.{Read, done_read, waiting, texts_before, characters_done, FoundOpener, found_if, nearest_opener, drop_read}
 use Rattle.markdown_delims.specs.Pairing.{Layers, layers, trees_done, last_first, opened_if, left_over}
-use Rattle.markdown_delims.specs.RunSearch.{OpenRun, Found, may_take, nearest_run, drop_run, dropped_by}
+use Rattle.markdown_delims.specs.RunSearch.{OpenRun, Found, may_take, nearest_run, dropped_by}
 use Rattle.markdown_delims.specs.Views.{View, LeftHolds, Cut, AllTouched, top}
 use Rattle.markdown_delims.proofs.CutLemmas.{step_right}
 use Rattle.markdown_delims.proofs.PairLemmas.{last_link}

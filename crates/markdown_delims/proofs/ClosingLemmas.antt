@@ -1,5 +1,5 @@
 -- A closer goes on while it finds openers: what is read from here on, and what is found, are what the whole run gives.
-use Rattle.std.proofs.Common.{◌≡◌, ℕ, zero, suc, ◌+◌, ◌-◌, ◌<◌, ◌≤◌, min, Bool, true, false, List, [], ◌∷◌, map, Option, Some, None, length}
+use Rattle.std.proofs.Common.{◌≡◌, ℕ, zero, suc, ◌+◌, ◌-◌, ◌<◌, ◌≤◌, Bool, true, false, List, [], ◌∷◌, map, Option, Some, None, length}
 use Rattle.std.proofs.Common.{refl, ap, sym, ◌∙◌, subst, arith}
 use Rattle.std.specs.Prelude.{not}
 use Rattle.markdown_base.specs.declared.item.Item.{Item}
@@ -14,10 +14,10 @@ use Rattle.markdown_delims.specs.ChainStanding.{Chain, view, texts, AreFirst, Ar
 use Rattle.markdown_delims.specs.ChainStanding.{Keeps, RunRead, CanRead}
 use Rattle.markdown_delims.specs.Layers.{marks_of}
 use Rattle.markdown_delims.specs.OpenRuns.{Openers}
-use Rattle.markdown_delims.specs.Pairing.{Read, FoundOpener, nearest_opener, drop_read, Layers, layers, left_over, after_layers, after_search}
+use Rattle.markdown_delims.specs.Pairing.{Read, nearest_opener, drop_read, Layers, layers, left_over, after_layers, after_search}
 use Rattle.markdown_delims.specs.Pairing.{still_waiting, closed_by, run_read}
 use Rattle.markdown_delims.specs.PairingFinds.{search_finds, closer_finds, run_finds}
-use Rattle.markdown_delims.specs.RunSearch.{OpenRun, Found, nearest_run, dropped_by}
+use Rattle.markdown_delims.specs.RunSearch.{OpenRun, nearest_run, dropped_by}
 use Rattle.markdown_delims.specs.Views.{Kept}
 use Rattle.markdown_delims.proofs.CloseLemmas.{LayersLeave, FoundAs, found_as, found_none, opener_stands, flat-dropped, open-dropped, open-trees, layers_leave}
 use Rattle.markdown_delims.proofs.CloseLemmas.{stands_as}

@@ -51,26 +51,6 @@ pub Rises-raise : (own : ℕ → Bool) (lo lo' : ℕ) (f : Forest (Label ℕ)) (
 Rises-raise own lo lo' nil hi l r = l
 Rises-raise own lo lo' (node a below after) hi l r = (l, r.1, r.2)
 
--- and end later
-pub Rises-further : (own : ℕ → Bool) (lo : ℕ) (f : Forest (Label ℕ)) (hi hi' : ℕ) → hi ≤ hi' → Rises own lo f hi → Rises own lo f hi'
-Rises-further own lo nil hi hi' l r = omega (arith, r)
-Rises-further own lo (node a below nil) hi hi' l r = (
-  r.0,
-  Inside-further own (suc a.tag) below hi hi' l r.1,
-  Rises-further own
-      (suc a.tag) nil hi hi' l r.2,
-)
-Rises-further own lo (node a below (node b inside after)) hi hi' l r = (
-  r.0,
-  r.1,
-  Rises-further own (suc a.tag) (node b inside after) hi
-      hi' l r.2,
-)
-
-pub LeftRises-further : (own : ℕ → Bool) (f : Forest (Label ℕ)) (hi hi' : ℕ) → hi ≤ hi' → LeftRises own f hi → LeftRises own f hi'
-LeftRises-further own nil hi hi' l r = tt
-LeftRises-further own (node a below before) hi hi' l r = (Inside-further own (suc a.tag) below hi hi' l r.0, r.1)
-
 -- a write at a node of the chain does not change what has other numbers: all before it, and all after it
 pub Holds-inside : (own : ℕ → Bool) (k k' : View Part) (ix : ℕ) (item : Part) (child next : Option ℕ) → Writes k k' ix item child next
     → own ix ≡ true

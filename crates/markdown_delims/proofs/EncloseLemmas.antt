@@ -1,5 +1,5 @@
 -- Characters of an opener become nodes, one layer at a time.
-use Rattle.std.proofs.Common.{◌≡◌, ℕ, zero, suc, ◌+◌, ◌-◌, ◌<◌, ◌≤◌, min, Bool, true, List, [], ◌∷◌, Option, Some, None, length, refl, ap}
+use Rattle.std.proofs.Common.{◌≡◌, ℕ, suc, ◌+◌, ◌-◌, ◌<◌, ◌≤◌, min, Bool, true, List, [], ◌∷◌, Option, Some, None, length, refl, ap}
 use Rattle.std.proofs.Common.{sym, ◌∙◌, subst, arith}
 use Rattle.std.specs.Prelude.{IfSome, slice_range, ◌^◌}
 use Rattle.markdown_base.specs.declared.item.Item.{Item}
@@ -10,10 +10,9 @@ use Rattle.markdown_base.specs.Forest.{Forest, nil, node}
 use Rattle.markdown_document.specs.Document.{Shape, Part, Label, part_of, block_of}
 use Rattle.markdown_document.specs.Setting.{Setting}
 use Rattle.markdown_document.specs.Tables.{Tables}
-use Rattle.markdown_delims.specs.declared.marks.Marks.{Marks}
 use Rattle.markdown_delims.specs.declared.run.Characters.{Characters}
 use Rattle.markdown_delims.specs.declared.run.Delimiter.{Delimiter}
-use Rattle.markdown_delims.specs.ChainStanding.{Chain, view, texts, left_texts, FirstFrom, LastFrom, AreFirst, AreLast}
+use Rattle.markdown_delims.specs.ChainStanding.{Chain, view, texts, left_texts, FirstFrom, LastFrom}
 use Rattle.markdown_delims.specs.Enclosing.{IsLayer, Around, Encloses, IsEnclosed}
 use Rattle.markdown_delims.specs.Layers.{marks_of, layer_of_one, layer_of_two, spanned}
 use Rattle.markdown_delims.specs.Pairing.{Layers, layers}

@@ -1,12 +1,12 @@
 -- If the trees of a chain are in order, each after the one before it, those that pairing leaves are too, at every
 -- depth.
-use Rattle.std.proofs.Common.{◌≡◌, ℕ, zero, suc, ◌+◌, ◌<◌, ◌≤◌, Bool, true, false, List, [], ◌∷◌, map, Option, Some, None, refl, ap, sym, ◌∙◌}
-use Rattle.std.proofs.Common.{subst, arith, inl, inr}
+use Rattle.std.proofs.Common.{◌≡◌, ℕ, zero, suc, ◌<◌, ◌≤◌, Bool, true, false, List, [], ◌∷◌, map, Option, Some, None, refl, ap, sym, ◌∙◌}
+use Rattle.std.proofs.Common.{subst, arith, inl}
 use Rattle.std.specs.Prelude.{⊤, ◌⊎◌, IfSome, not, ◌&&◌}
 use Rattle.std.specs.Str.{IsCharBoundary}
 use Rattle.std.proofs.lemmas.Option.{IfSome_then}
 use Rattle.markdown_base.specs.Forest.{Forest, nil, node, Throughout, first_root}
-use Rattle.markdown_document.specs.Document.{Label, is_unresolved, as_text}
+use Rattle.markdown_document.specs.Document.{Label, is_unresolved}
 use Rattle.markdown_document.specs.Setting.{Setting}
 use Rattle.markdown_document.specs.Waiting.{text_if, as_closed}
 use Rattle.markdown_delims.specs.declared.run.Delimiter.{Delimiter}
@@ -16,7 +16,7 @@ use Rattle.markdown_delims.specs.Layers.{marks_of, layer_of_one, layer_of_two, s
 use Rattle.markdown_delims.specs.MayPair.{may_pair}
 use Rattle.markdown_delims.specs.Pairing.{Read, done_read, waiting, texts_before, characters_done, read_trees, FoundOpener, nearest_opener, drop_read}
 use Rattle.markdown_delims.specs.Pairing.{Layers, layers, trees_done, still_waiting, last_first, opened_if, left_over, after_layers, first_texts}
-use Rattle.markdown_delims.specs.Pairing.{reads_from, runs_paired, paired}
+use Rattle.markdown_delims.specs.Pairing.{runs_paired, paired}
 use Rattle.markdown_delims.specs.Quotes.{first_turn, quotes_after, with_quotes}
 use Rattle.markdown_delims.proofs.KeepLemmas.{EachTree, EachFound, IsClosedTree, IsClosed, Holds, holds-on, nearest-keeps, found-keeps, makes-closed}
 use Rattle.markdown_delims.proofs.KeepLemmas.{readable, paired-closed}

@@ -1,22 +1,22 @@
 -- One pair: the chain is cut before the closer, and the opener encloses what follows it.
-use Rattle.std.proofs.Common.{◌≡◌, ℕ, ◌+◌, ◌-◌, ◌<◌, ◌≤◌, Bool, true, false, List, [], ◌∷◌, Option, Some, None, length, refl, ap, sym, ◌∙◌}
+use Rattle.std.proofs.Common.{◌≡◌, ℕ, ◌+◌, ◌-◌, ◌<◌, Bool, true, false, List, [], ◌∷◌, Option, Some, None, length, refl, ap, sym, ◌∙◌}
 use Rattle.std.proofs.Common.{subst, arith}
 use Rattle.std.specs.Prelude.{not, ◌&&◌, ◌^◌}
 use Rattle.markdown_base.specs.declared.item.Item.{Item}
-use Rattle.markdown_base.specs.Arena.{Arena, child_of, sibling_of}
+use Rattle.markdown_base.specs.Arena.{Arena, child_of}
 use Rattle.markdown_base.specs.BlockTree.{item_at}
 use Rattle.markdown_base.specs.Forest.{Forest, nil, node}
 use Rattle.markdown_document.specs.Document.{Part, Label, part_of}
 use Rattle.markdown_delims.specs.declared.marks.Marks.{Marks}
 use Rattle.markdown_delims.specs.declared.run.Characters.{Characters}
 use Rattle.markdown_delims.specs.declared.run.Run.{Run}
-use Rattle.markdown_delims.specs.ChainStanding.{Chain, view, texts, left_texts, flat, FirstFrom, AreFirst, AreLast, Reads, StandsAt, Finds}
+use Rattle.markdown_delims.specs.ChainStanding.{Chain, view, texts, left_texts, flat, AreFirst, AreLast, Reads, StandsAt, Finds}
 use Rattle.markdown_delims.specs.Enclosing.{Around, Encloses, EnclosesAll, inner_of}
 use Rattle.markdown_delims.specs.Layers.{marks_of}
 use Rattle.markdown_delims.specs.MayPair.{may_pair}
 use Rattle.markdown_delims.specs.Pairing.{Read, done_read, waiting, texts_before, FoundOpener, found_if, nearest_opener, Layers, layers}
 use Rattle.markdown_delims.specs.Pairing.{trees_done, still_waiting, after_layers}
-use Rattle.markdown_delims.specs.Views.{View, Writes, Wrote, Holds, LeftHolds, next_number, Rises, LeftRises, Cut, AllTouched, top}
+use Rattle.markdown_delims.specs.Views.{View, Writes, Wrote, LeftHolds, next_number, LeftRises, Cut, AllTouched, top}
 use Rattle.markdown_delims.proofs.CutLemmas.{Rises-raise, Holds-write_before, step_left, Parted, parted}
 use Rattle.markdown_delims.proofs.WriteLemmas.{parts_written, kept_links, kept_both}
 

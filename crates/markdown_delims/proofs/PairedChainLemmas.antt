@@ -1,7 +1,7 @@
 -- A chain that was paired in place reads as its labels paired, and has no node more.
-use Rattle.std.proofs.Common.{◌≡◌, ℕ, suc, ◌+◌, ◌≤◌, ◌<◌, Bool, true, false, List, [], Option, Some, None, length, refl, ap, sym, ◌∙◌, subst, arith}
+use Rattle.std.proofs.Common.{◌≡◌, ℕ, ◌+◌, ◌≤◌, ◌<◌, Bool, true, false, List, [], Some, length, refl, ap, sym, ◌∙◌, subst, arith}
 use Rattle.std.proofs.Common.{inl, inr}
-use Rattle.std.specs.Prelude.{◌==◌, ◌||◌, ◌⊎◌, ◌^◌, ⊤, slice_range}
+use Rattle.std.specs.Prelude.{◌==◌, ◌||◌, ◌⊎◌, ◌^◌, slice_range}
 use Rattle.std.proofs.lemmas.Bool.{eqb-true}
 use Rattle.markdown_base.specs.Arena.{Arena}
 use Rattle.markdown_base.specs.ArenaForest.{links_of, Spells, forest_at}
@@ -12,7 +12,7 @@ use Rattle.markdown_base.specs.declared.item.Item.{Item}
 use Rattle.markdown_base.specs.declared.item.ItemBody.{ItemBody}
 use Rattle.markdown_base.specs.declared.node.Node.{Node}
 use Rattle.markdown_base.proofs.ForestLemmas.{relabelled-relabelled}
-use Rattle.markdown_document.specs.Document.{Label, is_unresolved, shape_of, part_of}
+use Rattle.markdown_document.specs.Document.{Label, is_unresolved, shape_of}
 use Rattle.markdown_document.specs.Labels.{retag, retagged}
 use Rattle.markdown_document.specs.Places.{trees_from}
 use Rattle.markdown_document.specs.Setting.{Setting}
@@ -26,7 +26,7 @@ use Rattle.markdown_delims.specs.ChainReading.{is_among, NoneBelow, AreWhole, la
 use Rattle.markdown_delims.specs.PairedChain.{CanPair, PairsChain}
 use Rattle.markdown_delims.specs.Pairing.{runs_paired, paired}
 use Rattle.markdown_delims.specs.PairingFinds.{finds_from, finds_in}
-use Rattle.markdown_delims.specs.Quotes.{quotes_after, with_quotes}
+use Rattle.markdown_delims.specs.Quotes.{with_quotes}
 use Rattle.markdown_delims.specs.Quoting.{IsQuoted}
 use Rattle.markdown_delims.specs.RunReading.{delimiters_of}
 use Rattle.markdown_delims.specs.Views.{IsMade, Kept}

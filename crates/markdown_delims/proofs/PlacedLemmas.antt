@@ -26,7 +26,7 @@ use Rattle.markdown_delims.specs.ChainReading.{NoneBelow, labels}
 use Rattle.markdown_delims.specs.PairedChain.{HasNoBlock}
 use Rattle.markdown_delims.specs.Pairing.{paired}
 use Rattle.markdown_delims.specs.Views.{IsMade, SameAt, view_of}
-use Rattle.markdown_delims.proofs.InOrderLemmas.{Lies, Precedes, IsRight, AreRight, InOrder, paired_right}
+use Rattle.markdown_delims.proofs.InOrderLemmas.{Precedes, IsRight, AreRight, InOrder, paired_right}
 use Rattle.markdown_delims.proofs.SumLemmas.{sum_of, CountsNoMore}
 
 -- what is open reads as what is

@@ -17,7 +17,7 @@ use Rattle.markdown_delims.specs.declared.quotes.Kind.{Kind}
 use Rattle.markdown_delims.specs.declared.quotes.OpenQuotes.{OpenQuotes}
 use Rattle.markdown_delims.specs.ChainReading.{is_among, labels, IsSpelled}
 use Rattle.markdown_delims.specs.ChainStanding.{Chain, view, read_back}
-use Rattle.markdown_delims.specs.Quotes.{kind_of_shape, is_closed_later, is_end, first_turn, quotes_after, with_quotes}
+use Rattle.markdown_delims.specs.Quotes.{kind_of_shape, is_end, first_turn, quotes_after, with_quotes}
 use Rattle.markdown_delims.specs.Quoting.{remembered_as, quoted_from, QuotesOn, QuotesTree, CanQuote, IsQuoted}
 use Rattle.markdown_delims.specs.RunReading.{counts_one, delimiters_of}
 use Rattle.markdown_delims.specs.Views.{View, Holds, Rises}

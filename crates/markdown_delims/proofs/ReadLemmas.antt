@@ -1,7 +1,7 @@
 -- A whole run is read at its first character, and another tree by itself.
-use Rattle.std.proofs.Common.{◌≡◌, ℕ, zero, suc, ◌+◌, ◌-◌, ◌*◌, ◌<◌, ◌≤◌, Bool, true, false, List, ◌∷◌, Option, Some, None, length, refl, ap}
+use Rattle.std.proofs.Common.{◌≡◌, ℕ, zero, suc, ◌+◌, ◌-◌, ◌<◌, ◌≤◌, Bool, false, List, ◌∷◌, Option, Some, None, length, refl, ap}
 use Rattle.std.proofs.Common.{sym, ◌∙◌, subst, arith}
-use Rattle.std.specs.Prelude.{slice_index, slice_range, is_some, ◌^◌}
+use Rattle.std.specs.Prelude.{is_some}
 use Rattle.markdown_base.specs.declared.item.Item.{Item}
 use Rattle.markdown_base.specs.declared.item.ItemBody.{ItemBody}
 use Rattle.markdown_base.specs.declared.item.ItemBody.TheVariants as body
@@ -14,12 +14,11 @@ use Rattle.markdown_document.specs.Document.{part_of}
 use Rattle.markdown_document.specs.Setting.{Setting}
 use Rattle.markdown_document.specs.Tables.{Tables}
 use Rattle.markdown_document.specs.Waiting.{text_if, as_closed}
-use Rattle.markdown_delims.specs.declared.run.Characters.{Characters}
 use Rattle.markdown_delims.specs.declared.run.Delimiter.{Delimiter}
 use Rattle.markdown_delims.specs.declared.run.Run.{Run}
 use Rattle.markdown_delims.specs.ChainReading.{HasCount, ShowsCount, trees_after, BeginsRun, IsWhole, AreWhole, one_if, runs_in, Settles}
 use Rattle.markdown_delims.specs.ChainReading.{StandsWhole, ReadFurther}
-use Rattle.markdown_delims.specs.ChainStanding.{Chain, view, flat, Stands, RunRead}
+use Rattle.markdown_delims.specs.ChainStanding.{Chain, view, flat, RunRead}
 use Rattle.markdown_delims.specs.Layers.{run_by, run_of_shape, run_of}
 use Rattle.markdown_delims.specs.OpenRuns.{Openers}
 use Rattle.markdown_delims.specs.Pairing.{Read, done_read, run_read, first_texts, after_tree, reads_from}

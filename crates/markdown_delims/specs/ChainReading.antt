@@ -1,5 +1,6 @@
 -- A chain that is read tree by tree, whose runs are whole.
-use Rattle.std.specs.Prelude.{◌≡◌, ℕ, zero, suc, ◌+◌, ◌-◌, ◌*◌, ◌<◌, ◌≤◌, ◌^◌, Bool, true, false, List, [], Option, Some, None}
+use Rattle.std.specs.Prelude.{◌≡◌, ℕ, zero, suc, ◌+◌, ◌*◌, ◌<◌, ◌≤◌, ◌^◌, Bool, true, false, List, [], Option}
+use Rattle.std.specs.Prelude.{Some, None}
 use Rattle.std.specs.Prelude.{IfSome, is_some, ◌∷◌, ◌||◌, ◌==◌, length}
 use Rattle.markdown_base.specs.declared.item.Item.{Item}
 use Rattle.markdown_base.specs.declared.item.ItemBody.{ItemBody}
@@ -93,8 +94,8 @@ pub record StandsWhole (h : Chain) (s : Arena Item) (rs : List (Read ℕ)) (last
   pub are : AreOpen openers.runs rs
 
 -- a chain was read somewhat further: the pairing of the whole is the same, and each successful search was counted
-pub record ReadFurther (h : Chain) (s t : Arena Item) (begun : List (Read ℕ)) (chain : Forest (Label ℕ)) (old new : Openers)
-    (last l : Option ℕ) (from : ℕ) : Type 0 where
+pub record ReadFurther (h : Chain) (s t : Arena Item) (begun : List (Read ℕ)) (chain : Forest (Label ℕ))
+    (old new : Openers) (last l : Option ℕ) (from : ℕ) : Type 0 where
   pub rs : List (Read ℕ)
   pub rest : Forest (Label ℕ)
   pub stands : StandsWhole h t rs last l rest new
@@ -121,7 +122,8 @@ PaysForTree text ix last s old new =
     → new.potential ≤ old.potential + comparisons_per_delimiter * runs_in text chain
 
 -- there is such a tree
-pub record CanReadTree (m : Marks) (text : List ℕ) (ix : ℕ) (last : Option ℕ) (s : Arena Item) (openers : Openers) : Type 0
+pub record CanReadTree (m : Marks) (text : List ℕ) (ix : ℕ) (last : Option ℕ) (s : Arena Item)
+    (openers : Openers) : Type 0
   where
     pub chain : Chain
     pub marks_are : marks_of chain.setting.rules.options ≡ m
@@ -152,7 +154,8 @@ pub record IsSpelled (nodes : List (Node Item)) (first : ℕ) (f : Forest ℕ) :
   pub apart : NoneBelow (is_among (roots f)) f
 
 -- such a chain, whose runs are whole and have at most `count` characters
-pub record IsChainAt (s : Setting) (tables : Tables) (nodes : List (Node Item)) (first count : ℕ) (f : Forest ℕ) : Type 0
+pub record IsChainAt (s : Setting) (tables : Tables) (nodes : List (Node Item)) (first count : ℕ)
+    (f : Forest ℕ) : Type 0
   where
     pub is : IsSpelled nodes first f
     pub counted : runs_in s.text (labels s tables nodes f) ≤ count
@@ -195,7 +198,8 @@ pub record IsEmptied (openers : Openers) : Type 0 where
   pub potential : openers.potential ≡ openers.examined
 
 -- there is such a chain, and its comparisons can be counted
-pub record CanPairAll (m : Marks) (text : List ℕ) (nodes : List (Node Item)) (first count : ℕ) (openers : Openers) : Type 0
+pub record CanPairAll (m : Marks) (text : List ℕ) (nodes : List (Node Item)) (first count : ℕ)
+    (openers : Openers) : Type 0
   where
     pub setting : Setting
     pub marks_are : marks_of setting.rules.options ≡ m
@@ -203,4 +207,5 @@ pub record CanPairAll (m : Marks) (text : List ℕ) (nodes : List (Node Item)) (
     pub tables : Tables
     pub forest : Forest ℕ
     pub chain : IsChainAt setting tables nodes first count forest
-    pub room : openers.examined + comparisons_per_delimiter * runs_in text (labels setting tables nodes forest) < 2 ^ 128
+    pub room : openers.examined + comparisons_per_delimiter * runs_in text (labels setting tables nodes forest)
+        < 2 ^ 128

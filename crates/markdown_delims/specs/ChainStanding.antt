@@ -1,8 +1,7 @@
 -- The part of a chain of an arena that has been read, and the rest.
-use Rattle.std.specs.Prelude.{◌≡◌, ℕ, suc, ◌+◌, ◌-◌, ◌<◌, ◌≤◌, ◌^◌, min, Bool, List, [], ◌∷◌, length, Option, Some, None}
+use Rattle.std.specs.Prelude.{◌≡◌, ℕ, suc, ◌+◌, ◌<◌, ◌≤◌, ◌^◌, Bool, List, [], ◌∷◌, length, Option, Some, None}
 use Rattle.markdown_base.specs.declared.item.Item.{Item}
-use Rattle.markdown_base.specs.declared.node.Node.{Node}
-use Rattle.markdown_base.specs.Arena.{Arena, sibling_of}
+use Rattle.markdown_base.specs.Arena.{Arena}
 use Rattle.markdown_base.specs.Forest.{Forest, nil, node}
 use Rattle.markdown_document.specs.Document.{Part, Label, part_of}
 use Rattle.markdown_document.specs.Setting.{Setting}
@@ -12,7 +11,8 @@ use Rattle.markdown_delims.specs.declared.run.Characters.{Characters}
 use Rattle.markdown_delims.specs.declared.run.Run.{Run}
 use Rattle.markdown_delims.specs.Layers.{marks_of}
 use Rattle.markdown_delims.specs.OpenRuns.{Openers}
-use Rattle.markdown_delims.specs.Pairing.{Read, done_read, waiting, FoundOpener, nearest_opener, layers, after_layers, left_over, run_read}
+use Rattle.markdown_delims.specs.Pairing.{Read, done_read, waiting, FoundOpener, nearest_opener, layers, after_layers}
+use Rattle.markdown_delims.specs.Pairing.{left_over, run_read}
 use Rattle.markdown_delims.specs.PairingFinds.{run_finds}
 use Rattle.markdown_delims.specs.RunSearch.{OpenRun}
 use Rattle.markdown_delims.specs.Views.{View, parts_of, Cut, Kept, AllTouched, top}
@@ -85,7 +85,8 @@ AreOpen [] (waiting dropped run xs ∷ rs) = ⊥
 AreOpen (r ∷ runs) (waiting dropped run xs ∷ rs) = IsOpen r dropped run xs × AreOpen runs rs
 
 -- what was read of the chain is this, and `last` is its last node; the rest follows from the link l on
-pub record Stands (h : Chain) (s : Arena Item) (rs : List (Read ℕ)) (last l : Option ℕ) (rest : Forest (Label ℕ)) : Type 0
+pub record Stands (h : Chain) (s : Arena Item) (rs : List (Read ℕ)) (last l : Option ℕ)
+    (rest : Forest (Label ℕ)) : Type 0
   where
     pub cut : Cut h.touched (view h s) h.first (flat rs) l rest h.bound
     pub last_is : last ≡ top (flat rs)
@@ -94,7 +95,8 @@ pub record Stands (h : Chain) (s : Arena Item) (rs : List (Read ℕ)) (last l : 
     pub few : length s.nodes < 2 ^ 63
 
 -- t is s with the chain read further, and nothing else changed
-pub record Reads (h : Chain) (s t : Arena Item) (rs : List (Read ℕ)) (last l : Option ℕ) (rest : Forest (Label ℕ)) : Type 0
+pub record Reads (h : Chain) (s t : Arena Item) (rs : List (Read ℕ)) (last l : Option ℕ)
+    (rest : Forest (Label ℕ)) : Type 0
   where
     pub stands : Stands h t rs last l rest
     pub kept : Kept h.touched s t
@@ -116,8 +118,8 @@ abbrev pub Pairs : Marks → Characters → Characters → ℕ → Arena Item �
 Pairs m opener closer last s t root rest =
     (h : Chain) (rs : List (Read ℕ)) (vs : List (Label ℕ)) (after : Forest (Label ℕ)) (found : FoundOpener ℕ)
     → marks_of h.setting.rules.options ≡ m → StandsAt h s rs (Some last) closer vs after → Finds rs opener closer found
-    → Reads h s t (after_layers found (layers h.setting found.run.delimiter found.characters vs found.inside)) (Some root)
-    rest (texts (layers h.setting found.run.delimiter found.characters vs found.inside).closing after)
+    → Reads h s t (after_layers found (layers h.setting found.run.delimiter found.characters vs found.inside))
+    (Some root) rest (texts (layers h.setting found.run.delimiter found.characters vs found.inside).closing after)
 
 -- there is a chain in which the closer's search finds that opener
 pub record CanPair (m : Marks) (opener closer : Characters) (last : ℕ) (s : Arena Item) : Type 0 where
@@ -144,8 +146,8 @@ Keeps left s runs runs' last' l =
     → IsRead h s s (left_over left.run vs rs) runs' last' l after
 
 -- a run is read, and each search that finds was counted
-pub record RunRead (h : Chain) (s t : Arena Item) (run : Run) (vs : List (Label ℕ)) (rs : List (Read ℕ)) (old new : Openers)
-    (last l : Option ℕ) (after : Forest (Label ℕ)) : Type 0 where
+pub record RunRead (h : Chain) (s t : Arena Item) (run : Run) (vs : List (Label ℕ)) (rs : List (Read ℕ))
+    (old new : Openers) (last l : Option ℕ) (after : Forest (Label ℕ)) : Type 0 where
   pub is_read : IsRead h s t (run_read h.setting run.can_close run vs rs) new.runs last l after
   pub found : old.examined + run_finds h.setting run.can_close run vs rs ≤ new.examined
 

@@ -1,5 +1,5 @@
 -- An opener's characters in an arena while they become nodes around a chain.
-use Rattle.std.specs.Prelude.{◌≡◌, ℕ, ◌+◌, ◌-◌, ◌<◌, ◌≤◌, ◌^◌, List, length, Option, Some, None}
+use Rattle.std.specs.Prelude.{◌≡◌, ℕ, ◌+◌, ◌-◌, ◌<◌, ◌≤◌, ◌^◌, List, length, Option, Some}
 use Rattle.markdown_base.specs.declared.item.Item.{Item}
 use Rattle.markdown_base.specs.declared.item.ItemBody.{ItemBody}
 use Rattle.markdown_base.specs.Arena.{Arena, sibling_of}
@@ -54,7 +54,8 @@ pub record CanEnclose (m : Marks) (opener closer : Characters) (s : Arena Item) 
   pub encloses : Encloses chain around s opener closer (inner_of opener s)
 
 -- the chain, cut after the outermost layer
-pub record IsEnclosed (h : Chain) (g : Around) (s t : Arena Item) (made : Layers ℕ) (root : ℕ) (rest : Option ℕ) : Type 0
+pub record IsEnclosed (h : Chain) (g : Around) (s t : Arena Item) (made : Layers ℕ) (root : ℕ) (rest : Option ℕ)
+    : Type 0
   where
     pub whole : Label ℕ
     pub inside : Forest (Label ℕ)

@@ -1,11 +1,11 @@
 -- The part of a chain of an arena whose quotes have been read, and the rest.
-use Rattle.std.specs.Prelude.{◌≡◌, ℕ, ◌⊎◌, ◌+◌, ◌<◌, ◌^◌, Bool, false, ◌==◌, List, if◌then◌else◌, Option, Some, None}
-use Rattle.std.specs.Prelude.{IfSome, is_some, length}
+use Rattle.std.specs.Prelude.{◌≡◌, ℕ, ◌⊎◌, Bool, ◌==◌, List, if◌then◌else◌, Option, Some, None}
+use Rattle.std.specs.Prelude.{IfSome, is_some}
 use Rattle.markdown_base.specs.declared.item.Item.{Item}
 use Rattle.markdown_base.specs.declared.node.Node.{Node}
 use Rattle.markdown_base.specs.Arena.{Arena, sibling_of}
 use Rattle.markdown_base.specs.ArenaForest.{links_of, Spells}
-use Rattle.markdown_base.specs.BlockTree.{Numbered, numbered}
+use Rattle.markdown_base.specs.BlockTree.{numbered}
 use Rattle.markdown_base.specs.Forest.{Forest, nil, node, roots, relabelled}
 use Rattle.markdown_document.specs.Document.{Label, shaped}
 use Rattle.markdown_document.specs.Setting.{Setting}

@@ -39,8 +39,8 @@ pub fn read_tree(
 ) -> Result<(Option<usize>, Option<usize>), AllocError>
     requires stands { CanReadTree source.marks source.text.now ix last tree.old openers.old }
     ensures ok { IfOk result (λ r.
-        ReadsTree source.entry.marks source.entry.text.now ix last tree.old tree.new openers.old openers.new
-        r.0 r.1) }
+        ReadsTree source.entry.marks source.entry.text.now ix last tree.old tree.new
+        openers.old openers.new r.0 r.1) }
     ensures paid { IfErr result (λ _.
         PaysForTree source.entry.text.now ix last tree.old openers.old openers.new) }
 {

@@ -1,5 +1,5 @@
 -- The quotes first, and then the runs; and what that leaves in place.
-use Rattle.std.proofs.Common.{◌≡◌, ℕ, List, [], Option, Some, length, false, refl, ap, subst, sym, ◌∙◌, arith, Ok, Err}
+use Rattle.std.proofs.Common.{◌≡◌, ℕ, List, [], Option, Some, length, false, refl, ap, sym, ◌∙◌, arith, Ok, Err}
 use Rattle.std.specs.Prelude.{OnOk, Result, ◌+◌, ◌*◌, ◌^◌, ◌<◌, ◌≤◌}
 use Rattle.markdown_base.specs.Arena.{Arena}
 use Rattle.markdown_base.specs.BlockTree.{trees_at}

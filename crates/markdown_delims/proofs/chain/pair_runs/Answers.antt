@@ -1,5 +1,5 @@
 -- Tree by tree.
-use Rattle.std.proofs.Common.{◌≡◌, ◌+◌, ◌*◌, ◌^◌, ◌<◌, ap, subst, arith}
+use Rattle.std.proofs.Common.{◌+◌, ◌*◌, ◌^◌, ◌<◌, ap, subst, arith}
 use Rattle.markdown_document.specs.Counts.{comparisons_per_delimiter}
 use Rattle.markdown_delims.specs.ChainReading.{StandsWhole, labels, runs_in}
 use Rattle.markdown_delims.proofs.ChainLemmas.{RunsRead, none_paired, runs_chain, starts_reading, read_on, reads_more, pays, all_paid, can_go_on, all_read, all_found, goes_down}

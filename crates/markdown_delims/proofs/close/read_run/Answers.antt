@@ -1,5 +1,5 @@
 -- Each find goes on as the definition does, where the run can close.
-use Rattle.std.proofs.Common.{◌≡◌, ◌+◌, ◌^◌, ◌<◌, ℕ, Option, Some, None, ap, sym, subst, refl, arith, length, Ok, Err}
+use Rattle.std.proofs.Common.{◌≡◌, ◌^◌, ◌<◌, ℕ, Option, Some, None, ap, refl, arith, length, Ok, Err}
 use Rattle.std.specs.Prelude.{IfOk, IsSome, Result}
 use Rattle.std.proofs.lemmas.Bool.{not-false}
 use Rattle.markdown_delims.proofs.CloseLemmas.{last_within}

@@ -1,5 +1,5 @@
 -- Layer by layer, for any surroundings of the opener.
-use Rattle.std.proofs.Common.{◌≡◌, ℕ, List, Some, ◌+◌, ◌-◌, ◌<◌, ◌≤◌, min, length, ◌∙◌, ap, sym, subst, refl, arith}
+use Rattle.std.proofs.Common.{◌≡◌, ℕ, List, Some, ◌+◌, ◌-◌, ◌<◌, min, sym, subst, refl, arith}
 use Rattle.markdown_base.specs.declared.item.ItemBody.{ItemBody}
 use Rattle.markdown_document.specs.Document.{Shape}
 use Rattle.markdown_delims.specs.Enclosing.{IsLayer, Around, Encloses, inner_of, CanEnclose}

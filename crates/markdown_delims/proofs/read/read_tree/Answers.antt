@@ -1,10 +1,10 @@
 -- A run is turned into Texts and read; any other tree is kept.
-use Rattle.std.proofs.Common.{◌≡◌, ◌+◌, ◌*◌, ◌^◌, ◌<◌, ℕ, List, arith, ap, subst, sym, Ok, Err, Some, None}
+use Rattle.std.proofs.Common.{◌+◌, ◌*◌, ◌^◌, ◌<◌, arith, ap, Ok, Err, Some, None}
 use Rattle.std.specs.Prelude.{IfErr, IfOk, Result}
 use Rattle.markdown_base.specs.BlockTree.{no_item}
 use Rattle.markdown_document.specs.Counts.{comparisons_per_delimiter}
 use Rattle.markdown_delims.specs.ChainReading.{runs_in}
-use Rattle.markdown_delims.proofs.ReadLemmas.{shown_run, head_within, head_count, read_none, RunHere, run_here, read_some}
+use Rattle.markdown_delims.proofs.ReadLemmas.{shown_run, head_within, head_count, read_none, run_here, read_some}
 use Rattle.markdown_delims.proofs.read.read_tree.Goals as goal
 
 pub item-item-requires : goal.item-item-requires

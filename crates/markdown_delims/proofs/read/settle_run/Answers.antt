@@ -1,5 +1,5 @@
 -- Each character is written over.
-use Rattle.std.proofs.Common.{◌≡◌, ◌+◌, suc, length, arith, subst}
+use Rattle.std.proofs.Common.{◌≡◌, ◌+◌, suc, arith, subst}
 use Rattle.markdown_delims.proofs.SettleLemmas.{SettlingAt, settling_within, settling_begin, settling_more, settling_done}
 use Rattle.markdown_delims.proofs.read.settle_run.Goals as goal
 
