@@ -9,8 +9,9 @@ use Rattle.markdown_base.specs.Arena.{Arena, sibling_of}
 use Rattle.markdown_base.specs.ArenaForest.{links_of, Spells}
 use Rattle.markdown_base.specs.BlockTree.{numbered, item_at}
 use Rattle.markdown_base.specs.Forest.{Forest, nil, node, roots, relabelled}
-use Rattle.markdown_base.specs.WellFormed.{RunCharacter, run_character}
+use Rattle.markdown_base.specs.WellFormed.{run_character}
 use Rattle.markdown_document.specs.Document.{Shape, unresolved, Part, Label, shape_of}
+use Rattle.markdown_document.specs.Labels.{counts_shape, delimiters_in}
 use Rattle.markdown_document.specs.Setting.{Setting}
 use Rattle.markdown_document.specs.Tables.{Tables}
 use Rattle.markdown_delims.specs.declared.quotes.Kind.{Kind}
@@ -25,40 +26,32 @@ use Rattle.markdown_delims.proofs.ChainLemmas.{numbers_of, numbers_of-labels, wh
 use Rattle.markdown_delims.proofs.ChainLemmas.{fewer_left}
 use Rattle.markdown_delims.proofs.WriteLemmas.{kept_none, kept_both}
 
--- the character of a run that a shape is
-abbrev open_run : Shape → Option RunCharacter
-open_run (unresolved b) = run_character b
-open_run other = None
+-- a shape counts as its body does, at most once
+counts_as : (tables : Tables) (source : List ℕ) (b : ItemBody) → counts_shape (shape_of tables source b) ≡ counts_one (run_character b)
+counts_as tables source body.Paragraph = refl
+counts_as tables source (body.HardBreak true) = refl
+counts_as tables source (body.HardBreak false) = refl
+counts_as tables source other = refl
 
-open_run-shape : (tables : Tables) (source : List ℕ) (b : ItemBody) → open_run (shape_of tables source b) ≡ run_character b
-open_run-shape tables source body.Paragraph = refl
-open_run-shape tables source (body.HardBreak true) = refl
-open_run-shape tables source (body.HardBreak false) = refl
-open_run-shape tables source other = refl
-
-abbrev delimiters_in : Forest (Label ℕ) → ℕ
-delimiters_in nil = 0
-delimiters_in (node a below after) = counts_one (open_run a.part.shape) + delimiters_in after
+one_at_most : (shape : Shape) → counts_shape shape ≤ 1
+one_at_most (unresolved (body.MaybeEmphasis n opens closes)) = omega arith
+one_at_most (unresolved other) = omega arith
+one_at_most other = omega arith
 
 delimiters_are : (s : Setting) (tables : Tables) (nodes : List (Node Item)) (f : Forest ℕ) → delimiters_in (labels s tables nodes f)
     ≡ delimiters_of (relabelled (numbered nodes) f)
 delimiters_are s tables nodes nil = refl
 delimiters_are s tables nodes (node ix below after) =
-    let shown = ap counts_one (open_run-shape tables (slice_range s.text (item_at nodes ix).start (item_at nodes ix).end)
-    (item_at nodes ix).body) in
+    let shown = counts_as tables (slice_range s.text (item_at nodes ix).start (item_at nodes ix).end) (item_at nodes ix).body in
     omega (arith, delimiters_are s tables nodes after, shown)
 
 -- there are no more of them than numbers
-one_each : (o : Option RunCharacter) → counts_one o ≤ 1
-one_each None = omega arith
-one_each (Some c) = omega arith
-
 few_in : (own : ℕ → Bool) (lo : ℕ) (f : Forest (Label ℕ)) (hi : ℕ) → Rises own lo f hi → delimiters_in f + lo ≤ hi
 few_in own lo nil hi r = omega (arith, r)
 few_in own lo (node a below after) hi r = omega (
   arith,
   r.0,
-  one_each (open_run a.part.shape),
+  one_at_most a.part.shape,
   few_in own (suc a.tag) after hi r.2,
 )
 
@@ -136,8 +129,8 @@ module _ (s : Setting) (tables : Tables) (old : Arena Item) (first : ℕ) (f : F
           let kind : k ≡ kind_of_shape b.part.shape = kinds tables _ ∙ ap (λ (p : Part). kind_of_shape p.shape) part in
           let end : last ≡ is_end after = ends ∙ ap (λ i. is_none (sibling_of t.nodes i)) is
           ∙ none_at_end (view h t) (sibling_of t.nodes b.tag) after on.stands.cut.right.4 in
-          let one : more ≡ counts_one (open_run b.part.shape) = counts ∙ ap counts_one (sym (open_run-shape tables _
-          (item_at t.nodes ix).body)) ∙ ap (λ (p : Part). counts_one (open_run p.shape)) part in
+          let one : more ≡ counts_shape b.part.shape = counts ∙ sym (counts_as tables _ (item_at t.nodes ix).body)
+          ∙ ap (λ (p : Part). counts_shape p.shape) part in
           let r = q h on.read b below after on.stands kind end in
           record {
             rest = after;

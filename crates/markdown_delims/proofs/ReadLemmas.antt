@@ -14,10 +14,11 @@ use Rattle.markdown_document.specs.Document.{part_of}
 use Rattle.markdown_document.specs.Setting.{Setting}
 use Rattle.markdown_document.specs.Tables.{Tables}
 use Rattle.markdown_document.specs.Waiting.{text_if, as_closed}
+use Rattle.markdown_delims.specs.declared.marks.Marks.{Marks}
 use Rattle.markdown_delims.specs.declared.run.Delimiter.{Delimiter}
 use Rattle.markdown_delims.specs.declared.run.Run.{Run}
 use Rattle.markdown_delims.specs.ChainReading.{HasCount, ShowsCount, trees_after, BeginsRun, IsWhole, AreWhole, one_if, runs_in, Settles}
-use Rattle.markdown_delims.specs.ChainReading.{StandsWhole, ReadFurther}
+use Rattle.markdown_delims.specs.ChainReading.{StandsWhole, ReadFurther, CanReadTree}
 use Rattle.markdown_delims.specs.ChainStanding.{Chain, view, flat, RunRead}
 use Rattle.markdown_delims.specs.Layers.{run_by, run_of_shape, run_of}
 use Rattle.markdown_delims.specs.OpenRuns.{Openers}
@@ -241,3 +242,13 @@ module _ (h : Chain) (s : Arena Item) (rs : List (Read ℕ)) (last : Option ℕ)
         found = omega (arith, on.found, r.finds);
         further = r.rises;
       }
+
+-- the run that is met in a chain that can be read
+pub met_here : (m : Marks) (text : List ℕ) (ix : ℕ) (last : Option ℕ) (s : Arena Item) (o : Openers) (p : CanReadTree m text ix last s o)
+    (item : Item) (run : Run) → item ≡ item_at s.nodes ix
+    → ((tables : Tables) → HasCount item.body → Some run ≡ run_of text (part_of text tables item))
+    → RunHere p.chain s p.rs last ix o run p.rest
+met_here m text ix last s o p item run e is =
+    run_here p.chain s p.rs last ix o run p.rest p.stands
+    (shown_run text p.chain.setting.text p.chain.tables item (item_at s.nodes ix) (Some run) p.text_is e
+    (head_count p.chain s p.rs last ix o p.rest p.stands) is)

@@ -4,7 +4,7 @@ use Rattle.std.specs.Prelude.{IfErr, IfOk, Result}
 use Rattle.markdown_base.specs.BlockTree.{no_item}
 use Rattle.markdown_document.specs.Counts.{comparisons_per_delimiter}
 use Rattle.markdown_delims.specs.ChainReading.{runs_in}
-use Rattle.markdown_delims.proofs.ReadLemmas.{shown_run, head_within, head_count, read_none, run_here, read_some}
+use Rattle.markdown_delims.proofs.ReadLemmas.{shown_run, head_within, head_count, read_none, run_here, read_some, met_here}
 use Rattle.markdown_delims.proofs.read.read_tree.Goals as goal
 
 pub item-item-requires : goal.item-item-requires
@@ -15,10 +15,8 @@ item-item-requires c =
 pub settle_run-requires : goal.settle_run-requires
 settle_run-requires c =
     let p = c.requires.stands in
-    let r = run_here p.chain c.args.tree.now p.rs c.args.last c.args.ix c.args.openers.now c.in-Some.run' p.rest p.stands
-    (shown_run c.args.source.text.now p.chain.setting.text p.chain.tables c.item-item.result.now _ (Some c.in-Some.run') p.text_is
-    (c.item-item.ensures no_item)
-    (head_count p.chain c.args.tree.now p.rs c.args.last c.args.ix c.args.openers.now p.rest p.stands) c.in-Some.ensures) in
+    let r = met_here c.args.source.marks c.args.source.text.now c.args.ix c.args.last c.args.tree.now c.args.openers.now p
+    c.item-item.result.now c.in-Some.run' (c.item-item.ensures no_item) c.in-Some.ensures in
     record {
       stands = record {
         chain = p.chain;
@@ -34,28 +32,22 @@ settle_run-requires c =
 pub read_run-requires-clause-some : goal.read_run-requires-clause-some
 read_run-requires-clause-some c =
     let p = c.requires.stands in
-    (run_here p.chain c.args.tree.now p.rs c.args.last c.args.ix c.args.openers.now c.in-Some.run' p.rest p.stands
-    (shown_run c.args.source.text.now p.chain.setting.text p.chain.tables c.item-item.result.now _ (Some c.in-Some.run') p.text_is
-    (c.item-item.ensures no_item)
-    (head_count p.chain c.args.tree.now p.rs c.args.last c.args.ix c.args.openers.now p.rest p.stands) c.in-Some.ensures)).some
+    (met_here c.args.source.marks c.args.source.text.now c.args.ix c.args.last c.args.tree.now c.args.openers.now p
+    c.item-item.result.now c.in-Some.run' (c.item-item.ensures no_item) c.in-Some.ensures).some
 
 pub read_run-requires-clause-room : goal.read_run-requires-clause-room
 read_run-requires-clause-room c =
     let p = c.requires.stands in
-    let r = run_here p.chain c.args.tree.now p.rs c.args.last c.args.ix c.args.openers.now c.in-Some.run' p.rest p.stands
-    (shown_run c.args.source.text.now p.chain.setting.text p.chain.tables c.item-item.result.now _ (Some c.in-Some.run') p.text_is
-    (c.item-item.ensures no_item)
-    (head_count p.chain c.args.tree.now p.rs c.args.last c.args.ix c.args.openers.now p.rest p.stands) c.in-Some.ensures) in
+    let r = met_here c.args.source.marks c.args.source.text.now c.args.ix c.args.last c.args.tree.now c.args.openers.now p
+    c.item-item.result.now c.in-Some.run' (c.item-item.ensures no_item) c.in-Some.ensures in
     let room : c.args.openers.now.potential + comparisons_per_delimiter * runs_in c.args.source.text.now p.rest < 2 ^ 128 = p.room in
     omega (arith, r.fewer, room, ap (λ t. runs_in t p.rest) p.text_is)
 
 pub read_run-requires-clause-stands : goal.read_run-requires-clause-stands
 read_run-requires-clause-stands c =
     let p = c.requires.stands in
-    let r = run_here p.chain c.args.tree.now p.rs c.args.last c.args.ix c.args.openers.now c.in-Some.run' p.rest p.stands
-    (shown_run c.args.source.text.now p.chain.setting.text p.chain.tables c.item-item.result.now _ (Some c.in-Some.run') p.text_is
-    (c.item-item.ensures no_item)
-    (head_count p.chain c.args.tree.now p.rs c.args.last c.args.ix c.args.openers.now p.rest p.stands) c.in-Some.ensures) in
+    let r = met_here c.args.source.marks c.args.source.text.now c.args.ix c.args.last c.args.tree.now c.args.openers.now p
+    c.item-item.result.now c.in-Some.run' (c.item-item.ensures no_item) c.in-Some.ensures in
     record {
       chain = p.chain;
       marks_are = p.marks_are;
