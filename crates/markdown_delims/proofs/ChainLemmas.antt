@@ -1,87 +1,91 @@
--- The whole chain: from its links to its labels, and back.
-use Rattle.std.proofs.Common.{◌≡◌, ℕ, suc, ◌+◌, ◌*◌, ◌-◌, ◌<◌, ◌≤◌, ◌^◌, Bool, true, false, List, [], ◌∷◌, Option, Some, None, length, refl}
+-- A chain is read from its first node to its last.
+use Rattle.std.proofs.Common.{◌≡◌, ℕ, suc, ◌+◌, ◌-◌, ◌*◌, ◌<◌, ◌≤◌, Bool, true, false, List, [], ◌∷◌, Option, Some, None, length, refl}
 use Rattle.std.proofs.Common.{ap, sym, ◌∙◌, subst, arith}
-use Rattle.std.specs.Prelude.{◌||◌, ◌==◌}
+use Rattle.std.specs.Prelude.{◌==◌, ◌||◌, ◌^◌}
 use Rattle.std.specs.List.{AllByRecursion}
 use Rattle.std.proofs.lemmas.Bool.{eq-eqb}
 use Rattle.markdown_base.specs.declared.item.Item.{Item}
 use Rattle.markdown_base.specs.declared.node.Node.{Node}
 use Rattle.markdown_base.specs.Arena.{Arena, child_of, sibling_of}
 use Rattle.markdown_base.specs.ArenaForest.{links_of, Spells}
-use Rattle.markdown_base.specs.BlockTree.{Numbered}
 use Rattle.markdown_base.specs.Forest.{Forest, nil, node, Each, roots, relabelled}
 use Rattle.markdown_document.specs.Counts.{comparisons_per_delimiter}
+use Rattle.markdown_document.specs.Document.{Part, Label, part_of}
+use Rattle.markdown_document.specs.Setting.{Setting}
+use Rattle.markdown_document.specs.Tables.{Tables}
 use Rattle.markdown_delims.specs.declared.marks.Marks.{Marks}
-use Rattle.markdown_delims.specs.EntryFinds.{finds_from}
+use Rattle.markdown_delims.specs.ChainForest.{RisesFrom}
+use Rattle.markdown_delims.specs.ChainReading.{runs_in, StandsWhole, ReadFurther, ReadsTree, PaysForTree, CanReadTree, is_among, NoneBelow, labels, IsSpelled}
+use Rattle.markdown_delims.specs.ChainReading.{IsChainAt, IsPaired}
+use Rattle.markdown_delims.specs.ChainStanding.{Chain, view, left_texts, flat, read_back}
+use Rattle.markdown_delims.specs.Layers.{marks_of}
 use Rattle.markdown_delims.specs.OpenRuns.{Openers}
-use Rattle.markdown_delims.specs.Entries.{Entry, flat, read_back, paired_from}
-use Rattle.markdown_delims.specs.Enclosing.{AllTouched}
-use Rattle.markdown_delims.specs.Views.{View, view_of, Holds, Between, Rises, Cut, next_number}
-use Rattle.markdown_delims.specs.ChainStanding.{Chain, Stands}
-use Rattle.markdown_delims.specs.RunReading.{delimiters_of, ReadFurther, ReadsTreeAt, CanReadTree}
-use Rattle.markdown_delims.specs.ChainForest.{RisesFrom, is_among, NoneBelow, chain_of, IsChainAt, IsPaired}
+use Rattle.markdown_delims.specs.Pairing.{Read, done_read, waiting, texts_before, read_trees, reads_from, runs_paired}
+use Rattle.markdown_delims.specs.PairingFinds.{finds_from}
+use Rattle.markdown_delims.specs.Views.{View, parts_of, Holds, Between, Rises, next_number, Cut, AllTouched}
 use Rattle.markdown_delims.proofs.CutLemmas.{Rises-lower, step_left}
-use Rattle.markdown_delims.proofs.EncloseLemmas.{next_number-from, kept_none, kept_both}
+use Rattle.markdown_delims.proofs.EncloseLemmas.{next_number-from}
 use Rattle.markdown_delims.proofs.PairLemmas.{CutSomewhere}
+use Rattle.markdown_delims.proofs.PairingLemmas.{paired_none}
+use Rattle.markdown_delims.proofs.WriteLemmas.{kept_none, kept_both}
 
 -- the numbers of a chain
-abbrev pub numbers_of : Forest Numbered → Forest ℕ
-numbers_of f = relabelled (λ a. a.number) f
+abbrev pub numbers_of : Forest (Label ℕ) → Forest ℕ
+numbers_of f = relabelled (λ a. a.tag) f
 
--- a chain that the links represent holds with its items
-pub holds_spelled : (nodes : List (Node Item)) (l : Option ℕ) (f : Forest ℕ) → Spells (links_of nodes) l f
-    → Holds (view_of nodes) l (chain_of nodes f)
-holds_spelled nodes l nil s = s
-holds_spelled nodes l (node ix below after) s = (
-  s.0,
-  s.1,
-  refl,
-  holds_spelled nodes (child_of nodes ix) below s.2,
-  holds_spelled nodes
-      (sibling_of nodes ix) after s.3,
-)
+pub numbers_of-labels : (s : Setting) (tables : Tables) (nodes : List (Node Item)) (f : Forest ℕ) → numbers_of (labels s tables nodes f) ≡ f
+numbers_of-labels s tables nodes nil = refl
+numbers_of-labels s tables nodes (node ix below after) =
+    ap (λ g. node ix g (numbers_of (labels s tables nodes after))) (numbers_of-labels s tables nodes below)
+    ∙ ap (node ix below) (numbers_of-labels s tables nodes after)
 
--- the links represent a chain that holds with its items, by its numbers
-pub spelled_holds : (nodes : List (Node Item)) (l : Option ℕ) (f : Forest Numbered) → Holds (view_of nodes) l f
-    → Spells (links_of nodes) l (numbers_of f)
-spelled_holds nodes l nil h = h
-spelled_holds nodes l (node a below after) h = (
-  h.0,
-  h.1,
-  spelled_holds nodes (child_of nodes a.number) below h.3,
-  spelled_holds nodes
-      (sibling_of nodes a.number) after h.4,
-)
+-- links lead through a chain of numbers where they lead through its labels
+module _ (s : Setting) (tables : Tables) (nodes : List (Node Item)) where
+  abbrev seen : View Part
+  seen = parts_of (part_of s.text tables) nodes
 
-pub labels_hold : (nodes : List (Node Item)) (l : Option ℕ) (f : Forest Numbered) → Holds (view_of nodes) l f
-    → chain_of nodes (numbers_of f) ≡ f
-labels_hold nodes l nil h = refl
-labels_hold nodes l (node a below after) h =
-    ap (λ (i : Item). node (record { number = a.number; item = i }) (chain_of nodes (numbers_of below)) (chain_of nodes (numbers_of after)))
-    h.2
-    ∙ ap (λ f. node a f (chain_of nodes (numbers_of after))) (labels_hold nodes (child_of nodes a.number) below h.3)
-    ∙ ap (λ f. node a below f) (labels_hold nodes (sibling_of nodes a.number) after h.4)
+  pub holds_spelled : (l : Option ℕ) (f : Forest ℕ) → Spells (links_of nodes) l f → Holds seen l (labels s tables nodes f)
+  holds_spelled l nil h = h
+  holds_spelled l (node ix below after) h =
+      (h.0, h.1, refl, holds_spelled (child_of nodes ix) below h.2, holds_spelled (sibling_of nodes ix) after h.3)
 
--- a forest without numbers of the chain may occur anywhere below
-Between-none : (own : ℕ → Bool) (nodes : List (Node Item)) (lo : ℕ) (f : Forest ℕ) (hi : ℕ) → Each (λ n. own n ≡ false) f
-    → Between own lo (chain_of nodes f) hi
-Between-none own nodes lo nil hi h = tt
-Between-none own nodes lo (node ix below after) hi h =
-    (λ o. let no : false ≡ true = sym h.0 ∙ o in cc, Between-none own nodes lo below hi h.1, Between-none own nodes lo after hi h.2)
+  pub spelled_holds : (l : Option ℕ) (f : Forest (Label ℕ)) → Holds seen l f → Spells (links_of nodes) l (numbers_of f)
+  spelled_holds l nil h = h
+  spelled_holds l (node a below after) h =
+      (h.0, h.1, spelled_holds (child_of nodes a.tag) below h.3, spelled_holds (sibling_of nodes a.tag) after h.4)
 
--- a chain whose numbers rise
-pub rises_chain : (own : ℕ → Bool) (nodes : List (Node Item)) (l : Option ℕ) (f : Forest ℕ) (lo : ℕ) → lo ≤ length nodes
-    → Spells (links_of nodes) l f → RisesFrom lo (roots f) → NoneBelow own f
-    → Rises own lo (chain_of nodes f) (length nodes)
-rises_chain own nodes l nil lo h s r n = h
-rises_chain own nodes l (node ix below after) lo h s r n =
-    let behind = rises_chain own nodes (sibling_of nodes ix) after (suc ix) s.1 s.3 r.1 n.1 in
-    let end = next_number-from own (suc ix) (chain_of nodes after) (length nodes) behind in
-    (r.0, (end, Between-none own nodes (suc ix) below (next_number (chain_of nodes after) (length nodes)) n.0), behind)
+  pub labels_hold : (l : Option ℕ) (f : Forest (Label ℕ)) → Holds seen l f → labels s tables nodes (numbers_of f) ≡ f
+  labels_hold l nil h = refl
+  labels_hold l (node a below after) h =
+      ap (λ (p : Part). let b : Label ℕ = record { tag = a.tag; part = p } in
+      node b (labels s tables nodes (numbers_of below)) (labels s tables nodes (numbers_of after))) h.2
+      ∙ ap (λ f. node a f (labels s tables nodes (numbers_of after))) (labels_hold (child_of nodes a.tag) below h.3)
+      ∙ ap (node a below) (labels_hold (sibling_of nodes a.tag) after h.4)
 
-pub rising_numbers : (own : ℕ → Bool) (lo : ℕ) (f : Forest Numbered) (hi : ℕ) → Rises own lo f hi → RisesFrom lo (roots (numbers_of f))
+  -- a forest without numbers of the chain may occur anywhere below
+  Between-none : (own : ℕ → Bool) (lo : ℕ) (f : Forest ℕ) (hi : ℕ) → Each (λ n. own n ≡ false) f
+      → Between own lo (labels s tables nodes f) hi
+  Between-none own lo nil hi h = tt
+  Between-none own lo (node ix below after) hi h =
+      (λ o. let no : false ≡ true = sym h.0 ∙ o in cc, Between-none own lo below hi h.1, Between-none own lo after hi h.2)
+
+  -- a chain whose numbers rise
+  pub rises_chain : (own : ℕ → Bool) (l : Option ℕ) (f : Forest ℕ) (lo : ℕ) → lo ≤ length nodes → Spells (links_of nodes) l f
+      → RisesFrom lo (roots f) → NoneBelow own f → Rises own lo (labels s tables nodes f) (length nodes)
+  rises_chain own l nil lo h k r n = h
+  rises_chain own l (node ix below after) lo h k r n =
+      let behind = rises_chain own (sibling_of nodes ix) after (suc ix) k.1 k.3 r.1 n.1 in
+      let end = next_number-from own (suc ix) (labels s tables nodes after) (length nodes) behind in
+      (r.0, (end, Between-none own (suc ix) below (next_number (labels s tables nodes after) (length nodes)) n.0), behind)
+
+  pub touched_chain : (touched : ℕ → Bool) (f : Forest ℕ) → AllByRecursion (λ ix. touched ix ≡ true) (roots f)
+      → AllTouched touched (labels s tables nodes f)
+  touched_chain touched nil h = tt
+  touched_chain touched (node ix below after) h = (h.0, touched_chain touched after h.1)
+
+pub rising_numbers : (own : ℕ → Bool) (lo : ℕ) (f : Forest (Label ℕ)) (hi : ℕ) → Rises own lo f hi → RisesFrom lo (roots (numbers_of f))
 rising_numbers own lo nil hi r = tt
-rising_numbers own lo (node a below after) hi r = (r.0, rising_numbers own (suc a.number) after hi r.2)
+rising_numbers own lo (node a below after) hi r = (r.0, rising_numbers own (suc a.tag) after hi r.2)
 
 -- each number of a forest is among its numbers
 among_more : (x : ℕ) (xs ys : List ℕ) → AllByRecursion (λ ix. is_among xs ix ≡ true) ys → AllByRecursion (λ ix. is_among (x ∷ xs) ix ≡ true) ys
@@ -96,127 +100,201 @@ pub among_all : (xs : List ℕ) → AllByRecursion (λ ix. is_among xs ix ≡ tr
 among_all [] = tt
 among_all (x ∷ xs) = (ap (λ b. b || is_among xs x) (eq-eqb x x refl), among_more x xs xs (among_all xs))
 
-pub touched_from_list : (touched : ℕ → Bool) (nodes : List (Node Item)) (f : Forest ℕ) → AllByRecursion (λ ix. touched ix ≡ true) (roots f)
-    → AllTouched touched (chain_of nodes f)
-touched_from_list touched nodes nil h = tt
-touched_from_list touched nodes (node ix below after) h = (h.0, touched_from_list touched nodes after h.1)
-
 -- the cut goes back to the beginning
-pub over_all : (own : ℕ → Bool) (k : View) (first : Option ℕ) (left : Forest Numbered) (l : Option ℕ) (right : Forest Numbered) (hi : ℕ)
-    → Cut own k first left l right hi → CutSomewhere own k first nil (read_back left right) hi
+pub over_all : (own : ℕ → Bool) (k : View Part) (first : Option ℕ) (left : Forest (Label ℕ)) (l : Option ℕ) (right : Forest (Label ℕ))
+    (hi : ℕ) → Cut own k first left l right hi → CutSomewhere own k first nil (read_back left right) hi
 over_all own k first nil l right hi c = record { link = l; cut = c }
-over_all own k first (node a below before) l right hi c = over_all own k first before (Some a.number) (node a below right) hi
+over_all own k first (node a below before) l right hi c = over_all own k first before (Some a.tag) (node a below right) hi
     (step_left own k first a below before l right hi c)
 
 -- no link leads to nothing
-nothing_left : (t : Arena Item) (g : Forest Numbered) → Holds (view_of t.nodes) None g → g ≡ nil
-nothing_left t nil h = refl
-nothing_left t (node b below after) h = let no : None ≡ Some b.number = h.0 in cc
+pub nothing_left : (k : View Part) (g : Forest (Label ℕ)) → Holds k None g → g ≡ nil
+nothing_left k nil h = refl
+nothing_left k (node b below after) h = let no : None ≡ Some b.tag = h.0 in cc
 
--- nothing is read yet
-module _ (m : Marks) (text : List ℕ) (s : Arena Item) (first : ℕ) (f : Forest ℕ) (c : IsChainAt text s.nodes first f) where
-  pub whole_chain : Chain
-  whole_chain = record { touched = is_among (roots f); first = Some first; bound = length s.nodes }
+-- a chain of an arena, before anything of it is read
+module _ (s : Setting) (tables : Tables) (old : Arena Item) (first : ℕ) (f : Forest ℕ) (c : IsSpelled old.nodes first f) where
+  unfoldable pub whole_chain : Chain
+  whole_chain = record {
+    setting = s;
+    tables = tables;
+    touched = is_among (roots f);
+    first = Some first;
+    bound = length old.nodes;
+  }
 
-  pub starts_chain : Stands whole_chain s [] None (Some first) (chain_of s.nodes f)
+  abbrev pub chain : Forest (Label ℕ)
+  chain = labels s tables old.nodes f
+
+  pub chain_cut : Cut (is_among (roots f)) (view whole_chain old) (Some first) nil (Some first) chain (length old.nodes)
   unfolding whole_chain
-  starts_chain =
-      record {
-        cut = record {
-          left = refl;
-          right = holds_spelled s.nodes (Some first) f c.spelled;
-          rises_left = tt;
-          rises_right = rises_chain
-              (is_among (roots f)) s.nodes (Some first) f 0 (omega arith) c.spelled c.rising c.apart;
-        };
+  chain_cut = record {
+    left = refl;
+    right = holds_spelled s tables old.nodes (Some first) f c.spelled;
+    rises_left = tt;
+    rises_right = rises_chain s tables old.nodes (is_among (roots f)) (Some first) f 0 (omega arith) c.spelled c.rising c.apart;
+  }
+
+  pub chain_touched : AllTouched (is_among (roots f)) chain
+  chain_touched = touched_chain s tables old.nodes (is_among (roots f)) f (among_all (roots f))
+
+  -- and after all of it is: the chain as it is now
+  pub record AllRead (new : Arena Item) (now : Forest (Label ℕ)) : Type 0 where
+    pub spelled : Spells (links_of new.nodes) (Some first) (numbers_of now)
+    pub labels_are : labels s tables new.nodes (numbers_of now) ≡ now
+    pub rising : RisesFrom 0 (roots (numbers_of now))
+
+  pub chain_read : (new : Arena Item) (left rest : Forest (Label ℕ)) (l : Option ℕ) → l ≡ None
+      → Cut (is_among (roots f)) (view whole_chain new) (Some first) left l rest (length old.nodes)
+      → AllRead new (read_back left nil) × (rest ≡ nil)
+  unfolding whole_chain
+  chain_read new left rest l none cut =
+      let is = nothing_left (view whole_chain new) rest (subst (λ m. Holds (view whole_chain new) m rest) none cut.right) in
+      let r = over_all (is_among (roots f)) (view whole_chain new) (Some first) left l nil (length old.nodes)
+      (subst (λ g. Cut (is_among (roots f)) (view whole_chain new) (Some first) left l g (length old.nodes)) is cut) in
+      let holds = subst (λ m. Holds (view whole_chain new) m (read_back left nil)) r.cut.left r.cut.right in (
+        record {
+          spelled = spelled_holds s tables new.nodes (Some first) (read_back left nil) holds;
+          labels_are = labels_hold s tables new.nodes (Some first) (read_back left nil) holds;
+          rising = rising_numbers (is_among (roots f)) 0 (read_back left nil) (length old.nodes) r.cut.rises_right;
+        },
+        is,
+      )
+
+-- what was read, as trees
+back_texts : (xs : List (Label ℕ)) (before after : Forest (Label ℕ)) → read_back (left_texts xs before) after
+    ≡ read_back before (texts_before xs after)
+back_texts [] before after = refl
+back_texts (x ∷ xs) before after = back_texts xs before (node x nil after)
+
+flat_back : (rs : List (Read ℕ)) (after : Forest (Label ℕ)) → read_trees rs after ≡ read_back (flat rs) after
+flat_back [] after = refl
+flat_back (done_read a below ∷ rs) after = flat_back rs (node a below after)
+flat_back (waiting dropped run xs ∷ rs) after = flat_back rs (texts_before xs after) ∙ sym (back_texts xs (flat rs) after)
+
+-- a chain whose runs are whole
+module _ (s : Setting) (tables : Tables) (old : Arena Item) (first count : ℕ) (f : Forest ℕ)
+    (c : IsChainAt s tables old.nodes first count f) where
+  abbrev pub runs_chain : Chain
+  runs_chain = whole_chain s tables old first f c.is
+
+  -- it may have no runs
+  pub none_paired : count ≡ 0 → IsPaired s tables old old first f × (finds_from s 0 (labels s tables old.nodes f) [] ≡ 0)
+  none_paired e =
+      let r = paired_none s (labels s tables old.nodes f) c.whole (omega (arith, c.counted, e)) in (
+        record {
+          forest = f;
+          spelled = c.is.spelled;
+          pairs = sym r.0;
+          rising = c.is.rising;
+          kept = kept_none (is_among (roots f)) old;
+        },
+        r.1,
+      )
+
+  -- it is read up to a link
+  abbrev pub RunsRead : Arena Item → Openers → Openers → (last l : Option ℕ) → Type 0
+  RunsRead t o now last l = ReadFurther runs_chain old t [] (labels s tables old.nodes f) o now last l 0
+
+  pub starts_reading : (o : Openers) → o.runs ≡ [] → RunsRead old o o None (Some first)
+  unfolding whole_chain
+  starts_reading o e = record {
+    rs = [];
+    rest = labels s tables old.nodes f;
+    stands = record {
+      stands = record {
+        cut = chain_cut s tables old first f c.is;
         last_is = refl;
         left_touched = tt;
-        rest_touched = touched_from_list (is_among (roots f)) s.nodes f (among_all (roots f));
-      }
+        rest_touched = chain_touched s tables old first f c.is;
+        few = c.few;
+      };
+      whole = c.whole;
+      are = e;
+    };
+    kept = kept_none (is_among (roots f)) old;
+    same = refl;
+    paid = omega arith;
+    found = omega arith;
+    further = (chain_cut s tables old first f c.is).rises_right;
+  }
 
-  pub starts_reading : (o : Openers) → o.runs ≡ [] → ReadFurther m text whole_chain s s [] (chain_of s.nodes f) o o None (Some first) 0
-  unfolding whole_chain
-  starts_reading o e =
-      record {
-        es = [];
-        rest = chain_of s.nodes f;
-        is_read = record { reads = record { stands = starts_chain; kept = kept_none (is_among (roots f)) s }; runs_are = e };
-        whole = c.whole;
-        same = refl;
-        paid = omega arith;
-        found = omega arith;
-        further = rises_chain (is_among (roots f)) s.nodes (Some first) f 0 (omega arith) c.spelled c.rising c.apart;
-      }
+  module _ (t : Arena Item) (o now : Openers) (last : Option ℕ) where
+    -- a tree more
+    pub read_on : (m : Marks) (text : List ℕ) (u : Arena Item) (new : Openers) (last' l : Option ℕ) (ix : ℕ) → marks_of s.rules.options ≡ m
+        → s.text ≡ text → (a : RunsRead t o now last (Some ix)) → ReadsTree m text ix last t u now new last' l
+        → ReadFurther runs_chain t u a.rs a.rest now new last' l (suc ix)
+    unfolding whole_chain
+    read_on m text u new last' l ix is e a step = step runs_chain a.rs a.rest is e a.stands
 
-  -- a tree more
-  pub reads_more : (t u : Arena Item) (old now new : Openers) (last last' l : Option ℕ) (ix : ℕ)
-      → ReadFurther m text whole_chain s t [] (chain_of s.nodes f) old now last (Some ix) 0
-      → ReadsTreeAt m text ix last t u now new last' l
-      → ReadFurther m text whole_chain s u [] (chain_of s.nodes f) old new last' l 0
-  reads_more t u old now new last last' l ix a step =
-      let b = step whole_chain a.es a.rest a.is_read.reads.stands a.whole a.is_read.runs_are in
-      record {
-        es = b.es;
-        rest = b.rest;
-        is_read = record {
-          reads = record {
-            stands = b.is_read.reads.stands;
-            kept = kept_both whole_chain.touched s t u a.is_read.reads.kept
-                b.is_read.reads.kept;
-          };
-          runs_are = b.is_read.runs_are;
-        };
-        whole = b.whole;
-        same = b.same ∙ a.same;
-        paid = omega (arith, a.paid, b.paid);
-        found = omega (arith, a.found, b.found);
-        further = Rises-lower whole_chain.touched (suc ix) 0 b.rest whole_chain.bound (omega arith) b.further;
-      }
+    pub reads_more : (m : Marks) (text : List ℕ) (u : Arena Item) (new : Openers) (last' l : Option ℕ) (ix : ℕ)
+        → marks_of s.rules.options ≡ m → s.text ≡ text → RunsRead t o now last (Some ix) → ReadsTree m text ix last t u now new last' l
+        → RunsRead u o new last' l
+    unfolding whole_chain
+    reads_more m text u new last' l ix is e a step =
+        let b = read_on m text u new last' l ix is e a step in
+        record {
+          rs = b.rs;
+          rest = b.rest;
+          stands = b.stands;
+          kept = kept_both (is_among (roots f)) old t u a.kept b.kept;
+          same = b.same ∙ a.same;
+          paid = omega (arith, a.paid, b.paid);
+          found = omega (arith, a.found, b.found);
+          further = Rises-lower (is_among (roots f)) (suc ix) 0 b.rest (length old.nodes) (omega arith) b.further;
+        }
 
-  pub can_go_on : (t : Arena Item) (old now : Openers) (last : Option ℕ) (ix : ℕ)
-      → old.potential + comparisons_per_delimiter * delimiters_of (chain_of s.nodes f) < 2 ^ 128
-      → ReadFurther m text whole_chain s t [] (chain_of s.nodes f) old now last (Some ix) 0
-      → CanReadTree text ix last t now.runs now.potential
-  can_go_on t old now last ix room a =
-      record {
-        chain = whole_chain;
-        es = a.es;
-        rest = a.rest;
-        stands = a.is_read.reads.stands;
-        whole = a.whole;
-        runs_are =
-            a.is_read.runs_are;
-        room = omega (arith, a.paid);
-      }
+    -- what was paid so far, and at a tree at which memory was refused
+    pub all_paid : (l : Option ℕ) (a : RunsRead t o now last l) → now.potential + comparisons_per_delimiter * runs_in s.text a.rest
+        ≤ o.potential + comparisons_per_delimiter * runs_in s.text (labels s tables old.nodes f)
+    unfolding whole_chain
+    all_paid l a = a.paid
 
-  -- all is read
-  pub all_read : (t : Arena Item) (old new : Openers) (last : Option ℕ)
-      → ReadFurther m text whole_chain s t [] (chain_of s.nodes f) old new last None 0 → IsPaired m text s t first f
-  unfolding whole_chain paired_from
-  all_read t old new last a =
-      let none = nothing_left t a.rest a.is_read.reads.stands.cut.right in
-      let cut = subst (λ r. Cut (is_among (roots f)) (view_of t.nodes) (Some first) (flat a.es) None r (length s.nodes)) none
-      a.is_read.reads.stands.cut in
-      let r = over_all (is_among (roots f)) (view_of t.nodes) (Some first) (flat a.es) None nil (length s.nodes) cut in
-      let holds = subst (λ l. Holds (view_of t.nodes) l (read_back (flat a.es) nil)) r.cut.left r.cut.right in
-      let es : a.es ≡ paired_from m text 0 (chain_of s.nodes f) [] = ap (λ g. paired_from m text 0 g a.es) (sym none) ∙ a.same in
-      record {
-        forest = numbers_of (read_back (flat a.es) nil);
-        spelled = spelled_holds t.nodes (Some first) (read_back (flat a.es) nil) holds;
-        pairs = labels_hold t.nodes (Some first) (read_back (flat a.es) nil) holds ∙ ap (λ fs. read_back (flat fs) nil) es;
-        rising = rising_numbers (is_among (roots f)) 0 (read_back (flat a.es) nil) (length s.nodes) r.cut.rises_right;
-        kept = a.is_read.reads.kept;
-      }
+    pub pays : (text : List ℕ) (ix : ℕ) (new : Openers) → s.text ≡ text → (rs : List (Read ℕ)) (rest : Forest (Label ℕ))
+        → StandsWhole runs_chain t rs last (Some ix) rest now → PaysForTree text ix last t now new
+        → new.potential ≤ now.potential + comparisons_per_delimiter * runs_in s.text rest
+    unfolding whole_chain
+    pays text ix new e rs rest st paid = omega (arith, paid runs_chain rs rest e st, ap (λ x. runs_in x rest) e)
 
-  -- and all that found was counted
-  pub all_found : (t : Arena Item) (old new : Openers) (last : Option ℕ)
-      → ReadFurther m text whole_chain s t [] (chain_of s.nodes f) old new last None 0
-      → old.examined + finds_from m text 0 (chain_of s.nodes f) [] ≤ new.examined
-  unfolding finds_from
-  all_found t old new last a =
-      let none : finds_from m text 0 a.rest a.es ≡ 0 = ap (λ g. finds_from m text 0 g a.es)
-      (nothing_left t a.rest a.is_read.reads.stands.cut.right) in
-      omega (arith, a.found, none)
+    pub can_go_on : (m : Marks) (text : List ℕ) (ix : ℕ) → marks_of s.rules.options ≡ m → s.text ≡ text
+        → o.potential + comparisons_per_delimiter * runs_in text (labels s tables old.nodes f) < 2 ^ 128
+        → RunsRead t o now last (Some ix) → CanReadTree m text ix last t now
+    unfolding whole_chain
+    can_go_on m text ix is e room a = record {
+      chain = runs_chain;
+      marks_are = is;
+      text_is = e;
+      rs = a.rs;
+      rest = a.rest;
+      stands = a.stands;
+      room = omega (arith, a.paid, room, ap (λ x. runs_in x a.rest) e, ap (λ x. runs_in x (labels s tables old.nodes f)) e);
+    }
+
+    -- all is read
+    pub all_read : RunsRead t o now last None → IsPaired s tables old t first f
+    unfolding whole_chain runs_paired reads_from
+    all_read a =
+        let r = chain_read s tables old first f c.is t (flat a.rs) a.rest None refl a.stands.stands.cut in
+        let rs : a.rs ≡ reads_from s 0 (labels s tables old.nodes f) [] = read_end a.rs ∙ ap (λ g. reads_from s 0 g a.rs) (sym r.1) ∙ a.same in
+        record {
+          forest = numbers_of (read_back (flat a.rs) nil);
+          spelled = r.0.spelled;
+          pairs = r.0.labels_are ∙ sym (flat_back a.rs nil) ∙ ap (λ fs. read_trees fs nil) rs;
+          rising = r.0.rising;
+          kept = a.kept;
+        }
+      where
+        read_end : (rs : List (Read ℕ)) → rs ≡ reads_from s 0 nil rs
+        read_end rs = refl
+
+    -- and all that found was counted
+    pub all_found : RunsRead t o now last None
+        → o.examined + finds_from s 0 (labels s tables old.nodes f) [] ≤ now.examined
+    unfolding whole_chain finds_from
+    all_found a =
+        let r = chain_read s tables old first f c.is t (flat a.rs) a.rest None refl a.stands.stands.cut in
+        let none : finds_from s 0 a.rest a.rs ≡ 0 = ap (λ g. finds_from s 0 g a.rs) r.1 in
+        omega (arith, a.found, none)
 
 -- how many numbers are not below a link
 abbrev pub numbers_left : ℕ → Option ℕ → ℕ
@@ -224,16 +302,15 @@ numbers_left size None = 0
 numbers_left size (Some ix) = size - ix
 
 -- a link to a chain whose numbers are above one
-pub fewer_left : (own : ℕ → Bool) (k : View) (l : Option ℕ) (f : Forest Numbered) (ix hi : ℕ) → ix < k.size → Holds k l f
+pub fewer_left : (own : ℕ → Bool) (k : View Part) (l : Option ℕ) (f : Forest (Label ℕ)) (ix hi : ℕ) → ix < k.size → Holds k l f
     → Rises own (suc ix) f hi → numbers_left k.size l < k.size - ix
 fewer_left own k None f ix hi w h r = omega arith
 fewer_left own k (Some j) nil ix hi w h r = cc
-fewer_left own k (Some j) (node a below after) ix hi w h r = let e : j ≡ a.number = cc in omega (arith, e, r.0)
+fewer_left own k (Some j) (node a below after) ix hi w h r = let e : j ≡ a.tag = cc in omega (arith, e, r.0)
 
-pub goes_down : (m : Marks) (text : List ℕ) (h : Chain) (s t u : Arena Item) (begun : List Entry) (chain : Forest Numbered)
-    (old new : Openers) (last l : Option ℕ) (ix : ℕ)
-    → ix < length t.nodes → length u.nodes ≡ length t.nodes → ReadFurther m text h t u begun chain old new last l (suc ix)
+pub goes_down : (h : Chain) (t u : Arena Item) (begun : List (Read ℕ)) (chain : Forest (Label ℕ)) (old new : Openers) (last l : Option ℕ)
+    (ix : ℕ) → ix < length t.nodes → length u.nodes ≡ length t.nodes → ReadFurther h t u begun chain old new last l (suc ix)
     → numbers_left (length u.nodes) l < length t.nodes - ix
-goes_down m text h s t u begun chain old new last l ix w e a =
-    subst (λ n. numbers_left (length u.nodes) l < n - ix) e (fewer_left h.touched (view_of u.nodes) l a.rest ix h.bound (rw e w)
-    a.is_read.reads.stands.cut.right a.further)
+goes_down h t u begun chain old new last l ix w e a =
+    subst (λ n. numbers_left (length u.nodes) l < n - ix) e (fewer_left h.touched (view h u) l a.rest ix h.bound (rw e w)
+    a.stands.stands.cut.right a.further)

@@ -1,221 +1,283 @@
--- A closer, find by find.
-use Rattle.std.proofs.Common.{◌≡◌, ℕ, zero, suc, ◌+◌, ◌-◌, ◌<◌, ◌≤◌, Bool, true, false, List, [], ◌∷◌, Option, Some, None, length}
-use Rattle.std.proofs.Common.{refl, ap, subst, arith}
-use Rattle.std.specs.Prelude.{if◌then◌else◌}
-use Rattle.std.proofs.lemmas.Bool.{lt-ltb, le-ltb}
+-- The search of the stack is the search of what was read; and what a find, or none, leaves.
+use Rattle.std.proofs.Common.{◌≡◌, ℕ, suc, ◌+◌, ◌-◌, ◌<◌, min, Bool, true, false, List, [], ◌∷◌, map, Option, Some, None, length}
+use Rattle.std.proofs.Common.{refl, ap, sym, ◌∙◌, subst, arith}
+use Rattle.std.specs.Prelude.{not, ◌&&◌, ◌||◌}
 use Rattle.markdown_base.specs.declared.item.Item.{Item}
 use Rattle.markdown_base.specs.Arena.{Arena, sibling_of}
-use Rattle.markdown_base.specs.BlockTree.{Numbered}
 use Rattle.markdown_base.specs.Forest.{Forest, nil, node}
-use Rattle.markdown_delims.specs.declared.marks.Marks.{Marks}
+use Rattle.markdown_document.specs.Document.{Part, Label}
+use Rattle.markdown_document.specs.Setting.{Setting}
 use Rattle.markdown_delims.specs.declared.run.Characters.{Characters}
 use Rattle.markdown_delims.specs.declared.run.Delimiter.{Delimiter}
 use Rattle.markdown_delims.specs.declared.run.Run.{Run}
-use Rattle.markdown_delims.specs.MayPair.{OpenRun, Found, may_take, nearest_run, drop_run, dropped_by}
-use Rattle.markdown_delims.specs.Entries.{Entry, settled, lone, waiting, character, characters, characters_after, flat, open_of, Taken}
-use Rattle.markdown_delims.specs.Entries.{search, enclosed, rest_open, without_last, entries_dropped, kept}
-use Rattle.markdown_delims.specs.Views.{View, view_of, Cut, top}
-use Rattle.markdown_delims.specs.Enclosing.{AllTouched}
-use Rattle.markdown_delims.specs.ChainStanding.{Chain, Stands, StandsAt}
+use Rattle.markdown_delims.specs.ChainStanding.{Chain, view, texts, left_texts, flat, FirstFrom, LastFrom, AreFirst, AreLast, IsOpen, AreOpen}
+use Rattle.markdown_delims.specs.ChainStanding.{Stands, StandsAt, IsRead}
+use Rattle.markdown_delims.specs.MayPair.{drops, may_pair}
+use Rattle.markdown_delims.specs.Pairing.{Read, done_read, waiting, texts_before, characters_done, FoundOpener, found_if, nearest_opener, drop_read}
+use Rattle.markdown_delims.specs.Pairing.{Layers, layers, trees_done, last_first, opened_if, left_over}
+use Rattle.markdown_delims.specs.RunSearch.{OpenRun, Found, may_take, nearest_run, dropped_by}
+use Rattle.markdown_delims.specs.Views.{View, LeftHolds, Cut, AllTouched, top}
 use Rattle.markdown_delims.proofs.CutLemmas.{step_right}
-use Rattle.markdown_delims.proofs.PairLemmas.{behind, behind_link}
+use Rattle.markdown_delims.proofs.PairLemmas.{last_link}
+use Rattle.markdown_delims.proofs.WriteLemmas.{kept_none}
 
--- the search among entries is the search among their open runs
-pub record TakenAs (closer : Run) (es : List Entry) (inside : Forest Numbered) (f : Found) : Type 0 where
-  pub taken : Taken
-  pub finds : search closer es inside ≡ Some taken
-  pub opener_is : taken.opener ≡ f.opener
-  pub before_is : open_of taken.before ≡ f.before
+-- an opener that the search of the stack finds
+pub record FoundAs (closer : Run) (rs : List (Read ℕ)) (inside : Forest (Label ℕ)) (f : Found) : Type 0 where
+  pub found : FoundOpener ℕ
+  pub finds : nearest_opener closer rs inside ≡ Some found
+  pub run_is : f.opener.run ≡ found.run
+  pub are : AreLast f.opener found.characters
+  pub before_are : AreOpen f.before found.before
 
-taken_if : (closer : Run) (b : Bool) (start : ℕ) (r : OpenRun) (es : List Entry) (inside : Forest Numbered) (f : Found)
-    → (nearest_run closer (open_of es) ≡ Some f → TakenAs closer es (characters r.opener.number start r.opener.count inside) f)
-    → may_take closer r ≡ b → nearest_run closer (open_of (waiting start r ∷ es)) ≡ Some f
-    → TakenAs closer (waiting start r ∷ es) inside f
-taken_if closer true start r es inside f rest e h =
-    let here : Some (record { opener = r.opener; before = open_of es }) ≡ Some f = rw e at h in
-    record {
-      taken = record { inside = inside; start = start; opener = r.opener; before = es };
-      finds = rw e refl;
-      opener_is = cc;
-      before_is = cc;
-    }
-taken_if closer false start r es inside f rest e h =
-    let t = rest (rw e at h) in
-    record { taken = t.taken; finds = rw e t.finds; opener_is = t.opener_is; before_is = t.before_is }
+-- whether a run may be taken
+same_take : (closer : Run) (r : OpenRun) (dropped : Bool) (run : Run) (xs : List (Label ℕ)) → IsOpen r dropped run xs
+    → may_take closer r ≡ (not dropped && may_pair run closer)
+same_take closer r dropped run xs is = ap (λ d. not d && may_pair r.opener.run closer) is.dropped_is
+    ∙ ap (λ o. not dropped && may_pair o closer) is.run_is
 
-pub taken_as : (closer : Run) (es : List Entry) (inside : Forest Numbered) (f : Found) → nearest_run closer (open_of es) ≡ Some f
-    → TakenAs closer es inside f
-taken_as closer [] inside f h = cc
-taken_as closer (settled a below ∷ es) inside f h =
-    let t = taken_as closer es (node a below inside) f h in
-    record { taken = t.taken; finds = t.finds; opener_is = t.opener_is; before_is = t.before_is }
-taken_as closer (lone number start n ∷ es) inside f h =
-    let t = taken_as closer es (characters number start n inside) f h in
-    record { taken = t.taken; finds = t.finds; opener_is = t.opener_is; before_is = t.before_is }
-taken_as closer (waiting start r ∷ es) inside f h =
-    taken_if closer (may_take closer r) start r es inside f (taken_as closer es (characters r.opener.number start r.opener.count inside) f)
-    refl h
+pub found_as : (closer : Run) (runs : List OpenRun) (rs : List (Read ℕ)) (inside : Forest (Label ℕ)) (f : Found) → AreOpen runs rs
+    → nearest_run closer runs ≡ Some f → FoundAs closer rs inside f
+found_as closer runs [] inside f a h = let none : nearest_run closer [] ≡ Some f = rw a at h in cc
+found_as closer runs (done_read b below ∷ rs) inside f a h =
+    let t = found_as closer runs rs (node b below inside) f a h in
+    record { found = t.found; finds = t.finds; run_is = t.run_is; are = t.are; before_are = t.before_are }
+found_as closer [] (waiting dropped run xs ∷ rs) inside f a h = absurd a
+found_as closer (r ∷ runs) (waiting dropped run xs ∷ rs) inside f a h =
+    here_or (not dropped && may_pair run closer) (found_as closer runs rs (texts_before xs inside) f a.1) refl
+  where
+    here_or : (b : Bool) → (nearest_run closer runs ≡ Some f → FoundAs closer rs (texts_before xs inside) f)
+        → (not dropped && may_pair run closer) ≡ b → FoundAs closer (waiting dropped run xs ∷ rs) inside f
+    here_or true further e =
+        let here : Some (record { opener = r.opener; before = runs }) ≡ Some f = rw (same_take closer r dropped run xs a.0 ∙ e) at h in
+        let same : record { opener = r.opener; before = runs } ≡ f = cc in
+        record {
+          found = record { inside = inside; run = run; characters = xs; before = rs };
+          finds = rw e refl;
+          run_is = ap (λ (g : Found). g.opener.run) (sym same) ∙ a.0.run_is;
+          are = subst (λ (g : Found). AreLast g.opener xs) same a.0.are;
+          before_are = subst (λ (g : Found). AreOpen g.before rs) same a.1;
+        }
+    here_or false further e =
+        let t = further (rw (same_take closer r dropped run xs a.0 ∙ e) at h) in
+        record { found = t.found; finds = rw e t.finds; run_is = t.run_is; are = t.are; before_are = t.before_are }
 
-none_if : (closer : Run) (b : Bool) (start : ℕ) (r : OpenRun) (es : List Entry) (inside : Forest Numbered)
-    → (nearest_run closer (open_of es) ≡ None → search closer es (characters r.opener.number start r.opener.count inside) ≡ None)
-    → may_take closer r ≡ b → nearest_run closer (open_of (waiting start r ∷ es)) ≡ None → search closer (waiting start r ∷ es) inside ≡ None
-none_if closer true start r es inside rest e h =
-    let first : Found = record { opener = r.opener; before = open_of es } in
-    let here : Some first ≡ None = rw e at h in cc
-none_if closer false start r es inside rest e h = rw e (rest (rw e at h))
+pub found_none : (closer : Run) (runs : List OpenRun) (rs : List (Read ℕ)) (inside : Forest (Label ℕ)) → AreOpen runs rs
+    → nearest_run closer runs ≡ None → nearest_opener closer rs inside ≡ None
+found_none closer runs [] inside a h = refl
+found_none closer runs (done_read b below ∷ rs) inside a h = found_none closer runs rs (node b below inside) a h
+found_none closer [] (waiting dropped run xs ∷ rs) inside a h = absurd a
+found_none closer (r ∷ runs) (waiting dropped run xs ∷ rs) inside a h =
+    none_if (not dropped && may_pair run closer) (found_none closer runs rs (texts_before xs inside) a.1) refl
+  where
+    none_if : (b : Bool) → (nearest_run closer runs ≡ None → nearest_opener closer rs (texts_before xs inside) ≡ None)
+        → (not dropped && may_pair run closer) ≡ b → nearest_opener closer (waiting dropped run xs ∷ rs) inside ≡ None
+    none_if true further e =
+        let first : Found = record { opener = r.opener; before = runs } in
+        let here : Some first ≡ None = rw (same_take closer r dropped run xs a.0 ∙ e) at h in cc
+    none_if false further e = rw e (further (rw (same_take closer r dropped run xs a.0 ∙ e) at h))
 
-pub taken_none : (closer : Run) (es : List Entry) (inside : Forest Numbered) → nearest_run closer (open_of es) ≡ None
-    → search closer es inside ≡ None
-taken_none closer [] inside h = refl
-taken_none closer (settled a below ∷ es) inside h = taken_none closer es (node a below inside) h
-taken_none closer (lone number start n ∷ es) inside h = taken_none closer es (characters number start n inside) h
-taken_none closer (waiting start r ∷ es) inside h =
-    none_if closer (may_take closer r) start r es inside (taken_none closer es (characters r.opener.number start r.opener.count inside))
-    refl h
+-- an opener that is found is in the chain
+stands_over : (xs : List (Label ℕ)) (before : Forest (Label ℕ)) → (top before ≡ None → ⊥) → top (left_texts xs before) ≡ None → ⊥
+stands_over [] before h e = h e
+stands_over (x ∷ xs) before h e = cc
 
--- an opener with characters is in the chain
-characters_stand : (number start n : ℕ) (before : Forest Numbered) → 0 < n → top (characters_after number start n before) ≡ None → ⊥
-characters_stand number start zero before h e = omega arith
-characters_stand number start (suc n) before h e = cc
+pub opener_stands : (closer : Run) (rs : List (Read ℕ)) (inside : Forest (Label ℕ)) (f : FoundOpener ℕ) → 0 < length f.characters
+    → nearest_opener closer rs inside ≡ Some f → top (flat rs) ≡ None → ⊥
+opener_stands closer [] inside f some h e = cc
+opener_stands closer (done_read a below ∷ rs) inside f some h e = cc
+opener_stands closer (waiting dropped run xs ∷ rs) inside f some h e =
+    here_or (not dropped && may_pair run closer) (opener_stands closer rs (texts_before xs inside) f some) h
+  where
+    none_left : (ys : List (Label ℕ)) → 0 < length ys → top (left_texts ys (flat rs)) ≡ None → ⊥
+    none_left [] l q = omega (arith, l)
+    none_left (y ∷ ys) l q = cc
 
-stands_over : (number start n : ℕ) (before : Forest Numbered) → (top before ≡ None → ⊥) → top (characters_after number start n before)
-    ≡ None → ⊥
-stands_over number start zero before h e = h e
-stands_over number start (suc n) before h e = cc
-
-some_if : (closer : Run) (b : Bool) (start : ℕ) (r : OpenRun) (es : List Entry) (inside : Forest Numbered) (t : Taken) → 0 < t.opener.count
-    → (search closer es (characters r.opener.number start r.opener.count inside) ≡ Some t → top (flat es) ≡ None → ⊥)
-    → (if b then Some (record { inside = inside; start = start; opener = r.opener; before = es })
-    else search closer es (characters r.opener.number start r.opener.count inside)) ≡ Some t
-    → top (flat (waiting start r ∷ es)) ≡ None → ⊥
-some_if closer true start r es inside t some rest h e =
-    let same : record { inside = inside; start = start; opener = r.opener; before = es } ≡ t = cc in
-    let count : r.opener.count ≡ t.opener.count = ap (λ (u : Taken). u.opener.count) same in
-    characters_stand r.opener.number start r.opener.count (flat es) (omega arith) e
-some_if closer false start r es inside t some rest h e = stands_over r.opener.number start r.opener.count (flat es) (rest h) e
-
-pub opener_stands : (closer : Run) (es : List Entry) (inside : Forest Numbered) (t : Taken) → 0 < t.opener.count
-    → search closer es inside ≡ Some t → top (flat es) ≡ None → ⊥
-opener_stands closer [] inside t some h e = cc
-opener_stands closer (settled a below ∷ es) inside t some h e = cc
-opener_stands closer (lone number start n ∷ es) inside t some h e =
-    stands_over number start n (flat es) (opener_stands closer es (characters number start n inside) t some h) e
-opener_stands closer (waiting start r ∷ es) inside t some h e =
-    some_if closer (may_take closer r) start r es inside t some
-    (opener_stands closer es (characters r.opener.number start r.opener.count inside) t some) h e
+    here_or : (b : Bool) → (nearest_opener closer rs (texts_before xs inside) ≡ Some f → top (flat rs) ≡ None → ⊥)
+        → found_if b (record { inside = inside; run = run; characters = xs; before = rs })
+        (nearest_opener closer rs (texts_before xs inside)) ≡ Some f → ⊥
+    here_or true further q =
+        let same : record { inside = inside; run = run; characters = xs; before = rs } ≡ f = cc in
+        none_left xs (omega (arith, some, ap (λ (g : FoundOpener ℕ). length g.characters) same)) e
+    here_or false further q = stands_over xs (flat rs) (further q) e
 
 -- dropping runs leaves the chain
-pub flat-entries_dropped : (closer : Run) (es : List Entry) → flat (entries_dropped closer es) ≡ flat es
-flat-entries_dropped closer [] = refl
-flat-entries_dropped closer (settled a below ∷ es) = ap (λ f. node a below f) (flat-entries_dropped closer es)
-flat-entries_dropped closer (lone number start n ∷ es) = ap (λ f. characters_after number start n f) (flat-entries_dropped closer es)
-flat-entries_dropped closer (waiting start r ∷ es) =
-    ap (λ f. characters_after r.opener.number start r.opener.count f) (flat-entries_dropped closer es)
+pub flat-dropped : (d : Delimiter) (rs : List (Read ℕ)) → flat (map (drop_read d) rs) ≡ flat rs
+flat-dropped d [] = refl
+flat-dropped d (done_read a below ∷ rs) = ap (node a below) (flat-dropped d rs)
+flat-dropped d (waiting dropped run xs ∷ rs) = ap (left_texts xs) (flat-dropped d rs)
 
-pub open_of-entries_dropped : (closer : Run) (es : List Entry) → open_of (entries_dropped closer es) ≡ dropped_by closer (open_of es)
-open_of-entries_dropped closer [] = refl
-open_of-entries_dropped closer (settled a below ∷ es) = open_of-entries_dropped closer es
-open_of-entries_dropped closer (lone number start n ∷ es) = open_of-entries_dropped closer es
-open_of-entries_dropped closer (waiting start r ∷ es) =
-    ap (λ rs. drop_run closer.delimiter r ∷ rs) (open_of-entries_dropped closer es)
+pub open-dropped : (closer : Run) (runs : List OpenRun) (rs : List (Read ℕ)) → AreOpen runs rs
+    → AreOpen (dropped_by closer runs) (map (drop_read closer.delimiter) rs)
+open-dropped closer runs [] a = rw a refl
+open-dropped closer runs (done_read b below ∷ rs) a = open-dropped closer runs rs a
+open-dropped closer [] (waiting dropped run xs ∷ rs) a = absurd a
+open-dropped closer (r ∷ runs) (waiting dropped run xs ∷ rs) a = (
+  record {
+    dropped_is = ap (λ d. d || drops closer.delimiter r.opener.run.delimiter) a.0.dropped_is
+        ∙ ap (λ (o : Run). dropped || drops closer.delimiter o.delimiter) a.0.run_is;
+    run_is = a.0.run_is;
+    are = a.0.are;
+  },
+  open-dropped closer runs rs a.1,
+)
 
--- what a pair leaves open
-pub open_of-enclosed : (m : Marks) (d : Delimiter) (number start n end count : ℕ) (inside : Forest Numbered) (es : List Entry)
-    → open_of (enclosed m d number start n end count inside ∷ es) ≡ open_of es
-open_of-enclosed m d number start n end zero inside es = refl
-open_of-enclosed m d number start n end (suc zero) inside es = refl
-open_of-enclosed m d number start n end (suc (suc zero)) inside es = refl
-open_of-enclosed m d number start n end (suc (suc (suc k))) inside es =
-    open_of-enclosed m d number start (n - 2) (end + 2) (suc k) _ es
+-- trees and characters that are done leave the open runs
+pub open-trees : (runs : List OpenRun) (f : Forest (Label ℕ)) (rs : List (Read ℕ)) → AreOpen runs rs → AreOpen runs (trees_done f rs)
+open-trees runs nil rs a = a
+open-trees runs (node b below after) rs a = open-trees runs after (done_read b below ∷ rs) a
 
-pub open_of-rest_used : (n : ℕ) (t : Taken) → t.opener.count ≤ n → open_of (rest_open n t) ≡ open_of t.before
-open_of-rest_used n t h = rw (le-ltb n t.opener.count h) refl
+open-done : (runs : List OpenRun) (xs : List (Label ℕ)) (rs : List (Read ℕ)) → AreOpen runs rs → AreOpen runs (characters_done xs rs)
+open-done runs [] rs a = a
+open-done runs (x ∷ xs) rs a = open-done runs xs rs a
 
-pub open_of-rest_left : (n : ℕ) (t : Taken) → n < t.opener.count
-    → open_of (rest_open n t) ≡ record { dropped = false; opener = without_last n t.opener } ∷ open_of t.before
-open_of-rest_left n t h = rw (lt-ltb n t.opener.count h) refl
+-- what layers leave of both sides, whose characters are consecutive
+pub record LayersLeave (number end : ℕ) (xs vs : List (Label ℕ)) (made : Layers ℕ) : Type 0 where
+  pub next : ℕ
+  pub next_is : next ≡ end + min (length xs) (length vs)
+  pub opening : LastFrom number made.opening
+  pub opening_count : length made.opening ≡ length xs - min (length xs) (length vs)
+  pub closing : FirstFrom next made.closing
+  pub closing_count : length made.closing ≡ length vs - min (length xs) (length vs)
+
+pub layers_leave : (s : Setting) (d : Delimiter) (number end : ℕ) (xs vs : List (Label ℕ)) (inside : Forest (Label ℕ)) → LastFrom number xs
+    → FirstFrom end vs → LayersLeave number end xs vs (layers s d xs vs inside)
+layers_leave s d number end [] vs inside f g = record {
+  next = end;
+  next_is = omega arith;
+  opening = tt;
+  opening_count = omega arith;
+  closing = g;
+  closing_count = omega arith;
+}
+layers_leave s d number end (x ∷ xs) [] inside f g = record {
+  next = end;
+  next_is = omega arith;
+  opening = f;
+  opening_count = omega arith;
+  closing = tt;
+  closing_count = omega arith;
+}
+layers_leave s d number end (x ∷ []) (v ∷ vs) inside f g = record {
+  next = suc end;
+  next_is = omega arith;
+  opening = tt;
+  opening_count = omega arith;
+  closing = g.2;
+  closing_count = omega arith;
+}
+layers_leave s d number end (x ∷ y ∷ xs) (v ∷ []) inside f g = record {
+  next = suc end;
+  next_is = omega arith;
+  opening = f.2;
+  opening_count = omega arith;
+  closing = tt;
+  closing_count = omega arith;
+}
+layers_leave s d number end (x ∷ y ∷ xs) (v ∷ w ∷ vs) inside f g =
+    let r = layers_leave s d number (suc (suc end)) xs vs _ f.2.2 g.2.2 in
+    record {
+      next = r.next;
+      next_is = omega (arith, r.next_is);
+      opening = r.opening;
+      opening_count = omega (arith, r.opening_count);
+      closing = r.closing;
+      closing_count = omega (arith, r.closing_count);
+    }
 
 -- the cut goes to the right over characters
-read_over : (own : ℕ → Bool) (k : View) (first : Option ℕ) (number start j n : ℕ) (before : Forest Numbered) (l : Option ℕ)
-    (after : Forest Numbered) (hi : ℕ)
-    → Cut own k first (characters_after number start j before) l (characters (number + j) (start + j) n after) hi
-    → (m : Option ℕ) × Cut own k first (characters_after number start (j + n) before) m after hi
-read_over own k first number start j zero before l after hi c =
-    (l, subst (λ i. Cut own k first (characters_after number start i before) l after hi) (let e : j ≡ j + zero = omega arith in e) c)
-read_over own k first number start j (suc n) before l after hi c =
-    let s = step_right own k first (characters_after number start j before) l (character (number + j) (start + j)) nil
-    (characters (suc (number + j)) (suc (start + j)) n after) hi c in
-    let s1 = subst (λ i. Cut own k first (characters_after number start (suc j) before) (k.next (number + j))
-    (characters i (suc (start + j)) n after) hi) (let e : suc (number + j) ≡ number + suc j = omega arith in e) s in
-    let s2 = subst (λ i. Cut own k first (characters_after number start (suc j) before) (k.next (number + j))
-    (characters (number + suc j) i n after) hi) (let e : suc (start + j) ≡ start + suc j = omega arith in e) s1 in
-    let r = read_over own k first number start (suc j) n before (k.next (number + j)) after hi s2 in (
-      r.0,
-      subst (λ i. Cut own k first (characters_after number start i before) r.0 after hi) (let e : suc j + n ≡ j + suc n = omega arith
-          in e) r.1,
-    )
+read_over : (own : ℕ → Bool) (k : View Part) (first : Option ℕ) (vs xs : List (Label ℕ)) (before : Forest (Label ℕ)) (l : Option ℕ)
+    (after : Forest (Label ℕ)) (hi : ℕ) → Cut own k first (left_texts xs before) l (texts vs after) hi
+    → (m : Option ℕ) × Cut own k first (left_texts (last_first vs xs) before) m after hi
+read_over own k first [] xs before l after hi c = (l, c)
+read_over own k first (v ∷ vs) xs before l after hi c = read_over own k first vs (v ∷ xs) before (k.next v.tag) after hi
+    (step_right own k first (left_texts xs before) l v nil (texts vs after) hi c)
 
-touched_read : (touched : ℕ → Bool) (number start j n : ℕ) (before after : Forest Numbered)
-    → AllTouched touched (characters_after number start j before) → AllTouched touched (characters (number + j) (start + j) n after)
-    → AllTouched touched (characters_after number start (j + n) before)
-touched_read touched number start j zero before after h a = subst (λ i. AllTouched touched (characters_after number start i before))
-    (let e : j ≡ j + zero = omega arith in e) h
-touched_read touched number start j (suc n) before after h a =
-    let a1 = subst (λ i. AllTouched touched (characters i (suc (start + j)) n after)) (let e : suc (number + j) ≡ number
-    + suc j = omega arith in e) a.1 in
-    let a2 = subst (λ i. AllTouched touched (characters (number + suc j) i n after)) (let e : suc (start + j) ≡ start + suc j = omega arith
-    in e) a1 in
-    subst (λ i. AllTouched touched (characters_after number start i before)) (let e : suc j + n ≡ j + suc n = omega arith in e)
-    (touched_read touched number start (suc j) n before after (a.0, h) a2)
+touched_read : (touched : ℕ → Bool) (vs xs : List (Label ℕ)) (before after : Forest (Label ℕ)) → AllTouched touched (left_texts xs before)
+    → AllTouched touched (texts vs after) → AllTouched touched (left_texts (last_first vs xs) before) × AllTouched touched after
+touched_read touched [] xs before after h a = (h, a)
+touched_read touched (v ∷ vs) xs before after h a = touched_read touched vs (v ∷ xs) before after (a.0, h) a.1
 
-top_of_characters : (number start n : ℕ) (before : Forest Numbered) → 0 < n
-    → Some (number + (n - 1)) ≡ top (characters_after number start n before)
-top_of_characters number start zero before h = absurd (omega arith)
-top_of_characters number start (suc n) before h = ap (λ i. Some (number + i)) (let e : suc n - 1 ≡ n = omega arith in e)
+-- characters in reverse
+last_from : (number : ℕ) (vs xs : List (Label ℕ)) → FirstFrom (number + length xs) vs → LastFrom number xs
+    → LastFrom number (last_first vs xs)
+last_from number [] xs f g = g
+last_from number (v ∷ vs) xs f g =
+    last_from number vs (v ∷ xs) (subst (λ n. FirstFrom n vs) (let e : suc (number + length xs) ≡ number + suc (length xs) = omega arith in e)
+    f.2) (f.0, f.1, g)
 
-module _ (h : Chain) (s : Arena Item) (es : List Entry) (last : Option ℕ) (start : ℕ) (c : Characters) (after : Forest Numbered)
-    (st : StandsAt h s es last start c after) (some : 0 < c.count) where
+last_count : (vs xs : List (Label ℕ)) → length (last_first vs xs) ≡ length vs + length xs
+last_count [] xs = omega arith
+last_count (v ∷ vs) xs = omega (arith, last_count vs (v ∷ xs))
+
+in_reverse : (c : Characters) (vs : List (Label ℕ)) → AreFirst c vs → AreLast c (last_first vs [])
+in_reverse c vs are = record {
+  from = last_from c.number vs [] (subst (λ n. FirstFrom n vs) (let e : c.number ≡ c.number + 0 = omega arith in e) are.from) tt;
+  count = omega (arith, last_count vs [], are.count);
+}
+
+flat-done : (xs : List (Label ℕ)) (rs : List (Read ℕ)) → flat (characters_done xs rs) ≡ left_texts xs (flat rs)
+flat-done [] rs = refl
+flat-done (x ∷ xs) rs = ap (node x nil) (flat-done xs rs)
+
+flat-opened : (b : Bool) (run : Run) (xs : List (Label ℕ)) (rs : List (Read ℕ)) → flat (opened_if b run xs rs) ≡ left_texts xs (flat rs)
+flat-opened true run xs rs = refl
+flat-opened false run xs rs = flat-done xs rs
+
+last_there : (k : View Part) (first : Option ℕ) (c : Characters) (xs : List (Label ℕ)) (before : Forest (Label ℕ)) (l : Option ℕ)
+    → 0 < c.count → AreLast c xs → LeftHolds k first (left_texts xs before) l
+    → (c.number + (c.count - 1) < k.size) × (Some (c.number + (c.count - 1)) ≡ top (left_texts xs before))
+last_there k first c [] before l some are h = absurd (omega (arith, some, are.count))
+last_there k first c (x ∷ xs) before l some are h =
+    let e : x.tag ≡ c.number + (c.count - 1) = omega (arith, are.from.0, are.count) in (omega (arith, h.0, e), ap Some (sym e))
+
+module _ (h : Chain) (s : Arena Item) (rs : List (Read ℕ)) (last : Option ℕ) (c : Characters) (vs : List (Label ℕ))
+    (after : Forest (Label ℕ)) (st : StandsAt h s rs last c vs after) (some : 0 < c.count) where
+  abbrev xs : List (Label ℕ)
+  xs = last_first vs []
+
+  over : (m : Option ℕ) × Cut h.touched (view h s) h.first (left_texts xs (flat rs)) m after h.bound
+  over = read_over h.touched (view h s) h.first vs [] (flat rs) (Some c.number) after h.bound st.stands.cut
+
   pub last_within : c.number + (c.count - 1) < length s.nodes
-  last_within = (behind (view_of s.nodes) h.touched c.number start c.count (Some c.number) 0 after h.bound some st.cut.right
-      st.cut.rises_right st.rest_touched).within
+  last_within = (last_there (view h s) h.first c xs (flat rs) over.0 some (in_reverse c vs st.are) over.1.left).0
 
-  -- characters are read that stay where they are
-  pub read_characters : (es' : List Entry) → flat es' ≡ characters_after c.number start c.count (flat es)
-      → Stands h s es' (Some (c.number + (c.count - 1))) (sibling_of s.nodes (c.number + (c.count - 1))) after
-  read_characters es' e =
-      let c1 = subst (λ i. Cut h.touched (view_of s.nodes) h.first (flat es) (Some c.number) (characters i start c.count after) h.bound)
-      (let e : c.number ≡ c.number + 0 = omega arith in e) st.cut in
-      let c2 = subst (λ i. Cut h.touched (view_of s.nodes) h.first (flat es) (Some c.number) (characters (c.number + 0) i c.count after)
-      h.bound) (let e : start ≡ start + 0 = omega arith in e) c1 in
-      let a1 = subst (λ i. AllTouched h.touched (characters i start c.count after)) (let e : c.number ≡ c.number + 0 = omega arith in e)
-      st.rest_touched in
-      let a2 = subst (λ i. AllTouched h.touched (characters (c.number + 0) i c.count after)) (let e : start ≡ start + 0 = omega arith in e)
-      a1 in
-      let all : 0 + c.count ≡ c.count = omega arith in
-      let r = read_over h.touched (view_of s.nodes) h.first c.number start 0 c.count (flat es) (Some c.number) after h.bound c2 in
-      let cut = subst (λ i. Cut h.touched (view_of s.nodes) h.first (characters_after c.number start i (flat es)) r.0 after h.bound) all r.1
-      in
-      let link = behind_link (view_of s.nodes) h.first c.number start c.count (flat es) r.0 some cut.left in
-      let touched = subst (λ i. AllTouched h.touched (characters_after c.number start i (flat es))) all
-      (touched_read h.touched c.number start 0 c.count (flat es) after st.left_touched a2) in
+  -- characters that close nothing more are read
+  pub characters_kept : (runs' : List OpenRun) (last' l : Option ℕ) → last' ≡ Some (c.number + (c.count - 1))
+      → l ≡ sibling_of s.nodes (c.number + (c.count - 1)) → AreOpen runs' (opened_if c.run.can_open c.run xs rs)
+      → IsRead h s s (left_over c.run vs rs) runs' last' l after
+  characters_kept runs' last' l e f a =
+      let flat_is = flat-opened c.run.can_open c.run xs rs in
+      let there = last_there (view h s) h.first c xs (flat rs) over.0 some (in_reverse c vs st.are) over.1.left in
+      let link : over.0 ≡ l = last_link (view h s) h.first c xs (flat rs) over.0 some (in_reverse c vs st.are) over.1.left ∙ sym f in
+      let touched = touched_read h.touched vs [] (flat rs) after st.stands.left_touched st.stands.rest_touched in
       record {
-        cut = rw (link.1, e) cut;
-        last_is = rw e (top_of_characters c.number start c.count (flat es) some);
-        left_touched = rw e touched;
-        rest_touched = (behind (view_of s.nodes) h.touched c.number start c.count (Some c.number) 0 after h.bound some st.cut.right
-            st.cut.rises_right st.rest_touched).all_touched;
+        reads = record {
+          stands = record {
+            cut = subst (λ m. Cut h.touched (view h s) h.first (flat (left_over c.run vs rs)) m after h.bound) link (rw flat_is over.1);
+            last_is = e ∙ there.1 ∙ ap top (sym flat_is);
+            left_touched = rw flat_is touched.0;
+            rest_touched = touched.1;
+            few = st.stands.few;
+          };
+          kept = kept_none h.touched s;
+        };
+        are = a;
       }
 
--- entries that are the same chain may replace one another
-pub stands_as : (h : Chain) (s : Arena Item) (es es' : List Entry) (last l : Option ℕ) (rest : Forest Numbered) → flat es' ≡ flat es
-    → Stands h s es last l rest → Stands h s es' last l rest
-stands_as h s es es' last l rest e st =
-    record { cut = rw e st.cut; last_is = rw e st.last_is; left_touched = rw e st.left_touched; rest_touched = st.rest_touched }
+  pub opened_open : (runs : List OpenRun) → AreOpen runs rs → c.run.can_open ≡ true
+      → AreOpen (record { dropped = false; opener = c } ∷ runs) (opened_if c.run.can_open c.run xs rs)
+  opened_open runs a e = subst (λ b. AreOpen (record { dropped = false; opener = c } ∷ runs) (opened_if b c.run xs rs)) (sym e) (record { dropped_is = refl; run_is = refl; are = in_reverse c vs st.are }, a)
 
--- what is kept, by whether it can open
-pub kept_open : (start : ℕ) (c : Characters) (es : List Entry) → c.run.can_open ≡ true
-    → kept start c es ≡ waiting start (record { dropped = false; opener = c }) ∷ es
-kept_open start c es e = rw e refl
+  pub opened_lone : (runs : List OpenRun) → AreOpen runs rs → c.run.can_open ≡ false → AreOpen runs (opened_if c.run.can_open c.run xs rs)
+  opened_lone runs a e = subst (λ b. AreOpen runs (opened_if b c.run xs rs)) (sym e) (open-done runs xs rs a)
 
-pub kept_lone : (start : ℕ) (c : Characters) (es : List Entry) → c.run.can_open ≡ false → kept start c es ≡ lone c.number start c.count ∷ es
-kept_lone start c es e = rw e refl
+-- what was read may be replaced by the same chain
+pub stands_as : (h : Chain) (s : Arena Item) (rs rs' : List (Read ℕ)) (last l : Option ℕ) (rest : Forest (Label ℕ)) → flat rs' ≡ flat rs
+    → Stands h s rs last l rest → Stands h s rs' last l rest
+stands_as h s rs rs' last l rest e st = record {
+  cut = rw e st.cut;
+  last_is = rw e st.last_is;
+  left_touched = rw e st.left_touched;
+  rest_touched = st.rest_touched;
+  few = st.few;
+}

@@ -1,218 +1,321 @@
--- A closer goes on while it finds openers.
-use Rattle.std.proofs.Common.{◌≡◌, ℕ, zero, suc, ◌+◌, ◌-◌, ◌<◌, ◌≤◌, min, false, List, ◌∷◌, Option, Some, None, refl, ap, sym, ◌∙◌, subst}
-use Rattle.std.proofs.Common.{arith}
-use Rattle.std.proofs.lemmas.Bool.{lt-ltb, le-ltb}
+-- A closer goes on while it finds openers: what is read from here on, and what is found, are what the whole run gives.
+use Rattle.std.proofs.Common.{◌≡◌, ℕ, zero, suc, ◌+◌, ◌-◌, ◌<◌, ◌≤◌, Bool, true, false, List, [], ◌∷◌, map, Option, Some, None, length}
+use Rattle.std.proofs.Common.{refl, ap, sym, ◌∙◌, subst, arith}
+use Rattle.std.specs.Prelude.{not}
 use Rattle.markdown_base.specs.declared.item.Item.{Item}
 use Rattle.markdown_base.specs.Arena.{Arena}
-use Rattle.markdown_base.specs.BlockTree.{Numbered}
 use Rattle.markdown_base.specs.Forest.{Forest, nil}
+use Rattle.markdown_document.specs.Document.{Label}
+use Rattle.markdown_document.specs.Setting.{Setting}
 use Rattle.markdown_delims.specs.declared.marks.Marks.{Marks}
 use Rattle.markdown_delims.specs.declared.run.Characters.{Characters}
-use Rattle.markdown_delims.specs.MayPair.{OpenRun, nearest_run, dropped_by}
-use Rattle.markdown_delims.specs.Entries.{Entry, characters, open_of, Taken, search, rest_open, with_pair, without_last, without_first}
-use Rattle.markdown_delims.specs.Entries.{entries_dropped, kept, after_search, closed_in}
-use Rattle.markdown_delims.specs.Views.{View, view_of, Holds, Kept}
-use Rattle.markdown_delims.specs.ChainStanding.{Chain, Stands, Reads, StandsAt, count_of, Pairs, CanPair, IsRead, ReadsOn, CanRead}
-use Rattle.markdown_delims.proofs.EncloseLemmas.{kept_none, kept_both}
-use Rattle.markdown_delims.proofs.CloseLemmas.{TakenAs, taken_as, taken_none, opener_stands, flat-entries_dropped, open_of-entries_dropped}
-use Rattle.markdown_delims.proofs.CloseLemmas.{open_of-enclosed, open_of-rest_used, open_of-rest_left, stands_as}
+use Rattle.markdown_delims.specs.declared.run.Run.{Run}
+use Rattle.markdown_delims.specs.ChainStanding.{Chain, view, texts, AreFirst, AreLast, AreOpen, Stands, Reads, StandsAt, Finds, Pairs, CanPair, IsRead}
+use Rattle.markdown_delims.specs.ChainStanding.{Keeps, RunRead, CanRead}
+use Rattle.markdown_delims.specs.Layers.{marks_of}
+use Rattle.markdown_delims.specs.OpenRuns.{Openers}
+use Rattle.markdown_delims.specs.Pairing.{Read, nearest_opener, drop_read, Layers, layers, left_over, after_layers, after_search}
+use Rattle.markdown_delims.specs.Pairing.{still_waiting, closed_by, run_read}
+use Rattle.markdown_delims.specs.PairingFinds.{search_finds, closer_finds, run_finds}
+use Rattle.markdown_delims.specs.RunSearch.{OpenRun, nearest_run, dropped_by}
+use Rattle.markdown_delims.specs.Views.{Kept}
+use Rattle.markdown_delims.proofs.CloseLemmas.{LayersLeave, FoundAs, found_as, found_none, opener_stands, flat-dropped, open-dropped, open-trees, layers_leave}
+use Rattle.markdown_delims.proofs.CloseLemmas.{stands_as}
+use Rattle.markdown_delims.proofs.EncloseLemmas.{texts_link}
+use Rattle.markdown_delims.proofs.WriteLemmas.{kept_none, kept_both}
 
-module _ (m : Marks) (k : ℕ) (at : ℕ) (closer : Characters) (es : List Entry) where
-  pub closed_more : (t : Taken) → search closer.run es nil ≡ Some t → t.opener.count < closer.count
-      → closed_in m (suc k) at closer es ≡ closed_in m k (at + t.opener.count) (without_first t.opener.count closer)
-      (with_pair m at closer t)
-  unfolding closed_in
-  closed_more t e h =
-      ap (λ o. after_search m (λ i c fs. closed_in m k i c fs) at closer es o) e ∙ rw (lt-ltb t.opener.count closer.count h) refl
+-- one turn of a closer with characters left
+module _ (s : Setting) (k : ℕ) (closer : Run) (rs : List (Read ℕ)) where
+  pub closed_turn : (vs : List (Label ℕ)) → 0 < length vs → closed_by s (suc k) closer vs rs
+      ≡ after_search s (λ left others. closed_by s k closer left others) closer vs rs (nearest_opener closer rs nil)
+  unfolding closed_by
+  closed_turn [] some = absurd (omega arith)
+  closed_turn (v ∷ vs) some = refl
 
-  pub closed_last : (t : Taken) → search closer.run es nil ≡ Some t → closer.count ≤ t.opener.count
-      → closed_in m (suc k) at closer es ≡ with_pair m at closer t
-  unfolding closed_in
-  closed_last t e h =
-      ap (λ o. after_search m (λ i c fs. closed_in m k i c fs) at closer es o) e ∙ rw (le-ltb t.opener.count closer.count h) refl
+  pub finds_turn : (vs : List (Label ℕ)) → 0 < length vs → closer_finds s (suc k) closer vs rs
+      ≡ search_finds s (λ left others. closer_finds s k closer left others) vs (nearest_opener closer rs nil)
+  unfolding closer_finds
+  finds_turn [] some = absurd (omega arith)
+  finds_turn (v ∷ vs) some = refl
 
-  pub closed_none : search closer.run es nil ≡ None → closed_in m (suc k) at closer es ≡ kept at closer (entries_dropped closer.run es)
-  unfolding closed_in
-  closed_none e = ap (λ o. after_search m (λ i c fs. closed_in m k i c fs) at closer es o) e
+  -- and of one without
+  finds_empty : (turns : ℕ) (vs : List (Label ℕ)) → length vs ≡ 0 → closer_finds s turns closer vs rs ≡ 0
+  unfolding closer_finds
+  finds_empty zero [] none = refl
+  finds_empty (suc turns) [] none = refl
+  finds_empty turns (v ∷ vs) none = absurd (omega (arith, none))
 
-link_of : (k : View) (l : Option ℕ) (number start n : ℕ) (after : Forest Numbered) → 0 < n → Holds k l (characters number start n after)
-    → l ≡ Some number
-link_of k l number start zero after some h = absurd (omega arith)
-link_of k l number start (suc n) after some h = h.0
+  closed_empty : (turns : ℕ) (vs : List (Label ℕ)) → length vs ≡ 0 → closed_by s turns closer vs rs ≡ rs
+  unfolding closed_by
+  closed_empty zero [] none = refl
+  closed_empty (suc turns) [] none = refl
+  closed_empty turns (v ∷ vs) none = absurd (omega (arith, none))
 
--- the state after some successful searches: continuing from here gives what the whole run gives
-pub record ClosingAt (m : Marks) (start : ℕ) (met : Characters) (h : Chain) (begun : List Entry) (after : Forest Numbered)
-    (s t : Arena Item) (runs : List OpenRun) (at : ℕ) (closer : Characters) (last : Option ℕ) : Type 0 where
-  pub es : List Entry
+-- a run that cannot close is read
+pub kept_read : (h : Chain) (s t : Arena Item) (run : Run) (vs : List (Label ℕ)) (rs : List (Read ℕ)) (old new : Openers)
+    (last l : Option ℕ) (after : Forest (Label ℕ)) → not run.can_close ≡ true → new.examined ≡ old.examined
+    → IsRead h s t (left_over run vs rs) new.runs last l after → RunRead h s t run vs rs old new last l after
+kept_read h s t run vs rs old new last l after e counted r =
+    by_case run.can_close refl
+  where
+    by_case : (b : Bool) → run.can_close ≡ b → RunRead h s t run vs rs old new last l after
+    by_case true f = let no : true ≡ false = sym e ∙ ap not f in cc
+    by_case false f = record {
+      is_read = subst (λ b. IsRead h s t (run_read h.setting b run vs rs) new.runs last l after) (sym f) r;
+      found = omega (arith, counted, ap (λ b. run_finds h.setting b run vs rs) f);
+    }
+
+-- the state after some finds
+pub record ClosingAt (h : Chain) (met : Characters) (met_vs : List (Label ℕ)) (begun : List (Read ℕ)) (after : Forest (Label ℕ))
+    (s t : Arena Item) (old now : Openers) (closer : Characters) (last : Option ℕ) : Type 0 where
+  pub rs : List (Read ℕ)
+  pub vs : List (Label ℕ)
   pub turns : ℕ
-  pub stands : StandsAt h t es last at closer after
-  pub kept_so : Kept h.touched s t
-  pub runs_are : runs ≡ open_of es
+  pub stands : StandsAt h t rs last closer vs after
+  pub kept : Kept h.touched s t
+  pub are : AreOpen now.runs rs
+  pub run_is : closer.run ≡ met.run
   pub enough : closer.count ≤ turns
-  pub same : closed_in m turns at closer es ≡ closed_in m met.count start met begun
+  pub same : closed_by h.setting turns closer.run vs rs ≡ closed_by h.setting (length met_vs) met.run met_vs begun
+  pub found : old.examined + closer_finds h.setting (length met_vs) met.run met_vs begun
+      ≤ now.examined + closer_finds h.setting turns closer.run vs rs
 
-module _ (m : Marks) (start : ℕ) (met : Characters) (h : Chain) (begun : List Entry) (after : Forest Numbered) (s : Arena Item) where
-  pub closing_begin : (runs : List OpenRun) (last : Option ℕ) → StandsAt h s begun last start met after → runs ≡ open_of begun
-      → ClosingAt m start met h begun after s s runs start met last
-  closing_begin runs last st e = record {
-    es = begun;
-    turns = met.count;
-    stands = st;
-    kept_so = kept_none h.touched s;
-    runs_are =
-        e;
-    enough = omega arith;
-    same = refl;
+pub closing_begin : (h : Chain) (met : Characters) (vs : List (Label ℕ)) (rs : List (Read ℕ)) (after : Forest (Label ℕ)) (s : Arena Item)
+    (o : Openers) (last : Option ℕ) → StandsAt h s rs last met vs after → AreOpen o.runs rs
+    → ClosingAt h met vs rs after s s o o met last
+closing_begin h met vs rs after s o last st a = record {
+  rs = rs;
+  vs = vs;
+  turns = length vs;
+  stands = st;
+  kept = kept_none h.touched s;
+  are = a;
+  run_is = refl;
+  enough = omega (arith, st.are.count);
+  same = refl;
+  found = omega arith;
+}
+
+module _ (h : Chain) (met : Characters) (met_vs : List (Label ℕ)) (begun : List (Read ℕ)) (after : Forest (Label ℕ)) (s t : Arena Item)
+    (old now : Openers) (closer : Characters) (last : Option ℕ)
+    (a : ClosingAt h met met_vs begun after s t old now closer last) (some : 0 < closer.count) where
+  turn : a.turns ≡ suc (a.turns - 1)
+  turn = omega (arith, a.enough, some)
+
+  left : 0 < length a.vs
+  left = omega (arith, a.stands.are.count, some)
+
+  closed_is : closed_by h.setting (length met_vs) met.run met_vs begun
+      ≡ after_search h.setting (λ left others. closed_by h.setting (a.turns - 1) closer.run left others) closer.run a.vs a.rs
+      (nearest_opener closer.run a.rs nil)
+  closed_is = sym a.same ∙ ap (λ k. closed_by h.setting k closer.run a.vs a.rs) turn
+      ∙ closed_turn h.setting (a.turns - 1) closer.run a.rs a.vs left
+
+  finds_are : closer_finds h.setting a.turns closer.run a.vs a.rs
+      ≡ search_finds h.setting (λ left others. closer_finds h.setting (a.turns - 1) closer.run left others) a.vs
+      (nearest_opener closer.run a.rs nil)
+  finds_are = ap (λ k. closer_finds h.setting k closer.run a.vs a.rs) turn ∙ finds_turn h.setting (a.turns - 1) closer.run a.rs a.vs left
+
+  -- a run that can close is read
+  closed_read : (u : Arena Item) (new : Openers) (rs : List (Read ℕ)) (last' l : Option ℕ) → met.run.can_close ≡ true
+      → closed_by h.setting (length met_vs) met.run met_vs begun ≡ rs → IsRead h s u rs new.runs last' l after
+      → old.examined + closer_finds h.setting (length met_vs) met.run met_vs begun ≤ new.examined
+      → RunRead h s u met.run met_vs begun old new last' l after
+  closed_read u new rs last' l closes e r found = record {
+    is_read = subst (λ fs. IsRead h s u fs new.runs last' l after)
+        (sym e ∙ sym (ap (λ b. run_read h.setting b met.run met_vs begun) closes)) r;
+    found = omega (arith, found, ap (λ b. run_finds h.setting b met.run met_vs begun) closes);
   }
 
-  module _ (t : Arena Item) (runs : List OpenRun) (at : ℕ) (closer : Characters) (last : Option ℕ) (a : ClosingAt m start met h begun after
-      s t runs at closer last) (some : 0 < closer.count) where
-    -- one turn is spent
-    turn : a.turns ≡ suc (a.turns - 1)
-    turn = omega (arith, a.enough)
+  -- where the search finds none, what is left is kept
+  module _ (dropped : List OpenRun) (none : nearest_run closer.run now.runs ≡ None) (is : dropped ≡ dropped_by closer.run now.runs) where
+    abbrev rs' : List (Read ℕ)
+    rs' = map (drop_read closer.run.delimiter) a.rs
 
-    -- after a search that found none the chain can be read on
-    pub can_keep : (dropped : List OpenRun) → dropped ≡ dropped_by closer.run runs → CanRead at closer last t dropped
-    can_keep dropped d =
-        record {
-          chain = h;
-          es = entries_dropped closer.run a.es;
-          after = after;
-          stands = stands_as h t a.es (entries_dropped closer.run a.es) last (Some closer.number) (characters closer.number at closer.count
-              after) (flat-entries_dropped closer.run a.es) a.stands;
-          runs_are = d ∙ ap (dropped_by closer.run) a.runs_are ∙ sym (open_of-entries_dropped closer.run a.es);
-        }
+    stands_dropped : StandsAt h t rs' last closer a.vs after
+    stands_dropped = record {
+      stands = stands_as h t a.rs rs' last (Some closer.number) (texts a.vs after) (flat-dropped closer.run.delimiter a.rs) a.stands.stands;
+      are = a.stands.are;
+    }
 
-    -- where the search finds none, what is left is kept
-    pub closing_none : (t' : Arena Item) (dropped runs' : List OpenRun) (last' l : Option ℕ) → nearest_run closer.run runs ≡ None
-        → dropped ≡ dropped_by closer.run runs
-        → ReadsOn (λ es. kept at closer es) at closer last t t' dropped runs' last' l
-        → IsRead h s t' (closed_in m met.count start met begun) runs' last' l after
-    closing_none t' dropped runs' last' l n d next =
-        let finds = taken_none closer.run a.es nil (rw a.runs_are at n) in
-        let e = ap (λ k. closed_in m k at closer a.es) turn ∙ closed_none m (a.turns - 1) at closer a.es finds in
-        let r = next h (entries_dropped closer.run a.es) after (stands_as h t a.es (entries_dropped closer.run a.es) last
-        (Some closer.number) (characters closer.number at closer.count after) (flat-entries_dropped closer.run a.es) a.stands)
-        (d ∙ ap (dropped_by closer.run) a.runs_are ∙ sym (open_of-entries_dropped closer.run a.es)) in
-        subst (λ es. IsRead h s t' es runs' last' l after) (sym e ∙ a.same)
-        (record {
-          reads = record { stands = r.reads.stands; kept = kept_both h.touched s t t' a.kept_so r.reads.kept };
-          runs_are =
-              r.runs_are;
-        })
+    are_dropped : AreOpen dropped rs'
+    are_dropped = subst (λ runs. AreOpen runs rs') (sym is) (open-dropped closer.run now.runs a.rs a.are)
 
-    module _ (opener : Characters) (before : List OpenRun) (found : nearest_run closer.run runs
-        ≡ Some (record { opener = opener; before = before })) (some_open : 0 < opener.count) where
-      pub taken_here : TakenAs closer.run a.es nil (record { opener = opener; before = before })
-      taken_here = taken_as closer.run a.es nil (record { opener = opener; before = before })
-          (subst (λ rs. nearest_run closer.run rs ≡ Some (record { opener = opener; before = before })) a.runs_are found)
+    pub can_keep : (m : Marks) → marks_of h.setting.rules.options ≡ m → CanRead m closer last t dropped
+    can_keep m e = record {
+      chain = h;
+      marks_are = e;
+      rs = rs';
+      vs = a.vs;
+      after = after;
+      stands = stands_dropped;
+      are = are_dropped;
+    }
 
-      count_is : taken_here.taken.opener.count ≡ opener.count
-      count_is = ap (λ o. o.count) taken_here.opener_is
+    pub closing_none : (new : Openers) (last' l : Option ℕ) → met.run.can_close ≡ true → Keeps closer t dropped new.runs last' l
+        → now.examined ≤ new.examined → RunRead h s t met.run met_vs begun old new last' l after
+    closing_none new last' l closes keeps counted =
+        let e = found_none closer.run now.runs a.rs nil a.are none in
+        let r = keeps h rs' last a.vs after stands_dropped are_dropped in
+        closed_read t new (left_over closer.run a.vs rs') last' l closes
+        (closed_is ∙ ap (after_search h.setting (λ left others. closed_by h.setting (a.turns - 1) closer.run left others) closer.run a.vs a.rs) e)
+        (record { reads = record { stands = r.reads.stands; kept = kept_both h.touched s t t a.kept r.reads.kept }; are = r.are })
+        (omega (
+          arith,
+          a.found,
+          finds_are,
+          counted,
+          ap (search_finds h.setting (λ left others. closer_finds h.setting (a.turns - 1) closer.run
+              left others) a.vs) e,
+        ))
 
-      pub opener_before : last ≡ None → ⊥
-      opener_before e =
-          opener_stands closer.run a.es nil taken_here.taken (omega (arith, count_is)) taken_here.finds (sym a.stands.last_is ∙ e)
+  -- where it finds an opener
+  module _ (opener : Characters) (before : List OpenRun) (found : nearest_run closer.run now.runs
+      ≡ Some (record { opener = opener; before = before })) (some_open : 0 < opener.count) where
+    taken : FoundAs closer.run a.rs nil (record { opener = opener; before = before })
+    taken = found_as closer.run now.runs a.rs nil (record { opener = opener; before = before }) a.are found
 
-      module _ (ix : ℕ) (is : last ≡ Some ix) where
-        pub can_pair : CanPair at opener closer ix t
-        can_pair =
+    pub opener_before : last ≡ None → ⊥
+    opener_before e =
+        opener_stands closer.run a.rs nil taken.found (omega (arith, taken.are.count, some_open)) taken.finds
+        (sym a.stands.stands.last_is ∙ e)
+
+    module _ (m : Marks) (marks_are : marks_of h.setting.rules.options ≡ m) (ix : ℕ) (is : last ≡ Some ix) where
+      stands_after : StandsAt h t a.rs (Some ix) closer a.vs after
+      stands_after = subst (λ x. StandsAt h t a.rs x closer a.vs after) is a.stands
+
+      finds_here : Finds a.rs opener closer taken.found
+      finds_here = record { finds = taken.finds; run_is = taken.run_is; are = taken.are }
+
+      pub can_pair : CanPair m opener closer ix t
+      can_pair = record {
+        chain = h;
+        marks_are = marks_are;
+        rs = a.rs;
+        vs = a.vs;
+        after = after;
+        found = taken.found;
+        stands = stands_after;
+        finds = finds_here;
+      }
+
+      module _ (u : Arena Item) (root : ℕ) (rest : Option ℕ) (p : Pairs m opener closer ix t u root rest) where
+        abbrev made : Layers ℕ
+        made = layers h.setting taken.found.run.delimiter taken.found.characters a.vs taken.found.inside
+
+        reads : Reads h t u (after_layers taken.found made) (Some root) rest (texts made.closing after)
+        reads = p h a.rs a.vs after taken.found marks_are stands_after finds_here
+
+        leave : LayersLeave opener.number closer.number taken.found.characters a.vs made
+        leave = layers_leave h.setting taken.found.run.delimiter opener.number closer.number taken.found.characters a.vs taken.found.inside
+            taken.are.from a.stands.are.from
+
+        closed_on : closed_by h.setting (length met_vs) met.run met_vs begun
+            ≡ closed_by h.setting (a.turns - 1) closer.run made.closing (after_layers taken.found made)
+        closed_on = closed_is ∙ ap (after_search h.setting (λ left others. closed_by h.setting (a.turns - 1) closer.run left others) closer.run
+            a.vs a.rs) taken.finds
+
+        found_one : (examined : ℕ) → now.examined < examined
+            → old.examined + closer_finds h.setting (length met_vs) met.run met_vs begun
+            ≤ examined + closer_finds h.setting (a.turns - 1) closer.run made.closing (after_layers taken.found made)
+        found_one examined counted =
+            omega (
+              arith,
+              a.found,
+              finds_are,
+              counted,
+              ap (search_finds h.setting (λ left others. closer_finds h.setting (a.turns - 1)
+                  closer.run left others) a.vs) taken.finds,
+            )
+
+        -- the opener is used up
+        none_open : (xs : List (Label ℕ)) → length xs ≡ 0 → AreOpen before (still_waiting taken.found.run xs taken.found.before)
+        none_open [] e = taken.before_are
+        none_open (x ∷ xs) e = absurd (omega (arith, e))
+
+        -- or some of its characters are left
+        some_open_still : (left : Characters) (xs : List (Label ℕ)) → left.run ≡ taken.found.run → AreLast left xs → 0 < left.count
+            → AreOpen (record { dropped = false; opener = left } ∷ before) (still_waiting taken.found.run xs taken.found.before)
+        some_open_still left [] e are l = absurd (omega (arith, are.count, l))
+        some_open_still left (x ∷ xs) e are l = (record { dropped_is = refl; run_is = e; are = are }, taken.before_are)
+
+        -- the closer has characters left
+        pub closing_more : (next : Openers) → next.runs ≡ before → now.examined < next.examined → opener.count < closer.count
+            → ClosingAt h met met_vs begun after s u old next
+            (record closer { number = closer.number + opener.count; count = closer.count - opener.count }) (Some root)
+        closing_more next e counted more =
+            let l = leave in
+            let n : l.next ≡ closer.number + opener.count = omega (arith, l.next_is, taken.are.count, a.stands.are.count, more) in
+            let first = subst (λ i. AreFirst (record closer { number = i; count = closer.count - opener.count }) made.closing) n
+            (record { from = l.closing; count = omega (arith, l.closing_count, taken.are.count, a.stands.are.count, more) }) in
+            let none : length made.opening ≡ 0 = omega (arith, l.opening_count, taken.are.count, a.stands.are.count, more) in
             record {
-              chain = h;
-              es = a.es;
-              after = after;
-              taken = taken_here.taken;
-              stands = subst (λ x. StandsAt h t a.es x at closer after) is a.stands;
-              finds = taken_here.finds;
-              opener_is = taken_here.opener_is;
+              rs = after_layers taken.found made;
+              vs = made.closing;
+              turns = a.turns - 1;
+              stands = record {
+                stands = subst (λ x. Stands h u (after_layers taken.found made) (Some root) x (texts made.closing after))
+                    (texts_link (view h u) rest (closer.number + opener.count) made.closing after
+                    (omega (arith, first.count, more)) first.from reads.stands.cut.right) reads.stands;
+                are = first;
+              };
+              kept = kept_both h.touched s t u a.kept reads.kept;
+              are = subst (λ runs. AreOpen runs (after_layers taken.found made)) (sym e)
+                  (open-trees before made.whole _ (none_open made.opening none));
+              run_is = a.run_is;
+              enough = omega (arith, a.enough, some_open);
+              same = sym closed_on;
+              found = found_one next.examined counted;
             }
 
-        module _ (u : Arena Item) (root : ℕ) (rest : Option ℕ) (p : Pairs m at opener closer ix t u root rest) where
-          paired_here : Reads h t u (with_pair m at closer taken_here.taken) (Some root) rest
-              (characters (closer.number + count_of opener closer) (at + count_of opener closer) (closer.count - count_of opener closer)
-              after)
-          paired_here = p h a.es after taken_here.taken (subst (λ x. StandsAt h t a.es x at closer after) is a.stands) taken_here.finds
-              taken_here.opener_is
+        -- the closer has no characters left
+        ended : (new : Openers) → closer.count ≤ opener.count → met.run.can_close ≡ true → now.examined < new.examined
+            → AreOpen new.runs (still_waiting taken.found.run made.opening taken.found.before)
+            → RunRead h s u met.run met_vs begun old new (Some root) rest after
+        ended new all closes counted open_runs =
+            let l = leave in
+            let none : length made.closing ≡ 0 = omega (arith, l.closing_count, taken.are.count, a.stands.are.count, all) in
+            let no_texts : texts made.closing after ≡ after = no_characters made.closing none in
+            closed_read u new (after_layers taken.found made) (Some root) rest closes
+            (closed_on ∙ closed_empty h.setting 0 closer.run (after_layers taken.found made) (a.turns - 1) made.closing none)
+            (record {
+              reads = record {
+                stands = subst (λ f. Stands h u (after_layers taken.found made) (Some root) rest f) no_texts reads.stands;
+                kept = kept_both h.touched s t u a.kept reads.kept;
+              };
+              are = open-trees new.runs made.whole _ open_runs;
+            })
+            (omega (
+              arith,
+              a.found,
+              finds_are,
+              counted,
+              ap (search_finds h.setting (λ left others. closer_finds h.setting (a.turns - 1)
+                  closer.run left others) a.vs) taken.finds,
+              finds_empty h.setting 0 closer.run (after_layers taken.found made) (a.turns - 1)
+                  made.closing none,
+            ))
+          where
+            no_characters : (vs : List (Label ℕ)) → length vs ≡ 0 → texts vs after ≡ after
+            no_characters [] e = refl
+            no_characters (v ∷ vs) e = absurd (omega (arith, e))
 
-          -- the closer has characters left
-          pub closing_more : opener.count < closer.count
-              → ClosingAt m start met h begun after s u before (at + opener.count) (without_first opener.count closer) (Some root)
-          closing_more more =
-              let n : count_of opener closer ≡ opener.count = omega arith in
-              let r = subst (λ i. Reads h t u (with_pair m at closer taken_here.taken) (Some root) rest
-              (characters (closer.number + i) (at + i) (closer.count - i) after)) n paired_here in
-              let link = link_of (view_of u.nodes) rest (closer.number + opener.count) (at + opener.count) (closer.count - opener.count)
-              after (omega arith) r.stands.cut.right in
-              let fewer : taken_here.taken.opener.count < closer.count = omega (arith, count_is) in
-              let used : taken_here.taken.opener.count ≤ min taken_here.taken.opener.count closer.count = omega arith in
-              record {
-                es = with_pair m at closer taken_here.taken;
-                turns = a.turns - 1;
-                stands = subst (λ x. Stands h u (with_pair m at closer taken_here.taken) (Some root) x
-                    (characters (closer.number + opener.count) (at + opener.count) (closer.count - opener.count) after)) link r.stands;
-                kept_so = kept_both h.touched s t u a.kept_so r.kept;
-                runs_are =
-                    sym (open_of-enclosed m taken_here.taken.opener.run.delimiter taken_here.taken.opener.number taken_here.taken.start
-                    taken_here.taken.opener.count at (min taken_here.taken.opener.count closer.count) taken_here.taken.inside
-                    (rest_open (min taken_here.taken.opener.count closer.count) taken_here.taken)
-                    ∙ open_of-rest_used (min taken_here.taken.opener.count closer.count) taken_here.taken used ∙ taken_here.before_is);
-                enough = omega (arith, a.enough);
-                same =
-                    ap (λ i. closed_in m (a.turns - 1) (at + i) (without_first i closer) (with_pair m at closer taken_here.taken))
-                    (sym count_is)
-                    ∙ sym (ap (λ k. closed_in m k at closer a.es) turn ∙ closed_more m (a.turns - 1) at closer a.es taken_here.taken
-                    taken_here.finds fewer)
-                    ∙ a.same;
-              }
+        pub closing_used : (new : Openers) → new.runs ≡ before → now.examined < new.examined → closer.count ≡ opener.count
+            → met.run.can_close ≡ true → RunRead h s u met.run met_vs begun old new (Some root) rest after
+        closing_used new e counted equal closes =
+            let l = leave in
+            ended new (omega (arith, equal)) closes counted
+            (subst (λ runs. AreOpen runs (still_waiting taken.found.run made.opening taken.found.before)) (sym e)
+            (none_open made.opening (omega (arith, l.opening_count, taken.are.count, a.stands.are.count, equal))))
 
-          -- the closer has no characters left
-          ended : closer.count ≤ opener.count → Reads h t u (closed_in m met.count start met begun) (Some root) rest after
-          ended last_find =
-              let n : count_of opener closer ≡ closer.count = omega arith in
-              let none : closer.count - closer.count ≡ 0 = omega arith in
-              let r1 = subst (λ i. Reads h t u (with_pair m at closer taken_here.taken) (Some root) rest
-              (characters (closer.number + i) (at + i) (closer.count - i) after)) n paired_here in
-              let r2 = subst (λ i. Reads h t u (with_pair m at closer taken_here.taken) (Some root) rest
-              (characters (closer.number + closer.count) (at + closer.count) i after)) none r1 in
-              subst (λ es. Reads h t u es (Some root) rest after)
-              (sym (ap (λ k. closed_in m k at closer a.es) turn ∙ closed_last m (a.turns - 1) at closer a.es taken_here.taken
-              taken_here.finds (omega (arith, count_is))) ∙ a.same) r2
-
-          open_of_ended : closer.count ≤ opener.count → open_of (closed_in m met.count start met begun)
-              ≡ open_of (rest_open (min taken_here.taken.opener.count closer.count) taken_here.taken)
-          open_of_ended last_find =
-              ap open_of (sym (sym (ap (λ k. closed_in m k at closer a.es) turn ∙ closed_last m (a.turns - 1) at closer a.es
-              taken_here.taken taken_here.finds (omega (arith, count_is))) ∙ a.same))
-              ∙ open_of-enclosed m taken_here.taken.opener.run.delimiter taken_here.taken.opener.number taken_here.taken.start
-              taken_here.taken.opener.count at (min taken_here.taken.opener.count closer.count) taken_here.taken.inside
-              (rest_open (min taken_here.taken.opener.count closer.count) taken_here.taken)
-
-          pub closing_used : closer.count ≡ opener.count → IsRead h s u (closed_in m met.count start met begun) before (Some root) rest
-              after
-          closing_used equal =
-              let r = ended (omega arith) in
-              let used : taken_here.taken.opener.count ≤ min taken_here.taken.opener.count closer.count = omega (arith, count_is) in
-              record {
-                reads = record { stands = r.stands; kept = kept_both h.touched s t u a.kept_so r.kept };
-                runs_are = sym (open_of_ended (omega arith) ∙ open_of-rest_used (min taken_here.taken.opener.count closer.count)
-                    taken_here.taken used ∙ taken_here.before_is);
-              }
-
-          pub closing_left : closer.count < opener.count
-              → IsRead h s u (closed_in m met.count start met begun) (record { dropped = false; opener = without_last closer.count opener }
-              ∷ before) (Some root) rest after
-          closing_left fewer =
-              let r = ended (omega arith) in
-              let left : min taken_here.taken.opener.count closer.count < taken_here.taken.opener.count = omega (arith, count_is) in
-              let n : min taken_here.taken.opener.count closer.count ≡ closer.count = omega (arith, count_is) in
-              record {
-                reads = record { stands = r.stands; kept = kept_both h.touched s t u a.kept_so r.kept };
-                runs_are =
-                    sym (open_of_ended (omega arith) ∙ open_of-rest_left (min taken_here.taken.opener.count closer.count) taken_here.taken
-                    left
-                    ∙ ap (λ i. record { dropped = false; opener = without_last i taken_here.taken.opener } ∷ open_of
-                    taken_here.taken.before) n
-                    ∙ ap (λ o. record { dropped = false; opener = without_last closer.count o } ∷ open_of taken_here.taken.before)
-                    taken_here.opener_is
-                    ∙ ap (λ rs. record { dropped = false; opener = without_last closer.count opener } ∷ rs) taken_here.before_is);
-              }
+        pub closing_left : (new : Openers) → new.runs
+            ≡ record { dropped = false; opener = record opener { count = opener.count - closer.count } } ∷ before
+            → now.examined < new.examined → closer.count < opener.count → met.run.can_close ≡ true
+            → RunRead h s u met.run met_vs begun old new (Some root) rest after
+        closing_left new e counted fewer closes =
+            let l = leave in
+            ended new (omega (arith, fewer)) closes counted
+            (subst (λ runs. AreOpen runs (still_waiting taken.found.run made.opening taken.found.before)) (sym e)
+            (some_open_still (record opener { count = opener.count - closer.count }) made.opening taken.run_is
+            (record { from = l.opening; count = omega (arith, l.opening_count, taken.are.count, a.stands.are.count, fewer) })
+            (omega (arith, fewer))))

@@ -1,308 +1,422 @@
 -- Characters of an opener become nodes, one layer at a time.
-use Rattle.std.proofs.Common.{◌≡◌, ℕ, zero, suc, ◌+◌, ◌-◌, ◌<◌, ◌≤◌, Bool, true, false, List, Option, Some, None, length, refl, ap, sym}
-use Rattle.std.proofs.Common.{◌∙◌, subst, arith}
-use Rattle.std.specs.Prelude.{IfSome}
+use Rattle.std.proofs.Common.{◌≡◌, ℕ, suc, ◌+◌, ◌-◌, ◌<◌, ◌≤◌, min, Bool, true, List, [], ◌∷◌, Option, Some, None, length, refl, ap}
+use Rattle.std.proofs.Common.{sym, ◌∙◌, subst, arith}
+use Rattle.std.specs.Prelude.{IfSome, slice_range, ◌^◌}
 use Rattle.markdown_base.specs.declared.item.Item.{Item}
 use Rattle.markdown_base.specs.declared.item.ItemBody.{ItemBody}
 use Rattle.markdown_base.specs.Arena.{Arena}
-use Rattle.markdown_base.specs.BlockTree.{Numbered, item_at}
+use Rattle.markdown_base.specs.BlockTree.{item_at}
 use Rattle.markdown_base.specs.Forest.{Forest, nil, node}
-use Rattle.markdown_delims.specs.declared.marks.Marks.{Marks}
+use Rattle.markdown_document.specs.Document.{Shape, Part, Label, part_of, block_of}
+use Rattle.markdown_document.specs.Setting.{Setting}
+use Rattle.markdown_document.specs.Tables.{Tables}
 use Rattle.markdown_delims.specs.declared.run.Characters.{Characters}
-use Rattle.markdown_delims.specs.MarkBodies.{body_of_one, body_of_two}
-use Rattle.markdown_delims.specs.Entries.{Entry, settled, labelled, character, characters_after, flat, enclosed}
-use Rattle.markdown_delims.specs.Views.{View, view_of, Writes, Wrote, Holds, LeftHolds, next_number, Rises, LeftRises, Cut, Kept}
-use Rattle.markdown_delims.specs.Enclosing.{Around, AllTouched, Encloses, IsEnclosed}
-use Rattle.markdown_delims.proofs.CutLemmas.{Rises-le, Rises-raise, Inside-of, Inside-further, Holds-write_before, step_left, enclosing}
+use Rattle.markdown_delims.specs.declared.run.Delimiter.{Delimiter}
+use Rattle.markdown_delims.specs.ChainStanding.{Chain, view, texts, left_texts, FirstFrom, LastFrom}
+use Rattle.markdown_delims.specs.Enclosing.{IsLayer, Around, Encloses, IsEnclosed}
+use Rattle.markdown_delims.specs.Layers.{marks_of, layer_of_one, layer_of_two, spanned}
+use Rattle.markdown_delims.specs.Pairing.{Layers, layers}
+use Rattle.markdown_delims.specs.Views.{View, Writes, Wrote, Holds, LeftHolds, next_number, Rises, LeftRises, Cut, Kept, AllTouched}
+use Rattle.markdown_delims.proofs.CutLemmas.{Rises-le, Rises-raise, Rises-lower, Inside-of, Inside-further, Holds-write_before, step_left}
+use Rattle.markdown_delims.proofs.CutLemmas.{enclosing}
+use Rattle.markdown_delims.proofs.WriteLemmas.{parts_written, kept_none, kept_made}
 
 -- a chain's first number is not below where it begins
-pub next_number-from : (own : ℕ → Bool) (lo : ℕ) (f : Forest Numbered) (hi : ℕ) → Rises own lo f hi → lo ≤ next_number f hi
+pub next_number-from : (own : ℕ → Bool) (lo : ℕ) (f : Forest (Label ℕ)) (hi : ℕ) → Rises own lo f hi → lo ≤ next_number f hi
 next_number-from own lo nil hi r = r
 next_number-from own lo (node a below after) hi r = r.0
 
--- the character after the first t, with what precedes it and the chain that follows it
-pub record Peeled (own : ℕ → Bool) (k : View) (first : Option ℕ) (number start t : ℕ) (before : Forest Numbered) (l : Option ℕ)
-    (chain : Forest Numbered) (hi : ℕ) : Type 0 where
-  pub within : number + t < k.size
-  pub item : k.item (number + t) ≡ (character (number + t) (start + t)).item
-  pub left : LeftHolds k first (characters_after number start t before) (Some (number + t))
-  pub rises_left : LeftRises own (characters_after number start t before) (number + t)
-  pub right : Holds k l chain
-  pub rises : Rises own (suc (number + t)) chain hi
+-- a link to a chain leads to a node
+pub link_within : (k : View Part) (l : Option ℕ) (f : Forest (Label ℕ)) → Holds k l f → IfSome l (λ ix. ix < k.size)
+link_within k None f h = tt
+link_within k (Some ix) nil h = cc
+link_within k (Some ix) (node a below after) h = let e : ix ≡ a.tag = cc in omega (arith, h.1, e)
 
-module _ (own : ℕ → Bool) (k : View) (first : Option ℕ) (number start : ℕ) (before : Forest Numbered) (l : Option ℕ)
-    (chain : Forest Numbered) (hi : ℕ) where
-  peel_one_suc : (t : ℕ) → Cut own k first (characters_after number start (suc t) before) l chain hi
-      → Peeled own k first number start t before l chain hi
-  peel_one_suc t c =
+-- a character of a left list, with what precedes it and the chain that is to be inside
+pub record Peeled (own : ℕ → Bool) (k : View Part) (first : Option ℕ) (x : Label ℕ) (before : Forest (Label ℕ)) (l : Option ℕ)
+    (chain : Forest (Label ℕ)) (hi : ℕ) : Type 0 where
+  pub within : x.tag < k.size
+  pub item : k.item x.tag ≡ x.part
+  pub left : LeftHolds k first before (Some x.tag)
+  pub rises_left : LeftRises own before x.tag
+  pub right : Holds k l chain
+  pub rises : Rises own (suc x.tag) chain hi
+
+module _ (own : ℕ → Bool) (k : View Part) (first : Option ℕ) (x : Label ℕ) (before : Forest (Label ℕ)) (l : Option ℕ)
+    (chain : Forest (Label ℕ)) (hi : ℕ) where
+  pub peel_one : Cut own k first (node x nil before) l chain hi → Peeled own k first x before l chain hi
+  peel_one c =
       record {
         within = c.left.0;
         item = c.left.1;
         left = c.left.4;
         rises_left = c.rises_left.1;
         right = c.right;
-        rises = Rises-raise own 0 (suc (number + t)) chain hi c.rises_left.0.0 c.rises_right;
+        rises = Rises-raise own 0 (suc x.tag) chain hi c.rises_left.0.0 c.rises_right;
       }
 
-  peel_two_suc : (t : ℕ) → Cut own k first (characters_after number start (suc (suc t)) before) l chain hi
-      → Peeled own k first number start t before l chain hi
-  peel_two_suc t c =
-      let last : suc (number + suc t) ≤ next_number chain hi = c.rises_left.0.0 in
+  pub peel_two : (y : Label ℕ) → Cut own k first (node y nil (node x nil before)) l chain hi → Peeled own k first x before l chain hi
+  peel_two y c =
+      let last : suc y.tag ≤ next_number chain hi = c.rises_left.0.0 in
+      let above : suc x.tag ≤ y.tag = c.rises_left.1.0.0 in
       record {
         within = c.left.4.0;
         item = c.left.4.1;
         left = c.left.4.4;
         rises_left = c.rises_left.1.1;
         right = c.right;
-        rises = Rises-raise own 0 (suc (number + t)) chain hi (omega arith) c.rises_right;
+        rises = Rises-raise own 0 (suc x.tag) chain hi (omega arith) c.rises_right;
       }
 
-  pub peel_one : (n : ℕ) → 1 ≤ n → Cut own k first (characters_after number start n before) l chain hi
-      → Peeled own k first number start (n - 1) before l chain hi
-  peel_one n h c = peel_one_suc (n - 1) (subst (λ m. Cut own k first (characters_after number start m before) l chain hi) (let e : n
-      ≡ suc (n - 1) = omega arith in e) c)
+  module _ (k' : View Part) (p : Part) (peeled : Peeled own k first x before l chain hi) (o : own x.tag ≡ true) where
+    abbrev made : Label ℕ
+    made = record { tag = x.tag; part = p }
 
-  pub peel_two : (n : ℕ) → 2 ≤ n → Cut own k first (characters_after number start n before) l chain hi
-      → Peeled own k first number start (n - 2) before l chain hi
-  peel_two n h c = peel_two_suc (n - 2) (subst (λ m. Cut own k first (characters_after number start m before) l chain hi) (let e : n
-      ≡ suc (suc (n - 2)) = omega arith in e) c)
+    -- an inner layer
+    pub layer_inside : Writes k k' x.tag p l None → Cut own k' first before (Some x.tag) (node made chain nil) hi
+    layer_inside w =
+        let inner = Inside-of own (suc x.tag) chain hi peeled.rises in
+        let held = enclosing own k k' first before made l None chain hi o peeled.within peeled.left peeled.rises_left peeled.right inner w in
+        step_left own k' first made chain before None nil hi
+        (record { left = held; right = refl; rises_left = (inner, peeled.rises_left); rises_right = omega arith })
 
--- an inner layer
-pub layer_inside : (own : ℕ → Bool) (k k' : View) (first : Option ℕ) (number start t : ℕ) (before : Forest Numbered) (l : Option ℕ)
-    (chain : Forest Numbered) (hi : ℕ) (i : Item)
-    → Peeled own k first number start t before l chain hi → own (number + t) ≡ true → Writes k k' (number + t) i l None
-    → Cut own k' first (characters_after number start t before) (Some (number + t)) (node (record { number = number + t; item = i }) chain
-    nil) hi
-layer_inside own k k' first number start t before l chain hi i p o w =
-    let inner = Inside-of own (suc (number + t)) chain hi p.rises in
-    let held = enclosing own k k' first (characters_after number start t before) (record { number = number + t; item = i }) l None chain hi
-    o p.within p.left p.rises_left p.right inner w in
-    step_left own k' first (record { number = number + t; item = i }) chain (characters_after number start t before) None nil hi
-    (record { left = held; right = refl; rises_left = (inner, p.rises_left); rises_right = omega arith })
+    -- the outermost one
+    pub layer_last : (m : Option ℕ) (after : Forest (Label ℕ)) (lo bound : ℕ) → hi ≤ lo → Holds k m after → Rises own lo after bound
+        → Writes k k' x.tag p l m → Cut own k' first (node made chain before) m after bound
+    layer_last m after lo bound high h r w =
+        let inner = Inside-of own (suc x.tag) chain hi peeled.rises in
+        let held = enclosing own k k' first before made l m chain hi o peeled.within peeled.left peeled.rises_left peeled.right inner w in
+        let low : suc x.tag ≤ hi = Rises-le own (suc x.tag) chain hi peeled.rises in
+        let from : lo ≤ next_number after bound = next_number-from own lo after bound r in
+        record {
+          left = held;
+          right = Holds-write_before own k k' x.tag p l m w o m lo after bound (omega arith) r h;
+          rises_left = (Inside-further own (suc x.tag) chain hi (next_number after bound) (omega arith) inner, peeled.rises_left);
+          rises_right = Rises-lower own lo 0 after bound (omega arith) r;
+        }
 
--- the outermost one
-pub layer_last : (own : ℕ → Bool) (k k' : View) (first : Option ℕ) (number start t : ℕ) (before : Forest Numbered) (l m : Option ℕ)
-    (chain after : Forest Numbered) (hi bound : ℕ) (i : Item)
-    → Peeled own k first number start t before l chain hi → Holds k m after → Rises own hi after bound → own (number + t) ≡ true
-    → Writes k k' (number + t) i l m
-    → Cut own k' first (node (record { number = number + t; item = i }) chain (characters_after number start t before)) m after bound
-layer_last own k k' first number start t before l m chain after hi bound i p h r o w =
-    let inner = Inside-of own (suc (number + t)) chain hi p.rises in
-    let held = enclosing own k k' first (characters_after number start t before) (record { number = number + t; item = i }) l m chain hi o
-    p.within p.left p.rises_left p.right inner w in
-    let low : suc (number + t) ≤ hi = Rises-le own (suc (number + t)) chain hi p.rises in
-    let from : hi ≤ next_number after bound = next_number-from own hi after bound r in
-    record {
-      left = held;
-      right = Holds-write_before own k k' (number + t) i l m w o m hi after bound (omega arith) r h;
-      rises_left = (Inside-further own (suc (number + t)) chain hi (next_number after bound) from inner, p.rises_left);
-      rises_right = Rises-raise own hi 0 after bound (omega arith) r;
-    }
+-- what is written over characters is a layer from one to the other
+pub spanned_part : (s : Setting) (tables : Tables) (i j : Item) (x v : Label ℕ) (b : ItemBody) (shape : List ℕ → Shape)
+    → part_of s.text tables i ≡ x.part → part_of s.text tables j ≡ v.part → x.part.block ≡ None → IsLayer b shape
+    → part_of s.text tables (record { start = i.start; end = j.end; body = b }) ≡ (spanned s.text shape x v).part
+spanned_part s tables i j x v b shape e f none is =
+    ap (λ y. let p : Part = record { shape = y; range = record { start = i.start; end = j.end }; block = block_of b } in p)
+    (is.reads tables (slice_range s.text i.start j.end))
+    ∙ ap (λ o. let p : Part = record {
+      shape = shape (slice_range s.text i.start j.end);
+      range = record { start = i.start; end = j.end };
+      block = o;
+    } in p) (is.made.inline ∙ sym none)
+    ∙ ap (λ (q : Part). let p : Part = record {
+      shape = shape (slice_range s.text q.range.start j.end);
+      range = record { start = q.range.start; end = j.end };
+      block = x.part.block;
+    } in p) e
+    ∙ ap (λ (q : Part). let p : Part = record {
+      shape = shape (slice_range s.text x.part.range.start q.range.end);
+      range = record { start = x.part.range.start; end = q.range.end };
+      block = x.part.block;
+    } in p) f
 
--- writes of nodes that may be written, one after another
-pub kept_none : (touched : ℕ → Bool) (s : Arena Item) → Kept touched s s
-kept_none touched s = record {
-  spine = refl;
-  cursor = refl;
-  size = refl;
-  others = λ ix e. record { item = refl; child = refl; next = refl };
+-- where the characters of one side are used up, no layer is left
+layers_end : (s : Setting) (d : Delimiter) (xs vs : List (Label ℕ)) (inside : Forest (Label ℕ)) → min (length xs) (length vs) ≡ 0
+    → layers s d xs vs inside ≡ record { whole = inside; opening = xs; closing = vs }
+layers_end s d [] vs inside e = refl
+layers_end s d (x ∷ xs) [] inside e = refl
+layers_end s d (x ∷ xs) (v ∷ vs) inside e = absurd (omega (arith, e))
+
+layers_once : (s : Setting) (d : Delimiter) (x v : Label ℕ) (xs vs : List (Label ℕ)) (inside : Forest (Label ℕ))
+    → min (length xs) (length vs) ≡ 0
+    → layers s d (x ∷ xs) (v ∷ vs) inside
+    ≡ record { whole = node (spanned s.text (layer_of_one (marks_of s.rules.options) d) x v) inside nil; opening = xs; closing = vs }
+layers_once s d x v [] vs inside e = refl
+layers_once s d x v (y ∷ xs) [] inside e = refl
+layers_once s d x v (y ∷ xs) (w ∷ vs) inside e = absurd (omega (arith, e))
+
+-- a chain of characters begins at their first number
+pub texts_link : (k : View Part) (l : Option ℕ) (number : ℕ) (vs : List (Label ℕ)) (after : Forest (Label ℕ)) → 0 < length vs
+    → FirstFrom number vs → Holds k l (texts vs after) → l ≡ Some number
+texts_link k l number [] after some f h = absurd (omega (arith, some))
+texts_link k l number (v ∷ vs) after some f h = h.0 ∙ ap Some f.0
+
+-- the state after some layers: the characters that are left enclose the chain that was made so far
+pub record LayersAt (h : Chain) (g : Around) (s t : Arena Item) (d : Delimiter) (o c : Characters) (left : ℕ) (inner : Option ℕ) : Type 0
+  where
+    pub opening : List (Label ℕ)
+    pub closing : List (Label ℕ)
+    pub inside : Forest (Label ℕ)
+    pub stands : Encloses h (record {
+      before = g.before;
+      opening = opening;
+      inside = inside;
+      closing = closing;
+      after = g.after;
+    }) t o c inner
+    pub same : layers h.setting d opening closing inside ≡ layers h.setting d g.opening g.closing g.inside
+    pub left_is : left ≡ min o.count c.count
+    pub kept : Kept h.touched s t
+
+pub layers_begin : (h : Chain) (g : Around) (s : Arena Item) (d : Delimiter) (o c : Characters) (left : ℕ) (inner : Option ℕ)
+    → left ≡ min o.count c.count → Encloses h g s o c inner → LayersAt h g s s d o c left inner
+layers_begin h g s d o c left inner e st = record {
+  opening = g.opening;
+  closing = g.closing;
+  inside = g.inside;
+  stands = st;
+  same = refl;
+  left_is = e;
+  kept = kept_none h.touched s;
 }
 
-pub kept_more : (touched : ℕ → Bool) (s t u : Arena Item) (ix : ℕ) (i : Item) (c n : Option ℕ) → Kept touched s t → touched ix ≡ true
-    → Wrote t u ix i c n → Kept touched s u
-kept_more touched s t u ix i c n k p w =
-    record {
-      spine = w.spine ∙ k.spine;
-      cursor = w.cursor ∙ k.cursor;
-      size = w.nodes.size ∙ k.size;
-      others = λ j e.
-          let same = w.nodes.others j (λ q. let f : touched ix ≡ false = subst (λ x. touched x ≡ false) q e in cc) in
-          let before = k.others j e in
-          record { item = same.item ∙ before.item; child = same.child ∙ before.child; next = same.next ∙ before.next };
-    }
+-- the next layer, of the last n characters that are left of the opener and the first n of the closer, for an n of one
+-- or two: from x to v
+pub record NextLayer (h : Chain) (g : Around) (t : Arena Item) (o c : Characters) (inner : Option ℕ) (n : ℕ) : Type 0 where
+  pub x : Label ℕ
+  pub v : Label ℕ
+  pub xs : List (Label ℕ)
+  pub vs : List (Label ℕ)
+  pub hi : ℕ
+  pub low : hi ≤ c.number
+  pub root_is : x.tag ≡ o.number + (o.count - n)
+  pub end_is : suc v.tag ≡ c.number + n
+  pub none : x.part.block ≡ None
+  pub opening : LastFrom o.number xs
+  pub opening_count : length xs + n ≡ o.count
+  pub closing : FirstFrom (c.number + n) vs
+  pub closing_count : length vs + n ≡ c.count
+  pub peeled : Peeled h.touched (view h t) h.first x (left_texts xs g.before) inner g.inside hi
+  pub root_touched : h.touched x.tag ≡ true
+  pub left_touched : AllTouched h.touched (left_texts xs g.before)
+  pub end_within : v.tag < length t.nodes
+  pub end_part : (view h t).item v.tag ≡ v.part
+  pub right : Holds (view h t) ((view h t).next v.tag) (texts vs g.after)
+  pub rises : Rises h.touched (suc v.tag) (texts vs g.after) h.bound
+  pub right_touched : AllTouched h.touched (texts vs g.after)
 
-pub kept_both : (touched : ℕ → Bool) (s t u : Arena Item) → Kept touched s t → Kept touched t u → Kept touched s u
-kept_both touched s t u k m =
-    record {
-      spine = m.spine ∙ k.spine;
-      cursor = m.cursor ∙ k.cursor;
-      size = m.size ∙ k.size;
-      others = λ j e. record {
-        item = (m.others j e).item ∙ (k.others j e).item;
-        child = (m.others j e).child ∙ (k.others j e).child;
-        next =
-            (m.others j e).next ∙ (k.others j e).next;
-      };
-    }
+-- of two characters, and of one
+module _ (h : Chain) (t : Arena Item) (o c : Characters) (inner : Option ℕ) (before inside after : Forest (Label ℕ)) where
+  abbrev around : List (Label ℕ) → List (Label ℕ) → Around
+  around xs vs = record { before = before; opening = xs; inside = inside; closing = vs; after = after }
 
--- the first t of n characters, and the one after them
-touched_suc : (touched : ℕ → Bool) (number start t d : ℕ) (before : Forest Numbered)
-    → AllTouched touched (characters_after number start (t + d) before) → AllTouched touched (characters_after number start t before)
-touched_suc touched number start t zero before h = subst (λ m. AllTouched touched (characters_after number start m before)) (let e : t
-    + zero ≡ t = omega arith in e) h
-touched_suc touched number start t (suc d) before h =
-    touched_suc touched number start t d before (subst (λ m. AllTouched touched (characters_after number start m before)) (let e : t + suc d
-    ≡ suc (t + d) = omega arith in e) h).1
+  pub record LayerOfTwo (opening closing : List (Label ℕ)) : Type 0 where
+    pub next : NextLayer h (around opening closing) t o c inner 2
+    pub layers_are : (s : Setting) (d : Delimiter) → layers s d opening closing inside
+        ≡ layers s d next.xs next.vs (node (spanned s.text (layer_of_two (marks_of s.rules.options) d) next.x next.v) inside nil)
 
-pub touched_first : (touched : ℕ → Bool) (number start t n : ℕ) (before : Forest Numbered) → t ≤ n
-    → AllTouched touched (characters_after number start n before) → AllTouched touched (characters_after number start t before)
-touched_first touched number start t n before l h =
-    touched_suc touched number start t (n - t) before (subst (λ m. AllTouched touched (characters_after number start m before)) (let e : n
-    ≡ t + (n - t) = omega arith in e) h)
-
-pub touched_at : (touched : ℕ → Bool) (number start t n : ℕ) (before : Forest Numbered) → t < n
-    → AllTouched touched (characters_after number start n before) → touched (number + t) ≡ true
-touched_at touched number start t n before l h =
-    (touched_first touched number start (suc t) n before l h).0
-
--- the state after some layers: the rest of the characters enclose the chain that was made so far
-pub record LayersAt (m : Marks) (opener : Characters) (count end : ℕ) (outer : Option ℕ) (g : Around) (s t : Arena Item)
-    (n left reached : ℕ) (inner : Option ℕ) : Type 0 where
-  pub chain : Forest Numbered
-  pub stands : Encloses (record g { inside = chain }) t opener.number n inner outer
-  pub same : enclosed m opener.run.delimiter opener.number g.start n reached left chain ≡ enclosed m opener.run.delimiter opener.number
-      g.start opener.count end count g.inside
-  pub kept : Kept g.touched s t
-
-module _ (m : Marks) (opener : Characters) (count end : ℕ) (outer : Option ℕ) (g : Around) (s : Arena Item) where
-  pub layers_begin : (inner : Option ℕ) → Encloses g s opener.number opener.count inner outer
-      → LayersAt m opener count end outer g s s opener.count count end inner
-  layers_begin inner e = record { chain = g.inside; stands = e; same = refl; kept = kept_none g.touched s }
-
-  -- a layer's range begins with its first character
-  wrote_layer : (t u : Arena Item) (w x reached : ℕ) (body : ItemBody) (inner next : Option ℕ) → item_at t.nodes (opener.number + x)
-      ≡ (character (opener.number + x) (g.start + x)).item
-      → Wrote t u (opener.number + x) (record { start = (item_at t.nodes (opener.number + x)).start; end = reached; body = body }) inner
-      next
-      → Wrote t u (opener.number + x) (labelled (opener.number + x) (g.start + x) reached body).item inner next
-  wrote_layer t u w x reached body inner next e h =
-      subst (λ i. Wrote t u (opener.number + x) (record { start = i.start; end = reached; body = body }) inner next) e h
-
-  enclosed_more : (n reached left : ℕ) (chain : Forest Numbered) → 2 < left
-      → enclosed m opener.run.delimiter opener.number g.start n reached left chain
-      ≡ enclosed m opener.run.delimiter opener.number g.start (n - 2) (reached + 2) (left - 2)
-      (node (labelled (opener.number + (n - 2)) (g.start + (n - 2)) (reached + 2) (body_of_two m opener.run.delimiter)) chain nil)
-  enclosed_more n reached zero chain h = absurd (omega arith)
-  enclosed_more n reached (suc zero) chain h = absurd (omega arith)
-  enclosed_more n reached (suc (suc zero)) chain h = absurd (omega arith)
-  enclosed_more n reached (suc (suc (suc k))) chain h =
-      ap (λ j. enclosed m opener.run.delimiter opener.number g.start (n - 2) (reached + 2) j
-      (node (labelled (opener.number + (n - 2)) (g.start + (n - 2)) (reached + 2) (body_of_two m opener.run.delimiter)) chain nil))
-      (let e : suc k ≡ suc (suc (suc k)) - 2 = omega arith in e)
-
-  -- one layer more
-  pub layers_more : (t u : Arena Item) (n left reached : ℕ) (inner : Option ℕ) → 2 < left → left ≤ n
-      → LayersAt m opener count end outer g s t n left reached inner
-      → Wrote t u (opener.number + (n - 2)) (record {
-        start = (item_at t.nodes (opener.number + (n - 2))).start;
-        end = reached
-            + 2;
-        body = body_of_two m opener.run.delimiter;
-      }) inner None
-      → LayersAt m opener count end outer g s u (n - 2) (left - 2) (reached + 2) (Some (opener.number + (n - 2)))
-  layers_more t u n left reached inner h l a w =
-      let c = a.stands.cut in
-      let p = peel_two g.touched (view_of t.nodes) g.first opener.number g.start g.before inner a.chain g.hi n (omega arith) c in
-      let x = wrote_layer t u n (n - 2) (reached + 2) (body_of_two m opener.run.delimiter) inner None p.item w in
-      let low : suc (opener.number + (n - 2)) ≤ g.hi = Rises-le g.touched (suc (opener.number + (n - 2))) a.chain g.hi p.rises in
-      let root : g.touched (opener.number + (n - 2)) ≡ true = touched_at g.touched opener.number g.start (n - 2) n g.before (omega arith)
-      a.stands.left_touched in
+  pub layer_of_two_at : (opening closing : List (Label ℕ)) → Encloses h (around opening closing) t o c inner → 2 ≤ min o.count c.count
+      → LayerOfTwo opening closing
+  layer_of_two_at [] closing st m = absurd (omega (arith, st.opener_are.count, m))
+  layer_of_two_at (x ∷ []) closing st m = absurd (omega (arith, st.opener_are.count, m))
+  layer_of_two_at (x ∷ y ∷ xs) [] st m = absurd (omega (arith, st.closer_are.count, m))
+  layer_of_two_at (x ∷ y ∷ xs) (v ∷ []) st m = absurd (omega (arith, st.closer_are.count, m))
+  layer_of_two_at (x ∷ y ∷ xs) (v ∷ w ∷ vs) st m =
       record {
-        chain = node (labelled (opener.number + (n - 2)) (g.start + (n - 2)) (reached + 2) (body_of_two m opener.run.delimiter)) a.chain
-            nil;
-        stands = record {
-          cut = layer_inside g.touched (view_of t.nodes) (view_of u.nodes) g.first opener.number g.start (n - 2) g.before inner a.chain g.hi
-              _ p root x.nodes;
-          after = Holds-write_before g.touched (view_of t.nodes) (view_of u.nodes) (opener.number + (n - 2)) _ inner None x.nodes root outer
-              g.hi g.after g.bound (omega arith) a.stands.rises a.stands.after;
-          rises = a.stands.rises;
-          left_touched = touched_first g.touched opener.number g.start (n - 2) n g.before (omega arith) a.stands.left_touched;
-          inside_touched = (root, tt);
+        next = record {
+          x = y;
+          v = w;
+          xs = xs;
+          vs = vs;
+          hi = st.hi;
+          low = st.low;
+          root_is = omega (arith, st.opener_are.from.2.0, st.opener_are.count);
+          end_is = omega (arith, st.closer_are.from.2.0);
+          none = st.opener_are.from.2.1;
+          opening = st.opener_are.from.2.2;
+          opening_count = omega (arith, st.opener_are.count);
+          closing = subst (λ n. FirstFrom n vs) (let e : suc (suc c.number) ≡ c.number + 2 = omega arith in e) st.closer_are.from.2.2;
+          closing_count = omega (arith, st.closer_are.count);
+          peeled = peel_two h.touched (view h t) h.first y (left_texts xs before) inner inside st.hi x st.cut;
+          root_touched = st.left_touched.1.0;
+          left_touched = st.left_touched.1.1;
+          end_within = st.right.4.1;
+          end_part = st.right.4.2;
+          right = st.right.4.4;
+          rises = st.rises.2.2;
+          right_touched = st.right_touched.1.1;
         };
-        same = sym (enclosed_more n reached left a.chain h) ∙ a.same;
-        kept = kept_more g.touched s t u (opener.number + (n - 2)) _ inner None a.kept root x;
+        layers_are = λ s d. refl;
       }
 
-  -- the outermost layer, of the last k of n characters
-  layers_end : (t u : Arena Item) (n k left reached : ℕ) (body : ItemBody) (inner : Option ℕ) (es : List Entry) → n - k < n
-      → flat es ≡ characters_after opener.number g.start (n - k) g.before
-      → (a : LayersAt m opener count end outer g s t n left reached inner)
-      → Peeled g.touched (view_of t.nodes) g.first opener.number g.start (n - k) g.before inner a.chain g.hi
-      → Wrote t u (opener.number + (n - k)) (record {
-        start = (item_at t.nodes (opener.number + (n - k))).start;
-        end = reached
-            + k;
-        body = body;
-      }) inner outer
-      → IsEnclosed g s u (settled (labelled (opener.number + (n - k)) (g.start + (n - k)) (reached + k) body) a.chain) es (opener.number
-      + (n - k)) outer
-  layers_end t u n k left reached body inner es h o a p w =
-      let x = wrote_layer t u n (n - k) (reached + k) body inner outer p.item w in
-      let root : g.touched (opener.number + (n - k)) ≡ true = touched_at g.touched opener.number g.start (n - k) n g.before h
-      a.stands.left_touched in
+  pub record LayerOfOne (opening closing : List (Label ℕ)) : Type 0 where
+    pub next : NextLayer h (around opening closing) t o c inner 1
+    pub layers_are : min (length next.xs) (length next.vs) ≡ 0 → (s : Setting) (d : Delimiter) → layers s d opening closing inside
+        ≡ record {
+          whole = node (spanned s.text (layer_of_one (marks_of s.rules.options) d) next.x next.v) inside nil;
+          opening = next.xs;
+          closing = next.vs;
+        }
+
+  pub layer_of_one_at : (opening closing : List (Label ℕ)) → Encloses h (around opening closing) t o c inner → 1 ≤ min o.count c.count
+      → LayerOfOne opening closing
+  layer_of_one_at [] closing st m = absurd (omega (arith, st.opener_are.count, m))
+  layer_of_one_at (x ∷ xs) [] st m = absurd (omega (arith, st.closer_are.count, m))
+  layer_of_one_at (x ∷ xs) (v ∷ vs) st m =
       record {
-        cut = subst (λ (f : Forest Numbered). Cut g.touched (view_of u.nodes) g.first
-            (node (labelled (opener.number + (n - k)) (g.start + (n - k)) (reached + k) body) a.chain f) outer g.after g.bound) (sym o)
-            (layer_last g.touched (view_of t.nodes) (view_of u.nodes) g.first opener.number g.start (n - k) g.before inner outer a.chain
-            g.after g.hi g.bound _ p a.stands.after a.stands.rises root x.nodes);
-        last = refl;
-        left_touched = (root, rw o (touched_first g.touched opener.number g.start (n - k) n g.before (omega arith) a.stands.left_touched));
-        kept = kept_more g.touched s t u (opener.number + (n - k)) _ inner outer a.kept root x;
+        next = record {
+          x = x;
+          v = v;
+          xs = xs;
+          vs = vs;
+          hi = st.hi;
+          low = st.low;
+          root_is = omega (arith, st.opener_are.from.0, st.opener_are.count);
+          end_is = omega (arith, st.closer_are.from.0);
+          none = st.opener_are.from.1;
+          opening = st.opener_are.from.2;
+          opening_count = omega (arith, st.opener_are.count);
+          closing = subst (λ n. FirstFrom n vs) (let e : suc c.number ≡ c.number + 1 = omega arith in e) st.closer_are.from.2;
+          closing_count = omega (arith, st.closer_are.count);
+          peeled = peel_one h.touched (view h t) h.first x (left_texts xs before) inner inside st.hi st.cut;
+          root_touched = st.left_touched.0;
+          left_touched = st.left_touched.1;
+          end_within = st.right.1;
+          end_part = st.right.2;
+          right = st.right.4;
+          rises = st.rises.2;
+          right_touched = st.right_touched.1;
+        };
+        layers_are = λ none s d. layers_once s d x v xs vs inside none;
       }
 
-  pub layers_two : (t u : Arena Item) (n reached : ℕ) (inner : Option ℕ) (es : List Entry) → 2 ≤ n
-      → flat es ≡ characters_after opener.number g.start (n - 2) g.before
-      → LayersAt m opener count end outer g s t n 2 reached inner
-      → Wrote t u (opener.number + (n - 2)) (record {
-        start = (item_at t.nodes (opener.number + (n - 2))).start;
-        end = reached
-            + 2;
-        body = body_of_two m opener.run.delimiter;
-      }) inner outer
-      → IsEnclosed g s u (enclosed m opener.run.delimiter opener.number g.start opener.count end count g.inside) es (opener.number
-      + (n - 2)) outer
-  layers_two t u n reached inner es h o a w =
-      let p = peel_two g.touched (view_of t.nodes) g.first opener.number g.start g.before inner a.chain g.hi n h a.stands.cut in
-      rw (← a.same) (layers_end t u n 2 2 reached (body_of_two m opener.run.delimiter) inner es (omega arith) o a p w)
+  -- the layer is written
+  module _ (g : Around) (n : ℕ) (next : NextLayer h g t o c inner n) (b : ItemBody) (shape : List ℕ → Shape) (is : IsLayer b shape)
+      (u : Arena Item) (root end : ℕ) (m : Option ℕ)
+      (w : Wrote t u root (record { start = (item_at t.nodes root).start; end = (item_at t.nodes end).end; body = b }) inner m)
+      (root_is : root ≡ next.x.tag) (end_is : end ≡ next.v.tag) where
+    pub layer_written : Writes (view h t) (view h u) next.x.tag (spanned h.setting.text shape next.x next.v).part inner m
+    layer_written =
+        let i : Item = record { start = (item_at t.nodes next.x.tag).start; end = (item_at t.nodes next.v.tag).end; body = b } in
+        let at : Wrote t u next.x.tag i inner m =
+        subst (λ e. Wrote t u next.x.tag (record { start = (item_at t.nodes next.x.tag).start; end = (item_at t.nodes e).end; body = b }) inner
+        m) end_is
+        (subst (λ x. Wrote t u x (record { start = (item_at t.nodes x).start; end = (item_at t.nodes end).end; body = b }) inner m)
+        root_is w) in
+        subst (λ p. Writes (view h t) (view h u) next.x.tag p inner m)
+        (spanned_part h.setting h.tables (item_at t.nodes next.x.tag) (item_at t.nodes next.v.tag) next.x next.v b shape next.peeled.item
+        next.end_part next.none is)
+        (parts_written (part_of h.setting.text h.tables) t.nodes u.nodes next.x.tag i inner m at.nodes)
 
-  pub layers_one : (t u : Arena Item) (n reached : ℕ) (inner : Option ℕ) (es : List Entry) → 1 ≤ n
-      → flat es ≡ characters_after opener.number g.start (n - 1) g.before
-      → LayersAt m opener count end outer g s t n 1 reached inner
-      → Wrote t u (opener.number + (n - 1)) (record {
-        start = (item_at t.nodes (opener.number + (n - 1))).start;
-        end = reached
-            + 1;
-        body = body_of_one m opener.run.delimiter;
-      }) inner outer
-      → IsEnclosed g s u (enclosed m opener.run.delimiter opener.number g.start opener.count end count g.inside) es (opener.number
-      + (n - 1)) outer
-  layers_one t u n reached inner es h o a w =
-      let p = peel_one g.touched (view_of t.nodes) g.first opener.number g.start g.before inner a.chain g.hi n h a.stands.cut in
-      rw (← a.same) (layers_end t u n 1 1 reached (body_of_one m opener.run.delimiter) inner es (omega arith) o a p w)
+    pub layer_kept : (s : Arena Item) → Kept h.touched s t → Kept h.touched s u
+    layer_kept s k = kept_made h.touched s t u root _ inner m k (subst (λ x. h.touched x ≡ true) (sym root_is) next.root_touched) w is.made
 
--- a link to a chain leads to a node
-pub link_within : (k : View) (l : Option ℕ) (f : Forest Numbered) → Holds k l f → IfSome l (λ ix. ix < k.size)
-link_within k None f h = tt
-link_within k (Some ix) nil h = cc
-link_within k (Some ix) (node a below after) h = let e : ix ≡ a.number = cc in omega (arith, h.1, e)
-
-module _ (m : Marks) (opener : Characters) (count end : ℕ) (outer : Option ℕ) (g : Around) (s t : Arena Item) (n left reached : ℕ)
-    (inner : Option ℕ) (a : LayersAt m opener count end outer g s t n left reached inner) where
-  pub root_of_two : 2 ≤ n → opener.number + (n - 2) < length t.nodes
-  root_of_two h = (peel_two g.touched (view_of t.nodes) g.first opener.number g.start g.before inner a.chain g.hi n h a.stands.cut).within
-
-  pub root_of_one : 1 ≤ n → opener.number + (n - 1) < length t.nodes
-  root_of_one h = (peel_one g.touched (view_of t.nodes) g.first opener.number g.start g.before inner a.chain g.hi n h a.stands.cut).within
-
+-- the nodes of the next layer are those of an arena
+pub record LayersFit (t : Arena Item) (o c : Characters) (left : ℕ) (inner : Option ℕ) : Type 0 where
+  pub opener : left ≤ o.count
+  pub closer : left ≤ c.count
+  pub root_of_two : 2 ≤ left → o.number + (o.count - 2) < length t.nodes
+  pub end_of_two : 2 ≤ left → c.number + 1 < length t.nodes
+  pub root_of_one : o.number + (o.count - 1) < length t.nodes
+  pub end_of_one : c.number < length t.nodes
   pub inner_within : IfSome inner (λ ix. ix < length t.nodes)
-  inner_within = link_within (view_of t.nodes) inner a.chain a.stands.cut.right
+  pub few : length t.nodes < 2 ^ 63
 
-  pub outer_within : IfSome outer (λ ix. ix < length t.nodes)
-  outer_within = link_within (view_of t.nodes) outer g.after a.stands.after
+-- one layer more
+module _ (h : Chain) (g : Around) (s t u : Arena Item) (d : Delimiter) (o c : Characters) (left : ℕ) (inner : Option ℕ)
+    (a : LayersAt h g s t d o c left inner) where
+  abbrev two : 2 ≤ left → LayerOfTwo h t o c inner g.before a.inside g.after a.opening a.closing
+  two l = layer_of_two_at h t o c inner g.before a.inside g.after a.opening a.closing a.stands (omega (arith, a.left_is, l))
 
--- the same write, of a body named otherwise
-pub wrote_body : (s t : Arena Item) (root start end : ℕ) (b b' : ItemBody) (inner next : Option ℕ) → b ≡ b'
-    → Wrote s t root (record { start = start; end = end; body = b }) inner next
-    → Wrote s t root (record { start = start; end = end; body = b' }) inner next
-wrote_body s t root start end b b' inner next e w = subst (λ x. Wrote s t root (record { start = start; end = end; body = x }) inner next) e
-    w
+  abbrev one : 1 ≤ left → LayerOfOne h t o c inner g.before a.inside g.after a.opening a.closing
+  one l = layer_of_one_at h t o c inner g.before a.inside g.after a.opening a.closing a.stands (omega (arith, a.left_is, l))
+
+  module _ (b : ItemBody) where
+    abbrev LayerWritten : ℕ → Option ℕ → (root end : ℕ) → Type 0
+    LayerWritten n m root end =
+        Wrote t u root (record { start = (item_at t.nodes root).start; end = (item_at t.nodes end).end; body = b }) inner m
+
+    pub layers_more : IsLayer b (layer_of_two (marks_of h.setting.rules.options) d) → (root : ℕ) → root ≡ o.number + (o.count - 2) → 2 < left
+        → LayerWritten 2 None root (c.number + 1)
+        → LayersAt h g s u d (record o { count = o.count - 2 }) (record c { number = c.number + 2; count = c.count - 2 }) (left - 2)
+        (Some root)
+    layers_more is root e more w =
+        let z = two (omega (arith, more)) in
+        let n = z.next in
+        let root_is : root ≡ n.x.tag = e ∙ sym n.root_is in
+        let end_is : c.number + 1 ≡ n.v.tag = omega (arith, n.end_is) in
+        let written = layer_written h t o c inner g.before a.inside g.after _ 2 n b _ is u root (c.number + 1) None w root_is end_is in
+        let k = layer_kept h t o c inner g.before a.inside g.after _ 2 n b _ is u root (c.number + 1) None w root_is end_is s a.kept in
+        let low : suc n.x.tag ≤ n.hi = Rises-le h.touched (suc n.x.tag) a.inside n.hi n.peeled.rises in
+        let right = Holds-write_before h.touched (view h t) (view h u) n.x.tag _ inner None written n.root_touched ((view h t).next n.v.tag)
+        (suc n.v.tag) (texts n.vs g.after) h.bound (omega (arith, low, n.low, n.end_is)) n.rises n.right in
+        let some : 0 < length n.vs = omega (arith, n.closing_count, a.left_is, more) in
+        record {
+          opening = n.xs;
+          closing = n.vs;
+          inside = node (spanned h.setting.text (layer_of_two (marks_of h.setting.rules.options) d) n.x n.v) a.inside nil;
+          stands = record {
+            opener_are = record { from = n.opening; count = omega (arith, n.opening_count) };
+            closer_are = record { from = n.closing; count = omega (arith, n.closing_count) };
+            hi = n.hi;
+            low = omega (arith, n.low);
+            cut = subst (λ x. Cut h.touched (view h u) h.first (left_texts n.xs g.before) (Some x)
+                (node (spanned h.setting.text (layer_of_two (marks_of h.setting.rules.options) d) n.x n.v) a.inside nil) n.hi) (sym root_is)
+                (layer_inside h.touched (view h t) h.first n.x (left_texts n.xs g.before) inner a.inside n.hi (view h u)
+                (spanned h.setting.text (layer_of_two (marks_of h.setting.rules.options) d) n.x n.v).part n.peeled n.root_touched written);
+            right = subst (λ l. Holds (view h u) l (texts n.vs g.after)) (texts_link (view h u) _ (c.number + 2) n.vs g.after some n.closing
+                right) right;
+            rises = subst (λ x. Rises h.touched x (texts n.vs g.after) h.bound) n.end_is n.rises;
+            left_touched = n.left_touched;
+            inside_touched = (n.root_touched, tt);
+            right_touched = n.right_touched;
+            few = subst (λ x. x < 2 ^ 63) (sym w.nodes.size) a.stands.few;
+          };
+          same = sym (z.layers_are h.setting d) ∙ a.same;
+          left_is = omega (arith, a.left_is);
+          kept = k;
+        }
+
+    -- the outermost layer
+    outermost : (n : ℕ) (next : NextLayer h (around h t o c inner g.before a.inside g.after a.opening a.closing) t o c inner n)
+        (shape : List ℕ → Shape) → IsLayer b shape → (root end : ℕ) (rest : Option ℕ) → root ≡ next.x.tag → end ≡ next.v.tag
+        → rest ≡ (view h t).next end → LayerWritten n rest root end → (made : Layers ℕ)
+        → made ≡ record { whole = node (spanned h.setting.text shape next.x next.v) a.inside nil; opening = next.xs; closing = next.vs }
+        → IsEnclosed h g s u made root rest
+    outermost n next shape is root end rest root_is end_is rest_is w made e =
+        let written = layer_written h t o c inner g.before a.inside g.after _ n next b shape is u root end rest w root_is end_is in
+        let here : rest ≡ (view h t).next next.v.tag = rest_is ∙ ap (view h t).next end_is in
+        let low : next.hi ≤ suc next.v.tag = omega (arith, next.low, next.end_is) in
+        subst (λ (l : Layers ℕ). IsEnclosed h g s u l root rest) (sym e)
+        (record {
+          whole = spanned h.setting.text shape next.x next.v;
+          inside = a.inside;
+          cut = layer_last h.touched (view h t) h.first next.x (left_texts next.xs g.before) inner a.inside next.hi (view h u)
+              (spanned h.setting.text shape next.x next.v).part next.peeled next.root_touched rest (texts next.vs g.after) (suc next.v.tag)
+              h.bound low (subst (λ l. Holds (view h t) l (texts next.vs g.after)) (sym here) next.right) next.rises written;
+          whole_is = refl;
+          last = sym root_is;
+          left_touched = (next.root_touched, next.left_touched);
+          right_touched = next.right_touched;
+          kept = layer_kept h t o c inner g.before a.inside g.after _ n next b shape is u root end rest w root_is end_is s a.kept;
+        })
+
+    pub layers_two : IsLayer b (layer_of_two (marks_of h.setting.rules.options) d) → (root end : ℕ) (rest : Option ℕ)
+        → root ≡ o.number + (o.count - 2) → end ≡ c.number + 1 → left ≡ 2 → rest ≡ (view h t).next end → LayerWritten 2 rest root end
+        → IsEnclosed h g s u (layers h.setting d g.opening g.closing g.inside) root rest
+    layers_two is root end rest e f l r w =
+        let z = two (omega (arith, l)) in
+        let n = z.next in
+        outermost 2 n _ is root end rest (e ∙ sym n.root_is) (omega (arith, f, n.end_is)) r w _
+        (sym a.same ∙ z.layers_are h.setting d
+        ∙ layers_end h.setting d n.xs n.vs _ (omega (arith, l, a.left_is, n.opening_count, n.closing_count)))
+
+    pub layers_one : IsLayer b (layer_of_one (marks_of h.setting.rules.options) d) → (root : ℕ) (rest : Option ℕ)
+        → root ≡ o.number + (o.count - 1) → left ≡ 1 → rest ≡ (view h t).next c.number → LayerWritten 1 rest root c.number
+        → IsEnclosed h g s u (layers h.setting d g.opening g.closing g.inside) root rest
+    layers_one is root rest e l r w =
+        let z = one (omega (arith, l)) in
+        let n = z.next in
+        outermost 1 n _ is root c.number rest (e ∙ sym n.root_is) (omega (arith, n.end_is)) r w _
+        (sym a.same ∙ z.layers_are (omega (arith, l, a.left_is, n.opening_count, n.closing_count)) h.setting d)
+
+  -- the nodes of the next layer are there
+  pub layers_fit : 0 < left → LayersFit t o c left inner
+  layers_fit some = record {
+    opener = omega (arith, a.left_is);
+    closer = omega (arith, a.left_is);
+    root_of_two = λ l. let n = (two l).next in omega (arith, n.peeled.within, n.root_is);
+    end_of_two = λ l. let n = (two l).next in omega (arith, n.end_within, n.end_is);
+    root_of_one = let n = (one some).next in omega (arith, n.peeled.within, n.root_is);
+    end_of_one = let n = (one some).next in omega (arith, n.end_within, n.end_is);
+    inner_within = link_within (view h t) inner a.inside a.stands.cut.right;
+    few = a.stands.few;
+  }

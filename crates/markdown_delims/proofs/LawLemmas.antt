@@ -9,13 +9,14 @@ use Rattle.markdown_document.specs.Waiting.{text_if, as_closed}
 use Rattle.markdown_delims.specs.declared.run.Run.{Run}
 use Rattle.markdown_delims.specs.MayPair.{may_pair}
 use Rattle.markdown_delims.specs.Pairing.{Read, done_read, waiting, texts_before, FoundOpener, found_if, nearest_opener, paired}
+use Rattle.markdown_delims.specs.PairingFinds.{finds_in}
 use Rattle.markdown_delims.specs.Layers.{marks_of}
 use Rattle.markdown_delims.specs.PairingLaws.{NothingOpen, below_trees, NonePairs, PairingClosedLaw, PairingOrderLaw, JoinsLaw, MissesNoneLaw, KeepsLaw}
 use Rattle.markdown_delims.specs.PairingLaws.{PairingTagLaw}
 use Rattle.markdown_delims.specs.Quotes.{first_turn, quotes_after, with_quotes}
 use Rattle.markdown_delims.proofs.KeepLemmas.{EachTree, MakesTrees, IsReadable, runs-keep, IsClosedTree, as_closed-closed, paired-closed}
 use Rattle.markdown_delims.proofs.LayerLawLemmas.{one-closed, two-closed}
-use Rattle.markdown_delims.proofs.OrderLemmas.{deep, paired-deep}
+use Rattle.markdown_delims.proofs.OrderLemmas.{deep, paired-deep, finds-deep}
 
 closed_nothing : {A : Type 0} (f : Forest (Label A)) → EachTree IsClosedTree f → NothingOpen f
 closed_nothing nil h = tt
@@ -43,6 +44,10 @@ tags_same f (node a below after) = ap (node (retag f a) (retagged f below)) (tag
 pub tag-law : {A B : Type 0} → PairingTagLaw A B
 tag-law f s chain = ap (paired s) (sym (tags_same f chain)) ∙ paired-deep f (retagged f) s refl (λ g h. sym (tags_same f g)) chain
     ∙ tags_same f (paired s chain)
+
+-- nor do searches depend on them
+pub tag-finds : {A B : Type 0} (f : A → B) (s : Setting) (chain : Forest (Label A)) → finds_in s (retagged f chain) ≡ finds_in s chain
+tag-finds f s chain = ap (finds_in s) (sym (tags_same f chain)) ∙ finds-deep f (retagged f) s refl (λ g h. sym (tags_same f g)) chain
 
 -- what holds for each label at every depth, and for a label that is not open if it held for one with the same block
 module _ {A : Type 0} (p : Label A → Type 0) (stays : (a b : Label A) → p a → b.part.block ≡ a.part.block

@@ -1,6 +1,6 @@
 -- Pairing a chain, and changing what is below each of its trees and the tags of its labels, may be done in either
 -- order, if the change of a chain in which nothing is open only changes what is below its trees and its tags.
-use Rattle.std.proofs.Common.{◌≡◌, ℕ, zero, suc, ◌-◌, Bool, true, false, List, [], ◌∷◌, length, Option, Some, None, refl, ap, sym, ◌∙◌, map}
+use Rattle.std.proofs.Common.{◌≡◌, ℕ, zero, suc, ◌+◌, ◌-◌, Bool, true, false, List, [], ◌∷◌, length, Option, Some, None, refl, ap, sym, ◌∙◌, map}
 use Rattle.std.specs.Prelude.{IfSome, not, ◌&&◌, ◌||◌, slice_range}
 use Rattle.std.specs.List.{AllByRecursion}
 use Rattle.std.proofs.lemmas.List.{length-map}
@@ -17,6 +17,7 @@ use Rattle.markdown_delims.specs.Pairing.{Read, done_read, waiting, texts_before
 use Rattle.markdown_delims.specs.Pairing.{drop_read, Layers, layers, trees_done, still_waiting, last_first, opened_if}
 use Rattle.markdown_delims.specs.Pairing.{left_over, after_layers, after_search, closed_by, run_read, first_texts, after_tree, reads_from}
 use Rattle.markdown_delims.specs.Pairing.{runs_paired, paired}
+use Rattle.markdown_delims.specs.PairingFinds.{search_finds, closer_finds, run_finds, tree_finds, finds_from, finds_in}
 use Rattle.markdown_delims.specs.Quotes.{kind_of_shape, closes_later, is_closed_later, is_end, QuoteTurn, turn_by, first_turn, quotes_after}
 use Rattle.markdown_delims.specs.Quotes.{with_quotes}
 use Rattle.markdown_delims.proofs.KeepLemmas.{EachTree, EachRead, EachFound, Holds, nearest-keeps, found-keeps, firsts-keep, holds-on}
@@ -150,6 +151,18 @@ module _ {A B : Type 0} (to : A → B) (within : Forest (Label A) → Forest (La
     IsDeep again' again = (vs : List (Label A)) (rs : List (Read A)) → AreClosed vs → Good rs → again' (moved vs) (deep_reads rs)
         ≡ deep_reads (again vs rs)
 
+    -- a pair
+    pair_deep : (vs : List (Label A)) (f : FoundOpener A) → EachFound IsClosed IsClosedTree f
+        → (let made : Layers A = layers s f.run.delimiter f.characters vs f.inside in
+        (layers s f.run.delimiter (moved f.characters) (moved vs) (deep f.inside) ≡ deep_layers made)
+        × (after_layers (deep_opener f) (deep_layers made) ≡ deep_reads (after_layers f made)))
+    pair_deep vs f g =
+        let made : Layers A = layers s f.run.delimiter f.characters vs f.inside in (
+          layers_deep f.run.delimiter f.characters vs f.inside g.0,
+          ap (trees_done (deep made.whole)) (still_deep f.run made.opening f.before)
+              ∙ done_trees_deep made.whole (still_waiting f.run made.opening f.before),
+        )
+
     searched_deep : (again' : List (Label B) → List (Read B) → List (Read B)) (again : List (Label A) → List (Read A)
         → List (Read A)) (closer : Run) (vs : List (Label A)) (rs : List (Read A))
         (o : Option (FoundOpener A)) → IsDeep again' again → AreClosed vs → IfSome o (EachFound IsClosed IsClosedTree)
@@ -160,12 +173,42 @@ module _ {A B : Type 0} (to : A → B) (within : Forest (Label A) → Forest (La
     searched_deep again' again closer vs rs (Some f) h k g =
         let made : Layers A = layers s f.run.delimiter f.characters vs f.inside in
         let holds = found-keeps IsClosed IsClosedTree s (makes-closed s) vs nil f k tt g in
-        ap (λ (l : Layers B). again' l.closing (trees_done l.whole (still_waiting f.run l.opening (deep_reads f.before))))
-        (layers_deep f.run.delimiter f.characters vs f.inside g.0)
-        ∙ ap (λ (rs : List (Read B)). again' (moved made.closing) (trees_done (deep made.whole) rs))
-        (still_deep f.run made.opening f.before)
-        ∙ ap (again' (moved made.closing)) (done_trees_deep made.whole (still_waiting f.run made.opening f.before))
+        let pair = pair_deep vs f g in
+        ap (λ (l : Layers B). again' l.closing (after_layers (deep_opener f) l)) pair.0 ∙ ap (again' (moved made.closing)) pair.1
         ∙ h made.closing (after_layers f made) holds.0 holds.1
+
+    -- the same number of searches find
+    abbrev FindsSame : (List (Label B) → List (Read B) → ℕ) → (List (Label A) → List (Read A) → ℕ) → Type 0
+    FindsSame again' again = (vs : List (Label A)) (rs : List (Read A)) → AreClosed vs → Good rs → again' (moved vs) (deep_reads rs)
+        ≡ again vs rs
+
+    searched_finds : (again' : List (Label B) → List (Read B) → ℕ) (again : List (Label A) → List (Read A) → ℕ) (vs : List (Label A))
+        (o : Option (FoundOpener A)) → FindsSame again' again → AreClosed vs → IfSome o (EachFound IsClosed IsClosedTree)
+        → search_finds s again' (moved vs) (deep_found o) ≡ search_finds s again vs o
+    searched_finds again' again vs None h k g = refl
+    searched_finds again' again vs (Some f) h k g =
+        let made : Layers A = layers s f.run.delimiter f.characters vs f.inside in
+        let holds = found-keeps IsClosed IsClosedTree s (makes-closed s) vs nil f k tt g in
+        let pair = pair_deep vs f g in
+        ap suc (ap (λ (l : Layers B). again' l.closing (after_layers (deep_opener f) l)) pair.0 ∙ ap (again' (moved made.closing)) pair.1
+        ∙ h made.closing (after_layers f made) holds.0 holds.1)
+
+    closer_finds_same : (turns : ℕ) (closer : Run) → FindsSame (λ vs rs. closer_finds s turns closer vs rs) (λ vs rs. closer_finds s turns
+        closer vs rs)
+    unfolding closer_finds
+    closer_finds_same zero closer [] rs h k = refl
+    closer_finds_same (suc turns) closer [] rs h k = refl
+    closer_finds_same zero closer (v ∷ vs) rs h k = refl
+    closer_finds_same (suc turns) closer (v ∷ vs) rs h k =
+        ap (search_finds s (λ left others. closer_finds s turns closer left others) (moved (v ∷ vs))) (nearest_deep closer rs nil)
+        ∙ searched_finds (λ left others. closer_finds s turns closer left others) (λ left others. closer_finds s turns closer left others)
+        (v ∷ vs) (nearest_opener closer rs nil) (closer_finds_same turns closer) h
+        (nearest-keeps IsClosed IsClosedTree s (makes-closed s) closer rs nil k tt)
+
+    run_finds_same : (b : Bool) (run : Run) → FindsSame (λ vs rs. run_finds s b run vs rs) (λ vs rs. run_finds s b run vs rs)
+    run_finds_same true run vs rs h k = ap (λ n. closer_finds s n run (moved vs) (deep_reads rs)) (length-map vs (retag to))
+        ∙ closer_finds_same (length vs) run vs rs h k
+    run_finds_same false run vs rs h k = refl
 
     closed_deep : (turns : ℕ) (closer : Run) (vs : List (Label A)) (rs : List (Read A)) → AreClosed vs → Good rs
         → closed_by s turns closer (moved vs) (deep_reads rs) ≡ deep_reads (closed_by s turns closer vs rs)
@@ -226,6 +269,36 @@ module _ {A B : Type 0} (to : A → B) (within : Forest (Label A) → Forest (La
         tree_deep (λ skip others. reads_from s skip (deep after) others) (λ skip others. reads_from s skip after others) a below after rs
         (run_of s.text a.part) (λ skip fs g. reads_deep skip after fs g) k
 
+    tree_finds_same : (go_on' : ℕ → List (Read B) → ℕ) (go_on : ℕ → List (Read A) → ℕ) (a : Label A) (below after : Forest (Label A))
+        (rs : List (Read A)) (o : Option Run)
+        → ((skip : ℕ) (fs : List (Read A)) → Good fs → go_on' skip (deep_reads fs) ≡ go_on skip fs) → Good rs
+        → tree_finds s go_on' (retag to a) (within below) (deep after) (deep_reads rs) o ≡ tree_finds s go_on a below after rs o
+    tree_finds_same go_on' go_on a below after rs None h k =
+        ap (λ (l : Label B). go_on' 0 (done_read l (within below) ∷ deep_reads rs)) (text_deep (is_unresolved a.part.shape) a)
+        ∙ h 0 (done_read (as_closed s.text a) below ∷ rs) (as_closed-closed s.text a, k)
+    tree_finds_same go_on' go_on a below after rs (Some run) h k =
+        let vs : List (Label A) = first_texts s.text run.length (node a below after) in
+        let closed : AreClosed vs = (firsts-keep IsClosed IsClosedTree s (makes-closed s) run.length (node a below after)
+        (readable s (node a below after))).0 in
+        let read = run_deep run.can_close run vs rs closed k in
+        let rest = h (run.length - 1) (run_read s run.can_close run vs rs)
+        (run-stays s (Holds IsClosed IsClosedTree s (makes-closed s)) (holds-on IsClosed IsClosedTree s (makes-closed s)) run
+        vs rs nil (closed, k, tt)).1 in
+        ap (λ (xs : List (Label B)). run_finds s run.can_close run xs (deep_reads rs)
+        + go_on' (run.length - 1) (run_read s run.can_close run xs (deep_reads rs))) (firsts_deep run.length (node a below after))
+        ∙ ap (λ n. n + go_on' (run.length - 1) (run_read s run.can_close run (moved vs) (deep_reads rs)))
+        (run_finds_same run.can_close run vs rs closed k)
+        ∙ ap (λ n. run_finds s run.can_close run vs rs + n) (ap (go_on' (run.length - 1)) read ∙ rest)
+
+    finds_same : (skip : ℕ) (chain : Forest (Label A)) (rs : List (Read A)) → Good rs → finds_from s skip (deep chain) (deep_reads rs)
+        ≡ finds_from s skip chain rs
+    unfolding finds_from
+    finds_same skip nil rs k = refl
+    finds_same (suc skip) (node a below after) rs k = finds_same skip after rs k
+    finds_same zero (node a below after) rs k =
+        tree_finds_same (λ skip others. finds_from s skip (deep after) others) (λ skip others. finds_from s skip after others) a below after
+        rs (run_of s.text a.part) (λ skip fs g. finds_same skip after fs g) k
+
     later_deep : (chain : Forest (Label A)) → is_closed_later (deep chain) ≡ is_closed_later chain
     later_deep nil = refl
     later_deep (node a below after) = ap (closes_later (kind_of_shape a.part.shape)) (later_deep after)
@@ -251,3 +324,8 @@ module _ {A B : Type 0} (to : A → B) (within : Forest (Label A) → Forest (La
         ap (λ (f : Forest (Label B)). read_trees (reads_from s 0 f []) nil) (quotes_deep false false chain)
         ∙ ap (λ (rs : List (Read B)). read_trees rs nil) (reads_deep 0 (quotes_after false false chain) [] tt)
         ∙ trees_deep (reads_from s 0 (quotes_after false false chain) []) nil
+
+    pub finds-deep : (chain : Forest (Label A)) → finds_in s (deep chain) ≡ finds_in s chain
+    unfolding finds_in with_quotes
+    finds-deep chain = ap (λ (f : Forest (Label B)). finds_from s 0 f []) (quotes_deep false false chain)
+        ∙ finds_same 0 (quotes_after false false chain) [] tt

@@ -1,46 +1,41 @@
 -- A chain that was paired in place reads as its labels paired, and has no node more.
-use Rattle.std.proofs.Common.{◌≡◌, ℕ, suc, ◌+◌, ◌≤◌, Bool, true, false, List, Option, Some, None, length, refl, ap, sym, ◌∙◌, subst, arith}
-use Rattle.std.specs.Prelude.{◌==◌, ◌&&◌, ◌||◌, if◌then◌else◌, slice_range}
+use Rattle.std.proofs.Common.{◌≡◌, ℕ, ◌+◌, ◌≤◌, ◌<◌, Bool, true, false, List, [], Some, length, refl, ap, sym, ◌∙◌, subst, arith}
+use Rattle.std.proofs.Common.{inl, inr}
+use Rattle.std.specs.Prelude.{◌==◌, ◌||◌, ◌⊎◌, ◌^◌, slice_range}
 use Rattle.std.proofs.lemmas.Bool.{eqb-true}
 use Rattle.markdown_base.specs.Arena.{Arena}
-use Rattle.markdown_base.specs.ArenaForest.{links_of, forest_at}
-use Rattle.markdown_base.specs.BlockTree.{Numbered, numbered, item_at}
+use Rattle.markdown_base.specs.ArenaForest.{links_of, Spells, forest_at}
+use Rattle.markdown_base.specs.BlockTree.{numbered, item_at}
 use Rattle.markdown_base.specs.Forest.{Forest, nil, node, Each, roots, relabelled}
 use Rattle.markdown_base.specs.Item.{is_open}
-use Rattle.markdown_base.specs.WellFormed.{RunCharacter, run_character}
-use Rattle.markdown_document.specs.Tables.{Tables, no_tables, Named, some_text, some_link, some_alignments}
 use Rattle.markdown_base.specs.declared.item.Item.{Item}
 use Rattle.markdown_base.specs.declared.item.ItemBody.{ItemBody}
-use Rattle.markdown_base.specs.declared.item.ItemBody.TheVariants as body
 use Rattle.markdown_base.specs.declared.node.Node.{Node}
 use Rattle.markdown_base.proofs.ForestLemmas.{relabelled-relabelled}
 use Rattle.markdown_document.specs.Document.{Label, is_unresolved, shape_of}
+use Rattle.markdown_document.specs.Labels.{retag, retagged}
+use Rattle.markdown_document.specs.Places.{trees_from}
 use Rattle.markdown_document.specs.Setting.{Setting}
+use Rattle.markdown_document.specs.Tables.{Tables, no_tables, Named, some_text, some_link, some_alignments}
 use Rattle.markdown_document.specs.Totals.{total, same, same_as, naming, times_named, weight_if, weight_at}
 use Rattle.markdown_document.proofs.FoundLemmas.{found}
 use Rattle.markdown_document.proofs.TablesLemmas.{same-refl}
 use Rattle.markdown_document.proofs.PlaceLemmas.{shape-open}
-use Rattle.markdown_delims.specs.declared.marks.Marks.{Marks}
-use Rattle.markdown_delims.specs.declared.quotes.Kind.{Kind}
-use Rattle.markdown_delims.specs.declared.quotes.Kind.TheVariants as kind
-use Rattle.markdown_delims.specs.ChainForest.{is_among, NoneBelow, chain_of, IsChainAt}
-use Rattle.markdown_delims.specs.Layers.{marks_of}
-use Rattle.markdown_delims.specs.PairedChain.{WaitsForPairing, CanPair, PairsChain}
-use Rattle.markdown_document.specs.Waiting.{waits_for_pairing}
+use Rattle.markdown_delims.specs.ChainForest.{RisesFrom}
+use Rattle.markdown_delims.specs.ChainReading.{is_among, NoneBelow, AreWhole, labels, IsSpelled, IsChainAt, IsPaired, runs_in}
+use Rattle.markdown_delims.specs.PairedChain.{CanPair, PairsChain}
 use Rattle.markdown_delims.specs.Pairing.{runs_paired, paired}
-use Rattle.markdown_delims.specs.QuoteBodies.{kind_of, is_closed_later as later_of, turn_of, is_nil, turn_at, quoted_after, quoted}
-use Rattle.markdown_delims.specs.Quoting.{IsSpelled, IsResolved}
-use Rattle.markdown_delims.specs.RunReading.{HasWholeRuns, counts_one, delimiters_of}
-use Rattle.markdown_delims.specs.Views.{Rises}
-use Rattle.markdown_delims.proofs.ChainLemmas.{rises_chain}
-use Rattle.markdown_delims.proofs.LabelLemmas.{look, trees}
-use Rattle.markdown_delims.proofs.NodeLemmas.{IsMade, each-paired}
-use Rattle.markdown_delims.proofs.PairingLemmas.{HasRunsOnly, closed_shape, runs_seen}
+use Rattle.markdown_delims.specs.PairingFinds.{finds_from, finds_in}
+use Rattle.markdown_delims.specs.Quotes.{with_quotes}
+use Rattle.markdown_delims.specs.Quoting.{IsQuoted}
+use Rattle.markdown_delims.specs.RunReading.{delimiters_of}
+use Rattle.markdown_delims.specs.Views.{IsMade, Kept}
+use Rattle.markdown_delims.proofs.LawLemmas.{tag-law, tag-finds}
+use Rattle.markdown_delims.proofs.PairingLemmas.{whole_quoted, closed_shape}
 use Rattle.markdown_delims.proofs.PlacedLemmas.{items_placed, moved, moved_count, none_moved, still_before}
-use Rattle.markdown_delims.proofs.QuoteChainLemmas.{run_made, whole_quoted}
-use Rattle.markdown_delims.proofs.QuoteShapeLemmas.{with_quotes_seen}
 use Rattle.markdown_delims.proofs.SumLemmas.{sum_of, CountsNoMore, sum-paired}
 use Rattle.markdown_delims.proofs.WeightLawLemmas.{weighs, weights-count}
+use Rattle.markdown_delims.proofs.WriteLemmas.{kept_both}
 
 -- the number of times that a number occurs among a chain's own nodes, and below them
 abbrev pub root_times : ℕ → Forest ℕ → ℕ
@@ -87,120 +82,70 @@ module _ (f : Forest ℕ) (once : (n : ℕ) → total (same n) f ≤ 1) where
   apart = none_below f (λ n. omega arith)
 
 -- a chain as its lemmas know it
-pub chain_is : (text : List ℕ) (nodes : List (Node Item)) (first : ℕ) → CanPair text nodes first
-    → IsChainAt text nodes first (forest_at (links_of nodes) (Some first))
-chain_is text nodes first c = record {
-  spelled = c.spelled;
-  rising = c.rising;
-  apart = apart (forest_at (links_of nodes) (Some first))
-      c.once;
-  whole = c.whole;
+abbrev pub trees : List (Node Item) → ℕ → Forest ℕ
+trees nodes first = forest_at (links_of nodes) (Some first)
+
+pub spelled_is : (text : List ℕ) (nodes : List (Node Item)) (first : ℕ) → CanPair text nodes first → IsSpelled nodes first (trees nodes first)
+spelled_is text nodes first c = record { spelled = c.spelled; rising = c.rising; apart = apart (trees nodes first) c.once }
+
+-- a chain whose quotes were read
+module _ (s : Setting) (tables : Tables) (old mid : Arena Item) (first : ℕ) (c : CanPair s.text old.nodes first)
+    (q : IsQuoted s tables old mid first (trees old.nodes first)) where
+  pub runs_are_few : runs_in s.text (labels s tables mid.nodes (trees old.nodes first))
+      ≤ delimiters_of (relabelled (numbered old.nodes) (trees old.nodes first))
+  unfolding with_quotes
+  runs_are_few = subst (λ g. runs_in s.text g ≤ delimiters_of (relabelled (numbered old.nodes) (trees old.nodes first))) (sym q.quotes)
+      (whole_quoted s tables old.nodes false false (trees old.nodes first) c.whole c.waits).1
+
+  pub chain_is : (count : ℕ) → count ≡ delimiters_of (relabelled (numbered old.nodes) (trees old.nodes first)) → length mid.nodes < 2 ^ 63
+      → IsChainAt s tables mid.nodes first count (trees old.nodes first)
+  unfolding with_quotes
+  chain_is count e few = record {
+    is = record { spelled = q.spelled; rising = c.rising; apart = apart (trees old.nodes first) c.once };
+    counted = omega (arith, runs_are_few, e);
+    whole = subst (λ g. AreWhole s.text g) (sym q.quotes)
+        (whole_quoted s tables old.nodes false false (trees old.nodes first) c.whole c.waits).0;
+    few = few;
+  }
+
+-- labels without the numbers of their nodes
+untagged : (s : Setting) (tables : Tables) (nodes : List (Node Item)) (first : ℕ)
+    → retagged (λ n. tt) (labels s tables nodes (trees nodes first)) ≡ trees_from s.text tables nodes (Some first)
+untagged s tables nodes first = relabelled-relabelled _ (retag (λ n. tt)) (trees nodes first)
+
+-- the chain from `first` on, with its quotes and its runs resolved
+pub record IsResolved (s : Setting) (tables : Tables) (old new : Arena Item) (first : ℕ) (f : Forest ℕ) : Type 0 where
+  pub forest : Forest ℕ
+  pub spelled : Spells (links_of new.nodes) (Some first) forest
+  pub resolves : labels s tables new.nodes forest ≡ paired s (labels s tables old.nodes f)
+  pub rising : RisesFrom 0 (roots forest)
+  pub kept : Kept (is_among (roots f)) old new
+
+pub resolved : (s : Setting) (tables : Tables) (old mid new : Arena Item) (first : ℕ) (f : Forest ℕ) → IsQuoted s tables old mid first f
+    → IsPaired s tables mid new first f → IsResolved s tables old new first f
+unfolding paired
+resolved s tables old mid new first f q p = record {
+  forest = p.forest;
+  spelled = p.spelled;
+  resolves = p.pairs ∙ ap (runs_paired s) q.quotes;
+  rising = p.rising;
+  kept = kept_both (is_among (roots f)) old mid new q.kept p.kept;
 }
 
--- there are no more characters than nodes
-one_each : (o : Option RunCharacter) → counts_one o ≤ 1
-one_each None = omega arith
-one_each (Some c) = omega arith
-
-count_bound : (own : ℕ → Bool) (lo : ℕ) (f : Forest Numbered) (hi : ℕ) → Rises own lo f hi → delimiters_of f + lo ≤ hi
-count_bound own lo nil hi r = omega (arith, r)
-count_bound own lo (node a below after) hi r = omega (
-  arith,
-  r.0,
-  one_each (run_character a.item.body),
-  count_bound own (suc a.number) after
-      hi r.2,
-)
-
-pub few_delimiters : (nodes : List (Node Item)) (first : ℕ) (f : Forest ℕ) → IsSpelled nodes first f
-    → delimiters_of (chain_of nodes f) ≤ length nodes
-few_delimiters nodes first f c =
-    omega (
-      arith,
-      count_bound (is_among (roots f)) 0 (chain_of nodes f) (length nodes) (rises_chain (is_among (roots f)) nodes (Some first) f 0
-          (omega arith) c.spelled c.rising c.apart),
-    )
-
--- quotes leave nothing open
-left_if : (x : Bool) → is_open (if x then body.SynthesizeChar 8216 else body.SynthesizeChar 8217) ≡ false
-left_if true = refl
-left_if false = refl
-
-made_closed : (k : Kind) (b : ItemBody) (single double later last : Bool) → (k ≡ kind.Other → is_open b ≡ false)
-    → (k ≡ kind.Break → is_open b ≡ false) → is_open (turn_of k b single double later last).made ≡ false
-made_closed (kind.Single opens true) b true double later last h g = refl
-made_closed (kind.Single opens false) b true double later last h g = left_if (opens && later)
-made_closed (kind.Single opens closes) b false double later last h g = left_if (opens && later)
-made_closed (kind.Double opens true) b single true later last h g = refl
-made_closed (kind.Double opens false) b single true later last h g = refl
-made_closed (kind.Double opens closes) b single false later last h g = refl
-made_closed kind.Break b single double later true h g = refl
-made_closed kind.Break b single double later false h g = g refl
-made_closed kind.Other b single double later last h g = h refl
-
-quote_kind : (x o c : Bool) → (if x then kind.Single o c else kind.Double o c) ≡ kind.Other → ⊥
-quote_kind true o c e = cc
-quote_kind false o c e = cc
-
-quote_kind_break : (x o c : Bool) → (if x then kind.Single o c else kind.Double o c) ≡ kind.Break → ⊥
-quote_kind_break true o c e = cc
-quote_kind_break false o c e = cc
-
-not_false : false ≡ true → ⊥
-not_false e = cc
-
-other_closed : (b : ItemBody) → (is_open b ≡ true → waits_for_pairing b ≡ true) → run_character b ≡ None → kind_of b ≡ kind.Other
-    → is_open b ≡ false
-other_closed (body.MaybeEmphasis n o c) w r e = cc
-other_closed (body.MaybeSmartQuote quote o c) w r e = absurd (quote_kind (quote == 39) o c e)
-other_closed (body.MaybeMath o c context) w r e = absurd (not_false (w refl))
-other_closed (body.MaybeCode count escaped) w r e = absurd (not_false (w refl))
-other_closed body.MaybeHtml w r e = absurd (not_false (w refl))
-other_closed body.MaybeLinkOpen w r e = absurd (not_false (w refl))
-other_closed (body.MaybeLinkClose reference) w r e = absurd (not_false (w refl))
-other_closed body.MaybeImage w r e = absurd (not_false (w refl))
-other_closed other w r e = refl
-
-break_closed : (b : ItemBody) → kind_of b ≡ kind.Break → is_open b ≡ false
-break_closed (body.MaybeSmartQuote quote o c) e = absurd (quote_kind_break (quote == 39) o c e)
-break_closed (body.HardBreak x) e = refl
-break_closed other e = cc
-
-pub runs_only : (f : Forest Numbered) (single double : Bool) → WaitsForPairing f → HasRunsOnly (quoted_after single double f)
-runs_only nil single double w = tt
-runs_only (node a below after) single double w = (
-  λ none.
-      let r : run_character a.item.body ≡ None = sym (run_made a.item.body single double (later_of after) (is_nil after)) ∙ none in
-      made_closed (kind_of a.item.body) a.item.body single double (later_of after) (is_nil after) (other_closed a.item.body w.0 r)
-      (break_closed a.item.body),
-  runs_only after (turn_at a after single double).single (turn_at a after single double).double w.1,
-)
-
--- the labels of nodes by their numbers
-pub labels_of : {A : Type 0} (tag : ℕ → A) (tables : Tables) (s : Setting) (nodes : List (Node Item)) (f : Forest ℕ)
-    → trees tag tables s (chain_of nodes f) ≡ relabelled (λ n. look tag tables s (numbered nodes n)) f
-labels_of tag tables s nodes f = relabelled-relabelled (numbered nodes) (look tag tables s) f
-
--- a chain paired in place, with any tags
-pub paired_labels : {A : Type 0} (tag : ℕ → A) (tables : Tables) (s : Setting) (old new : Arena Item) (first : ℕ) (f : Forest ℕ)
-    → HasWholeRuns s.text (chain_of old.nodes f) → WaitsForPairing (chain_of old.nodes f)
-    → (p : IsResolved (marks_of s.rules.options) s.text old new first f) → trees tag tables s (chain_of new.nodes p.forest)
-    ≡ paired s (trees tag tables s (chain_of old.nodes f))
-unfolding paired
-paired_labels tag tables s old new first f whole waits p =
-    ap (trees tag tables s) p.resolves
-    ∙ sym (runs_seen tag tables s (quoted (chain_of old.nodes f)) (whole_quoted s.text (chain_of old.nodes f) false false whole)
-    (runs_only (chain_of old.nodes f) false false waits))
-    ∙ ap (runs_paired s) (sym (with_quotes_seen tag tables s (chain_of old.nodes f)))
+-- as many searches find in the labels as in the tree
+pub finds_are : (s : Setting) (tables : Tables) (old mid : Arena Item) (first : ℕ) → IsQuoted s tables old mid first (trees old.nodes first)
+    → finds_from s 0 (labels s tables mid.nodes (trees old.nodes first)) [] ≡ finds_in s (trees_from s.text tables old.nodes (Some first))
+unfolding finds_in
+finds_are s tables old mid first q =
+    ap (λ g. finds_from s 0 g []) q.quotes ∙ sym (tag-finds (λ n. tt) s (labels s tables old.nodes (trees old.nodes first)))
+    ∙ ap (finds_in s) (untagged s tables old.nodes first)
 
 -- sums over numbers are sums over tags
-abbrev numbers : Setting → List (Node Item) → Forest ℕ → Forest (Label ℕ)
-numbers s nodes f = trees (λ n. n) no_tables s (chain_of nodes f)
-
-tag_sum : (count : ℕ → ℕ) (s : Setting) (nodes : List (Node Item)) (f : Forest ℕ) → sum_of (λ a. count a.tag) (numbers s nodes f)
-    ≡ total count f
-tag_sum count s nodes nil = refl
-tag_sum count s nodes (node ix below after) = omega (arith, tag_sum count s nodes below, tag_sum count s nodes after)
+tag_sum : (count : ℕ → ℕ) (s : Setting) (tables : Tables) (nodes : List (Node Item)) (f : Forest ℕ)
+    → sum_of (λ a. count a.tag) (labels s tables nodes f) ≡ total count f
+tag_sum count s tables nodes nil = refl
+tag_sum count s tables nodes (node ix below after) =
+    omega (arith, tag_sum count s tables nodes below, tag_sum count s tables nodes after)
 
 tags_count : (count : ℕ → ℕ) (s : Setting) → CountsNoMore s (λ (a : Label ℕ). count a.tag)
 tags_count count s = record {
@@ -219,7 +164,7 @@ open_agrees tables source b = by_open (is_open b) refl
     by_open true e = ap is_unresolved (shape-open tables source b e) ∙ sym e
     by_open false e = closed_shape tables source b e ∙ sym e
 
-weight_sum : (s : Setting) (nodes : List (Node Item)) (f : Forest ℕ) → sum_of weighs (numbers s nodes f) ≡ total (weight_at nodes) f
+weight_sum : (s : Setting) (nodes : List (Node Item)) (f : Forest ℕ) → sum_of weighs (labels s no_tables nodes f) ≡ total (weight_at nodes) f
 weight_sum s nodes nil = refl
 weight_sum s nodes (node ix below after) =
     let here : weight_if (is_unresolved (shape_of no_tables (slice_range s.text (item_at nodes ix).start (item_at nodes ix).end)
@@ -232,90 +177,83 @@ outside_if : (n : ℕ) (f : Forest ℕ) (b : Bool) → is_among (roots f) n ≡ 
 outside_if n f false e none = e
 outside_if n f true e none = absurd (omega (arith, root_some n f e, times_parted n f, none))
 
--- each node of a chain refers only to what the node of its number refers to
-each_self : (nodes : List (Node Item)) (n : Named) (f : Forest ℕ)
-    → Each (λ a. times_named n a.item.body ≤ naming nodes n a.number) (chain_of nodes f)
-each_self nodes n nil = tt
-each_self nodes n (node ix below after) = (omega arith, each_self nodes n below, each_self nodes n after)
+-- an item that stays names what it named, and what is made names nothing
+none_named : (n : Named) (i : ℕ) (b : ItemBody) → IsMade b → times_named n b ≤ i
+none_named (some_text n) i b e = subst (λ x. same_as n x ≤ i) (sym e.text) (omega arith)
+none_named (some_link n) i b e = subst (λ x. same_as n x ≤ i) (sym e.link) (omega arith)
+none_named (some_alignments n) i b e = subst (λ x. same_as n x ≤ i) (sym e.alignments) (omega arith)
+
+names_at : (old new : List (Node Item)) (n : Named) (ix : ℕ) → (item_at new ix ≡ item_at old ix) ⊎ IsMade (item_at new ix).body
+    → naming new n ix ≤ naming old n ix
+names_at old new n ix (inl e) = omega (arith, ap (λ (i : Item). times_named n i.body) e)
+names_at old new n ix (inr e) = none_named n (naming old n ix) (item_at new ix).body e
 
 names_less : (old new : List (Node Item)) (n : Named) (f : Forest ℕ)
-    → Each (λ a. times_named n a.item.body ≤ naming old n a.number) (chain_of new f) → total (naming new n) f ≤ total (naming old n) f
+    → ((ix : ℕ) → (item_at new ix ≡ item_at old ix) ⊎ IsMade (item_at new ix).body) → total (naming new n) f ≤ total (naming old n) f
 names_less old new n nil h = omega arith
-names_less old new n (node ix below after) h = omega (arith, h.0, names_less old new n below h.1, names_less old new n after h.2)
+names_less old new n (node ix below after) h =
+    omega (arith, names_at old new n ix (h ix), names_less old new n below h, names_less old new n after h)
 
-none_named : (n : Named) (i : ℕ) (b : ItemBody) → IsMade b → times_named n b ≤ i
-none_named (some_text n) i b e = subst (λ x. same_as n x ≤ i) (sym e.0) (omega arith)
-none_named (some_link n) i b e = subst (λ x. same_as n x ≤ i) (sym e.1) (omega arith)
-none_named (some_alignments n) i b e = subst (λ x. same_as n x ≤ i) (sym e.2) (omega arith)
-
-names_no_more : (m : Marks) (text : List ℕ) (old new : Arena Item) (first : ℕ) (f : Forest ℕ) (p : IsResolved m text old new first f)
-    (n : Named) → total (naming new.nodes n) p.forest ≤ total (naming old.nodes n) p.forest
-names_no_more m text old new first f p n =
-    names_less old.nodes new.nodes n p.forest
-    (subst (λ g. Each (λ a. times_named n a.item.body ≤ naming old.nodes n a.number) g) (sym p.resolves)
-    (each-paired (λ a. times_named n a.item.body ≤ naming old.nodes n a.number)
-    (λ number start end b e. none_named n (naming old.nodes n number) b e) m text (chain_of old.nodes f) (each_self old.nodes n f)))
-
--- all that is said of the chain
-pub pairs_chain : (s : Setting) (old new : Arena Item) (first : ℕ) → CanPair s.text old.nodes first
-    → IsResolved (marks_of s.rules.options) s.text old new first (forest_at (links_of old.nodes) (Some first))
-    → PairsChain s first old.nodes new.nodes
-pairs_chain s old new first c p =
-    let f : Forest ℕ = forest_at (links_of old.nodes) (Some first) in
-    let made : numbers s new.nodes p.forest ≡ paired s (numbers s old.nodes f) = paired_labels (λ x. x) no_tables s old new first f c.whole
-    c.waits p in
-    let fewer : (n : ℕ) → total (same n) p.forest ≤ total (same n) f =
-    λ n. omega (
+-- what pairing makes of the numbers of a chain
+module _ (s : Setting) (old new : Arena Item) (first : ℕ) (c : CanPair s.text old.nodes first) where
+  module _ (tables : Tables) (p : IsResolved s tables old new first (trees old.nodes first)) where
+    tag_less : (count : ℕ → ℕ) → total count p.forest ≤ total count (trees old.nodes first)
+    tag_less count = omega (
       arith,
-      tag_sum (same n) s new.nodes p.forest,
-      tag_sum (same n) s old.nodes f,
-      ap (sum_of (λ (a : Label ℕ). same n a.tag)) made,
-      sum-paired s (λ (a : Label ℕ). same n a.tag) (tags_count (same n) s) (numbers s old.nodes f),
-    ) in
-    let is : forest_at (links_of new.nodes) (Some first) ≡ p.forest = found (links_of new.nodes) (Some first) p.forest p.spelled
-    (λ n. omega (arith, fewer n, c.once n)) in
-    record {
-      pairs = λ tables.
-          ap (λ g. relabelled (λ n. look (λ x. tt) tables s (numbered new.nodes n)) g) is
-          ∙ sym (labels_of (λ x. tt) tables s new.nodes p.forest)
-          ∙ paired_labels (λ x. tt) tables s old new first f c.whole c.waits p ∙ ap (paired s) (labels_of (λ x. tt) tables s old.nodes f);
-      spelled = rw is p.spelled;
-      times = λ n. rw is (fewer n);
-      rising = rw is p.rising;
-      same_size = p.kept.size;
-      outside = λ n none.
-          let same_at = p.kept.others n (outside_if n f (is_among (roots f) n) refl none) in
-          record { child = same_at.child; next = same_at.next; item = same_at.item };
-      placed = λ tables blocks reaches. record {
+      tag_sum count s tables new.nodes p.forest,
+      tag_sum count s tables old.nodes (trees old.nodes first),
+      ap (sum_of (λ (a : Label ℕ). count a.tag)) p.resolves,
+      sum-paired s (λ (a : Label ℕ). count a.tag) (tags_count count s) (labels s tables old.nodes (trees old.nodes first)),
+    )
+
+    forest_is : trees new.nodes first ≡ p.forest
+    forest_is = found (links_of new.nodes) (Some first) p.forest p.spelled (λ n. omega (arith, tag_less (same n), c.once n))
+
+    reads_so : trees_from s.text tables new.nodes (Some first) ≡ paired s (trees_from s.text tables old.nodes (Some first))
+    reads_so =
+        sym (untagged s tables new.nodes first) ∙ ap (λ f. retagged (λ n. tt) (labels s tables new.nodes f)) forest_is
+        ∙ ap (retagged (λ n. tt)) p.resolves ∙ sym (tag-law (λ n. tt) s (labels s tables old.nodes (trees old.nodes first)))
+        ∙ ap (paired s) (untagged s tables old.nodes first)
+
+  -- all that is said of the chain
+  pub pairs_chain : ((tables : Tables) → IsResolved s tables old new first (trees old.nodes first)) → PairsChain s first old.nodes new.nodes
+  pairs_chain resolves =
+      let f : Forest ℕ = trees old.nodes first in
+      let p = resolves no_tables in
+      let is : trees new.nodes first ≡ p.forest = forest_is no_tables p in
+      let own : ℕ → Bool = is_among (roots f) in
+      record {
+        pairs = λ tables. reads_so tables (resolves tables);
         spelled = rw is p.spelled;
-        each = rw is
-            (items_placed (marks_of s.rules.options) s.text tables old.nodes new.nodes (Some first) (Some first) f p.forest c.whole
-            (runs_only (chain_of old.nodes f) false false c.waits) blocks reaches.spelled reaches.each
-            p.spelled p.resolves);
-      };
-      before = still_before s old.nodes new.nodes first p.forest p.spelled
-          (omega (
-            arith,
-            none_moved s old.nodes f,
-            ap (sum_of (moved old.nodes)) made,
-            sum-paired s (moved old.nodes) (moved_count s old.nodes) (numbers s old.nodes f),
-          ));
-      named = λ n. rw is
-          (omega (
-            arith,
-            names_no_more (marks_of s.rules.options) s.text old new first f p n,
-            tag_sum (naming old.nodes n) s old.nodes f,
-            tag_sum (naming old.nodes n) s new.nodes p.forest,
-            ap (sum_of (λ (a : Label ℕ). naming old.nodes n a.tag)) made,
-            sum-paired s (λ (a : Label ℕ). naming old.nodes n a.tag) (tags_count (naming old.nodes n) s) (numbers s old.nodes f),
-          ));
-      no_heavier = rw is
-          (omega (
-            arith,
-            weight_sum s new.nodes p.forest,
-            weight_sum s old.nodes f,
-            ap (sum_of weighs) made,
-            sum-paired s weighs
-                (weights-count s) (numbers s old.nodes f),
-          ));
-    }
+        times = λ n. rw is (tag_less no_tables p (same n));
+        rising = rw is p.rising;
+        same_size = p.kept.size;
+        outside = λ n none.
+            let same_at = p.kept.others n (outside_if n f (own n) refl none) in
+            record { child = same_at.child; next = same_at.next; item = same_at.item };
+        placed = λ tables blocks reaches.
+            let q = resolves tables in
+            let here : trees new.nodes first ≡ q.forest = forest_is tables q in
+            record {
+              spelled = rw here q.spelled;
+              each = rw here
+                  (items_placed s tables old.nodes own new.nodes q.kept.others q.kept.items (Some first) (Some first) f q.forest
+                  reaches.spelled (apart f c.once) blocks reaches.each q.spelled q.resolves (λ n. tag_less tables q (same n)));
+            };
+        before = still_before s old.nodes new.nodes first p.forest p.spelled
+            (omega (
+              arith,
+              none_moved s old.nodes f,
+              ap (sum_of (moved old.nodes)) p.resolves,
+              sum-paired s (moved old.nodes) (moved_count s old.nodes) (labels s no_tables old.nodes f),
+            ));
+        named = λ n. rw is (omega (arith, names_less old.nodes new.nodes n p.forest p.kept.items, tag_less no_tables p (naming old.nodes n)));
+        no_heavier = rw is
+            (omega (
+              arith,
+              weight_sum s new.nodes p.forest,
+              weight_sum s old.nodes f,
+              ap (sum_of weighs) p.resolves,
+              sum-paired s weighs (weights-count s) (labels s no_tables old.nodes f),
+            ));
+      }

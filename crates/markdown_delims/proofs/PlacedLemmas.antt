@@ -1,113 +1,197 @@
 -- A chain that is paired in place keeps its place: its items are placed as they were, at every depth, and what preceded
 -- it still does.
-use Rattle.std.proofs.Common.{◌≡◌, ℕ, ◌+◌, ◌-◌, ◌≤◌, Bool, true, false, List, Option, Some, None, refl, sym, subst, arith}
-use Rattle.std.specs.Prelude.{IfSome, if◌then◌else◌}
+use Rattle.std.proofs.Common.{◌≡◌, ℕ, zero, suc, ◌+◌, ◌-◌, ◌≤◌, Bool, true, false, List, Option, Some, None, refl, ap, sym, ◌∙◌, subst, arith}
+use Rattle.std.proofs.Common.{inl, inr}
+use Rattle.std.specs.Prelude.{IfSome, ◌⊎◌, if◌then◌else◌, slice_range}
 use Rattle.std.specs.Option.{option_map}
 use Rattle.markdown_base.specs.Arena.{child_of, sibling_of}
 use Rattle.markdown_base.specs.ArenaForest.{links_of, Spells}
+use Rattle.markdown_base.specs.ArenaRules.{next_at}
 use Rattle.markdown_base.specs.BlockTree.{Numbered, numbered, item_at}
-use Rattle.markdown_base.specs.Forest.{Forest, nil, node, Each, first_root}
-use Rattle.markdown_base.specs.Item.{is_block}
+use Rattle.markdown_base.specs.Forest.{Forest, nil, node, Each, first_root, relabelled}
+use Rattle.markdown_base.specs.Item.{is_block, is_open, LiesIn}
 use Rattle.markdown_base.specs.declared.item.Item.{Item}
 use Rattle.markdown_base.specs.declared.item.ItemBody.{ItemBody}
 use Rattle.markdown_base.specs.declared.node.Node.{Node}
-use Rattle.markdown_document.specs.Document.{Label, block_of}
+use Rattle.markdown_document.specs.Document.{Label, block_of, shape_of, part_of, is_unresolved}
 use Rattle.markdown_document.specs.ItemRules.{ComesBefore, KeepsItemRules}
 use Rattle.markdown_document.specs.Places.{ComesFromPlace, IsPlaced, origin_start}
-use Rattle.markdown_document.proofs.PlaceLemmas.{slices-unnamed}
 use Rattle.markdown_document.specs.Setting.{Setting}
 use Rattle.markdown_document.specs.Tables.{Tables, NamesEntries, no_tables}
-use Rattle.markdown_delims.specs.ChainForest.{chain_of}
-use Rattle.markdown_delims.specs.Entries.{paired}
+use Rattle.markdown_document.specs.Totals.{total, same}
+use Rattle.markdown_document.proofs.ItemRulesLemmas.{keeps-closed}
+use Rattle.markdown_document.proofs.PlaceLemmas.{slices-unnamed, shape-open}
+use Rattle.markdown_document.proofs.TablesLemmas.{same-refl}
+use Rattle.markdown_delims.specs.ChainReading.{NoneBelow, labels}
 use Rattle.markdown_delims.specs.PairedChain.{HasNoBlock}
-use Rattle.markdown_delims.specs.QuoteBodies.{quoted}
-use Rattle.markdown_delims.specs.RunReading.{HasWholeRuns}
-use Rattle.markdown_delims.specs.Views.{top}
-use Rattle.markdown_delims.specs.declared.marks.Marks.{Marks}
-use Rattle.markdown_delims.proofs.InOrderLemmas.{AllStandRight, paired_right, quoted_in_order, chain_in_order}
-use Rattle.markdown_delims.proofs.LabelLemmas.{trees}
-use Rattle.markdown_delims.proofs.NodeLemmas.{IsMade, each-paired}
-use Rattle.markdown_delims.proofs.PairingLemmas.{HasRunsOnly}
-use Rattle.markdown_delims.proofs.QuoteChainLemmas.{whole_quoted}
+use Rattle.markdown_delims.specs.Pairing.{paired}
+use Rattle.markdown_delims.specs.Views.{IsMade, SameAt, view_of}
+use Rattle.markdown_delims.proofs.InOrderLemmas.{Precedes, IsRight, AreRight, InOrder, paired_right}
 use Rattle.markdown_delims.proofs.SumLemmas.{sum_of, CountsNoMore}
 
--- the links of a chain that an arena represents, in its forest
-child_is : (nodes : List (Node Item)) (l : Option ℕ) (f : Forest ℕ) → Spells (links_of nodes) l f → l ≡ top (chain_of nodes f)
-child_is nodes l nil s = s
-child_is nodes l (node ix below after) s = s.0
+-- what is open reads as what is
+pub open_closed : (tables : Tables) (source : List ℕ) (b : ItemBody) → is_unresolved (shape_of tables source b) ≡ false → is_open b ≡ false
+open_closed tables source b h =
+    by_open (is_open b) refl
+  where
+    by_open : (x : Bool) → is_open b ≡ x → is_open b ≡ false
+    by_open false e = e
+    by_open true e = absurd (let no : true ≡ false = sym (ap is_unresolved (shape-open tables source b e)) ∙ h in cc)
 
-next_is : (nodes : List (Node Item)) (l : Option ℕ) (f : Forest ℕ) → Spells (links_of nodes) l f
-    → option_map (numbered nodes) l ≡ first_root (chain_of nodes f)
-next_is nodes l nil s = rw s refl
-next_is nodes l (node ix below after) s = rw s.0 refl
+-- what holds of each number of a forest holds of each that occurs in it
+same_is : (n m : ℕ) → 1 ≤ same n m → n ≡ m
+same_is zero zero h = refl
+same_is zero (suc m) h = absurd (omega (arith, h))
+same_is (suc n) zero h = absurd (omega (arith, h))
+same_is (suc n) (suc m) h = ap suc (same_is n m h)
 
--- what an item names is there, and comes from the source where the item is
-pub record NamesThere (text : List ℕ) (tables : Tables) (item : Item) : Type 0 where
-  pub named : NamesEntries tables item.body
-  pub slices : ComesFromPlace text tables item
+each_at : (p : ℕ → Type 0) (f : Forest ℕ) → Each p f → (n : ℕ) → 1 ≤ total (same n) f → p n
+each_at p nil h n l = absurd (omega (arith, l))
+each_at p (node ix below after) h n l =
+    here (same n ix) refl (total (same n) below) refl (each_at p below h.1 n) (each_at p after h.2 n)
+  where
+    here : (i : ℕ) → same n ix ≡ i → (j : ℕ) → total (same n) below ≡ j → (1 ≤ total (same n) below → p n)
+        → (1 ≤ total (same n) after → p n) → p n
+    here (suc i) e j f x y = subst p (sym (same_is n ix (omega (arith, e)))) h.0
+    here zero e (suc j) f x y = x (omega (arith, f))
+    here zero e zero f x y = y (omega (arith, l, e, f))
 
--- the items of an arena are placed just where those of its forest are right and name entries
-module _ (text : List ℕ) (tables : Tables) (nodes : List (Node Item)) where
-  abbrev pub EachNames : Forest Numbered → Type 0
-  EachNames f = Each (λ a. NamesThere text tables a.item) f
+each_of : (p : ℕ → Type 0) (g f : Forest ℕ) → Each p g → ((n : ℕ) → total (same n) f ≤ total (same n) g) → Each p f
+each_of p g nil h l = tt
+each_of p g (node ix below after) h l = (
+  each_at p g h ix (omega (arith, l ix, same-refl ix)),
+  each_of p g below h (λ n. omega (arith, l n)),
+  each_of p g after h (λ n. omega (arith, l n)),
+)
 
-  pub right_of : (l : Option ℕ) (f : Forest ℕ) → Spells (links_of nodes) l f → Each (IsPlaced text tables nodes) f
-      → AllStandRight text (chain_of nodes f)
-  right_of l nil s h = tt
-  right_of l (node ix below after) s h =
-      let keeps : KeepsItemRules text (numbered nodes ix) (top (chain_of nodes below)) (first_root (chain_of nodes after)) =
-      subst (λ c. KeepsItemRules text (numbered nodes ix) c (first_root (chain_of nodes after))) (child_is nodes (child_of nodes ix) below
-      s.2)
-      (subst (λ x. KeepsItemRules text (numbered nodes ix) (child_of nodes ix) x) (next_is nodes (sibling_of nodes ix) after s.3) h.0.keeps)
-      in
-      (record { lies = h.0.lies; keeps = keeps }, right_of (child_of nodes ix) below s.2 h.1, right_of (sibling_of nodes ix) after s.3 h.2)
+module _ (s : Setting) (tables : Tables) (old : List (Node Item)) (own : ℕ → Bool) where
+  -- a node below the chain, with the node after it
+  pub record IsDeep (ix : ℕ) : Type 0 where
+    pub apart : own ix ≡ false
+    pub next_apart : IfSome (sibling_of old ix) (λ n. own n ≡ false)
+    pub placed : IsPlaced s.text tables old ix
 
-  pub names_of : (f : Forest ℕ) → Each (IsPlaced text tables nodes) f → EachNames (chain_of nodes f)
-  names_of nil h = tt
-  names_of (node ix below after) h = (record { named = h.0.named; slices = h.0.slices }, names_of below h.1, names_of after h.2)
+  next_own : (l : Option ℕ) (f : Forest ℕ) → Spells (links_of old) l f → Each (λ n. own n ≡ false) f → IfSome l (λ n. own n ≡ false)
+  next_own None f k h = tt
+  next_own (Some ix) nil k h = cc
+  next_own (Some ix) (node j below after) k h = let e : j ≡ ix = cc in subst (λ n. own n ≡ false) e h.0
 
-  pub placed_of : (l : Option ℕ) (f : Forest ℕ) → Spells (links_of nodes) l f → AllStandRight text (chain_of nodes f)
-      → EachNames (chain_of nodes f) → Each (IsPlaced text tables nodes) f
-  placed_of l nil s h e = tt
-  placed_of l (node ix below after) s h e =
-      let keeps : KeepsItemRules text (numbered nodes ix) (child_of nodes ix) (option_map (numbered nodes) (sibling_of nodes ix)) =
-      subst (λ c. KeepsItemRules text (numbered nodes ix) c (option_map (numbered nodes) (sibling_of nodes ix)))
-      (sym (child_is nodes (child_of nodes ix) below s.2))
-      (subst (λ x. KeepsItemRules text (numbered nodes ix) (top (chain_of nodes below)) x)
-      (sym (next_is nodes (sibling_of nodes ix) after s.3)) h.0.keeps) in (
-        record { lies = h.0.lies; named = e.0.named; slices = e.0.slices; keeps = keeps },
-        placed_of (child_of nodes ix) below s.2 h.1 e.1,
-        placed_of (sibling_of nodes ix) after s.3 h.2 e.2,
-      )
+  deep_right : (l : Option ℕ) (f : Forest ℕ) → Spells (links_of old) l f → Each (λ n. own n ≡ false) f → Each (IsPlaced s.text tables old) f
+      → AreRight s.text IsDeep (labels s tables old f)
+  deep_right l nil k h p = tt
+  deep_right l (node ix below after) k h p = (
+    inr (record { apart = h.0; next_apart = next_own (sibling_of old ix) after k.3 h.2; placed = p.0 }),
+    deep_right (child_of old ix) below k.2 h.1 p.1,
+    deep_right (sibling_of old ix) after k.3 h.2 p.2,
+  )
 
--- what pairing makes names entries
-made_names : (text : List ℕ) (tables : Tables) (start end : ℕ) (b : ItemBody) → IsMade b
-    → NamesThere text tables (record { start = start; end = end; body = b })
-made_names text tables start end b e = record {
-  named = record { text = rw e.0 tt; link = rw e.1 tt; alignments = rw e.2 tt; attributes = rw e.3 tt };
-  slices = slices-unnamed text tables (origin_start text start) end b e.0 e.1;
-}
+  -- a chain without blocks whose items are placed is in order
+  chain_ordered : (i n : ℕ) (l : Option ℕ) (f : Forest ℕ) → Spells (links_of old) l f → NoneBelow own f
+      → Each (IsPlaced s.text tables old) f → HasNoBlock (relabelled (numbered old) f)
+      → IfSome (first_root f) (λ ix. (i ≤ (item_at old ix).start) × (n ≤ ix)) → InOrder s.text IsDeep i n (labels s tables old f)
+  chain_ordered i n l nil k a p b x = tt
+  chain_ordered i n l (node ix below after) k a p b x = (
+    x.0,
+    x.1,
+    record { ordered = p.0.lies.ordered; start = p.0.lies.start; end = p.0.lies.end },
+    deep_right (child_of old ix) below k.2 a.0 p.1,
+    chain_ordered (item_at old ix).end (suc ix) (sibling_of old ix) after k.3 a.1 p.2 b.1 (next after k.3 b.1),
+  )
+    where
+      next : (after : Forest ℕ) → Spells (links_of old) (sibling_of old ix) after → HasNoBlock (relabelled (numbered old) after)
+          → IfSome (first_root after) (λ j. ((item_at old ix).end ≤ (item_at old j).start) × (suc ix ≤ j))
+      next nil k b' = tt
+      next (node j inside rest) k b' =
+          let before = subst (λ o. ComesBefore (numbered old ix) (option_map (numbered old) o)) k.0 p.0.keeps.in_order b.0 b'.0 in
+          (before.ends, omega (arith, before.numbers))
 
-any_first : (f : Forest Numbered) → IfSome (first_root f) (λ b. (0 ≤ b.item.start) × (0 ≤ b.number))
-any_first nil = tt
-any_first (node a below after) = (omega arith, omega arith)
+  -- what an item names is there, and comes from the source where the item is
+  record NamesThere (item : Item) : Type 0 where
+    named : NamesEntries tables item.body
+    slices : ComesFromPlace s.text tables item
 
--- so the items of a chain that is paired in place are placed, where those of the chain were
-pub items_placed : (m : Marks) (text : List ℕ) (tables : Tables) (old new : List (Node Item)) (l k : Option ℕ) (f g : Forest ℕ)
-    → HasWholeRuns text (chain_of old f) → HasRunsOnly (quoted (chain_of old f)) → HasNoBlock (chain_of old f)
-    → Spells (links_of old) l f → Each (IsPlaced text tables old) f → Spells (links_of new) k g
-    → chain_of new g ≡ paired m text (quoted (chain_of old f)) → Each (IsPlaced text tables new) g
-items_placed m text tables old new l k f g whole runs blocks s h t is =
-    let order = quoted_in_order text false false 0 0 (chain_of old f) (chain_in_order text 0 0 (chain_of old f) blocks
-    (right_of text tables old l f s h) (any_first (chain_of old f))) in
-    let right : AllStandRight text (chain_of new g) =
-    subst (λ x. AllStandRight text x) (sym is) (paired_right text m (quoted (chain_of old f)) (whole_quoted text (chain_of old f) false
-    false whole) runs order) in
-    let names : EachNames text tables new (chain_of new g) =
-    subst (λ x. EachNames text tables new x) (sym is)
-    (each-paired (λ a. NamesThere text tables a.item) (λ number start end b e. made_names text tables start end b e) m text (chain_of old f)
-    (names_of text tables old f h)) in
-    placed_of text tables new k g t right names
+  made_names : (item : Item) → IsMade item.body → NamesThere item
+  made_names item e = record {
+    named = record { text = rw e.text tt; link = rw e.link tt; alignments = rw e.alignments tt; attributes = rw e.attributes tt };
+    slices = slices-unnamed s.text tables (origin_start s.text item.start) item.end item.body e.text e.link;
+  }
+
+  -- after pairing
+  module _ (new : List (Node Item)) (others : (ix : ℕ) → own ix ≡ false → SameAt (view_of old) (view_of new) ix)
+      (items : (ix : ℕ) → (item_at new ix ≡ item_at old ix) ⊎ IsMade (item_at new ix).body) where
+    names_now : (ix : ℕ) → IsPlaced s.text tables old ix → NamesThere (item_at new ix)
+    names_now ix p =
+        by_item (items ix)
+      where
+        by_item : (item_at new ix ≡ item_at old ix) ⊎ IsMade (item_at new ix).body → NamesThere (item_at new ix)
+        by_item (inl e) = subst NamesThere (sym e) (record { named = p.named; slices = p.slices })
+        by_item (inr e) = made_names (item_at new ix) e
+
+    -- a node below the chain is as it was
+    deep_placed : (ix : ℕ) → IsDeep ix → IsPlaced s.text tables new ix
+    deep_placed ix d =
+        let here = others ix d.apart in
+        let item : item_at old ix ≡ item_at new ix = sym here.item in
+        let next : next_at old ix ≡ next_at new ix = same_next (sibling_of old ix) d.next_apart ∙ ap (option_map (numbered new)) (sym here.next)
+        in
+        record {
+          lies = subst (LiesIn s.text) item d.placed.lies;
+          named = subst (λ (i : Item). NamesEntries tables i.body) item d.placed.named;
+          slices = subst (ComesFromPlace s.text tables) item d.placed.slices;
+          keeps = subst (λ x. KeepsItemRules s.text (numbered new ix) (child_of new ix) x) next
+              (subst (λ x. KeepsItemRules s.text (numbered new ix) x (next_at old ix)) (sym here.child)
+              (subst (λ (i : Item). let a : Numbered = record { number = ix; item = i } in
+              KeepsItemRules s.text a (child_of old ix) (next_at old ix)) item d.placed.keeps));
+        }
+      where
+        same_next : (l : Option ℕ) → IfSome l (λ n. own n ≡ false) → option_map (numbered old) l ≡ option_map (numbered new) l
+        same_next None h = refl
+        same_next (Some n) h = ap (λ (i : Item). Some (record { number = n; item = i })) (sym (others n h).item)
+
+    abbrev label_now : ℕ → Label ℕ
+    label_now ix = record { tag = ix; part = part_of s.text tables (item_at new ix) }
+
+    right_placed : (l : Option ℕ) (f : Forest ℕ) → Spells (links_of new) l f → AreRight s.text IsDeep (labels s tables new f)
+        → Each (IsPlaced s.text tables old) f → Each (IsPlaced s.text tables new) f
+    right_placed l nil k h p = tt
+    right_placed l (node ix below after) k h p = (
+      by_label h.0,
+      right_placed (child_of new ix) below k.2 h.1 p.1,
+      right_placed (sibling_of new ix) after k.3 h.2 p.2,
+    )
+      where
+        before : (after : Forest ℕ) (l : Option ℕ) → Spells (links_of new) l after
+            → IfSome (first_root (labels s tables new after)) (Precedes (label_now ix))
+            → ComesBefore (numbered new ix) (option_map (numbered new) l)
+        before nil l k h = rw k tt
+        before (node j inside rest) l k h = rw k.0 (λ x y. record { ends = h.ends; numbers = h.numbers })
+
+        by_label : IsRight s.text IsDeep (label_now ix) (labels s tables new after) → IsPlaced s.text tables new ix
+        by_label (inr d) = deep_placed ix d
+        by_label (inl r) =
+            let names = names_now ix p.0 in
+            record {
+              lies = record { ordered = r.1.ordered; start = r.1.start; end = r.1.end };
+              named = names.named;
+              slices = names.slices;
+              keeps = keeps-closed s.text (numbered new ix) (child_of new ix) (next_at new ix)
+                  (open_closed tables (slice_range s.text (item_at new ix).start (item_at new ix).end) (item_at new ix).body r.0)
+                  (before after (sibling_of new ix) k.3 r.2);
+            }
+
+    any_first : (f : Forest ℕ) → IfSome (first_root f) (λ ix. (0 ≤ (item_at old ix).start) × (0 ≤ ix))
+    any_first nil = tt
+    any_first (node ix below after) = (omega arith, omega arith)
+
+    -- so the items of a chain that is paired in place are placed, where those of the chain were
+    pub items_placed : (l m : Option ℕ) (f g : Forest ℕ) → Spells (links_of old) l f → NoneBelow own f
+        → HasNoBlock (relabelled (numbered old) f) → Each (IsPlaced s.text tables old) f → Spells (links_of new) m g
+        → labels s tables new g ≡ paired s (labels s tables old f) → ((n : ℕ) → total (same n) g ≤ total (same n) f)
+        → Each (IsPlaced s.text tables new) g
+    items_placed l m f g k a b p j is fewer =
+        right_placed m g j
+        (subst (λ x. AreRight s.text IsDeep x) (sym is) (paired_right s.text IsDeep s (labels s tables old f)
+        (chain_ordered 0 0 l f k a p b (any_first f)))) (each_of (IsPlaced s.text tables old) f g p fewer)
 
 -- the number of bytes by which a label starts before the item of its number, and whether the label lost that it is a
 -- block
@@ -137,7 +221,7 @@ block_stays false x = refl
 
 -- no label of a chain starts elsewhere than its item
 pub none_moved : (s : Setting) (nodes : List (Node Item)) (f : Forest ℕ)
-    → sum_of (moved nodes) (trees (λ n. n) no_tables s (chain_of nodes f)) ≡ 0
+    → sum_of (moved nodes) (labels s no_tables nodes f) ≡ 0
 none_moved s nodes nil = refl
 none_moved s nodes (node ix below after) =
     omega (
@@ -155,7 +239,7 @@ block_was true false x h e = absurd (omega (arith, h))
 
 -- so the first item of a chain that is paired still follows what it followed
 pub still_before : (s : Setting) (old new : List (Node Item)) (first : ℕ) (g : Forest ℕ) → Spells (links_of new) (Some first) g
-    → sum_of (moved old) (trees (λ n. n) no_tables s (chain_of new g)) ≤ 0
+    → sum_of (moved old) (labels s no_tables new g) ≤ 0
     → (a : Numbered) → ComesBefore a (Some (numbered old first)) → ComesBefore a (Some (numbered new first))
 still_before s old new first nil t none a h = cc
 still_before s old new first (node ix below after) t none a h =

@@ -1,297 +1,254 @@
 -- A whole run is read at its first character, and another tree by itself.
-use Rattle.std.proofs.Common.{◌≡◌, ℕ, zero, suc, ◌+◌, ◌-◌, ◌<◌, ◌≤◌, Bool, true, false, List, ◌∷◌, Option, Some, None, length, refl, ap}
-use Rattle.std.proofs.Common.{sym, ◌∙◌, subst, arith, inl, inr}
-use Rattle.std.specs.Prelude.{IsTrue, slice_index, IfSome}
-use Rattle.std.proofs.lemmas.List.{get_or_past}
-use Rattle.std.proofs.lemmas.Bool.{cases_lt}
+use Rattle.std.proofs.Common.{◌≡◌, ℕ, zero, suc, ◌+◌, ◌-◌, ◌<◌, ◌≤◌, Bool, false, List, ◌∷◌, Option, Some, None, length, refl, ap}
+use Rattle.std.proofs.Common.{sym, ◌∙◌, subst, arith}
+use Rattle.std.specs.Prelude.{is_some}
 use Rattle.markdown_base.specs.declared.item.Item.{Item}
+use Rattle.markdown_base.specs.declared.item.ItemBody.{ItemBody}
+use Rattle.markdown_base.specs.declared.item.ItemBody.TheVariants as body
 use Rattle.markdown_base.specs.Arena.{Arena, sibling_of}
-use Rattle.markdown_base.specs.BlockTree.{Numbered, item_at}
+use Rattle.markdown_base.specs.BlockTree.{item_at}
 use Rattle.markdown_base.specs.Forest.{Forest, nil, node}
-use Rattle.markdown_base.specs.WellFormed.{RunCharacter, run_character, is_delimiter}
 use Rattle.markdown_document.specs.Counts.{comparisons_per_delimiter}
+use Rattle.markdown_document.specs.Document.{Shape, leaf, enclosed, plain, backslash_break, unresolved, Part, Label, is_unresolved, shape_of}
+use Rattle.markdown_document.specs.Document.{part_of}
+use Rattle.markdown_document.specs.Setting.{Setting}
+use Rattle.markdown_document.specs.Tables.{Tables}
+use Rattle.markdown_document.specs.Waiting.{text_if, as_closed}
 use Rattle.markdown_delims.specs.declared.marks.Marks.{Marks}
 use Rattle.markdown_delims.specs.declared.run.Delimiter.{Delimiter}
 use Rattle.markdown_delims.specs.declared.run.Run.{Run}
-use Rattle.markdown_delims.specs.EntryFinds.{run_finds, finds_from, tree_finds}
-use Rattle.markdown_delims.specs.MayPair.{OpenRun}
+use Rattle.markdown_delims.specs.ChainReading.{HasCount, ShowsCount, trees_after, BeginsRun, IsWhole, AreWhole, one_if, runs_in, Settles}
+use Rattle.markdown_delims.specs.ChainReading.{StandsWhole, ReadFurther, CanReadTree}
+use Rattle.markdown_delims.specs.ChainStanding.{Chain, view, flat, RunRead}
+use Rattle.markdown_delims.specs.Layers.{run_by, run_of_shape, run_of}
 use Rattle.markdown_delims.specs.OpenRuns.{Openers}
-use Rattle.markdown_delims.specs.MarkBodies.{run_if, item_run}
-use Rattle.markdown_delims.specs.Entries.{Entry, settled, flat, open_of, with_run, all_of_run, after_tree, paired_from}
-use Rattle.markdown_delims.specs.Views.{view_of, Rises}
-use Rattle.markdown_delims.specs.ChainStanding.{Chain, Stands, ReadsOn, CanRead}
-use Rattle.markdown_delims.specs.RunReading.{StandsWhole, HasWholeRuns, BeginsRun, counts_one, delimiters_of, Settles, CanSettle, ReadFurther}
-use Rattle.markdown_delims.specs.RunReading.{CanReadTree}
+use Rattle.markdown_delims.specs.Pairing.{Read, done_read, run_read, first_texts, after_tree, reads_from}
+use Rattle.markdown_delims.specs.PairingFinds.{run_finds, tree_finds, finds_from}
+use Rattle.markdown_delims.specs.Views.{Rises}
 use Rattle.markdown_delims.proofs.CutLemmas.{Rises-lower, step_right}
-use Rattle.markdown_delims.proofs.EncloseLemmas.{kept_none, kept_both}
+use Rattle.markdown_delims.proofs.WriteLemmas.{kept_none, kept_both}
 
--- what a run says of its character
-pub run_parts : (o : Option RunCharacter) (d : Option Delimiter) (run : Run) → run_if o d ≡ Some run
-    → o ≡ Some (record { count = run.length; can_open = run.can_open; can_close = run.can_close })
-run_parts None d run e = cc
-run_parts (Some c) None run e = cc
-run_parts (Some c) (Some d) run e =
-    let same : record { delimiter = d; length = c.count; can_open = c.can_open; can_close = c.can_close } ≡ run = cc in
-    ap (λ (r : Run). Some (record { count = r.length; can_open = r.can_open; can_close = r.can_close })) same
+-- a run has a character
+some_by : (n : ℕ) (opens closes : Bool) (d : Option Delimiter) (run : Run) → run_by n opens closes d ≡ Some run → 0 < run.length
+some_by n opens closes None run e = cc
+some_by zero opens closes (Some d) run e = cc
+some_by (suc n) opens closes (Some d) run e =
+    let same : record { delimiter = d; length = suc n; can_open = opens; can_close = closes } ≡ run = cc in
+    omega (arith, ap (λ (r : Run). r.length) same)
 
--- there is text at the offset of a delimiter
-delimiter_within : (text : List ℕ) (i : ℕ) → IsTrue (is_delimiter (slice_index text i)) → i < length text
-delimiter_within text i h =
-    elim (cases_lt i (length text)) [
-      | inl inside ↦ inside
-      | inr past ↦
-          let none : IsTrue (is_delimiter 0) = subst (λ b. IsTrue (is_delimiter b)) (get_or_past text i 0 past) h in
-          let no : false ≡ true = none in cc
-    ]
+some_shape : (shape : Shape) (d : Option Delimiter) (run : Run) → run_of_shape shape d ≡ Some run → 0 < run.length
+some_shape (leaf e origins) d run h = cc
+some_shape (enclosed tag) d run h = cc
+some_shape plain d run h = cc
+some_shape backslash_break d run h = cc
+some_shape (unresolved (body.MaybeEmphasis n opens closes)) d run h = some_by n opens closes d run h
+some_shape (unresolved other) d run h = cc
 
--- a run that begins a chain
-pub record RunBegins (text : List ℕ) (number start n : ℕ) (chain : Forest Numbered) : Type 0 where
-  pub rest : Forest Numbered
-  pub begins : BeginsRun number n chain rest
-  pub some : 0 < n
-  pub bytes : start + n ≤ length text
-  pub whole : HasWholeRuns text rest
-  pub fewer : suc (delimiters_of rest) ≤ delimiters_of chain
+-- the count that a body's shape shows is the body's
+pub has_count : (tables : Tables) (source : List ℕ) (b : ItemBody) → ShowsCount (shape_of tables source b) → HasCount b
+has_count tables source (body.MaybeEmphasis n opens closes) h = h
+has_count tables source other h = tt
 
-pub run_begins : (text : List ℕ) (n : ℕ) (opens closes : Bool) (a : Numbered) (below after : Forest Numbered)
-    → run_character a.item.body ≡ Some (record { count = n; can_open = opens; can_close = closes })
-    → HasWholeRuns text (node a below after) → RunBegins text a.number a.item.start n (node a below after)
-run_begins text zero opens closes a below after e w =
-    let x : StandsWhole text a below after (record { count = zero; can_open = opens; can_close = closes }) =
-    subst (λ o. IfSome o (StandsWhole text a below after)) e w.0 in
-    let s = x.stands in
-    absurd s.goes_on
-run_begins text (suc zero) opens closes a below after e w =
-    let x : StandsWhole text a below after (record { count = suc zero; can_open = opens; can_close = closes }) =
-    subst (λ o. IfSome o (StandsWhole text a below after)) e w.0 in
-    let s = x.stands in
-    let within : a.item.start < length text = delimiter_within text a.item.start s.delimiter in
-    record {
-      rest = after;
-      begins = (refl, x.childless, refl);
-      some = omega arith;
-      bytes = omega arith;
-      whole = w.1;
-      fewer = subst (λ o. suc (delimiters_of after) ≤ counts_one o + delimiters_of after) (sym e) (omega arith);
-    }
-run_begins text (suc (suc n)) opens closes a below nil e w =
-    let x : StandsWhole text a below nil (record { count = suc (suc n); can_open = opens; can_close = closes }) =
-    subst (λ o. IfSome o (StandsWhole text a below nil)) e w.0 in
-    let s = x.stands in
-    absurd s.goes_on
-run_begins text (suc (suc n)) opens closes a below (node b inside after) e w =
-    let x : StandsWhole text a below (node b inside after) (record { count = suc (suc n); can_open = opens; can_close = closes }) =
-    subst (λ o. IfSome o (StandsWhole text a below (node b inside after))) e w.0 in
-    let s = x.stands in
-    let r = run_begins text (suc n) opens closes b inside after s.goes_on.body (w.1) in
-    let byte : b.item.start ≡ suc a.item.start = s.goes_on.touches ∙ s.one_byte in
-    record {
-      rest = r.rest;
-      begins = (refl, x.childless, subst (λ i. BeginsRun i (suc n) (node b inside after) r.rest) s.goes_on.number r.begins);
-      some = omega arith;
-      bytes = omega (arith, r.bytes);
-      whole = r.whole;
-      fewer = subst (λ o. suc (delimiters_of r.rest) ≤ counts_one o + delimiters_of (node b inside after)) (sym e) (omega (arith, r.fewer));
-    }
+-- what the code reads is what the chain shows
+pub shown_run : (text source : List ℕ) (tables : Tables) (item i : Item) (o : Option Run) → source ≡ text → item ≡ i → HasCount i.body
+    → ((tables : Tables) → HasCount item.body → o ≡ run_of text (part_of text tables item)) → run_of source (part_of source tables i) ≡ o
+shown_run text source tables item i o e f h is =
+    ap (λ t. run_of t (part_of t tables i)) e ∙ ap (λ x. run_of text (part_of text tables x)) (sym f)
+    ∙ sym (is tables (subst (λ (x : Item). HasCount x.body) (sym f) h))
 
--- the nodes of a run that was read are passed over
-skip_run : (m : Marks) (text : List ℕ) (number n : ℕ) (chain rest : Forest Numbered) (es : List Entry) → BeginsRun number n chain rest
-    → paired_from m text n chain es ≡ paired_from m text 0 rest es
-unfolding paired_from
-skip_run m text number zero chain rest es b = ap (λ f. paired_from m text 0 f es) b
-skip_run m text number (suc n) nil rest es b = absurd b
-skip_run m text number (suc n) (node a below after) rest es b = skip_run m text (suc number) n after rest es b.2
+-- the trees of a run that was read are passed over
+skip_run : (s : Setting) (n : ℕ) (chain : Forest (Label ℕ)) (rs : List (Read ℕ)) → reads_from s n chain rs
+    ≡ reads_from s 0 (trees_after n chain) rs
+unfolding reads_from
+skip_run s zero chain rs = refl
+skip_run s (suc n) nil rs = refl
+skip_run s (suc n) (node a below after) rs = skip_run s n after rs
 
-paired_none : (m : Marks) (text : List ℕ) (a : Numbered) (below after : Forest Numbered) (es : List Entry) → item_run text a.item ≡ None
-    → paired_from m text 0 (node a below after) es ≡ paired_from m text 0 after (settled a below ∷ es)
-unfolding paired_from
-paired_none m text a below after es e = ap (λ o. after_tree m (λ skip fs. paired_from m text skip after fs) o a below es) e
-
-paired_some : (m : Marks) (text : List ℕ) (a : Numbered) (below after : Forest Numbered) (es : List Entry) (run : Run)
-    → item_run text a.item ≡ Some run
-    → paired_from m text 0 (node a below after) es ≡ paired_from m text (run.length - 1) after
-    (with_run m a.item.start (all_of_run run a.number) es)
-unfolding paired_from
-paired_some m text a below after es run e = ap (λ o. after_tree m (λ skip fs. paired_from m text skip after fs) o a below es) e
-
--- the same for the number of successful searches
-skip_finds : (m : Marks) (text : List ℕ) (number n : ℕ) (chain rest : Forest Numbered) (es : List Entry) → BeginsRun number n chain rest
-    → finds_from m text n chain es ≡ finds_from m text 0 rest es
+skip_finds : (s : Setting) (n : ℕ) (chain : Forest (Label ℕ)) (rs : List (Read ℕ)) → finds_from s n chain rs
+    ≡ finds_from s 0 (trees_after n chain) rs
 unfolding finds_from
-skip_finds m text number zero chain rest es b = ap (λ f. finds_from m text 0 f es) b
-skip_finds m text number (suc n) nil rest es b = absurd b
-skip_finds m text number (suc n) (node a below after) rest es b = skip_finds m text (suc number) n after rest es b.2
+skip_finds s zero chain rs = refl
+skip_finds s (suc n) nil rs = refl
+skip_finds s (suc n) (node a below after) rs = skip_finds s n after rs
 
-finds_at_none : (m : Marks) (text : List ℕ) (a : Numbered) (below after : Forest Numbered) (es : List Entry) → item_run text a.item ≡ None
-    → finds_from m text 0 (node a below after) es ≡ finds_from m text 0 after (settled a below ∷ es)
-unfolding finds_from
-finds_at_none m text a below after es e = ap (λ o. tree_finds m (λ skip fs. finds_from m text skip after fs) o a below es) e
+-- what is whole, counted or in order remains so without the first trees
+whole_after : (text : List ℕ) (n : ℕ) (chain : Forest (Label ℕ)) → AreWhole text chain → AreWhole text (trees_after n chain)
+whole_after text zero chain w = w
+whole_after text (suc n) nil w = w
+whole_after text (suc n) (node a below after) w = whole_after text n after w.2
 
-finds_at_some : (m : Marks) (text : List ℕ) (a : Numbered) (below after : Forest Numbered) (es : List Entry) (run : Run)
-    → item_run text a.item ≡ Some run
-    → finds_from m text 0 (node a below after) es ≡ run_finds run run.length (open_of es) + finds_from m text (run.length - 1) after
-    (with_run m a.item.start (all_of_run run a.number) es)
-unfolding finds_from
-finds_at_some m text a below after es run e = ap (λ o. tree_finds m (λ skip fs. finds_from m text skip after fs) o a below es) e
+fewer_after : (text : List ℕ) (n : ℕ) (chain : Forest (Label ℕ)) → runs_in text (trees_after n chain) ≤ runs_in text chain
+fewer_after text zero chain = omega arith
+fewer_after text (suc n) nil = omega arith
+fewer_after text (suc n) (node a below after) = omega (arith, fewer_after text n after)
 
--- the rest of a run's first node
-begins_after : (number n : ℕ) (a : Numbered) (below after rest : Forest Numbered) → 0 < n → BeginsRun number n (node a below after) rest
-    → BeginsRun (suc number) (n - 1) after rest
-begins_after number zero a below after rest some b = absurd (omega arith)
-begins_after number (suc n) a below after rest some b = subst (λ i. BeginsRun (suc number) i after rest) (let e : n
-    ≡ suc n - 1 = omega arith in e) b.2
+rises_after : (own : ℕ → Bool) (lo n : ℕ) (chain : Forest (Label ℕ)) (hi : ℕ) → Rises own lo chain hi → Rises own lo (trees_after n chain) hi
+rises_after own lo zero chain hi r = r
+rises_after own lo (suc n) nil hi r = r
+rises_after own lo (suc n) (node a below after) hi r =
+    rises_after own lo n after hi (Rises-lower own (suc a.tag) lo after hi (omega (arith, r.0)) r.2)
 
--- numbers rise after a run
-rises_behind : (own : ℕ → Bool) (number n lo : ℕ) (chain rest : Forest Numbered) (hi : ℕ) → 0 < n → BeginsRun number n chain rest
-    → Rises own lo chain hi → Rises own (suc number) rest hi
-rises_behind own number zero lo chain rest hi some b r = absurd (omega arith)
-rises_behind own number (suc n) lo nil rest hi some b r = absurd b
-rises_behind own number (suc zero) lo (node a below after) rest hi some b r = subst (λ f. Rises own (suc number) f hi) b.2
-    (subst (λ i. Rises own (suc i) after hi) b.0 r.2)
-rises_behind own number (suc (suc n)) lo (node a below after) rest hi some b r =
-    Rises-lower own (suc (suc number)) (suc number) rest hi (omega arith) (rises_behind own (suc number) (suc n) (suc a.number) after rest
-    hi (omega arith) b.2 r.2)
+-- the trees after the first of a run
+after_first : (n : ℕ) (a : Label ℕ) (below after : Forest (Label ℕ)) → 0 < n → trees_after n (node a below after) ≡ trees_after (n - 1) after
+after_first zero a below after some = absurd (omega arith)
+after_first (suc n) a below after some = ap (λ m. trees_after m after) (let e : n ≡ suc n - 1 = omega arith in e)
+
+closed_stays : (source : List ℕ) (a : Label ℕ) → is_unresolved a.part.shape ≡ false → as_closed source a ≡ a
+closed_stays source a e = ap (λ b. text_if b source a) e
+
+-- one tree, by the run that it begins
+module _ (s : Setting) (a : Label ℕ) (below after : Forest (Label ℕ)) (rs : List (Read ℕ)) where
+  pub reads_none : run_of s.text a.part ≡ None → is_unresolved a.part.shape ≡ false
+      → reads_from s 0 (node a below after) rs ≡ reads_from s 0 after (done_read a below ∷ rs)
+  unfolding reads_from
+  reads_none e c =
+      ap (after_tree s (λ skip others. reads_from s skip after others) a below after rs) e
+      ∙ ap (λ (x : Label ℕ). reads_from s 0 after (done_read x below ∷ rs)) (closed_stays s.text a c)
+
+  pub finds_none : run_of s.text a.part ≡ None → is_unresolved a.part.shape ≡ false
+      → finds_from s 0 (node a below after) rs ≡ finds_from s 0 after (done_read a below ∷ rs)
+  unfolding finds_from
+  finds_none e c =
+      ap (tree_finds s (λ skip others. finds_from s skip after others) a below after rs) e
+      ∙ ap (λ (x : Label ℕ). finds_from s 0 after (done_read x below ∷ rs)) (closed_stays s.text a c)
+
+  module _ (run : Run) (e : run_of s.text a.part ≡ Some run) where
+    abbrev vs : List (Label ℕ)
+    vs = first_texts s.text run.length (node a below after)
+
+    some : 0 < run.length
+    some = some_shape a.part.shape _ run e
+
+    reads_some : reads_from s 0 (node a below after) rs
+        ≡ reads_from s 0 (trees_after run.length (node a below after)) (run_read s run.can_close run vs rs)
+    unfolding reads_from
+    reads_some =
+        ap (after_tree s (λ skip others. reads_from s skip after others) a below after rs) e
+        ∙ skip_run s (run.length - 1) after (run_read s run.can_close run vs rs)
+        ∙ ap (λ f. reads_from s 0 f (run_read s run.can_close run vs rs)) (sym (after_first run.length a below after some))
+
+    finds_some : finds_from s 0 (node a below after) rs ≡ run_finds s run.can_close run vs rs
+        + finds_from s 0 (trees_after run.length (node a below after)) (run_read s run.can_close run vs rs)
+    unfolding finds_from
+    finds_some =
+        ap (tree_finds s (λ skip others. finds_from s skip after others) a below after rs) e
+        ∙ ap (λ n. run_finds s run.can_close run vs rs + n)
+        (skip_finds s (run.length - 1) after (run_read s run.can_close run vs rs)
+        ∙ ap (λ f. finds_from s 0 f (run_read s run.can_close run vs rs)) (sym (after_first run.length a below after some)))
 
 -- the first tree of the rest, at the link to it
-module _ (m : Marks) (text : List ℕ) (h : Chain) (s : Arena Item) (es : List Entry) (last : Option ℕ) (ix : ℕ) where
-  pub head_within : (chain : Forest Numbered) → Stands h s es last (Some ix) chain → ix < length s.nodes
-  head_within nil st = let no : Some ix ≡ None = st.cut.right in cc
-  head_within (node a below after) st = let here : Some ix ≡ Some a.number = st.cut.right.0 in let e : ix ≡ a.number = cc
-      in omega (arith, st.cut.right.1, e)
+module _ (h : Chain) (s : Arena Item) (rs : List (Read ℕ)) (last : Option ℕ) (ix : ℕ) (o : Openers) where
+  abbrev here : Part
+  here = part_of h.setting.text h.tables (item_at s.nodes ix)
 
-  pub read_none : (chain : Forest Numbered) (o : Openers) → Stands h s es last (Some ix) chain → HasWholeRuns text chain → o.runs ≡ open_of es
-      → item_run text (item_at s.nodes ix) ≡ None
-      → ReadFurther m text h s s es chain o o (Some ix) (sibling_of s.nodes ix) (suc ix)
-  read_none nil o st w r e = let no : Some ix ≡ None = st.cut.right in cc
-  read_none (node a below after) o st w r e =
-      let here : Some ix ≡ Some a.number = st.cut.right.0 in
-      let same : ix ≡ a.number = cc in
-      let item : item_at s.nodes ix ≡ a.item = ap (item_at s.nodes) same ∙ st.cut.right.2 in
-      let none : item_run text a.item ≡ None = ap (item_run text) (sym item) ∙ e in
-      record {
-        es = settled a below ∷ es;
+  pub head_within : (chain : Forest (Label ℕ)) → StandsWhole h s rs last (Some ix) chain o → ix < length s.nodes
+  head_within nil st = let no : Some ix ≡ None = st.stands.cut.right in cc
+  head_within (node a below after) st =
+      let link : Some ix ≡ Some a.tag = st.stands.cut.right.0 in
+      let e : ix ≡ a.tag = cc in omega (arith, st.stands.cut.right.1, e)
+
+  head_part : (a : Label ℕ) (below after : Forest (Label ℕ)) → StandsWhole h s rs last (Some ix) (node a below after) o
+      → (a.tag ≡ ix) × (here ≡ a.part)
+  head_part a below after st =
+      let link : Some ix ≡ Some a.tag = st.stands.cut.right.0 in
+      let e : a.tag ≡ ix = cc in (e, ap (view h s).item (sym e) ∙ st.stands.cut.right.2)
+
+  pub head_count : (chain : Forest (Label ℕ)) → StandsWhole h s rs last (Some ix) chain o → HasCount (item_at s.nodes ix).body
+  head_count nil st = let no : Some ix ≡ None = st.stands.cut.right in cc
+  head_count (node a below after) st =
+      has_count h.tables _ (item_at s.nodes ix).body (subst (λ (p : Part). ShowsCount p.shape) (sym (head_part a below after st).1)
+      st.whole.0)
+
+  pub read_none : (chain : Forest (Label ℕ)) → StandsWhole h s rs last (Some ix) chain o → run_of h.setting.text here ≡ None
+      → ReadFurther h s s rs chain o o (Some ix) (sibling_of s.nodes ix) (suc ix)
+  read_none nil st e = let no : Some ix ≡ None = st.stands.cut.right in cc
+  read_none (node a below after) st e =
+      let p = head_part a below after st in
+      let none : run_of h.setting.text a.part ≡ None = ap (run_of h.setting.text) (sym p.1) ∙ e in
+      let closed : is_unresolved a.part.shape ≡ false = subst (λ o. IsWhole o a below after) none st.whole.1 in
+      rw (← p.0)
+      (record {
+        rs = done_read a below ∷ rs;
         rest = after;
-        is_read = record {
-          reads = record {
-            stands = record {
-              cut = rw same (step_right h.touched (view_of s.nodes) h.first (flat es) (Some ix) a below after h.bound st.cut);
-              last_is = ap Some same;
-              left_touched = (st.rest_touched.0, st.left_touched);
-              rest_touched = st.rest_touched.1;
-            };
-            kept = kept_none h.touched s;
+        stands = record {
+          stands = record {
+            cut = step_right h.touched (view h s) h.first (flat rs) (Some ix) a below after h.bound st.stands.cut;
+            last_is = refl;
+            left_touched = (st.stands.rest_touched.0, st.stands.left_touched);
+            rest_touched = st.stands.rest_touched.1;
+            few = st.stands.few;
           };
-          runs_are = r;
+          whole = st.whole.2;
+          are = st.are;
         };
-        whole = w.1;
-        same = sym (paired_none m text a below after es none);
+        kept = kept_none h.touched s;
+        same = sym (reads_none h.setting a below after rs none closed);
         paid = omega arith;
-        found = omega (arith, finds_at_none m text a below after es none);
-        further = rw same st.cut.rises_right.2;
-      }
+        found = omega (arith, finds_none h.setting a below after rs none closed);
+        further = st.stands.cut.rises_right.2;
+      })
 
   -- a run that begins here
-  pub record RunHere (run : Run) (chain : Forest Numbered) : Type 0 where
-    pub begins : RunBegins text ix (item_at s.nodes ix).start run.length chain
-    pub same : (fs : List Entry) (goes_on : List Entry) → with_run m (item_at s.nodes ix).start (all_of_run run ix) fs ≡ goes_on
-        → paired_from m text 0 begins.rest goes_on ≡ paired_from m text 0 chain fs
-    pub finds : (fs : List Entry) (goes_on : List Entry) → with_run m (item_at s.nodes ix).start (all_of_run run ix) fs ≡ goes_on
-        → finds_from m text 0 chain fs ≡ run_finds run run.length (open_of fs) + finds_from m text 0 begins.rest goes_on
-    pub rises : Rises h.touched (suc ix) begins.rest h.bound
+  pub record RunHere (run : Run) (chain : Forest (Label ℕ)) : Type 0 where
+    pub begins : BeginsRun ix run.length chain
+    pub some : 0 < run.length
+    pub same : reads_from h.setting 0 chain rs ≡ reads_from h.setting 0 (trees_after run.length chain)
+        (run_read h.setting run.can_close run (first_texts h.setting.text run.length chain) rs)
+    pub finds : finds_from h.setting 0 chain rs
+        ≡ run_finds h.setting run.can_close run (first_texts h.setting.text run.length chain) rs
+        + finds_from h.setting 0 (trees_after run.length chain)
+        (run_read h.setting run.can_close run (first_texts h.setting.text run.length chain) rs)
+    pub whole : AreWhole h.setting.text (trees_after run.length chain)
+    pub fewer : suc (runs_in h.setting.text (trees_after run.length chain)) ≤ runs_in h.setting.text chain
+    pub rises : Rises h.touched (suc ix) (trees_after run.length chain) h.bound
 
-  pub run_here : (run : Run) (chain : Forest Numbered) → Stands h s es last (Some ix) chain → HasWholeRuns text chain
-      → item_run text (item_at s.nodes ix) ≡ Some run → RunHere run chain
-  run_here run nil st w e = let no : Some ix ≡ None = st.cut.right in cc
-  run_here run (node a below after) st w e =
-      let here : Some ix ≡ Some a.number = st.cut.right.0 in
-      let same : a.number ≡ ix = cc in
-      let item : a.item ≡ item_at s.nodes ix = sym (ap (item_at s.nodes) (sym same) ∙ st.cut.right.2) in
-      let is : item_run text a.item ≡ Some run = ap (item_run text) item ∙ e in
-      let b0 = run_begins text run.length run.can_open run.can_close a below after (run_parts _ _ run is) w in
-      let b1 = subst (λ i. RunBegins text i a.item.start run.length (node a below after)) same b0 in
-      let b = subst (λ (i : Item). RunBegins text ix i.start run.length (node a below after)) item b1 in
+  pub run_here : (run : Run) (chain : Forest (Label ℕ)) → StandsWhole h s rs last (Some ix) chain o → run_of h.setting.text here ≡ Some run
+      → RunHere run chain
+  run_here run nil st e = let no : Some ix ≡ None = st.stands.cut.right in cc
+  run_here run (node a below after) st e =
+      let p = head_part a below after st in
+      let is : run_of h.setting.text a.part ≡ Some run = ap (run_of h.setting.text) (sym p.1) ∙ e in
+      let many : 0 < run.length = some h.setting a below after rs run is in
+      let rest = after_first run.length a below after many in
       record {
-        begins = b;
-        same = λ fs goes_on g.
-            ap (λ x. paired_from m text 0 b.rest x) (sym g)
-            ∙ sym (skip_run m text (suc ix) (run.length - 1) after b.rest (with_run m (item_at s.nodes ix).start (all_of_run run ix) fs)
-            (begins_after ix run.length a below after b.rest b.some b.begins))
-            ∙ ap (λ i. paired_from m text (run.length - 1) after (with_run m (item_at s.nodes ix).start (all_of_run run i) fs)) (sym same)
-            ∙ ap (λ (i : Item). paired_from m text (run.length - 1) after (with_run m i.start (all_of_run run a.number) fs)) (sym item)
-            ∙ sym (paired_some m text a below after fs run is);
-        finds = λ fs goes_on g.
-            finds_at_some m text a below after fs run is
-            ∙ ap (λ (i : Item). run_finds run run.length (open_of fs) + finds_from m text (run.length - 1) after
-            (with_run m i.start (all_of_run run a.number) fs)) item
-            ∙ ap (λ i. run_finds run run.length (open_of fs) + finds_from m text (run.length - 1) after
-            (with_run m (item_at s.nodes ix).start (all_of_run run i) fs)) same
-            ∙ ap (λ x. run_finds run run.length (open_of fs) + x)
-            (skip_finds m text (suc ix) (run.length - 1) after b.rest (with_run m (item_at s.nodes ix).start (all_of_run run ix) fs)
-            (begins_after ix run.length a below after b.rest b.some b.begins)
-            ∙ ap (λ x. finds_from m text 0 b.rest x) g);
-        rises = rises_behind h.touched ix run.length 0 (node a below after) b.rest h.bound b.some b.begins st.cut.rises_right;
+        begins = subst (λ n. BeginsRun n run.length (node a below after)) p.0 (subst (λ o. IsWhole o a below after) is st.whole.1);
+        some = many;
+        same = reads_some h.setting a below after rs run is;
+        finds = finds_some h.setting a below after rs run is;
+        whole = subst (λ f. AreWhole h.setting.text f) (sym rest) (whole_after h.setting.text (run.length - 1) after st.whole.2);
+        fewer = omega (
+          arith,
+          ap (runs_in h.setting.text) rest,
+          fewer_after h.setting.text (run.length - 1) after,
+          ap (λ o. one_if (is_some o)) is,
+        );
+        rises = subst (λ f. Rises h.touched (suc ix) f h.bound) (sym rest) (rises_after h.touched (suc ix) (run.length - 1) after h.bound
+            (subst (λ n. Rises h.touched (suc n) after h.bound) p.0 st.stands.cut.rises_right.2));
       }
 
-  pub can_settle : (run : Run) (chain : Forest Numbered) → Stands h s es last (Some ix) chain → RunHere run chain
-      → CanSettle ix run.length s
-  can_settle run chain st r = record {
-    chain = h;
-    es = es;
-    last = last;
-    whole = chain;
-    rest = r.begins.rest;
-    stands = st;
-    begins =
-        r.begins.begins;
-  }
-
-  pub can_read : (run : Run) (chain : Forest Numbered) (runs : List OpenRun) (t : Arena Item) → Stands h s es last (Some ix) chain
-      → runs ≡ open_of es → RunHere run chain → Settles ix (item_at s.nodes ix).start run.length s t
-      → CanRead (item_at s.nodes ix).start (all_of_run run ix) last t runs
-  can_read run chain runs t st e r settles =
+  pub read_some : (run : Run) (chain : Forest (Label ℕ)) (new : Openers) (last' l : Option ℕ) (t u : Arena Item)
+      → StandsWhole h s rs last (Some ix) chain o → RunHere run chain
+      → Settles (record { run = run; number = ix; count = run.length }) s t → new.potential ≤ o.potential + comparisons_per_delimiter
+      → RunRead h t u run (first_texts h.setting.text run.length chain) rs o new last' l (trees_after run.length chain)
+      → ReadFurther h s u rs chain o new last' l (suc ix)
+  read_some run chain new last' l t u st r settles paid on =
       record {
-        chain = h;
-        es = es;
-        after = r.begins.rest;
-        stands = (settles h es last chain r.begins.rest st r.begins.begins).stands;
-        runs_are = e;
-      }
-
-  pub read_some : (run : Run) (chain : Forest Numbered) (old new : Openers) (last' l : Option ℕ) (t u : Arena Item)
-      → Stands h s es last (Some ix) chain → old.runs ≡ open_of es → RunHere run chain
-      → Settles ix (item_at s.nodes ix).start run.length s t
-      → new.potential ≤ old.potential + comparisons_per_delimiter → old.examined + run_finds run run.length old.runs ≤ new.examined
-      → ReadsOn (λ fs. with_run m (item_at s.nodes ix).start (all_of_run run ix) fs) (item_at s.nodes ix).start (all_of_run run ix) last t u
-      old.runs new.runs last' l
-      → ReadFurther m text h s u es chain old new last' l (suc ix)
-  read_some run chain old new last' l t u st e r settles paid found on =
-      let x = settles h es last chain r.begins.rest st r.begins.begins in
-      let y = on h es r.begins.rest x.stands e in
-      record {
-        es = with_run m (item_at s.nodes ix).start (all_of_run run ix) es;
-        rest = r.begins.rest;
-        is_read = record {
-          reads = record { stands = y.reads.stands; kept = kept_both h.touched s t u x.kept y.reads.kept };
-          runs_are =
-              y.runs_are;
-        };
-        whole = r.begins.whole;
-        same = r.same es _ refl;
-        paid = omega (arith, r.begins.fewer);
-        found = omega (arith, found, ap (λ rs. run_finds run run.length rs) e, r.finds es _ refl);
+        rs = run_read h.setting run.can_close run (first_texts h.setting.text run.length chain) rs;
+        rest = trees_after run.length chain;
+        stands = record { stands = on.is_read.reads.stands; whole = r.whole; are = on.is_read.are };
+        kept = kept_both h.touched s t u (settles h rs last chain st.stands r.begins).1 on.is_read.reads.kept;
+        same = sym r.same;
+        paid = omega (arith, paid, r.fewer);
+        found = omega (arith, on.found, r.finds);
         further = r.rises;
       }
 
--- the same for a chain that can be read, at its next item
-pub met_here : (m : Marks) (text : List ℕ) (s : Arena Item) (ix : ℕ) (last : Option ℕ) (runs : List OpenRun) (cost : ℕ)
-    (p : CanReadTree text ix last s runs cost) (item : Item) (run : Run) → item ≡ item_at s.nodes ix → Some run ≡ item_run text item
-    → RunHere m text p.chain s p.es last ix run p.rest
-met_here m text s ix last runs cost p item run i e = run_here m text p.chain s p.es last ix run p.rest p.stands p.whole
-    (ap (item_run text) (sym i) ∙ sym e)
-
--- its characters lie in the text
-pub run_bytes : (m : Marks) (text : List ℕ) (s : Arena Item) (ix : ℕ) (last : Option ℕ) (runs : List OpenRun) (cost : ℕ)
-    (p : CanReadTree text ix last s runs cost) (item : Item) (run : Run) → item ≡ item_at s.nodes ix → Some run ≡ item_run text item
-    → item.start + run.length ≤ length text
-run_bytes m text s ix last runs cost p item run i e = subst (λ (x : Item). x.start + run.length ≤ length text) (sym i)
-    (met_here m text s ix last runs cost p item run i e).begins.bytes
+-- the run that is met in a chain that can be read
+pub met_here : (m : Marks) (text : List ℕ) (ix : ℕ) (last : Option ℕ) (s : Arena Item) (o : Openers) (p : CanReadTree m text ix last s o)
+    (item : Item) (run : Run) → item ≡ item_at s.nodes ix
+    → ((tables : Tables) → HasCount item.body → Some run ≡ run_of text (part_of text tables item))
+    → RunHere p.chain s p.rs last ix o run p.rest
+met_here m text ix last s o p item run e is =
+    run_here p.chain s p.rs last ix o run p.rest p.stands
+    (shown_run text p.chain.setting.text p.chain.tables item (item_at s.nodes ix) (Some run) p.text_is e
+    (head_count p.chain s p.rs last ix o p.rest p.stands) is)

@@ -1,142 +1,165 @@
 -- The characters of a run become texts, from the first on.
-use Rattle.std.proofs.Common.{◌≡◌, ℕ, zero, suc, ◌+◌, ◌-◌, ◌<◌, Bool, true, List, Option, Some, length, refl, sym, subst, arith}
+use Rattle.std.proofs.Common.{◌≡◌, ℕ, zero, suc, ◌+◌, ◌<◌, Bool, true, List, [], ◌∷◌, Option, Some, length, refl, ap, sym, ◌∙◌, subst}
+use Rattle.std.proofs.Common.{arith}
+use Rattle.std.specs.Prelude.{false, ◌^◌}
 use Rattle.markdown_base.specs.declared.item.Item.{Item}
+use Rattle.markdown_base.specs.declared.item.ItemBody.TheVariants as body
 use Rattle.markdown_base.specs.Arena.{Arena, child_of, sibling_of}
-use Rattle.markdown_base.specs.BlockTree.{Numbered}
+use Rattle.markdown_base.specs.BlockTree.{item_at}
 use Rattle.markdown_base.specs.Forest.{Forest, nil, node}
-use Rattle.markdown_delims.specs.Entries.{Entry, character, characters, characters_after, flat}
-use Rattle.markdown_delims.specs.Enclosing.{AllTouched}
-use Rattle.markdown_delims.specs.Views.{View, view_of, Writes, Wrote, Holds, LeftHolds, next_number, Cut, Kept}
-use Rattle.markdown_delims.specs.ChainStanding.{Chain, Stands}
-use Rattle.markdown_delims.specs.RunReading.{BeginsRun, SettlesRun}
+use Rattle.markdown_document.specs.Document.{Part, Label, as_text, part_of}
+use Rattle.markdown_delims.specs.declared.run.Characters.{Characters}
+use Rattle.markdown_delims.specs.ChainReading.{BeginsRun, trees_after}
+use Rattle.markdown_delims.specs.ChainStanding.{Chain, view, texts, left_texts, flat, FirstFrom, Stands, StandsAt}
+use Rattle.markdown_delims.specs.Pairing.{Read, texts_before, last_first, first_texts}
+use Rattle.markdown_delims.specs.Views.{View, Writes, WroteBody, IsMade, LeftHolds, next_number, Cut, Kept, AllTouched}
 use Rattle.markdown_delims.proofs.CutLemmas.{Rises-lower, Holds-write_before, enclosing}
-use Rattle.markdown_delims.proofs.EncloseLemmas.{kept_none, kept_more}
-use Rattle.markdown_delims.proofs.PairLemmas.{characters-last, over_characters}
+use Rattle.markdown_delims.proofs.EncloseLemmas.{texts_link}
+use Rattle.markdown_delims.proofs.PairLemmas.{over_texts, touched_over}
+use Rattle.markdown_delims.proofs.WriteLemmas.{parts_written, body_part, kept_none, kept_made}
 
--- another item at the first node of the rest, over which the cut goes
-pub written_over : (own : ℕ → Bool) (k k' : View) (first : Option ℕ) (before : Forest Numbered) (l : Option ℕ) (a : Numbered)
-    (below after : Forest Numbered) (hi : ℕ) (i : Item)
-    → Cut own k first before l (node a below after) hi → own a.number ≡ true → Writes k k' a.number i (k.child a.number) (k.next a.number)
-    → Cut own k' first (node (record { number = a.number; item = i }) below before) (k.next a.number) after hi
-written_over own k k' first before l a below after hi i c o w =
+-- another part at the first node of the rest, over which the cut goes
+pub written_over : (own : ℕ → Bool) (k k' : View Part) (first : Option ℕ) (before : Forest (Label ℕ)) (l : Option ℕ) (a : Label ℕ)
+    (below after : Forest (Label ℕ)) (hi : ℕ) (p : Part)
+    → Cut own k first before l (node a below after) hi → own a.tag ≡ true → Writes k k' a.tag p (k.child a.tag) (k.next a.tag)
+    → Cut own k' first (node (record { tag = a.tag; part = p }) below before) (k.next a.tag) after hi
+written_over own k k' first before l a below after hi p c o w =
     record {
-      left = enclosing own k k' first before (record { number = a.number; item = i }) (k.child a.number) (k.next a.number) below
-          (next_number after hi) o
+      left = enclosing own k k' first before (record { tag = a.tag; part = p }) (k.child a.tag) (k.next a.tag) below (next_number after hi) o
           c.right.1 (subst (λ m. LeftHolds k first before m) c.right.0 c.left) c.rises_left c.right.3 c.rises_right.1 w;
-      right = Holds-write_before own k k' a.number i (k.child a.number) (k.next a.number) w o (k.next a.number) (suc a.number) after hi
-          (omega arith) c.rises_right.2 c.right.4;
+      right = Holds-write_before own k k' a.tag p (k.child a.tag) (k.next a.tag) w o (k.next a.tag) (suc a.tag) after hi (omega arith)
+          c.rises_right.2 c.right.4;
       rises_left = (c.rises_right.1, c.rises_left);
-      rises_right = Rises-lower own (suc a.number) 0 after hi (omega arith) c.rises_right.2;
+      rises_right = Rises-lower own (suc a.tag) 0 after hi (omega arith) c.rises_right.2;
     }
 
--- the first i characters are texts, and n - i are left
-pub record SettlingAt (h : Chain) (s t : Arena Item) (es : List Entry) (number start n i : ℕ) (rest : Forest Numbered) : Type 0 where
+-- the first i characters are texts, the last one first, and others are left
+pub record SettlingAt (h : Chain) (s t : Arena Item) (rs : List (Read ℕ)) (number n i : ℕ) (chain : Forest (Label ℕ)) : Type 0 where
+  pub xs : List (Label ℕ)
+  pub left : ℕ
+  pub rest : Forest (Label ℕ)
   pub link : Option ℕ
-  pub chain : Forest Numbered
-  pub cut : Cut h.touched (view_of t.nodes) h.first (characters_after number start i (flat es)) link chain h.bound
-  pub begins : BeginsRun (number + i) (n - i) chain rest
-  pub left_touched : AllTouched h.touched (characters_after number start i (flat es))
-  pub rest_touched : AllTouched h.touched chain
+  pub left_is : left + i ≡ n
+  pub begins : BeginsRun (number + i) left rest
+  pub texts_are : last_first xs (first_texts h.setting.text left rest) ≡ first_texts h.setting.text n chain
+  pub rest_is : trees_after left rest ≡ trees_after n chain
+  pub cut : Cut h.touched (view h t) h.first (left_texts xs (flat rs)) link rest h.bound
+  pub left_touched : AllTouched h.touched (left_texts xs (flat rs))
+  pub rest_touched : AllTouched h.touched rest
   pub kept : Kept h.touched s t
 
-pub settling_begin : (h : Chain) (s : Arena Item) (es : List Entry) (number start n : ℕ) (last : Option ℕ) (chain rest : Forest Numbered)
-    → Stands h s es last (Some number) chain → BeginsRun number n chain rest
-    → SettlingAt h s s es number start n 0 rest
-settling_begin h s es number start n last chain rest st b =
-    record {
-      link = Some number;
-      chain = chain;
-      cut = st.cut;
-      begins = subst (λ x. BeginsRun x (n - 0) chain rest) (let e : number ≡ number + 0 = omega arith in e)
-          (subst (λ x. BeginsRun number x chain rest) (let e : n ≡ n - 0 = omega arith in e) b);
-      left_touched = st.left_touched;
-      rest_touched = st.rest_touched;
-      kept = kept_none h.touched s;
-    }
+pub settling_begin : (h : Chain) (s : Arena Item) (rs : List (Read ℕ)) (number n : ℕ) (last : Option ℕ) (chain : Forest (Label ℕ))
+    → Stands h s rs last (Some number) chain → BeginsRun number n chain → SettlingAt h s s rs number n 0 chain
+settling_begin h s rs number n last chain st b = record {
+  xs = [];
+  left = n;
+  rest = chain;
+  link = Some number;
+  left_is = omega arith;
+  begins = subst (λ x. BeginsRun x n chain) (let e : number ≡ number + 0 = omega arith in e) b;
+  texts_are = refl;
+  rest_is = refl;
+  cut = st.cut;
+  left_touched = st.left_touched;
+  rest_touched = st.rest_touched;
+  kept = kept_none h.touched s;
+}
 
--- the next of them is a node of the arena
-within_if : (h : Chain) (t : Arena Item) (before : Forest Numbered) (number n : ℕ) (l : Option ℕ) (chain rest : Forest Numbered) → 0 < n
-    → Cut h.touched (view_of t.nodes) h.first before l chain h.bound → BeginsRun number n chain rest → number < length t.nodes
-within_if h t before number zero l chain rest some c b = absurd (omega arith)
-within_if h t before number (suc n) l nil rest some c b = absurd b
-within_if h t before number (suc n) l (node a below after) rest some c b = omega (arith, c.right.1, b.0)
+module _ (h : Chain) (s t : Arena Item) (rs : List (Read ℕ)) (number n i : ℕ) (chain : Forest (Label ℕ)) where
+  -- the next of them is a node of the arena
+  within_if : (xs : List (Label ℕ)) (left : ℕ) (rest : Forest (Label ℕ)) (l : Option ℕ) → 0 < left → BeginsRun (number + i) left rest
+      → Cut h.touched (view h t) h.first (left_texts xs (flat rs)) l rest h.bound → number + i < length t.nodes
+  within_if xs zero rest l some b c = absurd (omega arith)
+  within_if xs (suc left) nil l some b c = absurd b
+  within_if xs (suc left) (node a below after) l some b c = omega (arith, c.right.1, b.0)
 
-pub settling_within : (h : Chain) (s t : Arena Item) (es : List Entry) (number start n i : ℕ) (rest : Forest Numbered) → i < n
-    → SettlingAt h s t es number start n i rest → number + i < length t.nodes
-settling_within h s t es number start n i rest l a = within_if h t (characters_after number start i (flat es)) (number + i) (n - i) a.link
-    a.chain rest (omega arith) a.cut a.begins
+  pub settling_within : i < n → SettlingAt h s t rs number n i chain → number + i < length t.nodes
+  settling_within l a = within_if a.xs a.left a.rest a.link (omega (arith, a.left_is, l)) a.begins a.cut
 
--- one more
-more_if : (h : Chain) (s t u : Arena Item) (es : List Entry) (number start n i d : ℕ) (l : Option ℕ) (chain rest : Forest Numbered)
-    → d ≡ n - i → 0 < d
-    → Cut h.touched (view_of t.nodes) h.first (characters_after number start i (flat es)) l chain h.bound
-    → BeginsRun (number + i) d chain rest
-    → AllTouched h.touched (characters_after number start i (flat es)) → AllTouched h.touched chain → Kept h.touched s t
-    → Wrote t u (number + i) (character (number + i) (start + i)).item (child_of t.nodes (number + i)) (sibling_of t.nodes (number + i))
-    → SettlingAt h s u es number start n (suc i) rest
-more_if h s t u es number start n i zero l chain rest e some c b p q k w = absurd (omega arith)
-more_if h s t u es number start n i (suc d) l nil rest e some c b p q k w = absurd b
-more_if h s t u es number start n i (suc d) l (node a below after) rest e some c b p q k w =
-    let here : number + i ≡ a.number = sym b.0 in
-    let w1 = subst (λ x. Wrote t u x (character (number + i) (start + i)).item (child_of t.nodes x) (sibling_of t.nodes x)) here w in
-    let c1 = written_over h.touched (view_of t.nodes) (view_of u.nodes) h.first (characters_after number start i (flat es)) l a below after
-    h.bound (character (number + i) (start + i)).item c q.0 w1.nodes in
-    let c2 = subst (λ f. Cut h.touched (view_of u.nodes) h.first
-    (node (record { number = a.number; item = (character (number + i) (start + i)).item }) f
-    (characters_after number start i (flat es))) (sibling_of t.nodes a.number) after h.bound) b.1 c1 in
-    let c3 = subst (λ x. Cut h.touched (view_of u.nodes) h.first
-    (node (record { number = x; item = (character (number + i) (start + i)).item }) nil (characters_after number start i (flat es)))
-    (sibling_of t.nodes a.number) after h.bound) b.0 c2 in
-    let left : d ≡ n - suc i = omega arith in
-    let at : suc (number + i) ≡ number + suc i = omega arith in
-    record {
-      link = sibling_of t.nodes a.number;
-      chain = after;
-      cut = c3;
-      begins = subst (λ x. BeginsRun x (n - suc i) after rest) at (subst (λ x. BeginsRun (suc (number + i)) x after rest) left b.2);
-      left_touched = (subst (λ x. h.touched x ≡ true) b.0 q.0, p);
-      rest_touched = q.1;
-      kept = kept_more h.touched s t u a.number _ _ _ k q.0 w1;
-    }
+  -- one more
+  more_if : (u : Arena Item) (xs : List (Label ℕ)) (left : ℕ) (rest : Forest (Label ℕ)) (l : Option ℕ) → 0 < left → left + i ≡ n
+      → BeginsRun (number + i) left rest
+      → last_first xs (first_texts h.setting.text left rest) ≡ first_texts h.setting.text n chain
+      → trees_after left rest ≡ trees_after n chain
+      → Cut h.touched (view h t) h.first (left_texts xs (flat rs)) l rest h.bound → AllTouched h.touched (left_texts xs (flat rs))
+      → AllTouched h.touched rest → Kept h.touched s t → WroteBody t u (number + i) (body.Text false)
+      → SettlingAt h s u rs number n (suc i) chain
+  more_if u xs zero rest l some e b x y c p q k w = absurd (omega arith)
+  more_if u xs (suc left) nil l some e b x y c p q k w = absurd b
+  more_if u xs (suc left) (node a below after) l some e b x y c p q k w0 =
+      let w = subst (λ ix. WroteBody t u ix (body.Text false)) (sym b.0) w0 in
+      let c1 = subst (λ f. Cut h.touched (view h t) h.first (left_texts xs (flat rs)) l (node a f after) h.bound) b.1 c in
+      let text : IsMade (body.Text false) = record {
+        text = refl;
+        link = refl;
+        alignments = refl;
+        attributes = refl;
+        closed = refl;
+        inline = refl;
+      } in
+      let part = body_part h.setting.text h.tables (item_at t.nodes a.tag) a (body.Text false) _ c.right.2
+      (ap (λ (p : Part). (as_text h.setting.text (record { tag = a.tag; part = p })).part.shape) c.right.2) (sym b.2) in
+      let written = subst (λ p. Writes (view h t) (view h u) a.tag p (child_of t.nodes a.tag) (sibling_of t.nodes a.tag)) part
+      (parts_written (part_of h.setting.text h.tables) t.nodes u.nodes a.tag _ _ _ w.nodes) in
+      record {
+        xs = as_text h.setting.text a ∷ xs;
+        left = left;
+        rest = after;
+        link = sibling_of t.nodes a.tag;
+        left_is = omega (arith, e);
+        begins = subst (λ z. BeginsRun z left after) (let z : suc (number + i) ≡ number + suc i = omega arith in z) b.3;
+        texts_are = x;
+        rest_is = y;
+        cut = written_over h.touched (view h t) (view h u) h.first (left_texts xs (flat rs)) l a nil after h.bound
+            (as_text h.setting.text a).part c1 q.0 written;
+        left_touched = (q.0, p);
+        rest_touched = q.1;
+        kept = kept_made h.touched s t u a.tag _ _ _ k q.0 w text;
+      }
 
-pub settling_more : (h : Chain) (s t u : Arena Item) (es : List Entry) (number start n i : ℕ) (rest : Forest Numbered) → i < n
-    → SettlingAt h s t es number start n i rest
-    → Wrote t u (number + i) (character (number + i) (start + i)).item (child_of t.nodes (number + i)) (sibling_of t.nodes (number + i))
-    → SettlingAt h s u es number start n (suc i) rest
-settling_more h s t u es number start n i rest l a w =
-    more_if h s t u es number start n i (n - i) a.link a.chain rest refl (omega arith) a.cut a.begins a.left_touched a.rest_touched a.kept w
+  pub settling_more : (u : Arena Item) → i < n → SettlingAt h s t rs number n i chain → WroteBody t u (number + i) (body.Text false)
+      → SettlingAt h s u rs number n (suc i) chain
+  settling_more u l a w =
+      more_if u a.xs a.left a.rest a.link (omega (arith, a.left_is, l)) a.left_is a.begins a.texts_are a.rest_is a.cut a.left_touched
+      a.rest_touched a.kept w
 
-first_of_some : (k : View) (l : Option ℕ) (number start n : ℕ) (after : Forest Numbered) → 0 < n
-    → Holds k l (characters number start n after) → l ≡ Some number
-first_of_some k l number start zero after some h = absurd (omega arith)
-first_of_some k l number start (suc n) after some h = h.0
+-- the texts have consecutive numbers
+pub firsts_from : (source : List ℕ) (number n : ℕ) (chain : Forest (Label ℕ)) → BeginsRun number n chain
+    → FirstFrom number (first_texts source n chain) × (length (first_texts source n chain) ≡ n)
+firsts_from source number zero chain b = (tt, refl)
+firsts_from source number (suc n) nil b = absurd b
+firsts_from source number (suc n) (node a below after) b =
+    let r = firsts_from source (suc number) n after b.3 in ((b.0, b.2, r.0), omega (arith, r.1))
 
-touched_back : (touched : ℕ → Bool) (number start n : ℕ) (before after : Forest Numbered)
-    → AllTouched touched (characters_after number start n before) → AllTouched touched after
-    → AllTouched touched (characters number start n after)
-touched_back touched number start zero before after h a = a
-touched_back touched number start (suc n) before after h a =
-    subst (λ f. AllTouched touched f) (characters-last number start n after)
-    (touched_back touched number start n before (node (character (number + n) (start + n)) nil after) h.1 (h.0, a))
+texts_back : (xs ys : List (Label ℕ)) (rest : Forest (Label ℕ)) → texts (last_first xs ys) rest ≡ texts_before xs (texts ys rest)
+texts_back [] ys rest = refl
+texts_back (x ∷ xs) ys rest = texts_back xs (x ∷ ys) rest
 
 -- all of them
-pub settling_done : (h : Chain) (s t : Arena Item) (es : List Entry) (number start n i : ℕ) (last : Option ℕ) (chain rest : Forest Numbered)
-    → 0 < n → i ≡ n → Stands h s es last (Some number) chain
-    → SettlingAt h s t es number start n i rest → SettlesRun h s t es number start n last rest
-settling_done h s t es number start n i last chain rest some e st a0 =
-    let a = subst (λ x. SettlingAt h s t es number start n x rest) e a0 in
-    let none : n - n ≡ 0 = omega arith in
-    let is : a.chain ≡ rest = subst (λ x. BeginsRun (number + n) x a.chain rest) none a.begins in
-    let r = over_characters h.touched (view_of t.nodes) h.first number start n (flat es) a.link a.chain h.bound a.cut in
-    let link = first_of_some (view_of t.nodes) r.link number start n a.chain some r.cut.right in
-    let cut = subst (λ l. Cut h.touched (view_of t.nodes) h.first (flat es) l (characters number start n a.chain) h.bound) link r.cut in
-    record {
-      stands = record {
-        cut = subst (λ f. Cut h.touched (view_of t.nodes) h.first (flat es) (Some number) (characters number start n f) h.bound) is cut;
-        last_is = st.last_is;
-        left_touched = st.left_touched;
-        rest_touched = subst (λ f. AllTouched h.touched (characters number start n f)) is (touched_back h.touched number start n (flat es)
-            a.chain a.left_touched a.rest_touched);
-      };
-      kept = a.kept;
-    }
+pub settling_done : (h : Chain) (s t : Arena Item) (rs : List (Read ℕ)) (met : Characters) (i : ℕ) (last : Option ℕ)
+    (chain : Forest (Label ℕ)) → 0 < met.count → i ≡ met.count → Stands h s rs last (Some met.number) chain
+    → BeginsRun met.number met.count chain → SettlingAt h s t rs met.number met.count i chain
+    → StandsAt h t rs last met (first_texts h.setting.text met.count chain) (trees_after met.count chain) × Kept h.touched s t
+settling_done h s t rs met i last chain some e st b a =
+    let none : a.left ≡ 0 = omega (arith, a.left_is, e) in
+    let vs : List (Label ℕ) = first_texts h.setting.text met.count chain in
+    let f = firsts_from h.setting.text met.number met.count chain b in
+    let back : last_first a.xs [] ≡ vs = ap (λ n. last_first a.xs (first_texts h.setting.text n a.rest)) (sym none) ∙ a.texts_are in
+    let rest : a.rest ≡ trees_after met.count chain = ap (λ n. trees_after n a.rest) (sym none) ∙ a.rest_is in
+    let all : texts_before a.xs a.rest ≡ texts vs (trees_after met.count chain) =
+    sym (texts_back a.xs [] a.rest) ∙ ap (λ ys. texts ys a.rest) back ∙ ap (texts vs) rest in
+    let r = over_texts h.touched (view h t) h.first a.xs (flat rs) a.link a.rest h.bound a.cut in
+    let cut = subst (λ f. Cut h.touched (view h t) h.first (flat rs) r.link f h.bound) all r.cut in
+    let link = texts_link (view h t) r.link met.number vs (trees_after met.count chain) (omega (arith, f.1, some)) f.0 cut.right in (
+      record {
+        stands = record {
+          cut = subst (λ l. Cut h.touched (view h t) h.first (flat rs) l (texts vs (trees_after met.count chain)) h.bound) link cut;
+          last_is = st.last_is;
+          left_touched = st.left_touched;
+          rest_touched = subst (λ f. AllTouched h.touched f) all (touched_over h.touched a.xs (flat rs) a.rest a.left_touched a.rest_touched);
+          few = subst (λ n. n < 2 ^ 63) (sym a.kept.size) st.few;
+        };
+        are = record { from = f.0; count = f.1 };
+      },
+      a.kept,
+    )

@@ -7,7 +7,8 @@ use Rattle.markdown_document.specs.Counts.{comparisons_per_delimiter}
 use Rattle.markdown_delims.specs.declared.run.Run.{Run}
 use Rattle.markdown_delims.specs.declared.run.Characters.{Characters}
 use Rattle.markdown_delims.specs.declared.bounds.LowerBounds.{LowerBounds}
-use Rattle.markdown_delims.specs.MayPair.{may_pair, nearest_run}
+use Rattle.markdown_delims.specs.MayPair.{may_pair}
+use Rattle.markdown_delims.specs.RunSearch.{nearest_run}
 use Rattle.markdown_delims.specs.Bounds.{bound_for, raised_for, lowered, above_bounds}
 use Rattle.markdown_delims.specs.OpenRuns.{open_runs, openers_of, potential_of, IsSound}
 use Rattle.markdown_delims.proofs.BoundLaws.{BoundStack-push, BoundStack-cut, BoundStack-raised, bound_at-within, drop_bound-within}

@@ -1,84 +1,171 @@
 -- The part of a chain of an arena that has been read, and the rest.
-use Rattle.std.specs.Prelude.{◌≡◌, ℕ, ◌+◌, ◌-◌, min, Bool, List, Option, Some}
+use Rattle.std.specs.Prelude.{◌≡◌, ℕ, suc, ◌+◌, ◌<◌, ◌≤◌, ◌^◌, Bool, List, [], ◌∷◌, length, Option, Some, None}
 use Rattle.markdown_base.specs.declared.item.Item.{Item}
 use Rattle.markdown_base.specs.Arena.{Arena}
-use Rattle.markdown_base.specs.BlockTree.{Numbered}
-use Rattle.markdown_base.specs.Forest.{Forest, nil}
+use Rattle.markdown_base.specs.Forest.{Forest, nil, node}
+use Rattle.markdown_document.specs.Document.{Part, Label, part_of}
+use Rattle.markdown_document.specs.Setting.{Setting}
+use Rattle.markdown_document.specs.Tables.{Tables}
 use Rattle.markdown_delims.specs.declared.marks.Marks.{Marks}
 use Rattle.markdown_delims.specs.declared.run.Characters.{Characters}
-use Rattle.markdown_delims.specs.MayPair.{OpenRun}
-use Rattle.markdown_delims.specs.Entries.{Entry, Taken, flat, open_of, characters, search, with_pair}
-use Rattle.markdown_delims.specs.Enclosing.{AllTouched}
-use Rattle.markdown_delims.specs.Views.{view_of, Cut, Kept, top}
+use Rattle.markdown_delims.specs.declared.run.Run.{Run}
+use Rattle.markdown_delims.specs.Layers.{marks_of}
+use Rattle.markdown_delims.specs.OpenRuns.{Openers}
+use Rattle.markdown_delims.specs.Pairing.{Read, done_read, waiting, FoundOpener, nearest_opener, layers, after_layers}
+use Rattle.markdown_delims.specs.Pairing.{left_over, run_read}
+use Rattle.markdown_delims.specs.PairingFinds.{run_finds}
+use Rattle.markdown_delims.specs.RunSearch.{OpenRun}
+use Rattle.markdown_delims.specs.Views.{View, parts_of, Cut, Kept, AllTouched, top}
 
--- a chain: which nodes may be written, the link to its first node, and a number above those of its nodes
+-- a chain: the setting and the tables by which its items are read, which nodes may be written, the link to its first
+-- node, and a number above those of its nodes
 pub record Chain : Type 0 where
+  pub setting : Setting
+  pub tables : Tables
   pub touched : ℕ → Bool
   pub first : Option ℕ
   pub bound : ℕ
 
--- what was read of the chain is these entries, and `last` is its last node; the rest follows from the link l on
-pub record Stands (h : Chain) (s : Arena Item) (es : List Entry) (last l : Option ℕ) (rest : Forest Numbered) : Type 0
+-- an arena as the chain reads it
+abbrev pub view : Chain → Arena Item → View Part
+view h s = parts_of (part_of h.setting.text h.tables) s.nodes
+
+-- characters, the first one first, as trees before a chain
+abbrev pub texts : List (Label ℕ) → Forest (Label ℕ) → Forest (Label ℕ)
+texts [] after = after
+texts (v ∷ vs) after = node v nil (texts vs after)
+
+-- characters, the last one first, as trees of a left list: a chain in reverse, whose nearest tree comes first
+abbrev pub left_texts : List (Label ℕ) → Forest (Label ℕ) → Forest (Label ℕ)
+left_texts [] before = before
+left_texts (x ∷ xs) before = node x nil (left_texts xs before)
+
+-- what was read, as a left list
+abbrev pub flat : List (Read ℕ) → Forest (Label ℕ)
+flat [] = nil
+flat (done_read a below ∷ rs) = node a below (flat rs)
+flat (waiting dropped run xs ∷ rs) = left_texts xs (flat rs)
+
+-- the chain of a left list, followed by another chain
+abbrev pub read_back : Forest (Label ℕ) → Forest (Label ℕ) → Forest (Label ℕ)
+read_back nil after = after
+read_back (node a below before) after = read_back before (node a below after)
+
+-- characters, the first one first, are nodes of consecutive numbers from this one on
+abbrev pub FirstFrom : ℕ → List (Label ℕ) → Type 0
+FirstFrom number [] = Unit {0}
+FirstFrom number (v ∷ vs) = (v.tag ≡ number) × (v.part.block ≡ None) × FirstFrom (suc number) vs
+
+-- the same for characters, the last one first
+abbrev pub LastFrom : ℕ → List (Label ℕ) → Type 0
+LastFrom number [] = Unit {0}
+LastFrom number (x ∷ xs) = (x.tag ≡ number + length xs) × (x.part.block ≡ None) × LastFrom number xs
+
+-- characters, the first one first, are those that are left of a closer
+pub record AreFirst (c : Characters) (vs : List (Label ℕ)) : Type 0 where
+  pub from : FirstFrom c.number vs
+  pub count : length vs ≡ c.count
+
+-- characters, the last one first, are those that are left of an opener
+pub record AreLast (c : Characters) (xs : List (Label ℕ)) : Type 0 where
+  pub from : LastFrom c.number xs
+  pub count : length xs ≡ c.count
+
+-- an open run of the stack is this one
+pub record IsOpen (r : OpenRun) (dropped : Bool) (run : Run) (xs : List (Label ℕ)) : Type 0 where
+  pub dropped_is : r.dropped ≡ dropped
+  pub run_is : r.opener.run ≡ run
+  pub are : AreLast r.opener xs
+
+-- the stack holds the open runs of what was read
+abbrev pub AreOpen : List OpenRun → List (Read ℕ) → Type 0
+AreOpen runs [] = runs ≡ []
+AreOpen runs (done_read a below ∷ rs) = AreOpen runs rs
+AreOpen [] (waiting dropped run xs ∷ rs) = ⊥
+AreOpen (r ∷ runs) (waiting dropped run xs ∷ rs) = IsOpen r dropped run xs × AreOpen runs rs
+
+-- what was read of the chain is this, and `last` is its last node; the rest follows from the link l on
+pub record Stands (h : Chain) (s : Arena Item) (rs : List (Read ℕ)) (last l : Option ℕ)
+    (rest : Forest (Label ℕ)) : Type 0
   where
-    pub cut : Cut h.touched (view_of s.nodes) h.first (flat es) l rest h.bound
-    pub last_is : last ≡ top (flat es)
-    pub left_touched : AllTouched h.touched (flat es)
+    pub cut : Cut h.touched (view h s) h.first (flat rs) l rest h.bound
+    pub last_is : last ≡ top (flat rs)
+    pub left_touched : AllTouched h.touched (flat rs)
     pub rest_touched : AllTouched h.touched rest
+    pub few : length s.nodes < 2 ^ 63
 
 -- t is s with the chain read further, and nothing else changed
-pub record Reads (h : Chain) (s t : Arena Item) (es : List Entry) (last l : Option ℕ) (rest : Forest Numbered) : Type 0
+pub record Reads (h : Chain) (s t : Arena Item) (rs : List (Read ℕ)) (last l : Option ℕ)
+    (rest : Forest (Label ℕ)) : Type 0
   where
-    pub stands : Stands h t es last l rest
+    pub stands : Stands h t rs last l rest
     pub kept : Kept h.touched s t
 
 -- the rest begins with the characters of a closer
-abbrev pub StandsAt : Chain → Arena Item → List Entry → Option ℕ → ℕ → Characters → Forest Numbered → Type 0
-StandsAt h s es last start closer after = Stands h s es last (Some closer.number)
-    (characters closer.number start closer.count after)
+pub record StandsAt (h : Chain) (s : Arena Item) (rs : List (Read ℕ)) (last : Option ℕ) (closer : Characters)
+    (vs : List (Label ℕ)) (after : Forest (Label ℕ)) : Type 0 where
+  pub stands : Stands h s rs last (Some closer.number) (texts vs after)
+  pub are : AreFirst closer vs
 
--- the number of characters that pair
-abbrev pub count_of : Characters → Characters → ℕ
-count_of opener closer = min opener.count closer.count
+-- a closer's search finds this opener
+pub record Finds (rs : List (Read ℕ)) (opener closer : Characters) (found : FoundOpener ℕ) : Type 0 where
+  pub finds : nearest_opener closer.run rs nil ≡ Some found
+  pub run_is : opener.run ≡ found.run
+  pub are : AreLast opener found.characters
 
 -- a closer pairs with the opener that its search finds
-abbrev pub Pairs : Marks → ℕ → Characters → Characters → ℕ → Arena Item → Arena Item → ℕ → Option ℕ → Type 0
-Pairs m start opener closer last s t root rest =
-    (h : Chain) (es : List Entry) (after : Forest Numbered) (taken : Taken)
-    → StandsAt h s es (Some last) start closer after
-    → search closer.run es nil ≡ Some taken → taken.opener ≡ opener
-    → Reads h s t (with_pair m start closer taken) (Some root) rest
-    (characters (closer.number + count_of opener closer) (start + count_of opener closer)
-    (closer.count - count_of opener closer) after)
+abbrev pub Pairs : Marks → Characters → Characters → ℕ → Arena Item → Arena Item → ℕ → Option ℕ → Type 0
+Pairs m opener closer last s t root rest =
+    (h : Chain) (rs : List (Read ℕ)) (vs : List (Label ℕ)) (after : Forest (Label ℕ)) (found : FoundOpener ℕ)
+    → marks_of h.setting.rules.options ≡ m → StandsAt h s rs (Some last) closer vs after → Finds rs opener closer found
+    → Reads h s t (after_layers found (layers h.setting found.run.delimiter found.characters vs found.inside))
+    (Some root) rest (texts (layers h.setting found.run.delimiter found.characters vs found.inside).closing after)
 
 -- there is a chain in which the closer's search finds that opener
-pub record CanPair (start : ℕ) (opener closer : Characters) (last : ℕ) (s : Arena Item) : Type 0 where
+pub record CanPair (m : Marks) (opener closer : Characters) (last : ℕ) (s : Arena Item) : Type 0 where
   pub chain : Chain
-  pub es : List Entry
-  pub after : Forest Numbered
-  pub taken : Taken
-  pub stands : StandsAt chain s es (Some last) start closer after
-  pub finds : search closer.run es nil ≡ Some taken
-  pub opener_is : taken.opener ≡ opener
+  pub marks_are : marks_of chain.setting.rules.options ≡ m
+  pub rs : List (Read ℕ)
+  pub vs : List (Label ℕ)
+  pub after : Forest (Label ℕ)
+  pub found : FoundOpener ℕ
+  pub stands : StandsAt chain s rs (Some last) closer vs after
+  pub finds : Finds rs opener closer found
 
--- what was read of the chain is these entries, and the open runs are those among them
-pub record IsRead (h : Chain) (s t : Arena Item) (es : List Entry) (runs : List OpenRun) (last l : Option ℕ)
-    (rest : Forest Numbered) : Type 0 where
-  pub reads : Reads h s t es last l rest
-  pub runs_are : runs ≡ open_of es
+-- what was read of the chain is this, and the open runs are those of it
+pub record IsRead (h : Chain) (s t : Arena Item) (rs : List (Read ℕ)) (runs : List OpenRun) (last l : Option ℕ)
+    (rest : Forest (Label ℕ)) : Type 0 where
+  pub reads : Reads h s t rs last l rest
+  pub are : AreOpen runs rs
 
--- a chain whose rest begins with the characters of a closer is read past them, and `next` maps the entries before to
--- those after
-abbrev pub ReadsOn : (List Entry → List Entry) → ℕ → Characters → Option ℕ → Arena Item → Arena Item → List OpenRun
-    → List OpenRun → Option ℕ → Option ℕ → Type 0
-ReadsOn next start closer last s t runs runs' last' l =
-    (h : Chain) (es : List Entry) (after : Forest Numbered) → StandsAt h s es last start closer after
-    → runs ≡ open_of es → IsRead h s t (next es) runs' last' l after
+-- the characters of a run that closes nothing more are read
+abbrev pub Keeps : Characters → Arena Item → List OpenRun → List OpenRun → Option ℕ → Option ℕ → Type 0
+Keeps left s runs runs' last' l =
+    (h : Chain) (rs : List (Read ℕ)) (last : Option ℕ) (vs : List (Label ℕ)) (after : Forest (Label ℕ))
+    → StandsAt h s rs last left vs after → AreOpen runs rs
+    → IsRead h s s (left_over left.run vs rs) runs' last' l after
+
+-- a run is read, and each search that finds was counted
+pub record RunRead (h : Chain) (s t : Arena Item) (run : Run) (vs : List (Label ℕ)) (rs : List (Read ℕ))
+    (old new : Openers) (last l : Option ℕ) (after : Forest (Label ℕ)) : Type 0 where
+  pub is_read : IsRead h s t (run_read h.setting run.can_close run vs rs) new.runs last l after
+  pub found : old.examined + run_finds h.setting run.can_close run vs rs ≤ new.examined
+
+-- the characters of a run are read
+abbrev pub ReadsRun : Marks → Characters → Option ℕ → Arena Item → Arena Item → Openers → Openers → Option ℕ → Option ℕ
+    → Type 0
+ReadsRun m met last s t old new last' l =
+    (h : Chain) (rs : List (Read ℕ)) (vs : List (Label ℕ)) (after : Forest (Label ℕ))
+    → marks_of h.setting.rules.options ≡ m → StandsAt h s rs last met vs after → AreOpen old.runs rs
+    → RunRead h s t met.run vs rs old new last' l after
 
 -- there is such a chain
-pub record CanRead (start : ℕ) (closer : Characters) (last : Option ℕ) (s : Arena Item) (runs : List OpenRun) : Type 0
+pub record CanRead (m : Marks) (met : Characters) (last : Option ℕ) (s : Arena Item) (runs : List OpenRun) : Type 0
   where
     pub chain : Chain
-    pub es : List Entry
-    pub after : Forest Numbered
-    pub stands : StandsAt chain s es last start closer after
-    pub runs_are : runs ≡ open_of es
+    pub marks_are : marks_of chain.setting.rules.options ≡ m
+    pub rs : List (Read ℕ)
+    pub vs : List (Label ℕ)
+    pub after : Forest (Label ℕ)
+    pub stands : StandsAt chain s rs last met vs after
+    pub are : AreOpen runs rs

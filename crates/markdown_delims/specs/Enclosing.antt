@@ -1,55 +1,74 @@
 -- An opener's characters in an arena while they become nodes around a chain.
-use Rattle.std.specs.Prelude.{◌≡◌, ℕ, ◌-◌, Bool, true, List, ◌∷◌, Option, Some}
+use Rattle.std.specs.Prelude.{◌≡◌, ℕ, ◌+◌, ◌-◌, ◌<◌, ◌≤◌, ◌^◌, List, length, Option, Some}
 use Rattle.markdown_base.specs.declared.item.Item.{Item}
-use Rattle.markdown_base.specs.Arena.{Arena}
-use Rattle.markdown_base.specs.BlockTree.{Numbered}
+use Rattle.markdown_base.specs.declared.item.ItemBody.{ItemBody}
+use Rattle.markdown_base.specs.Arena.{Arena, sibling_of}
 use Rattle.markdown_base.specs.Forest.{Forest, nil, node}
+use Rattle.markdown_document.specs.Document.{Shape, Label, shape_of}
+use Rattle.markdown_document.specs.Tables.{Tables}
 use Rattle.markdown_delims.specs.declared.marks.Marks.{Marks}
 use Rattle.markdown_delims.specs.declared.run.Characters.{Characters}
-use Rattle.markdown_delims.specs.Entries.{Entry, characters_after, flat, enclosed}
-use Rattle.markdown_delims.specs.Views.{view_of, Holds, Rises, Cut, Kept, top}
+use Rattle.markdown_delims.specs.ChainStanding.{Chain, view, texts, left_texts, AreFirst, AreLast}
+use Rattle.markdown_delims.specs.Layers.{marks_of}
+use Rattle.markdown_delims.specs.Pairing.{Layers, layers}
+use Rattle.markdown_delims.specs.Views.{Holds, Rises, Cut, Kept, AllTouched, IsMade}
 
--- the surroundings of an opener: which nodes may be written, the link to the whole chain, what precedes the opener, the
--- opener's byte offset, the chain inside, whose numbers are below `hi`, and the chain after the closer, whose numbers
--- are below `bound`
+-- a body reads so, whatever items refer to, and is made by pairing
+pub record IsLayer (b : ItemBody) (shape : List ℕ → Shape) : Type 0 where
+  pub reads : (tables : Tables) (source : List ℕ) → shape_of tables source b ≡ shape source
+  pub made : IsMade b
+
+-- what precedes an opener, its characters, the last one first, what lies between it and its closer, the closer's
+-- characters, the first one first, and what follows it
 pub record Around : Type 0 where
-  pub touched : ℕ → Bool
-  pub first : Option ℕ
-  pub before : Forest Numbered
-  pub start : ℕ
-  pub inside : Forest Numbered
-  pub hi : ℕ
-  pub after : Forest Numbered
-  pub bound : ℕ
+  pub before : Forest (Label ℕ)
+  pub opening : List (Label ℕ)
+  pub inside : Forest (Label ℕ)
+  pub closing : List (Label ℕ)
+  pub after : Forest (Label ℕ)
 
--- each tree of a chain may be written
-abbrev pub AllTouched : (ℕ → Bool) → Forest Numbered → Type 0
-AllTouched touched nil = Unit {0}
-AllTouched touched (node a below after) = (touched a.number ≡ true) × AllTouched touched after
+-- the opener's characters precede the link to what lies inside; the closer is apart
+pub record Encloses (h : Chain) (g : Around) (s : Arena Item) (opener closer : Characters) (inner : Option ℕ) : Type 0
+  where
+    pub opener_are : AreLast opener g.opening
+    pub closer_are : AreFirst closer g.closing
+    pub hi : ℕ
+    pub low : hi ≤ closer.number
+    pub cut : Cut h.touched (view h s) h.first (left_texts g.opening g.before) inner g.inside hi
+    pub right : Holds (view h s) (Some closer.number) (texts g.closing g.after)
+    pub rises : Rises h.touched closer.number (texts g.closing g.after) h.bound
+    pub left_touched : AllTouched h.touched (left_texts g.opening g.before)
+    pub inside_touched : AllTouched h.touched g.inside
+    pub right_touched : AllTouched h.touched (texts g.closing g.after)
+    pub few : length s.nodes < 2 ^ 63
 
--- the first n characters from a number on precede the link of the inner chain; the outer chain is separate
-pub record Encloses (g : Around) (s : Arena Item) (number n : ℕ) (inner outer : Option ℕ) : Type 0 where
-  pub cut : Cut g.touched (view_of s.nodes) g.first (characters_after number g.start n g.before) inner g.inside g.hi
-  pub after : Holds (view_of s.nodes) outer g.after
-  pub rises : Rises g.touched g.hi g.after g.bound
-  pub left_touched : AllTouched g.touched (characters_after number g.start n g.before)
-  pub inside_touched : AllTouched g.touched g.inside
+-- the link to what follows the last of an opener's characters
+abbrev pub inner_of : Characters → Arena Item → Option ℕ
+inner_of opener s = sibling_of s.nodes (opener.number + (opener.count - 1))
 
--- the chain, cut after the nodes that the characters became
-pub record IsEnclosed (g : Around) (s t : Arena Item) (entry : Entry) (es : List Entry) (root : ℕ) (outer : Option ℕ)
-    : Type 0 where
-  pub cut : Cut g.touched (view_of t.nodes) g.first (flat (entry ∷ es)) outer g.after g.bound
-  pub last : Some root ≡ top (flat (entry ∷ es))
-  pub left_touched : AllTouched g.touched (flat (entry ∷ es))
-  pub kept : Kept g.touched s t
+-- there is such an opener
+pub record CanEnclose (m : Marks) (opener closer : Characters) (s : Arena Item) : Type 0 where
+  pub chain : Chain
+  pub marks_are : marks_of chain.setting.rules.options ≡ m
+  pub around : Around
+  pub encloses : Encloses chain around s opener closer (inner_of opener s)
 
--- these entries are what precedes the paired characters
-abbrev pub LeavesOpen : Around → Characters → ℕ → List Entry → Type 0
-LeavesOpen g opener count es = flat es ≡ characters_after opener.number g.start (opener.count - count) g.before
+-- the chain, cut after the outermost layer
+pub record IsEnclosed (h : Chain) (g : Around) (s t : Arena Item) (made : Layers ℕ) (root : ℕ) (rest : Option ℕ)
+    : Type 0
+  where
+    pub whole : Label ℕ
+    pub inside : Forest (Label ℕ)
+    pub cut : Cut h.touched (view h t) h.first (node whole inside (left_texts made.opening g.before)) rest
+        (texts made.closing g.after) h.bound
+    pub whole_is : made.whole ≡ node whole inside nil
+    pub last : whole.tag ≡ root
+    pub left_touched : AllTouched h.touched (node whole inside (left_texts made.opening g.before))
+    pub right_touched : AllTouched h.touched (texts made.closing g.after)
+    pub kept : Kept h.touched s t
 
--- the last `count` characters of an opener enclose the chain inside
-abbrev pub EnclosesAll : Marks → Characters → ℕ → ℕ → Option ℕ → Option ℕ → Arena Item → Arena Item → ℕ → Type 0
-EnclosesAll m opener count end inner outer s t root =
-    (g : Around) (es : List Entry) → Encloses g s opener.number opener.count inner outer → LeavesOpen g opener count es
-    → IsEnclosed g s t (enclosed m opener.run.delimiter opener.number g.start opener.count end count g.inside) es root
-    outer
+-- the characters pair, and enclose what lies inside
+abbrev pub EnclosesAll : Marks → Characters → Characters → Arena Item → Arena Item → ℕ → Option ℕ → Type 0
+EnclosesAll m opener closer s t root rest =
+    (h : Chain) (g : Around) → marks_of h.setting.rules.options ≡ m → Encloses h g s opener closer (inner_of opener s)
+    → IsEnclosed h g s t (layers h.setting opener.run.delimiter g.opening g.closing g.inside) root rest

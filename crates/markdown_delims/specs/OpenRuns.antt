@@ -2,7 +2,7 @@
 use Rattle.std.specs.Prelude.{ℕ, suc, ◌+◌, ◌^◌, ◌<◌, List, [], ◌∷◌, length, nat_lt, All}
 use Rattle.markdown_delims.specs.declared.run.Characters.{Characters}
 use Rattle.markdown_delims.specs.declared.bounds.LowerBounds.{LowerBounds}
-use Rattle.markdown_delims.specs.MayPair.{OpenRun}
+use Rattle.markdown_delims.specs.RunSearch.{OpenRun}
 use Rattle.markdown_delims.specs.Bounds.{BoundStack, above_bounds, drop_bound}
 
 -- the open runs, the nearest first; the number of comparisons with closers; and that number plus the comparisons that

@@ -1,86 +1,54 @@
 //! Pairing a chain in place: its quotes and its last break, and then its delimiter runs.
-ghost use Rattle.std.specs.Prelude.{◌≡◌, ℕ, ◌+◌, ◌-◌, ◌*◌, ◌^◌, ◌<◌, ◌≤◌, [], Some, OnOk, min};
+ghost use Rattle.std.specs.Prelude.{◌≡◌, ℕ, ◌+◌, ◌-◌, ◌*◌, ◌^◌, ◌≤◌, Some, OnOk, min};
 ghost use Rattle.markdown_base.specs.BlockTree.{trees_at};
-ghost use Rattle.markdown_base.specs.Forest.{Forest};
-ghost use Rattle.markdown_base.specs.WellFormed.{run_character};
 ghost use Rattle.markdown_document.specs.Places.{trees_from};
 ghost use Rattle.markdown_document.specs.Setting.{Rules, setting_of};
 ghost use Rattle.markdown_document.specs.Tables.{Tables};
-ghost use Rattle.markdown_delims.specs.EntryFinds.{finds_from};
 ghost use Rattle.markdown_delims.specs.PairingFinds.{finds_in};
-ghost use Rattle.markdown_delims.specs.RunReading.{counts_one, delimiters_of};
-ghost use Rattle.markdown_delims.specs.Quoting.{IsSpelled};
-ghost use Rattle.markdown_delims.specs.ChainForest.{IsChainAt, IsPaired, IsEmptied, CanPairAll, chain_of};
+ghost use Rattle.markdown_delims.specs.RunReading.{delimiters_of};
+ghost use Rattle.markdown_delims.specs.ChainReading.{IsEmptied, CanPairAll, PairsRuns, CountsFinds};
+ghost use Rattle.markdown_delims.specs.ChainReading.{PaysForRuns};
 ghost use Rattle.markdown_delims.specs.PairedChain.{CanPair, PairsChain, ExaminesAtMost};
 ghost use Rattle.markdown_document.specs.Counts.{RisesAtLeast, comparisons_per_delimiter};
 
-use crate::marks::Marks;
+use crate::marks::{Marks, Source};
 use crate::open_runs::OpenRuns;
 use crate::quotes::quote_chain;
 use crate::read::read_tree;
-use markdown_base::item::{Item, ItemBody};
+use markdown_base::item::Item;
 use markdown_base::options::Options;
 use markdown_base::tree::Tree;
 use markdown_document::work::Work;
 use std::alloc::AllocError;
 
-/// Returns 1 for a character of a delimiter run, and 0 for any other body.
-fn counts_one(body: ItemBody) -> u128
-    ensures { result ≡ counts_one (run_character body) }
-{
-    match body {
-        ItemBody::MaybeEmphasis(_, _, _) => 1,
-        _ => 0,
-    }
-}
-
-/// Returns the number of items of the chain from `first` on that are characters of delimiter runs.
-fn count_delimiters(tree: &Tree<Item>, first: usize) -> u128
-    requires chain { (f : Forest ℕ) × IsSpelled tree.now.nodes first f }
-    ensures count { (f : Forest ℕ) → IsSpelled tree.now.nodes first f
-        → result ≡ delimiters_of (chain_of tree.now.nodes f) }
-    ensures small { result < 2 ^ 64 }
-{
-    // bounds the node numbers
-    let _nodes = tree.len();
-    let mut count = 0;
-    let mut cur = Some(first);
-    'trees: while let Some(ix) = cur {
-        let next = tree.next(ix);
-        let more = counts_one(tree.item(ix).body);
-        count += more;
-        cur = next;
-    }
-    count
-}
-
-/// Pairs the delimiter runs of the chain from `first` on, before which no run is open. The error is a refused
-/// allocation, after which the chain may be in any state.
+/// Pairs the delimiter runs of the chain from `first` on, before which no run is open; `count` is the number of their
+/// characters. The error is a refused allocation, after which the chain may be in any state.
 fn pair_runs(
     tree: &mut Tree<Item>,
     openers: &mut OpenRuns,
-    text: &[u8],
-    marks: Marks,
+    source: Source<'_>,
     first: usize,
+    count: u64,
 ) -> Result<(), AllocError>
     requires emptied { IsEmptied openers.old }
-    requires chain { CanPairAll text.now tree.old.nodes first openers.old }
-    ensures pairs { OnOk result ((f : Forest ℕ) → IsChainAt text.now tree.old.nodes first f
-        → IsPaired marks text.now tree.old tree.new first f) }
-    ensures found { OnOk result ((f : Forest ℕ) → IsChainAt text.now tree.old.nodes first f
-        → openers.old.examined + finds_from marks text.now 0 (chain_of tree.old.nodes f) []
-        ≤ openers.new.examined) }
+    requires chain { CanPairAll source.marks source.text.now tree.old.nodes first count
+        openers.old }
+    ensures pairs { OnOk result (PairsRuns source.entry.marks source.entry.text.now
+        tree.old tree.new first count) }
+    ensures found { OnOk result (CountsFinds source.entry.marks source.entry.text.now
+        tree.old.nodes first count openers.old openers.new) }
 
     // whatever comes
-    ensures paid { (f : Forest ℕ) → IsChainAt text.now tree.old.nodes first f
-        → openers.new.potential
-        ≤ openers.old.potential + comparisons_per_delimiter * delimiters_of
-        (chain_of tree.old.nodes f) }
+    ensures paid { PaysForRuns source.entry.marks source.entry.text.now tree.old.nodes first
+        count openers.old openers.new }
 {
+    if count == 0 {
+        return Ok(());
+    }
     let mut last = None;
     let mut cur = Some(first);
     'trees: while let Some(ix) = cur {
-        let (read, next) = read_tree(tree, openers, text, marks, ix, last)?;
+        let (read, next) = read_tree(tree, openers, source, ix, last)?;
         last = read;
         cur = next;
     }
@@ -124,11 +92,13 @@ pub fn pair_chain(
     } }
 {
     open_runs.clear();
-    let delimiters = count_delimiters(tree, first);
-    let marks = Marks::of_options(options);
-    quote_chain(tree, first);
-    let done = pair_runs(tree, open_runs, text.as_bytes(), marks, first);
-    work.delimiters = work.delimiters.saturating_add(delimiters);
+    let source = Source {
+        text: text.as_bytes(),
+        marks: Marks::of_options(options),
+    };
+    let delimiters = quote_chain(tree, first);
+    let done = pair_runs(tree, open_runs, source, first, delimiters);
+    work.delimiters = work.delimiters.saturating_add(delimiters as u128);
     work.examined = work.examined.saturating_add(open_runs.examined());
     done
 }

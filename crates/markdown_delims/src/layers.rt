@@ -1,8 +1,7 @@
 //! Characters of an opener become nodes around what follows them.
-ghost use Rattle.std.specs.Prelude.{◌≡◌, ◌+◌, ◌^◌, ◌<◌, ◌≤◌, IfSome, length};
+ghost use Rattle.std.specs.Prelude.{◌≡◌, ◌+◌, ◌<◌, length};
 ghost use Rattle.markdown_base.specs.BlockTree.{item_at};
-ghost use Rattle.markdown_delims.specs.Views.{Wrote};
-ghost use Rattle.markdown_delims.specs.Enclosing.{Encloses, EnclosesAll};
+ghost use Rattle.markdown_delims.specs.Enclosing.{CanEnclose, EnclosesAll};
 
 use crate::marks::Marks;
 use crate::nodes::put_node;
@@ -10,90 +9,63 @@ use crate::run::Characters;
 use markdown_base::item::{Item, ItemBody};
 use markdown_base::tree::Tree;
 
-/// Makes the node `root` enclose the chain from `inside` on, with a range that ends at the byte offset `end`.
-fn enclose_in(
-    tree: &mut Tree<Item>,
-    root: usize,
-    end: usize,
-    body: ItemBody,
-    inside: Option<usize>,
-    next: Option<usize>,
-)
-    requires node { root < length tree.old.nodes }
-    requires inside { IfSome inside (λ below. below < length tree.old.nodes) }
-    requires next { IfSome next (λ after. after < length tree.old.nodes) }
-    ensures { Wrote tree.old tree.new root (record {
-      start = (item_at tree.old.nodes root).start;
-      end = end;
-      body =
-          body;
-    }) inside next }
+/// Returns an item with the range from one node's item to another's.
+fn spanned(tree: &Tree<Item>, opener: usize, closer: usize, body: ItemBody) -> Item
+    requires opener { opener < length tree.now.nodes }
+    requires closer { closer < length tree.now.nodes }
+    ensures { result
+        ≡ record {
+          start = (item_at tree.now.nodes opener).start;
+          end = (item_at tree.now.nodes closer).end;
+          body = body;
+        } }
 {
-    let start = tree.item(root).start;
-    put_node(tree, root, Item { start, end, body }, inside, next);
+    let start = tree.item(opener).start;
+    let end = tree.item(closer).end;
+    Item { start, end, body }
 }
 
-/// Makes the last `count` characters of an opener, as nodes, enclose the chain from `inside` on, from the inside out:
-/// two characters at a time, and a last one alone. The ranges extend over the closer's `count` bytes after `end`. The
-/// chain from `rest` on follows. Returns the number of the outermost node.
+/// Makes the last characters of an opener, as nodes, enclose what follows them, with as many of the first characters of
+/// a closer: from the inside out, two at a time, and a last one alone. What follows those of the closer follows the
+/// outermost node. Returns that node's number, and the link to what follows it.
 pub fn enclose(
     tree: &mut Tree<Item>,
     marks: Marks,
     opener: Characters,
-    count: usize,
-    end: usize,
-    inside: Option<usize>,
-    rest: Option<usize>,
-) -> usize
-    requires some { 0 < count }
-    requires enough { count ≤ opener.count }
-    requires room { end + count < 2 ^ 64 }
-    requires stands { (g : _) × Encloses g tree.old opener.number opener.count inside rest }
-    ensures { EnclosesAll marks opener count end inside rest tree.old tree.new result }
+    closer: Characters,
+) -> (usize, Option<usize>)
+    requires some_open { 0 < opener.count }
+    requires some_close { 0 < closer.count }
+    requires stands { CanEnclose marks opener closer tree.old }
+    ensures { EnclosesAll marks opener closer tree.old tree.new result.0 result.1 }
 {
-    // bounds the node numbers
-    let _nodes = tree.len();
     let delimiter = opener.run.delimiter;
-    let mut top = opener.count;
-    let mut left = count;
-    let mut inner = inside;
-    let mut reached = end;
+    let mut opener = opener;
+    let mut closer = closer;
+    let mut left = opener.count.min(closer.count);
+    let mut inner = tree.next(opener.number + (opener.count - 1));
     'layers: while left > 2 {
-        let root = opener.number + (top - 2);
-        reached += 2;
-        enclose_in(
-            tree,
-            root,
-            reached,
-            marks.layer_of_two(delimiter),
-            inner,
-            None,
-        );
+        let root = opener.number + (opener.count - 2);
+        let item = spanned(tree, root, closer.number + 1, marks.layer_of_two(delimiter));
+        put_node(tree, root, item, inner, None);
         inner = Some(root);
-        top -= 2;
+        opener.count -= 2;
+        closer.number += 2;
+        closer.count -= 2;
         left -= 2;
     }
     if left == 2 {
-        let root = opener.number + (top - 2);
-        enclose_in(
-            tree,
-            root,
-            reached + 2,
-            marks.layer_of_two(delimiter),
-            inner,
-            rest,
-        );
-        root
+        let root = opener.number + (opener.count - 2);
+        let end = closer.number + 1;
+        let item = spanned(tree, root, end, marks.layer_of_two(delimiter));
+        let rest = tree.next(end);
+        put_node(tree, root, item, inner, rest);
+        (root, rest)
     } else {
-        let root = opener.number + (top - 1);
-        enclose_in(
-            tree,
-            root,
-            reached + 1,
-            marks.layer_of_one(delimiter),
-            inner,
-            rest,
-        );
-        root
+        let root = opener.number + (opener.count - 1);
+        let item = spanned(tree, root, closer.number, marks.layer_of_one(delimiter));
+        let rest = tree.next(closer.number);
+        put_node(tree, root, item, inner, rest);
+        (root, rest)
     }
 }

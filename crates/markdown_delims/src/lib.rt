@@ -7,7 +7,7 @@ pub mod chain;
 mod close;
 pub mod laws;
 mod layers;
-pub mod marks;
+mod marks;
 mod nodes;
 pub mod open_runs;
 mod pair;

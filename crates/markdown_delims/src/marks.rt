@@ -1,7 +1,11 @@
 //! What paired characters become, by the enabled marks.
 ghost use Rattle.std.specs.Prelude.{◌≡◌};
-ghost use Rattle.markdown_delims.specs.MarkBodies.{body_of_one, body_of_two, item_run};
+ghost use Rattle.markdown_document.specs.Document.{part_of};
+ghost use Rattle.markdown_document.specs.Tables.{Tables};
+ghost use Rattle.markdown_delims.specs.Enclosing.{IsLayer};
+ghost use Rattle.markdown_delims.specs.Layers.{layer_of_one, layer_of_two, run_of};
 ghost use Rattle.markdown_delims.specs.MayPair.{delimiter_of};
+ghost use Rattle.markdown_delims.specs.ChainReading.{HasCount};
 
 use crate::run::{Delimiter, Run};
 use markdown_base::item::{Item, ItemBody};
@@ -31,7 +35,7 @@ impl Marks {
 
     /// Returns the body of a layer of two characters.
     pub fn layer_of_two(self, delimiter: Delimiter) -> ItemBody
-        ensures { result ≡ body_of_two self delimiter }
+        ensures { IsLayer result (layer_of_two self delimiter) }
     {
         let whole_text = ItemBody::Text {
             backslash_escaped: false,
@@ -53,7 +57,7 @@ impl Marks {
 
     /// Returns the body of a layer of one character.
     pub fn layer_of_one(self, delimiter: Delimiter) -> ItemBody
-        ensures { result ≡ body_of_one self delimiter }
+        ensures { IsLayer result (layer_of_one self delimiter) }
     {
         let whole_text = ItemBody::Text {
             backslash_escaped: false,
@@ -78,6 +82,13 @@ impl Marks {
     }
 }
 
+/// A source text, with the enabled marks.
+#[derive(Clone, Copy)]
+pub struct Source<'a> {
+    pub text: &'a [u8],
+    pub marks: Marks,
+}
+
 /// Returns the delimiter of a byte; `None` for bytes that are not delimiters.
 pub fn delimiter_of(byte: u8) -> Option<Delimiter>
     ensures { result ≡ delimiter_of byte }
@@ -93,7 +104,8 @@ pub fn delimiter_of(byte: u8) -> Option<Delimiter>
 
 /// Returns the delimiter run that an item's character begins; `None` if the item is not a character of a run.
 pub fn run_of(text: &[u8], item: Item) -> Option<Run>
-    ensures { result ≡ item_run text.now item }
+    ensures { (tables : Tables) → HasCount item.body
+        → result ≡ run_of text.now (part_of text.now tables item) }
 {
     match item.body {
         ItemBody::MaybeEmphasis(length, can_open, can_close) => {

@@ -1,10 +1,10 @@
-//! Writes of nodes of a tree: of a whole node, or of its next sibling only.
+//! Writes of nodes of a tree: of a whole node, of its item's body only, or of its next sibling only.
 ghost use Rattle.std.specs.Prelude.{◌≡◌, ◌<◌, IfSome, length};
 ghost use Rattle.markdown_base.specs.Arena.{child_of};
 ghost use Rattle.markdown_base.specs.BlockTree.{item_at};
-ghost use Rattle.markdown_delims.specs.Views.{Wrote};
+ghost use Rattle.markdown_delims.specs.Views.{Wrote, WroteBody};
 
-use markdown_base::item::Item;
+use markdown_base::item::{Item, ItemBody};
 use markdown_base::tree::Tree;
 
 /// Replaces the item and the links of a node.
@@ -23,6 +23,22 @@ pub fn put_node(
     tree.set_item(ix, item);
     tree.set_child(ix, child);
     tree.set_next(ix, next);
+}
+
+/// Replaces the body of a node's item.
+pub fn put_body(tree: &mut Tree<Item>, ix: usize, body: ItemBody)
+    requires { ix < length tree.old.nodes }
+    ensures { WroteBody tree.old tree.new ix body }
+{
+    let item = *tree.item(ix);
+    tree.set_item(
+        ix,
+        Item {
+            start: item.start,
+            end: item.end,
+            body,
+        },
+    );
 }
 
 /// Replaces the next sibling of a node.

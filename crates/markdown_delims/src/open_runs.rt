@@ -2,7 +2,8 @@
 ghost use Rattle.std.specs.Prelude.{false, ◌≡◌, ℕ, ◌+◌, ◌^◌, ◌<◌, ◌≤◌, [], ◌∷◌, IfSome, IfNone, OnOk, OnErr};
 ghost use Rattle.std.specs.Prelude.{slice_index_or, vec_len};
 ghost use Rattle.markdown_document.specs.Counts.{comparisons_per_delimiter};
-ghost use Rattle.markdown_delims.specs.MayPair.{may_pair, nearest_run, dropped_by};
+ghost use Rattle.markdown_delims.specs.MayPair.{may_pair};
+ghost use Rattle.markdown_delims.specs.RunSearch.{nearest_run, dropped_by};
 ghost use Rattle.markdown_delims.specs.declared.run.Characters.{Characters as CharactersValue};
 
 use crate::bounds::LowerBounds;

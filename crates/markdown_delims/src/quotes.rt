@@ -1,9 +1,13 @@
 //! Quotes of a chain under smart punctuation, and a hard break by a backslash at its end.
-ghost use Rattle.std.specs.Prelude.{◌≡◌, ℕ, ◌<◌, Bool, Option, length};
-ghost use Rattle.markdown_base.specs.Forest.{Forest};
-ghost use Rattle.markdown_delims.specs.QuoteBodies.{kind_of};
-ghost use Rattle.markdown_delims.specs.Quoting.{WroteBody, QuotesTree, CanQuote, IsSpelled, IsQuoted};
+ghost use Rattle.std.specs.Prelude.{◌≡◌, ◌<◌, ◌^◌, ℕ, Bool, List, Option, length};
+ghost use Rattle.markdown_base.specs.WellFormed.{run_character};
+ghost use Rattle.markdown_document.specs.Document.{shape_of};
+ghost use Rattle.markdown_document.specs.Tables.{Tables};
+ghost use Rattle.markdown_delims.specs.Quotes.{kind_of_shape};
+ghost use Rattle.markdown_delims.specs.Quoting.{QuotesTree, CanQuote, CanQuoteChain, QuotesChain, Counts};
+ghost use Rattle.markdown_delims.specs.RunReading.{counts_one};
 
+use crate::nodes::put_body;
 use markdown_base::item::{Item, ItemBody};
 use markdown_base::tree::Tree;
 
@@ -17,8 +21,16 @@ pub enum Kind {
     Other,
 }
 
+/// The `'` that is remembered, if any, which a later one may close, and whether a `"` is open.
+#[derive(Clone, Copy)]
+pub struct OpenQuotes {
+    pub single: Option<usize>,
+    pub double: bool,
+}
+
 fn kind_of(body: ItemBody) -> Kind
-    ensures { result ≡ kind_of body }
+    ensures { (tables : Tables) (source : List ℕ)
+        → result ≡ kind_of_shape (shape_of tables source body) }
 {
     match body {
         ItemBody::MaybeSmartQuote(quote, opens, closes) => {
@@ -37,24 +49,17 @@ fn kind_of(body: ItemBody) -> Kind
     }
 }
 
-/// Replaces the body of a node's item.
-fn put_body(tree: &mut Tree<Item>, ix: usize, body: ItemBody)
-    requires { ix < length tree.old.nodes }
-    ensures { WroteBody tree.old tree.new ix body }
+/// Returns 1 for a character of a delimiter run, and 0 for any other body.
+fn counts_one(body: ItemBody) -> u64
+    ensures { result ≡ counts_one (run_character body) }
 {
-    let item = *tree.item(ix);
-    tree.set_item(
-        ix,
-        Item {
-            start: item.start,
-            end: item.end,
-            body,
-        },
-    );
+    match body {
+        ItemBody::MaybeEmphasis(_, _, _) => 1,
+        _ => 0,
+    }
 }
 
-/// Reads a `'`; `single` is the one that is remembered, if any, which a later one may close. Returns the one that is
-/// remembered afterwards.
+/// Reads a `'`; `single` is the one that is remembered, if any. Returns the one that is remembered afterwards.
 fn quote_single(
     tree: &mut Tree<Item>,
     ix: usize,
@@ -64,8 +69,9 @@ fn quote_single(
 ) -> Option<usize>
     requires stands { CanQuote ix tree.old single }
     ensures quotes { (double last : Bool)
-        → QuotesTree (Kind.Single opens closes) ix last tree.old tree.new single double result
-        double }
+        → QuotesTree (Kind.Single opens closes) ix last tree.old tree.new
+        (record { single = single; double = double })
+        (record { single = result; double = double }) }
 {
     match single {
         None => {
@@ -88,8 +94,9 @@ fn quote_single(
 fn quote_double(tree: &mut Tree<Item>, ix: usize, double: bool, opens: bool, closes: bool) -> bool
     requires stands { (single : Option ℕ) × CanQuote ix tree.old single }
     ensures quotes { (single : Option ℕ) (last : Bool)
-        → QuotesTree (Kind.Double opens closes) ix last tree.old tree.new single double single
-        result }
+        → QuotesTree (Kind.Double opens closes) ix last tree.old tree.new
+        (record { single = single; double = double })
+        (record { single = single; double = result }) }
 {
     if double && closes {
         put_body(tree, ix, ItemBody::SynthesizeChar('”'));
@@ -100,47 +107,59 @@ fn quote_double(tree: &mut Tree<Item>, ix: usize, double: bool, opens: bool, clo
     }
 }
 
-/// Reads a tree of a chain. Returns the `'` that is remembered afterwards, if any, and whether a `"` is open.
+/// Reads a tree of a chain; `last` says whether none follows it. Returns the quotes that are open afterwards.
 fn quote_tree(
     tree: &mut Tree<Item>,
     kind: Kind,
     ix: usize,
     last: bool,
-    single: Option<usize>,
-    double: bool,
-) -> (Option<usize>, bool)
-    requires stands { CanQuote ix tree.old single }
-    ensures quotes { QuotesTree kind ix last tree.old tree.new single double result.0 result.1 }
+    opened: OpenQuotes,
+) -> OpenQuotes
+    requires stands { CanQuote ix tree.old opened.single }
+    ensures quotes { QuotesTree kind ix last tree.old tree.new opened result }
 {
     match kind {
-        Kind::Single(opens, closes) => (quote_single(tree, ix, single, opens, closes), double),
-        Kind::Double(opens, closes) => (single, quote_double(tree, ix, double, opens, closes)),
+        Kind::Single(opens, closes) => OpenQuotes {
+            single: quote_single(tree, ix, opened.single, opens, closes),
+            double: opened.double,
+        },
+        Kind::Double(opens, closes) => OpenQuotes {
+            single: opened.single,
+            double: quote_double(tree, ix, opened.double, opens, closes),
+        },
         Kind::Break => {
             if last {
                 put_body(tree, ix, ItemBody::SynthesizeChar('\\'));
-                return (single, double);
+                return opened;
             }
-            (single, double)
+            opened
         }
-        Kind::Other => (single, double),
+        Kind::Other => opened,
     }
 }
 
-/// Reads the quotes of the chain from `first` on, and its last break.
-pub fn quote_chain(tree: &mut Tree<Item>, first: usize)
-    requires chain { (f : Forest ℕ) × IsSpelled tree.old.nodes first f }
-    ensures quotes { (f : Forest ℕ) → IsSpelled tree.old.nodes first f
-        → IsQuoted tree.old tree.new first f }
+/// Reads the quotes of the chain from `first` on, and its last break. Returns the number of its items that are
+/// characters of delimiter runs.
+pub fn quote_chain(tree: &mut Tree<Item>, first: usize) -> u64
+    requires chain { CanQuoteChain tree.old.nodes first }
+    ensures quotes { QuotesChain tree.old tree.new first }
+    ensures count { Counts tree.old.nodes first result }
+    ensures small { length tree.new.nodes < 2 ^ 63 }
 {
-    let mut single = None;
-    let mut double = false;
+    // bounds the node numbers
+    let _nodes = tree.len();
+    let mut opened = OpenQuotes {
+        single: None,
+        double: false,
+    };
+    let mut delimiters = 0;
     let mut cur = Some(first);
     'trees: while let Some(ix) = cur {
         let next = tree.next(ix);
-        let kind = kind_of(tree.item(ix).body);
-        let (remembered, open) = quote_tree(tree, kind, ix, next.is_none(), single, double);
-        single = remembered;
-        double = open;
+        let body = tree.item(ix).body;
+        delimiters += counts_one(body);
+        opened = quote_tree(tree, kind_of(body), ix, next.is_none(), opened);
         cur = next;
     }
+    delimiters
 }

@@ -1,16 +1,18 @@
 -- The pairing of the rest is that of the whole, for any chain from `first` on.
-use Rattle.std.proofs.Common.{[], ℕ, length}
+use Rattle.std.proofs.Common.{◌≡◌, ℕ, length}
 use Rattle.markdown_base.specs.Forest.{Forest}
-use Rattle.markdown_delims.specs.ChainForest.{IsChainAt, chain_of}
-use Rattle.markdown_delims.specs.RunReading.{ReadFurther}
-use Rattle.markdown_delims.proofs.ChainLemmas.{whole_chain, numbers_left}
+use Rattle.markdown_document.specs.Setting.{Setting}
+use Rattle.markdown_document.specs.Tables.{Tables}
+use Rattle.markdown_delims.specs.ChainReading.{IsChainAt}
+use Rattle.markdown_delims.specs.Layers.{marks_of}
+use Rattle.markdown_delims.proofs.ChainLemmas.{RunsRead, numbers_left}
 use Rattle.markdown_delims.proofs.chain.pair_runs.Given as goal
 
 abbrev pub invariant-trees : goal.invariant-trees
 invariant-trees l =
-    (f : Forest ℕ) (c : IsChainAt l.text l.fn.tree.nodes l.first f)
-    → ReadFurther l.marks l.text (whole_chain l.marks l.text l.fn.tree l.first f c) l.fn.tree l.tree [] (chain_of l.fn.tree.nodes f)
-    l.fn.openers l.openers l.last l.cur 0
+    (s : Setting) (tables : Tables) (f : Forest ℕ) → marks_of s.rules.options ≡ l.source.marks → s.text ≡ l.source.text.now
+    → (c : IsChainAt s tables l.fn.tree.nodes l.first l.count f)
+    → RunsRead s tables l.fn.tree l.first l.count f c l.tree l.fn.openers l.openers l.last l.cur
 
 abbrev pub decreases-trees : goal.decreases-trees
 decreases-trees l = numbers_left (length l.tree.nodes) l.cur

@@ -1,86 +1,79 @@
 -- Layer by layer, for any surroundings of the opener.
-use Rattle.std.proofs.Common.{◌≡◌, ◌-◌, ◌≤◌, subst, refl, arith}
-use Rattle.markdown_delims.proofs.EncloseLemmas.{layers_begin, layers_more, layers_two, layers_one, root_of_two, root_of_one, outer_within}
-use Rattle.markdown_delims.proofs.EncloseLemmas.{wrote_body, LayersAt}
-use Rattle.markdown_delims.specs.Entries.{flat, characters_after}
+use Rattle.std.proofs.Common.{◌≡◌, ℕ, List, Some, ◌+◌, ◌-◌, ◌<◌, min, sym, subst, refl, arith}
+use Rattle.markdown_base.specs.declared.item.ItemBody.{ItemBody}
+use Rattle.markdown_document.specs.Document.{Shape}
+use Rattle.markdown_delims.specs.Enclosing.{IsLayer, Around, Encloses, inner_of, CanEnclose}
+use Rattle.markdown_delims.specs.ChainStanding.{Chain}
+use Rattle.markdown_delims.specs.Layers.{marks_of, layer_of_one, layer_of_two}
+use Rattle.markdown_delims.specs.declared.marks.Marks.{Marks}
+use Rattle.markdown_delims.specs.declared.run.Characters.{Characters}
+use Rattle.markdown_delims.proofs.EncloseLemmas.{layers_begin, layers_more, layers_two, layers_one, layers_fit, LayersAt, LayersFit}
+use Rattle.markdown_delims.proofs.WriteLemmas.{wrote_as}
 use Rattle.markdown_delims.proofs.layers.enclose.Goals as goal
 
-pub overflow_add-root : goal.overflow_add-root
-overflow_add-root c =
-    let g = c.requires.stands in
-    let a = c.layers.invariant.layers g.0 g.1 in
-    let r = root_of_two _ _ _ _ _ _ _ _ _ _ _ _ a (let e : 2 ≤ c.layers.top = omega arith in e) in
-    let z = a.kept.size in
-    omega arith
+-- before the first layer
+first_fits : (m : Marks) (o c : Characters) (s : _) → 0 < o.count → 0 < c.count → CanEnclose m o c s
+    → LayersFit s o c (min o.count c.count) (inner_of o s)
+first_fits m o c s some_open some_close p =
+    layers_fit p.chain p.around s s s o.run.delimiter o c (min o.count c.count) (inner_of o s)
+    (layers_begin p.chain p.around s o.run.delimiter o c (min o.count c.count) (inner_of o s) refl p.encloses) (omega arith)
 
-pub enclose_in-requires-clause-node : goal.enclose_in-requires-clause-node
-enclose_in-requires-clause-node c =
-    let g = c.requires.stands in
-    root_of_two _ _ _ _ _ _ _ _ _ _ _ _ (c.layers.invariant.layers g.0 g.1) (let e : 2 ≤ c.layers.top = omega arith in e)
+layer_by : (b : ItemBody) (shape : Marks → List ℕ → Shape) (m n : Marks) → n ≡ m → IsLayer b (shape m) → IsLayer b (shape n)
+layer_by b shape m n e is = subst (λ x. IsLayer b (shape x)) (sym e) is
+
+pub overflow_add-opener : goal.overflow_add-opener
+overflow_add-opener c =
+    let f = first_fits c.args.marks c.args.opener c.args.closer c.args.tree.now c.requires.some_open c.requires.some_close c.requires.stands
+    in
+    omega (arith, f.root_of_one, f.few)
+
+pub next-inner-requires : goal.next-inner-requires
+next-inner-requires c =
+    (first_fits c.args.marks c.args.opener c.args.closer c.args.tree.now c.requires.some_open c.requires.some_close
+    c.requires.stands).root_of_one
 
 pub layers-init : goal.layers-init
 layers-init c =
-    record {
-      layers = λ g e. layers_begin c.args.marks c.args.opener c.args.count c.args.end c.args.rest g c.args.tree.now c.args.inside e;
-      some = c.requires.some;
-      enough = c.requires.enough;
-      reached = refl;
-      spent = omega arith;
-    }
+    let p = c.requires.stands in
+    rw (c.min-left.ensures, c.next-inner.ensures.value)
+    (record {
+      layers = λ h g m e. layers_begin h g c.args.tree.now c.args.opener.run.delimiter c.args.opener c.args.closer _ _ refl e;
+      some = omega arith;
+      fits = first_fits c.args.marks c.args.opener c.args.closer c.args.tree.now c.requires.some_open c.requires.some_close p;
+    })
 
 pub layers-preserved : goal.layers-preserved
 layers-preserved c =
+    let p = c.requires.stands in
+    let more : (h : Chain) (g : Around) → marks_of h.setting.rules.options ≡ c.args.marks
+    → Encloses h g c.args.tree.now c.args.opener c.args.closer (inner_of c.args.opener c.args.tree.now)
+    → LayersAt h g c.args.tree.now c.put_node.new.tree c.args.opener.run.delimiter
+    (record c.layers.opener { count = c.layers.opener.count - 2 })
+    (record c.layers.closer { number = c.layers.closer.number + 2; count = c.layers.closer.count - 2 }) (c.layers.left - 2)
+    (Some (c.layers.opener.number + (c.layers.opener.count - 2))) =
+    λ h g m e. layers_more h g c.args.tree.now c.layers.tree c.put_node.new.tree c.args.opener.run.delimiter c.layers.opener
+    c.layers.closer c.layers.left c.layers.inner (c.layers.invariant.layers h g m e) c.layer_of_two.result
+    (layer_by c.layer_of_two.result (λ m. layer_of_two m c.args.opener.run.delimiter) _ _ m c.layer_of_two.ensures) _ refl
+    c.layers-test.true (wrote_as _ _ _ _ _ _ _ _ _ c.put_node.ensures c.spanned-item.ensures refl refl) in
     record {
-      layers = λ g e.
-          layers_more c.args.marks c.args.opener c.args.count c.args.end c.args.rest g c.args.tree.now c.layers.tree c.enclose_in.new.tree
-          c.layers.top c.layers.left c.layers.reached c.layers.inner
-          (omega arith) c.layers.invariant.enough (c.layers.invariant.layers g e)
-          (wrote_body _ _ _ _ _ _ _ _ _ c.layer_of_two.ensures c.enclose_in.ensures);
+      layers = more;
       some = omega arith;
-      enough = omega arith;
-      reached = omega arith;
-      spent = omega arith;
+      fits = layers_fit p.chain p.around _ _ c.put_node.new.tree _ _ _ _ _ (more p.chain p.around p.marks_are p.encloses) (omega arith);
     }
 
-pub enclose_in-requires-then-left-eq2-clause-node : goal.enclose_in-requires-then-left-eq2-clause-node
-enclose_in-requires-then-left-eq2-clause-node c =
-    let g = c.requires.stands in
-    root_of_two _ _ _ _ _ _ _ _ _ _ _ _ (c.layers.invariant.layers g.0 g.1) (let e : 2 ≤ c.layers.top = omega arith in e)
-
-pub enclose_in-requires-then-left-eq2-clause-next : goal.enclose_in-requires-then-left-eq2-clause-next
-enclose_in-requires-then-left-eq2-clause-next c =
-    let g = c.requires.stands in
-    outer_within _ _ _ _ _ _ _ _ _ _ _ _ (c.layers.invariant.layers g.0 g.1)
-
-pub enclose_in-requires-else-left-eq2-clause-node : goal.enclose_in-requires-else-left-eq2-clause-node
-enclose_in-requires-else-left-eq2-clause-node c =
-    let g = c.requires.stands in
-    root_of_one _ _ _ _ _ _ _ _ _ _ _ _ (c.layers.invariant.layers g.0 g.1) (let e : 1 ≤ c.layers.top = omega arith in e)
-
-pub enclose_in-requires-else-left-eq2-clause-next : goal.enclose_in-requires-else-left-eq2-clause-next
-enclose_in-requires-else-left-eq2-clause-next c =
-    let g = c.requires.stands in
-    outer_within _ _ _ _ _ _ _ _ _ _ _ _ (c.layers.invariant.layers g.0 g.1)
-
 pub returns-then-left-eq2 : goal.returns-then-left-eq2
-returns-then-left-eq2 c g es e leaves =
-    let two : c.layers.left ≡ 2 = c.if-left-eq2.true in
-    let left : c.args.opener.count - c.args.count ≡ c.layers.top - 2 = omega arith in
-    layers_two c.args.marks c.args.opener c.args.count c.args.end c.args.rest g c.args.tree.now c.layers.tree
-    c.enclose_in-then-left-eq2.new.tree c.layers.top c.layers.reached c.layers.inner es
-    (omega arith) (subst (λ n. flat es ≡ characters_after c.args.opener.number g.start n g.before) left leaves)
-    (subst (λ n. LayersAt c.args.marks c.args.opener c.args.count c.args.end c.args.rest g c.args.tree.now c.layers.tree c.layers.top n
-    c.layers.reached c.layers.inner) two (c.layers.invariant.layers g e))
-    (wrote_body _ _ _ _ _ _ _ _ _ c.layer_of_two-then-left-eq2.ensures c.enclose_in-then-left-eq2.ensures)
+returns-then-left-eq2 c h g m e =
+    layers_two h g c.args.tree.now c.layers.tree c.put_node-then-left-eq2.new.tree c.args.opener.run.delimiter c.layers.opener
+    c.layers.closer c.layers.left c.layers.inner (c.layers.invariant.layers h g m e) c.layer_of_two-then-left-eq2.result
+    (layer_by c.layer_of_two-then-left-eq2.result (λ m. layer_of_two m c.args.opener.run.delimiter) _ _ m
+    c.layer_of_two-then-left-eq2.ensures) _ _ _ refl refl c.if-left-eq2.true c.next-rest.ensures.value
+    (wrote_as _ _ _ _ _ _ _ _ _ c.put_node-then-left-eq2.ensures c.spanned-item-then-left-eq2.ensures refl refl)
 
 pub returns-else-left-eq2 : goal.returns-else-left-eq2
-returns-else-left-eq2 c g es e leaves =
+returns-else-left-eq2 c h g m e =
     let not_two : c.layers.left ≡ 2 → ⊥ = c.if-left-eq2.false in
-    let one : c.layers.left ≡ 1 = omega arith in
-    let left : c.args.opener.count - c.args.count ≡ c.layers.top - 1 = omega arith in
-    layers_one c.args.marks c.args.opener c.args.count c.args.end c.args.rest g c.args.tree.now c.layers.tree
-    c.enclose_in-else-left-eq2.new.tree c.layers.top c.layers.reached c.layers.inner es
-    (omega arith) (subst (λ n. flat es ≡ characters_after c.args.opener.number g.start n g.before) left leaves)
-    (subst (λ n. LayersAt c.args.marks c.args.opener c.args.count c.args.end c.args.rest g c.args.tree.now c.layers.tree c.layers.top n
-    c.layers.reached c.layers.inner) one (c.layers.invariant.layers g e))
-    (wrote_body _ _ _ _ _ _ _ _ _ c.layer_of_one.ensures c.enclose_in-else-left-eq2.ensures)
+    layers_one h g c.args.tree.now c.layers.tree c.put_node-else-left-eq2.new.tree c.args.opener.run.delimiter c.layers.opener
+    c.layers.closer c.layers.left c.layers.inner (c.layers.invariant.layers h g m e) c.layer_of_one.result
+    (layer_by c.layer_of_one.result (λ m. layer_of_one m c.args.opener.run.delimiter) _ _ m c.layer_of_one.ensures) _ _ refl
+    (omega (arith, c.layers.invariant.some)) c.next-rest-else-left-eq2.ensures.value
+    (wrote_as _ _ _ _ _ _ _ _ _ c.put_node-else-left-eq2.ensures c.spanned-item-else-left-eq2.ensures refl refl)

@@ -1,19 +1,19 @@
 -- The layers so far, for any surroundings of the opener.
-use Rattle.std.proofs.Common.{◌≡◌, ◌+◌, ◌<◌, ◌≤◌}
-use Rattle.markdown_delims.specs.Enclosing.{Around, Encloses}
-use Rattle.markdown_delims.proofs.EncloseLemmas.{LayersAt}
+use Rattle.std.proofs.Common.{◌≡◌, ◌<◌}
+use Rattle.markdown_delims.specs.ChainStanding.{Chain}
+use Rattle.markdown_delims.specs.Layers.{marks_of}
+use Rattle.markdown_delims.specs.Enclosing.{Around, Encloses, inner_of}
+use Rattle.markdown_delims.proofs.EncloseLemmas.{LayersAt, LayersFit}
 use Rattle.markdown_delims.proofs.layers.enclose.Given as goal
 
 abbrev pub invariant-layers : goal.invariant-layers
 invariant-layers l =
     record {
       layers :
-          (g : Around) → Encloses g l.initial.tree l.opener.number l.opener.count l.initial.inner l.rest
-          → LayersAt l.marks l.opener l.count l.end l.rest g l.initial.tree l.tree l.top l.left l.reached l.inner;
+          (h : Chain) (g : Around) → marks_of h.setting.rules.options ≡ l.marks → Encloses h g l.fn.tree l.fn.opener l.fn.closer (inner_of l.fn.opener l.fn.tree)
+          → LayersAt h g l.fn.tree l.tree l.delimiter l.opener l.closer l.left l.inner;
       some : 0 < l.left;
-      enough : l.left ≤ l.top;
-      reached : l.reached + l.left ≡ l.end + l.count;
-      spent : l.top + l.count ≡ l.left + l.opener.count;
+      fits : LayersFit l.tree l.opener l.closer l.left l.inner;
     }
 
 abbrev pub decreases-layers : goal.decreases-layers

@@ -1,41 +1,61 @@
 -- Tree by tree.
-use Rattle.std.proofs.Common.{◌≡◌, ℕ, Bool, true, false, Option, Some, None, length, ap, subst, sym, ◌∙◌, refl}
+use Rattle.std.proofs.Common.{◌≡◌, ◌+◌, ◌≤◌, Bool, true, false, Option, Some, None, ℕ, length, ap, subst, sym, ◌∙◌, refl, arith}
 use Rattle.std.specs.Prelude.{is_some, is_none, not}
 use Rattle.markdown_base.specs.declared.item.Item.{Item}
 use Rattle.markdown_base.specs.BlockTree.{no_item, item_at}
-use Rattle.markdown_delims.specs.ChainForest.{chain_of}
-use Rattle.markdown_delims.specs.QuoteBodies.{kind_of}
+use Rattle.markdown_base.specs.WellFormed.{RunCharacter, run_character}
+use Rattle.markdown_document.specs.Document.{shape_of}
+use Rattle.markdown_document.specs.Tables.{no_tables}
+use Rattle.markdown_delims.specs.Quotes.{kind_of_shape}
+use Rattle.markdown_delims.specs.RunReading.{counts_one}
 use Rattle.markdown_delims.proofs.QuoteLemmas.{can_here}
-use Rattle.markdown_delims.proofs.QuoteChainLemmas.{QuotesSoFar, quote_whole, quotes_begin, quote_within, quotes_step, quotes_down}
-use Rattle.markdown_delims.proofs.QuoteChainLemmas.{quotes_size, quotes_done}
+use Rattle.markdown_delims.proofs.QuoteChainLemmas.{QuotesSoFar, quotes_begin, quote_here, quotes_step, quotes_down, quotes_size, few_so_far}
+use Rattle.markdown_delims.proofs.QuoteChainLemmas.{quotes_done, all_counted}
 use Rattle.markdown_delims.proofs.quotes.quote_chain.Goals as goal
 
 pub trees-init : goal.trees-init
-trees-init c f s = quotes_begin c.args.tree.now c.args.first f s
+trees-init c s tables f is = quotes_begin s tables c.args.tree.now c.args.first f is
 
 pub next-next-requires : goal.next-next-requires
 next-next-requires c =
     let p = c.requires.chain in
-    let q = quote_within c.args.tree.now c.args.first p.0 p.1 c.trees.tree c.trees.single c.trees.double c.in-Some.ix
-    (subst (λ l. QuotesSoFar (quote_whole c.args.tree.now c.args.first p.0 p.1) c.args.tree.now c.trees.tree
-    (chain_of c.args.tree.now.nodes p.0) c.trees.single c.trees.double l) c.in-Some.is (c.trees.invariant p.0 p.1)) in
-    can_here q.chain c.trees.tree q.begun q.rest c.trees.single c.in-Some.ix q.stands
+    let a = subst (λ l. QuotesSoFar p.setting no_tables c.args.tree.now c.args.first p.forest p.is c.trees.tree c.trees.opened
+    c.trees.delimiters l) c.in-Some.is (c.trees.invariant p.setting no_tables p.forest p.is) in
+    can_here _ c.trees.tree a.on.read a.rest c.trees.opened.single c.in-Some.ix a.on.stands
 
 pub item-requires : goal.item-requires
 item-requires c =
     let p = c.requires.chain in
-    let q = quote_within c.args.tree.now c.args.first p.0 p.1 c.trees.tree c.trees.single c.trees.double c.in-Some.ix
-    (subst (λ l. QuotesSoFar (quote_whole c.args.tree.now c.args.first p.0 p.1) c.args.tree.now c.trees.tree
-    (chain_of c.args.tree.now.nodes p.0) c.trees.single c.trees.double l) c.in-Some.is (c.trees.invariant p.0 p.1)) in
-    can_here q.chain c.trees.tree q.begun q.rest c.trees.single c.in-Some.ix q.stands
+    let a = subst (λ l. QuotesSoFar p.setting no_tables c.args.tree.now c.args.first p.forest p.is c.trees.tree c.trees.opened
+    c.trees.delimiters l) c.in-Some.is (c.trees.invariant p.setting no_tables p.forest p.is) in
+    can_here _ c.trees.tree a.on.read a.rest c.trees.opened.single c.in-Some.ix a.on.stands
 
-pub quote_tree-remembered-requires : goal.quote_tree-remembered-requires
-quote_tree-remembered-requires c =
+one_at_most : (o : Option RunCharacter) → counts_one o ≤ 1
+one_at_most None = omega arith
+one_at_most (Some x) = omega arith
+
+pub overflow_add-delimiters : goal.overflow_add-delimiters
+overflow_add-delimiters c =
+    let p = c.requires.chain in
+    let few = few_so_far p.setting no_tables c.args.tree.now c.args.first p.forest p.is c.trees.tree c.trees.opened c.trees.delimiters
+    c.trees.cur (c.trees.invariant p.setting no_tables p.forest p.is) in
+    omega (
+      arith,
+      few,
+      c.len-nodes.ensures.count,
+      c.len-nodes.ensures.small,
+      c.counts_one-delimiters.ensures,
+      one_at_most (run_character c.item.result.now.body),
+    )
+
+pub quote_tree-opened-requires : goal.quote_tree-opened-requires
+quote_tree-opened-requires c =
     let p = c.requires.chain in
     record {
-      stands = quote_within c.args.tree.now c.args.first p.0 p.1 c.trees.tree c.trees.single c.trees.double c.in-Some.ix
-          (subst (λ l. QuotesSoFar (quote_whole c.args.tree.now c.args.first p.0 p.1) c.args.tree.now c.trees.tree
-          (chain_of c.args.tree.now.nodes p.0) c.trees.single c.trees.double l) c.in-Some.is (c.trees.invariant p.0 p.1));
+      stands = quote_here p.setting no_tables c.args.tree.now c.args.first p.forest p.is c.trees.tree c.trees.opened c.trees.delimiters
+          c.in-Some.ix
+          (subst (λ l. QuotesSoFar p.setting no_tables c.args.tree.now c.args.first p.forest p.is c.trees.tree c.trees.opened
+          c.trees.delimiters l) c.in-Some.is (c.trees.invariant p.setting no_tables p.forest p.is));
     }
 
 flipped : (o : Option ℕ) (b : Bool) → is_some o ≡ not b → b ≡ is_none o
@@ -45,41 +65,46 @@ flipped (Some x) true e = cc
 flipped (Some x) false e = refl
 
 pub trees-preserved : goal.trees-preserved
-trees-preserved c f s =
-    let a = subst (λ l. QuotesSoFar (quote_whole c.args.tree.now c.args.first f s) c.args.tree.now c.trees.tree
-    (chain_of c.args.tree.now.nodes f) c.trees.single c.trees.double l) c.in-Some.is (c.trees.invariant f s) in
+trees-preserved c s tables f is =
     let i : c.item.result.now ≡ item_at c.trees.tree.nodes c.in-Some.ix = c.item.ensures no_item in
-    subst (λ l. QuotesSoFar (quote_whole c.args.tree.now c.args.first f s) c.args.tree.now c.quote_tree-remembered.new.tree
-    (chain_of c.args.tree.now.nodes f) c.quote_tree-remembered.result.0 c.quote_tree-remembered.result.1 l)
-    (sym c.next-next.ensures.value)
-    (quotes_step c.args.tree.now c.args.first f s c.trees.tree c.quote_tree-remembered.new.tree c.trees.single
-    c.quote_tree-remembered.result.0 c.trees.double c.quote_tree-remembered.result.1 c.in-Some.ix c.kind_of-kind.result c.is_none.result
-    a
-    (c.kind_of-kind.ensures ∙ ap (λ (x : Item). kind_of x.body) i) (flipped _ _ c.is_none.ensures ∙ ap is_none c.next-next.ensures.value)
-    c.quote_tree-remembered.ensures.quotes)
+    let a = subst (λ l. QuotesSoFar s tables c.args.tree.now c.args.first f is c.trees.tree c.trees.opened c.trees.delimiters l)
+    c.in-Some.is (c.trees.invariant s tables f is) in
+    subst (λ l. QuotesSoFar s tables c.args.tree.now c.args.first f is c.quote_tree-opened.new.tree c.quote_tree-opened.result
+    (c.trees.delimiters + c.counts_one-delimiters.result) l) (sym c.next-next.ensures.value)
+    (quotes_step s tables c.args.tree.now c.args.first f is c.trees.tree c.trees.opened c.trees.delimiters c.in-Some.ix a
+    c.quote_tree-opened.new.tree c.quote_tree-opened.result c.kind_of.result c.is_none.result c.counts_one-delimiters.result
+    (λ tables source. c.kind_of.ensures tables source ∙ ap (λ (x : Item). kind_of_shape (shape_of tables source x.body)) i)
+    (flipped _ _ c.is_none.ensures ∙ ap is_none c.next-next.ensures.value)
+    (c.counts_one-delimiters.ensures ∙ ap (λ (x : Item). counts_one (run_character x.body)) i)
+    c.quote_tree-opened.ensures.quotes)
 
 pub trees-smaller : goal.trees-smaller
 trees-smaller c =
     let p = c.requires.chain in
-    let a = subst (λ l. QuotesSoFar (quote_whole c.args.tree.now c.args.first p.0 p.1) c.args.tree.now c.trees.tree
-    (chain_of c.args.tree.now.nodes p.0) c.trees.single c.trees.double l) c.in-Some.is (c.trees.invariant p.0 p.1) in
-    let i : c.item.result.now ≡ item_at c.trees.tree.nodes c.in-Some.ix = c.item.ensures no_item in
-    let b = quotes_step c.args.tree.now c.args.first p.0 p.1 c.trees.tree c.quote_tree-remembered.new.tree c.trees.single
-    c.quote_tree-remembered.result.0 c.trees.double c.quote_tree-remembered.result.1 c.in-Some.ix c.kind_of-kind.result c.is_none.result
-    a
-    (c.kind_of-kind.ensures ∙ ap (λ (x : Item). kind_of x.body) i) (flipped _ _ c.is_none.ensures ∙ ap is_none c.next-next.ensures.value)
-    c.quote_tree-remembered.ensures.quotes in
-    let n : length c.quote_tree-remembered.new.tree.nodes ≡ length c.trees.tree.nodes =
-    quotes_size c.args.tree.now c.args.first p.0 p.1 c.quote_tree-remembered.new.tree c.quote_tree-remembered.result.0
-    c.quote_tree-remembered.result.1 _ b
-    ∙ sym (quotes_size c.args.tree.now c.args.first p.0 p.1 c.trees.tree c.trees.single c.trees.double (Some c.in-Some.ix) a) in
-    rw (c.in-Some.is, n, c.next-next.ensures.value) (quotes_down c.args.tree.now c.args.first p.0 p.1 c.trees.tree c.trees.single
-    c.trees.double c.in-Some.ix a)
+    let a = subst (λ l. QuotesSoFar p.setting no_tables c.args.tree.now c.args.first p.forest p.is c.trees.tree c.trees.opened
+    c.trees.delimiters l) c.in-Some.is (c.trees.invariant p.setting no_tables p.forest p.is) in
+    let b = trees-preserved c p.setting no_tables p.forest p.is in
+    let n : length c.quote_tree-opened.new.tree.nodes ≡ length c.trees.tree.nodes =
+    quotes_size p.setting no_tables c.args.tree.now c.args.first p.forest p.is c.quote_tree-opened.new.tree c.quote_tree-opened.result
+    _ _ b
+    ∙ sym (quotes_size p.setting no_tables c.args.tree.now c.args.first p.forest p.is c.trees.tree c.trees.opened c.trees.delimiters _ a) in
+    rw (c.in-Some.is, n, c.next-next.ensures.value) (quotes_down p.setting no_tables c.args.tree.now c.args.first p.forest p.is c.trees.tree
+    c.trees.opened c.trees.delimiters c.in-Some.ix a)
 
-pub returns : goal.returns
-returns c =
-    record {
-      quotes = λ f s. quotes_done c.args.tree.now c.args.first f s c.trees.tree c.trees.single c.trees.double
-          (subst (λ l. QuotesSoFar (quote_whole c.args.tree.now c.args.first f s) c.args.tree.now c.trees.tree
-          (chain_of c.args.tree.now.nodes f) c.trees.single c.trees.double l) c.in_default.is (c.trees.invariant f s));
-    }
+pub returns-clause-quotes : goal.returns-clause-quotes
+returns-clause-quotes c s tables f is =
+    quotes_done s tables c.args.tree.now c.args.first f is c.trees.tree c.trees.opened c.trees.delimiters c.trees.cur
+    (c.trees.invariant s tables f is) c.in_default.is
+
+pub returns-clause-count : goal.returns-clause-count
+returns-clause-count c f is =
+    let p = c.requires.chain in
+    all_counted p.setting no_tables c.args.tree.now c.args.first f is c.trees.tree c.trees.opened c.trees.delimiters c.trees.cur
+    (c.trees.invariant p.setting no_tables f is) c.in_default.is
+
+pub returns-clause-small : goal.returns-clause-small
+returns-clause-small c =
+    let p = c.requires.chain in
+    let n = quotes_size p.setting no_tables c.args.tree.now c.args.first p.forest p.is c.trees.tree c.trees.opened c.trees.delimiters
+    c.trees.cur (c.trees.invariant p.setting no_tables p.forest p.is) in
+    omega (arith, n, c.len-nodes.ensures.count, c.len-nodes.ensures.small)

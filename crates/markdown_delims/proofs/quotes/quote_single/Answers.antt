@@ -4,10 +4,11 @@ use Rattle.std.specs.Prelude.{IfSome}
 use Rattle.markdown_base.specs.Arena.{sibling_of}
 use Rattle.markdown_base.specs.Forest.{node}
 use Rattle.markdown_delims.specs.declared.quotes.Kind.TheVariants as kind
-use Rattle.markdown_delims.specs.QuoteBodies.{right_single, with_body}
+use Rattle.markdown_delims.specs.Quotes.{right_single}
+use Rattle.markdown_document.specs.Document.{shaped}
 use Rattle.markdown_delims.specs.Quoting.{IsRoot, QuotesStand, QuotesOn, quoted_from}
 use Rattle.markdown_delims.proofs.QuoteLemmas.{turned, turn_none_opens, turn_none_stays, turn_some_opens, turn_some_stays, number_is}
-use Rattle.markdown_delims.proofs.QuoteLemmas.{remembered_low, put_here, put_on, here_root, close_on, can_here, can_left}
+use Rattle.markdown_delims.proofs.QuoteLemmas.{remembered_low, no_block, still_there, put_on, here_root, close_on, can_here, can_left}
 use Rattle.markdown_delims.proofs.quotes.quote_single.Goals as goal
 
 pub put_body-requires : goal.put_body-requires
@@ -44,10 +45,10 @@ pub returns-then-opens : goal.returns-then-opens
 returns-then-opens c =
     record {
       quotes = λ double last h begun a below after st e n.
-          put_on h c.args.tree.now begun c.args.single c.args.ix a below after st c.put_body.new.tree right_single
-          (kind.Single c.args.opens c.args.closes) double (Some c.args.ix) double c.put_body.ensures e
-          (here_root h c.args.tree.now begun c.args.single c.args.ix a below after st right_single)
-          (ap (λ i. quoted_from (Some i) double (node (with_body right_single a) below begun) after)
+          put_on h c.args.tree.now begun c.args.single c.args.ix a below after st c.put_body.new.tree 8217
+          (kind.Single c.args.opens c.args.closes) double (Some c.args.ix) double c.put_body.ensures e (λ q. cc)
+          (here_root h c.args.tree.now begun c.args.single c.args.ix a below after st 8217 (no_block h c.args.tree.now begun c.args.single c.args.ix a below after st _ e (λ q. cc)))
+          (ap (λ i. quoted_from (Some i) double (node (shaped right_single a) below begun) after)
           (number_is h c.args.tree.now begun c.args.single c.args.ix a below after st)
           ∙ turn_none_opens begun a below after double c.args.closes
           ∙ ap (λ o. turned begun a below after o double (kind.Single true c.args.closes)) (sym c.in-None.is)
@@ -58,8 +59,8 @@ pub returns-else-opens : goal.returns-else-opens
 returns-else-opens c =
     record {
       quotes = λ double last h begun a below after st e n.
-          put_on h c.args.tree.now begun c.args.single c.args.ix a below after st c.put_body.new.tree right_single
-          (kind.Single c.args.opens c.args.closes) double None double c.put_body.ensures e tt
+          put_on h c.args.tree.now begun c.args.single c.args.ix a below after st c.put_body.new.tree 8217
+          (kind.Single c.args.opens c.args.closes) double None double c.put_body.ensures e (λ q. cc) tt
           (turn_none_stays begun a below after double c.args.closes
           ∙ ap (λ o. turned begun a below after o double (kind.Single false c.args.closes)) (sym c.in-None.is)
           ∙ ap (λ b. turned begun a below after c.args.single double (kind.Single b c.args.closes)) (sym c.if-opens.false));
@@ -69,10 +70,10 @@ pub returns-then-opens-2 : goal.returns-then-opens-2
 returns-then-opens-2 c =
     record {
       quotes = λ double last h begun a below after st e n.
-          put_on h c.args.tree.now begun c.args.single c.args.ix a below after st c.put_body-in-Some.new.tree right_single
-          (kind.Single c.args.opens c.args.closes) double (Some c.args.ix) double c.put_body-in-Some.ensures e
-          (here_root h c.args.tree.now begun c.args.single c.args.ix a below after st right_single)
-          (ap (λ i. quoted_from (Some i) double (node (with_body right_single a) below begun) after)
+          put_on h c.args.tree.now begun c.args.single c.args.ix a below after st c.put_body-in-Some.new.tree 8217
+          (kind.Single c.args.opens c.args.closes) double (Some c.args.ix) double c.put_body-in-Some.ensures e (λ q. cc)
+          (here_root h c.args.tree.now begun c.args.single c.args.ix a below after st 8217 (no_block h c.args.tree.now begun c.args.single c.args.ix a below after st _ e (λ q. cc)))
+          (ap (λ i. quoted_from (Some i) double (node (shaped right_single a) below begun) after)
           (number_is h c.args.tree.now begun c.args.single c.args.ix a below after st)
           ∙ turn_some_opens begun a below after c.in-Some.left double
           ∙ ap (λ o. turned begun a below after o double (kind.Single true false)) (sym c.in-Some.is)
@@ -84,12 +85,11 @@ pub returns-else-opens-2 : goal.returns-else-opens-2
 returns-else-opens-2 c =
     record {
       quotes = λ double last h begun a below after st e n.
-          put_on h c.args.tree.now begun c.args.single c.args.ix a below after st c.put_body-in-Some.new.tree right_single
-          (kind.Single c.args.opens c.args.closes) double (Some c.in-Some.left) double c.put_body-in-Some.ensures e
-          (subst (λ o. IfSome o (λ x. IsRoot x (node (with_body right_single a) below begun))) c.in-Some.is
-          (put_here h c.args.tree.now begun c.args.single c.args.ix a below after st c.put_body-in-Some.new.tree right_single
-          c.put_body-in-Some.ensures).remembered)
-          (turn_some_stays begun a below after c.in-Some.left double (subst (λ o. IfSome o (λ x. x < a.number)) c.in-Some.is
+          put_on h c.args.tree.now begun c.args.single c.args.ix a below after st c.put_body-in-Some.new.tree 8217
+          (kind.Single c.args.opens c.args.closes) double (Some c.in-Some.left) double c.put_body-in-Some.ensures e (λ q. cc)
+          (subst (λ o. IfSome o (λ x. IsRoot x (node (shaped right_single a) below begun))) c.in-Some.is
+          (still_there h c.args.tree.now begun c.args.single c.args.ix a below after st 8217))
+          (turn_some_stays begun a below after c.in-Some.left double (subst (λ o. IfSome o (λ x. x < a.tag)) c.in-Some.is
           (remembered_low h c.args.tree.now begun c.args.single c.args.ix a below after st))
           ∙ ap (λ o. turned begun a below after o double (kind.Single false false)) (sym c.in-Some.is)
           ∙ ap (λ b. turned begun a below after c.args.single double (kind.Single b false)) (sym c.if-opens-2.false)

@@ -1,87 +1,69 @@
 -- A run is turned into Texts and read; any other tree is kept.
-use Rattle.std.proofs.Common.{◌≡◌, ◌<◌, ◌+◌, ◌*◌, ◌^◌, ℕ, arith, subst, ap, sym, ◌∙◌, Ok, Err}
+use Rattle.std.proofs.Common.{◌+◌, ◌*◌, ◌^◌, ◌<◌, arith, ap, Ok, Err, Some, None}
 use Rattle.std.specs.Prelude.{IfErr, IfOk, Result}
-use Rattle.markdown_base.specs.declared.item.Item.{Item}
-use Rattle.markdown_base.specs.BlockTree.{no_item, item_at}
+use Rattle.markdown_base.specs.BlockTree.{no_item}
 use Rattle.markdown_document.specs.Counts.{comparisons_per_delimiter}
-use Rattle.markdown_delims.specs.MarkBodies.{item_run}
-use Rattle.markdown_delims.specs.Entries.{all_of_run, with_run}
-use Rattle.markdown_delims.specs.ChainStanding.{CanRead, ReadsOn}
-use Rattle.markdown_delims.specs.RunReading.{Settles, delimiters_of}
-use Rattle.markdown_delims.proofs.ReadLemmas.{head_within, read_none, run_here, met_here, run_bytes, can_settle, can_read, read_some}
+use Rattle.markdown_delims.specs.ChainReading.{runs_in}
+use Rattle.markdown_delims.proofs.ReadLemmas.{shown_run, head_within, head_count, read_none, run_here, read_some, met_here}
 use Rattle.markdown_delims.proofs.read.read_tree.Goals as goal
 
 pub item-item-requires : goal.item-item-requires
 item-item-requires c =
     let p = c.requires.stands in
-    head_within c.args.marks c.args.text.now p.chain c.args.tree.now p.es c.args.last c.args.ix p.rest p.stands
+    head_within p.chain c.args.tree.now p.rs c.args.last c.args.ix c.args.openers.now p.rest p.stands
 
-pub settle_run-requires-clause-bytes : goal.settle_run-requires-clause-bytes
-settle_run-requires-clause-bytes c = omega (
-  arith,
-  run_bytes c.args.marks c.args.text.now c.args.tree.now c.args.ix c.args.last
-      c.args.openers.now.runs c.args.openers.now.potential c.requires.stands c.item-item.result.now c.in-Some.run'
-      (c.item-item.ensures no_item) c.in-Some.ensures,
-)
-
-pub settle_run-requires-clause-some : goal.settle_run-requires-clause-some
-settle_run-requires-clause-some c = (met_here c.args.marks c.args.text.now c.args.tree.now c.args.ix c.args.last c.args.openers.now.runs
-    c.args.openers.now.potential c.requires.stands c.item-item.result.now c.in-Some.run' (c.item-item.ensures no_item)
-    c.in-Some.ensures).begins.some
-
-pub settle_run-requires-clause-stands : goal.settle_run-requires-clause-stands
-settle_run-requires-clause-stands c =
+pub settle_run-requires : goal.settle_run-requires
+settle_run-requires c =
     let p = c.requires.stands in
-    can_settle c.args.marks c.args.text.now p.chain c.args.tree.now p.es c.args.last c.args.ix c.in-Some.run' p.rest p.stands
-    (met_here c.args.marks c.args.text.now c.args.tree.now c.args.ix c.args.last c.args.openers.now.runs c.args.openers.now.potential
-    c.requires.stands c.item-item.result.now c.in-Some.run' (c.item-item.ensures no_item) c.in-Some.ensures)
-
-pub read_run-requires-clause-bytes : goal.read_run-requires-clause-bytes
-read_run-requires-clause-bytes c = omega (
-  arith,
-  run_bytes c.args.marks c.args.text.now c.args.tree.now c.args.ix c.args.last
-      c.args.openers.now.runs c.args.openers.now.potential c.requires.stands c.item-item.result.now c.in-Some.run'
-      (c.item-item.ensures no_item) c.in-Some.ensures,
-)
+    let r = met_here c.args.source.marks c.args.source.text.now c.args.ix c.args.last c.args.tree.now c.args.openers.now p
+    c.item-item.result.now c.in-Some.run' (c.item-item.ensures no_item) c.in-Some.ensures in
+    record {
+      stands = record {
+        chain = p.chain;
+        rs = p.rs;
+        last = c.args.last;
+        rest = p.rest;
+        stands = p.stands.stands;
+        begins = r.begins;
+        some = r.some;
+      };
+    }
 
 pub read_run-requires-clause-some : goal.read_run-requires-clause-some
-read_run-requires-clause-some c = (met_here c.args.marks c.args.text.now c.args.tree.now c.args.ix c.args.last c.args.openers.now.runs
-    c.args.openers.now.potential c.requires.stands c.item-item.result.now c.in-Some.run' (c.item-item.ensures no_item)
-    c.in-Some.ensures).begins.some
+read_run-requires-clause-some c =
+    let p = c.requires.stands in
+    (met_here c.args.source.marks c.args.source.text.now c.args.ix c.args.last c.args.tree.now c.args.openers.now p
+    c.item-item.result.now c.in-Some.run' (c.item-item.ensures no_item) c.in-Some.ensures).some
 
 pub read_run-requires-clause-room : goal.read_run-requires-clause-room
 read_run-requires-clause-room c =
     let p = c.requires.stands in
-    let r = met_here c.args.marks c.args.text.now c.args.tree.now c.args.ix c.args.last c.args.openers.now.runs c.args.openers.now.potential
-    c.requires.stands c.item-item.result.now c.in-Some.run' (c.item-item.ensures no_item) c.in-Some.ensures in
-    let room : c.args.openers.now.potential + comparisons_per_delimiter * delimiters_of p.rest < 2 ^ 128 = p.room in
-    omega (arith, r.begins.fewer)
-
-settles_as : (ix n : ℕ) (i j : Item) (s t : _) → i ≡ j → Settles ix i.start n s t → Settles ix j.start n s t
-settles_as ix n i j s t e h = subst (λ (x : Item). Settles ix x.start n s t) e h
+    let r = met_here c.args.source.marks c.args.source.text.now c.args.ix c.args.last c.args.tree.now c.args.openers.now p
+    c.item-item.result.now c.in-Some.run' (c.item-item.ensures no_item) c.in-Some.ensures in
+    let room : c.args.openers.now.potential + comparisons_per_delimiter * runs_in c.args.source.text.now p.rest < 2 ^ 128 = p.room in
+    omega (arith, r.fewer, room, ap (λ t. runs_in t p.rest) p.text_is)
 
 pub read_run-requires-clause-stands : goal.read_run-requires-clause-stands
 read_run-requires-clause-stands c =
     let p = c.requires.stands in
-    let i : c.item-item.result.now ≡ item_at c.args.tree.now.nodes c.args.ix = c.item-item.ensures no_item in
-    let r = met_here c.args.marks c.args.text.now c.args.tree.now c.args.ix c.args.last c.args.openers.now.runs c.args.openers.now.potential
-    c.requires.stands c.item-item.result.now c.in-Some.run' (c.item-item.ensures no_item) c.in-Some.ensures in
-    subst (λ (x : Item). CanRead x.start (all_of_run c.in-Some.run' c.args.ix) c.args.last c.settle_run.new.tree c.args.openers.now.runs)
-    (sym i)
-    (can_read c.args.marks c.args.text.now p.chain c.args.tree.now p.es c.args.last c.args.ix c.in-Some.run' p.rest c.args.openers.now.runs
-    c.settle_run.new.tree p.stands p.runs_are r
-    (settles_as c.args.ix c.in-Some.run'.length _ _ c.args.tree.now c.settle_run.new.tree i c.settle_run.ensures))
-
-pub returns-in-None : goal.returns-in-None
-returns-in-None c =
-    let i : c.item-item.result.now ≡ item_at c.args.tree.now.nodes c.args.ix = c.item-item.ensures no_item in
+    let r = met_here c.args.source.marks c.args.source.text.now c.args.ix c.args.last c.args.tree.now c.args.openers.now p
+    c.item-item.result.now c.in-Some.run' (c.item-item.ensures no_item) c.in-Some.ensures in
     record {
-      ok = λ h es chain st w r.
-          rw c.next.ensures.value
-          (read_none c.args.marks c.args.text.now h c.args.tree.now es c.args.last c.args.ix chain c.args.openers.now st w r
-          (ap (item_run c.args.text.now) (sym i) ∙ sym c.in-None.ensures));
-      paid = tt;
+      chain = p.chain;
+      marks_are = p.marks_are;
+      rs = p.rs;
+      vs = _;
+      after = _;
+      stands = (c.settle_run.ensures p.chain p.rs c.args.last p.rest p.stands.stands r.begins).0;
+      are = p.stands.are;
     }
+
+pub returns-in-None-clause-ok : goal.returns-in-None-clause-ok
+returns-in-None-clause-ok c h rs chain m t st =
+    rw c.next.ensures.value
+    (read_none h c.args.tree.now rs c.args.last c.args.ix c.args.openers.now chain st
+    (shown_run c.args.source.text.now h.setting.text h.tables c.item-item.result.now _ None t (c.item-item.ensures no_item)
+    (head_count h c.args.tree.now rs c.args.last c.args.ix c.args.openers.now chain st) c.in-None.ensures))
 
 if_ok : {A E : Type 0} (P Q : A → Type 0) (r : Result A E) → ((x : A) → P x → Q x) → IfOk r P → IfOk r Q
 if_ok P Q (Ok x) h i = h x i
@@ -91,24 +73,23 @@ if_err : {A E : Type 0} {P : Type 0} (r : Result A E) → P → IfErr r (λ e. P
 if_err (Ok x) p = tt
 if_err (Err e) p = p
 
-pub returns-in-Some : goal.returns-in-Some
-returns-in-Some c =
-    let i : c.item-item.result.now ≡ item_at c.args.tree.now.nodes c.args.ix = c.item-item.ensures no_item in
-    record {
-      ok = if_ok _ _ c.read_run.result
-          (λ x on h es chain st w r.
-          read_some c.args.marks c.args.text.now h c.args.tree.now es c.args.last c.args.ix c.in-Some.run' chain c.args.openers.now
-          c.read_run.new.openers x.0 x.1 c.settle_run.new.tree c.read_run.new.tree st r
-          (run_here c.args.marks c.args.text.now h c.args.tree.now es c.args.last c.args.ix c.in-Some.run' chain st w
-          (ap (item_run c.args.text.now) (sym i) ∙ sym c.in-Some.ensures))
-          (settles_as c.args.ix c.in-Some.run'.length _ _ c.args.tree.now c.settle_run.new.tree i c.settle_run.ensures)
-          c.read_run.ensures.paid c.read_run.ensures.found
-          (subst (λ (y : Item). ReadsOn (λ fs. with_run c.args.marks y.start (all_of_run c.in-Some.run' c.args.ix) fs) y.start
-          (all_of_run c.in-Some.run' c.args.ix) c.args.last c.settle_run.new.tree c.read_run.new.tree c.args.openers.now.runs
-          c.read_run.new.openers.runs x.0 x.1) i on))
-          c.read_run.ensures.ok;
-      paid = if_err c.read_run.result (λ h es chain st w.
-          let here = run_here c.args.marks c.args.text.now h c.args.tree.now es c.args.last c.args.ix c.in-Some.run' chain st w
-          (ap (item_run c.args.text.now) (sym i) ∙ sym c.in-Some.ensures) in
-          omega (arith, here.begins.fewer, c.read_run.ensures.paid));
-    }
+pub returns-in-Some-clause-ok : goal.returns-in-Some-clause-ok
+returns-in-Some-clause-ok c =
+    if_ok _ _ c.read_run.result
+    (λ x on h rs chain m t st.
+    let r = run_here h c.args.tree.now rs c.args.last c.args.ix c.args.openers.now c.in-Some.run' chain st
+    (shown_run c.args.source.text.now h.setting.text h.tables c.item-item.result.now _ (Some c.in-Some.run') t (c.item-item.ensures no_item)
+    (head_count h c.args.tree.now rs c.args.last c.args.ix c.args.openers.now chain st) c.in-Some.ensures) in
+    read_some h c.args.tree.now rs c.args.last c.args.ix c.args.openers.now c.in-Some.run' chain c.read_run.new.openers x.0 x.1
+    c.settle_run.new.tree c.read_run.new.tree st r c.settle_run.ensures c.read_run.ensures.paid
+    (on h rs _ _ m (c.settle_run.ensures h rs c.args.last chain st.stands r.begins).0 st.are))
+    c.read_run.ensures.ok
+
+pub returns-in-Some-clause-paid : goal.returns-in-Some-clause-paid
+returns-in-Some-clause-paid c =
+    if_err c.read_run.result
+    (λ h rs chain t st.
+    let r = run_here h c.args.tree.now rs c.args.last c.args.ix c.args.openers.now c.in-Some.run' chain st
+    (shown_run c.args.source.text.now h.setting.text h.tables c.item-item.result.now _ (Some c.in-Some.run') t (c.item-item.ensures no_item)
+    (head_count h c.args.tree.now rs c.args.last c.args.ix c.args.openers.now chain st) c.in-Some.ensures) in
+    omega (arith, r.fewer, c.read_run.ensures.paid, ap (λ x. runs_in x chain) t))

@@ -2,7 +2,8 @@ use Rattle.std.proofs.Common.{◌≡◌, ◌+◌, ◌-◌, ◌≤◌, true, fals
 use Rattle.std.proofs.lemmas.List.{take_all}
 use Rattle.std.proofs.lemmas.Bool.{cases_eq}
 use Rattle.markdown_delims.specs.declared.run.Characters.{Characters}
-use Rattle.markdown_delims.specs.MayPair.{may_pair, nearest_run}
+use Rattle.markdown_delims.specs.MayPair.{may_pair}
+use Rattle.markdown_delims.specs.RunSearch.{nearest_run}
 use Rattle.markdown_delims.specs.Bounds.{bound_for, lowered, raised_for}
 use Rattle.markdown_delims.specs.OpenRuns.{open_runs}
 use Rattle.markdown_delims.proofs.StackSteps.{IsSound-cut, potential-cut, IsSound-raised, potential-raised, found_at, passed_at, missed_at}

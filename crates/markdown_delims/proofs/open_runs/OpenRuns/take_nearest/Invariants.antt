@@ -1,6 +1,7 @@
 use Rattle.std.proofs.Common.{◌≡◌, ℕ, ◌+◌, ◌<◌, ◌≤◌, length, take, get_or}
 use Rattle.std.specs.Prelude.{false}
-use Rattle.markdown_delims.specs.MayPair.{may_pair, nearest_run}
+use Rattle.markdown_delims.specs.MayPair.{may_pair}
+use Rattle.markdown_delims.specs.RunSearch.{nearest_run}
 use Rattle.markdown_delims.specs.OpenRuns.{open_runs}
 use Rattle.markdown_delims.specs.declared.run.Characters.{Characters}
 use Rattle.markdown_delims.proofs.open_runs.OpenRuns.take_nearest.Given as goal

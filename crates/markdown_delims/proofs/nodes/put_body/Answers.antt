@@ -5,7 +5,7 @@ use Rattle.markdown_base.specs.BlockTree.{no_item}
 use Rattle.markdown_base.specs.Arena.{child_of, sibling_of}
 use Rattle.markdown_delims.specs.Views.{Wrote}
 use Rattle.markdown_delims.proofs.WriteLemmas.{wrote_once}
-use Rattle.markdown_delims.proofs.quotes.put_body.Goals as goal
+use Rattle.markdown_delims.proofs.nodes.put_body.Goals as goal
 
 pub returns : goal.returns
 returns c =
