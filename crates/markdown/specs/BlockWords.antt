@@ -7,8 +7,8 @@ pub use Rattle.markdown_base.specs.WellFormed.{IsWellFormed, KeepsRules, AllKeep
 pub use Rattle.markdown_base.specs.Coverage.{Covers, is_covered, is_in_block, is_inside}
 pub use Rattle.markdown_builder.specs.HeadingsHoldInline.{HeadingsHoldInline, is_heading_block}
 -- a tree, as nodes by number and as a forest of items
-pub use Rattle.markdown_base.specs.Arena.{Arena, items_of, child_of, sibling_of, innermost, single, changed_at}
-pub use Rattle.markdown_base.specs.Arena.{follower, led_to, appended}
+pub use Rattle.markdown_base.specs.Arena.{Arena, items_of, child_of, sibling_of}
+pub use Rattle.markdown_base.specs.ArenaChanges.{innermost, single, changed_at, follower, led_to, appended}
 pub use Rattle.markdown_base.specs.BlockTree.{Numbered, tree_of}
 pub use Rattle.markdown_base.specs.Forest.{Forest, nil, node, Throughout, Each, preorder, roots, first_root}
 pub use Rattle.markdown_base.specs.declared.node.Node.{Node}
@@ -23,7 +23,8 @@ pub use Rattle.markdown_base.specs.declared.index.LinkIndex.{LinkIndex}
 pub use Rattle.markdown_base.specs.declared.index.AlignmentIndex.{AlignmentIndex}
 pub use Rattle.markdown_base.specs.declared.index.HeadingIndex.{HeadingIndex}
 -- the parts that items refer to
-pub use Rattle.markdown_base.specs.BlockParts.{DefinitionView, definition_view, HasShortTexts}
+pub use Rattle.markdown_base.specs.BlockParts.{DefinitionView, definition_view}
+pub use Rattle.markdown_base.specs.StoredTexts.{HasShortTexts}
 pub use Rattle.markdown_base.specs.declared.block_parts.BlockParts.{BlockParts}
 pub use Rattle.markdown_base.specs.declared.block_parts.LinkDef.{LinkDef}
 pub use Rattle.markdown_base.specs.declared.block_parts.HeadingAttributes.{HeadingAttributes}

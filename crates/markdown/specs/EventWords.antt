@@ -1,7 +1,8 @@
 -- Definitions for clauses on texts, events, tags and faults, re-exported so that a caller names this crate alone.
 
 -- the views of a text, an event and a tag
-pub use Rattle.markdown_base.specs.CowText.{text_of, IsBorrowed, IsBoxed, IsInlined}
+pub use Rattle.markdown_base.specs.CowText.{text_of, IsInlined}
+pub use Rattle.markdown_base.specs.StoredTexts.{IsBorrowed, IsBoxed}
 pub use Rattle.markdown_base.specs.CopiedTexts.{KeepsSlices, texts_of_event, texts_of_tag, texts_of_code_block}
 pub use Rattle.markdown_base.specs.CopiedTexts.{texts_of_definition, texts_of_heading, texts_of_attribute}
 pub use Rattle.markdown_base.specs.InlineText.{inline_text}

@@ -9,7 +9,7 @@ pub use Rattle.markdown_out.specs.ImageHtml.{ImagesHaveParts, AreMatched, alt_te
 pub use Rattle.markdown_out.specs.HtmlCorrect.{items, IsRendered, StopsAtError, IsOwnFault}
 pub use Rattle.markdown_out.specs.HtmlCorrect.{IsCutShort, IsCutAtEnd, GoesTooDeep}
 -- the HTML of a text, and of what is left of a parser
-pub use Rattle.markdown_render.specs.Rendering.{views_of, AreEventsFor, IsRenderingFor, IsRenderingOf}
-pub use Rattle.markdown_render.specs.Rendering.{AreFirstEventsFor, IsTooDeepFor, IsTooDeepOf}
+pub use Rattle.markdown_render.specs.Rendering.{views_of, IsRenderingOf, IsTooDeepOf}
+pub use Rattle.markdown_render.specs.RenderingFor.{AreEventsFor, IsRenderingFor, AreFirstEventsFor, IsTooDeepFor}
 pub use Rattle.markdown_render.specs.ParserHtml.{IsHtmlOfAll, IsHtmlOfFirst}
 pub use Rattle.markdown_render.specs.Merged.{IsMergedHtmlOf, IsMergeTooDeep}

@@ -1,6 +1,6 @@
 -- Definitions for clauses on options, re-exported so that a caller names this crate alone.
 pub use Rattle.markdown_base.specs.EnabledOptions.{no_options, both_options, is_on}
 pub use Rattle.markdown_base.specs.EnabledOptions.{footnotes_on, old_footnotes_on, gfm_footnotes_on}
-pub use Rattle.markdown_base.specs.EnabledOptions.{strikethrough_on, superscript_on, subscript_on}
-pub use Rattle.markdown_base.specs.EnabledOptions.{smart_punctuation_on, math_on, wikilinks_on}
+pub use Rattle.markdown_base.specs.EnabledOptions.{strikethrough_on, superscript_on, subscript_on, wikilinks_on}
+pub use Rattle.markdown_base.specs.MarkOptions.{smart_punctuation_on, math_on}
 pub use Rattle.markdown_base.specs.declared.options.Options.{Options}

@@ -4,7 +4,8 @@ use Rattle.std.specs.Prelude.{IfSome}
 use Rattle.std.specs.List.{AllByRecursion}
 use Rattle.std.proofs.lemmas.List.{length-append}
 use Rattle.markdown_base.specs.declared.node.Node.{Node}
-use Rattle.markdown_base.specs.Arena.{Arena, child_of, sibling_of, innermost, changed_at, led_to}
+use Rattle.markdown_base.specs.Arena.{Arena, child_of, sibling_of}
+use Rattle.markdown_base.specs.ArenaChanges.{innermost, changed_at, led_to}
 use Rattle.markdown_base.specs.ArenaBounds.{LeadsBelow, IsWithin}
 
 -- a change keeps the count

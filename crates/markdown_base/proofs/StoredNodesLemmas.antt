@@ -6,7 +6,8 @@ use Rattle.std.specs.List.{AllByRecursion}
 use Rattle.std.proofs.lemmas.List.{map-append}
 use Rattle.markdown_base.specs.declared.node.Node.{Node}
 use Rattle.markdown_base.specs.declared.stored_node.StoredNode.{StoredNode}
-use Rattle.markdown_base.specs.Arena.{Arena, items_of, child_of, sibling_of, changed_at}
+use Rattle.markdown_base.specs.Arena.{Arena, items_of, child_of, sibling_of}
+use Rattle.markdown_base.specs.ArenaChanges.{changed_at}
 use Rattle.markdown_base.specs.ArenaBounds.{LeadsBelow, IsWithin}
 use Rattle.markdown_base.specs.StoredNodes.{target_of, node_of, nodes_of}
 use Rattle.markdown_base.proofs.ArenaLemmas.{within_more, within_changed, child_within, sibling_within}

@@ -1,6 +1,5 @@
 -- The forest that the links of an arena represent, by which a tree is read: a fact about the representation.
 use Rattle.std.specs.Prelude.{◌≡◌, ℕ, zero, suc, ◌<◌, List, Option, Some, None, length}
-use Rattle.std.specs.Coded.{le_prop, Coded-set, coded_option, coded_ℕ}
 use Rattle.markdown_base.specs.declared.node.Node.{Node}
 use Rattle.markdown_base.specs.Arena.{child_of, sibling_of}
 use Rattle.markdown_base.specs.Forest.{Forest, nil, node}
@@ -34,17 +33,3 @@ forest_at k l = followed k.size k l
 -- the forest below the root
 abbrev pub numbers_below : {T : Type 0} → List (Node T) → Forest ℕ
 numbers_below nodes = forest_at (links_of nodes) (child_of nodes 0)
-
--- two links are equal in at most one way
-pub link-set : (a b : Option ℕ) → IsProp (a ≡ b)
-link-set a b = Coded-set (coded_option coded_ℕ) a b
-
--- a forest is represented in at most one way
-pub Spells-prop : (k : Links) (l : Option ℕ) (f : Forest ℕ) → IsProp (Spells k l f)
-Spells-prop k l nil = link-set l None
-Spells-prop k l (node ix below after) =
-    let here = link-set l (Some ix) in
-    let within : IsProp (ix < k.size) = le_prop in
-    let inside = Spells-prop k (k.child ix) below in
-    let behind = Spells-prop k (k.next ix) after in
-    hlevel

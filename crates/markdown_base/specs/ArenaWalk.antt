@@ -1,8 +1,9 @@
 -- The state of a traversal of an arena, at a cursor below the nodes of a spine: facts about the representation.
 use Rattle.std.specs.Prelude.{ℕ, ◌<◌, List, [], ◌∷◌, Option, ⊤}
 use Rattle.std.specs.Coded.{Unit-prop, le_prop}
-use Rattle.markdown_base.specs.Forest.{Each, Throughout-prop}
-use Rattle.markdown_base.specs.ArenaForest.{Links, Spells, Spells-prop, forest_at}
+use Rattle.markdown_base.specs.Forest.{Each}
+use Rattle.markdown_base.specs.OneWay.{Throughout-prop, Spells-prop}
+use Rattle.markdown_base.specs.ArenaForest.{Links, Spells, forest_at}
 
 -- a link leads to a forest of nodes for each of which p holds
 pub record Reaches (k : Links) (p : ℕ → Type 0) (l : Option ℕ) : Type 0 where

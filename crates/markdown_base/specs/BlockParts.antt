@@ -1,9 +1,8 @@
 -- Link reference definitions for comparison: without the memory that holds their texts.
-use Rattle.std.specs.Prelude.{ℕ, ◌≤◌, List, Option, IfSome, length}
+use Rattle.std.specs.Prelude.{ℕ, List, Option}
 use Rattle.std.specs.Option.{option_map}
 use Rattle.std.specs.declared.ops.Range.{Range}
 use Rattle.markdown_base.specs.CowText.{text_of}
-use Rattle.markdown_base.specs.declared.cow_str.CowStr.{CowStr}
 use Rattle.markdown_base.specs.declared.block_parts.LinkDef.{LinkDef}
 
 -- a definition's destination, its title if it has one, and its source range in bytes
@@ -19,8 +18,3 @@ definition_view d = record {
   title = option_map text_of d.title;
   span = d.span;
 }
-
--- each of its texts that has this form can be stored inline
-pub record HasShortTexts (form : CowStr → Type 0) (d : LinkDef) : Type 0 where
-  pub destination : form d.dest → length (text_of d.dest) ≤ 22
-  pub title : IfSome d.title (λ title. form title → length (text_of title) ≤ 22)

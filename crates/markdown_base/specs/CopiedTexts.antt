@@ -1,7 +1,7 @@
 -- The texts of events, tags and definitions in order, and which of them a copy borrows.
 use Rattle.std.specs.Prelude.{List, [], ◌∷◌, ◌++◌, Option, flat_map}
 use Rattle.std.specs.Option.{option_to_list}
-use Rattle.markdown_base.specs.CowText.{IsBorrowed}
+use Rattle.markdown_base.specs.StoredTexts.{IsBorrowed}
 use Rattle.markdown_base.specs.declared.block_parts.LinkDef.{LinkDef}
 use Rattle.markdown_base.specs.declared.cow_str.CowStr.{CowStr}
 use Rattle.markdown_base.specs.declared.tag.CodeBlockKind.{CodeBlockKind}

@@ -15,13 +15,3 @@ text_of (Inlined inlined) = inline_text inlined
 abbrev pub IsInlined : CowStr → Type 0
 IsInlined (Inlined inlined) = Unit {0}
 IsInlined text = ⊥
-
--- the text is owned, on the heap
-abbrev pub IsBoxed : CowStr → Type 0
-IsBoxed (Boxed boxed) = Unit {0}
-IsBoxed text = ⊥
-
--- the text is a slice of the source
-abbrev pub IsBorrowed : CowStr → Type 0
-IsBorrowed (Borrowed borrowed) = Unit {0}
-IsBorrowed text = ⊥

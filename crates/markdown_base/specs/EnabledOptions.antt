@@ -2,8 +2,7 @@
 use Rattle.std.specs.Prelude.{Bool, not, ◌&&◌, ◌==◌}
 use Rattle.std.specs.Int.RustNames.{bit_and, bit_or}
 use Rattle.markdown_base.specs.declared.options.Options.{Options}
-use Rattle.markdown_base.specs.declared.options.TheConstants.Options.{ENABLE_FOOTNOTES, ENABLE_MATH}
-use Rattle.markdown_base.specs.declared.options.TheConstants.Options.{ENABLE_OLD_FOOTNOTES, ENABLE_SMART_PUNCTUATION}
+use Rattle.markdown_base.specs.declared.options.TheConstants.Options.{ENABLE_FOOTNOTES, ENABLE_OLD_FOOTNOTES}
 use Rattle.markdown_base.specs.declared.options.TheConstants.Options.{ENABLE_STRIKETHROUGH, ENABLE_SUBSCRIPT}
 use Rattle.markdown_base.specs.declared.options.TheConstants.Options.{ENABLE_SUPERSCRIPT, ENABLE_WIKILINKS}
 
@@ -39,12 +38,6 @@ superscript_on = is_on ENABLE_SUPERSCRIPT
 
 abbrev pub subscript_on : Options → Bool
 subscript_on = is_on ENABLE_SUBSCRIPT
-
-abbrev pub smart_punctuation_on : Options → Bool
-smart_punctuation_on = is_on ENABLE_SMART_PUNCTUATION
-
-abbrev pub math_on : Options → Bool
-math_on = is_on ENABLE_MATH
 
 abbrev pub wikilinks_on : Options → Bool
 wikilinks_on = is_on ENABLE_WIKILINKS

@@ -2,7 +2,6 @@
 use Rattle.std.specs.Prelude.{ℕ, ◌≤◌, Bool, true, false, ◌||◌, not, List, Option, Some, None}
 use Rattle.std.specs.Str.{IsCharBoundary}
 use Rattle.std.specs.declared.ops.Range.{Range}
-use Rattle.std.proofs.Props.{props}
 use Rattle.markdown_base.specs.declared.item.Item.{Item}
 use Rattle.markdown_base.specs.declared.item.ItemBody.{ItemBody}
 use Rattle.markdown_base.specs.declared.item.ItemBody.TheVariants as body
@@ -101,7 +100,3 @@ pub record LiesIn (text : List ℕ) (item : Item) : Type 0 where
   pub ordered : item.start ≤ item.end
   pub start : IsCharBoundary text item.start
   pub end : IsCharBoundary text item.end
-
--- `LiesIn` has at most one proof
-pub LiesIn-prop : (text : List ℕ) (item : Item) → IsProp (LiesIn text item)
-LiesIn-prop text item = hlevel props

@@ -1,10 +1,12 @@
 -- what contracts and other definitions cite
 pub mod CowText
+pub mod StoredTexts
 pub mod Event
 pub mod Item
 pub mod BlockParts
 pub mod CopiedTexts
 pub mod Arena
+pub mod ArenaChanges
 pub mod Forest
 pub mod HeadingLevels
 pub mod BlockTree
@@ -14,6 +16,7 @@ pub mod Questions
 pub mod FaultText
 pub mod Bytes
 pub mod EnabledOptions
+pub mod MarkOptions
 -- facts about the representation
 pub mod InlineText
 pub mod ArenaBounds

@@ -1,7 +1,8 @@
 -- A block result is well formed in at most one way, as a type needs whose values carry that proof. Each `-prop` says
 -- that its fact has at most one proof.
-use Rattle.std.specs.Prelude.{◌≡◌, ℕ, zero, suc, Bool, List, Option, Some, None, nat_eq, refl}
-use Rattle.std.specs.Coded.{Coded, Coded-set, code_by, coded×, coded_ℕ, coded_bool, coded_list, coded_option}
+use Rattle.std.specs.Prelude.{◌≡◌, ℕ, zero, suc, Bool, List, Option, Some, None, nat_eq, refl, ◌<◌}
+use Rattle.std.specs.Coded.{Coded, Coded-set, code_by, coded×, coded_ℕ, coded_bool, coded_list, coded_option, Unit-prop}
+use Rattle.std.specs.Coded.{le_prop}
 use Rattle.std.specs.List.{IsDistinct-prop}
 use Rattle.std.proofs.Common.{sym, ◌∙◌}
 use Rattle.std.proofs.Math.Path.{path_j}
@@ -12,12 +13,12 @@ use Rattle.markdown_base.specs.declared.item.ItemBody.{ItemBody}
 use Rattle.markdown_base.specs.declared.item.ItemBody.TheVariants as body
 use Rattle.markdown_base.specs.declared.node.Node.{Node}
 use Rattle.markdown_base.specs.Arena.{child_of}
-use Rattle.markdown_base.specs.ArenaForest.{links_of, numbers_below, Spells-prop}
+use Rattle.markdown_base.specs.ArenaForest.{links_of, numbers_below, Links, Spells}
 use Rattle.markdown_base.specs.BlockTree.{Numbered, tree_of}
-use Rattle.markdown_base.specs.Forest.{Forest, nil, node, first_root, Throughout-prop}
-use Rattle.markdown_base.specs.Item.{LiesIn-prop}
+use Rattle.markdown_base.specs.Forest.{Forest, nil, node, first_root, Throughout}
 use Rattle.markdown_base.specs.WellFormed.{IsReachedOnce, StandsOverMarkup, source_of, RunCharacter, GoesOn, RunGoesOn}
 use Rattle.markdown_base.specs.WellFormed.{StandsInRun, PartCounts, counts_of, KeepsRules, IsWellFormed}
+use Rattle.markdown_base.specs.Item.{LiesIn}
 
 -- maps an equation of `nil` and a forest to `refl` if the forest is empty, and otherwise to itself
 from_nil : {A : Type 0} (f : Forest A) → nil ≡ f → nil ≡ f
@@ -39,6 +40,20 @@ from_nil-one (node a below after) d e = cc d
 nil-prop : {A : Type 0} (f : Forest A) → IsProp (f ≡ nil)
 nil-prop nil d e = sym (from_nil-same nil d) ∙ (from_nil-one nil d e ∙ from_nil-same nil e)
 nil-prop (node a below after) d e = cc d
+
+-- two links are equal in at most one way
+pub link-set : (a b : Option ℕ) → IsProp (a ≡ b)
+link-set a b = Coded-set (coded_option coded_ℕ) a b
+
+-- a forest is represented in at most one way
+pub Spells-prop : (k : Links) (l : Option ℕ) (f : Forest ℕ) → IsProp (Spells k l f)
+Spells-prop k l nil = link-set l None
+Spells-prop k l (node ix below after) =
+    let here = link-set l (Some ix) in
+    let within : IsProp (ix < k.size) = le_prop in
+    let inside = Spells-prop k (k.child ix) below in
+    let behind = Spells-prop k (k.next ix) after in
+    hlevel
 
 -- each node is reached once
 IsReachedOnce-prop : (nodes : List (Node Item)) → IsProp (IsReachedOnce nodes)
@@ -93,6 +108,10 @@ StandsInRun-prop text a next c =
     let goes_on = RunGoesOn-prop text a c.count c.can_open c.can_close next in
     hlevel (props, goes_on)
 
+-- `LiesIn` has at most one proof
+pub LiesIn-prop : (text : List ℕ) (item : Item) → IsProp (LiesIn text item)
+LiesIn-prop text item = hlevel props
+
 -- an item keeps the rules
 KeepsRules-prop : (text : List ℕ) (counts : PartCounts) (a : Numbered) (below : Forest Numbered)
     (next : Option Numbered) → IsProp (KeepsRules text counts a below next)
@@ -101,6 +120,16 @@ KeepsRules-prop text counts a below next =
     let markup = StandsOverMarkup-prop (source_of text a.item) a.item.body in
     let run = StandsInRun-prop text a next in
     hlevel (props, nil-prop {A = Numbered}, range, markup, run)
+
+-- `Throughout` has at most one proof if p has at most one for each tree
+pub Throughout-prop : {A : Type 0} (p : A → Forest A → Forest A → Type 0)
+    → ((a : A) (below after : Forest A) → IsProp (p a below after)) → (f : Forest A) → IsProp (Throughout p f)
+Throughout-prop p h nil = Unit-prop
+Throughout-prop p h (node a below after) =
+    let here = h a below after in
+    let inside = Throughout-prop p h below in
+    let behind = Throughout-prop p h after in
+    hlevel
 
 -- a block result is well formed
 pub IsWellFormed-prop : (text : List ℕ) (nodes : List (Node Item)) (parts : BlockParts)

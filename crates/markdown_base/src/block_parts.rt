@@ -1,8 +1,8 @@
 //! The parts of a block result other than its tree.
 ghost use Rattle.std.specs.Prelude.{◌≡◌, IfOk, IfErr, IsOk};
-ghost use Rattle.markdown_base.specs.BlockParts.{definition_view, HasShortTexts};
+ghost use Rattle.markdown_base.specs.BlockParts.{definition_view};
+ghost use Rattle.markdown_base.specs.StoredTexts.{HasShortTexts, IsBorrowed, IsBoxed};
 ghost use Rattle.markdown_base.specs.CopiedTexts.{KeepsSlices, texts_of_definition};
-ghost use Rattle.markdown_base.specs.CowText.{IsBorrowed, IsBoxed};
 ghost use Rattle.markdown_base.specs.declared.fault.Fault.{Fault};
 
 use crate::copies::{clone_optional, static_optional};

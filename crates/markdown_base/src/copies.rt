@@ -3,7 +3,8 @@
 ghost use Rattle.std.specs.Prelude.{◌≡◌, ◌≤◌, length, map, flat_map, IfOk, IfErr, IfSome, IsOk};
 ghost use Rattle.std.specs.Option.{option_map, option_to_list};
 ghost use Rattle.markdown_base.specs.CopiedTexts.{KeepsSlices, texts_of_attribute};
-ghost use Rattle.markdown_base.specs.CowText.{text_of, IsBorrowed, IsBoxed};
+ghost use Rattle.markdown_base.specs.CowText.{text_of};
+ghost use Rattle.markdown_base.specs.StoredTexts.{IsBorrowed, IsBoxed};
 ghost use Rattle.markdown_base.specs.Event.{attribute_view};
 ghost use Rattle.markdown_base.specs.declared.fault.Fault.{Fault};
 

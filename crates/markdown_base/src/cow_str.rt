@@ -29,7 +29,8 @@ pub enum CowStr<'a> {
 }
 
 impl<'a> CowStr<'a> {
-    ghost use Rattle.markdown_base.specs.CowText.{text_of, IsBorrowed, IsBoxed};
+    ghost use Rattle.markdown_base.specs.CowText.{text_of};
+    ghost use Rattle.markdown_base.specs.StoredTexts.{IsBorrowed, IsBoxed};
 
     /// Returns the text.
     pub fn as_str(&self) -> &str
@@ -137,7 +138,8 @@ impl<'a> From<char> for CowStr<'a> {
 }
 
 impl<'a> From<String> for CowStr<'a> {
-    ghost use Rattle.markdown_base.specs.CowText.{text_of, IsBoxed};
+    ghost use Rattle.markdown_base.specs.CowText.{text_of};
+    ghost use Rattle.markdown_base.specs.StoredTexts.{IsBoxed};
 
     ghost from_gives = { λ text made. IsBoxed made × (text_of made ≡ string_bytes text) };
 

@@ -1,8 +1,9 @@
 //! A tree of items: an arena of numbered nodes, with a cursor that enters and leaves nodes.
 ghost use Rattle.std.specs.Prelude.{◌≡◌, ℕ, ◌<◌, ◌^◌, ◌++◌, ◌∷◌, [], length, slice_index_or, MatchOption, MatchResult};
 ghost use Rattle.std.specs.Prelude.{IfOk, IfSome, OnErr};
-ghost use Rattle.markdown_base.specs.Arena.{items_of, child_of, sibling_of, innermost, single, changed_at, follower};
-ghost use Rattle.markdown_base.specs.Arena.{led_to, appended};
+ghost use Rattle.markdown_base.specs.Arena.{items_of, child_of, sibling_of};
+ghost use Rattle.markdown_base.specs.ArenaChanges.{innermost, single, changed_at, follower, led_to};
+ghost use Rattle.markdown_base.specs.ArenaChanges.{appended};
 ghost use Rattle.markdown_base.specs.declared.item.ItemBody.TheVariants as body;
 
 use crate::item::{Item, ItemBody};

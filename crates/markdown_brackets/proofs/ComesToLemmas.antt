@@ -16,13 +16,13 @@ use Rattle.markdown_document.specs.LinkOrigins.{IsTitleFrom}
 use Rattle.markdown_document.specs.Origins.{origin_of}
 use Rattle.markdown_document.specs.Setting.{uses_of}
 use Rattle.markdown_document.specs.declared.chain_place.ChainPlace.{ChainPlace}
-use Rattle.markdown_defs.specs.Callback.{question_of}
+use Rattle.markdown_defs.specs.CallbackViews.{question_of}
 use Rattle.markdown_defs.specs.declared.callback.BrokenLink.{BrokenLink}
 use Rattle.markdown_defs.specs.Definitions as definitions
 use Rattle.markdown_defs.specs.Definitions.{Labelled}
 use Rattle.markdown_defs.specs.Folding.{is_match}
 use Rattle.markdown_defs.specs.Footnotes.{footnote_at}
-use Rattle.markdown_defs.specs.Footnotes as footnotes
+use Rattle.markdown_defs.specs.FootnoteCounts as footnotes
 use Rattle.markdown_brackets.specs.BracketDecision.{footnote_used, to_be, Around, Becomes, Progress, Try, a_text, a_link, a_footnote}
 use Rattle.markdown_brackets.specs.BracketDecision.{Written, after_look_up, inline_link, inline_target, question_at, spent_by, tail_or, target_tried, tried}
 use Rattle.markdown_brackets.specs.BracketDecision.{link_reference, footnote_label}

@@ -8,7 +8,7 @@ use Rattle.std.specs.BTreeMap.{get_by_text}
 use Rattle.markdown_document.specs.Setting.{use_count, uses_of}
 use Rattle.markdown_defs.specs.Folding.{case_folding, is_match}
 use Rattle.markdown_defs.specs.Footnotes.{footnote_at}
-use Rattle.markdown_defs.specs.Footnotes as footnotes
+use Rattle.markdown_defs.specs.FootnoteCounts as footnotes
 use Rattle.markdown_defs.specs.declared.footnotes.FootnoteDef.{FootnoteDef}
 use Rattle.markdown_defs.specs.declared.footnotes.FootnoteDefs.{FootnoteDefs}
 use Rattle.markdown_brackets.specs.BracketDecision.{uses_once_more}

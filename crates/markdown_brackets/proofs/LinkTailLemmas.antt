@@ -2,7 +2,8 @@
 use Rattle.std.proofs.Common.{◌≡◌, ℕ, ◌+◌, ◌==◌, Bool, true, false, List, [], Option, Some, None, ◌≤◌, cond, length, sym, ◌∙◌, ap, subst}
 use Rattle.std.specs.Prelude.{slice_index, if◌then◌else◌}
 use Rattle.std.proofs.lemmas.List.{get_or_past}
-use Rattle.markdown_base.specs.CowText.{text_of, IsBorrowed}
+use Rattle.markdown_base.specs.CowText.{text_of}
+use Rattle.markdown_base.specs.StoredTexts.{IsBorrowed}
 use Rattle.markdown_base.specs.declared.cow_str.CowStr.{CowStr}
 use Rattle.markdown_scan.specs.Unescape.{unescaped}
 use Rattle.markdown_brackets.specs.LinkTail as tail

@@ -3,7 +3,8 @@ use Rattle.std.proofs.Common.{◌≡◌, ℕ, suc, ◌+◌, ◌-◌, ◌≤◌, 
 use Rattle.std.proofs.Common.{slice_range, refl, ◌∙◌, ap, subst, arith}
 use Rattle.std.specs.Option.{option_map}
 use Rattle.std.specs.Prelude.{slice_index, if◌then◌else◌, ⊤, IfSome}
-use Rattle.markdown_base.specs.CowText.{text_of, IsBorrowed}
+use Rattle.markdown_base.specs.CowText.{text_of}
+use Rattle.markdown_base.specs.StoredTexts.{IsBorrowed}
 use Rattle.markdown_base.specs.declared.cow_str.CowStr.{CowStr}
 use Rattle.markdown_base.specs.declared.cow_str.CowStr.TheVariants.{Boxed, Borrowed, Inlined}
 use Rattle.markdown_base.specs.Bytes.{backslash}

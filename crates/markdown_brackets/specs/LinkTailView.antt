@@ -1,6 +1,7 @@
 -- The tail of an inline link, as contracts describe it.
 use Rattle.std.specs.Prelude.{◌≡◌, Bool, false, Option, Some, None}
-use Rattle.markdown_base.specs.CowText.{text_of, IsBorrowed}
+use Rattle.markdown_base.specs.CowText.{text_of}
+use Rattle.markdown_base.specs.StoredTexts.{IsBorrowed}
 use Rattle.markdown_scan.specs.Unescape.{unescaped}
 use Rattle.markdown_brackets.specs.LinkTail as tail
 use Rattle.markdown_brackets.specs.declared.link_tail.LinkTail.{LinkTail}

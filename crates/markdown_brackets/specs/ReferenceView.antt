@@ -1,6 +1,7 @@
 -- Labels, and the form of a reference, as contracts describe them.
 use Rattle.std.specs.Prelude.{◌≡◌, ℕ, ◌-◌, Bool, true, false, List, slice_range, take}
-use Rattle.markdown_base.specs.CowText.{text_of, IsBorrowed}
+use Rattle.markdown_base.specs.CowText.{text_of}
+use Rattle.markdown_base.specs.StoredTexts.{IsBorrowed}
 use Rattle.markdown_brackets.specs.Reference as def
 use Rattle.markdown_brackets.specs.declared.reference.Form.{Form}
 use Rattle.markdown_brackets.specs.declared.reference.Form.TheVariants.{Reference, Collapsed, Shortcut}

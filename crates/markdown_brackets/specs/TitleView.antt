@@ -1,6 +1,7 @@
 -- A title that was read, as contracts describe it.
 use Rattle.std.specs.Prelude.{◌≡◌, ℕ, Bool, false, Option, Some, None}
-use Rattle.markdown_base.specs.CowText.{text_of, IsBorrowed}
+use Rattle.markdown_base.specs.CowText.{text_of}
+use Rattle.markdown_base.specs.StoredTexts.{IsBorrowed}
 use Rattle.markdown_base.specs.declared.cow_str.CowStr.{CowStr}
 use Rattle.markdown_scan.specs.Unescape.{unescaped}
 use Rattle.markdown_document.specs.LinkTitle.{Title}

@@ -3,7 +3,8 @@ ghost use Rattle.std.specs.Prelude.{◌≡◌, ℕ, List, IfErr, IfOk, OnErr, On
 ghost use Rattle.std.specs.Option.{option_map};
 ghost use Rattle.markdown_base.specs.declared.fault.Fault.{Fault};
 ghost use Rattle.markdown_defs.specs.Folding.{is_match};
-ghost use Rattle.markdown_defs.specs.Footnotes.{footnote_at, used_once_more};
+ghost use Rattle.markdown_defs.specs.Footnotes.{footnote_at};
+ghost use Rattle.markdown_defs.specs.FootnoteCounts.{used_once_more};
 ghost use Rattle.markdown_brackets.specs.FootnoteUse.{is_reference};
 
 use markdown_base::fault::Fault;

@@ -5,7 +5,7 @@ ghost use Rattle.markdown_base.specs.BlockParts.{definition_view};
 ghost use Rattle.markdown_base.specs.CowText.{text_of};
 ghost use Rattle.markdown_base.specs.Questions.{Question};
 ghost use Rattle.markdown_base.specs.declared.fault.Fault.{Fault};
-ghost use Rattle.markdown_defs.specs.Callback.{answer_of, question_of};
+ghost use Rattle.markdown_defs.specs.CallbackViews.{answer_of, question_of};
 ghost use Rattle.markdown_brackets.specs.Lookup as lookup;
 ghost use Rattle.markdown_brackets.specs.LookupView.{FindsTarget, IsAnswered, LooksUp};
 ghost use Rattle.markdown_brackets.specs.LookupView.{target_by, target_view};

@@ -20,7 +20,8 @@ pub(crate) struct TitleText<'t> {
 impl<'t> TitleText<'t> {
     ghost use Rattle.std.specs.Prelude.{◌≡◌, ◌≤◌, [], ◌∷◌, ◌++◌, IfOk, false, true, slice_range, string_bytes};
     ghost use Rattle.std.specs.Str.{IsCharBoundary};
-    ghost use Rattle.markdown_base.specs.CowText.{text_of, IsBorrowed};
+    ghost use Rattle.markdown_base.specs.CowText.{text_of};
+    ghost use Rattle.markdown_base.specs.StoredTexts.{IsBorrowed};
     ghost use Rattle.markdown_base.specs.Bytes.{line_feed};
     ghost use Rattle.markdown_scan.specs.Unescape.{unescaped};
     ghost use Rattle.markdown_brackets.specs.TitleText.{so_far};

@@ -11,7 +11,8 @@ use Rattle.markdown_base.specs.declared.item.Item.{Item}
 use Rattle.markdown_base.specs.declared.item.ItemBody.{ItemBody}
 use Rattle.markdown_base.specs.declared.item.ItemBody.TheVariants as body
 use Rattle.markdown_base.specs.declared.node.Node.{Node}
-use Rattle.markdown_base.specs.Arena.{Arena, appended, changed_at}
+use Rattle.markdown_base.specs.Arena.{Arena}
+use Rattle.markdown_base.specs.ArenaChanges.{appended, changed_at}
 use Rattle.markdown_base.specs.Item.{is_childless}
 use Rattle.markdown_base.specs.WellFormed.{PartCounts, source_of, is_delimiter}
 use Rattle.markdown_builder.specs.declared.open_block.OpenBlock.{OpenBlock}

@@ -5,7 +5,7 @@ use Rattle.std.specs.Prelude.{slice_index_or}
 use Rattle.std.proofs.lemmas.List.{length-append}
 use Rattle.markdown_base.specs.declared.item.Item.{Item}
 use Rattle.markdown_base.specs.declared.node.Node.{Node}
-use Rattle.markdown_base.specs.Arena.{innermost, changed_at, follower, appended}
+use Rattle.markdown_base.specs.ArenaChanges.{innermost, changed_at, follower, appended}
 use Rattle.markdown_base.specs.ArenaForest.{links_of}
 use Rattle.markdown_base.specs.BlockTree.{item_at, no_item}
 use Rattle.markdown_base.proofs.ArenaLemmas.{length-changed_at}

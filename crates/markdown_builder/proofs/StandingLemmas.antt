@@ -8,7 +8,7 @@ use Rattle.markdown_base.specs.declared.block_parts.LinkDef.{LinkDef}
 use Rattle.markdown_base.specs.declared.cow_str.CowStr.{CowStr}
 use Rattle.markdown_base.specs.declared.item.Item.{Item}
 use Rattle.markdown_base.specs.declared.node.Node.{Node}
-use Rattle.markdown_base.specs.Arena.{innermost, appended}
+use Rattle.markdown_base.specs.ArenaChanges.{innermost, appended}
 use Rattle.markdown_base.specs.ArenaForest.{Links, links_of}
 use Rattle.markdown_base.specs.Coverage.{is_inside}
 use Rattle.markdown_base.specs.Item.{range_of, is_inline}

@@ -9,7 +9,8 @@ use Rattle.markdown_base.specs.declared.block_parts.LinkDef.{LinkDef}
 use Rattle.markdown_base.specs.declared.cow_str.CowStr.{CowStr}
 use Rattle.markdown_base.specs.declared.item.Item.{Item}
 use Rattle.markdown_base.specs.declared.node.Node.{Node}
-use Rattle.markdown_base.specs.Arena.{Arena, appended, changed_at, child_of}
+use Rattle.markdown_base.specs.Arena.{Arena, child_of}
+use Rattle.markdown_base.specs.ArenaChanges.{appended, changed_at}
 use Rattle.markdown_base.specs.ArenaForest.{links_of}
 use Rattle.markdown_base.specs.BlockTree.{item_at, numbered}
 use Rattle.markdown_base.specs.Coverage.{is_inside}

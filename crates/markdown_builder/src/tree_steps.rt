@@ -1,6 +1,6 @@
 //! The steps in which a builder changes its tree.
 ghost use Rattle.std.specs.Prelude.{◌≡◌, ℕ, ◌+◌, ◌-◌, ◌<◌, ◌≤◌, ◌⊎◌, List, ◌++◌, ◌∷◌, [], Some, length, IfOk, OnErr};
-ghost use Rattle.markdown_base.specs.Arena.{appended, changed_at};
+ghost use Rattle.markdown_base.specs.ArenaChanges.{appended, changed_at};
 ghost use Rattle.markdown_builder.specs.Standing.{entered, open_item, with_item};
 ghost use Rattle.markdown_builder.specs.TreeSteps.{texts_appended, run_marked};
 ghost use Rattle.markdown_builder.specs.declared.open_block.OpenBlock.{OpenBlock};

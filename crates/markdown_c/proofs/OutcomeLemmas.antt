@@ -5,7 +5,7 @@ use Rattle.markdown_base.specs.Questions.{Question, Answer}
 use Rattle.markdown_base.specs.declared.fault.Fault.{Fault}
 use Rattle.markdown_base.specs.declared.fault.Fault.TheVariants as fault
 use Rattle.markdown_base.specs.declared.options.Options.{Options}
-use Rattle.markdown_render.specs.Rendering.{IsRenderingFor, IsTooDeepFor}
+use Rattle.markdown_render.specs.RenderingFor.{IsRenderingFor, IsTooDeepFor}
 use Rattle.markdown_render.proofs.RenderingLemmas.{rendering_alone, too_deep_alone}
 use Rattle.markdown_c.specs.CallsFromC.{IsHtmlOutcome, IsLinesOutcome, refusal_of}
 

@@ -6,7 +6,8 @@ use Rattle.markdown_base.specs.declared.fault.Fault.{Fault}
 use Rattle.markdown_base.specs.declared.fault.Fault.TheVariants as fault
 use Rattle.markdown_base.specs.declared.options.Options.{Options}
 use Rattle.markdown_render.specs.Rendering.{IsRenderingOf, IsTooDeepOf}
-use Rattle.markdown_text_json.specs.TextJson.{IsJsonOf, IsOutlineJsonOf}
+use Rattle.markdown_text_json.specs.TextJson.{IsJsonOf}
+use Rattle.markdown_text_json.specs.OutlineJson.{IsOutlineJsonOf}
 use Rattle.markdown_c.specs.declared.readings.Refusal.{Refusal}
 use Rattle.markdown_c.specs.declared.readings.Refusal.TheVariants.{NotUtf8, Memory, Depth}
 

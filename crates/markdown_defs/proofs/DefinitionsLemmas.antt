@@ -8,7 +8,8 @@ use Rattle.std.proofs.lemmas.List.{append-nil}
 use Rattle.std.proofs.lemmas.List.Quantifiers.{all_pairs_push}
 use Rattle.std.proofs.lemmas.Slice.Eq.{bytes_eq-Decides}
 use Rattle.markdown_base.specs.CowText.{text_of}
-use Rattle.markdown_defs.specs.Definitions.{Labelled, has_folding, first_at, find_definition, add_first, firsts, HasOtherFolding, AreDistinct}
+use Rattle.markdown_defs.specs.Definitions.{Labelled, has_folding, first_at, find_definition, add_first, firsts}
+use Rattle.markdown_defs.specs.DistinctDefinitions.{HasOtherFolding, AreDistinct}
 use Rattle.markdown_defs.specs.Folding.{case_folding}
 use Rattle.markdown_defs.proofs.PlaceLemmas.{find_in_both, none_at}
 

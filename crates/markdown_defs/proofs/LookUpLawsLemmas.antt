@@ -9,10 +9,10 @@ use Rattle.std.proofs.lemmas.List.Folds.{Any-from_list_any, list_any-from_Any}
 use Rattle.std.proofs.lemmas.Slice.Eq.{bytes_eq-Decides}
 use Rattle.markdown_base.specs.CowText.{text_of}
 use Rattle.markdown_defs.specs.Definitions.{Labelled, has_folding, first_at, find_definition}
-use Rattle.markdown_defs.specs.Folding.{case_folding, Matches, is_match}
-use Rattle.markdown_defs.specs.Footnotes.{unused, unused_at}
+use Rattle.markdown_defs.specs.Folding.{case_folding, is_match}
+use Rattle.markdown_defs.specs.FootnoteCounts.{unused, unused_at}
 use Rattle.markdown_defs.specs.LookUpLaws.{NoneMatches, IsFirstMatch, FindsFirstMatch, MatchingKeysAgree, TestsMatching, IsAmongNames}
-use Rattle.markdown_defs.specs.LookUpLaws.{FindsNamed, MatchingNamesAgree}
+use Rattle.markdown_defs.specs.LookUpLaws.{FindsNamed, MatchingNamesAgree, Matches}
 
 -- foldings are equal where texts match
 pub folding_of_match : (a b : List ℕ) → Matches a b → case_folding a ≡ case_folding b

@@ -1,8 +1,8 @@
 -- Link reference definitions, looked up by their labels: the first of several that match takes precedence (CommonMark
 -- 4.7).
-use Rattle.std.specs.Prelude.{◌≢◌, ℕ, List, [], ◌∷◌, ◌++◌, Bool, cond, find, is_some, nat_eq, Option}
+use Rattle.std.specs.Prelude.{ℕ, List, [], ◌∷◌, ◌++◌, Bool, cond, find, is_some, nat_eq, Option}
 use Rattle.std.specs.Cmp.Lexicographic.{pointwise}
-use Rattle.std.specs.List.{AllPairs, fold}
+use Rattle.std.specs.List.{fold}
 use Rattle.std.specs.Option.{option_map}
 use Rattle.markdown_base.specs.CowText.{text_of}
 use Rattle.markdown_base.specs.declared.block_parts.LinkDef.{LinkDef}
@@ -32,11 +32,3 @@ add_first kept d = cond (is_some (first_at (case_folding (text_of d.0)) kept)) k
 -- the definitions that can be found: the first of each folding, in their order
 unfoldable pub firsts : List Labelled → List Labelled
 firsts definitions = fold add_first [] definitions
-
--- the labels of two definitions have different foldings
-abbrev pub HasOtherFolding : Labelled → Labelled → Type 0
-HasOtherFolding d e = case_folding (text_of d.0) ≢ case_folding (text_of e.0)
-
--- no key finds two of the definitions
-abbrev pub AreDistinct : List Labelled → Type 0
-AreDistinct definitions = AllPairs HasOtherFolding definitions

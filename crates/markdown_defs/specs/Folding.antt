@@ -2,7 +2,7 @@
 -- footnote names are compared. White space in them is not collapsed here.
 use Rattle.std.specs.Prelude.{ℕ, List, Bool, chars, encode_utf8_all, nat_eq}
 use Rattle.std.specs.Cmp.Lexicographic.{pointwise}
-use Rattle.caseless.specs.Caseless.{default_case_fold, IsDefaultMatch}
+use Rattle.caseless.specs.Caseless.{default_case_fold}
 
 -- toCasefold of a text (The Unicode Standard, 3.13): its code points with full case folding
 unfoldable pub case_folding : List ℕ → List ℕ
@@ -11,10 +11,6 @@ case_folding text = default_case_fold (chars text)
 -- the same in UTF-8
 abbrev pub folded_text : List ℕ → List ℕ
 folded_text text = encode_utf8_all (case_folding text)
-
--- two texts match (D144): their foldings are equal
-abbrev pub Matches : List ℕ → List ℕ → Type 0
-Matches a b = IsDefaultMatch (chars a) (chars b)
 
 -- whether two texts match
 abbrev pub is_match : List ℕ → List ℕ → Bool

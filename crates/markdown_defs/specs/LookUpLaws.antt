@@ -1,12 +1,18 @@
 -- What look-ups of definitions and footnotes find, in terms of default caseless matching only.
-use Rattle.std.specs.Prelude.{◌≡◌, ◌↔◌, ℕ, List, [], ◌∷◌, ◌++◌, Any, IsTrue, MatchOption}
+use Rattle.std.specs.Prelude.{◌≡◌, ◌↔◌, ℕ, List, [], ◌∷◌, ◌++◌, Any, IsTrue, MatchOption, chars}
 use Rattle.markdown_base.specs.CowText.{text_of}
 use Rattle.markdown_base.specs.declared.block_parts.LinkDef.{LinkDef}
 use Rattle.markdown_base.specs.declared.cow_str.CowStr.{CowStr}
 use Rattle.markdown_defs.specs.Definitions.{Labelled, find_definition}
-use Rattle.markdown_defs.specs.Folding.{Matches, is_match}
-use Rattle.markdown_defs.specs.Footnotes.{footnote_at, unused, unused_at}
+use Rattle.markdown_defs.specs.Folding.{is_match}
+use Rattle.markdown_defs.specs.Footnotes.{footnote_at}
+use Rattle.markdown_defs.specs.FootnoteCounts.{unused, unused_at}
 use Rattle.markdown_defs.specs.declared.footnotes.FootnoteDefs.{FootnoteDefs}
+use Rattle.caseless.specs.Caseless.{IsDefaultMatch}
+
+-- two texts match (D144): their foldings are equal
+abbrev pub Matches : List ℕ → List ℕ → Type 0
+Matches a b = IsDefaultMatch (chars a) (chars b)
 
 -- no label matches the key
 abbrev pub NoneMatches : List ℕ → List Labelled → Type 0

@@ -2,9 +2,11 @@
 //! resolved.
 ghost use Rattle.std.specs.Prelude.{◌≡◌, ◌+◌, ◌-◌, IfErr, IfOk, OnErr, length, slice_index_or};
 ghost use Rattle.markdown_base.specs.declared.fault.Fault.{Fault};
-ghost use Rattle.markdown_defs.specs.Allocations.{HasAlignment, HasCow, HasHeading, HasLink, HoldsParts};
-ghost use Rattle.markdown_defs.specs.Allocations.{LeavesEmptyAlignment, LeavesEmptyCow, LeavesEmptyLink};
-ghost use Rattle.markdown_defs.specs.Allocations.{with_alignment, with_cow, with_heading, with_link};
+ghost use Rattle.markdown_defs.specs.AllocationCalls.{HasAlignment, HasCow, HasHeading, HasLink};
+ghost use Rattle.markdown_defs.specs.AllocationCalls.{HoldsParts, LeavesEmptyAlignment};
+ghost use Rattle.markdown_defs.specs.AllocationCalls.{LeavesEmptyCow, LeavesEmptyLink};
+ghost use Rattle.markdown_defs.specs.AllocationCalls.{with_alignment, with_cow, with_heading};
+ghost use Rattle.markdown_defs.specs.AllocationCalls.{with_link};
 
 use super::definitions::RefDefs;
 use super::footnotes::FootnoteDefs;

@@ -1,9 +1,10 @@
 //! Callbacks for references whose link label is not defined.
 ghost use Rattle.std.specs.Prelude.{◌≡◌, ◌≤◌, length, IfOk, IfErr, IsOk, Option};
-ghost use Rattle.markdown_base.specs.CowText.{text_of, IsBorrowed};
+ghost use Rattle.markdown_base.specs.CowText.{text_of};
+ghost use Rattle.markdown_base.specs.StoredTexts.{IsBorrowed};
 ghost use Rattle.markdown_base.specs.Questions.{Question, Answer};
 ghost use Rattle.markdown_base.specs.declared.fault.Fault.{Fault};
-ghost use Rattle.markdown_defs.specs.Callback.{question_of, answer_of};
+ghost use Rattle.markdown_defs.specs.CallbackViews.{question_of, answer_of};
 
 use markdown_base::cow_str::CowStr;
 use markdown_base::fault::Fault;
@@ -108,7 +109,7 @@ impl<
     F: FnMut(BrokenLink<'input>) -> Option<(CowStr<'input>, CowStr<'input>)> + Drop,
 > BrokenLinkCallback<'input> for Closure<F> {
     ghost use Rattle.std.specs.Prelude.{◌≡◌};
-    ghost use Rattle.markdown_defs.specs.Callback.{question_of, answer_of};
+    ghost use Rattle.markdown_defs.specs.CallbackViews.{question_of, answer_of};
 
     ghost can_ask = { λ s. F.IsAlwaysCallable s.f };
 

@@ -2,7 +2,8 @@
 ghost use Rattle.std.specs.Prelude.{◌≡◌, IfErr, IfOk, OnOk, map};
 ghost use Rattle.std.specs.Option.{option_copied};
 ghost use Rattle.markdown_base.specs.declared.fault.Fault.{Fault};
-ghost use Rattle.markdown_defs.specs.Definitions.{AreDistinct, add_first, firsts, find_definition};
+ghost use Rattle.markdown_defs.specs.Definitions.{add_first, firsts, find_definition};
+ghost use Rattle.markdown_defs.specs.DistinctDefinitions.{AreDistinct};
 ghost use Rattle.markdown_defs.specs.DefinitionsIndex.{IsIndex};
 ghost use Rattle.markdown_defs.specs.DefinitionsLeft.{definitions_left, with_text};
 
@@ -29,7 +30,8 @@ pub struct RefDefs<'a> {
 
 impl<'a> Model for RefDefs<'a> {
     ghost use Rattle.std.specs.Prelude.{List};
-    ghost use Rattle.markdown_defs.specs.Definitions.{Labelled, AreDistinct};
+    ghost use Rattle.markdown_defs.specs.Definitions.{Labelled};
+    ghost use Rattle.markdown_defs.specs.DistinctDefinitions.{AreDistinct};
     ghost use Rattle.markdown_defs.specs.DefinitionsIndex.{IsIndex};
 
     ghost Value = { List Labelled };

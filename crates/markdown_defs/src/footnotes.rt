@@ -8,7 +8,8 @@ ghost use Rattle.std.specs.Option.{option_copied_mut, option_map};
 ghost use Rattle.markdown_base.specs.CowText.{text_of};
 ghost use Rattle.markdown_base.specs.declared.fault.Fault.{Fault};
 ghost use Rattle.markdown_defs.specs.Folding.{case_folding, is_match};
-ghost use Rattle.markdown_defs.specs.Footnotes.{footnote_at, unused, unused_at, used_once_more};
+ghost use Rattle.markdown_defs.specs.Footnotes.{footnote_at};
+ghost use Rattle.markdown_defs.specs.FootnoteCounts.{unused, unused_at, used_once_more};
 ghost use Rattle.markdown_defs.specs.FootnoteLending.{LendsDefined, LendsFolded, LendsFootnote};
 ghost use Rattle.markdown_defs.specs.FootnoteLending.{none_if_undefined};
 

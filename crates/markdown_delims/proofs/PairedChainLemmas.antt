@@ -16,8 +16,10 @@ use Rattle.markdown_document.specs.Document.{Label, is_unresolved, shape_of}
 use Rattle.markdown_document.specs.Labels.{retag, retagged}
 use Rattle.markdown_document.specs.Places.{trees_from}
 use Rattle.markdown_document.specs.Setting.{Setting}
-use Rattle.markdown_document.specs.Tables.{Tables, no_tables, Named, some_text, some_link, some_alignments}
-use Rattle.markdown_document.specs.Totals.{total, same, same_as, naming, times_named, weight_if, weight_at}
+use Rattle.markdown_document.specs.Tables.{Tables, no_tables}
+use Rattle.markdown_document.specs.NamedEntries.{Named, some_text, some_link, some_alignments, same_as, naming}
+use Rattle.markdown_document.specs.NamedEntries.{times_named}
+use Rattle.markdown_document.specs.Totals.{total, same, weight_if, weight_at}
 use Rattle.markdown_document.proofs.FoundLemmas.{found}
 use Rattle.markdown_document.proofs.TablesLemmas.{same-refl}
 use Rattle.markdown_document.proofs.PlaceLemmas.{shape-open}

@@ -15,9 +15,11 @@ use Rattle.markdown_base.specs.declared.item.ItemBody.{ItemBody}
 use Rattle.markdown_base.specs.declared.node.Node.{Node}
 use Rattle.markdown_document.specs.Document.{Label, block_of, shape_of, part_of, is_unresolved}
 use Rattle.markdown_document.specs.ItemRules.{ComesBefore, KeepsItemRules}
-use Rattle.markdown_document.specs.Places.{ComesFromPlace, IsPlaced, origin_start}
+use Rattle.markdown_document.specs.Places.{origin_start}
+use Rattle.markdown_document.specs.PlacedNodes.{ComesFromPlace, IsPlaced}
 use Rattle.markdown_document.specs.Setting.{Setting}
-use Rattle.markdown_document.specs.Tables.{Tables, NamesEntries, no_tables}
+use Rattle.markdown_document.specs.Tables.{Tables, no_tables}
+use Rattle.markdown_document.specs.NamedEntries.{NamesEntries}
 use Rattle.markdown_document.specs.Totals.{total, same}
 use Rattle.markdown_document.proofs.ItemRulesLemmas.{keeps-closed}
 use Rattle.markdown_document.proofs.PlaceLemmas.{slices-unnamed, shape-open}

@@ -11,7 +11,7 @@ use Rattle.markdown_base.specs.BlockTree.{numbered, item_at}
 use Rattle.markdown_base.specs.Forest.{Forest, nil, node, roots, relabelled}
 use Rattle.markdown_base.specs.WellFormed.{run_character}
 use Rattle.markdown_document.specs.Document.{Shape, unresolved, Part, Label, shape_of}
-use Rattle.markdown_document.specs.Labels.{counts_shape, delimiters_in}
+use Rattle.markdown_document.specs.Counts.{counts_shape, delimiters_in}
 use Rattle.markdown_document.specs.Setting.{Setting}
 use Rattle.markdown_document.specs.Tables.{Tables}
 use Rattle.markdown_delims.specs.declared.quotes.Kind.{Kind}

@@ -5,7 +5,8 @@ use Rattle.std.specs.Prelude.{◌⊎◌, ◌==◌, slice_range}
 use Rattle.std.proofs.lemmas.Bool.{eqb-true, eqb-false}
 use Rattle.markdown_base.specs.declared.item.Item.{Item}
 use Rattle.markdown_base.specs.declared.node.Node.{Node}
-use Rattle.markdown_base.specs.Arena.{Arena, child_of, sibling_of, changed_at}
+use Rattle.markdown_base.specs.Arena.{Arena, child_of, sibling_of}
+use Rattle.markdown_base.specs.ArenaChanges.{changed_at}
 use Rattle.markdown_base.specs.BlockTree.{item_at}
 use Rattle.markdown_base.specs.Item.{range_of}
 use Rattle.markdown_base.specs.declared.item.ItemBody.{ItemBody}

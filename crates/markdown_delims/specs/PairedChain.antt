@@ -5,11 +5,13 @@ use Rattle.markdown_base.specs.ArenaWalk.{Reaches}
 use Rattle.markdown_base.specs.BlockTree.{Numbered, numbered, trees_at}
 use Rattle.markdown_base.specs.Forest.{Forest, nil, node, roots}
 use Rattle.markdown_base.specs.Item.{is_block, is_open}
-use Rattle.markdown_document.specs.Tables.{Tables, Named}
+use Rattle.markdown_document.specs.Tables.{Tables}
+use Rattle.markdown_document.specs.NamedEntries.{Named}
 use Rattle.markdown_base.specs.declared.item.Item.{Item}
 use Rattle.markdown_base.specs.declared.node.Node.{Node}
 use Rattle.markdown_document.specs.ItemRules.{ComesBefore}
-use Rattle.markdown_document.specs.Places.{IsPlaced, IsSameAt, trees_from}
+use Rattle.markdown_document.specs.Places.{trees_from}
+use Rattle.markdown_document.specs.PlacedNodes.{IsPlaced, IsSameAt}
 use Rattle.markdown_document.specs.Setting.{Setting}
 use Rattle.markdown_document.specs.Stages.{times_in, named_in, weight_in}
 use Rattle.markdown_document.specs.Waiting.{waits_for_pairing}

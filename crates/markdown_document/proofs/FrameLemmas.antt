@@ -13,10 +13,13 @@ use Rattle.markdown_base.specs.declared.item.Item.{Item}
 use Rattle.markdown_base.specs.declared.item.ItemBody.{ItemBody}
 use Rattle.markdown_base.specs.declared.node.Node.{Node}
 use Rattle.markdown_base.proofs.ArenaForestLemmas.{height, height-followed, forest_at-fits}
-use Rattle.markdown_document.specs.Places.{IsSameAt, label_at, trees_from, HasSlices, IsPlaced, origin_start}
-use Rattle.markdown_document.specs.Totals.{total, same, naming, times_named, weight_at}
+use Rattle.markdown_document.specs.Places.{label_at, trees_from, origin_start}
+use Rattle.markdown_document.specs.PlacedNodes.{IsSameAt, HasSlices, IsPlaced}
+use Rattle.markdown_document.specs.Totals.{total, same, weight_at}
+use Rattle.markdown_document.specs.NamedEntries.{naming, times_named, Named, some_text, some_link, some_alignments}
+use Rattle.markdown_document.specs.NamedEntries.{IsSameEntry, IsNoShorter}
 use Rattle.markdown_document.specs.Document.{Plain, shape_of, block_of}
-use Rattle.markdown_document.specs.Tables.{Tables, Named, some_text, some_link, some_alignments, IsSameEntry, IsNoShorter}
+use Rattle.markdown_document.specs.Tables.{Tables}
 use Rattle.markdown_document.proofs.TablesLemmas.{same-refl, entries-longer}
 
 -- a node stays, and so do the entries that it names

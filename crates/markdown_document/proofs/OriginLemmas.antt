@@ -11,8 +11,10 @@ use Rattle.markdown_base.specs.declared.tag.LinkType.{LinkType}
 use Rattle.markdown_base.specs.declared.tag.LinkType.TheVariants as kind
 use Rattle.markdown_document.specs.LinkOrigins.{IsLinkFrom, IsSlice, IsTitleFrom, IsWrittenTitle, LinkOrigins}
 use Rattle.markdown_document.specs.Origins.{IsSliceWithin, Origin, sliced}
-use Rattle.markdown_document.specs.Places.{ComesFromPlace, HasSlices, follows_pipe, origin_start}
-use Rattle.markdown_document.specs.Tables.{Tables, link_at, link_origins_at}
+use Rattle.markdown_document.specs.Places.{follows_pipe, origin_start}
+use Rattle.markdown_document.specs.PlacedNodes.{ComesFromPlace, HasSlices}
+use Rattle.markdown_document.specs.Tables.{Tables, link_at}
+use Rattle.markdown_document.specs.NamedEntries.{link_origins_at}
 
 -- a slice within a range is one within a wider range
 pub slice_wider : (text : List ℕ) (start end start' end' : ℕ) (bytes : List ℕ) → start' ≤ start → end ≤ end'

@@ -8,10 +8,12 @@ use Rattle.markdown_base.specs.Item.{is_open, text_named}
 use Rattle.markdown_base.specs.declared.item.Item.{Item}
 use Rattle.markdown_base.specs.declared.item.ItemBody.{ItemBody}
 use Rattle.markdown_base.specs.declared.node.Node.{Node}
-use Rattle.markdown_document.specs.Places.{HasSlices, IsPlaced}
+use Rattle.markdown_document.specs.PlacedNodes.{HasSlices, IsPlaced}
 use Rattle.markdown_document.specs.Document.{unresolved, is_unresolved, shape_of}
-use Rattle.markdown_document.specs.Totals.{total, same, naming, times_named, weight_if}
-use Rattle.markdown_document.specs.Tables.{Tables, Named, some_text, some_link, link_named, number_of, size_for}
+use Rattle.markdown_document.specs.Totals.{total, same, weight_if}
+use Rattle.markdown_document.specs.NamedEntries.{naming, times_named, Named, some_text, some_link, link_named}
+use Rattle.markdown_document.specs.NamedEntries.{number_of, size_for}
+use Rattle.markdown_document.specs.Tables.{Tables}
 use Rattle.markdown_document.proofs.TablesLemmas.{same-refl, same-apart, named-apart}
 
 -- numbers that no node has occur nowhere

@@ -8,9 +8,11 @@ use Rattle.markdown_base.specs.declared.cow_str.CowStr.{CowStr}
 use Rattle.markdown_base.specs.declared.item.ItemBody.{ItemBody}
 use Rattle.markdown_defs.specs.Allocations.{LinkParts}
 use Rattle.markdown_document.specs.Origins.{origin_at}
-use Rattle.markdown_document.specs.Tables.{Tables, Named, some_text, some_link, some_alignments, text_at, link_at, link_origins_at, link_named}
-use Rattle.markdown_document.specs.Tables.{number_of, size_for, NamesEntries, IsSameEntry, IsNoShorter, HasGrown}
-use Rattle.markdown_document.specs.Totals.{same, same_as, times_named}
+use Rattle.markdown_document.specs.Tables.{Tables, text_at, link_at}
+use Rattle.markdown_document.specs.NamedEntries.{Named, some_text, some_link, some_alignments, link_origins_at}
+use Rattle.markdown_document.specs.NamedEntries.{link_named, number_of, size_for, NamesEntries, IsSameEntry}
+use Rattle.markdown_document.specs.NamedEntries.{IsNoShorter, HasGrown, same_as, times_named}
+use Rattle.markdown_document.specs.Totals.{same}
 
 -- a number is itself, and not one that is smaller
 pub same-refl : (n : ℕ) → same n n ≡ 1

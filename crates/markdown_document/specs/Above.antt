@@ -1,7 +1,6 @@
 -- The blocks that are open above a chain: what its rules read of them.
-use Rattle.std.specs.Prelude.{ℕ, Bool, true, false, List, [], ◌∷◌, ◌++◌, Option, Some, None, length}
+use Rattle.std.specs.Prelude.{ℕ, Bool, false, List, [], ◌∷◌, ◌++◌, Option, Some, None, length}
 use Rattle.std.specs.declared.ops.Range.{Range}
-use Rattle.markdown_base.specs.Arena.{Arena}
 use Rattle.markdown_base.specs.BlockTree.{item_at}
 use Rattle.markdown_base.specs.Item.{is_table_cell, range_of}
 use Rattle.markdown_base.specs.declared.item.Item.{Item}
@@ -45,7 +44,3 @@ inside_all nodes (ix ∷ deeper) above = inside_all nodes deeper (inside_item (i
 -- the blocks above the chain below a spine
 abbrev pub above_at : List ℕ → List (Node Item) → List ℕ → Above
 above_at source nodes spine = inside_all nodes spine (no_blocks source)
-
--- the blocks above the chain at the cursor of a tree
-abbrev pub above_cursor : List ℕ → Arena Item → Above
-above_cursor source tree = above_at source tree.nodes tree.spine

@@ -1,6 +1,10 @@
 -- What resolving a chain counts, and how much the counts of work rise.
 use Rattle.std.specs.Prelude.{◌≡◌, ℕ, zero, suc, ◌+◌, ◌-◌, ◌*◌, ◌^◌, ◌≤◌, min}
 use Rattle.markdown_document.specs.declared.work.Work.{Work}
+use Rattle.markdown_base.specs.declared.item.ItemBody.TheVariants as body
+use Rattle.markdown_base.specs.Forest.{Forest, nil, node}
+use Rattle.markdown_base.specs.declared.item.ItemBody.{ItemBody}
+use Rattle.markdown_document.specs.Document.{Shape, leaf, enclosed, plain, backslash_break, unresolved, Label}
 
 -- the numbers of items of a chain from its first open item on, of delimiter characters that are left in it when pairing
 -- begins, and of searches for an opener that find one then
@@ -42,3 +46,21 @@ pub record WorkRises (n : ChainCounts) (old new : Work) : Type 0 where
   pub found : RisesAtLeast n.found old.examined new.examined
   pub code_visits : RisesAtMost n.items old.code_visits new.code_visits
   pub math_visits : RisesAtMost n.items old.math_visits new.math_visits
+
+-- 1 for a character of a delimiter run, 0 for all other bodies
+abbrev pub counts_delimiter : ItemBody → ℕ
+counts_delimiter (body.MaybeEmphasis count opens closes) = 1
+counts_delimiter other = 0
+
+-- the same for a shape: 0 where it is not open
+abbrev pub counts_shape : Shape → ℕ
+counts_shape (leaf e origins) = 0
+counts_shape (enclosed tag) = 0
+counts_shape plain = 0
+counts_shape backslash_break = 0
+counts_shape (unresolved b) = counts_delimiter b
+
+-- the number of delimiter characters of a chain
+abbrev pub delimiters_in : {A : Type 0} → Forest (Label A) → ℕ
+delimiters_in nil = 0
+delimiters_in (node a below after) = counts_shape a.part.shape + delimiters_in after

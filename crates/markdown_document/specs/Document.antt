@@ -37,12 +37,6 @@ is_unresolved plain = false
 is_unresolved backslash_break = false
 is_unresolved (unresolved b) = true
 
--- the event that a tree reads as, with the origins of its texts, where it reads as one event
-abbrev pub event_of_shape : Shape → Option (EventView × List Origin)
-event_of_shape (leaf e origins) = Some (e, origins)
-event_of_shape backslash_break = Some (hard_break, [])
-event_of_shape other = None
-
 -- a shape with its range of bytes, and the body where it is a block
 pub record Part : Type 0 where
   pub shape : Shape

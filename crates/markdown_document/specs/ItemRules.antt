@@ -2,10 +2,9 @@
 -- that resolving relies on.
 use Rattle.std.specs.Prelude.{◌≡◌, ℕ, true, false, List, Option, None, IfSome}
 use Rattle.std.proofs.Props.{props}
-use Rattle.markdown_base.specs.ArenaForest.{link-set}
 use Rattle.markdown_base.specs.BlockTree.{Numbered}
 use Rattle.markdown_base.specs.Item.{is_block, is_open}
-use Rattle.markdown_base.specs.OneWay.{StandsOverMarkup-prop, StandsInRun-prop}
+use Rattle.markdown_base.specs.OneWay.{StandsOverMarkup-prop, StandsInRun-prop, link-set}
 use Rattle.markdown_base.specs.WellFormed.{Precedes, MarkupIsThere, RunsAreWhole, source_of}
 
 -- of two neighbours that are not blocks, the first precedes the second, in the text and by its number

@@ -1,9 +1,6 @@
--- The terms of laws on forests of labels: how they begin, their weight, their number of delimiter characters, and the
--- same forests with other tags.
-use Rattle.markdown_base.specs.declared.item.ItemBody.TheVariants as body
+-- The terms of laws on forests of labels: how they begin, their weight, and the same forests with other tags.
 use Rattle.std.specs.Prelude.{ℕ, ◌+◌, Bool, true, false, ⊤}
 use Rattle.markdown_base.specs.Forest.{Forest, nil, node, relabelled}
-use Rattle.markdown_base.specs.declared.item.ItemBody.{ItemBody}
 use Rattle.markdown_document.specs.Document.{Shape, leaf, enclosed, plain, backslash_break, unresolved, Label}
 use Rattle.markdown_document.specs.Document.{is_unresolved}
 use Rattle.markdown_document.specs.Totals.{weight_if}
@@ -30,24 +27,6 @@ is_plain other = false
 abbrev pub weight : {A : Type 0} → Forest (Label A) → ℕ
 weight nil = 0
 weight (node a below after) = weight_if (is_unresolved a.part.shape) + (weight below + weight after)
-
--- 1 for a character of a delimiter run, 0 for all other bodies
-abbrev pub counts_delimiter : ItemBody → ℕ
-counts_delimiter (body.MaybeEmphasis count opens closes) = 1
-counts_delimiter other = 0
-
--- the same for a shape: 0 where it is not open
-abbrev pub counts_shape : Shape → ℕ
-counts_shape (leaf e origins) = 0
-counts_shape (enclosed tag) = 0
-counts_shape plain = 0
-counts_shape backslash_break = 0
-counts_shape (unresolved b) = counts_delimiter b
-
--- the number of delimiter characters of a chain
-abbrev pub delimiters_in : {A : Type 0} → Forest (Label A) → ℕ
-delimiters_in nil = 0
-delimiters_in (node a below after) = counts_shape a.part.shape + delimiters_in after
 
 -- a label with another tag
 abbrev pub retag : {A B : Type 0} → (A → B) → Label A → Label B

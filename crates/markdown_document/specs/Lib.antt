@@ -13,6 +13,9 @@ pub mod Labels
 pub mod ChainRest
 -- the representation: the items of an arena, by the numbers of its nodes
 pub mod Totals
+pub mod NamedEntries
 pub mod ItemRules
 pub mod Places
+pub mod PlacedNodes
+pub mod PlacedOneWay
 pub mod Stages

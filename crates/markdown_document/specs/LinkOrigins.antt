@@ -1,8 +1,5 @@
 -- Where the destination and the title of a link or an image come from.
 use Rattle.std.specs.Prelude.{◌≡◌, ◌≤◌, ℕ, ◌+◌, ◌-◌, ⊤, Bool, false, List, [], Option, Some, slice_range, take}
-use Rattle.std.proofs.Props.{props}
-use Rattle.std.proofs.Math.Logic.{∥∥₁_prop}
-use Rattle.std.specs.Coded.{Coded-set, Unit-prop, coded_ℕ, coded_list}
 use Rattle.markdown_base.specs.Event.{LinkView}
 use Rattle.markdown_base.specs.declared.tag.LinkType.{LinkType}
 use Rattle.markdown_base.specs.declared.tag.LinkType.TheVariants as kind
@@ -59,23 +56,3 @@ IsTitleFrom source start end other origin title = ⊤
 pub record IsLinkFrom (source : List ℕ) (start end : ℕ) (origins : LinkOrigins) (link : LinkView) : Type 0 where
   pub leads : destination_origin link.kind ≡ sliced → LeadsToSlice source start end origins.destination link
   pub title : IsTitleFrom source start end link.kind origins.title link.title
-
--- `IsSlice` has at most one proof
-IsSlice-prop : (source : List ℕ) (start end : ℕ) (origin : Origin) (bytes : List ℕ)
-    → IsProp (IsSlice source start end origin bytes)
-IsSlice-prop source start end sliced bytes = hlevel ∥∥₁_prop
-IsSlice-prop source start end other bytes = hlevel
-
--- `IsTitleFrom` has at most one proof
-IsTitleFrom-prop : (source : List ℕ) (start end : ℕ) (link_type : LinkType) (origin : Origin) (title : List ℕ)
-    → IsProp (IsTitleFrom source start end link_type origin title)
-IsTitleFrom-prop source start end kind.Inline origin title = hlevel ∥∥₁_prop
-IsTitleFrom-prop source start end other origin title = Unit-prop
-
--- `IsLinkFrom` has at most one proof
-pub IsLinkFrom-prop : (source : List ℕ) (start end : ℕ) (origins : LinkOrigins) (link : LinkView)
-    → IsProp (IsLinkFrom source start end origins link)
-IsLinkFrom-prop source start end origins link =
-    let slice = IsSlice-prop source start end origins.destination link.destination in
-    let title = IsTitleFrom-prop source start end link.kind origins.title link.title in
-    hlevel (props, slice, title, Coded-set (coded_list coded_ℕ))

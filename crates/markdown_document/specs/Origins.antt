@@ -1,7 +1,6 @@
 -- The origins of the texts of events: slices of the source, characters that are held in place, or other texts.
 use Rattle.std.specs.Prelude.{◌≡◌, ◌≤◌, ℕ, zero, suc, List, [], ◌∷◌, slice_range}
 use Rattle.std.specs.declared.ops.Range.{Range}
-use Rattle.std.proofs.Math.Logic.{∥∥₁_prop}
 use Rattle.markdown_base.specs.declared.cow_str.CowStr.{CowStr}
 use Rattle.markdown_base.specs.declared.cow_str.CowStr.TheVariants.{Borrowed}
 
@@ -28,12 +27,3 @@ abbrev pub IsSliceWithin : List ℕ → (start end : ℕ) → List ℕ → Type 
 IsSliceWithin source start end bytes =
     ∥ ((range : Range ℕ) × (start ≤ range.start) × (range.end ≤ end)
     × (bytes ≡ slice_range source range.start range.end)) ∥₁
-
--- they are one if their origin says so
-abbrev pub IsSlicedOf : List ℕ → (start end : ℕ) → Origin → List ℕ → Type 0
-IsSlicedOf source start end origin bytes = origin ≡ sliced → IsSliceWithin source start end bytes
-
--- `IsSlicedOf` has at most one proof
-pub IsSlicedOf-prop : (source : List ℕ) (start end : ℕ) (origin : Origin) (bytes : List ℕ)
-    → IsProp (IsSlicedOf source start end origin bytes)
-IsSlicedOf-prop source start end origin bytes = hlevel ∥∥₁_prop

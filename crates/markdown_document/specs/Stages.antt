@@ -1,4 +1,4 @@
--- What resolving a chain reads and changes, and the chain from a link on.
+-- What resolving a chain reads and changes, the chain from a link on, and the blocks above it.
 use Rattle.std.specs.Prelude.{ℕ, List, Option, length}
 use Rattle.markdown_base.specs.Arena.{Arena}
 use Rattle.markdown_base.specs.ArenaForest.{links_of, forest_at}
@@ -9,9 +9,11 @@ use Rattle.markdown_base.specs.declared.node.Node.{Node}
 use Rattle.markdown_defs.specs.Allocations.{Allocated}
 use Rattle.markdown_document.specs.Setting.{Known, uses_of}
 use Rattle.markdown_document.specs.Places.{trees_from}
-use Rattle.markdown_document.specs.Totals.{total, same, naming, weight_at}
+use Rattle.markdown_document.specs.Totals.{total, same, weight_at}
+use Rattle.markdown_document.specs.NamedEntries.{naming, Named}
 use Rattle.markdown_document.specs.Document.{Plain}
-use Rattle.markdown_document.specs.Tables.{Tables, Named, tables_of}
+use Rattle.markdown_document.specs.Tables.{Tables, tables_of}
+use Rattle.markdown_document.specs.Above.{Above, above_at}
 
 -- what resolving a chain reads and changes
 pub record Stage (C : Type 0) : Type 0 where
@@ -54,3 +56,7 @@ stage tree held limit callback = record {
 -- the number of items of the chain from a link on
 abbrev pub items_from : List (Node Item) → Option ℕ → ℕ
 items_from nodes l = length (roots (forest_at (links_of nodes) l))
+
+-- the blocks above the chain at the cursor of a tree
+abbrev pub above_cursor : List ℕ → Arena Item → Above
+above_cursor source tree = above_at source tree.nodes tree.spine

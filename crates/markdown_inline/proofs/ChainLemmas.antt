@@ -28,15 +28,18 @@ use Rattle.markdown_resolver.specs.Chains.{AreAbove, ResolvesFrom, CanResolve, S
 use Rattle.markdown_inline.specs.Moves.{BeginsWithEvent}
 use Rattle.markdown_inline.specs.Reading.{reading_opened, settled_reading, then_resolved, chain_reading, reading}
 use Rattle.markdown_inline.specs.Walk.{after_chain, left_of}
-use Rattle.markdown_document.specs.Places.{label_at, trees_from, IsPlaced}
+use Rattle.markdown_document.specs.Places.{label_at, trees_from}
+use Rattle.markdown_document.specs.PlacedNodes.{IsPlaced}
 use Rattle.markdown_resolver.specs.PassOne.{Outcome}
 use Rattle.markdown_resolver.specs.Resolved.{resolved, all_paired}
 use Rattle.markdown_document.specs.Document.{plain_tags, Plain, Shape, leaf, enclosed, plain, backslash_break, unresolved, is_unresolved}
 use Rattle.markdown_document.specs.Document.{shape_of}
 use Rattle.markdown_document.specs.Labels.{GivesFirst, Begins}
-use Rattle.markdown_resolver.specs.Kept.{IsSettled, IsUnread}
-use Rattle.markdown_document.specs.Totals.{same, naming}
-use Rattle.markdown_document.specs.Tables.{Tables, Named, number_of, size_for}
+use Rattle.markdown_resolver.specs.Kept.{IsUnread}
+use Rattle.markdown_resolver.specs.KeptChains.{IsSettled}
+use Rattle.markdown_document.specs.Totals.{same}
+use Rattle.markdown_document.specs.NamedEntries.{naming, Named, number_of, size_for}
+use Rattle.markdown_document.specs.Tables.{Tables}
 use Rattle.markdown_document.specs.declared.work.Work.{Work}
 use Rattle.markdown_document.proofs.TablesLemmas.{same-apart, grown-same, grown-longer}
 use Rattle.markdown_document.proofs.PlaceLemmas.{times-past, named-past, shape-open}

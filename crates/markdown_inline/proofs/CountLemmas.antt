@@ -8,8 +8,9 @@ use Rattle.markdown_base.specs.declared.item.Item.{Item}
 use Rattle.markdown_base.specs.declared.node.Node.{Node}
 use Rattle.markdown_base.proofs.ArenaForestLemmas.{forest_at-none}
 use Rattle.markdown_base.specs.ArenaForest.{links_of}
-use Rattle.markdown_document.specs.Document.{Shape, Origin, event_of_shape, leaf, enclosed, plain, backslash_break, unresolved, Plain}
+use Rattle.markdown_document.specs.Document.{Shape, Origin, leaf, enclosed, plain, backslash_break, unresolved, Plain}
 use Rattle.markdown_document.specs.Document.{plain_tags}
+use Rattle.markdown_inline.specs.WalkSteps.{event_of_shape}
 use Rattle.markdown_document.specs.Places.{trees_from}
 use Rattle.markdown_document.specs.declared.work.Work.{Work}
 use Rattle.markdown_document.specs.Counts.{ChainCounts, no_counts, risen, RisesAtLeast, RisesAtMost, WorkRises, comparisons_per_delimiter}

@@ -16,10 +16,11 @@ use Rattle.markdown_base.specs.declared.item.ItemBody.TheVariants as body
 use Rattle.markdown_base.specs.declared.node.Node.{Node}
 use Rattle.markdown_base.specs.declared.tag.TagEnd.{TagEnd}
 use Rattle.markdown_document.specs.Above.{Above, above_at, inside_item, inside_label, no_blocks}
-use Rattle.markdown_document.specs.Counts.{ChainCounts, RisesAtMost, WorkRises, comparisons_per_delimiter, no_counts, risen}
+use Rattle.markdown_document.specs.Counts.{ChainCounts, RisesAtMost, WorkRises, comparisons_per_delimiter, no_counts}
+use Rattle.markdown_document.specs.Counts.{risen, counts_delimiter, counts_shape, delimiters_in}
 use Rattle.markdown_document.specs.Document.{Label, Plain, Shape, Tags, backslash_break, enclosed, is_unresolved, leaf, plain, plain_tags}
 use Rattle.markdown_document.specs.Document.{shape_of, unresolved}
-use Rattle.markdown_document.specs.Labels.{counts_delimiter, counts_shape, delimiters_in, weight}
+use Rattle.markdown_document.specs.Labels.{weight}
 use Rattle.markdown_document.specs.Places.{label_at, trees_from}
 use Rattle.markdown_document.specs.Setting.{Known, Setting}
 use Rattle.markdown_document.specs.Tables.{Tables, tables_of}

@@ -6,17 +6,18 @@ use Rattle.markdown_base.specs.ArenaWalk.{AllReach}
 use Rattle.markdown_inline.specs.Elements.{Reading, nothing_read}
 use Rattle.markdown_base.specs.declared.item.Item.{Item}
 use Rattle.markdown_base.specs.declared.node.Node.{Node}
-use Rattle.markdown_document.specs.Places.{IsSameAt, IsPlaced}
+use Rattle.markdown_document.specs.PlacedNodes.{IsSameAt, IsPlaced}
 use Rattle.markdown_inline.specs.Walk.{after_chain, left_of}
 use Rattle.markdown_inline.specs.Counts.{Counting, no_chain, counts_around, counts_ahead}
 use Rattle.markdown_document.specs.Above.{Above, no_blocks, inside_all}
 use Rattle.markdown_document.specs.Setting.{Setting}
-use Rattle.markdown_document.specs.Totals.{same, naming, weight_at}
-use Rattle.markdown_inline.specs.WalkTotals.{climbed, left_total, times_left, named_left}
-use Rattle.markdown_inline.specs.Standing.{AboveKept, SpineLies, Stands}
+use Rattle.markdown_document.specs.Totals.{same, weight_at}
+use Rattle.markdown_document.specs.NamedEntries.{naming, Named, IsSameEntry, IsNoShorter}
+use Rattle.markdown_inline.specs.WalkTotals.{climbed, left_total, times_left}
+use Rattle.markdown_inline.specs.Standing.{AboveKept, SpineLies, Stands, named_left}
 use Rattle.markdown_document.proofs.FrameLemmas.{framed, stay_throughout}
 use Rattle.markdown_document.proofs.TablesLemmas.{same-refl}
-use Rattle.markdown_document.specs.Tables.{Tables, Named, IsSameEntry, IsNoShorter}
+use Rattle.markdown_document.specs.Tables.{Tables}
 
 -- the same of what is above the chain at hand
 pub record AboveFramed (s : Setting) (tables tables' : Tables) (nodes nodes' : List (Node Item)) (spine : List ℕ) : Type 0 where

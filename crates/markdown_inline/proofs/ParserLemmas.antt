@@ -20,7 +20,7 @@ use Rattle.markdown_document.specs.Counts.{ChainCounts, no_counts}
 use Rattle.markdown_document.specs.Document.{plain_tags}
 use Rattle.markdown_document.specs.declared.work.Work.{Work}
 use Rattle.markdown_document.specs.Places.{trees_from}
-use Rattle.markdown_document.specs.Stages.{stage, known_at}
+use Rattle.markdown_document.specs.Stages.{stage, known_at, above_cursor}
 use Rattle.markdown_resolver.specs.ChainCounts.{chain_counts}
 use Rattle.markdown_inline.specs.Counts.{Counting}
 use Rattle.markdown_resolver.specs.Chains.{AreAbove, ResolvesChain, CanResolve, StopsIn}
@@ -30,12 +30,11 @@ use Rattle.markdown_inline.specs.Moves.{Began, RefusedAt, Took, WentPast, shape_
 use Rattle.markdown_inline.specs.NextGives.{NextGives, IsEventOf, IsPlacedOf, GivesItem}
 use Rattle.markdown_inline.specs.ParserLeft.{parser_known, parser_counts, parser_work, parser_callback, parser_steps, parser_setting}
 use Rattle.markdown_inline.specs.ParserLeft.{elements, parser_text, IsOver}
-use Rattle.markdown_document.specs.Above.{above_cursor}
 use Rattle.markdown_document.specs.Setting.{Setting, rules_from, setting_of}
 use Rattle.markdown_document.specs.Tables.{tables_of}
-use Rattle.markdown_inline.specs.Walk.{left_of}
-use Rattle.markdown_inline.specs.WalkSteps.{HasEnded, TreeStands, Went, Gives, PassedBeginning, OpensWith, IsRefused, IsBeforeChain, tree_left}
-use Rattle.markdown_inline.specs.WalkSteps.{way_at}
+use Rattle.markdown_inline.specs.Walk.{left_of, tree_left}
+use Rattle.markdown_inline.specs.WalkSteps.{HasEnded, TreeStands, Went, Gives, PassedBeginning, OpensWith, IsRefused}
+use Rattle.markdown_inline.specs.WalkSteps.{IsBeforeChain, way_at}
 use Rattle.markdown_inline.specs.declared.bodies.Way.{Way}
 use Rattle.markdown_inline.specs.declared.walk.Parser.{Parser}
 use Rattle.markdown_document.proofs.CallbackLemmas.{Asks-append, Asks-some}

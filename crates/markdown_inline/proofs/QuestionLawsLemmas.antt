@@ -24,7 +24,7 @@ use Rattle.markdown_inline.specs.Elements.{Reading, nothing_read, questions_of, 
 use Rattle.markdown_inline.specs.QuestionLaws.{AsksApart, closers_of, document_reading}
 use Rattle.markdown_inline.specs.Reading.{chain_reading, reading_opened, reading, settled_reading}
 use Rattle.markdown_inline.proofs.RunLemmas.{questions_of-questions}
-use Rattle.markdown_resolver.specs.ChainQuestions.{EachChain}
+use Rattle.markdown_resolver.specs.Kept.{EachChain}
 use Rattle.markdown_resolver.specs.PassOne.{Outcome}
 use Rattle.markdown_resolver.specs.Resolved.{all_paired, resolved}
 use Rattle.markdown_resolver.proofs.ChainQuestionsLemmas.{document_in_line, resolved_asks, resolved_ends, resolved_stays_zero}

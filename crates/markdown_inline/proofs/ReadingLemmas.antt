@@ -12,7 +12,8 @@ use Rattle.markdown_document.specs.Setting.{Setting}
 use Rattle.markdown_delims.specs.Pairing.{paired}
 use Rattle.markdown_resolver.specs.Resolved.{paired_from, paired_if_open, all_paired}
 use Rattle.markdown_document.specs.Document.{plain_tags, is_unresolved, Shape, leaf, enclosed, plain, backslash_break, unresolved, Plain}
-use Rattle.markdown_resolver.specs.Kept.{IsQuiet, IsSettled}
+use Rattle.markdown_resolver.specs.Kept.{IsQuiet}
+use Rattle.markdown_resolver.specs.KeptChains.{IsSettled}
 use Rattle.markdown_resolver.proofs.ResolvingLemmas.{resolved-quiet, all_paired-paired}
 
 -- a quiet chain that begins with an open item reads as its pairing

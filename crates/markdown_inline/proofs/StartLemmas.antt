@@ -7,10 +7,12 @@ use Rattle.std.proofs.Math.Path.{fun_ext}
 use Rattle.markdown_base.specs.CowText.{text_of}
 use Rattle.markdown_base.specs.declared.fault.Fault.{Fault}
 use Rattle.markdown_base.specs.declared.options.Options.{Options}
-use Rattle.markdown_defs.specs.Allocations.{Allocated, HoldsParts}
+use Rattle.markdown_defs.specs.Allocations.{Allocated}
+use Rattle.markdown_defs.specs.AllocationCalls.{HoldsParts}
 use Rattle.markdown_defs.specs.Definitions.{firsts}
 use Rattle.markdown_defs.specs.Folding.{is_match}
-use Rattle.markdown_defs.specs.Footnotes.{footnote_at, unused}
+use Rattle.markdown_defs.specs.Footnotes.{footnote_at}
+use Rattle.markdown_defs.specs.FootnoteCounts.{unused}
 use Rattle.markdown_document.proofs.FoundLemmas.{listed, listed-append, total-preorder, listed_once}
 use Rattle.std.specs.List.{list_any, cons_option, filter_map}
 use Rattle.std.proofs.lemmas.List.Elements.{filter_map-append}
@@ -35,16 +37,19 @@ use Rattle.markdown_blocks.specs.declared.blocks.Blocks.{Blocks}
 use Rattle.markdown_inline.specs.ParserLeft.{elements, rules_of, reading_of, expansion_limit, ReadsBlocks, ReadsText}
 use Rattle.markdown_inline.specs.ParserLeft.{block_definitions, parser_definitions}
 use Rattle.markdown_inline.specs.Walk.{left_of}
-use Rattle.markdown_document.specs.Places.{label_at, trees_from, IsPlaced, HasSlices, origin_start}
+use Rattle.markdown_document.specs.Places.{label_at, trees_from, origin_start}
+use Rattle.markdown_document.specs.PlacedNodes.{IsPlaced, HasSlices}
 use Rattle.markdown_document.specs.Document.{block_of, label_of, document, shape_of}
 use Rattle.markdown_document.specs.Setting.{Rules, rules_from, use_count, uses_of}
-use Rattle.markdown_resolver.specs.Kept.{IsQuiet, IsQuietBelow, IsKept, IsUnmade, IsUnread, is_made}
-use Rattle.markdown_document.specs.Totals.{total, same, same_as, naming}
+use Rattle.markdown_resolver.specs.Kept.{IsQuiet, IsQuietBelow, IsUnmade, IsUnread, is_made}
+use Rattle.markdown_resolver.specs.KeptChains.{IsKept}
+use Rattle.markdown_document.specs.Totals.{total, same}
+use Rattle.markdown_document.specs.NamedEntries.{same_as, naming, Named, some_text, some_link, some_alignments}
+use Rattle.markdown_document.specs.NamedEntries.{link_named, NamesEntries}
 use Rattle.markdown_inline.specs.WalkTotals.{left_total}
 use Rattle.markdown_inline.specs.Standing.{Stands}
 use Rattle.markdown_inline.specs.declared.walk.Parser.{Parser}
-use Rattle.markdown_document.specs.Tables.{Tables, Named, some_text, some_link, some_alignments, link_named, NamesEntries, tables_of}
-use Rattle.markdown_document.specs.Tables.{tables_at_start}
+use Rattle.markdown_document.specs.Tables.{Tables, tables_of, tables_at_start}
 use Rattle.markdown_document.proofs.PlaceLemmas.{named-past, open-unresolved}
 use Rattle.markdown_inline.proofs.ParserLemmas.{elements-parts}
 

@@ -25,19 +25,22 @@ use Rattle.markdown_base.specs.declared.item.ItemBody.{ItemBody}
 use Rattle.markdown_base.specs.declared.tag.Alignment.{Alignment}
 use Rattle.markdown_base.specs.declared.tag.HeadingLevel.{HeadingLevel}
 use Rattle.markdown_base.specs.declared.tag.Tag.{Tag}
-use Rattle.markdown_defs.specs.Allocations.{Allocated, LinkParts, LeavesEmptyCow, LeavesEmptyLink, LeavesEmptyAlignment}
+use Rattle.markdown_defs.specs.Allocations.{Allocated, LinkParts}
+use Rattle.markdown_defs.specs.AllocationCalls.{LeavesEmptyCow, LeavesEmptyLink, LeavesEmptyAlignment}
 use Rattle.markdown_document.specs.LinkOrigins.{IsLinkFrom, LinkOrigins}
-use Rattle.markdown_document.specs.Origins.{IsSlicedOf, Origin, origin_at, origin_of}
-use Rattle.markdown_document.specs.Document.{Shape, leaf, enclosed, plain, backslash_break, unresolved, sliced, made, container_of}
-use Rattle.markdown_document.specs.Document.{shape_of, event_of_shape}
-use Rattle.markdown_document.specs.Places.{HasSliceLink, origin_start}
-use Rattle.markdown_document.specs.Tables.{Tables, Named, some_text, some_link, some_alignments, text_at, link_at, link_origins, link_origins_at, link_view}
-use Rattle.markdown_document.specs.Tables.{link_named, alignments_at, attributes_at, attributes_view, size_for, tables_of, NamesEntries}
-use Rattle.markdown_document.specs.Tables.{IsSameEntry}
-use Rattle.markdown_document.specs.Totals.{same, times_named}
+use Rattle.markdown_document.specs.Origins.{Origin, origin_at, origin_of}
+use Rattle.markdown_document.specs.PlacedNodes.{IsSlicedOf, HasSliceLink}
+use Rattle.markdown_document.specs.Document.{Shape, leaf, enclosed, plain, backslash_break, unresolved, sliced, made}
+use Rattle.markdown_document.specs.Document.{container_of, shape_of}
+use Rattle.markdown_document.specs.Places.{origin_start}
+use Rattle.markdown_document.specs.Tables.{Tables, text_at, link_at, link_origins, link_view, alignments_at}
+use Rattle.markdown_document.specs.Tables.{attributes_at, attributes_view, tables_of}
+use Rattle.markdown_document.specs.NamedEntries.{Named, some_text, some_link, some_alignments, link_origins_at}
+use Rattle.markdown_document.specs.NamedEntries.{link_named, size_for, NamesEntries, IsSameEntry, times_named}
+use Rattle.markdown_document.specs.Totals.{same}
 use Rattle.markdown_document.proofs.TablesLemmas.{same_entry-refl}
 use Rattle.markdown_inline.specs.Slices.{slice_start, texts_of, IsFrom, TagIsFrom, StartIsFrom}
-use Rattle.markdown_inline.specs.WalkSteps.{OpensWith, TakesOnly, beginning, way_at_shape, way_at}
+use Rattle.markdown_inline.specs.WalkSteps.{OpensWith, TakesOnly, beginning, way_at_shape, way_at, event_of_shape}
 
 -- an entry that is read
 pub text_at-read : (cows : List CowStr) (n : ℕ) (c : CowStr) → n < length cows → c ≡ get_or cows n c → text_at cows n ≡ text_of c

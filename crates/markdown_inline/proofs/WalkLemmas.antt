@@ -7,7 +7,8 @@ use Rattle.markdown_base.specs.ArenaForest.{Links, links_of, forest_at}
 use Rattle.markdown_base.specs.ArenaWalk.{Reaches, AllReach}
 use Rattle.markdown_base.specs.BlockTree.{item_at}
 use Rattle.markdown_inline.specs.Elements.{Placed, Reading, event, nothing_read, then_reads}
-use Rattle.markdown_inline.specs.Counts.{Counting, no_chain, counts_around, counts_ahead, first_counts, unless_ended, LeavesAhead}
+use Rattle.markdown_inline.specs.Counts.{Counting, no_chain, counts_around, counts_ahead, first_counts, unless_ended}
+use Rattle.markdown_inline.specs.WalkSteps.{LeavesAhead, event_of_shape}
 use Rattle.markdown_inline.proofs.CountLemmas.{counts_around-snoc, event-none}
 use Rattle.markdown_document.specs.Above.{Above, no_blocks, inside_item, inside_all, above_at}
 use Rattle.markdown_document.specs.Setting.{Known, Setting}
@@ -22,13 +23,15 @@ use Rattle.markdown_base.proofs.ArenaLemmas.{All-front}
 use Rattle.markdown_base.proofs.ForestLemmas.{All-append}
 use Rattle.markdown_inline.specs.Reading.{reading_opened, reading}
 use Rattle.markdown_inline.specs.Walk.{ended, after_chain, left_of, end_of_body}
-use Rattle.markdown_document.specs.Places.{label_at, trees_from, IsPlaced}
-use Rattle.markdown_document.specs.Totals.{total, same, naming, weight_at}
-use Rattle.markdown_document.specs.Tables.{Tables, Named}
-use Rattle.markdown_inline.specs.WalkTotals.{climbed, left_total, named_left, one_if, waits_at, steps_of}
-use Rattle.markdown_inline.specs.Standing.{AboveKept, Stands}
-use Rattle.markdown_document.specs.Document.{plain_tags, Origin, Shape, leaf, enclosed, plain, backslash_break, unresolved, shape_of}
-use Rattle.markdown_document.specs.Document.{event_of_shape}
+use Rattle.markdown_document.specs.Places.{label_at, trees_from}
+use Rattle.markdown_document.specs.PlacedNodes.{IsPlaced}
+use Rattle.markdown_document.specs.Totals.{total, same, weight_at}
+use Rattle.markdown_document.specs.NamedEntries.{naming, Named}
+use Rattle.markdown_document.specs.Tables.{Tables}
+use Rattle.markdown_inline.specs.WalkTotals.{climbed, left_total, one_if, waits_at, steps_of}
+use Rattle.markdown_inline.specs.Standing.{AboveKept, Stands, named_left}
+use Rattle.markdown_document.specs.Document.{plain_tags, Origin, Shape, leaf, enclosed, plain, backslash_break}
+use Rattle.markdown_document.specs.Document.{unresolved, shape_of}
 use Rattle.markdown_document.proofs.PlaceLemmas.{some_weight}
 
 -- a walk went from l below spine to m below deeper, and gave these events

@@ -15,17 +15,19 @@ use Rattle.markdown_base.specs.declared.node.Node.{Node}
 use Rattle.markdown_base.specs.declared.tag.TagEnd.{TagEnd}
 use Rattle.markdown_base.proofs.ArenaForestLemmas.{opens}
 use Rattle.markdown_defs.specs.Allocations.{Allocated}
-use Rattle.markdown_inline.specs.Counts.{Counting, no_chain, counts_ahead, tree_counts, unless_ended, LeavesAhead}
+use Rattle.markdown_inline.specs.Counts.{Counting, no_chain, counts_ahead, tree_counts, unless_ended}
 use Rattle.markdown_inline.proofs.CountLemmas.{counts-end}
-use Rattle.markdown_inline.specs.Walk.{ended, left_of, end_of_body}
-use Rattle.markdown_document.specs.Totals.{same, naming}
-use Rattle.markdown_inline.specs.WalkTotals.{named_left}
-use Rattle.markdown_document.specs.Places.{IsPlaced}
-use Rattle.markdown_inline.specs.Standing.{Stands}
-use Rattle.markdown_document.specs.Document.{Origin, Shape, leaf, enclosed, plain, backslash_break, unresolved, shape_of, event_of_shape}
-use Rattle.markdown_document.specs.Tables.{Tables, Named, tables_of}
-use Rattle.markdown_inline.specs.WalkSteps.{TreeStands, HasEnded, Went, PassedBeginning, CanBegin, IsRefused, TakesOnly, tree_left, tree_steps}
-use Rattle.markdown_inline.specs.WalkSteps.{beginning, way_at, way_at_shape}
+use Rattle.markdown_inline.specs.Walk.{ended, left_of, end_of_body, tree_left}
+use Rattle.markdown_document.specs.Totals.{same}
+use Rattle.markdown_document.specs.NamedEntries.{naming, Named}
+use Rattle.markdown_inline.specs.WalkTotals.{tree_steps}
+use Rattle.markdown_document.specs.PlacedNodes.{IsPlaced}
+use Rattle.markdown_inline.specs.Standing.{Stands, named_left}
+use Rattle.markdown_document.specs.Document.{Origin, Shape, leaf, enclosed, plain, backslash_break, unresolved}
+use Rattle.markdown_document.specs.Document.{shape_of}
+use Rattle.markdown_document.specs.Tables.{Tables, tables_of}
+use Rattle.markdown_inline.specs.WalkSteps.{TreeStands, HasEnded, Went, PassedBeginning, CanBegin, IsRefused, TakesOnly}
+use Rattle.markdown_inline.specs.WalkSteps.{beginning, way_at, way_at_shape, LeavesAhead, event_of_shape}
 use Rattle.markdown_inline.proofs.TakingLemmas.{leaf_shape, some_leaf, some_tag, plain_shape, way-shape, takes_nothing}
 use Rattle.markdown_inline.proofs.LeftFrameLemmas.{left_framed}
 use Rattle.markdown_inline.proofs.WalkLemmas.{Moves, moves_on, moves_past, moves_in, moves_past_in, moves_in_plain, moves_out, left_of-end}

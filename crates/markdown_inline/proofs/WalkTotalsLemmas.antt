@@ -8,7 +8,7 @@ use Rattle.markdown_base.specs.Forest.{Forest, nil, node}
 use Rattle.markdown_base.specs.Item.{is_open}
 use Rattle.markdown_base.specs.declared.item.Item.{Item}
 use Rattle.markdown_base.specs.declared.node.Node.{Node}
-use Rattle.markdown_document.specs.Places.{IsPlaced}
+use Rattle.markdown_document.specs.PlacedNodes.{IsPlaced}
 use Rattle.markdown_document.specs.Tables.{Tables}
 use Rattle.markdown_document.specs.Totals.{total, same, weight_if, weight_at}
 use Rattle.markdown_inline.specs.WalkTotals.{climbed, left_total, times_left, weight_to_come, one_if, steps_of}

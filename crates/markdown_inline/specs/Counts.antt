@@ -1,5 +1,5 @@
 -- The counts of the chain that a walk resolves before its next event.
-use Rattle.std.specs.Prelude.{◌≡◌, ℕ, List, [], ◌∷◌, Option, Some, None}
+use Rattle.std.specs.Prelude.{ℕ, List, [], ◌∷◌, Option, Some, None}
 use Rattle.markdown_base.specs.Arena.{Arena, sibling_of}
 use Rattle.markdown_base.specs.BlockTree.{item_at}
 use Rattle.markdown_base.specs.Forest.{Forest, nil, node}
@@ -9,14 +9,12 @@ use Rattle.markdown_base.specs.declared.tag.TagEnd.{TagEnd}
 use Rattle.markdown_document.specs.Above.{Above, no_blocks, inside_label, inside_item, above_at}
 use Rattle.markdown_document.specs.Counts.{ChainCounts, no_counts}
 use Rattle.markdown_document.specs.Document.{Tags, plain_tags, Shape, leaf, enclosed, plain, backslash_break}
-use Rattle.markdown_document.specs.Document.{unresolved}
-use Rattle.markdown_document.specs.Document.{Label}
+use Rattle.markdown_document.specs.Document.{unresolved, Label}
 use Rattle.markdown_document.specs.Places.{trees_from}
 use Rattle.markdown_document.specs.Setting.{Setting, Known}
 use Rattle.markdown_document.specs.Tables.{Tables}
 use Rattle.markdown_document.specs.declared.work.Work.{Work}
 use Rattle.markdown_resolver.specs.ChainCounts.{chain_counts}
-use Rattle.markdown_inline.specs.Elements.{Placed}
 use Rattle.markdown_inline.specs.Walk.{end_of_body}
 
 -- the counts before any chain is resolved
@@ -72,8 +70,3 @@ counts_ahead s tables nodes l spine =
 -- the same for the walk of a tree
 abbrev pub tree_counts : Setting → Tables → Arena Item → Counting
 tree_counts s tables tree = counts_ahead s tables tree.nodes tree.cursor tree.spine
-
--- a move without events leaves the counts of the chain ahead; before a move with an event, no chain was ahead
-abbrev pub LeavesAhead : List Placed → (before after : ChainCounts) → Type 0
-LeavesAhead [] before after = before ≡ after
-LeavesAhead (e ∷ given) before after = before ≡ no_counts

@@ -12,7 +12,6 @@ use Rattle.markdown_inline.specs.Elements.{Placed, Element, question, event}
 use Rattle.markdown_document.specs.declared.work.Work.{Work}
 use Rattle.markdown_document.specs.Counts.{no_counts, WorkRises}
 use Rattle.markdown_resolver.specs.ChainCounts.{RisesInPart}
-use Rattle.markdown_inline.specs.Counts.{LeavesAhead}
 use Rattle.markdown_inline.specs.NextGives.{IsPlacedOf}
 use Rattle.markdown_inline.specs.ParserLeft.{parser_text, parser_callback, parser_steps, parser_definitions}
 use Rattle.markdown_inline.specs.ParserLeft.{parser_work, parser_counts, elements, IsOver}
@@ -24,7 +23,7 @@ use Rattle.markdown_base.specs.declared.item.Item.{Item}
 use Rattle.markdown_defs.specs.Allocations.{Allocated}
 use Rattle.markdown_document.specs.Document.{Shape, shape_of}
 use Rattle.markdown_document.specs.Tables.{tables_of}
-use Rattle.markdown_inline.specs.WalkSteps.{CanBegin, OpensWith, TakesOnly, TreeStands, way_at}
+use Rattle.markdown_inline.specs.WalkSteps.{CanBegin, OpensWith, TakesOnly, TreeStands, way_at, LeavesAhead}
 use Rattle.markdown_inline.specs.declared.bodies.Way.{Way}
 use Rattle.markdown_inline.specs.declared.walk.Stop.{Stop}
 

@@ -19,7 +19,8 @@ use Rattle.markdown_inline.specs.Elements.{Element, nothing_read}
 use Rattle.markdown_inline.specs.Reading.{reading}
 use Rattle.markdown_document.specs.Setting.{Rules, Setting, Known, rules_from, setting_of, uses_of}
 use Rattle.markdown_document.specs.Tables.{tables_of, tables_at_start}
-use Rattle.markdown_inline.specs.WalkSteps.{tree_left, tree_steps}
+use Rattle.markdown_inline.specs.Walk.{tree_left}
+use Rattle.markdown_inline.specs.WalkTotals.{tree_steps}
 use Rattle.markdown_inline.specs.declared.walk.Parser.{Parser}
 use Rattle.markdown_inline.specs.declared.walk.OffsetIter.{OffsetIter}
 use Rattle.markdown_document.specs.declared.work.Work.{Work}

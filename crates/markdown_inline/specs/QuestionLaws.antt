@@ -15,7 +15,7 @@ use Rattle.markdown_document.specs.Setting.{Known, Rules, Setting, setting_of}
 use Rattle.markdown_document.specs.Tables.{Tables}
 use Rattle.markdown_inline.specs.Elements.{Element, nothing_read, questions_of}
 use Rattle.markdown_inline.specs.Reading.{reading}
-use Rattle.markdown_resolver.specs.ChainQuestions.{EachChain}
+use Rattle.markdown_resolver.specs.Kept.{EachChain}
 use Rattle.markdown_resolver.specs.Resolved.{resolved}
 
 -- the number of items of a block result that are a `]`

@@ -8,14 +8,19 @@ use Rattle.markdown_base.specs.ArenaForest.{links_of}
 use Rattle.markdown_base.specs.ArenaWalk.{IsWalk, IsWalk-prop}
 use Rattle.markdown_base.specs.BlockTree.{item_at}
 use Rattle.markdown_base.specs.Forest.{Forest, nil, node}
-use Rattle.markdown_base.specs.Item.{LiesIn, LiesIn-prop}
+use Rattle.markdown_base.specs.Item.{LiesIn}
+use Rattle.markdown_base.specs.OneWay.{LiesIn-prop}
 use Rattle.markdown_base.specs.declared.item.Item.{Item}
 use Rattle.markdown_base.specs.declared.node.Node.{Node}
 use Rattle.markdown_document.specs.Document.{Label}
-use Rattle.markdown_resolver.specs.Kept.{IsKept, IsQuiet, IsQuietBelow, IsUnmade, IsUnread}
-use Rattle.markdown_inline.specs.WalkTotals.{times_left, named_left}
-use Rattle.markdown_document.specs.Places.{IsPlaced-prop, IsPlaced, trees_from}
-use Rattle.markdown_document.specs.Tables.{Tables, Named}
+use Rattle.markdown_resolver.specs.KeptChains.{IsKept}
+use Rattle.markdown_resolver.specs.Kept.{IsQuiet, IsQuietBelow, IsUnmade, IsUnread}
+use Rattle.markdown_inline.specs.WalkTotals.{times_left, left_total}
+use Rattle.markdown_document.specs.PlacedOneWay.{IsPlaced-prop}
+use Rattle.markdown_document.specs.PlacedNodes.{IsPlaced}
+use Rattle.markdown_document.specs.Places.{trees_from}
+use Rattle.markdown_document.specs.Tables.{Tables}
+use Rattle.markdown_document.specs.NamedEntries.{Named, naming}
 
 -- the chains that follow the nodes of a spine are kept
 abbrev pub AboveKept : List ℕ → Tables → List (Node Item) → List ℕ → Type 0
@@ -26,6 +31,10 @@ AboveKept source tables nodes (ix ∷ deeper) = IsKept (trees_from source tables
 -- the nodes of a spine lie in the text
 abbrev pub SpineLies : List ℕ → List (Node Item) → List ℕ → Type 0
 SpineLies source nodes spine = AllByRecursion (λ ix. LiesIn source (item_at nodes ix)) spine
+
+-- how often an entry of a table is referred to in what is left
+abbrev pub named_left : List (Node Item) → Option ℕ → List ℕ → Named → ℕ
+named_left nodes l spine n = left_total (λ ix. 0) (naming nodes n) (links_of nodes) l spine
 
 -- the invariant of a walk whose cursor is at a link below the nodes of a spine: in what is left each item is placed, no
 -- node occurs twice, no entry is referred to twice, nothing below the items of an open chain asks a question, and the

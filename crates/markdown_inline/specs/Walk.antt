@@ -1,7 +1,7 @@
 -- What is left of a walk over an arena with this cursor, below the nodes of a spine.
 use Rattle.std.specs.Prelude.{ℕ, List, [], ◌∷◌, Option, Some, None}
 use Rattle.std.specs.declared.ops.Range.{Range}
-use Rattle.markdown_base.specs.Arena.{sibling_of}
+use Rattle.markdown_base.specs.Arena.{sibling_of, Arena}
 use Rattle.markdown_base.specs.BlockTree.{item_at}
 use Rattle.markdown_base.specs.Event.{end, tag_end}
 use Rattle.markdown_base.specs.Item.{range_of}
@@ -49,3 +49,7 @@ unfoldable pub left_of : Setting → Tables → List (Node Item) → Option ℕ 
 left_of s tables nodes cursor spine =
     reading s plain_tags (above_at s.text nodes spine) (trees_from s.text tables nodes cursor)
     (after_chain s (no_blocks s.text) tables nodes spine nothing_read)
+
+-- what is left of the walk of a tree
+abbrev pub tree_left : Setting → Tables → Arena Item → Reading
+tree_left s tables arena = left_of s tables arena.nodes arena.cursor arena.spine

@@ -15,18 +15,19 @@ use Rattle.markdown_base.specs.declared.tag.TagEnd.{TagEnd}
 use Rattle.markdown_defs.specs.Allocations.{Allocated}
 use Rattle.markdown_document.specs.Document.{Origin, Shape, leaf, enclosed, plain, backslash_break, unresolved}
 use Rattle.markdown_document.specs.Document.{shape_of}
-use Rattle.markdown_document.specs.Places.{ComesFromPlace}
-use Rattle.markdown_inline.specs.Elements.{Placed, Reading, event}
-use Rattle.markdown_document.specs.Setting.{Rules, Setting, Known, setting_of}
+use Rattle.markdown_document.specs.PlacedNodes.{ComesFromPlace}
+use Rattle.markdown_inline.specs.Elements.{Placed, event}
+use Rattle.markdown_document.specs.Setting.{Rules, Known, setting_of}
 use Rattle.markdown_inline.specs.Slices.{slice_start, texts_of, AreFrom, StartIsFrom}
 use Rattle.markdown_inline.specs.Standing.{Stands}
-use Rattle.markdown_document.specs.Totals.{times_named}
-use Rattle.markdown_document.specs.Tables.{Tables, Named, NamesEntries, tables_of, no_tables, IsSameEntry, IsNoShorter}
-use Rattle.markdown_inline.specs.WalkTotals.{steps_of}
-use Rattle.markdown_inline.specs.Counts.{tree_counts, LeavesAhead}
-use Rattle.markdown_inline.specs.Walk.{left_of, end_of_body}
+use Rattle.markdown_document.specs.NamedEntries.{times_named, Named, NamesEntries, IsSameEntry, IsNoShorter}
+use Rattle.markdown_document.specs.Tables.{Tables, tables_of, no_tables}
+use Rattle.markdown_inline.specs.Counts.{tree_counts}
+use Rattle.markdown_inline.specs.Walk.{end_of_body, tree_left}
 use Rattle.markdown_inline.specs.declared.bodies.Way.{Way}
 use Rattle.markdown_inline.specs.declared.step.Step.{Step}
+use Rattle.markdown_document.specs.Counts.{ChainCounts, no_counts}
+use Rattle.markdown_inline.specs.WalkTotals.{tree_steps}
 
 -- the event that a tree of this shape begins with, with the origins of its texts
 abbrev pub beginning : Shape → Option (EventView × List Origin)
@@ -71,14 +72,6 @@ pub record TakesOnly (body : ItemBody) (old new : Allocated) : Type 0 where
   pub longer : IsNoShorter (tables_of old) (tables_of new)
   pub others : (n : Named) → times_named n body ≡ 0 → IsSameEntry (tables_of old) (tables_of new) n
 
--- what is left of the walk of a tree
-abbrev pub tree_left : Setting → Tables → Arena Item → Reading
-tree_left s tables arena = left_of s tables arena.nodes arena.cursor arena.spine
-
--- a bound on the steps to come
-abbrev pub tree_steps : Arena Item → ℕ
-tree_steps arena = steps_of arena.nodes arena.cursor arena.spine
-
 -- the invariant of the walk of a tree, with these tables
 abbrev pub TreeStands : List ℕ → Tables → Arena Item → Type 0
 TreeStands source tables arena = Stands source tables arena.nodes arena.cursor arena.spine
@@ -87,6 +80,11 @@ TreeStands source tables arena = Stands source tables arena.nodes arena.cursor a
 pub record HasEnded (arena : Arena Item) : Type 0 where
   pub cursor : arena.cursor ≡ None
   pub spine : arena.spine ≡ []
+
+-- a move without events leaves the counts of the chain ahead; before a move with an event, no chain was ahead
+abbrev pub LeavesAhead : List Placed → (before after : ChainCounts) → Type 0
+LeavesAhead [] before after = before ≡ after
+LeavesAhead (e ∷ given) before after = before ≡ no_counts
 
 -- a step from s to t gave these events, whatever the rules by which chains are resolved
 pub record Went (source : List ℕ) (s t : Arena Item) (held held' : Allocated) (given : List Placed) : Type 0 where
@@ -136,3 +134,9 @@ StepGives source s t held (step.Leaf item) = PassedBeginning source s t held ite
 StepGives source s t held (step.Start item) = PassedBeginning source s t held item × (way_at item.body ≡ way.Start)
 StepGives source s t held (step.End e item) = Gives source s t held held (events.End e) (range_of item)
 StepGives source s t held (step.Chain first) = IsBeforeChain s first × (t ≡ s)
+
+-- the event that a tree reads as, with the origins of its texts, where it reads as one event
+abbrev pub event_of_shape : Shape → Option (EventView × List Origin)
+event_of_shape (leaf e origins) = Some (e, origins)
+event_of_shape backslash_break = Some (hard_break, [])
+event_of_shape other = None

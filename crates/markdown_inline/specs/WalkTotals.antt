@@ -1,13 +1,12 @@
--- Sums over what is left of a walk: how often a number occurs, how often an entry is referred to, and how many steps
--- there are.
+-- Sums over what is left of a walk: how often a number occurs, and how many steps there are.
 use Rattle.std.specs.Prelude.{ℕ, ◌+◌, ◌*◌, Bool, true, false, List, [], ◌∷◌, Option, Some, None}
 use Rattle.markdown_base.specs.ArenaForest.{Links, links_of, forest_at}
 use Rattle.markdown_base.specs.BlockTree.{item_at}
 use Rattle.markdown_base.specs.Item.{is_open}
 use Rattle.markdown_base.specs.declared.item.Item.{Item}
 use Rattle.markdown_base.specs.declared.node.Node.{Node}
-use Rattle.markdown_document.specs.Totals.{weight_at, total, same, naming}
-use Rattle.markdown_document.specs.Tables.{Named}
+use Rattle.markdown_document.specs.Totals.{weight_at, total, same}
+use Rattle.markdown_base.specs.Arena.{Arena}
 
 -- the sum over what is above the chain at hand: `gone` of each node that was entered, and `count` of each node that
 -- follows it
@@ -22,10 +21,6 @@ left_total gone count k l spine = total count (forest_at k l) + climbed gone cou
 -- how often a number occurs in what is left
 abbrev pub times_left : Links → Option ℕ → List ℕ → ℕ → ℕ
 times_left k l spine n = left_total (same n) (same n) k l spine
-
--- how often an entry of a table is referred to in what is left
-abbrev pub named_left : List (Node Item) → Option ℕ → List ℕ → Named → ℕ
-named_left nodes l spine n = left_total (λ ix. 0) (naming nodes n) (links_of nodes) l spine
 
 -- the weight of what is left: of a node that was entered, only the move out of it is left
 abbrev pub weight_to_come : List (Node Item) → Option ℕ → List ℕ → ℕ
@@ -44,3 +39,7 @@ waits_at nodes (Some ix) = one_if (is_open (item_at nodes ix).body)
 -- a bound on the steps of a walk: resolving a chain is a step of its own, so it need not make what is left lighter
 abbrev pub steps_of : List (Node Item) → Option ℕ → List ℕ → ℕ
 steps_of nodes l spine = 2 * weight_to_come nodes l spine + waits_at nodes l
+
+-- a bound on the steps of the walk of a tree
+abbrev pub tree_steps : Arena Item → ℕ
+tree_steps arena = steps_of arena.nodes arena.cursor arena.spine

@@ -19,7 +19,7 @@ use Rattle.markdown_inline.specs.NoLinkInLinkEvents.{NoLinkInLink}
 use Rattle.markdown_inline.specs.ParserLeft.{ReadsBlocks, expansion_limit, parser_callback, rules_of}
 use Rattle.markdown_inline.specs.QuestionLaws.{closers_of}
 use Rattle.markdown_inline.specs.declared.walk.Parser.{Parser}
-use Rattle.markdown_resolver.specs.ChainQuestions.{EachChain}
+use Rattle.markdown_resolver.specs.Kept.{EachChain}
 use Rattle.markdown_resolver.specs.Resolved.{resolved}
 
 -- events as views, which do not depend on the memory that holds their texts

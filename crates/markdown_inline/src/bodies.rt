@@ -3,10 +3,12 @@ ghost use Rattle.std.specs.Prelude.{◌≡◌, ◌<◌, ◌∷◌, [], IfOk, IfS
 ghost use Rattle.markdown_base.specs.Event.{event_view, tag_view, link, image};
 ghost use Rattle.markdown_base.specs.CowText.{text_of};
 ghost use Rattle.markdown_base.specs.Item.{LiesIn, range_of};
-ghost use Rattle.markdown_defs.specs.Allocations.{HasLink, LeavesEmptyLink};
+ghost use Rattle.markdown_defs.specs.AllocationCalls.{HasLink, LeavesEmptyLink};
 ghost use Rattle.markdown_document.specs.Document.{container_of, enclosed, math, shape_of};
-ghost use Rattle.markdown_document.specs.Places.{HasSliceLink, HasSlices, origin_start};
-ghost use Rattle.markdown_document.specs.Tables.{NamesEntries, link_at, tables_of};
+ghost use Rattle.markdown_document.specs.Places.{origin_start};
+ghost use Rattle.markdown_document.specs.PlacedNodes.{HasSliceLink, HasSlices};
+ghost use Rattle.markdown_document.specs.Tables.{link_at, tables_of};
+ghost use Rattle.markdown_document.specs.NamedEntries.{NamesEntries};
 ghost use Rattle.markdown_inline.specs.Slices.{TagIsFrom, slice_start, texts_of};
 ghost use Rattle.markdown_inline.specs.WalkSteps.{CanBegin, ClosesTo, OpensWith, TakesOnly, way_at};
 

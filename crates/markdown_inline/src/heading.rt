@@ -4,7 +4,7 @@ ghost use Rattle.std.specs.Prelude.{◌≡◌, IfOk, IfSome, List, map, ℕ};
 ghost use Rattle.std.specs.Option.{option_map};
 ghost use Rattle.markdown_base.specs.CowText.{text_of};
 ghost use Rattle.markdown_base.specs.Event.{attribute_view, heading, tag_view};
-ghost use Rattle.markdown_defs.specs.Allocations.{HasHeading};
+ghost use Rattle.markdown_defs.specs.AllocationCalls.{HasHeading};
 ghost use Rattle.markdown_document.specs.Tables.{attributes_for, attributes_view, heading_with};
 ghost use Rattle.markdown_inline.specs.Slices.{TagIsFrom};
 

@@ -8,9 +8,8 @@ use Rattle.std.specs.Prelude.{IfSome, ◌==◌}
 use Rattle.std.specs.List.{prefix_len}
 use Rattle.std.specs.Str.{IsUtf8, IsCharBoundary}
 use Rattle.markdown_base.proofs.ByteListLemmas.{byte_of_part, part_length}
-use Rattle.markdown_scan.specs.Beginnings.{StandsBetween}
 use Rattle.markdown_scan.specs.Entity.{entity}
-use Rattle.markdown_scan.specs.ScanLaws.{EntityBeginsAndEnds}
+use Rattle.markdown_scan.specs.ScanLaws.{EntityBeginsAndEnds, StandsBetween}
 use Rattle.markdown_items.specs.Found.{next_after}
 use Rattle.markdown_items.specs.FoundFits.{IsAtSpecial, FoundFits, LiesFurther}
 use Rattle.markdown_items.specs.LineItems.{is_special, IsWholeRun, run_end}

@@ -1,8 +1,8 @@
 -- What the bytes of a line's content can be other than text.
 use Rattle.std.specs.Prelude.{◌≡◌, ◌≢◌, ℕ, ◌<◌, ◌≤◌, Bool, true, false, not, ◌==◌, ◌&&◌, ◌||◌, nat_le, nat_lt, ◌+◌}
 use Rattle.std.specs.Prelude.{◌-◌, List, Option, Some, None, slice_index, slice_range, codes, if◌then◌else◌}
-use Rattle.markdown_base.specs.EnabledOptions.{math_on, smart_punctuation_on, strikethrough_on, subscript_on}
-use Rattle.markdown_base.specs.EnabledOptions.{superscript_on}
+use Rattle.markdown_base.specs.EnabledOptions.{strikethrough_on, subscript_on, superscript_on}
+use Rattle.markdown_base.specs.MarkOptions.{math_on, smart_punctuation_on}
 use Rattle.markdown_base.specs.declared.options.Options.{Options}
 use Rattle.std.specs.List.{list_any, prefix_len}
 use Rattle.markdown_base.specs.Bytes.{asterisk, backslash, caret, less_than, plus_sign, space, tilde, underscore}

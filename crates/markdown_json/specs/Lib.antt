@@ -8,4 +8,5 @@ pub mod JsonParts
 -- Definitions of other crates that the clauses cite.
 pub use Rattle.markdown_base.specs.Event
 pub use Rattle.markdown_out.specs.ByteLists
+pub use Rattle.markdown_out.specs.StringAppends
 pub use Rattle.json.specs.Text

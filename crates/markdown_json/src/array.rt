@@ -1,7 +1,7 @@
 //! Lists as JSON.
 ghost use Rattle.std.specs.Prelude.{OnOk, OnErr};
 ghost use Rattle.std.specs.List.{flat_map};
-ghost use Rattle.markdown_out.specs.ByteLists.{Appends, AppendsPart};
+ghost use Rattle.markdown_out.specs.StringAppends.{Appends, AppendsPart};
 ghost use Rattle.markdown_json.specs.Json.{array, after_comma};
 
 use crate::pieces::push_raw;

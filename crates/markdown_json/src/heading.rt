@@ -1,6 +1,6 @@
 //! The Starts of headings as JSON, with their ids, classes and attributes.
 ghost use Rattle.std.specs.Prelude.{OnOk, OnErr};
-ghost use Rattle.markdown_out.specs.ByteLists.{Appends, AppendsPart};
+ghost use Rattle.markdown_out.specs.StringAppends.{Appends, AppendsPart};
 ghost use Rattle.markdown_json.specs.Json.{heading_json};
 ghost use Rattle.markdown_json.specs.JsonParts.{heading_of, pair_json};
 

@@ -1,6 +1,6 @@
 //! Pieces of JSON, written one after another.
 ghost use Rattle.std.specs.Prelude.{OnOk, OnErr};
-ghost use Rattle.markdown_out.specs.ByteLists.{Appends, AppendsPart};
+ghost use Rattle.markdown_out.specs.StringAppends.{Appends, AppendsPart};
 ghost use Rattle.markdown_json.specs.Json.{string};
 ghost use Rattle.markdown_json.specs.JsonPieces.{piece_json, spelled};
 

@@ -4,7 +4,7 @@ ghost use Rattle.std.specs.Iterator.{IsFinite};
 ghost use Rattle.std.specs.String.{string_bytes};
 ghost use Rattle.markdown_base.specs.Event.{event_view};
 ghost use Rattle.markdown_base.specs.declared.fault.Fault.TheVariants.{Memory};
-ghost use Rattle.markdown_out.specs.ByteLists.{Appends, AppendsPart};
+ghost use Rattle.markdown_out.specs.StringAppends.{Appends, AppendsPart};
 ghost use Rattle.markdown_json.specs.Json.{line_json};
 ghost use Rattle.markdown_json.specs.JsonParts.{range_json};
 ghost use Rattle.markdown_json.specs.JsonLines.{IsWritten, StopsAtError, IsCutShort, json_line};

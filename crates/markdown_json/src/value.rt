@@ -1,6 +1,6 @@
 //! `Value`, the trait of what is written as JSON, and the values that are texts or may be missing.
 ghost use Rattle.std.specs.Prelude.{◌++◌, OnOk, OnErr};
-ghost use Rattle.markdown_out.specs.ByteLists.{Appends, AppendsPart};
+ghost use Rattle.markdown_out.specs.StringAppends.{Appends, AppendsPart};
 ghost use Rattle.markdown_json.specs.Json.{variant};
 
 use crate::pieces::{Piece, push_pieces, push_raw};

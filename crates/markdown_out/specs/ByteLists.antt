@@ -1,6 +1,5 @@
--- Lists of bytes: parts one after another, bytes appended whole or in part, and whether a line is fresh after them.
+-- Lists of bytes: parts one after another, bytes appended in part, and whether a line is fresh after them.
 use Rattle.std.specs.Prelude.{◌≡◌, ℕ, Bool, List, [], ◌∷◌, ◌++◌, ◌==◌}
-use Rattle.std.specs.Prelude.{String, string_bytes}
 use Rattle.markdown_base.specs.Bytes.{line_feed}
 
 -- the parts, one after another
@@ -15,14 +14,6 @@ pub record AppendsPrefix (old new bytes : List ℕ) : Type 0 where
   pub missing : List ℕ
   pub stands : new ≡ old ++ prefix
   pub whole : prefix ++ missing ≡ bytes
-
--- these bytes were appended
-abbrev pub Appends : {A : Type 0} → String A → String A → List ℕ → Type 0
-Appends old new bytes = string_bytes new ≡ string_bytes old ++ bytes
-
--- a prefix of these bytes was appended, and nothing else
-abbrev pub AppendsPart : {A : Type 0} → String A → String A → List ℕ → Type 0
-AppendsPart old new bytes = AppendsPrefix (string_bytes old) (string_bytes new) bytes
 
 -- whether a line is fresh after these bytes: the last is a newline, or there are none, and it was fresh before
 abbrev pub fresh_after_bytes : Bool → List ℕ → Bool

@@ -7,6 +7,7 @@ pub mod EventHtml
 pub mod ImageHtml
 pub mod HtmlCorrect
 pub mod ByteLists
+pub mod StringAppends
 pub mod Merge
 pub mod MergeNext
 pub mod Places

@@ -4,7 +4,7 @@ ghost use Rattle.std.specs.Prelude.{take, drop, length};
 ghost use Rattle.std.specs.List.{flat_map, list_all, list_any};
 ghost use Rattle.std.specs.Str.{IsCharBoundary};
 ghost use Rattle.std.specs.String.{string_bytes};
-ghost use Rattle.markdown_out.specs.ByteLists.{Appends, AppendsPart};
+ghost use Rattle.markdown_out.specs.StringAppends.{Appends, AppendsPart};
 ghost use Rattle.markdown_out.specs.Escaped.{escaped_byte, may_be_replaced, IsBeforeReplaced};
 ghost use Rattle.markdown_out.specs.Escapes.{destination_byte, destination_escaped, is_kept_byte};
 

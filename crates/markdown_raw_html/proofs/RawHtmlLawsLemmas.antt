@@ -4,7 +4,8 @@ use Rattle.std.proofs.Common.{option_and_then}
 use Rattle.std.proofs.lemmas.Bool.{cond_both, eqb-true}
 use Rattle.std.specs.Prelude.{IfSome}
 use Rattle.std.specs.Option.{option_map, option_or}
-use Rattle.markdown_scan.specs.Beginnings.{begins_with, StandsBetween}
+use Rattle.markdown_scan.specs.Beginnings.{begins_with}
+use Rattle.markdown_scan.specs.ScanLaws.{StandsBetween}
 use Rattle.markdown_raw_html.specs.RawHtml.{through_first}
 use Rattle.markdown_raw_html.specs.HtmlTag.{TagPart, both, byte, closing_tag, either, html_tag, one, open_tag}
 use Rattle.markdown_raw_html.specs.RawHtmlLaws.{IsFirstClose}

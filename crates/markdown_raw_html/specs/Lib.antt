@@ -9,4 +9,5 @@ pub mod ByteKinds
 pub mod TagSteps
 -- the definitions of a lower crate that those here cite
 pub use Rattle.markdown_scan.specs.Beginnings
+pub use Rattle.markdown_scan.specs.ScanLaws
 pub use Rattle.markdown_scan.specs.LinePrefix

@@ -1,7 +1,8 @@
 -- Laws of raw HTML, in a reader's words.
 use Rattle.std.specs.Prelude.{◌≡◌, ◌≤◌, ◌<◌, ℕ, ◌-◌, Bool, false, List, length, drop, IfSome, IsTrue}
 use Rattle.markdown_base.specs.Bytes.{greater_than, less_than}
-use Rattle.markdown_scan.specs.Beginnings.{begins_with, StandsBetween}
+use Rattle.markdown_scan.specs.Beginnings.{begins_with}
+use Rattle.markdown_scan.specs.ScanLaws.{StandsBetween}
 use Rattle.markdown_raw_html.specs.HtmlTag.{html_tag}
 use Rattle.markdown_raw_html.specs.RawHtml.{through_first}
 

@@ -21,8 +21,8 @@ use Rattle.markdown_out.specs.EventHtml.{html_of}
 use Rattle.markdown_out.specs.HtmlCorrect.{GoesTooDeep, IsRendered, StopsAtError, IsOwnFault, items}
 use Rattle.markdown_out.specs.LookBacks.{IsTooDeep}
 use Rattle.markdown_render.specs.ParserHtml.{IsHtmlOfAll, IsHtmlOfFirst}
-use Rattle.markdown_render.specs.Rendering.{views_of, AreEventsFor, AreFirstEventsFor, IsRenderingFor, IsTooDeepFor}
-use Rattle.markdown_render.specs.Rendering.{IsRenderingOf, IsTooDeepOf}
+use Rattle.markdown_render.specs.Rendering.{views_of, IsRenderingOf, IsTooDeepOf}
+use Rattle.markdown_render.specs.RenderingFor.{AreEventsFor, AreFirstEventsFor, IsRenderingFor, IsTooDeepFor}
 use Rattle.markdown_render.specs.declared.run.Failure.TheVariants as failure
 
 -- events of a reading are compared by what is seen of them

@@ -1,5 +1,6 @@
 -- the definitions that contracts cite
 pub mod Rendering
+pub mod RenderingFor
 pub mod Words
 pub mod Outcome
 pub mod Merged

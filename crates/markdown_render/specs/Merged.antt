@@ -7,7 +7,7 @@ use Rattle.markdown_inline.specs.declared.walk.Parser.{Parser}
 use Rattle.markdown_out.specs.EventHtml.{html_of}
 use Rattle.markdown_out.specs.OutLaws.{merged_events}
 use Rattle.markdown_out.specs.LookBacks.{IsTooDeep}
-use Rattle.markdown_render.specs.Rendering.{AreEventsFor, AreFirstEventsFor}
+use Rattle.markdown_render.specs.RenderingFor.{AreEventsFor, AreFirstEventsFor}
 
 -- this is the HTML of the merge of all events that were left, for the answers of the parser's callback
 pub record IsMergedHtmlOf {F : Type 0} (step : F → Question → Option Answer → F → Type 0) (p : Parser F)

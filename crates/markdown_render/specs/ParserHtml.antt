@@ -5,7 +5,7 @@ use Rattle.markdown_base.specs.Questions.{Question, Answer}
 use Rattle.markdown_inline.specs.ParserLeft.{parser_callback, elements}
 use Rattle.markdown_inline.specs.declared.walk.Parser.{Parser}
 use Rattle.markdown_out.specs.EventHtml.{html_of, open_html}
-use Rattle.markdown_render.specs.Rendering.{AreEventsFor, AreFirstEventsFor}
+use Rattle.markdown_render.specs.RenderingFor.{AreEventsFor, AreFirstEventsFor}
 
 module _ {F : Type 0} (step : F → Question → Option Answer → F → Type 0) (p : Parser F) (old new : List ℕ) where
   -- the old text is followed by the HTML of all events that were left, for the answers of the parser's callback

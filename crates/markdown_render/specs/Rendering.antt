@@ -1,13 +1,12 @@
--- What rendering returns: the HTML of the reading of a text, for the answers that a callback gave.
-use Rattle.std.specs.Prelude.{◌≡◌, ℕ, false, List, ◌++◌, map, Option, is_some}
+-- What the program writes: the HTML of the reading of its input, where it asks no callback.
+use Rattle.std.specs.Prelude.{◌≡◌, ℕ, false, List, ◌++◌, map}
 use Rattle.std.specs.Str.{IsUtf8}
-use Rattle.markdown_base.specs.Questions.{Question, Answer, Answers}
+use Rattle.markdown_base.specs.Questions.{Answers}
 use Rattle.markdown_base.specs.Event.{EventView}
 use Rattle.markdown_base.specs.declared.options.Options.{Options}
 use Rattle.markdown_blocks.specs.Blocks.{IsOfText}
-use Rattle.markdown_defs.specs.Callback.{Asks}
 use Rattle.markdown_blocks.specs.declared.blocks.Blocks.{Blocks}
-use Rattle.markdown_inline.specs.Elements.{Element, events_of, questions_of}
+use Rattle.markdown_inline.specs.Elements.{Element, events_of}
 use Rattle.markdown_inline.specs.ParserLeft.{reading_of}
 use Rattle.markdown_out.specs.EventHtml.{html_of}
 use Rattle.markdown_out.specs.LookBacks.{IsTooDeep}
@@ -15,45 +14,6 @@ use Rattle.markdown_out.specs.LookBacks.{IsTooDeep}
 -- the events among these elements
 abbrev pub views_of : List Element → List EventView
 views_of elements = map (λ e. e.0) (events_of elements)
-
--- These are the events of what is read, for the answers that the callback, if there is one, gave to exactly the
--- questions in it, in order. Answers that would follow change nothing.
-pub record AreEventsFor {F : Type 0} (step : F → Question → Option Answer → F → Type 0) (callback : Option F)
-    (read : Answers → List Element) (events : List EventView) : Type 0 where
-  pub answers : Answers
-  pub after : Option F
-  pub asked : Asks step callback (questions_of (read answers)) answers after
-  pub are : (later : Answers) → views_of (read (answers ++ later)) ≡ events
-
--- These are the first events of what is read, for the answers that the callback, if there is one, gave to the first
--- questions in it, in order. Answers that would follow change nothing in them.
-pub record AreFirstEventsFor {F : Type 0} (step : F → Question → Option Answer → F → Type 0) (callback : Option F)
-    (read : Answers → List Element) (events : List EventView) : Type 0 where
-  pub questions : List Question
-  pub answers : Answers
-  pub after : Option F
-  pub asked : Asks step callback questions answers after
-  pub first_asked : (later : Answers) → (more : List Question)
-      × (questions_of (read (answers ++ later)) ≡ questions ++ more)
-  pub are_first : (later : Answers) → (more : List EventView) × (views_of (read (answers ++ later)) ≡ events ++ more)
-
--- this is the HTML of the events of a block result of the text with these options, read with the callback's answers
-pub record IsRenderingFor {F : Type 0} (step : F → Question → Option Answer → F → Type 0) (callback : Option F)
-    (text : List ℕ) (options : Options) (html : List ℕ) : Type 0 where
-  pub blocks : Blocks
-  pub of_text : IsOfText text options blocks
-  pub events : List EventView
-  pub read : AreEventsFor step callback (reading_of blocks (is_some callback)) events
-  pub rendered : html ≡ html_of events
-
--- among the first events of such a block result, more Starts are open in an image than can be counted
-pub record IsTooDeepFor {F : Type 0} (step : F → Question → Option Answer → F → Type 0) (callback : Option F)
-    (text : List ℕ) (options : Options) : Type 0 where
-  pub blocks : Blocks
-  pub of_text : IsOfText text options blocks
-  pub events : List EventView
-  pub read : AreFirstEventsFor step callback (reading_of blocks (is_some callback)) events
-  pub deep : IsTooDeep events
 
 -- the input is UTF-8, and this is the HTML of the events of a block result of it with these options, read without a
 -- callback

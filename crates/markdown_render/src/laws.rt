@@ -10,7 +10,7 @@ ghost use Rattle.markdown_inline.specs.ParserLeft.{ReadsText, parser_callback};
 ghost use Rattle.markdown_out.specs.HtmlCorrect.{GoesTooDeep, IsRendered, StopsAtError};
 ghost use Rattle.markdown_out.specs.LookBacks.{IsTooDeep};
 ghost use Rattle.markdown_render.specs.ParserHtml.{IsHtmlOfAll, IsHtmlOfFirst};
-ghost use Rattle.markdown_render.specs.Rendering.{IsRenderingFor};
+ghost use Rattle.markdown_render.specs.RenderingFor.{IsRenderingFor};
 
 use markdown_defs::BrokenLinkCallback;
 use markdown_inline::walk::Parser;

@@ -1,6 +1,6 @@
 //! Rendering a text: the HTML of what a new parser of it returns.
 ghost use Rattle.std.specs.Prelude.{◌≡◌, ◌⊎◌, IfOk, IfErr, IfSome, string_bytes};
-ghost use Rattle.markdown_render.specs.Rendering.{IsRenderingFor, IsTooDeepFor};
+ghost use Rattle.markdown_render.specs.RenderingFor.{IsRenderingFor, IsTooDeepFor};
 
 use crate::laws::html_of_a_parser_is_that_of_its_reading;
 use crate::pushed::push_items;

@@ -12,9 +12,10 @@ use Rattle.markdown_brackets.specs.ChainHeld.{times_of}
 use Rattle.markdown_brackets.specs.LeftList.{Entry, trees_onto}
 use Rattle.markdown_document.specs.ChainRest.{joined_chains}
 use Rattle.markdown_document.specs.Document.{Label, Plain}
-use Rattle.markdown_document.specs.Places.{IsPlaced, IsSameAt}
+use Rattle.markdown_document.specs.PlacedNodes.{IsPlaced, IsSameAt}
 use Rattle.markdown_document.specs.Stages.{times_in}
-use Rattle.markdown_document.specs.Tables.{Tables, number_of, size_for}
+use Rattle.markdown_document.specs.Tables.{Tables}
+use Rattle.markdown_document.specs.NamedEntries.{number_of, size_for}
 use Rattle.markdown_document.specs.Totals.{total, same}
 use Rattle.markdown_document.proofs.FrameLemmas.{Stays, label-same, stay_throughout, framed}
 use Rattle.markdown_document.proofs.PlaceLemmas.{times-past, named-past}

@@ -12,7 +12,8 @@ use Rattle.markdown_base.specs.declared.item.ItemBody.{ItemBody}
 use Rattle.markdown_base.specs.declared.node.Node.{Node}
 use Rattle.markdown_document.specs.Document.{block_of}
 use Rattle.markdown_document.specs.ItemRules.{ComesBefore}
-use Rattle.markdown_document.specs.Places.{IsPlaced, label_at}
+use Rattle.markdown_document.specs.Places.{label_at}
+use Rattle.markdown_document.specs.PlacedNodes.{IsPlaced}
 use Rattle.markdown_document.specs.Tables.{Tables}
 use Rattle.markdown_spans.specs.ChainInArena.{LeadsThrough, HasChain}
 use Rattle.markdown_spans.specs.SpanClosers.{HoldsFrom, HoldsOf, Learned}

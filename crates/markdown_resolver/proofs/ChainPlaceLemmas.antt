@@ -14,7 +14,8 @@ use Rattle.markdown_base.specs.declared.item.ItemBody.{ItemBody}
 use Rattle.markdown_base.specs.declared.item.ItemBody.TheVariants as body
 use Rattle.markdown_base.specs.declared.node.Node.{Node}
 use Rattle.markdown_base.specs.Item.{is_table_cell}
-use Rattle.markdown_document.specs.Above.{Above, inside_block, inside_all, inside_item, no_blocks, above_cursor}
+use Rattle.markdown_document.specs.Above.{Above, inside_block, inside_all, inside_item, no_blocks}
+use Rattle.markdown_document.specs.Stages.{above_cursor}
 use Rattle.markdown_document.specs.Document.{block_of}
 use Rattle.markdown_document.specs.Setting.{Setting}
 use Rattle.markdown_spans.specs.BlocksAbove.{HasBlocks}

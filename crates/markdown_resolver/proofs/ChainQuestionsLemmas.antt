@@ -23,7 +23,7 @@ use Rattle.markdown_document.specs.Tables.{Tables}
 use Rattle.markdown_document.proofs.PlaceLemmas.{open-unresolved}
 use Rattle.markdown_base.specs.EnabledOptions.{gfm_footnotes_on}
 use Rattle.markdown_spans.proofs.ContainerPrefixLemmas.{prefix_opens_none}
-use Rattle.markdown_resolver.specs.ChainQuestions.{EachChain}
+use Rattle.markdown_resolver.specs.Kept.{EachChain}
 use Rattle.markdown_resolver.specs.PassOne.{around, pass_one, read_other}
 use Rattle.markdown_resolver.specs.Resolved.{resolved}
 

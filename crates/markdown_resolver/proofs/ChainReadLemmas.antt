@@ -12,10 +12,10 @@ use Rattle.markdown_base.specs.declared.options.Options.{Options}
 use Rattle.markdown_brackets.specs.LeftList.{Entry}
 use Rattle.markdown_brackets.specs.Openers.{Waiting}
 use Rattle.markdown_brackets.specs.declared.spent_ends.SpentEnds.{SpentEnds}
-use Rattle.markdown_document.specs.Above.{Above, above_at, above_cursor, inside_all, inside_item, no_blocks}
+use Rattle.markdown_document.specs.Above.{Above, above_at, inside_all, inside_item, no_blocks}
 use Rattle.markdown_document.specs.Document.{plain_tags}
 use Rattle.markdown_document.specs.Setting.{Setting, rules_from, setting_of}
-use Rattle.markdown_document.specs.Stages.{stage}
+use Rattle.markdown_document.specs.Stages.{stage, above_cursor}
 use Rattle.markdown_document.specs.Tables.{Tables, tables_of}
 use Rattle.markdown_document.proofs.CallbackLemmas.{Asks-some}
 use Rattle.markdown_resolver.specs.ChainPlace.{CanReadItem, CanReadOn, IsPlaceOf}

@@ -30,7 +30,8 @@ use Rattle.markdown_brackets.specs.declared.chain_openers.ChainOpeners.{ChainOpe
 use Rattle.markdown_brackets.specs.declared.closing_bracket.ClosedBracket.{ClosedBracket}
 use Rattle.markdown_brackets.specs.declared.spent_ends.SpentEnds.{SpentEnds}
 use Rattle.markdown_document.specs.declared.chain_place.ChainPlace.{ChainPlace}
-use Rattle.markdown_document.specs.Above.{Above, above_cursor}
+use Rattle.markdown_document.specs.Above.{Above}
+use Rattle.markdown_document.specs.Stages.{above_cursor}
 use Rattle.markdown_document.specs.ChainRest.{end_of}
 use Rattle.markdown_document.specs.Setting.{Rules, rules_from, setting_of, uses_of}
 use Rattle.markdown_document.specs.Tables.{Tables, tables_of}

@@ -21,9 +21,9 @@ use Rattle.markdown_brackets.specs.declared.closing_bracket.ClosedBracket.TheVar
 use Rattle.markdown_brackets.specs.declared.openers.Opener.{Opener}
 use Rattle.markdown_document.specs.ChainRest.{start_of, end_of}
 use Rattle.markdown_document.specs.Document.{Label, Plain, label_of, leaf, made}
-use Rattle.markdown_document.specs.Tables.{Named, Tables, number_of, size_for, some_alignments, some_link, some_text, tables_of}
-use Rattle.markdown_document.specs.Tables.{text_at}
-use Rattle.markdown_document.specs.Totals.{times_named}
+use Rattle.markdown_document.specs.Tables.{Tables, tables_of, text_at}
+use Rattle.markdown_document.specs.NamedEntries.{Named, number_of, size_for, some_alignments, some_link, some_text}
+use Rattle.markdown_document.specs.NamedEntries.{times_named}
 use Rattle.markdown_resolver.specs.ClosedOver.{CanClose, CanPutMark, CanPutOver, PutsOver, after_mark, in_place_of}
 use Rattle.markdown_resolver.specs.Closes.{ClosesAt, PutsClosed}
 use Rattle.markdown_resolver.specs.Rewritten.{CanPut}
@@ -31,7 +31,8 @@ use Rattle.markdown_resolver.proofs.CloseLemmas.{OpenerAt, can_close, opener_at,
 use Rattle.markdown_resolver.proofs.CodeSpanLemmas.{PutsText, same_below, text_put}
 use Rattle.markdown_resolver.proofs.SplitLemmas.{inside_numbers, opens_numbered}
 use Rattle.markdown_resolver.proofs.StandsToLemmas.{footnote_stands}
-use Rattle.markdown_defs.specs.Allocations.{Allocated, with_cow}
+use Rattle.markdown_defs.specs.Allocations.{Allocated}
+use Rattle.markdown_defs.specs.AllocationCalls.{with_cow}
 
 -- what becomes a footnote reference
 pub record BecomesFootnote (becomes : Becomes ℕ) (opener : Opener) (name : List ℕ) : Type 0 where

@@ -23,9 +23,9 @@ use Rattle.markdown_document.specs.ChainRest.{start_of, end_of}
 use Rattle.markdown_document.specs.Document.{Label, Plain, enclosed, label_of}
 use Rattle.markdown_document.specs.LinkOrigins.{IsLinkFrom, IsTitleFrom, LinkOrigins, destination_origin}
 use Rattle.markdown_document.specs.Origins.{made, origin_of}
-use Rattle.markdown_document.specs.Tables.{Named, Tables, link_at, link_view, number_of, size_for, some_alignments, some_link, some_text}
-use Rattle.markdown_document.specs.Tables.{link_origins, tables_of}
-use Rattle.markdown_document.specs.Totals.{times_named}
+use Rattle.markdown_document.specs.Tables.{Tables, link_at, link_view, link_origins, tables_of}
+use Rattle.markdown_document.specs.NamedEntries.{Named, number_of, size_for, some_alignments, some_link, some_text}
+use Rattle.markdown_document.specs.NamedEntries.{times_named}
 use Rattle.markdown_resolver.specs.ClosedOver.{CanClose, CanPutOver, PutsOver, over_inside}
 use Rattle.markdown_resolver.specs.Closes.{ClosesAt, PutsClosed}
 use Rattle.markdown_resolver.specs.PutsTrees.{numbered_label, without_numbers}
@@ -35,7 +35,8 @@ use Rattle.markdown_resolver.proofs.CodeSpanLemmas.{same_below}
 use Rattle.markdown_resolver.proofs.MarkupItemLemmas.{PutsLink, link_put}
 use Rattle.markdown_resolver.proofs.SplitLemmas.{inside_numbers, opens_numbered}
 use Rattle.markdown_resolver.proofs.StandsToLemmas.{link_stands}
-use Rattle.markdown_defs.specs.Allocations.{Allocated, LinkParts, with_link}
+use Rattle.markdown_defs.specs.Allocations.{Allocated, LinkParts}
+use Rattle.markdown_defs.specs.AllocationCalls.{with_link}
 
 -- what becomes a link or an image
 pub record BecomesLink (text : List ℕ) (becomes : Becomes ℕ) (opener : Opener) (found : Target) (end next : ℕ) : Type 0 where

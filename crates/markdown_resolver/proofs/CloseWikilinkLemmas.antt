@@ -29,7 +29,8 @@ use Rattle.markdown_document.specs.LinkOrigins.{IsLinkFrom, LinkOrigins}
 use Rattle.markdown_document.specs.Origins.{IsSliceWithin, origin_of, sliced}
 use Rattle.markdown_document.specs.Tables.{Tables, link_origins, link_view, tables_of}
 use Rattle.markdown_document.specs.Waiting.{is_quiet}
-use Rattle.markdown_defs.specs.Allocations.{Allocated, LinkParts, with_link}
+use Rattle.markdown_defs.specs.Allocations.{Allocated, LinkParts}
+use Rattle.markdown_defs.specs.AllocationCalls.{with_link}
 use Rattle.markdown_resolver.specs.ClosedOver.{CanClose, CanPutOver, CanShow, PutsOver, first_trees, over_shown, over_text, trees_past}
 use Rattle.markdown_resolver.specs.Closes.{ClosesAt, FirstLies, NoneOpenAround, PutsClosed, IsNamedIn}
 use Rattle.markdown_resolver.specs.Kept.{IsQuiet}

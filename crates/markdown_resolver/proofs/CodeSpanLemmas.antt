@@ -20,19 +20,22 @@ use Rattle.markdown_base.specs.declared.item.Item.{Item}
 use Rattle.markdown_base.specs.declared.item.ItemBody.{ItemBody}
 use Rattle.markdown_base.specs.declared.item.ItemBody.TheVariants as body
 use Rattle.markdown_base.specs.declared.node.Node.{Node}
-use Rattle.markdown_document.specs.Origins.{IsSlicedOf, Origin, origin_at, origin_of}
+use Rattle.markdown_document.specs.Origins.{Origin, origin_at, origin_of}
+use Rattle.markdown_document.specs.PlacedNodes.{IsSlicedOf, IsPlaced}
 use Rattle.markdown_document.specs.Above.{Above}
 use Rattle.markdown_document.specs.ChainRest.{as_item}
-use Rattle.markdown_document.specs.Places.{IsPlaced, label_at, trees_from}
+use Rattle.markdown_document.specs.Places.{label_at, trees_from}
 use Rattle.markdown_document.specs.Setting.{Rules, Setting}
-use Rattle.markdown_document.specs.Tables.{Tables, Named, some_text, some_link, some_alignments, HasGrown, text_at, number_of, size_for}
-use Rattle.markdown_document.specs.Tables.{tables_of}
-use Rattle.markdown_document.specs.Totals.{same, times_named}
+use Rattle.markdown_document.specs.Tables.{Tables, text_at, tables_of}
+use Rattle.markdown_document.specs.NamedEntries.{Named, some_text, some_link, some_alignments, HasGrown, number_of}
+use Rattle.markdown_document.specs.NamedEntries.{size_for, times_named}
+use Rattle.markdown_document.specs.Totals.{same}
 use Rattle.markdown_spans.specs.Closers.{closing_count, code_close, is_code_of}
 use Rattle.markdown_spans.specs.Finds.{code_found, find_by, is_escaped, text_between, origin_between}
 use Rattle.markdown_spans.specs.SpanClosers.{ClosesCode, item_in}
 use Rattle.markdown_spans.specs.declared.span_text.SpanKind.TheVariants.{Code}
-use Rattle.markdown_defs.specs.Allocations.{Allocated, LinkParts, with_cow}
+use Rattle.markdown_defs.specs.Allocations.{Allocated, LinkParts}
+use Rattle.markdown_defs.specs.AllocationCalls.{with_cow}
 use Rattle.markdown_spans.proofs.SliceLemmas.{sliced_wider}
 use Rattle.markdown_resolver.specs.Chains.{CanResolve}
 use Rattle.markdown_resolver.specs.PutCode.{CanPutCode, CanPutSpan, code_standing}

@@ -16,10 +16,13 @@ use Rattle.markdown_base.specs.declared.node.Node.{Node}
 use Rattle.markdown_base.proofs.ArenaForestLemmas.{opens}
 use Rattle.markdown_document.specs.Document.{label_of}
 use Rattle.markdown_document.specs.ItemRules.{ComesBefore}
-use Rattle.markdown_document.specs.Places.{IsSameAt, IsPlaced, label_at, trees_from, ComesFromPlace, origin_start}
+use Rattle.markdown_document.specs.Places.{label_at, trees_from, origin_start}
+use Rattle.markdown_document.specs.PlacedNodes.{IsSameAt, IsPlaced, ComesFromPlace}
 use Rattle.markdown_document.specs.Stages.{times_in, named_in, weight_in}
-use Rattle.markdown_document.specs.Tables.{Tables, Named, number_of, size_for, NamesEntries, IsNoShorter, HasGrown}
-use Rattle.markdown_document.specs.Totals.{total, same, naming, times_named, weight_at}
+use Rattle.markdown_document.specs.Tables.{Tables}
+use Rattle.markdown_document.specs.NamedEntries.{Named, number_of, size_for, NamesEntries, IsNoShorter, HasGrown}
+use Rattle.markdown_document.specs.NamedEntries.{naming, times_named}
+use Rattle.markdown_document.specs.Totals.{total, same, weight_at}
 use Rattle.markdown_document.proofs.FoundLemmas.{found}
 use Rattle.markdown_document.proofs.FrameLemmas.{Stays, label-same, stay_throughout, Framed, framed, slices-same}
 use Rattle.markdown_document.proofs.PlaceLemmas.{times-past, named-past}

@@ -4,7 +4,8 @@ use Rattle.std.proofs.Common.{sym, ap, ◌∙◌, subst, ⊎_elim, arith}
 use Rattle.std.proofs.lemmas.Bool.{cases_eq, cases_lt}
 use Rattle.std.specs.Prelude.{IfSome}
 use Rattle.std.specs.Option.{option_map}
-use Rattle.markdown_base.specs.Arena.{Arena, child_of, sibling_of, changed_at}
+use Rattle.markdown_base.specs.Arena.{Arena, child_of, sibling_of}
+use Rattle.markdown_base.specs.ArenaChanges.{changed_at}
 use Rattle.markdown_base.specs.ArenaForest.{Spells, forest_at, links_of}
 use Rattle.markdown_base.specs.ArenaRules.{next_at}
 use Rattle.markdown_base.specs.BlockTree.{Numbered, numbered, item_at}
@@ -16,9 +17,11 @@ use Rattle.markdown_base.specs.declared.node.Node.{Node}
 use Rattle.markdown_base.proofs.ArenaForestLemmas.{opens, Opened, forest_at-none}
 use Rattle.markdown_base.proofs.ArenaLemmas.{length-changed_at}
 use Rattle.markdown_document.specs.Document.{label_of}
-use Rattle.markdown_document.specs.Places.{IsSameAt, IsPlaced, label_at, trees_from}
-use Rattle.markdown_document.specs.Tables.{Tables, Named}
-use Rattle.markdown_document.specs.Totals.{total, same, naming, times_named, weight_at, weight_if}
+use Rattle.markdown_document.specs.Places.{label_at, trees_from}
+use Rattle.markdown_document.specs.PlacedNodes.{IsSameAt, IsPlaced}
+use Rattle.markdown_document.specs.Tables.{Tables}
+use Rattle.markdown_document.specs.NamedEntries.{Named, naming, times_named}
+use Rattle.markdown_document.specs.Totals.{total, same, weight_at, weight_if}
 use Rattle.markdown_document.proofs.FoundLemmas.{found}
 use Rattle.markdown_document.proofs.PlaceLemmas.{times-past}
 use Rattle.markdown_document.proofs.TablesLemmas.{same-refl, grown-nothing}

@@ -22,7 +22,7 @@ use Rattle.markdown_brackets.specs.BracketDecision.{Closing, closer_ends_at, sec
 use Rattle.markdown_brackets.specs.Reference.{is_closer, stands_at}
 use Rattle.markdown_document.specs.ChainRest.{end_of, open_body}
 use Rattle.markdown_document.specs.Document.{Shape, backslash_break, enclosed, is_unresolved, leaf, plain, shape_of, unresolved}
-use Rattle.markdown_document.specs.Places.{IsPlaced}
+use Rattle.markdown_document.specs.PlacedNodes.{IsPlaced}
 use Rattle.markdown_document.specs.Tables.{Tables}
 use Rattle.markdown_document.proofs.PlaceLemmas.{open-unresolved, shape-open}
 use Rattle.markdown_resolver.specs.Closes.{CanGoOn, IsNotCut, NoneOpenAround}

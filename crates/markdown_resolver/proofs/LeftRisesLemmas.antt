@@ -18,7 +18,8 @@ use Rattle.markdown_brackets.specs.Finish.{AreBehind, AreRising, LeftRises}
 use Rattle.markdown_brackets.specs.LeftList.{Entry, trees_onto}
 use Rattle.markdown_document.specs.ChainRest.{joined_chains}
 use Rattle.markdown_document.specs.Document.{Label}
-use Rattle.markdown_document.specs.Places.{IsPlaced, label_at}
+use Rattle.markdown_document.specs.Places.{label_at}
+use Rattle.markdown_document.specs.PlacedNodes.{IsPlaced}
 use Rattle.markdown_document.specs.Tables.{Tables}
 use Rattle.markdown_document.specs.Totals.{same, total}
 use Rattle.markdown_resolver.specs.Kept.{IsQuietBelow}

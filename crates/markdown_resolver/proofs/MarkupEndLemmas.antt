@@ -22,7 +22,8 @@ use Rattle.markdown_base.specs.declared.item.ItemBody.{ItemBody}
 use Rattle.markdown_base.specs.declared.node.Node.{Node}
 use Rattle.markdown_base.proofs.ArenaForestLemmas.{opens}
 use Rattle.markdown_document.specs.Origins.{IsSliceWithin}
-use Rattle.markdown_document.specs.Places.{IsPlaced, trees_from}
+use Rattle.markdown_document.specs.Places.{trees_from}
+use Rattle.markdown_document.specs.PlacedNodes.{IsPlaced}
 use Rattle.markdown_document.specs.Tables.{Tables}
 use Rattle.markdown_spans.specs.AfterLess.{Markup, autolink, html_markup, declared_end, html_at, markup_at, unbroken}
 use Rattle.markdown_spans.specs.Autolink.{begins_scheme, closed_uri, uri_length, uri_autolink}

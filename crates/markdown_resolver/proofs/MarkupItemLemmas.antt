@@ -23,18 +23,20 @@ use Rattle.markdown_document.specs.ChainRest.{joined_chains, past}
 use Rattle.markdown_document.specs.Document.{Plain}
 use Rattle.markdown_document.specs.LinkOrigins.{IsLinkFrom}
 use Rattle.markdown_document.specs.Origins.{IsSliceWithin, Origin, sliced}
-use Rattle.markdown_document.specs.Places.{HasSliceLink, IsPlaced, label_at, trees_from}
+use Rattle.markdown_document.specs.Places.{label_at, trees_from}
+use Rattle.markdown_document.specs.PlacedNodes.{HasSliceLink, IsPlaced}
 use Rattle.markdown_document.specs.Setting.{Rules, setting_of}
-use Rattle.markdown_document.specs.Tables.{HasGrown, Named, Tables, link_at, link_origins_at, link_view, number_of, size_for, some_alignments}
-use Rattle.markdown_document.specs.Tables.{link_origins, some_link, some_text, tables_of}
-use Rattle.markdown_document.specs.Totals.{times_named}
+use Rattle.markdown_document.specs.Tables.{Tables, link_at, link_view, link_origins, tables_of}
+use Rattle.markdown_document.specs.NamedEntries.{HasGrown, Named, link_origins_at, number_of, size_for, some_alignments}
+use Rattle.markdown_document.specs.NamedEntries.{some_link, some_text, times_named}
 use Rattle.markdown_spans.specs.AfterLess.{Markup, autolink, html_markup, markup_at}
 use Rattle.markdown_spans.specs.Finds.{address, markup_trees}
 use Rattle.markdown_raw_html.specs.HtmlTag.{html_tag}
 use Rattle.markdown_raw_html.specs.TagSource.{tag_at, tag_lengths, tag_of}
 use Rattle.markdown_raw_html.proofs.RawHtmlLemmas.{EndsWith}
 use Rattle.markdown_raw_html.proofs.TagSourceLemmas.{Closes-html_tag}
-use Rattle.markdown_defs.specs.Allocations.{Allocated, LinkParts, with_link}
+use Rattle.markdown_defs.specs.Allocations.{Allocated, LinkParts}
+use Rattle.markdown_defs.specs.AllocationCalls.{with_link}
 use Rattle.markdown_resolver.specs.Chains.{CanResolve}
 use Rattle.markdown_resolver.specs.MarkupItems.{IsAddress, address_to, item_to, standing_for}
 use Rattle.markdown_resolver.specs.Rewritten.{CanPut, CanPutParent, Puts, Standing, one_item, parent, replaced}

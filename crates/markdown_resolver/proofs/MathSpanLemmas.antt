@@ -19,13 +19,17 @@ use Rattle.markdown_document.specs.Origins.{Origin, origin_at}
 use Rattle.markdown_document.specs.Above.{Above}
 use Rattle.markdown_document.specs.ChainRest.{as_item, end_of, open_body}
 use Rattle.markdown_document.specs.Document.{Plain}
-use Rattle.markdown_document.specs.Places.{IsPlaced, label_at, trees_from}
+use Rattle.markdown_document.specs.Places.{label_at, trees_from}
+use Rattle.markdown_document.specs.PlacedNodes.{IsPlaced}
 use Rattle.markdown_document.specs.Setting.{Setting}
-use Rattle.markdown_document.specs.Tables.{Named, Tables, number_of, size_for, some_alignments, some_link, some_text, text_at}
-use Rattle.markdown_document.specs.Totals.{times_named}
+use Rattle.markdown_document.specs.Tables.{Tables, text_at}
+use Rattle.markdown_document.specs.NamedEntries.{Named, number_of, size_for, some_alignments, some_link, some_text}
+use Rattle.markdown_document.specs.NamedEntries.{times_named}
 use Rattle.markdown_spans.specs.ChainInArena.{LeadsThrough}
-use Rattle.markdown_spans.specs.Closers.{Dollar, MathClose, can_close, can_open, math_closed_by, context_of, display_close, dollar_next}
-use Rattle.markdown_spans.specs.Closers.{first_dollar, inline_close, is_dollar, is_dollar_of, math_close, math_close_from, searched_for_math}
+use Rattle.markdown_spans.specs.Closers.{Dollar, MathClose, can_close, can_open, math_closed_by, context_of}
+use Rattle.markdown_spans.specs.Closers.{display_close, dollar_next, first_dollar, inline_close, is_dollar}
+use Rattle.markdown_spans.specs.Closers.{is_dollar_of, math_close, math_close_from}
+use Rattle.markdown_spans.specs.CloserSearches.{searched_for_math}
 use Rattle.markdown_spans.specs.Finds.{find_by, math_found, math_text_start, text_between, origin_between}
 use Rattle.markdown_spans.specs.MathOpening.{dollar_at}
 use Rattle.markdown_spans.specs.SpanClosers.{ClosesMath, found_math, item_in}

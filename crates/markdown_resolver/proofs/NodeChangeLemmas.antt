@@ -1,11 +1,12 @@
 -- What a change of one node is to an arena.
 use Rattle.std.proofs.Common.{◌≡◌, ℕ, zero, suc, ◌<◌, List, [], ◌∷◌, Option, length, refl, ap, ◌∙◌, arith}
-use Rattle.markdown_base.specs.Arena.{Arena, child_of, sibling_of, changed_at}
+use Rattle.markdown_base.specs.Arena.{Arena, child_of, sibling_of}
+use Rattle.markdown_base.specs.ArenaChanges.{changed_at}
 use Rattle.markdown_base.specs.BlockTree.{item_at}
 use Rattle.markdown_base.specs.declared.item.Item.{Item}
 use Rattle.markdown_base.specs.declared.node.Node.{Node}
 use Rattle.markdown_base.proofs.ArenaLemmas.{length-changed_at}
-use Rattle.markdown_document.specs.Places.{IsSameAt}
+use Rattle.markdown_document.specs.PlacedNodes.{IsSameAt}
 use Rattle.markdown_resolver.specs.Settling.{IsWritten}
 
 -- the others stay

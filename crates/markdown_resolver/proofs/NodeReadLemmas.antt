@@ -6,9 +6,9 @@ use Rattle.markdown_base.specs.BlockTree.{item_at}
 use Rattle.markdown_base.specs.Questions.{Question, Answer}
 use Rattle.markdown_base.specs.declared.item.Item.{Item}
 use Rattle.markdown_brackets.specs.LeftList.{Entry}
-use Rattle.markdown_document.specs.Above.{above_cursor, Above}
+use Rattle.markdown_document.specs.Above.{Above}
 use Rattle.markdown_document.specs.Setting.{uses_of, Setting, Rules, rules_from, setting_of}
-use Rattle.markdown_document.specs.Stages.{Stage, items_from}
+use Rattle.markdown_document.specs.Stages.{Stage, items_from, above_cursor}
 use Rattle.markdown_document.specs.Tables.{tables_of, Tables}
 use Rattle.markdown_spans.specs.SpanClosers.{HoldsFrom, Learned, has_failed}
 use Rattle.markdown_spans.specs.declared.span_text.SpanKind.{SpanKind}

@@ -18,8 +18,9 @@ use Rattle.markdown_document.specs.Above.{Above}
 use Rattle.markdown_document.specs.Document.{plain_tags, Plain, Shape, leaf, enclosed, plain, backslash_break, unresolved, is_unresolved}
 use Rattle.markdown_document.specs.Document.{shape_of, block_of}
 use Rattle.markdown_document.specs.ItemRules.{ComesBefore}
-use Rattle.markdown_document.specs.Labels.{counts_delimiter, counts_shape, delimiters_in}
-use Rattle.markdown_document.specs.Places.{IsPlaced, label_at, trees_from}
+use Rattle.markdown_document.specs.Counts.{counts_delimiter, counts_shape, delimiters_in}
+use Rattle.markdown_document.specs.Places.{label_at, trees_from}
+use Rattle.markdown_document.specs.PlacedNodes.{IsPlaced}
 use Rattle.markdown_document.specs.Setting.{Setting}
 use Rattle.markdown_document.specs.Stages.{Stage, chain_at, known_at}
 use Rattle.markdown_document.specs.Tables.{Tables}

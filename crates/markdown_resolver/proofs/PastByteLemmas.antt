@@ -23,7 +23,8 @@ use Rattle.markdown_document.specs.Origins.{Origin, inlined, made, origin_at, sl
 use Rattle.markdown_document.specs.ChainRest.{begun_at, end_of, cut_shape, past_byte}
 use Rattle.markdown_document.specs.Document.{Label, Plain, block_of, label_of, shape_of, leaf, math}
 use Rattle.markdown_document.specs.ItemRules.{ComesBefore, KeepsItemRules}
-use Rattle.markdown_document.specs.Places.{IsPlaced, label_at, trees_from, ComesFromPlace}
+use Rattle.markdown_document.specs.Places.{label_at, trees_from}
+use Rattle.markdown_document.specs.PlacedNodes.{IsPlaced, ComesFromPlace}
 use Rattle.markdown_document.specs.Stages.{items_from}
 use Rattle.markdown_document.specs.Tables.{Tables, text_at}
 use Rattle.markdown_document.proofs.ItemRulesLemmas.{keeps-closed}

@@ -2,7 +2,8 @@
 use Rattle.std.proofs.Common.{◌≡◌, ℕ, zero, suc, ◌<◌, ◌≤◌, true, false, List, [], ◌∷◌, ◌++◌, length, Option, Some, None, refl, sym, ap, ◌∙◌}
 use Rattle.std.proofs.Common.{arith}
 use Rattle.std.specs.Option.{option_map}
-use Rattle.markdown_base.specs.Arena.{Arena, child_of, sibling_of, changed_at, single}
+use Rattle.markdown_base.specs.Arena.{Arena, child_of, sibling_of}
+use Rattle.markdown_base.specs.ArenaChanges.{changed_at, single}
 use Rattle.markdown_base.specs.ArenaForest.{Spells, forest_at, links_of}
 use Rattle.markdown_base.specs.ArenaRules.{next_at}
 use Rattle.markdown_base.specs.BlockTree.{numbered, item_at}
@@ -15,10 +16,12 @@ use Rattle.markdown_base.proofs.ArenaForestLemmas.{opens, forest_at-none}
 use Rattle.markdown_base.proofs.ArenaLemmas.{length-changed_at}
 use Rattle.markdown_document.specs.ChainRest.{joined_chains, past_byte}
 use Rattle.markdown_document.specs.Document.{Plain, label_of}
-use Rattle.markdown_document.specs.Places.{HasSlices, IsSameAt, IsPlaced, label_at, trees_from, origin_start}
+use Rattle.markdown_document.specs.Places.{label_at, trees_from, origin_start}
+use Rattle.markdown_document.specs.PlacedNodes.{HasSlices, IsSameAt, IsPlaced}
 use Rattle.markdown_document.specs.Stages.{times_in}
-use Rattle.markdown_document.specs.Tables.{Tables, Named, number_of, size_for, NamesEntries, HasGrown}
-use Rattle.markdown_document.specs.Totals.{same, times_named}
+use Rattle.markdown_document.specs.Tables.{Tables}
+use Rattle.markdown_document.specs.NamedEntries.{Named, number_of, size_for, NamesEntries, HasGrown, times_named}
+use Rattle.markdown_document.specs.Totals.{same}
 use Rattle.markdown_document.proofs.FoundLemmas.{found}
 use Rattle.markdown_document.proofs.FrameLemmas.{Stays, label-same}
 use Rattle.markdown_document.proofs.ItemRulesLemmas.{keeps-closed}

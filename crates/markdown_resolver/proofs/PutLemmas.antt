@@ -4,7 +4,8 @@ use Rattle.std.proofs.Common.{◌∙◌, subst, ⊎_elim, arith, if◌then◌els
 use Rattle.std.proofs.lemmas.Bool.{cases_lt}
 use Rattle.std.specs.Prelude.{IfSome, IsCharBoundary}
 use Rattle.std.specs.Option.{option_map}
-use Rattle.markdown_base.specs.Arena.{changed_at, child_of, sibling_of}
+use Rattle.markdown_base.specs.Arena.{child_of, sibling_of}
+use Rattle.markdown_base.specs.ArenaChanges.{changed_at}
 use Rattle.markdown_base.specs.ArenaForest.{Spells, forest_at, links_of}
 use Rattle.markdown_base.specs.ArenaWalk.{Reaches}
 use Rattle.markdown_base.specs.BlockTree.{Numbered, numbered, item_at}
@@ -20,7 +21,8 @@ use Rattle.markdown_base.proofs.ArenaLemmas.{length-changed_at}
 use Rattle.markdown_document.specs.ChainRest.{begun_at, end_of, joined_chains, past, past_byte}
 use Rattle.markdown_document.specs.Document.{Plain, label_of}
 use Rattle.markdown_document.specs.ItemRules.{ComesBefore}
-use Rattle.markdown_document.specs.Places.{IsSameAt, IsPlaced, label_at, trees_from, origin_start}
+use Rattle.markdown_document.specs.Places.{label_at, trees_from, origin_start}
+use Rattle.markdown_document.specs.PlacedNodes.{IsSameAt, IsPlaced}
 use Rattle.markdown_document.specs.Stages.{items_from, times_in, weight_in}
 use Rattle.markdown_document.specs.Tables.{Tables}
 use Rattle.markdown_document.specs.Totals.{total, same, weight_at}

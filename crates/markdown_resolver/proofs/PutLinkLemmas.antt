@@ -16,9 +16,11 @@ use Rattle.markdown_base.proofs.ArenaForestLemmas.{opens}
 use Rattle.markdown_document.specs.ChainRest.{past_byte}
 use Rattle.markdown_document.specs.Document.{Plain, label_of}
 use Rattle.markdown_document.specs.ItemRules.{ComesBefore}
-use Rattle.markdown_document.specs.Places.{IsSameAt, IsPlaced, label_at, trees_from}
+use Rattle.markdown_document.specs.Places.{label_at, trees_from}
+use Rattle.markdown_document.specs.PlacedNodes.{IsSameAt, IsPlaced}
 use Rattle.markdown_document.specs.Stages.{weight_in}
-use Rattle.markdown_document.specs.Tables.{Tables, HasGrown}
+use Rattle.markdown_document.specs.Tables.{Tables}
+use Rattle.markdown_document.specs.NamedEntries.{HasGrown}
 use Rattle.markdown_document.specs.Totals.{total, same, weight_at}
 use Rattle.markdown_document.proofs.PlaceLemmas.{some_weight}
 use Rattle.markdown_document.proofs.TablesLemmas.{same-refl}

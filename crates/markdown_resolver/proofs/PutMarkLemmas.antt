@@ -14,9 +14,11 @@ use Rattle.markdown_base.proofs.ArenaForestLemmas.{opens, Opened, forest_at-none
 use Rattle.markdown_document.specs.ChainRest.{past_byte}
 use Rattle.markdown_document.specs.Document.{Plain, label_of}
 use Rattle.markdown_document.specs.ItemRules.{ComesBefore}
-use Rattle.markdown_document.specs.Places.{IsSameAt, IsPlaced, trees_from}
+use Rattle.markdown_document.specs.Places.{trees_from}
+use Rattle.markdown_document.specs.PlacedNodes.{IsSameAt, IsPlaced}
 use Rattle.markdown_document.specs.Stages.{weight_in}
-use Rattle.markdown_document.specs.Tables.{Tables, HasGrown}
+use Rattle.markdown_document.specs.Tables.{Tables}
+use Rattle.markdown_document.specs.NamedEntries.{HasGrown}
 use Rattle.markdown_document.specs.Totals.{total, same, weight_at}
 use Rattle.markdown_document.proofs.PlaceLemmas.{slices-none, some_weight}
 use Rattle.markdown_document.proofs.TablesLemmas.{same-refl, grown-nothing}

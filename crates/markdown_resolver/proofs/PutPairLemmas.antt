@@ -17,10 +17,12 @@ use Rattle.markdown_document.proofs.PlaceLemmas.{slices-none}
 use Rattle.markdown_document.specs.ChainRest.{past_byte}
 use Rattle.markdown_document.specs.Document.{Plain, label_of}
 use Rattle.markdown_document.specs.ItemRules.{ComesBefore}
-use Rattle.markdown_document.specs.Places.{IsPlaced, label_at, trees_from}
+use Rattle.markdown_document.specs.Places.{label_at, trees_from}
+use Rattle.markdown_document.specs.PlacedNodes.{IsPlaced}
 use Rattle.markdown_document.specs.Stages.{times_in}
-use Rattle.markdown_document.specs.Tables.{Tables, Named, some_text, some_link, some_alignments, NamesEntries, HasGrown}
-use Rattle.markdown_document.specs.Totals.{same_as, times_named}
+use Rattle.markdown_document.specs.Tables.{Tables}
+use Rattle.markdown_document.specs.NamedEntries.{Named, some_text, some_link, some_alignments, NamesEntries, HasGrown}
+use Rattle.markdown_document.specs.NamedEntries.{same_as, times_named}
 use Rattle.markdown_document.proofs.FrameLemmas.{label-same}
 use Rattle.markdown_document.proofs.TablesLemmas.{same-refl, grown-nothing, grown-longer}
 use Rattle.markdown_spans.specs.ChainInArena.{LeadsThrough}

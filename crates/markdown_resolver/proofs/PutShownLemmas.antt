@@ -4,7 +4,8 @@ use Rattle.std.proofs.Common.{subst, ⊎_elim, arith, nat_le, true}
 use Rattle.std.proofs.lemmas.Bool.{cases_eq, cases_lt}
 use Rattle.std.proofs.lemmas.Bool.Decides.{nat_tests}
 use Rattle.std.specs.Prelude.{IsCharBoundary}
-use Rattle.markdown_base.specs.Arena.{child_of, sibling_of, changed_at}
+use Rattle.markdown_base.specs.Arena.{child_of, sibling_of}
+use Rattle.markdown_base.specs.ArenaChanges.{changed_at}
 use Rattle.markdown_base.specs.ArenaForest.{Spells, forest_at, links_of}
 use Rattle.markdown_base.specs.BlockTree.{item_at}
 use Rattle.markdown_base.specs.Forest.{Forest, roots}
@@ -15,10 +16,12 @@ use Rattle.markdown_base.proofs.ArenaForestLemmas.{opens, forest_at-none}
 use Rattle.markdown_base.proofs.ArenaLemmas.{length-changed_at}
 use Rattle.markdown_document.specs.ChainRest.{begun_at, past_byte}
 use Rattle.markdown_document.specs.Document.{Plain}
-use Rattle.markdown_document.specs.Places.{IsSameAt, IsPlaced, label_at, trees_from, ComesFromPlace, follows_pipe}
+use Rattle.markdown_document.specs.Places.{label_at, trees_from, follows_pipe}
+use Rattle.markdown_document.specs.PlacedNodes.{IsSameAt, IsPlaced, ComesFromPlace}
 use Rattle.markdown_document.specs.Stages.{times_in, named_in}
-use Rattle.markdown_document.specs.Tables.{Tables, HasGrown, Named, number_of, size_for}
-use Rattle.markdown_document.specs.Totals.{total, same, naming}
+use Rattle.markdown_document.specs.Tables.{Tables}
+use Rattle.markdown_document.specs.NamedEntries.{HasGrown, Named, number_of, size_for, naming}
+use Rattle.markdown_document.specs.Totals.{total, same}
 use Rattle.markdown_document.proofs.FrameLemmas.{Framed, framed, stay_throughout}
 use Rattle.markdown_document.proofs.PlaceLemmas.{times-past, named-past}
 use Rattle.markdown_document.proofs.TablesLemmas.{same-refl, same_entry-refl, grown-longer, grown-nothing}

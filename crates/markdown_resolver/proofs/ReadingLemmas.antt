@@ -13,14 +13,15 @@ use Rattle.markdown_base.specs.declared.item.ItemBody.{ItemBody}
 use Rattle.markdown_base.specs.declared.item.ItemBody.TheVariants as body
 use Rattle.markdown_base.specs.declared.node.Node.{Node}
 use Rattle.markdown_base.proofs.ArenaForestLemmas.{opens, forest_at-none}
-use Rattle.markdown_document.specs.Above.{Above, above_cursor}
+use Rattle.markdown_document.specs.Above.{Above}
 use Rattle.markdown_document.specs.ChainRest.{open_body}
 use Rattle.markdown_document.specs.Counts.{risen}
 use Rattle.markdown_document.specs.Document.{Plain, plain_tags, Shape, leaf, enclosed, plain, backslash_break, unresolved, is_unresolved}
 use Rattle.markdown_document.specs.Document.{shape_of}
-use Rattle.markdown_document.specs.Places.{IsPlaced, label_at, trees_from}
+use Rattle.markdown_document.specs.Places.{label_at, trees_from}
+use Rattle.markdown_document.specs.PlacedNodes.{IsPlaced}
 use Rattle.markdown_document.specs.Setting.{Rules, Setting, setting_of}
-use Rattle.markdown_document.specs.Stages.{items_from}
+use Rattle.markdown_document.specs.Stages.{items_from, above_cursor}
 use Rattle.markdown_document.specs.Tables.{Tables}
 use Rattle.markdown_document.specs.Waiting.{is_quiet}
 use Rattle.markdown_document.proofs.PlaceLemmas.{shape-open}

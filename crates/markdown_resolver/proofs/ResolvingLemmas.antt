@@ -11,7 +11,8 @@ use Rattle.markdown_delims.specs.Pairing.{paired}
 use Rattle.markdown_delims.specs.PairingLaws.{NothingOpen, below_trees}
 use Rattle.markdown_delims.proofs.BeginLawLemmas.{begins-law}
 use Rattle.markdown_delims.proofs.LawLemmas.{closed-law, order-law, paired-keeps}
-use Rattle.markdown_resolver.specs.Kept.{IsQuiet, IsQuietBelow, IsKept, IsSettled, IsUnread}
+use Rattle.markdown_resolver.specs.Kept.{IsQuiet, IsQuietBelow, IsUnread}
+use Rattle.markdown_resolver.specs.KeptChains.{IsKept, IsSettled}
 use Rattle.markdown_resolver.specs.PassOne.{pass_one}
 use Rattle.markdown_resolver.specs.Resolved.{resolved, then_paired, paired_if_open, all_paired}
 use Rattle.markdown_resolver.proofs.PassOneLemmas.{pass_one-first, pass_one-stays}

@@ -4,7 +4,8 @@ use Rattle.std.proofs.Common.{◌≡◌, ℕ, zero, suc, ◌<◌, ◌≤◌, Boo
 use Rattle.std.proofs.Common.{arith}
 use Rattle.std.specs.Prelude.{not, ◌&&◌, slice_range, IfSome}
 use Rattle.std.specs.Option.{option_map}
-use Rattle.markdown_base.specs.Arena.{Arena, child_of, sibling_of, changed_at}
+use Rattle.markdown_base.specs.Arena.{Arena, child_of, sibling_of}
+use Rattle.markdown_base.specs.ArenaChanges.{changed_at}
 use Rattle.markdown_base.specs.ArenaForest.{forest_at, links_of}
 use Rattle.markdown_base.specs.ArenaRules.{next_at}
 use Rattle.markdown_base.specs.BlockTree.{Numbered, numbered, item_at}
@@ -20,9 +21,12 @@ use Rattle.markdown_document.specs.ChainRest.{joined_chains}
 use Rattle.markdown_document.specs.Document.{Plain, Shape, leaf, enclosed, plain, backslash_break, unresolved, is_unresolved, shape_of}
 use Rattle.markdown_document.specs.Document.{label_of}
 use Rattle.markdown_document.specs.ItemRules.{ComesBefore, KeepsItemRules}
-use Rattle.markdown_document.specs.Places.{HasSlices, IsPlaced, trees_from, origin_start}
-use Rattle.markdown_document.specs.Tables.{Tables, Named, some_text, some_link, some_alignments, NamesEntries}
-use Rattle.markdown_document.specs.Totals.{same, times_named, weight_if}
+use Rattle.markdown_document.specs.Places.{trees_from, origin_start}
+use Rattle.markdown_document.specs.PlacedNodes.{HasSlices, IsPlaced}
+use Rattle.markdown_document.specs.Tables.{Tables}
+use Rattle.markdown_document.specs.NamedEntries.{Named, some_text, some_link, some_alignments, NamesEntries}
+use Rattle.markdown_document.specs.NamedEntries.{times_named}
+use Rattle.markdown_document.specs.Totals.{same, weight_if}
 use Rattle.markdown_document.specs.Waiting.{waits_for_pairing, is_quiet}
 use Rattle.markdown_document.proofs.AboveLemmas.{block-open, open-no-block}
 use Rattle.markdown_document.proofs.ItemRulesLemmas.{keeps-closed}

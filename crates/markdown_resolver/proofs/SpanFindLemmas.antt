@@ -15,8 +15,9 @@ use Rattle.markdown_document.specs.Places.{label_at}
 use Rattle.markdown_document.specs.Tables.{Tables}
 use Rattle.markdown_document.proofs.PlaceLemmas.{shape-open}
 use Rattle.markdown_spans.specs.Closers.{Dollar, MathClose, can_close, can_open, math_closed_by, closing_count, code_close, code_closer}
-use Rattle.markdown_spans.specs.Closers.{context_of, display_close, dollar_next, first_dollar, inline_close, is_code_of, is_dollar}
-use Rattle.markdown_spans.specs.Closers.{is_dollar_of, math_close, math_close_from, searched_for_math}
+use Rattle.markdown_spans.specs.Closers.{context_of, display_close, dollar_next, first_dollar, inline_close, is_code_of}
+use Rattle.markdown_spans.specs.Closers.{is_dollar, is_dollar_of, math_close, math_close_from}
+use Rattle.markdown_spans.specs.CloserSearches.{searched_for_math}
 use Rattle.markdown_spans.specs.SpanClosers.{item_in}
 use Rattle.markdown_delims.proofs.PairingLemmas.{closed_shape}
 

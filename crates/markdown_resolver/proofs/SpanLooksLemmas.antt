@@ -11,8 +11,10 @@ use Rattle.markdown_base.specs.declared.item.ItemBody.TheVariants as body
 use Rattle.markdown_base.specs.declared.node.Node.{Node}
 use Rattle.markdown_document.specs.Stages.{items_from}
 use Rattle.markdown_document.specs.Tables.{Tables}
-use Rattle.markdown_spans.specs.Closers.{Dollar, can_open, closing_count, code_close, context_of, first_dollar, looked_for_code}
-use Rattle.markdown_spans.specs.Closers.{looked_for_code_close, looked_for_math_from, math_close_from, opens_code, searched_for_math}
+use Rattle.markdown_spans.specs.Closers.{Dollar, can_open, closing_count, code_close, context_of, first_dollar}
+use Rattle.markdown_spans.specs.Closers.{math_close_from}
+use Rattle.markdown_spans.specs.CloserSearches.{looked_for_code, looked_for_code_close, looked_for_math_from}
+use Rattle.markdown_spans.specs.CloserSearches.{opens_code, searched_for_math}
 use Rattle.markdown_spans.specs.SpanClosers.{ClosesCode, ClosesMath, Learned, LooksForCode, LooksForMath, RisesBy, failed_by_now, has_failed}
 use Rattle.markdown_spans.specs.SpanClosers.{LooksForCodeAtMost, LooksForMathAtMost, item_in, unless_failed}
 use Rattle.markdown_spans.specs.declared.span_closers.FoundMath.{FoundMath}

@@ -11,7 +11,8 @@ use Rattle.markdown_brackets.specs.ChainHeld.{numbers_of}
 use Rattle.markdown_brackets.specs.LeftList.{Split, inside, trees_onto}
 use Rattle.markdown_document.specs.ChainRest.{joined_chains}
 use Rattle.markdown_document.specs.Document.{Label, Plain}
-use Rattle.markdown_document.specs.Places.{IsPlaced, label_at, trees_from}
+use Rattle.markdown_document.specs.Places.{label_at, trees_from}
+use Rattle.markdown_document.specs.PlacedNodes.{IsPlaced}
 use Rattle.markdown_document.specs.Tables.{Tables}
 use Rattle.markdown_resolver.specs.Chains.{CanResolve}
 use Rattle.markdown_resolver.specs.ClosedOver.{first_trees, trees_past}

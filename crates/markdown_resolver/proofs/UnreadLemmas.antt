@@ -11,7 +11,8 @@ use Rattle.markdown_base.specs.declared.item.ItemBody.TheVariants as body
 use Rattle.markdown_base.specs.declared.node.Node.{Node}
 use Rattle.markdown_document.specs.ChainRest.{begun_at, cut_shape, end_of, past, past_byte}
 use Rattle.markdown_document.specs.Document.{Label, Plain, Shape, leaf, shape_of}
-use Rattle.markdown_document.specs.Places.{HasSlices, label_at, trees_from}
+use Rattle.markdown_document.specs.Places.{label_at, trees_from}
+use Rattle.markdown_document.specs.PlacedNodes.{HasSlices}
 use Rattle.markdown_document.specs.Tables.{Tables}
 use Rattle.markdown_document.specs.Waiting.{is_quiet, waits_for_pairing}
 use Rattle.markdown_document.proofs.PlaceLemmas.{shape-open}

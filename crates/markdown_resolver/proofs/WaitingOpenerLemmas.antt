@@ -21,7 +21,7 @@ use Rattle.markdown_brackets.specs.WikilinkNodes.{CanFindWikilink, unless_is}
 use Rattle.markdown_document.specs.declared.chain_place.ChainPlace.{ChainPlace}
 use Rattle.markdown_document.specs.ChainRest.{joined_chains}
 use Rattle.markdown_document.specs.Document.{Label}
-use Rattle.markdown_document.specs.Places.{IsPlaced}
+use Rattle.markdown_document.specs.PlacedNodes.{IsPlaced}
 use Rattle.markdown_document.specs.Tables.{Tables}
 use Rattle.markdown_resolver.specs.Chains.{CanResolve}
 use Rattle.markdown_brackets.specs.Finish.{IsSplit}

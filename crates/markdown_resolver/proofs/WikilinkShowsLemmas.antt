@@ -30,7 +30,7 @@ use Rattle.markdown_brackets.proofs.WikilinkPipeLemmas.{some_in_block}
 use Rattle.markdown_document.specs.ChainRest.{begun_at, end_of, joined_chains, past_byte, start_of}
 use Rattle.markdown_document.specs.Document.{Label, is_unresolved}
 use Rattle.markdown_document.specs.Origins.{IsSliceWithin}
-use Rattle.markdown_document.specs.Places.{IsPlaced}
+use Rattle.markdown_document.specs.PlacedNodes.{IsPlaced}
 use Rattle.markdown_document.specs.Tables.{Tables}
 use Rattle.markdown_document.specs.Waiting.{is_quiet, waits_for_pairing}
 use Rattle.markdown_document.proofs.PlaceLemmas.{open-unresolved, shape-open}

@@ -2,9 +2,8 @@
 use Rattle.std.specs.Prelude.{◌≤◌, length}
 use Rattle.markdown_base.specs.Forest.{Forest, roots}
 use Rattle.markdown_document.specs.Above.{Above}
-use Rattle.markdown_document.specs.Counts.{ChainCounts, WorkRises}
+use Rattle.markdown_document.specs.Counts.{ChainCounts, WorkRises, delimiters_in}
 use Rattle.markdown_document.specs.Document.{Tags, Label}
-use Rattle.markdown_document.specs.Labels.{delimiters_in}
 use Rattle.markdown_document.specs.Setting.{Setting, Known}
 use Rattle.markdown_document.specs.declared.work.Work.{Work}
 use Rattle.markdown_delims.specs.PairingFinds.{finds_in}

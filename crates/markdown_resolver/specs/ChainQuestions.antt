@@ -1,24 +1,19 @@
 -- The questions of resolving a chain: at most one for each of its `]`, none at a limit of 0, and no two that end at the
 -- same byte offset, where its items are in order and cover their markup, as in each chain of a well-formed block
 -- result.
-use Rattle.std.specs.Prelude.{◌≡◌, ℕ, ⊤, true, List}
-use Rattle.markdown_base.specs.Forest.{Forest, nil, node, roots}
+use Rattle.std.specs.Prelude.{ℕ, List}
+use Rattle.markdown_base.specs.Forest.{Forest, roots}
 use Rattle.markdown_base.specs.WellFormed.{IsWellFormed}
 use Rattle.markdown_base.specs.declared.block_parts.BlockParts.{BlockParts}
 use Rattle.markdown_base.specs.declared.item.Item.{Item}
 use Rattle.markdown_base.specs.declared.node.Node.{Node}
 use Rattle.markdown_brackets.specs.QuestionEnds.{AsksAtMost, EndApart, StandInLine, closers_among}
 use Rattle.markdown_document.specs.Above.{Above}
-use Rattle.markdown_document.specs.Document.{Label, Tags, document, is_unresolved}
+use Rattle.markdown_document.specs.Document.{Label, Tags, document}
 use Rattle.markdown_document.specs.Setting.{Known, Setting}
 use Rattle.markdown_document.specs.Tables.{Tables}
 use Rattle.markdown_resolver.specs.Resolved.{resolved}
-
--- p is true of each chain at every depth, from each of its open items on
-abbrev pub EachChain : {A : Type 0} → (Forest (Label A) → Type 0) → Forest (Label A) → Type 0
-EachChain p nil = ⊤
-EachChain p (node a below after) =
-    (is_unresolved a.part.shape ≡ true → p (node a below after)) × EachChain p below × EachChain p after
+use Rattle.markdown_resolver.specs.Kept.{EachChain}
 
 -- at most one question is asked for each `]` of a chain, and none at a limit of 0
 abbrev pub ChainCountLaw : Type 0 → Type 0

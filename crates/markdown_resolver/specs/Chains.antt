@@ -17,15 +17,18 @@ use Rattle.markdown_defs.specs.Footnotes.{footnote_at}
 use Rattle.markdown_resolver.specs.Kept.{IsQuietBelow}
 use Rattle.markdown_resolver.specs.PassOne.{Outcome}
 use Rattle.markdown_resolver.specs.Resolved.{resolved}
-use Rattle.markdown_document.specs.Above.{Above, above_cursor}
+use Rattle.markdown_document.specs.Above.{Above}
 use Rattle.markdown_document.specs.Counts.{WorkRises}
 use Rattle.markdown_document.specs.declared.work.Work.{Work}
 use Rattle.markdown_resolver.specs.ChainCounts.{RisesInPart, chain_counts}
 use Rattle.markdown_document.specs.Setting.{Setting, Known}
-use Rattle.markdown_document.specs.Places.{IsPlaced, trees_from, IsSameAt}
+use Rattle.markdown_document.specs.Places.{trees_from}
+use Rattle.markdown_document.specs.PlacedNodes.{IsPlaced, IsSameAt}
 use Rattle.markdown_document.specs.Document.{plain_tags, Plain}
 use Rattle.markdown_document.specs.Stages.{Stage, chain_at, known_at, named_in, stage, times_in, weight_in}
-use Rattle.markdown_document.specs.Tables.{Tables, Named, number_of, size_for, HasGrown}
+use Rattle.markdown_document.specs.Stages.{above_cursor}
+use Rattle.markdown_document.specs.Tables.{Tables}
+use Rattle.markdown_document.specs.NamedEntries.{Named, number_of, size_for, HasGrown}
 
 -- the chain from the link l on was changed in place, and the tables with it
 pub record ChangesChain (source : List ℕ) (l : Option ℕ) (old new : List (Node Item)) (tables tables' : Tables) : Type 0

@@ -11,9 +11,10 @@ use Rattle.markdown_base.specs.declared.item.Item.{Item}
 use Rattle.markdown_base.specs.declared.node.Node.{Node}
 use Rattle.markdown_document.specs.ChainRest.{joined_chains, past, past_byte}
 use Rattle.markdown_document.specs.Document.{Plain, label_of}
-use Rattle.markdown_document.specs.Places.{IsSameAt, follows_pipe}
-use Rattle.markdown_document.specs.Tables.{Tables, Named}
-use Rattle.markdown_document.specs.Totals.{times_named}
+use Rattle.markdown_document.specs.Places.{follows_pipe}
+use Rattle.markdown_document.specs.PlacedNodes.{IsSameAt}
+use Rattle.markdown_document.specs.Tables.{Tables}
+use Rattle.markdown_document.specs.NamedEntries.{Named, times_named}
 use Rattle.markdown_spans.specs.ChainInArena.{LeadsThrough}
 use Rattle.markdown_resolver.specs.Chains.{CanResolve}
 use Rattle.markdown_resolver.specs.Rewritten.{CanPut, LeavesRest, MayBeCut, Rewrites, first_past, numbered_past_byte}

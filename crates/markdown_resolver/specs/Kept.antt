@@ -1,4 +1,4 @@
--- What resolving a chain requires of its items, and what it leaves open.
+-- What resolving a chain requires of its items, and what is true of each chain of a forest.
 use Rattle.std.specs.Prelude.{◌≡◌, ⊤, Bool, true, false, is_some}
 use Rattle.markdown_base.specs.Event.{code, display_math, image, inline_math, link}
 use Rattle.markdown_base.specs.Forest.{Forest, nil, node}
@@ -35,14 +35,8 @@ abbrev pub IsUnread : {A : Type 0} → Forest (Label A) → Type 0
 IsUnread nil = ⊤
 IsUnread (node a below after) = (is_quiet a.part.shape ≡ false → IsUnmade after) × IsUnread after
 
--- each chain can be resolved from its first open item on: it is quiet below, and what has still to be read comes last
-abbrev pub IsKept : {A : Type 0} → Forest (Label A) → Type 0
-IsKept nil = ⊤
-IsKept (node a below after) =
-    (is_unresolved a.part.shape ≡ true → IsQuietBelow (node a below after) × IsUnread (node a below after))
-    × IsKept below × IsKept after
-
--- no item of the chain itself is open, and its chains of children are quiet
-abbrev pub IsSettled : {A : Type 0} → Forest (Label A) → Type 0
-IsSettled nil = ⊤
-IsSettled (node a below after) = (is_unresolved a.part.shape ≡ false) × IsQuiet below × IsSettled after
+-- p is true of each chain at every depth, from each of its open items on
+abbrev pub EachChain : {A : Type 0} → (Forest (Label A) → Type 0) → Forest (Label A) → Type 0
+EachChain p nil = ⊤
+EachChain p (node a below after) =
+    (is_unresolved a.part.shape ≡ true → p (node a below after)) × EachChain p below × EachChain p after

@@ -16,7 +16,8 @@ use Rattle.markdown_document.specs.Setting.{Setting, Known}
 use Rattle.markdown_document.specs.Labels.{Begins, weight, retagged}
 use Rattle.markdown_document.specs.Tables.{Tables}
 use Rattle.markdown_delims.specs.Pairing.{paired}
-use Rattle.markdown_resolver.specs.Kept.{IsQuiet, IsQuietBelow, IsSettled}
+use Rattle.markdown_resolver.specs.Kept.{IsQuiet, IsQuietBelow}
+use Rattle.markdown_resolver.specs.KeptChains.{IsSettled}
 use Rattle.markdown_resolver.specs.PassOne.{Outcome, pass_one}
 use Rattle.markdown_resolver.specs.Resolved.{resolved, all_paired}
 

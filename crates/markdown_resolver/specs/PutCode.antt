@@ -5,7 +5,8 @@ use Rattle.markdown_base.specs.declared.item.Item.{Item}
 use Rattle.markdown_base.specs.declared.item.ItemBody.{ItemBody}
 use Rattle.markdown_base.specs.declared.item.ItemBody.TheVariants as body
 use Rattle.markdown_base.specs.declared.node.Node.{Node}
-use Rattle.markdown_document.specs.Tables.{Tables, HasGrown}
+use Rattle.markdown_document.specs.Tables.{Tables}
+use Rattle.markdown_document.specs.NamedEntries.{HasGrown}
 use Rattle.markdown_spans.specs.Finds.{is_escaped}
 use Rattle.markdown_resolver.specs.Rewritten.{CanPut, CanPutPair, IsFoundAt, Standing, one_item, pair}
 

@@ -8,9 +8,8 @@ use Rattle.markdown_brackets.specs.Decides.{Decides}
 use Rattle.markdown_brackets.specs.LeftList.{Entry}
 use Rattle.markdown_brackets.specs.Reference.{could_be_reference}
 use Rattle.markdown_brackets.specs.declared.closing_bracket.ClosedBracket.{ClosedBracket}
-use Rattle.markdown_document.specs.Above.{above_cursor}
 use Rattle.markdown_document.specs.Setting.{Setting, rules_from, setting_of, uses_of}
-use Rattle.markdown_document.specs.Stages.{Stage, chain_at, items_from, stage}
+use Rattle.markdown_document.specs.Stages.{Stage, chain_at, items_from, stage, above_cursor}
 use Rattle.markdown_document.specs.Tables.{tables_of}
 use Rattle.markdown_spans.specs.SpanClosers.{HoldsFrom, Learned, has_failed}
 use Rattle.markdown_spans.specs.declared.span_text.SpanKind.{SpanKind}

@@ -13,10 +13,11 @@ use Rattle.markdown_base.specs.declared.item.ItemBody.{ItemBody}
 use Rattle.markdown_base.specs.declared.node.Node.{Node}
 use Rattle.markdown_document.specs.ChainRest.{joined_chains, past}
 use Rattle.markdown_document.specs.Document.{Plain, as_text, label_of}
-use Rattle.markdown_document.specs.Places.{HasSlices, IsSameAt, trees_from}
+use Rattle.markdown_document.specs.Places.{trees_from}
+use Rattle.markdown_document.specs.PlacedNodes.{HasSlices, IsSameAt}
 use Rattle.markdown_document.specs.Stages.{items_from, times_in, weight_in}
-use Rattle.markdown_document.specs.Tables.{Tables, Named, NamesEntries, number_of, size_for}
-use Rattle.markdown_document.specs.Totals.{times_named}
+use Rattle.markdown_document.specs.Tables.{Tables}
+use Rattle.markdown_document.specs.NamedEntries.{Named, NamesEntries, number_of, size_for, times_named}
 use Rattle.markdown_document.specs.Waiting.{is_quiet}
 use Rattle.markdown_spans.specs.ChainInArena.{LeadsThrough}
 use Rattle.markdown_resolver.specs.Chains.{CanResolve, ChangesChain}

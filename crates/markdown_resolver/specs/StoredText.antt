@@ -2,8 +2,10 @@
 use Rattle.std.specs.Prelude.{◌≡◌, ℕ, ◌<◌, ◌≤◌, List, length}
 use Rattle.std.specs.Str.{IsCharBoundary}
 use Rattle.markdown_base.specs.declared.index.CowIndex.{CowIndex}
-use Rattle.markdown_document.specs.Origins.{IsSlicedOf, Origin, origin_at}
-use Rattle.markdown_document.specs.Tables.{Tables, HasGrown, text_at}
+use Rattle.markdown_document.specs.Origins.{Origin, origin_at}
+use Rattle.markdown_document.specs.PlacedNodes.{IsSlicedOf}
+use Rattle.markdown_document.specs.Tables.{Tables, text_at}
+use Rattle.markdown_document.specs.NamedEntries.{HasGrown}
 
 -- the bytes from one offset to another can be cut out of a text
 pub record CanCut (source : List ℕ) (start end : ℕ) : Type 0 where

@@ -2,8 +2,8 @@
 //! that end at or before its end leave the chain, and the first that is left loses its bytes before it.
 ghost use Rattle.std.specs.Prelude.{◌≡◌, ◌<◌, ◌∷◌, ◌++◌, [], ℕ, List, length, Some, None};
 ghost use Rattle.markdown_base.specs.BlockTree.{item_at};
-ghost use Rattle.markdown_document.specs.Tables.{HasGrown, Named, Tables};
-ghost use Rattle.markdown_document.specs.Totals.{times_named};
+ghost use Rattle.markdown_document.specs.Tables.{Tables};
+ghost use Rattle.markdown_document.specs.NamedEntries.{HasGrown, Named, times_named};
 ghost use Rattle.markdown_resolver.specs.ClosedOver.{CanClose, CanPutMark, CanPutOver, CanShow, IsEnclosed, PutsOver};
 ghost use Rattle.markdown_resolver.specs.ClosedOver.{after_mark, in_place_of, last_inside, over_inside, over_shown};
 ghost use Rattle.markdown_resolver.specs.ClosedOver.{over_text};

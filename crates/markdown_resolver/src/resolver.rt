@@ -50,12 +50,11 @@ impl<'a, F: BrokenLinkCallback<'a>> Resolver<'a, F> {
     ghost use Rattle.markdown_brackets.specs.Reference.{is_closer};
     ghost use Rattle.markdown_brackets.specs.SpentEnds.{is_spent};
     ghost use Rattle.markdown_base.specs.Item.{is_open};
-    ghost use Rattle.markdown_document.specs.Above.{above_cursor};
     ghost use Rattle.markdown_document.specs.Counts.{RisesAtMost, risen};
     ghost use Rattle.markdown_document.specs.Document.{plain_tags};
     ghost use Rattle.markdown_document.specs.Places.{trees_from};
     ghost use Rattle.markdown_document.specs.Setting.{rules_from, setting_of};
-    ghost use Rattle.markdown_document.specs.Stages.{items_from, stage};
+    ghost use Rattle.markdown_document.specs.Stages.{items_from, stage, above_cursor};
     ghost use Rattle.markdown_document.specs.Tables.{tables_of};
     ghost use Rattle.markdown_resolver.specs.BracketKinds.{kind_of};
     ghost use Rattle.markdown_resolver.specs.Chains.{CanResolve, AreAbove, ResolvesChain, ResolvesFrom, StopsIn};

@@ -10,7 +10,7 @@ use Rattle.std.specs.Prelude.{IfSome, IsTrue, take_while}
 use Rattle.std.specs.List.{list_all, position_or_len, prefix_len}
 use Rattle.std.proofs.lemmas.List.Folds.{length-prefix_len}
 use Rattle.std.specs.Option.{option_map}
-use Rattle.markdown_scan.specs.Beginnings.{begins_with, StandsBetween}
+use Rattle.markdown_scan.specs.Beginnings.{begins_with}
 use Rattle.markdown_scan.specs.Entity.{character_of, digits_of, entity, digits_value, numeric_reference}
 use Rattle.markdown_scan.proofs.BeginsWithLemmas.{begins_with-reads}
 use Rattle.std.proofs.lemmas.List.{get_or-drop}
@@ -23,6 +23,7 @@ use Rattle.markdown_scan.specs.Label.{with_shown}
 use Rattle.markdown_scan.proofs.LabelTextLemmas.{neither}
 use Rattle.markdown_scan.proofs.LineStartLemmas.{no_space_from}
 use Rattle.markdown_scan.specs.ScanLaws.{holds_bare_bracket, is_in_bare, is_plain_byte, TabGoesToTheNextStop}
+use Rattle.markdown_scan.specs.ScanLaws.{StandsBetween}
 use Rattle.markdown_scan.specs.Unescape.{escape_or_entity, unescaped}
 use Rattle.markdown_scan.proofs.UnescapeLemmas.{step_byte, step_reference}
 

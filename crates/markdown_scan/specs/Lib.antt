@@ -5,6 +5,7 @@ pub mod AsciiKinds
 pub mod Backslash
 pub mod Beginnings
 pub mod LineStart
+pub mod PastSpace
 pub mod LineView
 pub mod Autolink
 pub mod Destination
@@ -20,3 +21,4 @@ pub mod LineSteps
 pub mod Together
 -- the definitions of a lower crate that clauses here cite
 pub use Rattle.markdown_base.specs.CowText
+pub use Rattle.markdown_base.specs.StoredTexts

@@ -63,17 +63,6 @@ leading_space n left =
     if nat_le n left.owed then record { columns = n; after = record left { owed = left.owed - n } }
     else wider left.owed (space_from (n - left.owed) left.scanned left.column left.bytes)
 
--- the line after all the space that comes next, if no column is owed
-abbrev pub past_space_from : ℕ → ℕ → List ℕ → LineLeft
-past_space_from scanned column [] = record { scanned = scanned; owed = 0; column = column; bytes = [] }
-past_space_from scanned column (b ∷ bytes) =
-    if space_width column b == 0 then record { scanned = scanned; owed = 0; column = column; bytes = b ∷ bytes }
-    else past_space_from (scanned + 1) (column_after column b) bytes
-
--- the line after all the space that comes next
-abbrev pub past_space : LineLeft → LineLeft
-past_space left = past_space_from left.scanned left.column left.bytes
-
 -- a line feed, a carriage return or the end of the bytes comes next
 abbrev pub is_line_over : List ℕ → Bool
 is_line_over [] = true

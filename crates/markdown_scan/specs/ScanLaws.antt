@@ -1,6 +1,6 @@
 -- Laws of the scanners, in a reader's words.
 use Rattle.std.specs.Prelude.{◌+◌, ◌||◌, [], ◌∷◌, suc, zero, take, Option, ◌≤◌, false, ℕ, Bool, not, ◌&&◌, ◌==◌, ◌≡◌}
-use Rattle.std.specs.Prelude.{List, IfSome, IsTrue}
+use Rattle.std.specs.Prelude.{List, IfSome, IsTrue, ◌-◌, slice_index}
 use Rattle.std.specs.Char.{is_ascii_punctuation}
 use Rattle.std.specs.List.{list_all}
 use Rattle.markdown_base.specs.Bytes.{ampersand, backslash, pipe, semicolon, space as space_byte}
@@ -8,7 +8,6 @@ use Rattle.markdown_scan.specs.Autolink.{uri_autolink, is_uri_byte}
 use Rattle.markdown_scan.specs.AsciiKinds.{is_control_or_space}
 use Rattle.markdown_scan.specs.Backslash.{is_bare}
 use Rattle.markdown_scan.specs.Destination.{bare_destination}
-use Rattle.markdown_scan.specs.Beginnings.{StandsBetween}
 use Rattle.markdown_scan.specs.Entity.{entity}
 use Rattle.markdown_scan.specs.Label.{LabelByte, dropped, is_bracket, kept, label_body, label_bytes, refused}
 use Rattle.markdown_scan.specs.LineStart.{LineLeft, leading_space, wider}
@@ -42,6 +41,11 @@ is_no_pipe b = not (b == pipe)
 abbrev pub WikilinkNameHoldsNoPipe : List ℕ → ℕ → ℕ → Type 0
 WikilinkNameHoldsNoPipe text start size =
     IfSome (wikilink_pipe text start size) (λ found. IsTrue (list_all is_no_pipe found.1))
+
+-- the first of n bytes is `first`, and the last of them is `last`
+abbrev pub StandsBetween : ℕ → ℕ → List ℕ → ℕ → Type 0
+StandsBetween first last bytes n =
+    (slice_index bytes 0 ≡ first) × (slice_index bytes (n - 1) ≡ last)
 
 -- an entity begins with `&` and ends with `;`
 abbrev pub EntityBeginsAndEnds : List ℕ → Type 0

@@ -3,7 +3,8 @@ ghost use Rattle.std.specs.Prelude.{◌≡◌, ◌≢◌, ◌≤◌, ◌<◌, �
 ghost use Rattle.std.specs.Prelude.{IsOk, OnErr, take, length};
 ghost use Rattle.std.specs.Option.{option_map};
 ghost use Rattle.std.specs.Str.{IsUtf8, IsCharBoundary};
-ghost use Rattle.markdown_base.specs.CowText.{text_of, IsBorrowed};
+ghost use Rattle.markdown_base.specs.CowText.{text_of};
+ghost use Rattle.markdown_base.specs.StoredTexts.{IsBorrowed};
 ghost use Rattle.markdown_scan.specs.Label as label;
 ghost use Rattle.markdown_scan.specs.Label.{link_label};
 ghost use Rattle.markdown_scan.specs.LinePrefix.{prefix_after};

@@ -3,7 +3,8 @@ ghost use Rattle.std.specs.Prelude.{◌≡◌, ◌≢◌, ◌++◌, ℕ, List, [
 ghost use Rattle.std.specs.Prelude.{IsTrue, IsFalse, None, IfOk, OnOk, OnErr, MatchOption};
 ghost use Rattle.std.specs.Option.{ForSome};
 ghost use Rattle.std.specs.Str.{IsCharBoundary};
-ghost use Rattle.markdown_base.specs.CowText.{text_of, IsBorrowed};
+ghost use Rattle.markdown_base.specs.CowText.{text_of};
+ghost use Rattle.markdown_base.specs.StoredTexts.{IsBorrowed};
 ghost use Rattle.markdown_scan.specs.AsciiKinds as kinds;
 ghost use Rattle.markdown_scan.specs.Backslash as backslash;
 ghost use Rattle.markdown_scan.specs.Label as label;

@@ -1,6 +1,7 @@
 //! The beginning of a line, measured in columns (CommonMark 2.2).
 ghost use Rattle.std.specs.Prelude.{◌≡◌, ◌≤◌, ◌<◌, ◌==◌, ◌+◌, ◌^◌, length, min, if◌then◌else◌, slice_index, IsTrue};
 ghost use Rattle.markdown_scan.specs.LineStart as spec;
+ghost use Rattle.markdown_scan.specs.PastSpace.{past_space};
 
 /// The rest of a line, whose white space is read in columns. A tab extends to the next multiple of 4 columns; if only
 /// some of its columns are read, the others come next.
@@ -159,7 +160,7 @@ impl<'t> LineStart<'t> {
 
     /// Reads all the space that comes next.
     pub fn scan_all_space(&mut self)
-        ensures { line_left self.new ≡ spec.past_space (line_left self.old) }
+        ensures { line_left self.new ≡ past_space (line_left self.old) }
     {
         self.owed = 0;
         while self.take_white(4) > 0 {}

@@ -3,7 +3,8 @@ ghost use Rattle.std.specs.Prelude.{◌≡◌, ◌≢◌, ◌<◌, ◌≤◌, �
 ghost use Rattle.std.specs.Prelude.{slice_index, string_bytes};
 ghost use Rattle.std.specs.List.{list_any};
 ghost use Rattle.markdown_base.specs.Bytes.{backslash};
-ghost use Rattle.markdown_base.specs.CowText.{text_of, IsBorrowed};
+ghost use Rattle.markdown_base.specs.CowText.{text_of};
+ghost use Rattle.markdown_base.specs.StoredTexts.{IsBorrowed};
 ghost use Rattle.markdown_scan.specs.Unescape.{escape_or_entity, unescaped};
 ghost use Rattle.markdown_scan.specs.Together.{may_begin_reference, IsPast};
 

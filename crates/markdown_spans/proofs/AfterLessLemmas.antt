@@ -18,7 +18,7 @@ use Rattle.markdown_raw_html.specs.TagText.{text_in, text_past}
 use Rattle.markdown_raw_html.specs.TagSource.{tag_at, tag_of, tag_lengths}
 use Rattle.markdown_raw_html.proofs.RawHtmlLawsLemmas.{tag_between}
 use Rattle.markdown_raw_html.proofs.HtmlTagLemmas.{IsWithin-html_tag}
-use Rattle.markdown_scan.specs.Beginnings.{StandsBetween}
+use Rattle.markdown_scan.specs.ScanLaws.{StandsBetween}
 use Rattle.markdown_scan.specs.Autolink.{uri_autolink}
 use Rattle.markdown_spans.specs.AfterLess.{html_markup, html_at, is_unbroken, markup_at}
 use Rattle.markdown_spans.specs.PrefixView.{length_by}

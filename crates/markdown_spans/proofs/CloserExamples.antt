@@ -4,7 +4,8 @@ use Rattle.markdown_base.specs.declared.item.Item.{Item}
 use Rattle.markdown_base.specs.declared.item.ItemBody.{ItemBody}
 use Rattle.markdown_base.specs.declared.item.ItemBody.TheVariants as body
 use Rattle.markdown_base.specs.BlockTree.{Numbered}
-use Rattle.markdown_spans.specs.Closers.{closing_count, code_close, code_closer, looked_for_code, looked_for_math, math_close}
+use Rattle.markdown_spans.specs.Closers.{closing_count, code_close, code_closer, math_close}
+use Rattle.markdown_spans.specs.CloserSearches.{looked_for_code, looked_for_math}
 use Rattle.markdown_spans.specs.SpanMarks.{known_closers, marks_in}
 use Rattle.markdown_spans.specs.declared.span_text.SpanKind.TheVariants.{Code, Math}
 

@@ -3,7 +3,8 @@ use Rattle.std.proofs.Common.{◌≡◌, [], ◌∷◌, ◌++◌, true, false, N
 use Rattle.std.specs.Prelude.{codes}
 use Rattle.markdown_base.specs.declared.item.ItemBody.{ItemBody}
 use Rattle.markdown_base.specs.declared.item.ItemBody.TheVariants as body
-use Rattle.markdown_spans.specs.ContainerPrefix.{prefix_length, in_table}
+use Rattle.markdown_spans.specs.ContainerPrefix.{prefix_length}
+use Rattle.markdown_spans.specs.PrefixView.{in_table}
 
 quote : ItemBody
 quote = body.BlockQuote None

@@ -11,10 +11,10 @@ use Rattle.std.proofs.lemmas.Bool.Decides.{nat_tests}
 use Rattle.markdown_base.specs.declared.item.ItemBody.{ItemBody}
 use Rattle.markdown_base.specs.declared.item.ItemBody.TheVariants as body
 use Rattle.markdown_scan.specs.LineStart.{LineLeft, space_width, column_after, space_from, leading_space, is_line_over, begins_marker, past_one_byte}
-use Rattle.markdown_spans.specs.ContainerPrefix.{past_marker_next, past_indent, past_block, past_blocks, prefix_length, in_table}
+use Rattle.markdown_spans.specs.ContainerPrefix.{past_marker_next, past_indent, past_block, past_blocks, prefix_length}
 use Rattle.markdown_base.specs.Item.{is_table_cell}
 use Rattle.markdown_spans.specs.BlocksAbove.{blocks_above}
-use Rattle.markdown_spans.specs.PrefixView.{length_by}
+use Rattle.markdown_spans.specs.PrefixView.{length_by, in_table}
 use Rattle.markdown_spans.specs.declared.prefixes.ContainerPrefix.{ContainerPrefix}
 
 -- a byte of a prefix: a space, a tab or a block quote's `>`

@@ -12,8 +12,8 @@ use Rattle.markdown_base.specs.Arena.{sibling_of}
 use Rattle.markdown_base.specs.BlockTree.{Numbered, item_at, numbered}
 use Rattle.markdown_spans.specs.ChainInArena.{LeadsThrough, HasChain}
 use Rattle.markdown_spans.specs.ChainSearch.{SearchesCode}
-use Rattle.markdown_spans.specs.Closers.{closing_count, code_close, code_closer, is_code_of, looked_for_code, looked_for_code_close}
-use Rattle.markdown_spans.specs.Closers.{opens_code}
+use Rattle.markdown_spans.specs.Closers.{closing_count, code_close, code_closer, is_code_of}
+use Rattle.markdown_spans.specs.CloserSearches.{looked_for_code, looked_for_code_close, opens_code}
 use Rattle.markdown_spans.specs.SpanClosers.{ClosesCode, HoldsFrom, HoldsOf, Learned, LooksForCode, RisesBy, failed_by_now, has_failed}
 use Rattle.markdown_spans.specs.SpanClosers.{item_in, unless_failed}
 use Rattle.markdown_spans.specs.SpanMarks.{known_after, known_closer, mark_at}

@@ -12,8 +12,8 @@ use Rattle.markdown_base.specs.BlockTree.{Numbered, item_at}
 use Rattle.markdown_spans.specs.ChainInArena.{LeadsThrough, HasChain}
 use Rattle.markdown_spans.specs.ChainSearch.{NotesMath, NotesRest, SearchesMath, known_dollar, next_closer, past_second}
 use Rattle.markdown_spans.specs.ChainWalk.{LooksAlong, WalksTo, one_of}
-use Rattle.markdown_spans.specs.Closers.{can_open, context_of, first_dollar, is_dollar, looked_for_dollar, looked_for_math, math_close}
-use Rattle.markdown_spans.specs.Closers.{math_close_from}
+use Rattle.markdown_spans.specs.Closers.{can_open, context_of, first_dollar, is_dollar, math_close, math_close_from}
+use Rattle.markdown_spans.specs.CloserSearches.{looked_for_dollar, looked_for_math}
 use Rattle.markdown_spans.specs.MathOpening.{closed_at, closed_by_first, dollar_at, marks_at, opener_at, searched_from}
 use Rattle.markdown_spans.specs.SpanClosers.{ClosesMath, HoldsFrom, Learned, RisesBy, StandsIn, failed_by_now, found_math, has_failed}
 use Rattle.markdown_spans.specs.SpanClosers.{item_in}

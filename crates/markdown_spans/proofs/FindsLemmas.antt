@@ -5,7 +5,8 @@ use Rattle.std.specs.Prelude.{if◌then◌else◌, is_some}
 use Rattle.markdown_base.specs.Forest.{Forest, nil, node, Each}
 use Rattle.markdown_document.specs.Above.{Above}
 use Rattle.markdown_document.specs.Document.{Tags, Shape, leaf, enclosed, plain, backslash_break, unresolved, Label, is_unresolved}
-use Rattle.markdown_document.specs.Labels.{Begins, counts_shape, delimiters_in, weight}
+use Rattle.markdown_document.specs.Labels.{Begins, weight}
+use Rattle.markdown_document.specs.Counts.{counts_shape, delimiters_in}
 use Rattle.markdown_document.specs.Setting.{Setting}
 use Rattle.markdown_document.specs.Totals.{weight_if}
 use Rattle.markdown_document.specs.Waiting.{is_quiet}

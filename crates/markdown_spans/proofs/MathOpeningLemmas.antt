@@ -10,9 +10,10 @@ use Rattle.markdown_base.specs.declared.node.Node.{Node}
 use Rattle.markdown_base.specs.Arena.{sibling_of}
 use Rattle.markdown_base.specs.BlockTree.{Numbered, item_at}
 use Rattle.markdown_spans.specs.ChainInArena.{LeadsThrough, HasChain}
-use Rattle.markdown_spans.specs.Closers.{Dollar, MathClose, can_close, can_open, math_closed_by, context_of, display_close, dollar_next}
-use Rattle.markdown_spans.specs.Closers.{first_dollar, inline_close, is_dollar, is_dollar_of, looked_for_dollar, math_close}
-use Rattle.markdown_spans.specs.Closers.{searched_for_math}
+use Rattle.markdown_spans.specs.Closers.{Dollar, MathClose, can_close, can_open, math_closed_by, context_of}
+use Rattle.markdown_spans.specs.Closers.{display_close, dollar_next, first_dollar, inline_close, is_dollar}
+use Rattle.markdown_spans.specs.Closers.{is_dollar_of, math_close}
+use Rattle.markdown_spans.specs.CloserSearches.{looked_for_dollar, searched_for_math}
 use Rattle.markdown_spans.specs.MathOpening.{closed_by_first, display_closed, dollar_at, inline_closed, marks_at, opener_at, searched_from}
 use Rattle.markdown_spans.specs.SpanClosers.{StandsIn, found_math, item_in}
 use Rattle.markdown_spans.specs.SpanMarks.{mark_at, marks_in}

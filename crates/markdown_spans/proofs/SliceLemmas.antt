@@ -5,7 +5,8 @@ use Rattle.std.specs.declared.ops.Range.{Range}
 use Rattle.std.proofs.Math.Logic.{∥∥₁_map}
 use Rattle.std.proofs.lemmas.Bool.{cases_lt}
 use Rattle.std.proofs.lemmas.List.{drop-drop, length-take, take-take, take_all}
-use Rattle.markdown_document.specs.Origins.{IsSliceWithin, IsSlicedOf, Origin}
+use Rattle.markdown_document.specs.Origins.{IsSliceWithin, Origin}
+use Rattle.markdown_document.specs.PlacedNodes.{IsSlicedOf}
 use Rattle.markdown_document.proofs.OriginLemmas.{slice_wider}
 
 -- the bytes between two byte offsets of a text are a slice of it, and so are all its bytes

@@ -11,7 +11,8 @@ use Rattle.markdown_base.specs.BlockTree.{Numbered}
 use Rattle.markdown_spans.specs.ChainInArena.{LeadsThrough}
 use Rattle.markdown_spans.specs.ChainWalk.{FirstIsSought, LooksAlong, NoneSought, WalksTo, one_of}
 use Rattle.markdown_spans.specs.ChainSearch.{SearchesCode}
-use Rattle.markdown_spans.specs.Closers.{Dollar, code_closer, first_dollar, is_code_of, is_dollar_of, looked_for_code, looked_for_dollar}
+use Rattle.markdown_spans.specs.Closers.{Dollar, code_closer, first_dollar, is_code_of, is_dollar_of}
+use Rattle.markdown_spans.specs.CloserSearches.{looked_for_code, looked_for_dollar}
 use Rattle.markdown_spans.specs.SpanClosers.{RisesBy, item_in}
 use Rattle.markdown_spans.specs.SpanMarks.{known_closers, code_mark, first_with, is_wanted, marks_in, math_mark}
 use Rattle.markdown_spans.proofs.ChainWalkLemmas.{rises_on}

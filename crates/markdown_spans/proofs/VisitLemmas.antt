@@ -6,9 +6,11 @@ use Rattle.markdown_base.specs.declared.item.Item.{Item}
 use Rattle.markdown_base.specs.declared.item.ItemBody.{ItemBody}
 use Rattle.markdown_base.specs.declared.item.ItemBody.TheVariants as body
 use Rattle.markdown_base.specs.BlockTree.{Numbered}
-use Rattle.markdown_spans.specs.Closers.{Dollar, can_open, closing_count, code_close, code_closer, context_of, dollar_next, first_dollar}
-use Rattle.markdown_spans.specs.Closers.{is_code_of, is_dollar_of, looked_for_code, looked_for_code_close, looked_for_dollar}
-use Rattle.markdown_spans.specs.Closers.{looked_for_math, looked_for_math_from, math_close, math_close_from, searched_for_math}
+use Rattle.markdown_spans.specs.Closers.{Dollar, can_open, closing_count, code_close, code_closer, context_of}
+use Rattle.markdown_spans.specs.Closers.{dollar_next, first_dollar, is_code_of, is_dollar_of}
+use Rattle.markdown_spans.specs.Closers.{math_close, math_close_from}
+use Rattle.markdown_spans.specs.CloserSearches.{looked_for_code, looked_for_code_close, looked_for_dollar}
+use Rattle.markdown_spans.specs.CloserSearches.{looked_for_math, looked_for_math_from, searched_for_math}
 use Rattle.markdown_spans.specs.SpanClosers.{item_in}
 use Rattle.markdown_spans.specs.VisitLaws.{CodeVisitLaw, MathVisitLaw}
 use Rattle.markdown_spans.proofs.MathOpeningLemmas.{looked_within}

@@ -5,7 +5,8 @@ use Rattle.std.specs.Option.{option_map}
 use Rattle.markdown_base.specs.declared.item.Item.{Item}
 use Rattle.markdown_base.specs.declared.node.Node.{Node}
 use Rattle.markdown_base.specs.BlockTree.{Numbered, item_at}
-use Rattle.markdown_spans.specs.Closers.{code_closer, looked_for_code, looked_for_math, math_close}
+use Rattle.markdown_spans.specs.Closers.{code_closer, math_close}
+use Rattle.markdown_spans.specs.CloserSearches.{looked_for_code, looked_for_math}
 use Rattle.markdown_spans.specs.SpanClosers.{Learned, RisesBy, found_math, item_in}
 use Rattle.markdown_spans.specs.SpanMarks.{known_closers, known_after, known_closer, mark_at, marks_in}
 use Rattle.markdown_spans.specs.declared.span_closers.FoundMath.{FoundMath}

@@ -1,7 +1,7 @@
 -- Where code spans (CommonMark 6.1) and math spans close: searches in the items after an opener, from left to right.
 -- The items may be of any type; `item_of` maps them to items.
-use Rattle.std.specs.Prelude.{ℕ, ◌+◌, ◌-◌, Bool, true, false, not, ◌&&◌, ◌==◌, List, [], ◌∷◌, drop, length, Option}
-use Rattle.std.specs.Prelude.{Some, None, is_some, if◌then◌else◌}
+use Rattle.std.specs.Prelude.{ℕ, ◌-◌, Bool, true, false, not, ◌&&◌, ◌==◌, List, [], ◌∷◌, drop, Option, Some, None}
+use Rattle.std.specs.Prelude.{if◌then◌else◌}
 use Rattle.markdown_base.specs.declared.item.Item.{Item}
 use Rattle.markdown_base.specs.declared.item.ItemBody.{ItemBody}
 use Rattle.markdown_base.specs.declared.item.ItemBody.TheVariants as body
@@ -21,28 +21,11 @@ abbrev pub code_closer : {A : Type 0} → (A → Item) → ℕ → List A → Op
 code_closer item_of n [] = None
 code_closer item_of n (a ∷ after) = if is_code_of n (item_of a).body then Some a else code_closer item_of n after
 
--- the number of items examined by this search
-abbrev pub looked_for_code : {A : Type 0} → (A → Item) → ℕ → List A → ℕ
-looked_for_code item_of n [] = 0
-looked_for_code item_of n (a ∷ after) = 1 +
-    (if is_code_of n (item_of a).body then 0 else looked_for_code item_of n after)
-
--- the body opens a code span if something closes it
-abbrev pub opens_code : ItemBody → Bool
-opens_code (body.MaybeCode count escaped) = not (closing_count count escaped == 0)
-opens_code other = false
-
 -- what closes the code span that an item opens, if it opens one, among the items after it
 abbrev pub code_close : {A : Type 0} → (A → Item) → ItemBody → List A → Option A
 code_close item_of (body.MaybeCode count escaped) after =
     if closing_count count escaped == 0 then None else code_closer item_of (closing_count count escaped) after
 code_close item_of other after = None
-
--- the number of items examined by this search
-abbrev pub looked_for_code_close : {A : Type 0} → (A → Item) → ItemBody → List A → ℕ
-looked_for_code_close item_of (body.MaybeCode count escaped) after =
-    if closing_count count escaped == 0 then 0 else looked_for_code item_of (closing_count count escaped) after
-looked_for_code_close item_of other after = 0
 
 -- the body is a `$`
 abbrev pub is_dollar : ItemBody → Bool
@@ -122,25 +105,3 @@ math_close item_of opener_end context after = elim (dollar_next item_of after) [
 abbrev pub math_close_from : {A : Type 0} → (A → Item) → Item → List A → Option (MathClose A)
 math_close_from item_of opener after =
     if can_open opener.body then math_close item_of opener.end (context_of opener.body) after else None
-
--- the number of items examined up to the first `$` of a brace context
-abbrev pub looked_for_dollar : {A : Type 0} → (A → Item) → ℕ → List A → ℕ
-looked_for_dollar item_of context [] = 0
-looked_for_dollar item_of context (a ∷ after) =
-    1 + (if is_dollar_of context (item_of a).body then 0 else looked_for_dollar item_of context after)
-
--- the items that are searched for what closes math
-abbrev pub searched_for_math : {A : Type 0} → (A → Item) → List A → List A
-searched_for_math item_of after = if is_some (dollar_next item_of after) then drop 1 after else after
-
--- the number of them that are examined: those up to the `$` at which it closes, or all of them if nothing closes it
-abbrev pub looked_for_math : {A : Type 0} → (A → Item) → (opener_end context : ℕ) → List A → ℕ
-looked_for_math item_of opener_end context after =
-    if is_some (math_close item_of opener_end context after)
-    then looked_for_dollar item_of context (searched_for_math item_of after)
-    else length (searched_for_math item_of after)
-
--- the number of items examined by a search for the end of math
-abbrev pub looked_for_math_from : {A : Type 0} → (A → Item) → Item → List A → ℕ
-looked_for_math_from item_of opener after =
-    if can_open opener.body then looked_for_math item_of opener.end (context_of opener.body) after else 0

@@ -1,7 +1,6 @@
 -- The container prefix of a line (CommonMark 5): the parts of the line that belong to the blocks above a chain, read
 -- from the outermost block in. A block whose part is missing reads nothing, and the prefix ends before it.
-use Rattle.std.specs.Prelude.{ℕ, Bool, true, false, ◌||◌, ◌==◌, List, [], ◌∷◌, Option, Some, None, if◌then◌else◌}
-use Rattle.markdown_base.specs.Item.{is_table_cell}
+use Rattle.std.specs.Prelude.{ℕ, Bool, true, ◌||◌, ◌==◌, List, [], ◌∷◌, Option, Some, None, if◌then◌else◌}
 use Rattle.markdown_base.specs.declared.item.ItemBody.{ItemBody}
 use Rattle.markdown_base.specs.declared.item.ItemBody.TheVariants as body
 use Rattle.markdown_scan.specs.LineStart.{LineLeft, Space, leading_space, is_line_over, begins_marker, past_marker}
@@ -37,9 +36,3 @@ past_blocks gfm (block ∷ inner) line =
 abbrev pub prefix_length : Bool → List ItemBody → List ℕ → ℕ
 prefix_length gfm blocks bytes = (past_blocks gfm blocks
     (record { scanned = 0; owed = 0; column = 0; bytes = bytes })).scanned
-
--- a chain is in a table: the innermost block above it is a cell
-abbrev pub in_table : List ItemBody → Bool
-in_table [] = false
-in_table (block ∷ []) = is_table_cell block
-in_table (outer ∷ block ∷ inner) = in_table (block ∷ inner)

@@ -3,6 +3,7 @@ pub mod ContainerPrefix
 pub mod CodeText
 pub mod AfterLess
 pub mod Closers
+pub mod CloserSearches
 pub mod Finds
 pub mod VisitLaws
 -- facts about the representation
@@ -19,6 +20,7 @@ pub mod MarkupView
 pub use Rattle.markdown_base.specs.Arena
 pub use Rattle.markdown_base.specs.BlockTree
 pub use Rattle.markdown_base.specs.CowText
+pub use Rattle.markdown_base.specs.StoredTexts
 pub use Rattle.markdown_scan.specs.Autolink
 pub use Rattle.markdown_scan.specs.LineEnd
 pub use Rattle.markdown_scan.specs.LineStart

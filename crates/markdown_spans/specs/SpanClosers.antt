@@ -9,8 +9,8 @@ use Rattle.markdown_base.specs.Arena.{sibling_of}
 use Rattle.markdown_base.specs.BlockTree.{Numbered, item_at}
 use Rattle.markdown_document.specs.Counts.{RisesAtMost, risen}
 use Rattle.markdown_spans.specs.ChainInArena.{LeadsThrough}
-use Rattle.markdown_spans.specs.Closers.{MathClose, code_close, looked_for_code_close, looked_for_math_from}
-use Rattle.markdown_spans.specs.Closers.{math_close_from}
+use Rattle.markdown_spans.specs.Closers.{MathClose, code_close, math_close_from}
+use Rattle.markdown_spans.specs.CloserSearches.{looked_for_code_close, looked_for_math_from}
 use Rattle.markdown_spans.specs.SpanMarks.{known_closers, marks_in}
 use Rattle.markdown_spans.specs.declared.span_closers.FoundMath.{FoundMath}
 use Rattle.markdown_spans.specs.declared.span_marks.KnownCloser.{KnownCloser}

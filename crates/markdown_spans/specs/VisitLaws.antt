@@ -4,8 +4,8 @@ use Rattle.std.specs.Prelude.{◌≡◌, ◌+◌, ◌≤◌, true, List, ◌∷�
 use Rattle.markdown_base.specs.declared.item.Item.{Item}
 use Rattle.markdown_base.specs.declared.item.ItemBody.{ItemBody}
 use Rattle.markdown_base.specs.BlockTree.{Numbered}
-use Rattle.markdown_spans.specs.Closers.{Dollar, code_close, context_of, first_dollar, looked_for_code_close}
-use Rattle.markdown_spans.specs.Closers.{looked_for_math_from, math_close_from, searched_for_math}
+use Rattle.markdown_spans.specs.Closers.{Dollar, code_close, context_of, first_dollar, math_close_from}
+use Rattle.markdown_spans.specs.CloserSearches.{looked_for_code_close, looked_for_math_from, searched_for_math}
 use Rattle.markdown_spans.specs.SpanClosers.{item_in}
 
 -- the law of searches for backticks

@@ -7,7 +7,7 @@ ghost use Rattle.markdown_document.specs.Counts.{RisesAtMost};
 ghost use Rattle.markdown_spans.specs.ChainInArena.{HasChain, LeadsThrough};
 ghost use Rattle.markdown_spans.specs.ChainSearch.{NotesMath, NotesRest, SearchesCode, SearchesMath, known_dollar};
 ghost use Rattle.markdown_spans.specs.ChainSearch.{next_closer};
-ghost use Rattle.markdown_spans.specs.Closers.{looked_for_code, looked_for_math};
+ghost use Rattle.markdown_spans.specs.CloserSearches.{looked_for_code, looked_for_math};
 ghost use Rattle.markdown_spans.specs.MathOpening.{marks_at, opener_at};
 ghost use Rattle.markdown_spans.specs.SpanClosers.{item_in};
 ghost use Rattle.markdown_spans.specs.SpanMarks.{known_closers, known_after, known_closer};
@@ -188,7 +188,8 @@ fn walk_for_math(
 
 impl SpanClosers {
     ghost use Rattle.std.specs.Prelude.{Bool, ◌||◌, ◌&&◌, not};
-    ghost use Rattle.markdown_spans.specs.Closers.{can_open, opens_code};
+    ghost use Rattle.markdown_spans.specs.Closers.{can_open};
+    ghost use Rattle.markdown_spans.specs.CloserSearches.{opens_code};
     ghost use Rattle.markdown_spans.specs.SpanClosers.{ClosesCode, ClosesMath, HoldsFrom, LooksForCode};
     ghost use Rattle.markdown_spans.specs.SpanClosers.{LooksForCodeAtMost, LooksForMath, LooksForMathAtMost, StandsIn};
     ghost use Rattle.markdown_spans.specs.SpanClosers.{failed_by_now, has_failed};

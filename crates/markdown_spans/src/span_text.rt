@@ -4,9 +4,11 @@ ghost use Rattle.std.specs.Prelude.{IfOk, IfSome, IsOk, IsTrue, IsOkAnd, string_
 ghost use Rattle.std.specs.Option.{option_map};
 ghost use Rattle.std.specs.List.{list_all};
 ghost use Rattle.std.specs.Char.{is_ascii};
-ghost use Rattle.markdown_base.specs.CowText.{text_of, IsBorrowed};
+ghost use Rattle.markdown_base.specs.CowText.{text_of};
+ghost use Rattle.markdown_base.specs.StoredTexts.{IsBorrowed};
 ghost use Rattle.markdown_spans.specs.CodeText as code;
-ghost use Rattle.markdown_document.specs.Origins.{IsSlicedOf, IsSliceWithin, origin_of};
+ghost use Rattle.markdown_document.specs.Origins.{IsSliceWithin, origin_of};
+ghost use Rattle.markdown_document.specs.PlacedNodes.{IsSlicedOf};
 ghost use Rattle.markdown_spans.specs.CodeText.{has_outer_spaces, without_outer_spaces, is_sliced, span_origin};
 ghost use Rattle.markdown_spans.specs.PrefixView.{length_by};
 ghost use Rattle.markdown_scan.specs.LineEnd.{line_ending};

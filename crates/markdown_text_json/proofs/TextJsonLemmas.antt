@@ -20,10 +20,10 @@ use Rattle.markdown_inline.specs.declared.walk.Parser.{Parser}
 use Rattle.markdown_inline.proofs.RunLemmas.{events_of-questions}
 use Rattle.markdown_json.specs.JsonLines.{PlacedEvent, IsWritten, StopsAtError, placed_items, lines_of}
 use Rattle.markdown_json.specs.Json.{line_json}
-use Rattle.markdown_text_json.specs.OutlineJson.{outline_lines}
+use Rattle.markdown_text_json.specs.OutlineJson.{outline_lines, IsOutlineJsonOf}
 use Rattle.markdown_outline.specs.Outline.{EntryView, Ranged, entries_of}
 use Rattle.markdown_outline.specs.OutlineRead.{IsOutlineOfAll, ranged_view}
-use Rattle.markdown_text_json.specs.TextJson.{IsJsonOf, IsOutlineJsonOf, placed_line}
+use Rattle.markdown_text_json.specs.TextJson.{IsJsonOf, placed_line}
 
 -- with no callback nothing is asked, and there is none afterwards
 unasked : {F : Type 0} (step : F → Question → Option Answer → F → Type 0) (after : Option F) (questions : List Question)

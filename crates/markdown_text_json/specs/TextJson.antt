@@ -1,4 +1,4 @@
--- The JSON of a text: the lines of the events of its reading, or of its headings.
+-- The JSON of a text: the lines of the events of its reading.
 use Rattle.std.specs.Prelude.{◌≡◌, ℕ, false, List}
 use Rattle.std.specs.List.{flat_map}
 use Rattle.std.specs.Str.{IsUtf8}
@@ -6,12 +6,9 @@ use Rattle.markdown_base.specs.Questions.{Answers}
 use Rattle.markdown_base.specs.declared.options.Options.{Options}
 use Rattle.markdown_blocks.specs.Blocks.{IsOfText}
 use Rattle.markdown_blocks.specs.declared.blocks.Blocks.{Blocks}
-use Rattle.markdown_inline.specs.Balanced.{ranged}
 use Rattle.markdown_inline.specs.Elements.{Element, Placed, events_of}
 use Rattle.markdown_inline.specs.ParserLeft.{reading_of}
 use Rattle.markdown_json.specs.Json.{line_json}
-use Rattle.markdown_text_json.specs.OutlineJson.{outline_lines}
-use Rattle.markdown_outline.specs.Outline.{entries_of}
 
 -- the line of an event of a reading, with its range
 abbrev pub placed_line : Placed → List ℕ
@@ -20,10 +17,6 @@ placed_line placed = line_json placed.0 placed.1.start placed.1.end
 -- the lines of the events among these elements, one after another
 abbrev pub reading_lines : List Element → List ℕ
 reading_lines elements = flat_map placed_line (events_of elements)
-
--- the lines of the headings among the events of these elements
-abbrev pub heading_lines : List Element → List ℕ
-heading_lines elements = outline_lines (entries_of (ranged (events_of elements)))
 
 -- the input is UTF-8, and these are the lines of the reading of a block result of it with these options, without a
 -- callback
@@ -37,7 +30,3 @@ pub record AreLinesOf (lines : List Element → List ℕ) (bytes : List ℕ) (op
 -- these are the lines of the events of a text
 abbrev pub IsJsonOf : (bytes : List ℕ) → Options → (json : List ℕ) → Type 0
 IsJsonOf bytes options json = AreLinesOf reading_lines bytes options json
-
--- these are the lines of the headings of a text
-abbrev pub IsOutlineJsonOf : (bytes : List ℕ) → Options → (json : List ℕ) → Type 0
-IsOutlineJsonOf bytes options json = AreLinesOf heading_lines bytes options json

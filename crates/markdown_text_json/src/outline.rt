@@ -1,6 +1,6 @@
 //! `outline_json`: the headings of a text as JSON.
 ghost use Rattle.std.specs.Prelude.{◌≡◌, IfOk, IfErr, string_bytes};
-ghost use Rattle.markdown_text_json.specs.TextJson.{IsOutlineJsonOf};
+ghost use Rattle.markdown_text_json.specs.OutlineJson.{IsOutlineJsonOf};
 
 use crate::outline_lines::push_outline;
 use markdown_base::fault::Fault;

@@ -1,6 +1,6 @@
 //! `push_outline`: the entries of an outline as JSON, a line for each.
 ghost use Rattle.std.specs.Prelude.{OnOk, OnErr, map};
-ghost use Rattle.markdown_out.specs.ByteLists.{Appends, AppendsPart};
+ghost use Rattle.markdown_out.specs.StringAppends.{Appends, AppendsPart};
 ghost use Rattle.markdown_outline.specs.Outline.{entry_view};
 ghost use Rattle.markdown_text_json.specs.OutlineJson.{entry_line, entry_parts, outline_lines};
 

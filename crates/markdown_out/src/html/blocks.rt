@@ -1,7 +1,8 @@
 //! The Starts of block quotes, code blocks and lists.
 ghost use Rattle.std.specs.Prelude.{◌≡◌, OnOk, OnErr};
 ghost use Rattle.markdown_base.specs.Event.{code_block_view, block_quote, list};
-ghost use Rattle.markdown_out.specs.ByteLists.{Appends, AppendsPart, fresh_after_bytes, joined};
+ghost use Rattle.markdown_out.specs.ByteLists.{fresh_after_bytes, joined};
+ghost use Rattle.markdown_out.specs.StringAppends.{Appends, AppendsPart};
 ghost use Rattle.markdown_out.specs.TagHtml.{start_parts, quote_class};
 ghost use Rattle.markdown_out.specs.TagHtml.{language, code_block_parts, numbered_list_parts};
 

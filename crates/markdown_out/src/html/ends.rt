@@ -1,7 +1,8 @@
 //! The HTML of an End outside images.
 ghost use Rattle.std.specs.Prelude.{◌≡◌, [], ◌∷◌, None, OnOk, OnErr, codes};
 ghost use Rattle.markdown_base.specs.Event.{end as end_event};
-ghost use Rattle.markdown_out.specs.ByteLists.{Appends, AppendsPart, joined};
+ghost use Rattle.markdown_out.specs.ByteLists.{joined};
+ghost use Rattle.markdown_out.specs.StringAppends.{Appends, AppendsPart};
 ghost use Rattle.markdown_out.specs.TagHtml.{end_parts, level_digit};
 
 use super::Writer;

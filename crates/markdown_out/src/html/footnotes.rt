@@ -7,7 +7,8 @@ ghost use Rattle.markdown_base.specs.Event.{start as start_event, footnote_refer
 ghost use Rattle.markdown_base.specs.Event.{footnote_definition};
 ghost use Rattle.markdown_base.specs.declared.fault.Fault.TheVariants.{Memory};
 ghost use Rattle.markdown_out.specs.AltText.{alt_parts};
-ghost use Rattle.markdown_out.specs.ByteLists.{Appends, AppendsPart, joined};
+ghost use Rattle.markdown_out.specs.ByteLists.{joined};
+ghost use Rattle.markdown_out.specs.StringAppends.{Appends, AppendsPart};
 ghost use Rattle.markdown_out.specs.EventHtml.{outside_parts};
 ghost use Rattle.markdown_out.specs.TagHtml.{start_parts};
 ghost use Rattle.markdown_out.specs.LookBacks.{footnote_number};

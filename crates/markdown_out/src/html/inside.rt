@@ -3,7 +3,8 @@ ghost use Rattle.std.specs.Prelude.{◌≡◌, ◌≤◌, ◌+◌, ◌^◌, ◌�
 ghost use Rattle.markdown_base.specs.Event.{event_view, end as end_event};
 ghost use Rattle.markdown_base.specs.declared.fault.Fault.TheVariants.{Memory, Depth};
 ghost use Rattle.markdown_out.specs.AltText.{alt_parts};
-ghost use Rattle.markdown_out.specs.ByteLists.{Appends, AppendsPart, joined};
+ghost use Rattle.markdown_out.specs.ByteLists.{joined};
+ghost use Rattle.markdown_out.specs.StringAppends.{Appends, AppendsPart};
 ghost use Rattle.markdown_out.specs.Escapes.{attribute_escaped};
 ghost use Rattle.markdown_out.specs.EventHtml.{event_bytes};
 ghost use Rattle.markdown_out.specs.TagHtml.{image_end};

@@ -1,7 +1,8 @@
 //! The Start of a link, and the Start and the end of an image.
 ghost use Rattle.std.specs.Prelude.{◌≡◌, ◌++◌, OnOk, OnErr, codes};
 ghost use Rattle.std.specs.String.{string_bytes};
-ghost use Rattle.markdown_out.specs.ByteLists.{Appends, AppendsPart, fresh_after_bytes, joined};
+ghost use Rattle.markdown_out.specs.ByteLists.{fresh_after_bytes, joined};
+ghost use Rattle.markdown_out.specs.StringAppends.{Appends, AppendsPart};
 ghost use Rattle.markdown_out.specs.TagHtml.{link_scheme, link_parts, image_parts, image_end};
 
 use super::Piece;

@@ -1,7 +1,8 @@
 //! Pieces of HTML, which are written one after another.
 ghost use Rattle.std.specs.Prelude.{◌≡◌, ◌++◌, OnOk, OnErr, drop};
 ghost use Rattle.std.specs.String.{string_bytes};
-ghost use Rattle.markdown_out.specs.ByteLists.{Appends, AppendsPart, fresh_after_bytes};
+ghost use Rattle.markdown_out.specs.ByteLists.{fresh_after_bytes};
+ghost use Rattle.markdown_out.specs.StringAppends.{Appends, AppendsPart};
 ghost use Rattle.markdown_out.specs.Escapes.{text_escaped};
 ghost use Rattle.markdown_out.specs.TagHtml.{new_line};
 ghost use Rattle.markdown_out.specs.Writer.{spelled, piece_bytes};

@@ -1,7 +1,8 @@
 //! The HTML of a Start outside images.
 ghost use Rattle.std.specs.Prelude.{◌≡◌, ◌++◌, [], ◌∷◌, None, OnOk, OnErr};
 ghost use Rattle.markdown_base.specs.Event.{tag_view, start as start_event};
-ghost use Rattle.markdown_out.specs.ByteLists.{Appends, AppendsPart, joined};
+ghost use Rattle.markdown_out.specs.ByteLists.{joined};
+ghost use Rattle.markdown_out.specs.StringAppends.{Appends, AppendsPart};
 ghost use Rattle.markdown_out.specs.TagHtml.{image_parts, new_line, start_parts};
 
 use super::heading::put_heading;

@@ -2,7 +2,8 @@
 ghost use Rattle.std.specs.Prelude.{◌≡◌, ◌++◌, None, OnOk, OnErr};
 ghost use Rattle.std.specs.Option.{option_copied};
 ghost use Rattle.markdown_base.specs.Event.{start as start_event, table, table_cell};
-ghost use Rattle.markdown_out.specs.ByteLists.{Appends, AppendsPart, joined};
+ghost use Rattle.markdown_out.specs.ByteLists.{joined};
+ghost use Rattle.markdown_out.specs.StringAppends.{Appends, AppendsPart};
 ghost use Rattle.markdown_out.specs.TagHtml.{cell_style, start_parts};
 
 use super::pieces::put;

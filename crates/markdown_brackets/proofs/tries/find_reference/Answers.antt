@@ -2,7 +2,7 @@
 use Rattle.std.proofs.Common.{◌∙◌, refl, subst}
 use Rattle.std.specs.Option.{option_map}
 use Rattle.markdown_document.specs.ChainRest.{start_of}
-use Rattle.markdown_defs.specs.Callback.{question_of}
+use Rattle.markdown_defs.specs.CallbackViews.{question_of}
 use Rattle.markdown_brackets.specs.LookupView.{LooksUp, target_view}
 use Rattle.markdown_brackets.proofs.ComesToLemmas.{comes_to_reference, none_from}
 use Rattle.markdown_brackets.proofs.tries.find_reference.Goals as goal

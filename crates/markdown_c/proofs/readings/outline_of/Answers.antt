@@ -1,6 +1,6 @@
 -- The lines of the headings, of bytes that are text.
 use Rattle.std.proofs.lemmas.Result.{err_from_is_err_and}
-use Rattle.markdown_text_json.specs.TextJson.{IsOutlineJsonOf}
+use Rattle.markdown_text_json.specs.OutlineJson.{IsOutlineJsonOf}
 use Rattle.markdown_c.proofs.OutcomeLemmas.{lines_of_text, lines_refused}
 use Rattle.markdown_c.proofs.readings.outline_of.Goals as goal
 

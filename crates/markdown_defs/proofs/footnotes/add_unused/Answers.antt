@@ -3,7 +3,7 @@ use Rattle.std.proofs.Common.{◌∙◌, ap, cond, Some, encode_utf8_all}
 use Rattle.std.specs.BTreeMap.{get_by_text}
 use Rattle.std.proofs.lemmas.Map.Text.{btree_map_updates_text}
 use Rattle.markdown_defs.specs.Folding.{case_folding}
-use Rattle.markdown_defs.specs.Footnotes.{unused}
+use Rattle.markdown_defs.specs.FootnoteCounts.{unused}
 use Rattle.markdown_defs.proofs.FoldingLemmas.{encoded_eq}
 use Rattle.markdown_defs.proofs.footnotes.add_unused.Goals as goal
 

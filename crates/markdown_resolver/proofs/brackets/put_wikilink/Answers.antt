@@ -3,7 +3,7 @@ use Rattle.std.proofs.Common.{◌≡◌, refl, sym, subst}
 use Rattle.markdown_base.specs.BlockTree.{no_item}
 use Rattle.markdown_base.specs.declared.item.Item.{Item}
 use Rattle.markdown_document.specs.Tables.{tables_of}
-use Rattle.markdown_document.specs.Totals.{times_named}
+use Rattle.markdown_document.specs.NamedEntries.{times_named}
 use Rattle.markdown_resolver.specs.Rewritten.{CanPut}
 use Rattle.markdown_resolver.proofs.CloseFootnoteLemmas.{names_none}
 use Rattle.markdown_resolver.proofs.CloseWikilinkLemmas.{may_show, name_closed, named_over, opener_there, shown_closed, shows_over}

@@ -1,6 +1,6 @@
 -- The last of the nodes entered is the innermost.
 use Rattle.std.proofs.Common.{sym, ap, ◌∙◌}
-use Rattle.markdown_base.specs.Arena.{innermost}
+use Rattle.markdown_base.specs.ArenaChanges.{innermost}
 use Rattle.markdown_base.proofs.ArenaLemmas.{innermost-snoc}
 use Rattle.markdown_base.proofs.tree.Tree.parent.Goals as goal
 

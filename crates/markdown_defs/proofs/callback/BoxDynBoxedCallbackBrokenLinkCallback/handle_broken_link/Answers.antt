@@ -1,6 +1,6 @@
 -- The answer of the object in a box is the answer of the box.
 use Rattle.std.proofs.Common.{◌≡◌, refl, subst}
-use Rattle.markdown_defs.specs.Callback.{question_of, answer_of}
+use Rattle.markdown_defs.specs.CallbackViews.{question_of, answer_of}
 use Rattle.markdown_defs.proofs.callback.BoxDynBoxedCallbackBrokenLinkCallback.handle_broken_link.Goals as goal
 
 -- what a step left in a box, as a value of the box as it was before

@@ -3,7 +3,8 @@ use Rattle.std.proofs.Common.{◌≡◌, ◌∙◌, ap, Some, cond}
 use Rattle.std.specs.Str.{bytes_eq}
 use Rattle.std.specs.Option.{option_map}
 use Rattle.markdown_defs.specs.Folding.{case_folding, folded_text}
-use Rattle.markdown_defs.specs.Footnotes.{footnote_at, used_once_more}
+use Rattle.markdown_defs.specs.Footnotes.{footnote_at}
+use Rattle.markdown_defs.specs.FootnoteCounts.{used_once_more}
 use Rattle.markdown_defs.specs.declared.footnotes.FootnoteDef.{FootnoteDef}
 use Rattle.markdown_defs.proofs.FoldingLemmas.{encoded_eq}
 use Rattle.markdown_defs.proofs.footnotes.FootnoteDefs.count_use.Goals as goal

@@ -6,7 +6,7 @@ use Rattle.std.specs.List.{list_any}
 use Rattle.std.specs.Str.{bytes_eq}
 use Rattle.markdown_base.specs.CowText.{text_of}
 use Rattle.markdown_defs.specs.Folding.{case_folding}
-use Rattle.markdown_defs.specs.Footnotes.{unused}
+use Rattle.markdown_defs.specs.FootnoteCounts.{unused}
 use Rattle.markdown_defs.proofs.footnotes.FootnoteDefs.new.Given as goal
 
 abbrev pub invariant-loop-name : goal.invariant-loop-name

@@ -1,6 +1,6 @@
 -- A parser of a block result is before its first block, and all of its reading is left.
 use Rattle.std.proofs.Common.{ℕ, List, length, max, refl, ap, ◌∙◌}
-use Rattle.markdown_defs.specs.Allocations.{HoldsParts}
+use Rattle.markdown_defs.specs.AllocationCalls.{HoldsParts}
 use Rattle.markdown_inline.proofs.StartLemmas.{starts_stands, starts_left, tables_held}
 use Rattle.markdown_inline.proofs.walk.Parser.from_blocks.Goals as goal
 

@@ -2,7 +2,7 @@
 use Rattle.std.proofs.Common.{Some, ap, ◌∙◌, refl, subst}
 use Rattle.std.specs.Prelude.{is_some}
 use Rattle.std.specs.Str.{IsUtf8}
-use Rattle.markdown_document.specs.Above.{above_cursor}
+use Rattle.markdown_document.specs.Stages.{above_cursor}
 use Rattle.markdown_resolver.specs.ReadsBracket.{setting_by, stage_by}
 use Rattle.markdown_resolver.proofs.CloseBracketLemmas.{may_put, reads_closed, stops_decided}
 use Rattle.markdown_resolver.proofs.OpenerReadLemmas.{if_err}

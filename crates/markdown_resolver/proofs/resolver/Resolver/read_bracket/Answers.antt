@@ -1,6 +1,6 @@
 -- An opener waits, and a `]` is closed.
 use Rattle.std.proofs.Common.{Some, refl, ap, ◌∙◌}
-use Rattle.markdown_document.specs.Above.{above_cursor}
+use Rattle.markdown_document.specs.Stages.{above_cursor}
 use Rattle.markdown_document.specs.Tables.{tables_of}
 use Rattle.markdown_resolver.specs.ReadsBracket.{setting_by, stage_by}
 use Rattle.markdown_resolver.proofs.OpenerReadLemmas.{if_err, reads_opener, ready_here}

@@ -4,7 +4,7 @@ use Rattle.markdown_base.specs.BlockTree.{item_at, no_item}
 use Rattle.markdown_base.specs.declared.item.Item.{Item}
 use Rattle.markdown_base.specs.declared.item.ItemBody.TheVariants as body
 use Rattle.markdown_document.specs.Origins.{origin_at}
-use Rattle.markdown_document.specs.Above.{above_cursor}
+use Rattle.markdown_document.specs.Stages.{above_cursor}
 use Rattle.markdown_document.specs.Setting.{Setting, setting_of, Rules, rules_from}
 use Rattle.markdown_document.specs.Tables.{tables_of, text_at}
 use Rattle.markdown_spans.specs.Finds.{is_escaped, text_between, origin_between}

@@ -15,7 +15,7 @@ use Rattle.markdown_resolver.proofs.resolver.Resolver.read_markup.Goals.{then-it
 use Rattle.markdown_resolver.proofs.resolver.Resolver.read_markup.Goals.{then-item-place-via-else-item-place+then-not-starts_at}
 use Rattle.std.specs.Prelude.{Result, Ok}
 use Rattle.markdown_document.specs.Setting.{Rules, setting_of}
-use Rattle.markdown_document.specs.Above.{above_cursor}
+use Rattle.markdown_document.specs.Stages.{above_cursor}
 use Rattle.markdown_base.specs.EnabledOptions.{gfm_footnotes_on}
 use Rattle.markdown_base.specs.declared.fault.Fault.{Fault}
 use Rattle.markdown_spans.specs.SpanClosers.{has_failed}

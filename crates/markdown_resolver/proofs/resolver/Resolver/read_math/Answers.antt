@@ -3,7 +3,7 @@ use Rattle.std.proofs.Common.{◌≡◌, Some, None, ap, ◌∙◌, subst, ℕ, 
 use Rattle.markdown_base.specs.BlockTree.{item_at, no_item}
 use Rattle.markdown_base.specs.declared.item.Item.{Item}
 use Rattle.markdown_document.specs.Origins.{origin_at}
-use Rattle.markdown_document.specs.Above.{above_cursor}
+use Rattle.markdown_document.specs.Stages.{above_cursor}
 use Rattle.markdown_document.specs.Setting.{Setting, setting_of, Rules, rules_from}
 use Rattle.markdown_document.specs.Tables.{tables_of, text_at}
 use Rattle.markdown_spans.specs.Finds.{text_between, origin_between}

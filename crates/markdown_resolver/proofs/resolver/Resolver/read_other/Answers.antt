@@ -4,7 +4,7 @@ use Rattle.std.specs.Prelude.{Result, Ok}
 use Rattle.markdown_base.specs.BlockTree.{no_item}
 use Rattle.markdown_base.specs.declared.fault.Fault.{Fault}
 use Rattle.markdown_base.specs.declared.item.Item.{Item}
-use Rattle.markdown_document.specs.Above.{above_cursor}
+use Rattle.markdown_document.specs.Stages.{above_cursor}
 use Rattle.markdown_document.specs.Tables.{tables_of}
 use Rattle.markdown_spans.specs.Closers.{is_dollar}
 use Rattle.markdown_spans.specs.SpanClosers.{has_failed}

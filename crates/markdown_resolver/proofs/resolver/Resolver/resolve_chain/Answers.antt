@@ -3,11 +3,10 @@ use Rattle.std.proofs.Common.{◌∙◌, ap, refl, subst, arith}
 use Rattle.std.specs.Prelude.{is_some, Some, Result, Ok, Err, IfErr}
 use Rattle.markdown_base.specs.Arena.{Arena}
 use Rattle.markdown_base.specs.declared.item.Item.{Item}
-use Rattle.markdown_document.specs.Above.{above_cursor}
 use Rattle.markdown_document.specs.Setting.{rules_from, setting_of}
 use Rattle.markdown_document.specs.Counts.{RisesAtLeast}
 use Rattle.markdown_document.specs.Places.{trees_from}
-use Rattle.markdown_document.specs.Stages.{chain_at, items_from, stage}
+use Rattle.markdown_document.specs.Stages.{chain_at, items_from, stage, above_cursor}
 use Rattle.markdown_document.specs.Tables.{tables_of}
 use Rattle.markdown_delims.specs.PairingFinds.{finds_in}
 use Rattle.markdown_resolver.specs.declared.resolver.Resolver.{Resolver}

@@ -1,5 +1,6 @@
 use Rattle.markdown_scan.proofs.LabelTextLemmas.{borrowed_if_same}
-use Rattle.markdown_base.specs.CowText.{text_of, IsBorrowed}
+use Rattle.markdown_base.specs.CowText.{text_of}
+use Rattle.markdown_base.specs.StoredTexts.{IsBorrowed}
 use Rattle.markdown_scan.proofs.label_text.LabelText.finish.Goals as goal
 
 pub returns-clause-borrowed : goal.returns-clause-borrowed

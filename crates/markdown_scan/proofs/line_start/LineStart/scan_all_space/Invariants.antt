@@ -1,5 +1,5 @@
 use Rattle.std.proofs.Common.{◌≡◌, length}
-use Rattle.markdown_scan.specs.LineStart.{past_space}
+use Rattle.markdown_scan.specs.PastSpace.{past_space}
 use Rattle.markdown_scan.specs.LineView.{line_left}
 use Rattle.markdown_scan.proofs.line_start.LineStart.scan_all_space.Given as goal
 

@@ -2,8 +2,7 @@ use Rattle.std.proofs.Common.{List, ℕ, sym, ◌∙◌, ap, map}
 use Rattle.markdown_base.specs.BlockTree.{item_at, no_item}
 use Rattle.markdown_base.specs.declared.item.Item.{Item}
 use Rattle.markdown_base.specs.Item.{is_table_cell}
-use Rattle.markdown_spans.specs.ContainerPrefix.{in_table}
-use Rattle.markdown_spans.specs.PrefixView.{stands_in_table}
+use Rattle.markdown_spans.specs.PrefixView.{stands_in_table, in_table}
 use Rattle.markdown_spans.proofs.ContainerPrefixLemmas.{in_table_last}
 use Rattle.markdown_spans.proofs.prefixes.ContainerPrefix.is_in_table.Goals as goal
 
