@@ -1,16 +1,13 @@
--- The HTML of a list of events: the bytes of each event, which depend on the events before it, one
--- after another.
-use Rattle.std.specs.Prelude.{ℕ, zero, suc, Bool, true, false, List, [], ◌∷◌, ◌++◌, codes}
-use Rattle.std.specs.Prelude.{if◌then◌else◌, reverse, Option, Some, None}
-use Rattle.markdown_base.specs.Event.{EventView, start, end, text, code, inline_math, display_math}
-use Rattle.markdown_base.specs.Event.{html, inline_html, footnote_reference, soft_break, hard_break}
-use Rattle.markdown_base.specs.Event.{rule, task_list_marker}
+-- The HTML of a list of events: the bytes of each event, which depend on the events before it, one after another.
+use Rattle.std.specs.Prelude.{ℕ, zero, suc, Bool, true, false, List, [], ◌∷◌, ◌++◌, codes, if◌then◌else◌, reverse}
+use Rattle.std.specs.Prelude.{Option, Some, None}
+use Rattle.markdown_base.specs.Event.{EventView, start, end, text, code, inline_math, display_math, html, inline_html}
+use Rattle.markdown_base.specs.Event.{footnote_reference, soft_break, hard_break, rule, task_list_marker}
 use Rattle.markdown_out.specs.AltText.{alt_parts}
 use Rattle.markdown_out.specs.ByteLists.{joined, fresh_after_bytes}
 use Rattle.markdown_out.specs.Escapes.{text_escaped, attribute_escaped}
-use Rattle.markdown_out.specs.LookBacks.{Past, OpenImageView, footnote_number, image_before}
-use Rattle.markdown_out.specs.LookBacks.{metadata_before, head_before, cell_column_before}
-use Rattle.markdown_out.specs.LookBacks.{alignments_before, names_before}
+use Rattle.markdown_out.specs.LookBacks.{Past, OpenImageView, footnote_number, image_before, names_before, told_by}
+use Rattle.markdown_out.specs.LookBacks.{metadata_after, head_after, cell_column_after, alignments_after}
 use Rattle.markdown_out.specs.TagHtml.{new_line, start_parts, end_parts, image_end}
 
 -- a footnote reference, from its name and its number
@@ -35,13 +32,11 @@ outside_parts past (footnote_reference name) = reference_parts name (footnote_nu
 outside_parts past soft_break = codes "\n" ∷ []
 outside_parts past hard_break = codes "<br />\n" ∷ []
 outside_parts past rule = new_line past.fresh ∷ codes "<hr />\n" ∷ []
-outside_parts past (task_list_marker true) =
-    codes "<input disabled=\"\" type=\"checkbox\" checked=\"\"/>\n" ∷ []
-outside_parts past (task_list_marker false) =
-    codes "<input disabled=\"\" type=\"checkbox\"/>\n" ∷ []
+outside_parts past (task_list_marker true) = codes "<input disabled=\"\" type=\"checkbox\" checked=\"\"/>\n" ∷ []
+outside_parts past (task_list_marker false) = codes "<input disabled=\"\" type=\"checkbox\"/>\n" ∷ []
 
--- what an event writes inside an image: its part of the alt text, or what closes the image where the
--- event is the End that matches the image's Start
+-- what an event writes inside an image: its part of the alt text, or what closes the image where the event is the End
+-- that matches the image's Start
 abbrev pub inside_bytes : Past → ℕ → List ℕ → EventView → List ℕ
 inside_bytes past starts title (start tag) = []
 inside_bytes past zero title (end tag) = image_end title
@@ -62,36 +57,32 @@ abbrev pub fresh_after_empty : Option OpenImageView → Past → Bool
 fresh_after_empty None past = if past.in_metadata then past.fresh else false
 fresh_after_empty (Some i) past = past.fresh
 
--- whether the line is fresh after an event: where the last byte written is a newline, but not after an
--- empty Text outside metadata and images
+-- whether the line is fresh after an event: where the last byte written is a newline, but not after an empty Text
+-- outside metadata and images
 abbrev pub fresh_after : Past → EventView → Bool
 fresh_after past (text []) = fresh_after_empty past.open_image past
 fresh_after past e = fresh_after_bytes past.fresh (event_bytes past e)
 
--- whether the line is fresh after these events
-abbrev pub fresh_before : List EventView → Bool
-fresh_before [] = true
-fresh_before (e ∷ before) = fresh_after (record {
-  fresh = fresh_before before;
-  in_metadata = metadata_before before;
-  in_head = head_before before;
-  column = cell_column_before before;
-  alignments = alignments_before before;
-  names = names_before before;
-  open_image = image_before before;
-}) e
-
--- what the HTML of an event after these events depends on
-abbrev pub past_of : List EventView → Past
-past_of before = record {
-  fresh = fresh_before before;
-  in_metadata = metadata_before before;
-  in_head = head_before before;
-  column = cell_column_before before;
-  alignments = alignments_before before;
+-- what the HTML of an event after these events depends on, where the line is fresh or not
+abbrev pub past_with : (fresh : Bool) → List EventView → Past
+past_with fresh before = record {
+  fresh = fresh;
+  in_metadata = told_by metadata_after false before;
+  in_head = told_by head_after true before;
+  column = told_by cell_column_after 0 before;
+  alignments = told_by alignments_after [] before;
   names = names_before before;
   open_image = image_before before;
 }
+
+-- whether the line is fresh after these events
+abbrev pub fresh_before : List EventView → Bool
+fresh_before [] = true
+fresh_before (e ∷ before) = fresh_after (past_with (fresh_before before) before) e
+
+-- what the HTML of an event after these events depends on
+abbrev pub past_of : List EventView → Past
+past_of before = past_with (fresh_before before) before
 
 -- the bytes of these events
 abbrev pub bytes_before : List EventView → List ℕ

@@ -1,14 +1,13 @@
--- What the HTML of an event depends on in the events before it. Each look-back goes through these, of
--- which the latest is first. Events inside an image count only for the numbers of footnotes, and for
--- where the image ends. Whether a line is fresh depends on the bytes written: `EventHtml` defines it.
-use Rattle.std.specs.Prelude.{◌≤◌, ℕ, zero, suc, ◌+◌, ◌^◌, Bool, true, false, List, [], ◌∷◌}
-use Rattle.std.specs.Prelude.{◌++◌, if◌then◌else◌, reverse, Option, Some, None, nat_eq, IsSomeAnd}
+-- What the HTML of an event depends on in the events before it. Each look-back goes through these, of which the latest
+-- is first. Events inside an image count only for the numbers of footnotes, and for where the image ends. Whether a
+-- line is fresh depends on the bytes written: `EventHtml` defines it.
+use Rattle.std.specs.Prelude.{◌≤◌, ℕ, zero, suc, ◌+◌, ◌^◌, Bool, true, false, List, [], ◌∷◌, ◌++◌, if◌then◌else◌}
+use Rattle.std.specs.Prelude.{reverse, Option, Some, None, nat_eq, IsSomeAnd}
 use Rattle.std.specs.List.{list_any, position_or_len}
 use Rattle.std.specs.Fmt.{decimal}
 use Rattle.std.specs.Cmp.Lexicographic.{pointwise}
-use Rattle.markdown_base.specs.Event.{EventView, start, end, footnote_reference}
-use Rattle.markdown_base.specs.Event.{image, table, table_head, table_row, footnote_definition}
-use Rattle.markdown_base.specs.Event.{metadata_block}
+use Rattle.markdown_base.specs.Event.{EventView, start, end, footnote_reference, image, table, table_head, table_row}
+use Rattle.markdown_base.specs.Event.{footnote_definition, metadata_block}
 use Rattle.markdown_base.specs.declared.tag.Alignment.{Alignment}
 use Rattle.markdown_base.specs.declared.tag.TagEnd.TheVariants as closes
 
@@ -17,17 +16,14 @@ pub record OpenImageView : Type 0 where
   pub starts : ℕ
   pub title : List ℕ
 
--- an End inside an image ends the last open Start inside it, or, where there is none, the image
-abbrev pub image_after_end : ℕ → List ℕ → Option OpenImageView
-image_after_end zero title = None
-image_after_end (suc starts) title = Some (record { starts = starts; title = title })
-
--- the image that is open after an event
+-- the image that is open after an event: an End inside an image ends the last open Start inside it, or, where there is
+-- none, the image
 abbrev pub image_after : Option OpenImageView → EventView → Option OpenImageView
 image_after None (start (image i)) = Some (record { starts = 0; title = i.title })
 image_after None e = None
 image_after (Some i) (start tag) = Some (record { starts = suc i.starts; title = i.title })
-image_after (Some i) (end tag) = image_after_end i.starts i.title
+image_after (Some i) (end tag) =
+    elim i.starts [ zero ↦ None | suc starts ↦ Some (record { starts = starts; title = i.title }) ]
 image_after (Some i) e = Some i
 
 -- the image that is open after these events
@@ -36,10 +32,14 @@ image_before [] = None
 image_before (e ∷ before) = image_after (image_before before) e
 
 -- an event inside an image changes nothing
-abbrev pub unless_inside : {A : Type 0}
-    → (A → EventView → A) → Option OpenImageView → A → EventView → A
+abbrev pub unless_inside : {A : Type 0} → (A → EventView → A) → Option OpenImageView → A → EventView → A
 unless_inside after None told e = after told e
 unless_inside after (Some i) told e = told
+
+-- what these events tell, where each that is not inside an image changes what those before it tell
+abbrev pub told_by : {A : Type 0} → (A → EventView → A) → (at_first : A) → List EventView → A
+told_by after at_first [] = at_first
+told_by after at_first (e ∷ before) = unless_inside after (image_before before) (told_by after at_first before) e
 
 -- whether a metadata block is open after an event
 abbrev pub metadata_after : Bool → EventView → Bool
@@ -47,22 +47,11 @@ metadata_after inside (start (metadata_block kind)) = true
 metadata_after inside (end (closes.MetadataBlock kind)) = false
 metadata_after inside e = inside
 
--- whether a metadata block is open after these events
-abbrev pub metadata_before : List EventView → Bool
-metadata_before [] = false
-metadata_before (e ∷ before) =
-    unless_inside metadata_after (image_before before) (metadata_before before) e
-
 -- whether table cells belong to a head after an event
 abbrev pub head_after : Bool → EventView → Bool
 head_after head (start table_head) = true
 head_after head (end closes.TableHead) = false
 head_after head e = head
-
--- whether the last Start of a table's head came after the last End of one, or neither has come
-abbrev pub head_before : List EventView → Bool
-head_before [] = true
-head_before (e ∷ before) = unless_inside head_after (image_before before) (head_before before) e
 
 -- the column of the next cell after an event
 abbrev pub cell_column_after : ℕ → EventView → ℕ
@@ -71,22 +60,10 @@ cell_column_after column (start table_row) = 0
 cell_column_after column (end closes.TableCell) = column + 1
 cell_column_after column e = column
 
--- the number of cells that have ended since the last Start of a head or a row
-abbrev pub cell_column_before : List EventView → ℕ
-cell_column_before [] = 0
-cell_column_before (e ∷ before) =
-    unless_inside cell_column_after (image_before before) (cell_column_before before) e
-
 -- the alignments of the last table after an event
 abbrev pub alignments_after : List Alignment → EventView → List Alignment
 alignments_after last (start (table alignments)) = alignments
 alignments_after last e = last
-
--- the alignments of the last table among these events
-abbrev pub alignments_before : List EventView → List Alignment
-alignments_before [] = []
-alignments_before (e ∷ before) =
-    unless_inside alignments_after (image_before before) (alignments_before before) e
 
 -- two names are equal
 abbrev pub are_same_names : List ℕ → List ℕ → Bool
@@ -98,8 +75,7 @@ place name names = position_or_len (are_same_names name) names
 
 -- the names, followed by this one where it is new
 abbrev pub with_name : List ℕ → List (List ℕ) → List (List ℕ)
-with_name name names =
-    if list_any (are_same_names name) names then names else names ++ name ∷ []
+with_name name names = if list_any (are_same_names name) names then names else names ++ name ∷ []
 
 -- the names after an event, which may be inside an image
 abbrev pub names_after : Option OpenImageView → List (List ℕ) → EventView → List (List ℕ)
@@ -118,9 +94,9 @@ pub record Past : Type 0 where
   pub fresh : Bool
   -- whether a metadata block is open
   pub in_metadata : Bool
-  -- whether table cells belong to a head
+  -- whether table cells belong to a head: its Start came after the last End of one, or neither has come
   pub in_head : Bool
-  -- the number of cells of the row that have ended
+  -- the number of cells that have ended since the last Start of a head or a row
   pub column : ℕ
   -- the alignments of the last table's columns
   pub alignments : List Alignment

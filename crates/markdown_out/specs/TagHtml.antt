@@ -1,17 +1,13 @@
--- The HTML of tags: what the Start and the End of a block or of inline markup write outside images, in
--- parts, which `joined` puts together.
-use Rattle.std.specs.Prelude.{ℕ, Bool, true, false, List, [], ◌∷◌, ◌++◌, ◌==◌, codes}
-use Rattle.std.specs.Prelude.{if◌then◌else◌, slice_get, Option, Some, None}
+-- The HTML of tags: what the Start and the End of a block or of inline markup write outside images, in parts, which
+-- `joined` puts together.
+use Rattle.std.specs.Prelude.{ℕ, Bool, true, false, List, [], ◌∷◌, ◌++◌, ◌==◌, codes, if◌then◌else◌, slice_get}
+use Rattle.std.specs.Prelude.{Option, Some, None}
 use Rattle.std.specs.Option.{option_map_or}
 use Rattle.std.specs.List.{flat_map, before_first}
 use Rattle.std.specs.Fmt.{decimal}
 use Rattle.markdown_base.specs.Bytes.{space}
-use Rattle.markdown_base.specs.Event.{TagView, HeadingView, paragraph, heading, block_quote}
-use Rattle.markdown_base.specs.Event.{indented_code, fenced_code, html_block, list, list_item}
-use Rattle.markdown_base.specs.Event.{footnote_definition, definition_list, definition_list_title}
-use Rattle.markdown_base.specs.Event.{definition_list_definition, table, table_head, table_row}
-use Rattle.markdown_base.specs.Event.{table_cell, emphasis, strong, strikethrough, superscript}
-use Rattle.markdown_base.specs.Event.{subscript, link, image, metadata_block}
+use Rattle.markdown_base.specs.Event as event
+use Rattle.markdown_base.specs.Event.{TagView, HeadingView}
 use Rattle.markdown_base.specs.declared.tag.Alignment.{Alignment}
 use Rattle.markdown_base.specs.declared.tag.Alignment.TheVariants as align
 use Rattle.markdown_base.specs.declared.tag.BlockQuoteKind.{BlockQuoteKind}
@@ -39,14 +35,10 @@ level_digit level.H4 = codes "4"
 level_digit level.H5 = codes "5"
 level_digit level.H6 = codes "6"
 
--- an attribute in a tag, from the space before it to the closing quote
-abbrev pub attribute_html : List ℕ → List ℕ → List ℕ
-attribute_html lead value = joined (lead ∷ attribute_escaped value ∷ codes "\"" ∷ [])
-
 -- the `id` attribute of a heading
 abbrev pub id_attribute : Option (List ℕ) → List ℕ
 id_attribute None = []
-id_attribute (Some id) = attribute_html (codes " id=\"") id
+id_attribute (Some id) = joined (codes " id=\"" ∷ attribute_escaped id ∷ codes "\"" ∷ [])
 
 -- a class after another
 abbrev pub further_class : List ℕ → List ℕ
@@ -56,8 +48,7 @@ further_class class = codes " " ++ attribute_escaped class
 abbrev pub class_attribute : List (List ℕ) → List ℕ
 class_attribute [] = []
 class_attribute (first ∷ others) =
-    joined (codes " class=\"" ∷ attribute_escaped first
-    ∷ flat_map further_class others ∷ codes "\"" ∷ [])
+    joined (codes " class=\"" ∷ attribute_escaped first ∷ flat_map further_class others ∷ codes "\"" ∷ [])
 
 -- another attribute of a heading; without a value, its value is empty
 abbrev pub other_attribute : List ℕ × Option (List ℕ) → List ℕ
@@ -90,15 +81,7 @@ code_block_parts fresh (b ∷ name) = new_line fresh ∷ codes "<pre><code class
 
 -- the Start of an ordered list whose first number is not 1
 abbrev pub numbered_list_parts : Bool → List ℕ → List (List ℕ)
-numbered_list_parts fresh number =
-    new_line fresh ∷ codes "<ol start=\"" ∷ number ∷ codes "\">\n" ∷ []
-
--- a list's Start, from its first number, which only an ordered list has
-abbrev pub list_parts : Bool → Option ℕ → List (List ℕ)
-list_parts fresh None = new_line fresh ∷ codes "<ul>\n" ∷ []
-list_parts fresh (Some first) =
-    if first == 1 then new_line fresh ∷ codes "<ol>\n" ∷ []
-    else numbered_list_parts fresh (decimal first)
+numbered_list_parts fresh number = new_line fresh ∷ codes "<ol start=\"" ∷ number ∷ codes "\">\n" ∷ []
 
 -- the alignment of a cell, and the end of its tag
 abbrev pub cell_style : Option Alignment → List ℕ
@@ -126,8 +109,7 @@ link_parts kind destination title =
 
 -- an image's Start, up to its alt text
 abbrev pub image_parts : List ℕ → List (List ℕ)
-image_parts destination =
-    codes "<img src=\"" ∷ destination_escaped destination ∷ codes "\" alt=\"" ∷ []
+image_parts destination = codes "<img src=\"" ∷ destination_escaped destination ∷ codes "\" alt=\"" ∷ []
 
 -- what closes an image, from the quote after its alt text on
 abbrev pub image_end : List ℕ → List ℕ
@@ -141,34 +123,34 @@ definition_parts fresh name number =
 
 -- what a Start writes outside images
 abbrev pub start_parts : Past → TagView → List (List ℕ)
-start_parts past paragraph = new_line past.fresh ∷ codes "<p>" ∷ []
-start_parts past (heading h) = heading_parts past.fresh h
-start_parts past (block_quote kind) =
+start_parts past event.paragraph = new_line past.fresh ∷ codes "<p>" ∷ []
+start_parts past (event.heading h) = heading_parts past.fresh h
+start_parts past (event.block_quote kind) =
     new_line past.fresh ∷ codes "<blockquote" ∷ quote_class kind ∷ codes ">\n" ∷ []
-start_parts past indented_code = code_block_parts past.fresh []
-start_parts past (fenced_code info) = code_block_parts past.fresh (language info)
-start_parts past html_block = []
-start_parts past (list first) = list_parts past.fresh first
-start_parts past list_item = new_line past.fresh ∷ codes "<li>" ∷ []
-start_parts past (footnote_definition name) =
-    definition_parts past.fresh name (footnote_number past name)
-start_parts past definition_list = new_line past.fresh ∷ codes "<dl>\n" ∷ []
-start_parts past definition_list_title = new_line past.fresh ∷ codes "<dt>" ∷ []
-start_parts past definition_list_definition = new_line past.fresh ∷ codes "<dd>" ∷ []
-start_parts past (table alignments) = codes "<table>" ∷ []
-start_parts past table_head = codes "<thead><tr>" ∷ []
-start_parts past table_row = codes "<tr>" ∷ []
-start_parts past table_cell =
-    (if past.in_head then codes "<th" else codes "<td")
-    ∷ cell_style (slice_get past.alignments past.column) ∷ []
-start_parts past emphasis = codes "<em>" ∷ []
-start_parts past strong = codes "<strong>" ∷ []
-start_parts past strikethrough = codes "<del>" ∷ []
-start_parts past superscript = codes "<sup>" ∷ []
-start_parts past subscript = codes "<sub>" ∷ []
-start_parts past (link l) = link_parts l.kind l.destination l.title
-start_parts past (image i) = image_parts i.destination
-start_parts past (metadata_block kind) = []
+start_parts past event.indented_code = code_block_parts past.fresh []
+start_parts past (event.fenced_code info) = code_block_parts past.fresh (language info)
+start_parts past event.html_block = []
+start_parts past (event.list None) = new_line past.fresh ∷ codes "<ul>\n" ∷ []
+start_parts past (event.list (Some first)) =
+    if first == 1 then new_line past.fresh ∷ codes "<ol>\n" ∷ [] else numbered_list_parts past.fresh (decimal first)
+start_parts past event.list_item = new_line past.fresh ∷ codes "<li>" ∷ []
+start_parts past (event.footnote_definition name) = definition_parts past.fresh name (footnote_number past name)
+start_parts past event.definition_list = new_line past.fresh ∷ codes "<dl>\n" ∷ []
+start_parts past event.definition_list_title = new_line past.fresh ∷ codes "<dt>" ∷ []
+start_parts past event.definition_list_definition = new_line past.fresh ∷ codes "<dd>" ∷ []
+start_parts past (event.table alignments) = codes "<table>" ∷ []
+start_parts past event.table_head = codes "<thead><tr>" ∷ []
+start_parts past event.table_row = codes "<tr>" ∷ []
+start_parts past event.table_cell =
+    (if past.in_head then codes "<th" else codes "<td") ∷ cell_style (slice_get past.alignments past.column) ∷ []
+start_parts past event.emphasis = codes "<em>" ∷ []
+start_parts past event.strong = codes "<strong>" ∷ []
+start_parts past event.strikethrough = codes "<del>" ∷ []
+start_parts past event.superscript = codes "<sup>" ∷ []
+start_parts past event.subscript = codes "<sub>" ∷ []
+start_parts past (event.link l) = link_parts l.kind l.destination l.title
+start_parts past (event.image i) = image_parts i.destination
+start_parts past (event.metadata_block kind) = []
 
 -- what an End writes outside images
 abbrev pub end_parts : Past → TagEnd → List (List ℕ)
