@@ -31,7 +31,7 @@ use Rattle.markdown_document.specs.NamedEntries.{Named, some_text, some_link, so
 use Rattle.markdown_document.specs.NamedEntries.{size_for, times_named}
 use Rattle.markdown_document.specs.Totals.{same}
 use Rattle.markdown_spans.specs.Closers.{closing_count, code_close, is_code_of}
-use Rattle.markdown_spans.specs.Finds.{code_found, find_by, is_escaped, text_between, origin_between}
+use Rattle.markdown_spans.specs.Finds.{code_found, find_by, is_escaped}
 use Rattle.markdown_spans.specs.SpanClosers.{ClosesCode, item_in}
 use Rattle.markdown_spans.specs.declared.span_text.SpanKind.TheVariants.{Code}
 use Rattle.markdown_defs.specs.Allocations.{Allocated, LinkParts}
@@ -40,7 +40,7 @@ use Rattle.markdown_spans.proofs.SliceLemmas.{sliced_wider}
 use Rattle.markdown_resolver.specs.Chains.{CanResolve}
 use Rattle.markdown_resolver.specs.PutCode.{CanPutCode, CanPutSpan, code_standing}
 use Rattle.markdown_resolver.specs.Rewritten.{IsFoundAt, first_past, settled}
-use Rattle.markdown_resolver.specs.StoredText.{CanCut, StoresText}
+use Rattle.markdown_resolver.specs.StoredText.{CanCut, StoresText, text_between, origin_between}
 use Rattle.markdown_resolver.proofs.FollowersLemmas.{InOrder, each_root, followers, nothing_around, opens_chain, order_around}
 use Rattle.markdown_resolver.proofs.ReadsItemLemmas.{ReadsAs, opener_shape, opener_unquiet, read_opener}
 use Rattle.markdown_resolver.proofs.SpanFindLemmas.{StandsAmong, code_close_among, code_close_shown, label_alike, number_alike}

@@ -30,7 +30,7 @@ use Rattle.markdown_spans.specs.Closers.{Dollar, MathClose, can_close, can_open,
 use Rattle.markdown_spans.specs.Closers.{display_close, dollar_next, first_dollar, inline_close, is_dollar}
 use Rattle.markdown_spans.specs.Closers.{is_dollar_of, math_close, math_close_from}
 use Rattle.markdown_spans.specs.CloserSearches.{searched_for_math}
-use Rattle.markdown_spans.specs.Finds.{find_by, math_found, math_text_start, text_between, origin_between}
+use Rattle.markdown_spans.specs.Finds.{find_by, math_found, math_text_start}
 use Rattle.markdown_spans.specs.MathOpening.{dollar_at}
 use Rattle.markdown_spans.specs.SpanClosers.{ClosesMath, found_math, item_in}
 use Rattle.markdown_spans.specs.declared.span_closers.FoundMath.{FoundMath}
@@ -38,7 +38,7 @@ use Rattle.markdown_spans.specs.declared.span_text.SpanKind.TheVariants.{Math}
 use Rattle.markdown_spans.proofs.SliceLemmas.{sliced_wider}
 use Rattle.markdown_resolver.specs.Chains.{CanResolve}
 use Rattle.markdown_resolver.specs.Rewritten.{CanPut, IsFoundAt, one_item, settled}
-use Rattle.markdown_resolver.specs.StoredText.{CanCut, StoresText}
+use Rattle.markdown_resolver.specs.StoredText.{CanCut, StoresText, text_between, origin_between}
 use Rattle.markdown_resolver.proofs.FollowersLemmas.{InOrder, OpenedChain, each_root, followers, opens_chain, order_around}
 use Rattle.markdown_resolver.proofs.CodeSpanLemmas.{found_at, same_below}
 use Rattle.markdown_resolver.proofs.ReadsItemLemmas.{ReadsAs, opener_shape, opener_unquiet, read_opener}

@@ -15,12 +15,12 @@ ghost use Rattle.markdown_spans.specs.ChainInArena.{HasChain};
 ghost use Rattle.markdown_spans.specs.Closers.{is_dollar};
 ghost use Rattle.markdown_spans.specs.CodeText.{span_origin};
 ghost use Rattle.markdown_base.specs.EnabledOptions.{gfm_footnotes_on};
-ghost use Rattle.markdown_spans.specs.Finds.{is_escaped, text_between};
+ghost use Rattle.markdown_spans.specs.Finds.{is_escaped};
 ghost use Rattle.markdown_spans.specs.MathOpening.{dollar_at};
 ghost use Rattle.markdown_resolver.specs.ChainPlace.{IsPlaceOf};
 ghost use Rattle.markdown_resolver.specs.PutCode.{CanPutCode, code_standing};
 ghost use Rattle.markdown_resolver.specs.Rewritten.{Puts};
-ghost use Rattle.markdown_resolver.specs.StoredText.{CanCut, StoresText};
+ghost use Rattle.markdown_resolver.specs.StoredText.{CanCut, StoresText, text_between};
 
 use crate::found::{put_found, put_pair, settle};
 use crate::resolver::Resolver;

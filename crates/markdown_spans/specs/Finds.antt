@@ -26,15 +26,6 @@ use Rattle.markdown_spans.specs.declared.span_text.SpanKind.TheVariants.{Code, M
 abbrev pub prefix_below : Setting → Above → List ℕ → ℕ
 prefix_below s above bytes = prefix_length (gfm_footnotes_on s.rules.options) above.bodies bytes
 
--- the text of a span between two byte offsets
-abbrev pub text_between : Setting → Above → SpanKind → (start end : ℕ) → List ℕ
-text_between s above kind start end =
-    span_text kind above.in_table (prefix_below s above) (slice_range s.text start end)
-
--- the origin of that text
-abbrev pub origin_between : Setting → Above → (start end : ℕ) → Origin
-origin_between s above start end = span_origin above.in_table (slice_range s.text start end)
-
 -- the text of a span, and its origin
 pub record SpanText : Type 0 where
   pub bytes : List ℕ
@@ -42,8 +33,10 @@ pub record SpanText : Type 0 where
 
 -- the text of a span between two byte offsets, with its origin
 abbrev pub span_between : Setting → Above → SpanKind → (start end : ℕ) → SpanText
-span_between s above kind start end =
-    record { bytes = text_between s above kind start end; origin = origin_between s above start end }
+span_between s above kind start end = record {
+  bytes = span_text kind above.in_table (prefix_below s above) (slice_range s.text start end);
+  origin = span_origin above.in_table (slice_range s.text start end);
+}
 
 -- what is found at an item: a code span with its text and the item that closes it; a math span with its text and the
 -- byte offset where it ends; what begins at a `<`; or nothing
@@ -164,10 +157,6 @@ pub record Passed (A : Type 0) : Type 0 where
   pub goes_on : Option ℕ
   pub made : ℕ
 
--- what is read from a tree, by its label, the trees below it and the chain after it
-abbrev pub TreeReader : Type 0 → Type 0
-TreeReader A = Label A → Forest (Label A) → Forest (Label A) → Passed A
-
 -- the trees that replace an item, where the chain continues, and the number of additional trees made so far
 abbrev pub passed : {A : Type 0} → Setting → Tags A → (made : ℕ) → Label A → Find A → Passed A
 passed s tags n a found = record {
@@ -177,10 +166,13 @@ passed s tags n a found = record {
 }
 
 -- a tree that is not open, or that waits for pairing, is kept
-abbrev pub read_unless : {A : Type 0} → (is_quiet : Bool) → Setting → Tags A → Above → (made : ℕ) → TreeReader A
+abbrev pub read_unless : {A : Type 0} → (is_quiet : Bool) → Setting → Tags A → Above → (made : ℕ) → Label A
+    → (below rest : Forest (Label A)) → Passed A
 read_unless true s tags above n a below rest = record { trees = node a below nil; goes_on = None; made = n }
 read_unless false s tags above n a below rest = passed s tags n a (find s above a rest)
 
--- a tree other than a bracket is read, after n additional trees were made
-unfoldable pub read_tree : {A : Type 0} → Setting → Tags A → Above → (made : ℕ) → TreeReader A
+-- a tree other than a bracket is read, by its label, the trees below it and the chain after it; n additional trees were
+-- made before
+unfoldable pub read_tree : {A : Type 0} → Setting → Tags A → Above → (made : ℕ) → Label A
+    → (below rest : Forest (Label A)) → Passed A
 read_tree s tags above n a below rest = read_unless (is_quiet a.part.shape) s tags above n a below rest

@@ -7,7 +7,8 @@ use Rattle.markdown_document.specs.Origins.{origin_at}
 use Rattle.markdown_document.specs.Stages.{above_cursor}
 use Rattle.markdown_document.specs.Setting.{Setting, setting_of, Rules, rules_from}
 use Rattle.markdown_document.specs.Tables.{tables_of, text_at}
-use Rattle.markdown_spans.specs.Finds.{is_escaped, text_between, origin_between}
+use Rattle.markdown_spans.specs.Finds.{is_escaped}
+use Rattle.markdown_resolver.specs.StoredText.{text_between, origin_between}
 use Rattle.markdown_spans.specs.SpanClosers.{ClosesCode, has_failed}
 use Rattle.markdown_spans.specs.declared.span_text.SpanKind.TheVariants.{Code}
 use Rattle.markdown_resolver.specs.PutCode.{code_standing}

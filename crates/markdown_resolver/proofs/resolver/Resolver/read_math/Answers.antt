@@ -6,7 +6,7 @@ use Rattle.markdown_document.specs.Origins.{origin_at}
 use Rattle.markdown_document.specs.Stages.{above_cursor}
 use Rattle.markdown_document.specs.Setting.{Setting, setting_of, Rules, rules_from}
 use Rattle.markdown_document.specs.Tables.{tables_of, text_at}
-use Rattle.markdown_spans.specs.Finds.{text_between, origin_between}
+use Rattle.markdown_resolver.specs.StoredText.{text_between, origin_between}
 use Rattle.markdown_spans.specs.SpanClosers.{ClosesMath, has_failed}
 use Rattle.markdown_spans.specs.declared.span_text.SpanKind.TheVariants.{Math}
 use Rattle.markdown_resolver.specs.Rewritten.{Puts, one_item}

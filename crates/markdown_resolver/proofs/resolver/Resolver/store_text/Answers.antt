@@ -3,7 +3,7 @@ use Rattle.std.proofs.Common.{◌≡◌}
 use Rattle.markdown_document.specs.Stages.{above_cursor}
 use Rattle.markdown_document.specs.Setting.{Rules, setting_of}
 use Rattle.markdown_base.specs.EnabledOptions.{gfm_footnotes_on}
-use Rattle.markdown_spans.specs.Finds.{text_between}
+use Rattle.markdown_resolver.specs.StoredText.{text_between}
 use Rattle.markdown_resolver.proofs.CodeSpanLemmas.{cow_stored, cow_text}
 use Rattle.markdown_resolver.proofs.resolver.Resolver.store_text.Goals as goal
 
