@@ -59,9 +59,3 @@ pub record PairsChain (s : Setting) (first : ℕ) (old new : List (Node Item)) :
   -- no entry is referred to more often, and its weight is not greater
   pub named : (n : Named) → named_in new (Some first) n ≤ named_in old (Some first) n
   pub no_heavier : weight_in new (Some first) ≤ weight_in old (Some first)
-
--- a count rises by at most `most`, or to its maximum
-pub record ExaminesAtMost (most old new : ℕ) : Type 0 where
-  pub examined : ℕ
-  pub within : examined ≤ most
-  pub counted : new ≡ min (old + examined) (2 ^ 128 - 1)

@@ -1,5 +1,5 @@
 //! Pairing a chain in place: its quotes and its last break, and then its delimiter runs.
-ghost use Rattle.std.specs.Prelude.{◌≡◌, ℕ, ◌+◌, ◌-◌, ◌*◌, ◌^◌, ◌≤◌, Some, OnOk, min};
+ghost use Rattle.std.specs.Prelude.{◌≡◌, ℕ, ◌+◌, ◌-◌, ◌*◌, ◌^◌, ◌≤◌, Some, OnOk};
 ghost use Rattle.markdown_base.specs.BlockTree.{trees_at};
 ghost use Rattle.markdown_document.specs.Places.{trees_from};
 ghost use Rattle.markdown_document.specs.Setting.{Rules, setting_of};
@@ -8,8 +8,8 @@ ghost use Rattle.markdown_delims.specs.PairingFinds.{finds_in};
 ghost use Rattle.markdown_delims.specs.RunReading.{delimiters_of};
 ghost use Rattle.markdown_delims.specs.ChainReading.{IsEmptied, CanPairAll, PairsRuns, CountsFinds};
 ghost use Rattle.markdown_delims.specs.ChainReading.{PaysForRuns};
-ghost use Rattle.markdown_delims.specs.PairedChain.{CanPair, PairsChain, ExaminesAtMost};
-ghost use Rattle.markdown_document.specs.Counts.{RisesAtLeast, comparisons_per_delimiter};
+ghost use Rattle.markdown_delims.specs.PairedChain.{CanPair, PairsChain};
+ghost use Rattle.markdown_document.specs.Counts.{RisesAtLeast, RisesAtMost, comparisons_per_delimiter, risen};
 
 use crate::marks::{Marks, Source};
 use crate::open_runs::OpenRuns;
@@ -82,12 +82,11 @@ pub fn pair_chain(
         work.old.examined work.new.examined) }
 
     // on success and on error
-    ensures examined { ExaminesAtMost
+    ensures examined { RisesAtMost
         (comparisons_per_delimiter * delimiters_of (trees_at tree.old.nodes (Some first)))
         work.old.examined work.new.examined }
     ensures counted { work.new ≡ record work.old {
-      delimiters = min (work.old.delimiters + delimiters_of (trees_at tree.old.nodes (Some first)))
-          (2 ^ 128 - 1);
+      delimiters = risen (delimiters_of (trees_at tree.old.nodes (Some first))) work.old.delimiters;
       examined = work.new.examined;
     } }
 {
@@ -98,7 +97,6 @@ pub fn pair_chain(
     };
     let delimiters = quote_chain(tree, first);
     let done = pair_runs(tree, open_runs, source, first, delimiters);
-    work.delimiters = work.delimiters.saturating_add(delimiters as u128);
-    work.examined = work.examined.saturating_add(open_runs.examined());
+    work.count_pairing(delimiters as u128, open_runs.examined());
     done
 }

@@ -1,6 +1,22 @@
 -- Counts that rise, one time after another.
 use Rattle.std.proofs.Common.{◌≡◌, ℕ, zero, suc, ◌+◌, ◌-◌, ◌^◌, ◌≤◌, min, refl, sym, ap, ◌∙◌, arith}
-use Rattle.markdown_document.specs.Counts.{RisesAtMost, risen}
+use Rattle.markdown_document.specs.Counts.{RisesAtLeast, RisesAtMost, risen}
+
+-- a count that is at most the maximum rises by nothing, or by something up to the maximum
+pub risen_is : (n count : ℕ) → count ≤ 2 ^ 128 - 1 → min (count + n) (2 ^ 128 - 1) ≡ risen n count
+risen_is zero count l = stays (2 ^ 128 - 1) l
+  where
+    stays : (most : ℕ) → count ≤ most → min (count + 0) most ≡ count
+    stays most l = omega arith
+risen_is (suc n) count l = refl
+
+-- a count that has risen by so much has risen by at least that, and by at least less
+pub risen_at_least : (n least count : ℕ) → least ≤ n → RisesAtLeast least count (risen n count)
+risen_at_least zero least count l = let none : least ≡ 0 = omega (arith, l) in rw none (omega arith)
+risen_at_least (suc n) least count l = omega (arith, l)
+
+pub rises_at_none : (most old new : ℕ) → RisesAtMost most old new → RisesAtLeast 0 old new
+rises_at_none most old new r = rw r.counted (risen_at_least r.more 0 old (omega arith))
 
 -- a count that has risen twice has risen by the sum
 pub risen_twice : (m n v : ℕ) → risen n (risen m v) ≡ risen (m + n) v

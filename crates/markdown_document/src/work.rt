@@ -18,6 +18,7 @@ pub struct Work {
 
 impl Work {
     ghost use Rattle.std.specs.Prelude.{◌≡◌, ◌+◌, ◌-◌, ◌^◌, min};
+    ghost use Rattle.markdown_document.specs.Counts.{risen};
 
     /// Returns counts of 0.
     pub fn none() -> Work
@@ -38,5 +39,16 @@ impl Work {
         ensures { self.new ≡ record self.old { items = min (self.old.items + 1) (2 ^ 128 - 1) } }
     {
         self.items = self.items.saturating_add(1);
+    }
+
+    /// Counts the delimiter characters of a chain that is paired, and the comparisons of its open runs.
+    pub fn count_pairing(&mut self, delimiters: u128, examined: u128)
+        ensures { self.new ≡ record self.old {
+          delimiters = risen delimiters self.old.delimiters;
+          examined = risen examined self.old.examined;
+        } }
+    {
+        self.delimiters = self.delimiters.saturating_add(delimiters);
+        self.examined = self.examined.saturating_add(examined);
     }
 }

@@ -17,7 +17,6 @@ use Rattle.markdown_document.specs.Setting.{Known, Setting}
 use Rattle.markdown_document.specs.Stages.{Stage, chain_at, items_from, known_at}
 use Rattle.markdown_document.specs.Tables.{Tables}
 use Rattle.markdown_document.specs.declared.work.Work.{Work}
-use Rattle.markdown_delims.specs.PairedChain.{ExaminesAtMost}
 use Rattle.markdown_delims.specs.RunReading.{delimiters_of}
 use Rattle.markdown_delims.specs.PairingFinds.{finds_in}
 use Rattle.markdown_resolver.specs.ChainCounts.{RisesInPart, chain_counts}
@@ -32,40 +31,9 @@ chain_items source tables nodes l =
     ap length (roots-relabelled (label_at source tables nodes) (forest_at (links_of nodes) l))
     ∙ length-map (roots (forest_at (links_of nodes) l)) (label_at source tables nodes)
 
--- a count that is at most the maximum rises by nothing, or by something up to the maximum
-stays_below : (count most : ℕ) → count ≤ most → min (count + 0) most ≡ count
-stays_below count most l = omega arith
-
-risen_is : (n count : ℕ) → count ≤ 2 ^ 128 - 1 → min (count + n) (2 ^ 128 - 1) ≡ risen n count
-risen_is zero count l = stays_below count (2 ^ 128 - 1) l
-risen_is (suc n) count l = refl
-
--- the counts that may rise by nothing are at most the maximum
-pub record AreCounts (w : Work) : Type 0 where
-  pub delimiters : w.delimiters ≤ 2 ^ 128 - 1
-  pub examined : w.examined ≤ 2 ^ 128 - 1
-
 -- the same rise
 same_rise : (most most' old new new' : ℕ) → most' ≡ most → new' ≡ new → RisesAtMost most old new → RisesAtMost most' old new'
 same_rise most most' old new new' e e' r = record { more = r.more; within = omega (arith, e, r.within); counted = e' ∙ r.counted }
-
-work_rises : (n : ChainCounts) (old new : Work) → AreCounts old → new.items ≡ risen n.items old.items
-    → new.delimiters ≡ min (old.delimiters + n.delimiters) (2 ^ 128 - 1)
-    → ExaminesAtMost (comparisons_per_delimiter * n.delimiters) old.examined new.examined → RisesAtLeast n.found old.examined new.examined
-    → RisesAtMost n.items old.code_visits new.code_visits → RisesAtMost n.items old.math_visits new.math_visits → WorkRises n old new
-work_rises n old new fits items delimiters examined found code math = record {
-  items = items;
-  delimiters = delimiters ∙ risen_is n.delimiters old.delimiters fits.delimiters;
-  examined = record {
-    more = examined.examined;
-    within = examined.within;
-    counted = examined.counted
-        ∙ risen_is examined.examined old.examined fits.examined;
-  };
-  found = found;
-  code_visits = code;
-  math_visits = math;
-}
 
 -- what reading a chain with this number of items makes of the counts
 pub record ReadCounts (items : ℕ) (old new : Work) : Type 0 where
@@ -77,17 +45,9 @@ pub record ReadCounts (items : ℕ) (old new : Work) : Type 0 where
 
 -- what pairing makes of the counts, with these numbers of delimiter characters and of searches that find
 pub record PairCounts (delimiters found : ℕ) (old new : Work) : Type 0 where
-  pub counted : new ≡ record old { delimiters = min (old.delimiters + delimiters) (2 ^ 128 - 1); examined = new.examined }
-  pub compared : ExaminesAtMost (comparisons_per_delimiter * delimiters) old.examined new.examined
+  pub counted : new ≡ record old { delimiters = risen delimiters old.delimiters; examined = new.examined }
+  pub compared : RisesAtMost (comparisons_per_delimiter * delimiters) old.examined new.examined
   pub finds : RisesAtLeast found old.examined new.examined
-
-examined_by : (d d' old old' new : ℕ) → d ≡ d' → old ≡ old' → ExaminesAtMost (comparisons_per_delimiter * d) old new → ExaminesAtMost (comparisons_per_delimiter * d') old' new
-examined_by d d' old old' new e e' h = record {
-  examined = h.examined;
-  within = omega (arith, e, h.within);
-  counted = h.counted
-      ∙ ap (λ n. min (n + h.examined) (2 ^ 128 - 1)) e';
-}
 
 found_by : (f f' old old' new : ℕ) → f ≡ f' → old ≡ old' → RisesAtLeast f old new → RisesAtLeast f' old' new
 found_by f f' old old' new e e' h = rw (sym e, sym e') h
@@ -119,7 +79,7 @@ read_in_part s above first old known work new read =
 module _ {C : Type 0} (step : C → Question → Option Answer → C → Type 0) (s : Setting) (above : Above) (first : ℕ)
     (old mid : Stage C) (work then new : Work)
     (r : ResolvesFrom step s.text (pass_one s plain_tags above) (Some first) old mid)
-    (fits : AreCounts work) (read : ReadCounts (items_from old.nodes (Some first)) work then) where
+    (read : ReadCounts (items_from old.nodes (Some first)) work then) where
   abbrev counts_of : (later : Answers) → ChainCounts
   counts_of later = chain_counts s plain_tags above (chain_at s.text old (Some first)) (known_at old (r.answers ++ later))
 
@@ -130,16 +90,21 @@ module _ {C : Type 0} (step : C → Question → Option Answer → C → Type 0)
       let d = delimiters_of (trees_at mid.nodes (Some first)) in
       let items = chain_items s.text old.tables old.nodes (Some first) in
       let left = delimiters_left step s above first old mid r later in
-      work_rises (record n { found = found }) work new fits
-      (ap (λ (w : Work). w.items) paired.counted ∙ read.items_counted ∙ ap (λ k. risen k work.items) (sym items))
-      (ap (λ (w : Work). w.delimiters) paired.counted ∙ ap (λ k. min (k + d) (2 ^ 128 - 1)) read.same_delimiters
-      ∙ ap (λ k. min (work.delimiters + k) (2 ^ 128 - 1)) left)
-      (examined_by d n.delimiters then.examined work.examined new.examined left read.same_examined paired.compared)
-      (found_by found found then.examined work.examined new.examined refl read.same_examined paired.finds)
-      (same_rise (items_from old.nodes (Some first)) n.items work.code_visits then.code_visits new.code_visits items
-      (ap (λ (w : Work). w.code_visits) paired.counted) read.code)
-      (same_rise (items_from old.nodes (Some first)) n.items work.math_visits then.math_visits new.math_visits items
-      (ap (λ (w : Work). w.math_visits) paired.counted) read.math)
+      record {
+        items = ap (λ (w : Work). w.items) paired.counted ∙ read.items_counted ∙ ap (λ k. risen k work.items) (sym items);
+        delimiters = ap (λ (w : Work). w.delimiters) paired.counted ∙ ap (risen d) read.same_delimiters
+            ∙ ap (λ k. risen k work.delimiters) left;
+        examined = record {
+          more = paired.compared.more;
+          within = omega (arith, left, paired.compared.within);
+          counted = paired.compared.counted ∙ ap (risen paired.compared.more) read.same_examined;
+        };
+        found = found_by found found then.examined work.examined new.examined refl read.same_examined paired.finds;
+        code_visits = same_rise (items_from old.nodes (Some first)) n.items work.code_visits then.code_visits new.code_visits items
+            (ap (λ (w : Work). w.code_visits) paired.counted) read.code;
+        math_visits = same_rise (items_from old.nodes (Some first)) n.items work.math_visits then.math_visits new.math_visits items
+            (ap (λ (w : Work). w.math_visits) paired.counted) read.math;
+      }
 
   pub counts_rise : PairCounts (delimiters_of (trees_at mid.nodes (Some first))) (finds_in s (chain_at s.text mid (Some first))) then new
       → (later : Answers) → WorkRises (counts_of later) work new

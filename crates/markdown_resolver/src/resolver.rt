@@ -342,9 +342,6 @@ impl<'a, F: BrokenLinkCallback<'a>> Resolver<'a, F> {
         ensures options { self.new.options ≡ self.old.options }
         ensures definitions { self.new.lookup.tables.refdefs ≡ self.old.lookup.tables.refdefs }
     {
-        // reading the counts shows that they fit their type
-        let _delimiters = self.work.delimiters;
-        let _examined = self.work.examined;
         self.read_chain(tree, first)?;
         pair_chain(
             tree,

@@ -18,6 +18,8 @@ use Rattle.markdown_delims.specs.PairingFinds.{finds_in}
 use Rattle.markdown_delims.specs.Quoting.{IsQuoted, QuotesChain, Counts}
 use Rattle.markdown_delims.specs.RunReading.{delimiters_of}
 use Rattle.markdown_delims.proofs.PairedChainLemmas.{trees, spelled_is, chain_is, IsResolved, resolved, finds_are, pairs_chain}
+use Rattle.markdown_document.specs.declared.work.Work.{Work}
+use Rattle.markdown_document.proofs.CountLemmas.{risen_at_least}
 use Rattle.markdown_delims.proofs.chain.pair_chain.Goals as goal
 
 on_ok : {A E : Type 0} {P Q : Type 0} (r : Result A E) → (P → Q) → OnOk r P → OnOk r Q
@@ -134,7 +136,9 @@ returns-clause-found c =
     c.of_options.result c.as_bytes.result.now c.clear.new.self c.pair_runs-done.new.openers (ap marks_of same ∙ sym c.of_options.ensures)
     (sym c.as_bytes.ensures.value) found in
     let none : c.clear.new.self.examined ≡ 0 = ap (λ o. o.examined) c.clear.ensures in
-    omega (arith, all, none, c.examined.ensures.value, c.saturating_add-work-2.ensures))
+    let rises = risen_at_least c.examined.result (finds_in s (trees_from c.args.text.now tables c.args.tree.now.nodes (Some c.args.first)))
+    c.args.work.now.examined (omega (arith, all, none, c.examined.ensures.value)) in
+    rw c.count_pairing.ensures rises)
     c.pair_runs-done.ensures.found
 
 pub returns-clause-examined : goal.returns-clause-examined
@@ -146,16 +150,16 @@ returns-clause-examined c =
     (sym c.as_bytes.ensures.value) c.pair_runs-done.ensures.paid in
     let none : c.clear.new.self.potential ≡ 0 = ap (λ o. o.potential) c.clear.ensures in
     record {
-      examined = c.examined.result;
+      more = c.examined.result;
       within = omega (arith, paid, none, c.examined.ensures.value, c.examined.ensures.within);
-      counted = c.saturating_add-work-2.ensures;
+      counted = ap (λ (w : Work). w.examined) c.count_pairing.ensures;
     }
 
 pub returns-clause-counted : goal.returns-clause-counted
 returns-clause-counted c =
     let s : Setting = setting_of c.args.text.now (rules_by c.args.options) in
     rw (
-      c.saturating_add-work.ensures,
+      c.count_pairing.ensures,
       counted s no_tables c.args.tree.now c.quote_chain-delimiters.new.tree c.args.first
           c.quote_chain-delimiters.result c.requires.chain c.quote_chain-delimiters.ensures.quotes c.quote_chain-delimiters.ensures.count
           c.quote_chain-delimiters.ensures.small,

@@ -11,7 +11,8 @@ use Rattle.markdown_document.specs.Tables.{tables_of}
 use Rattle.markdown_delims.specs.PairingFinds.{finds_in}
 use Rattle.markdown_resolver.specs.declared.resolver.Resolver.{Resolver}
 use Rattle.markdown_resolver.proofs.PairedLemmas.{read_can_pair, then_pairs, stops_in, stops_resolving}
-use Rattle.markdown_resolver.proofs.WorkLemmas.{AreCounts, ReadCounts, counts_in_part, counts_rise, read_in_part}
+use Rattle.markdown_resolver.proofs.WorkLemmas.{ReadCounts, counts_in_part, counts_rise, read_in_part}
+use Rattle.markdown_document.proofs.CountLemmas.{rises_at_none}
 use Rattle.markdown_resolver.proofs.resolver.Resolver.resolve_chain.Goals as goal
 
 if_err : {X E : Type 0} {P : Type 0} (r : Result X E) → P → IfErr r (λ fault. P)
@@ -58,7 +59,6 @@ returns-in_err-pair_chain-clause-stops g c =
     let mid = stage c.read_chain.new.tree after.lookup.tables after.lookup.limit after.lookup.callback in
     let reads = c.in_ok-read_chain.ensures.reads in
     let paired = c.pair_chain.ensures in
-    let fits : AreCounts s.work = record { delimiters = omega arith; examined = omega arith } in
     let read : ReadCounts (items_from c.args.tree.now.nodes (Some c.args.first)) s.work c.read_chain.new.self.work = record {
       items_counted = c.read_chain.ensures.items;
       same_delimiters = ap (λ (r : Resolver g.row.F.Denot). r.work.delimiters) c.read_chain.ensures.kept;
@@ -69,8 +69,8 @@ returns-in_err-pair_chain-clause-stops g c =
     if_err c.from_residual-in_err-pair_chain.result
     (stops_in step setting above c.args.first old mid s.work c.pair_chain.new.work reads
     (counts_in_part step setting above c.args.first old mid s.work after.work c.pair_chain.new.work
-    reads fits read
-    (record { counted = paired.counted; compared = paired.examined; finds = omega (arith, paired.examined.counted) })))
+    reads read
+    (record { counted = paired.counted; compared = paired.examined; finds = rises_at_none _ _ _ paired.examined })))
 
 pub returns-clause-resolves : goal.returns-clause-resolves
 returns-clause-resolves g c =
@@ -91,7 +91,6 @@ returns-clause-resolves g c =
     (Some c.args.first)))
     after.work.examined c.pair_chain.new.work.examined) (ap (λ (r : Resolver g.row.F.Denot). r.text.now) kept)
     (c.in_ok-pair_chain.ensures.found rules (tables_of after.lookup.tables) (rw kept refl)) in
-    let fits : AreCounts s.work = record { delimiters = omega arith; examined = omega arith } in
     let read : ReadCounts (items_from c.args.tree.now.nodes (Some c.args.first)) s.work c.read_chain.new.self.work = record {
       items_counted = c.read_chain.ensures.items;
       same_delimiters = ap (λ (r : Resolver g.row.F.Denot). r.work.delimiters) c.read_chain.ensures.kept;
@@ -106,6 +105,6 @@ returns-clause-resolves g c =
       footnotes = λ name. c.read_chain.ensures.footnotes name;
       chain = then_pairs step setting above c.args.first old mid c.pair_chain.new.tree.nodes c.requires.ready.quiet_below reads.reads pairs;
       counted = counts_rise step setting above c.args.first old mid s.work after.work c.pair_chain.new.work
-          reads.reads fits read
+          reads.reads read
           (record { counted = c.pair_chain.ensures.counted; compared = c.pair_chain.ensures.examined; finds = finds });
     }
