@@ -8,7 +8,7 @@ use Rattle.markdown_base.specs.declared.node.Node.{Node}
 use Rattle.markdown_base.specs.Arena.{sibling_of}
 use Rattle.markdown_base.specs.BlockTree.{Numbered, item_at}
 use Rattle.markdown_document.specs.Counts.{RisesAtMost, risen}
-use Rattle.markdown_spans.specs.ChainInArena.{LeadsThrough}
+use Rattle.markdown_spans.specs.ChainInArena.{HasChain, LeadsThrough}
 use Rattle.markdown_spans.specs.Closers.{MathClose, code_close, math_close_from}
 use Rattle.markdown_spans.specs.CloserSearches.{looked_for_code_close, looked_for_math_from}
 use Rattle.markdown_spans.specs.SpanMarks.{known_closers, marks_in}
@@ -112,3 +112,8 @@ HoldsOf kind (Some known) chain = KnowsClosers kind known chain
 abbrev pub HoldsFrom : SpanKind → Learned → List (Node Item) → Option ℕ → Type 0
 HoldsFrom kind learned nodes link =
     (low : ℕ) (chain : List Numbered) → LeadsThrough nodes low link chain → HoldsOf kind learned chain
+
+-- the chain from an opener on can be searched: what was learned holds for it
+pub record CanSearch (kind : SpanKind) (learned : Learned) (nodes : List (Node Item)) (opener : ℕ) : Type 0 where
+  pub chain : HasChain nodes (Some opener)
+  pub learned : HoldsFrom kind learned nodes (Some opener)

@@ -190,7 +190,7 @@ impl SpanClosers {
     ghost use Rattle.std.specs.Prelude.{Bool, ◌||◌, ◌&&◌, not};
     ghost use Rattle.markdown_spans.specs.Closers.{can_open};
     ghost use Rattle.markdown_spans.specs.CloserSearches.{opens_code};
-    ghost use Rattle.markdown_spans.specs.SpanClosers.{ClosesCode, ClosesMath, HoldsFrom, LooksForCode};
+    ghost use Rattle.markdown_spans.specs.SpanClosers.{CanSearch, ClosesCode, ClosesMath, HoldsFrom, LooksForCode};
     ghost use Rattle.markdown_spans.specs.SpanClosers.{LooksForCodeAtMost, LooksForMath, LooksForMathAtMost, StandsIn};
     ghost use Rattle.markdown_spans.specs.SpanClosers.{failed_by_now, has_failed};
 
@@ -288,8 +288,7 @@ impl SpanClosers {
         opener: usize,
         visits: &mut u128,
     ) -> Result<Option<usize>, AllocError>
-        requires chain { HasChain tree.now.nodes (Some opener) }
-        requires learned { HoldsFrom SpanKind.Code self.old tree.now.nodes (Some opener) }
+        requires ready { CanSearch SpanKind.Code self.old tree.now.nodes opener }
         ensures found { IfOk result (λ found. ClosesCode tree.now.nodes opener found) }
         ensures within { IfOk result (λ found. IfSome found (λ ix. ix < length tree.now.nodes)) }
         ensures counted { IfOk result (λ _.
@@ -327,8 +326,7 @@ impl SpanClosers {
         opener: usize,
         visits: &mut u128,
     ) -> Result<Option<FoundMath>, AllocError>
-        requires chain { HasChain tree.now.nodes (Some opener) }
-        requires learned { HoldsFrom SpanKind.Math self.old tree.now.nodes (Some opener) }
+        requires ready { CanSearch SpanKind.Math self.old tree.now.nodes opener }
         ensures found { IfOk result (λ found. ClosesMath tree.now.nodes opener found) }
         ensures within { IfOk result (λ found. IfSome found (λ math.
             StandsIn tree.now.nodes math)) }

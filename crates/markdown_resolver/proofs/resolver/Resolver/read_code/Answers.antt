@@ -26,12 +26,10 @@ use Rattle.markdown_base.specs.declared.fault.Fault.{Fault}
 use Rattle.markdown_spans.specs.declared.span_text.SpanKind.{SpanKind}
 use Rattle.markdown_resolver.proofs.ReadingLemmas.{reads_by_rules, stops_at_none}
 
-pub find_code_closer-requires-clause-chain : goal.find_code_closer-requires-clause-chain
-find_code_closer-requires-clause-chain g c =
-    chain_leads c.args.place.now.text.now (tables_of c.args.self.now.lookup.tables) c.args.tree.now.nodes (Some c.args.ix) c.requires.ready.chain.ready
-
-pub find_code_closer-requires-clause-learned : goal.find_code_closer-requires-clause-learned
-find_code_closer-requires-clause-learned g c = c.requires.ready.learned.code
+pub find_code_closer-requires : goal.find_code_closer-requires
+find_code_closer-requires g c =
+    let chain = chain_leads c.args.place.now.text.now (tables_of c.args.self.now.lookup.tables) c.args.tree.now.nodes (Some c.args.ix) c.requires.ready.chain.ready in
+    record { chain = chain; learned = c.requires.ready.learned.code }
 
 -- nothing closes it: it is settled
 pub returns-in_default-clause-reads : goal.returns-in_default-clause-reads

@@ -12,14 +12,14 @@ use Rattle.markdown_spans.proofs.LearnedLemmas.{holds_next}
 use Rattle.markdown_spans.proofs.span_closers.SpanClosers.find_code_closer.Goals as goal
 
 pub item-requires : goal.item-requires
-item-requires c = (chain_at c.args.tree.now.nodes c.args.opener c.requires.chain).within
+item-requires c = (chain_at c.args.tree.now.nodes c.args.opener c.requires.ready.chain).within
 
 pub next-requires : goal.next-requires
-next-requires c = (chain_at c.args.tree.now.nodes c.args.opener c.requires.chain).within
+next-requires c = (chain_at c.args.tree.now.nodes c.args.opener c.requires.ready.chain).within
 
 pub search_code-requires-clause-chain : goal.search_code-requires-clause-chain
 search_code-requires-clause-chain c = rw c.next.ensures.value
-    (chain_at c.args.tree.now.nodes c.args.opener c.requires.chain).later
+    (chain_at c.args.tree.now.nodes c.args.opener c.requires.ready.chain).later
 
 pub returns-in_default-clause-counted : goal.returns-in_default-clause-counted
 returns-in_default-clause-counted c =
@@ -30,7 +30,7 @@ returns-in_default-clause-counted c =
 
 pub returns-in_default-clause-learned : goal.returns-in_default-clause-learned
 returns-in_default-clause-learned c = holds_next Code c.args.tree.now.nodes c.args.opener c.args.self.now
-    c.requires.chain c.requires.learned
+    c.requires.ready.chain c.requires.ready.learned
 
 pub returns-then-mark-eq0-clause-counted : goal.returns-then-mark-eq0-clause-counted
 returns-then-mark-eq0-clause-counted c =
@@ -42,7 +42,7 @@ returns-then-mark-eq0-clause-counted c =
 
 pub returns-then-mark-eq0-clause-learned : goal.returns-then-mark-eq0-clause-learned
 returns-then-mark-eq0-clause-learned c = holds_next Code c.args.tree.now.nodes c.args.opener c.args.self.now
-    c.requires.chain c.requires.learned
+    c.requires.ready.chain c.requires.ready.learned
 
 pub returns-then-self-clause-found : goal.returns-then-self-clause-found
 returns-then-self-clause-found c =
@@ -51,7 +51,7 @@ returns-then-self-clause-found c =
     ∙ (sym c.mark_of.ensures ∙ c.in-Some.is) in
     finds_known c.args.tree.now.nodes c.args.opener c.in-Some.mark c.args.self.now
     (reverse c.self.inside.ahead.items) c.take_closer.result
-    c.requires.chain c.requires.learned (learned_from c.self.inside.failed
+    c.requires.ready.chain c.requires.ready.learned (learned_from c.self.inside.failed
     (reverse c.self.inside.ahead.items) c.args.self.now c.self.view_is c.if-self.true) is c.if-mark-eq0.false
     c.take_closer.ensures.value
 
@@ -69,7 +69,7 @@ returns-then-self-clause-learned c =
     ∙ (sym c.mark_of.ensures ∙ c.in-Some.is) in
     rw c.if-self.true (holds_left Code c.args.tree.now.nodes c.args.opener c.in-Some.mark c.args.self.now
     (reverse c.self.inside.ahead.items) _
-    c.requires.chain c.requires.learned (learned_from c.self.inside.failed
+    c.requires.ready.chain c.requires.ready.learned (learned_from c.self.inside.failed
     (reverse c.self.inside.ahead.items) c.args.self.now c.self.view_is c.if-self.true) is c.take_closer.ensures.left)
 
 pub returns-clause-failed : goal.returns-clause-failed
@@ -80,7 +80,7 @@ returns-clause-failed c =
     let at_sibling = rw c.next.ensures.value at c.search_code.ensures.searches in
     IfOk-weaker c.search_code.result _ _ (λ found s. fails_walking c.args.tree.now.nodes c.args.opener c.in-Some.mark
     found c.args.self.now c.search_code.new.self _ _
-    (chain_at c.args.tree.now.nodes c.args.opener c.requires.chain).later is c.if-mark-eq0.false
+    (chain_at c.args.tree.now.nodes c.args.opener c.requires.ready.chain).later is c.if-mark-eq0.false
     (nothing_from c.self.inside.failed (reverse c.self.inside.ahead.items) c.args.self.now c.self.view_is
     c.if-self.false) s) at_sibling
 
@@ -90,9 +90,9 @@ returns-then-self-clause-within c =
     ap (λ (item : Item). mark_at Code c.args.opener item.body) (sym (c.item.ensures no_item))
     ∙ (sym c.mark_of.ensures ∙ c.in-Some.is) in
     code_within c.args.tree.now.nodes c.args.opener c.take_closer.result
-    (chain_at c.args.tree.now.nodes c.args.opener c.requires.chain).later
+    (chain_at c.args.tree.now.nodes c.args.opener c.requires.ready.chain).later
     (finds_known c.args.tree.now.nodes c.args.opener c.in-Some.mark c.args.self.now
     (reverse c.self.inside.ahead.items) c.take_closer.result
-    c.requires.chain c.requires.learned
+    c.requires.ready.chain c.requires.ready.learned
     (learned_from c.self.inside.failed (reverse c.self.inside.ahead.items) c.args.self.now c.self.view_is
     c.if-self.true) is c.if-mark-eq0.false c.take_closer.ensures.value)

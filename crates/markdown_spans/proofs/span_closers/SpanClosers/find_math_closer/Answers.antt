@@ -9,11 +9,11 @@ use Rattle.markdown_spans.proofs.LearnedLemmas.{holds_next}
 use Rattle.markdown_spans.proofs.span_closers.SpanClosers.find_math_closer.Goals as goal
 
 pub of_node-requires : goal.of_node-requires
-of_node-requires c = (chain_at c.args.tree.now.nodes c.args.opener c.requires.chain).within
+of_node-requires c = (chain_at c.args.tree.now.nodes c.args.opener c.requires.ready.chain).within
 
 pub returns-in_default-clause-learned : goal.returns-in_default-clause-learned
 returns-in_default-clause-learned c = holds_next Math c.args.tree.now.nodes c.args.opener c.args.self.now
-    c.requires.chain c.requires.learned
+    c.requires.ready.chain c.requires.ready.learned
 
 pub search_math-requires-clause-opener : goal.search_math-requires-clause-opener
 search_math-requires-clause-opener c = opener_here c.args.tree.now.nodes c.args.opener c.in-Some.opening
@@ -23,7 +23,7 @@ pub returns-then-not-self-clause-failed : goal.returns-then-not-self-clause-fail
 returns-then-not-self-clause-failed c =
     IfOk-weaker c.search_math.result _ _ (λ found s. failed_at c.args.tree.now.nodes c.args.opener c.in-Some.opening
     found c.args.self.now c.search_math.new.self _ _
-    (sym c.of_node.ensures ∙ c.in-Some.is) c.requires.chain
+    (sym c.of_node.ensures ∙ c.in-Some.is) c.requires.ready.chain
     (nothing_from c.self.inside.failed (reverse c.self.inside.ahead.items) c.args.self.now c.self.view_is
     c.if-not-self.true) s) c.search_math.ensures.searches
 
@@ -31,7 +31,7 @@ pub close_by-requires : goal.close_by-requires
 close_by-requires c =
     (known_math c.args.tree.now.nodes c.args.opener c.in-Some.opening c.args.self.now
     (reverse c.self.inside.ahead.items) _ c.take_dollar-first.result
-    (sym c.of_node.ensures ∙ c.in-Some.is) c.requires.chain c.requires.learned
+    (sym c.of_node.ensures ∙ c.in-Some.is) c.requires.ready.chain c.requires.ready.learned
     (learned_from c.self.inside.failed (reverse c.self.inside.ahead.items) c.args.self.now c.self.view_is
     c.if-not-self.false) c.take_dollar-first.ensures.value c.take_dollar-first.ensures.left).within
 
@@ -39,7 +39,7 @@ pub returns-clause-found : goal.returns-clause-found
 returns-clause-found c = λ low after h.
     (known_math c.args.tree.now.nodes c.args.opener c.in-Some.opening c.args.self.now
     (reverse c.self.inside.ahead.items) _ c.take_dollar-first.result
-    (sym c.of_node.ensures ∙ c.in-Some.is) c.requires.chain c.requires.learned
+    (sym c.of_node.ensures ∙ c.in-Some.is) c.requires.ready.chain c.requires.ready.learned
     (learned_from c.self.inside.failed (reverse c.self.inside.ahead.items) c.args.self.now c.self.view_is
     c.if-not-self.false) c.take_dollar-first.ensures.value c.take_dollar-first.ensures.left).found low after h
     ∙ sym c.close_by.ensures
@@ -48,16 +48,16 @@ pub returns-clause-learned : goal.returns-clause-learned
 returns-clause-learned c = rw c.if-not-self.false
     (known_math c.args.tree.now.nodes c.args.opener c.in-Some.opening c.args.self.now
     (reverse c.self.inside.ahead.items) _ c.take_dollar-first.result
-    (sym c.of_node.ensures ∙ c.in-Some.is) c.requires.chain c.requires.learned
+    (sym c.of_node.ensures ∙ c.in-Some.is) c.requires.ready.chain c.requires.ready.learned
     (learned_from c.self.inside.failed (reverse c.self.inside.ahead.items) c.args.self.now c.self.view_is
     c.if-not-self.false) c.take_dollar-first.ensures.value c.take_dollar-first.ensures.left).later
 
 pub returns-clause-within : goal.returns-clause-within
 returns-clause-within c =
-    math_within c.args.tree.now.nodes c.args.opener c.close_by.result c.requires.chain (λ low after h.
+    math_within c.args.tree.now.nodes c.args.opener c.close_by.result c.requires.ready.chain (λ low after h.
     (known_math c.args.tree.now.nodes c.args.opener c.in-Some.opening c.args.self.now
     (reverse c.self.inside.ahead.items) _ c.take_dollar-first.result
-    (sym c.of_node.ensures ∙ c.in-Some.is) c.requires.chain c.requires.learned
+    (sym c.of_node.ensures ∙ c.in-Some.is) c.requires.ready.chain c.requires.ready.learned
     (learned_from c.self.inside.failed (reverse c.self.inside.ahead.items) c.args.self.now c.self.view_is
     c.if-not-self.false) c.take_dollar-first.ensures.value c.take_dollar-first.ensures.left).found low after h
     ∙ sym c.close_by.ensures)
@@ -66,4 +66,4 @@ pub returns-then-not-self-clause-within : goal.returns-then-not-self-clause-with
 returns-then-not-self-clause-within c =
     IfOk-weaker c.search_math.result _ _ (λ found s. walked_within c.args.tree.now.nodes c.args.opener
     c.in-Some.opening found c.search_math.new.self _ _
-    (sym c.of_node.ensures ∙ c.in-Some.is) c.requires.chain s) c.search_math.ensures.searches
+    (sym c.of_node.ensures ∙ c.in-Some.is) c.requires.ready.chain s) c.search_math.ensures.searches
