@@ -1,6 +1,6 @@
 -- Laws of an arena's nodes: what a write and a new node leave as it was.
 use Rattle.std.proofs.Common.{◌≡◌, ℕ, zero, suc, ◌+◌, ◌<◌, ◌≤◌, List, [], ◌∷◌, ◌++◌, Option, Some, None, length, refl, ap, arith}
-use Rattle.std.specs.Prelude.{IfSome}
+use Rattle.std.specs.Prelude.{IfSome, ◌^◌}
 use Rattle.std.specs.List.{AllByRecursion}
 use Rattle.std.proofs.lemmas.List.{length-append}
 use Rattle.markdown_base.specs.declared.node.Node.{Node}
@@ -51,9 +51,9 @@ All-changed P zero change (n ∷ nodes) k h = (k n h.0, h.1)
 All-changed P (suc ix) change (n ∷ nodes) k h = (h.0, All-changed P ix change nodes k h.1)
 
 -- one more node, whose links lead to nodes that are there
-pub within_more : {T : Type 0} (arena : Arena T) (n : Node T) → IsWithin arena → LeadsBelow (length arena.nodes) n
-    → IsWithin (record arena { nodes = arena.nodes ++ n ∷ [] })
-within_more arena n w h =
+pub within_more : {T : Type 0} (arena : Arena T) (n : Node T) → IsWithin arena → length arena.nodes < 2 ^ 63
+    → LeadsBelow (length arena.nodes) n → IsWithin (record arena { nodes = arena.nodes ++ n ∷ [] })
+within_more arena n w few h =
     let s : length (arena.nodes ++ n ∷ []) ≡ length arena.nodes + 1 = length-append arena.nodes (n ∷ []) in
     let m : length arena.nodes ≤ length (arena.nodes ++ n ∷ []) = omega (arith, s) in
     record {
@@ -62,6 +62,7 @@ within_more arena n w h =
       spine = spine_more _ _ arena.spine m w.spine;
       links = All-snoc (LeadsBelow (length (arena.nodes ++ n ∷ []))) arena.nodes n (links_more _ _ arena.nodes m w.links)
           (leads_more _ _ n m h);
+      few = omega (arith, s, few);
     }
 
 -- a node changed so that its links still lead to nodes
@@ -76,6 +77,7 @@ within_changed arena ix change w k =
       cursor = below_more arena.cursor _ _ m w.cursor;
       spine = spine_more _ _ arena.spine m w.spine;
       links = links_more _ _ _ m (All-changed (LeadsBelow (length arena.nodes)) ix change arena.nodes k w.links);
+      few = omega (arith, e, w.few);
     }
 
 -- the links of a node

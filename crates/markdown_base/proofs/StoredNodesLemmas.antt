@@ -1,7 +1,7 @@
 -- Laws of the nodes that a tree stores. A read cites `read_item`, `read_child` or `read_next`, a write `arena_changed` and
 -- `within_written`, and a new node `within_stored`.
 use Rattle.std.proofs.Common.{◌≡◌, ℕ, zero, suc, ◌<◌, List, [], ◌∷◌, ◌++◌, Option, length, get_or, set, refl, ap, ◌∙◌, subst, arith}
-use Rattle.std.specs.Prelude.{IfSome, slice_index_or}
+use Rattle.std.specs.Prelude.{IfSome, slice_index_or, ◌^◌}
 use Rattle.std.specs.List.{AllByRecursion}
 use Rattle.std.proofs.lemmas.List.{map-append}
 use Rattle.markdown_base.specs.declared.node.Node.{Node}
@@ -59,13 +59,13 @@ arena_changed {T} s stored spine cursor ix before after change v l e same =
 
 -- one node more, whose links lead to nodes that are there
 pub within_stored : {T : Type 0} (stored : List (StoredNode T)) (spine : List ℕ) (cursor : Option ℕ) (n : StoredNode T)
-    → IsWithin (record { nodes = nodes_of stored; spine = spine; cursor = cursor })
+    → IsWithin (record { nodes = nodes_of stored; spine = spine; cursor = cursor }) → length (nodes_of stored) < 2 ^ 63
     → IfSome (target_of n.child) (λ ix. ix < length (nodes_of stored))
     → IfSome (target_of n.next) (λ ix. ix < length (nodes_of stored))
     → IsWithin (record { nodes = nodes_of (stored ++ n ∷ []); spine = spine; cursor = cursor })
-within_stored stored spine cursor n w child next =
+within_stored stored spine cursor n w few child next =
     rw (map-append node_of stored (n ∷ []))
-    (within_more (record { nodes = nodes_of stored; spine = spine; cursor = cursor }) (node_of n) w
+    (within_more (record { nodes = nodes_of stored; spine = spine; cursor = cursor }) (node_of n) w few
     (record { child = child; next = next }))
 
 -- the links of a node that is read lead to nodes that are there

@@ -1,5 +1,5 @@
 //! A tree of items: an arena of numbered nodes, with a cursor that enters and leaves nodes.
-ghost use Rattle.std.specs.Prelude.{◌≡◌, ℕ, ◌<◌, ◌^◌, ◌++◌, ◌∷◌, [], length, slice_index_or, MatchOption, MatchResult};
+ghost use Rattle.std.specs.Prelude.{◌≡◌, ℕ, ◌<◌, ◌≤◌, ◌^◌, ◌++◌, ◌∷◌, [], length, slice_index_or, MatchOption, MatchResult};
 ghost use Rattle.std.specs.Prelude.{IfOk, IfSome, OnErr};
 ghost use Rattle.markdown_base.specs.Arena.{items_of, child_of, sibling_of};
 ghost use Rattle.markdown_base.specs.ArenaChanges.{innermost, single, changed_at, follower, led_to};
@@ -107,6 +107,7 @@ impl<T: Drop> Tree<T> {
         requires { ix < length self.now.nodes }
         ensures value { result ≡ sibling_of self.now.nodes ix }
         ensures within { IfSome result (λ after. after < length self.now.nodes) }
+        ensures few { length self.now.nodes ≤ 2 ^ 63 }
     {
         self.nodes[ix].next.target()
     }

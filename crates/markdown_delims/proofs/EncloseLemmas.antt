@@ -308,7 +308,7 @@ pub record LayersFit (t : Arena Item) (o c : Characters) (left : ℕ) (inner : O
   pub root_of_one : o.number + (o.count - 1) < length t.nodes
   pub end_of_one : c.number < length t.nodes
   pub inner_within : IfSome inner (λ ix. ix < length t.nodes)
-  pub few : length t.nodes < 2 ^ 63
+  pub few : length t.nodes ≤ 2 ^ 63
 
 -- one layer more
 module _ (h : Chain) (g : Around) (s t u : Arena Item) (d : Delimiter) (o c : Characters) (left : ℕ) (inner : Option ℕ)
@@ -358,7 +358,7 @@ module _ (h : Chain) (g : Around) (s t u : Arena Item) (d : Delimiter) (o c : Ch
             left_touched = n.left_touched;
             inside_touched = (n.root_touched, tt);
             right_touched = n.right_touched;
-            few = subst (λ x. x < 2 ^ 63) (sym w.nodes.size) a.stands.few;
+            few = subst (λ x. x ≤ 2 ^ 63) (sym w.nodes.size) a.stands.few;
           };
           same = sym (z.layers_are h.setting d) ∙ a.same;
           left_is = omega (arith, a.left_is);

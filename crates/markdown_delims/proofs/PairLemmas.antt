@@ -1,5 +1,5 @@
 -- One pair: the chain is cut before the closer, and the opener encloses what follows it.
-use Rattle.std.proofs.Common.{◌≡◌, ℕ, ◌+◌, ◌-◌, ◌<◌, Bool, true, false, List, [], ◌∷◌, Option, Some, None, length, refl, ap, sym, ◌∙◌}
+use Rattle.std.proofs.Common.{◌≡◌, ◌≤◌, ℕ, ◌+◌, ◌-◌, ◌<◌, Bool, true, false, List, [], ◌∷◌, Option, Some, None, length, refl, ap, sym, ◌∙◌}
 use Rattle.std.proofs.Common.{subst, arith}
 use Rattle.std.specs.Prelude.{not, ◌&&◌, ◌^◌}
 use Rattle.markdown_base.specs.declared.item.Item.{Item}
@@ -169,7 +169,7 @@ module _ (h : Chain) (s : Arena Item) (rs : List (Read ℕ)) (vs : List (Label �
           left_touched = at.left_touched;
           inside_touched = at.inside_touched;
           right_touched = st.stands.rest_touched;
-          few = subst (λ n. n < 2 ^ 63) (sym w.nodes.size) st.stands.few;
+          few = subst (λ n. n ≤ 2 ^ 63) (sym w.nodes.size) st.stands.few;
         }
 
     pub pair_done : (m : Marks) (u : Arena Item) (root : ℕ) (rest : Option ℕ) → marks_of h.setting.rules.options ≡ m
@@ -189,7 +189,7 @@ module _ (h : Chain) (s : Arena Item) (rs : List (Read ℕ)) (vs : List (Label �
             last_is = ap Some (sym r.last) ∙ sym (ap top e);
             left_touched = subst (λ f. AllTouched h.touched f) (sym e) r.left_touched;
             rest_touched = r.right_touched;
-            few = subst (λ n. n < 2 ^ 63) (sym (r.kept.size ∙ w.nodes.size)) st.stands.few;
+            few = subst (λ n. n ≤ 2 ^ 63) (sym (r.kept.size ∙ w.nodes.size)) st.stands.few;
           };
           kept = kept_both h.touched s t u (kept_links h.touched s t last _ None touched_last w) r.kept;
         })

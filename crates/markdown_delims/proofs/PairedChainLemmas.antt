@@ -1,5 +1,5 @@
 -- A chain that was paired in place reads as its labels paired, and has no node more.
-use Rattle.std.proofs.Common.{◌≡◌, ℕ, ◌+◌, ◌≤◌, ◌<◌, Bool, true, false, List, [], Some, length, refl, ap, sym, ◌∙◌, subst, arith}
+use Rattle.std.proofs.Common.{◌≡◌, ℕ, ◌+◌, ◌≤◌, Bool, true, false, List, [], Some, length, refl, ap, sym, ◌∙◌, subst, arith}
 use Rattle.std.proofs.Common.{inl, inr}
 use Rattle.std.specs.Prelude.{◌==◌, ◌||◌, ◌⊎◌, ◌^◌, slice_range}
 use Rattle.std.proofs.lemmas.Bool.{eqb-true}
@@ -99,7 +99,7 @@ module _ (s : Setting) (tables : Tables) (old mid : Arena Item) (first : ℕ) (c
   runs_are_few = subst (λ g. runs_in s.text g ≤ delimiters_of (relabelled (numbered old.nodes) (trees old.nodes first))) (sym q.quotes)
       (whole_quoted s tables old.nodes false false (trees old.nodes first) c.whole c.waits).1
 
-  pub chain_is : (count : ℕ) → count ≡ delimiters_of (relabelled (numbered old.nodes) (trees old.nodes first)) → length mid.nodes < 2 ^ 63
+  pub chain_is : (count : ℕ) → count ≡ delimiters_of (relabelled (numbered old.nodes) (trees old.nodes first)) → length mid.nodes ≤ 2 ^ 63
       → IsChainAt s tables mid.nodes first count (trees old.nodes first)
   unfolding with_quotes
   chain_is count e few = record {

@@ -1,5 +1,5 @@
 -- The characters of a run become texts, from the first on.
-use Rattle.std.proofs.Common.{◌≡◌, ℕ, zero, suc, ◌+◌, ◌<◌, Bool, true, List, [], ◌∷◌, Option, Some, length, refl, ap, sym, ◌∙◌, subst}
+use Rattle.std.proofs.Common.{◌≡◌, ◌≤◌, ℕ, zero, suc, ◌+◌, ◌<◌, Bool, true, List, [], ◌∷◌, Option, Some, length, refl, ap, sym, ◌∙◌, subst}
 use Rattle.std.proofs.Common.{arith}
 use Rattle.std.specs.Prelude.{false, ◌^◌}
 use Rattle.markdown_base.specs.declared.item.Item.{Item}
@@ -157,7 +157,7 @@ settling_done h s t rs met i last chain some e st b a =
           last_is = st.last_is;
           left_touched = st.left_touched;
           rest_touched = subst (λ f. AllTouched h.touched f) all (touched_over h.touched a.xs (flat rs) a.rest a.left_touched a.rest_touched);
-          few = subst (λ n. n < 2 ^ 63) (sym a.kept.size) st.few;
+          few = subst (λ n. n ≤ 2 ^ 63) (sym a.kept.size) st.few;
         };
         are = record { from = f.0; count = f.1 };
       },

@@ -160,7 +160,7 @@ pub record IsChainAt (s : Setting) (tables : Tables) (nodes : List (Node Item)) 
     pub is : IsSpelled nodes first f
     pub counted : runs_in s.text (labels s tables nodes f) ≤ count
     pub whole : AreWhole s.text (labels s tables nodes f)
-    pub few : length nodes < 2 ^ 63
+    pub few : length nodes ≤ 2 ^ 63
 
 -- the links from `first` on now lead through the chain with its runs paired, whose numbers rise, and only nodes of the
 -- chain itself have changed

@@ -1,5 +1,5 @@
 -- The part of a chain of an arena that has been read, and the rest.
-use Rattle.std.specs.Prelude.{◌≡◌, ℕ, suc, ◌+◌, ◌<◌, ◌≤◌, ◌^◌, Bool, List, [], ◌∷◌, length, Option, Some, None}
+use Rattle.std.specs.Prelude.{◌≡◌, ℕ, suc, ◌+◌, ◌≤◌, ◌^◌, Bool, List, [], ◌∷◌, length, Option, Some, None}
 use Rattle.markdown_base.specs.declared.item.Item.{Item}
 use Rattle.markdown_base.specs.Arena.{Arena}
 use Rattle.markdown_base.specs.Forest.{Forest, nil, node}
@@ -92,7 +92,7 @@ pub record Stands (h : Chain) (s : Arena Item) (rs : List (Read ℕ)) (last l : 
     pub last_is : last ≡ top (flat rs)
     pub left_touched : AllTouched h.touched (flat rs)
     pub rest_touched : AllTouched h.touched rest
-    pub few : length s.nodes < 2 ^ 63
+    pub few : length s.nodes ≤ 2 ^ 63
 
 -- t is s with the chain read further, and nothing else changed
 pub record Reads (h : Chain) (s t : Arena Item) (rs : List (Read ℕ)) (last l : Option ℕ)

@@ -1,5 +1,5 @@
 -- An opener's characters in an arena while they become nodes around a chain.
-use Rattle.std.specs.Prelude.{◌≡◌, ℕ, ◌+◌, ◌-◌, ◌<◌, ◌≤◌, ◌^◌, List, length, Option, Some}
+use Rattle.std.specs.Prelude.{◌≡◌, ℕ, ◌+◌, ◌-◌, ◌≤◌, ◌^◌, List, length, Option, Some}
 use Rattle.markdown_base.specs.declared.item.Item.{Item}
 use Rattle.markdown_base.specs.declared.item.ItemBody.{ItemBody}
 use Rattle.markdown_base.specs.Arena.{Arena, sibling_of}
@@ -40,7 +40,7 @@ pub record Encloses (h : Chain) (g : Around) (s : Arena Item) (opener closer : C
     pub left_touched : AllTouched h.touched (left_texts g.opening g.before)
     pub inside_touched : AllTouched h.touched g.inside
     pub right_touched : AllTouched h.touched (texts g.closing g.after)
-    pub few : length s.nodes < 2 ^ 63
+    pub few : length s.nodes ≤ 2 ^ 63
 
 -- the link to what follows the last of an opener's characters
 abbrev pub inner_of : Characters → Arena Item → Option ℕ

@@ -1,5 +1,5 @@
 //! Quotes of a chain under smart punctuation, and a hard break by a backslash at its end.
-ghost use Rattle.std.specs.Prelude.{◌≡◌, ◌<◌, ◌^◌, ℕ, Bool, List, Option, length};
+ghost use Rattle.std.specs.Prelude.{◌≡◌, ◌≤◌, ◌^◌, ℕ, Bool, List, Option, length};
 ghost use Rattle.markdown_base.specs.WellFormed.{run_character};
 ghost use Rattle.markdown_document.specs.Document.{shape_of};
 ghost use Rattle.markdown_document.specs.Tables.{Tables};
@@ -144,10 +144,8 @@ pub fn quote_chain(tree: &mut Tree<Item>, first: usize) -> u64
     requires chain { CanQuoteChain tree.old.nodes first }
     ensures quotes { QuotesChain tree.old tree.new first }
     ensures count { Counts tree.old.nodes first result }
-    ensures small { length tree.new.nodes < 2 ^ 63 }
+    ensures few { length tree.new.nodes ≤ 2 ^ 63 }
 {
-    // bounds the node numbers
-    let _nodes = tree.len();
     let mut opened = OpenQuotes {
         single: None,
         double: false,

@@ -1,6 +1,6 @@
 -- The quotes first, and then the runs; and what that leaves in place.
 use Rattle.std.proofs.Common.{◌≡◌, ℕ, List, [], Option, Some, length, false, refl, ap, sym, ◌∙◌, arith, Ok, Err}
-use Rattle.std.specs.Prelude.{OnOk, Result, ◌+◌, ◌*◌, ◌^◌, ◌<◌, ◌≤◌}
+use Rattle.std.specs.Prelude.{OnOk, Result, ◌+◌, ◌*◌, ◌^◌, ◌≤◌}
 use Rattle.markdown_base.specs.Arena.{Arena}
 use Rattle.markdown_base.specs.BlockTree.{trees_at}
 use Rattle.markdown_base.specs.declared.item.Item.{Item}
@@ -47,7 +47,7 @@ quote_chain-delimiters-requires c = record {
 
 -- the chain in a setting, after its quotes
 module _ (s : Setting) (tables : Tables) (old mid : Arena Item) (first count : ℕ) (c : CanPair s.text old.nodes first)
-    (quotes : QuotesChain old mid first) (counts : Counts old.nodes first count) (few : length mid.nodes < 2 ^ 63) where
+    (quotes : QuotesChain old mid first) (counts : Counts old.nodes first count) (few : length mid.nodes ≤ 2 ^ 63) where
   quoted : IsQuoted s tables old mid first (trees old.nodes first)
   quoted = quotes s tables (trees old.nodes first) (spelled_is s.text old.nodes first c)
 
@@ -86,7 +86,7 @@ pub pair_runs-done-requires-clause-chain : goal.pair_runs-done-requires-clause-c
 pair_runs-done-requires-clause-chain c =
     let s : Setting = setting_of c.args.text.now (rules_by c.args.options) in
     let ch = chain_at s no_tables c.args.tree.now c.quote_chain-delimiters.new.tree c.args.first c.quote_chain-delimiters.result
-    c.requires.chain c.quote_chain-delimiters.ensures.quotes c.quote_chain-delimiters.ensures.count c.quote_chain-delimiters.ensures.small in
+    c.requires.chain c.quote_chain-delimiters.ensures.quotes c.quote_chain-delimiters.ensures.count c.quote_chain-delimiters.ensures.few in
     record {
       setting = s;
       marks_are = sym c.of_options.ensures;
@@ -110,7 +110,7 @@ returns-clause-pairs c =
     let s : Setting = setting_of c.args.text.now rules in
     pairs_chain s c.args.tree.now c.pair_runs-done.new.tree c.args.first c.requires.chain
     (λ tables. chain_done s tables c.args.tree.now c.quote_chain-delimiters.new.tree c.args.first c.quote_chain-delimiters.result
-    c.requires.chain c.quote_chain-delimiters.ensures.quotes c.quote_chain-delimiters.ensures.count c.quote_chain-delimiters.ensures.small
+    c.requires.chain c.quote_chain-delimiters.ensures.quotes c.quote_chain-delimiters.ensures.count c.quote_chain-delimiters.ensures.few
     c.of_options.result c.as_bytes.result.now c.pair_runs-done.new.tree (ap marks_of same ∙ sym c.of_options.ensures)
     (sym c.as_bytes.ensures.value) pairs))
     c.pair_runs-done.ensures.pairs
@@ -121,7 +121,7 @@ returns-clause-place c =
     (λ pairs.
     let s : Setting = setting_of c.args.text.now (rules_by c.args.options) in
     let r = chain_done s no_tables c.args.tree.now c.quote_chain-delimiters.new.tree c.args.first c.quote_chain-delimiters.result
-    c.requires.chain c.quote_chain-delimiters.ensures.quotes c.quote_chain-delimiters.ensures.count c.quote_chain-delimiters.ensures.small
+    c.requires.chain c.quote_chain-delimiters.ensures.quotes c.quote_chain-delimiters.ensures.count c.quote_chain-delimiters.ensures.few
     c.of_options.result c.as_bytes.result.now c.pair_runs-done.new.tree (sym c.of_options.ensures) (sym c.as_bytes.ensures.value) pairs in
     place_is c.args.tree.now c.pair_runs-done.new.tree r.kept.spine r.kept.cursor)
     c.pair_runs-done.ensures.pairs
@@ -132,7 +132,7 @@ returns-clause-found c =
     (λ found rules tables same.
     let s : Setting = setting_of c.args.text.now rules in
     let all = chain_found s tables c.args.tree.now c.quote_chain-delimiters.new.tree c.args.first c.quote_chain-delimiters.result
-    c.requires.chain c.quote_chain-delimiters.ensures.quotes c.quote_chain-delimiters.ensures.count c.quote_chain-delimiters.ensures.small
+    c.requires.chain c.quote_chain-delimiters.ensures.quotes c.quote_chain-delimiters.ensures.count c.quote_chain-delimiters.ensures.few
     c.of_options.result c.as_bytes.result.now c.clear.new.self c.pair_runs-done.new.openers (ap marks_of same ∙ sym c.of_options.ensures)
     (sym c.as_bytes.ensures.value) found in
     let none : c.clear.new.self.examined ≡ 0 = ap (λ o. o.examined) c.clear.ensures in
@@ -145,7 +145,7 @@ pub returns-clause-examined : goal.returns-clause-examined
 returns-clause-examined c =
     let s : Setting = setting_of c.args.text.now (rules_by c.args.options) in
     let paid = chain_paid s no_tables c.args.tree.now c.quote_chain-delimiters.new.tree c.args.first c.quote_chain-delimiters.result
-    c.requires.chain c.quote_chain-delimiters.ensures.quotes c.quote_chain-delimiters.ensures.count c.quote_chain-delimiters.ensures.small
+    c.requires.chain c.quote_chain-delimiters.ensures.quotes c.quote_chain-delimiters.ensures.count c.quote_chain-delimiters.ensures.few
     c.of_options.result c.as_bytes.result.now c.clear.new.self c.pair_runs-done.new.openers (sym c.of_options.ensures)
     (sym c.as_bytes.ensures.value) c.pair_runs-done.ensures.paid in
     let none : c.clear.new.self.potential ≡ 0 = ap (λ o. o.potential) c.clear.ensures in
@@ -162,5 +162,5 @@ returns-clause-counted c =
       c.count_pairing.ensures,
       counted s no_tables c.args.tree.now c.quote_chain-delimiters.new.tree c.args.first
           c.quote_chain-delimiters.result c.requires.chain c.quote_chain-delimiters.ensures.quotes c.quote_chain-delimiters.ensures.count
-          c.quote_chain-delimiters.ensures.small,
+          c.quote_chain-delimiters.ensures.few,
     ) refl

@@ -1,5 +1,5 @@
 -- Each find goes on as the definition does, where the run can close.
-use Rattle.std.proofs.Common.{◌≡◌, ◌^◌, ◌<◌, ℕ, Option, Some, None, ap, refl, arith, length, Ok, Err}
+use Rattle.std.proofs.Common.{◌≡◌, ◌≤◌, ◌^◌, ◌<◌, ℕ, Option, Some, None, ap, refl, arith, length, Ok, Err}
 use Rattle.std.specs.Prelude.{IfOk, IsSome, Result}
 use Rattle.std.proofs.lemmas.Bool.{not-false}
 use Rattle.markdown_delims.proofs.CloseLemmas.{last_within}
@@ -51,7 +51,7 @@ overflow_add-closer c =
     let p = c.requires.stands in
     let a = c.turns.invariant.goes_on p.chain p.rs p.vs p.after p.marks_are p.stands p.are in
     let w = last_within p.chain c.turns.tree a.rs c.turns.before c.turns.closer a.vs p.after a.stands c.turns.invariant.some in
-    let few : length c.turns.tree.nodes < 2 ^ 63 = a.stands.stands.few in
+    let few : length c.turns.tree.nodes ≤ 2 ^ 63 = a.stands.stands.few in
     omega arith
 
 pub returns-then-closer-opener-clause-ok : goal.returns-then-closer-opener-clause-ok

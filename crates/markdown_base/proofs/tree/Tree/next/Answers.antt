@@ -19,3 +19,6 @@ returns-clause-within g c =
     c.target.ensures
     ∙ read_next c.self.inside.nodes.items c.args.ix c.index.result.now (rw (← c.self.view_is) at c.requires) c.index.ensures in
     rw (← c.self.view_is, value) within
+
+pub returns-clause-few : goal.returns-clause-few
+returns-clause-few g c = rw (← c.self.view_is) c.self.invariant.few
