@@ -22,6 +22,7 @@ use Rattle.markdown_delims.specs.PairingFinds.{finds_in}
 use Rattle.markdown_resolver.specs.ChainCounts.{RisesInPart, chain_counts}
 use Rattle.markdown_resolver.specs.Chains.{ResolvesFrom}
 use Rattle.markdown_resolver.specs.PassOne.{Outcome, pass_one}
+use Rattle.markdown_resolver.specs.ReadsChain.{ReadCounts}
 use Rattle.markdown_resolver.proofs.PairedLemmas.{delimiters_left}
 
 -- a chain has as many items as nodes, and at least one
@@ -34,14 +35,6 @@ chain_items source tables nodes l =
 -- the same rise
 same_rise : (most most' old new new' : ℕ) → most' ≡ most → new' ≡ new → RisesAtMost most old new → RisesAtMost most' old new'
 same_rise most most' old new new' e e' r = record { more = r.more; within = omega (arith, e, r.within); counted = e' ∙ r.counted }
-
--- what reading a chain with this number of items makes of the counts
-pub record ReadCounts (items : ℕ) (old new : Work) : Type 0 where
-  pub items_counted : new.items ≡ risen items old.items
-  pub same_delimiters : new.delimiters ≡ old.delimiters
-  pub same_examined : new.examined ≡ old.examined
-  pub code : RisesAtMost items old.code_visits new.code_visits
-  pub math : RisesAtMost items old.math_visits new.math_visits
 
 -- what pairing makes of the counts, with these numbers of delimiter characters and of searches that find
 pub record PairCounts (delimiters found : ℕ) (old new : Work) : Type 0 where

@@ -19,6 +19,7 @@ pub mod ClosedOver
 pub mod ChainPlace
 pub mod BracketKinds
 pub mod ReadsBracket
+pub mod ReadsChain
 pub mod StoredText
 pub mod PutCode
 pub mod MarkupItems

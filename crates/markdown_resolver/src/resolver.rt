@@ -50,23 +50,19 @@ impl<'a, F: BrokenLinkCallback<'a>> Resolver<'a, F> {
     ghost use Rattle.markdown_brackets.specs.Reference.{is_closer};
     ghost use Rattle.markdown_brackets.specs.SpentEnds.{is_spent};
     ghost use Rattle.markdown_base.specs.Item.{is_open};
-    ghost use Rattle.markdown_document.specs.Counts.{RisesAtMost, risen};
-    ghost use Rattle.markdown_document.specs.Document.{plain_tags};
-    ghost use Rattle.markdown_document.specs.Places.{trees_from};
+    ghost use Rattle.markdown_document.specs.Counts.{risen};
     ghost use Rattle.markdown_document.specs.Setting.{rules_from, setting_of};
     ghost use Rattle.markdown_document.specs.Stages.{items_from, stage, above_cursor};
     ghost use Rattle.markdown_document.specs.Tables.{tables_of};
     ghost use Rattle.markdown_resolver.specs.BracketKinds.{kind_of};
-    ghost use Rattle.markdown_resolver.specs.Chains.{CanResolve, AreAbove, ResolvesChain, ResolvesFrom, StopsIn};
-    ghost use Rattle.markdown_resolver.specs.Kept.{IsUnread};
-    ghost use Rattle.markdown_resolver.specs.PassOne.{pass_one};
+    ghost use Rattle.markdown_resolver.specs.Chains.{CanResolve, ResolvesChain, StopsIn};
     ghost use Rattle.markdown_resolver.specs.ReadOn.{StopsInPassOne};
     ghost use Rattle.markdown_resolver.specs.ReadsBracket.{CanReadNode, ChangesForBracket, ChangesForDecision};
     ghost use Rattle.markdown_resolver.specs.ReadsBracket.{ChangesForNode, DecidesClosing};
     ghost use Rattle.markdown_resolver.specs.ReadsBracket.{CanReadOther, ChangesForOther, ReadsBracket, ReadsNode};
     ghost use Rattle.markdown_resolver.specs.ReadsBracket.{ReadsOther, StopsAtNode, StopsLooking, StopsReading};
     ghost use Rattle.markdown_resolver.specs.ReadsBracket.{setting_by, stage_by};
-    ghost use Rattle.markdown_defs.specs.Footnotes.{footnote_at};
+    ghost use Rattle.markdown_resolver.specs.ReadsChain.{CanResolveBelow, ChangesForChain, KeepsInput, ReadCounts, ReadsChain};
 
     /// Reads the item of a node of a chain, which is not a bracket. The scanner has to be one of the text up to the
     /// block's end. Returns the node at which the chain continues. The only error is `Fault::Memory`.
@@ -257,51 +253,20 @@ impl<'a, F: BrokenLinkCallback<'a>> Resolver<'a, F> {
     /// to right. The only error is `Fault::Memory`.
     fn read_chain(&mut self, tree: &mut Tree<Item>, first: usize) -> Result<(), Fault>
         requires can_ask { IfSome self.old.lookup.callback F.can_ask }
-        requires ready { CanResolve self.old.text.now (tables_of self.old.lookup.tables) tree.old.nodes
-            (Some first) }
-        requires unread { IsUnread (trees_from self.old.text.now (tables_of self.old.lookup.tables)
-            tree.old.nodes (Some first)) }
-        requires above { AreAbove self.old.text.now tree.old.nodes (Some first) tree.old.spine }
-        ensures reads { IfOk result (λ _. ResolvesFrom F.answers self.old.text.now
-            (pass_one (setting_by self.old) plain_tags (above_cursor self.old.text.now tree.old))
-            (Some first)
-            (stage_by tree.old self.old) (stage_by tree.new self.new)) }
-        ensures place { IfOk result (λ _. tree.new ≡ record tree.old { nodes = tree.new.nodes }) }
+        requires ready { CanResolveBelow self.old.text.now (tables_of self.old.lookup.tables) tree.old
+            first }
+        ensures reads { IfOk result (λ _.
+            ReadsChain F.answers first tree.old tree.new self.old self.new) }
 
         // on an error, and in any case
-        ensures items { self.new.work.items
-            ≡ risen (items_from tree.old.nodes (Some first)) self.old.work.items }
-        ensures code_visits { RisesAtMost (items_from tree.old.nodes (Some first))
-            self.old.work.code_visits self.new.work.code_visits }
-        ensures math_visits { RisesAtMost (items_from tree.old.nodes (Some first))
-            self.old.work.math_visits self.new.work.math_visits }
+        ensures refused { IfErr result (λ fault. fault ≡ Fault.Memory) }
         ensures stops { IfErr result (λ _. StopsInPassOne F.answers (setting_by self.old)
             (above_cursor self.old.text.now tree.old) first (stage_by tree.old self.old)
             self.new.lookup.callback) }
         ensures again { IfSome self.new.lookup.callback F.can_ask }
-        ensures kept { self.new ≡ record self.old {
-          lookup = record self.old.lookup {
-            tables = record self.old.lookup.tables {
-              cows = self.new.lookup.tables.cows;
-              links = self.new.lookup.tables.links;
-              footdefs = self.new.lookup.tables.footdefs;
-            };
-            limit = self.new.lookup.limit;
-            callback = self.new.lookup.callback;
-          };
-          waiting = self.new.waiting;
-          work = record self.old.work {
-            items = self.new.work.items;
-            code_visits = self.new.work.code_visits;
-            math_visits = self.new.work.math_visits;
-          };
-          code_closers = self.new.code_closers;
-          math_closers = self.new.math_closers;
-        } }
-        ensures footnotes { (name : List ℕ)
-            → is_some (footnote_at self.new.lookup.tables.footdefs name)
-            ≡ is_some (footnote_at self.old.lookup.tables.footdefs name) }
-        ensures refused { IfErr result (λ fault. fault ≡ Fault.Memory) }
+        ensures counts { ReadCounts (items_from tree.old.nodes (Some first)) self.old.work
+            self.new.work }
+        ensures kept { ChangesForChain self.old self.new }
     {
         self.begin_chain(tree, first);
         let place = place_of_chain(tree, self.text, self.options);
@@ -317,12 +282,9 @@ impl<'a, F: BrokenLinkCallback<'a>> Resolver<'a, F> {
     /// only error is `Fault::Memory`; the tree and the tables are then in an unspecified state.
     pub fn resolve_chain(&mut self, tree: &mut Tree<Item>, first: usize) -> Result<(), Fault>
         requires can_ask { IfSome self.old.lookup.callback F.can_ask }
-        requires ready { CanResolve self.old.text.now (tables_of self.old.lookup.tables) tree.old.nodes
-            (Some first) }
-        requires unread { IsUnread (trees_from self.old.text.now (tables_of self.old.lookup.tables)
-            tree.old.nodes (Some first)) }
+        requires ready { CanResolveBelow self.old.text.now (tables_of self.old.lookup.tables) tree.old
+            first }
         requires open { is_open (item_at tree.old.nodes first).body ≡ true }
-        requires above { AreAbove self.old.text.now tree.old.nodes (Some first) tree.old.spine }
         ensures resolves { IfOk result (λ _. ResolvesChain F.answers
             (setting_of self.old.text.now
             (rules_from self.old.options self.old.lookup.tables (is_some self.old.lookup.callback)))
@@ -338,9 +300,7 @@ impl<'a, F: BrokenLinkCallback<'a>> Resolver<'a, F> {
             (stage tree.old self.old.lookup.tables self.old.lookup.limit self.old.lookup.callback) self.new.lookup.callback
             self.old.work self.new.work) }
         ensures again { IfSome self.new.lookup.callback F.can_ask }
-        ensures text { self.new.text ≡ self.old.text }
-        ensures options { self.new.options ≡ self.old.options }
-        ensures definitions { self.new.lookup.tables.refdefs ≡ self.old.lookup.tables.refdefs }
+        ensures kept { KeepsInput self.old self.new }
     {
         self.read_chain(tree, first)?;
         pair_chain(

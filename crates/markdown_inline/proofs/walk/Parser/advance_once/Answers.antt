@@ -16,14 +16,12 @@ resolve_chain-requires g c κs =
       (
         c.requires,
         (
-          rw h.1 (before_chain s.resolver.text.now s.tree s.resolver.lookup.tables c.in-Ok-Chain.first s.stands h.0),
-          (
-            rw h.1 (unread_chain s.resolver.text.now s.tree s.resolver.lookup.tables c.in-Ok-Chain.first s.stands h.0),
-            (
-              rw h.1 h.0.is_open,
-              rw h.1 (above_chain s.resolver.text.now s.tree s.resolver.lookup.tables c.in-Ok-Chain.first s.stands h.0),
-            ),
-          ),
+          record {
+            ready = rw h.1 (before_chain s.resolver.text.now s.tree s.resolver.lookup.tables c.in-Ok-Chain.first s.stands h.0);
+            unread = rw h.1 (unread_chain s.resolver.text.now s.tree s.resolver.lookup.tables c.in-Ok-Chain.first s.stands h.0);
+            above = rw h.1 (above_chain s.resolver.text.now s.tree s.resolver.lookup.tables c.in-Ok-Chain.first s.stands h.0);
+          },
+          rw h.1 h.0.is_open,
         ),
       ),
     )
@@ -33,7 +31,7 @@ invariant_of-self-in-Ok g c =
     let s = c.args.self.now in
     let h = rw c.in-Ok-Chain.field-0-is at (c.in-Ok-Chain.ensures s.resolver.text.now s.resolver.lookup.tables s.stands) in
     record {
-      stands = rw c.in-Ok.ensures.text (stands_chain g.F.BrokenLinkCallback.answers (parser_setting s) s.tree c.resolve_chain.new.tree
+      stands = rw c.in-Ok.ensures.kept.text (stands_chain g.F.BrokenLinkCallback.answers (parser_setting s) s.tree c.resolve_chain.new.tree
           s.resolver.lookup.tables c.resolve_chain.new.self.lookup.tables c.in-Ok-Chain.first
           s.resolver.lookup.limit c.resolve_chain.new.self.lookup.limit s.resolver.lookup.callback c.resolve_chain.new.self.lookup.callback s.resolver.work
           c.resolve_chain.new.self.work
@@ -94,7 +92,7 @@ pub returns-in-Ok-clause-moves : goal.returns-in-Ok-clause-moves
 returns-in-Ok-clause-moves g c =
     let s = c.args.self.now in
     let h = rw c.in-Ok-Chain.field-0-is at (c.in-Ok-Chain.ensures s.resolver.text.now s.resolver.lookup.tables s.stands) in
-    moved_chain g.F.BrokenLinkCallback.answers c.args.self.now _ c.in-Ok-Chain.first c.in-Ok.ensures.text c.in-Ok.ensures.options
+    moved_chain g.F.BrokenLinkCallback.answers c.args.self.now _ c.in-Ok-Chain.first c.in-Ok.ensures.kept.text c.in-Ok.ensures.kept.options
     c.args.self.now.stands h.0 (rw h.1 at c.in-Ok.ensures.resolves)
 
 pub returns-in-Err-resolve_chain-clause-moves : goal.returns-in-Err-resolve_chain-clause-moves

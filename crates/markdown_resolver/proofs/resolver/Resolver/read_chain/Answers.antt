@@ -13,7 +13,7 @@ use Rattle.markdown_resolver.proofs.resolver.Resolver.read_chain.Goals as goal
 use Rattle.markdown_resolver.specs.ReadsBracket.{HasLearned}
 
 pub place_of_chain-place-requires : goal.place_of_chain-place-requires
-place_of_chain-place-requires g c = (Some c.args.first, rw c.begin_chain.ensures.kept c.requires.above)
+place_of_chain-place-requires g c = (Some c.args.first, rw c.begin_chain.ensures.kept c.requires.ready.above)
 
 pub chain-init : goal.chain-init
 chain-init g c =
@@ -23,8 +23,8 @@ chain-init g c =
     let b = c.begin_chain.new.self in
     rw c.begin_chain.ensures.kept (record {
       reads = up_to_none g.F.BrokenLinkCallback.answers (setting_of s.text.now (rules_from s.options s.lookup.tables (is_some s.lookup.callback)))
-          c.args.first c.args.tree.now s.lookup.tables s.lookup.limit s.lookup.callback b.waiting.spent b.waiting.openers.brackets b.waiting.openers.wikilinks c.requires.ready
-          c.requires.unread
+          c.args.first c.args.tree.now s.lookup.tables s.lookup.limit s.lookup.callback b.waiting.spent b.waiting.openers.brackets b.waiting.openers.wikilinks c.requires.ready.ready
+          c.requires.ready.unread
           c.begin_chain.ensures.spent c.begin_chain.ensures.brackets c.begin_chain.ensures.wikilinks;
       can_ask = c.requires.can_ask;
       scanner =
@@ -42,7 +42,7 @@ read_item-requires g c κs =
     let i = c.chain.invariant in
     let text : c.place_of_chain-place.result.text.now ≡ c.args.self.now.text.now = c.place_of_chain-place.ensures.text
     ∙ ap (λ (r : Resolver g.row.F.Denot). r.text.now) c.begin_chain.ensures.kept in
-    let can = can_read_on i.reads c.requires.above c.place_of_chain-place.result c.in-Some.ix c.in-Some.is text c.place_of_chain-place.ensures.place in
+    let can = can_read_on i.reads c.requires.ready.above c.place_of_chain-place.result c.in-Some.ix c.in-Some.is text c.place_of_chain-place.ensures.place in
     let options : c.begin_chain.new.self.options ≡ c.chain.self.options = ap (λ (r : Resolver g.row.F.Denot). r.options)
     c.begin_chain.ensures.kept ∙ sym (ap (λ (r : Resolver g.row.F.Denot). r.options) i.kept) in (
       (refl, tt),
@@ -69,12 +69,12 @@ returns-in_err-at-clause-stops g c =
     let at = c.chain.self in
     let text : c.place_of_chain-place.result.text.now ≡ s.text.now = c.place_of_chain-place.ensures.text
     ∙ ap (λ (r : Resolver g.row.F.Denot). r.text.now) c.begin_chain.ensures.kept in
-    let can = can_read_on i.reads c.requires.above c.place_of_chain-place.result c.in-Some.ix c.in-Some.is text c.place_of_chain-place.ensures.place in
+    let can = can_read_on i.reads c.requires.ready.above c.place_of_chain-place.result c.in-Some.ix c.in-Some.is text c.place_of_chain-place.ensures.place in
     let same = same_setting s.text.now at.text.now s.options at.options s.lookup.tables at.lookup.tables (is_some s.lookup.callback) (is_some at.lookup.callback)
     (ap (λ (r : Resolver g.row.F.Denot). r.text.now) i.kept) (ap (λ (r : Resolver g.row.F.Denot). r.options) i.kept)
     (ap (λ (r : Resolver g.row.F.Denot). r.lookup.tables.refdefs) i.kept)
-    i.footnotes (still_asks i.reads c.requires.above) in
-    if_err c.from_residual.result (up_to_stops i.reads c.requires.above
+    i.footnotes (still_asks i.reads c.requires.ready.above) in
+    if_err c.from_residual.result (up_to_stops i.reads c.requires.ready.above
     (setting_of at.text.now (rules_from at.options at.lookup.tables (is_some at.lookup.callback))) c.in-Some.ix c.read_item.new.self.lookup.callback same
     c.in-Some.is
     (c.in_err-at.ensures.stops.at_node c.args.first i.reads.reads.left_then can))
@@ -91,13 +91,13 @@ chain-preserved g c =
     let kept = c.read_item.ensures.kept.kept in
     let text : c.place_of_chain-place.result.text.now ≡ s.text.now = c.place_of_chain-place.ensures.text
     ∙ ap (λ (r : Resolver g.row.F.Denot). r.text.now) c.begin_chain.ensures.kept in
-    let can = can_read_on i.reads c.requires.above c.place_of_chain-place.result ix c.in-Some.is text c.place_of_chain-place.ensures.place in
+    let can = can_read_on i.reads c.requires.ready.above c.place_of_chain-place.result ix c.in-Some.is text c.place_of_chain-place.ensures.place in
     let same = same_setting s.text.now at.text.now s.options at.options s.lookup.tables at.lookup.tables (is_some s.lookup.callback) (is_some at.lookup.callback)
     (ap (λ (r : Resolver g.row.F.Denot). r.text.now) i.kept) (ap (λ (r : Resolver g.row.F.Denot). r.options) i.kept)
     (ap (λ (r : Resolver g.row.F.Denot). r.lookup.tables.refdefs) i.kept)
-    i.footnotes (still_asks i.reads c.requires.above) in
+    i.footnotes (still_asks i.reads c.requires.ready.above) in
     record {
-      reads = up_to_more i.reads c.requires.above (setting_of at.text.now (rules_from at.options at.lookup.tables (is_some at.lookup.callback))) ix next
+      reads = up_to_more i.reads c.requires.ready.above (setting_of at.text.now (rules_from at.options at.lookup.tables (is_some at.lookup.callback))) ix next
           new.tree new.self.lookup.tables new.self.lookup.limit new.self.lookup.callback
           new.self.waiting.spent new.self.waiting.openers.brackets new.self.waiting.openers.wikilinks same c.in-Some.is reads.goes_on.place_is
           (reads.goes_on.reads c.args.first i.reads.reads.left_then can) reads.goes_on.unread;
@@ -128,32 +128,32 @@ chain-preserved g c =
       } in x) i.kept;
     }
 
-pub returns-in_err-at-clause-items : goal.returns-in_err-at-clause-items
-returns-in_err-at-clause-items g c =
-    ap (λ (r : Resolver g.row.F.Denot). r.work.items) c.read_item.ensures.kept.kept
-    ∙ ap (λ (r : Resolver g.row.F.Denot). r.work.items) c.chain.invariant.kept
-
-pub returns-in_err-at-clause-code_visits : goal.returns-in_err-at-clause-code_visits
-returns-in_err-at-clause-code_visits g c =
+pub returns-in_err-at-clause-counts : goal.returns-in_err-at-clause-counts
+returns-in_err-at-clause-counts g c =
     let at = c.chain.self in
     let new = c.read_item.new.self in
-    let looks = looked_more (has_failed at.code_closers) (has_failed new.code_closers) c.args.self.now.work.code_visits at.work.code_visits
-    new.work.code_visits _ _ 0 (rw c.in-Some.is at c.chain.invariant.code_looks) c.in_err-at.ensures.stops.looking.code_looks in
-    record { more = looks.more; within = looks.within; counted = looks.counted }
-
-pub returns-in_err-at-clause-math_visits : goal.returns-in_err-at-clause-math_visits
-returns-in_err-at-clause-math_visits g c =
-    let at = c.chain.self in
-    let new = c.read_item.new.self in
-    let looks = looked_more (has_failed at.math_closers) (has_failed new.math_closers) c.args.self.now.work.math_visits at.work.math_visits
-    new.work.math_visits _ _ 0 (rw c.in-Some.is at c.chain.invariant.math_looks) c.in_err-at.ensures.stops.looking.math_looks in
-    record { more = looks.more; within = looks.within; counted = looks.counted }
+    let i = c.chain.invariant in
+    let same = c.read_item.ensures.kept.kept in
+    let looking = c.in_err-at.ensures.stops.looking in
+    let code = looked_more (has_failed at.code_closers) (has_failed new.code_closers) c.args.self.now.work.code_visits at.work.code_visits
+    new.work.code_visits _ _ 0 (rw c.in-Some.is at i.code_looks) looking.code_looks in
+    let math = looked_more (has_failed at.math_closers) (has_failed new.math_closers) c.args.self.now.work.math_visits at.work.math_visits
+    new.work.math_visits _ _ 0 (rw c.in-Some.is at i.math_looks) looking.math_looks in
+    record {
+      items_counted = ap (λ (r : Resolver g.row.F.Denot). r.work.items) same ∙ ap (λ (r : Resolver g.row.F.Denot). r.work.items) i.kept;
+      same_delimiters = ap (λ (r : Resolver g.row.F.Denot). r.work.delimiters) same
+          ∙ ap (λ (r : Resolver g.row.F.Denot). r.work.delimiters) i.kept;
+      same_examined = ap (λ (r : Resolver g.row.F.Denot). r.work.examined) same
+          ∙ ap (λ (r : Resolver g.row.F.Denot). r.work.examined) i.kept;
+      code = record { more = code.more; within = code.within; counted = code.counted };
+      math = record { more = math.more; within = math.within; counted = math.counted };
+    }
 
 pub returns-in_err-at-clause-kept : goal.returns-in_err-at-clause-kept
-returns-in_err-at-clause-kept g c = rw (c.read_item.ensures.kept.kept, c.chain.invariant.kept) refl
-
-pub returns-in_err-at-clause-footnotes : goal.returns-in_err-at-clause-footnotes
-returns-in_err-at-clause-footnotes g c = λ name. c.read_item.ensures.kept.footnotes name ∙ c.chain.invariant.footnotes name
+returns-in_err-at-clause-kept g c = record {
+  kept = rw (c.read_item.ensures.kept.kept, c.chain.invariant.kept) refl;
+  footnotes = λ name. c.read_item.ensures.kept.footnotes name ∙ c.chain.invariant.footnotes name;
+}
 
 pub returns : goal.returns
 returns g c =
@@ -161,14 +161,16 @@ returns g c =
     let code = i.code_looks in
     let math = i.math_looks in
     record {
-      reads = up_to_all i.reads c.requires.above c.in_default.is;
-      place = i.reads.tree;
-      items = ap (λ (r : Resolver g.row.F.Denot). r.work.items) i.kept;
-      code_visits = record { more = code.more; within = code.within; counted = code.counted };
-      math_visits = record { more = math.more; within = math.within; counted = math.counted };
+      reads = record { reads = up_to_all i.reads c.requires.ready.above c.in_default.is; place_is = i.reads.tree };
+      refused = tt;
       stops = tt;
       again = i.can_ask;
-      kept = rw i.kept refl;
-      footnotes = i.footnotes;
-      refused = tt;
+      counts = record {
+        items_counted = ap (λ (r : Resolver g.row.F.Denot). r.work.items) i.kept;
+        same_delimiters = ap (λ (r : Resolver g.row.F.Denot). r.work.delimiters) i.kept;
+        same_examined = ap (λ (r : Resolver g.row.F.Denot). r.work.examined) i.kept;
+        code = record { more = code.more; within = code.within; counted = code.counted };
+        math = record { more = math.more; within = math.within; counted = math.counted };
+      };
+      kept = record { kept = rw i.kept refl; footnotes = i.footnotes };
     }

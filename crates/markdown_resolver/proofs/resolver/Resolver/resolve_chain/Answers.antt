@@ -6,12 +6,12 @@ use Rattle.markdown_base.specs.declared.item.Item.{Item}
 use Rattle.markdown_document.specs.Setting.{rules_from, setting_of}
 use Rattle.markdown_document.specs.Counts.{RisesAtLeast}
 use Rattle.markdown_document.specs.Places.{trees_from}
-use Rattle.markdown_document.specs.Stages.{chain_at, items_from, stage, above_cursor}
+use Rattle.markdown_document.specs.Stages.{chain_at, stage, above_cursor}
 use Rattle.markdown_document.specs.Tables.{tables_of}
 use Rattle.markdown_delims.specs.PairingFinds.{finds_in}
 use Rattle.markdown_resolver.specs.declared.resolver.Resolver.{Resolver}
 use Rattle.markdown_resolver.proofs.PairedLemmas.{read_can_pair, then_pairs, stops_in, stops_resolving}
-use Rattle.markdown_resolver.proofs.WorkLemmas.{ReadCounts, counts_in_part, counts_rise, read_in_part}
+use Rattle.markdown_resolver.proofs.WorkLemmas.{counts_in_part, counts_rise, read_in_part}
 use Rattle.markdown_document.proofs.CountLemmas.{rises_at_none}
 use Rattle.markdown_resolver.proofs.resolver.Resolver.resolve_chain.Goals as goal
 
@@ -26,20 +26,14 @@ pair_chain-requires g c =
     let after = c.read_chain.new.self in
     let can = read_can_pair g.F.BrokenLinkCallback.answers (setting_of s.text.now rules) (above_cursor s.text.now c.args.tree.now)
     c.args.first (stage c.args.tree.now s.lookup.tables s.lookup.limit s.lookup.callback)
-    (stage c.read_chain.new.tree after.lookup.tables after.lookup.limit after.lookup.callback) c.requires.ready.quiet_below c.in_ok-read_chain.ensures.reads in
-    record { chain = rw c.read_chain.ensures.kept can }
+    (stage c.read_chain.new.tree after.lookup.tables after.lookup.limit after.lookup.callback) c.requires.ready.ready.quiet_below c.in_ok-read_chain.ensures.reads.reads in
+    record { chain = rw c.read_chain.ensures.kept.kept can }
 
 pub returns-in_err-read_chain-clause-stops : goal.returns-in_err-read_chain-clause-stops
 returns-in_err-read_chain-clause-stops g c =
     let s = c.args.self.now in
     let rules = rules_from s.options s.lookup.tables (is_some s.lookup.callback) in
-    let read : ReadCounts (items_from c.args.tree.now.nodes (Some c.args.first)) s.work c.read_chain.new.self.work = record {
-      items_counted = c.read_chain.ensures.items;
-      same_delimiters = ap (λ (r : Resolver g.row.F.Denot). r.work.delimiters) c.read_chain.ensures.kept;
-      same_examined = ap (λ (r : Resolver g.row.F.Denot). r.work.examined) c.read_chain.ensures.kept;
-      code = c.read_chain.ensures.code_visits;
-      math = c.read_chain.ensures.math_visits;
-    } in
+    let read = c.read_chain.ensures.counts in
     if_err c.from_residual.result
     (stops_resolving g.F.BrokenLinkCallback.answers (setting_of s.text.now rules) (above_cursor s.text.now c.args.tree.now) c.args.first
     (stage c.args.tree.now s.lookup.tables s.lookup.limit s.lookup.callback) c.read_chain.new.self.lookup.callback s.work c.read_chain.new.self.work
@@ -57,15 +51,9 @@ returns-in_err-pair_chain-clause-stops g c =
     let after = c.read_chain.new.self in
     let old = stage c.args.tree.now s.lookup.tables s.lookup.limit s.lookup.callback in
     let mid = stage c.read_chain.new.tree after.lookup.tables after.lookup.limit after.lookup.callback in
-    let reads = c.in_ok-read_chain.ensures.reads in
+    let reads = c.in_ok-read_chain.ensures.reads.reads in
     let paired = c.pair_chain.ensures in
-    let read : ReadCounts (items_from c.args.tree.now.nodes (Some c.args.first)) s.work c.read_chain.new.self.work = record {
-      items_counted = c.read_chain.ensures.items;
-      same_delimiters = ap (λ (r : Resolver g.row.F.Denot). r.work.delimiters) c.read_chain.ensures.kept;
-      same_examined = ap (λ (r : Resolver g.row.F.Denot). r.work.examined) c.read_chain.ensures.kept;
-      code = c.read_chain.ensures.code_visits;
-      math = c.read_chain.ensures.math_visits;
-    } in
+    let read = c.read_chain.ensures.counts in
     if_err c.from_residual-in_err-pair_chain.result
     (stops_in step setting above c.args.first old mid s.work c.pair_chain.new.work reads
     (counts_in_part step setting above c.args.first old mid s.work after.work c.pair_chain.new.work
@@ -82,8 +70,8 @@ returns-clause-resolves g c =
     let after = c.read_chain.new.self in
     let old = stage c.args.tree.now s.lookup.tables s.lookup.limit s.lookup.callback in
     let mid = stage c.read_chain.new.tree after.lookup.tables after.lookup.limit after.lookup.callback in
-    let kept = c.read_chain.ensures.kept in
-    let reads = c.in_ok-read_chain.ensures in
+    let kept = c.read_chain.ensures.kept.kept in
+    let reads = c.in_ok-read_chain.ensures.reads in
     let pairs = rw kept at (c.in_ok-pair_chain.ensures.pairs rules (rw kept refl)) in
     let finds : RisesAtLeast (finds_in setting (chain_at s.text.now mid (Some c.args.first))) after.work.examined
     c.pair_chain.new.work.examined =
@@ -91,19 +79,13 @@ returns-clause-resolves g c =
     (Some c.args.first)))
     after.work.examined c.pair_chain.new.work.examined) (ap (λ (r : Resolver g.row.F.Denot). r.text.now) kept)
     (c.in_ok-pair_chain.ensures.found rules (tables_of after.lookup.tables) (rw kept refl)) in
-    let read : ReadCounts (items_from c.args.tree.now.nodes (Some c.args.first)) s.work c.read_chain.new.self.work = record {
-      items_counted = c.read_chain.ensures.items;
-      same_delimiters = ap (λ (r : Resolver g.row.F.Denot). r.work.delimiters) c.read_chain.ensures.kept;
-      same_examined = ap (λ (r : Resolver g.row.F.Denot). r.work.examined) c.read_chain.ensures.kept;
-      code = c.read_chain.ensures.code_visits;
-      math = c.read_chain.ensures.math_visits;
-    } in
+    let read = c.read_chain.ensures.counts in
     record {
       tree = c.in_ok-pair_chain.ensures.place ∙ ap (λ (t : Arena Item). let u : Arena Item =
-          record t { nodes = c.pair_chain.new.tree.nodes } in u) reads.place;
+          record t { nodes = c.pair_chain.new.tree.nodes } in u) reads.place_is;
       tables = rw kept refl;
-      footnotes = λ name. c.read_chain.ensures.footnotes name;
-      chain = then_pairs step setting above c.args.first old mid c.pair_chain.new.tree.nodes c.requires.ready.quiet_below reads.reads pairs;
+      footnotes = λ name. c.read_chain.ensures.kept.footnotes name;
+      chain = then_pairs step setting above c.args.first old mid c.pair_chain.new.tree.nodes c.requires.ready.ready.quiet_below reads.reads pairs;
       counted = counts_rise step setting above c.args.first old mid s.work after.work c.pair_chain.new.work
           reads.reads read
           (record { counted = c.pair_chain.ensures.counted; compared = c.pair_chain.ensures.examined; finds = finds });
