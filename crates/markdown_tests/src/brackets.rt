@@ -7,21 +7,32 @@ use markdown_base::cow_str::CowStr;
 use markdown_base::fault::Fault;
 use markdown_base::item::{Item, ItemBody};
 use markdown_base::tag::LinkType;
+use markdown_brackets::block_rules::BlockRules;
 use markdown_brackets::chain_openers::ChainOpeners;
 use markdown_brackets::footnote::{FootnoteStyle, use_footnote};
 use markdown_brackets::items_after::NoItems;
 use markdown_brackets::link_tail::scan_link_tail;
-use markdown_brackets::look_up::look_up_label;
+use markdown_brackets::look_up::{LabelLookup, look_up_label};
 use markdown_brackets::openers::Opener;
 use markdown_brackets::reference::{Form, scan_form};
 use markdown_brackets::wikilink::{Shown, scan_wikilink_body};
-use markdown_defs::{Allocations, BrokenLinkCallback, Closure, DefaultBrokenLinkCallback};
+use markdown_defs::{Allocations, BrokenLink, BrokenLinkCallback, Closure, DefaultBrokenLinkCallback};
 use markdown_scan::line_rule::NoPrefix;
 use markdown_test_helpers::parts::{defining, no_parts};
 use markdown_test_helpers::rows::gives;
 use markdown_test_helpers::trees::{item, text};
 use std::alloc::{AllocError, Global};
 use std::test::Fail;
+
+/// Returns how the parts of links are read in a block without line prefixes, with footnotes in GitHub's style.
+fn rules(alloc: Global, in_table: bool) -> BlockRules<'static, NoPrefix> {
+    BlockRules {
+        alloc,
+        rule: &NoPrefix,
+        in_table,
+        style: FootnoteStyle::Gfm,
+    }
+}
 
 /// Returns whether the text is a tail with this destination and title, each a slice of it if `are_slices` is true.
 fn is_tail(
@@ -35,7 +46,7 @@ fn is_tail(
     if !text.is_char_boundary(0) {
         return Ok(false);
     }
-    match scan_link_tail(alloc, text, 0, in_table, &NoPrefix, &mut NoItems)? {
+    match scan_link_tail(&rules(alloc, in_table), text, 0, &mut NoItems)? {
         None => Ok(false),
         Some(tail) => {
             let slices = matches!(&tail.destination, CowStr::Borrowed(_))
@@ -80,7 +91,7 @@ fn is_no_tail(alloc: Global, text: &str) -> Result<bool, AllocError> {
     if !text.is_char_boundary(0) {
         return Ok(false);
     }
-    Ok(scan_link_tail(alloc, text, 0, false, &NoPrefix, &mut NoItems)?.is_none())
+    Ok(scan_link_tail(&rules(alloc, false), text, 0, &mut NoItems)?.is_none())
 }
 
 #[test]
@@ -112,16 +123,7 @@ fn label_of(
     if !source.is_char_boundary(at) {
         return Ok(None);
     }
-    let form = scan_form(
-        alloc,
-        source,
-        at,
-        FootnoteStyle::Gfm,
-        &NoPrefix,
-        false,
-        next,
-        after,
-    )?;
+    let form = scan_form(&rules(alloc, false), source, at, next, after)?;
     match form {
         Form::Reference { label, end } => Ok(Some((end, label.as_str() == "Some reference"))),
         Form::Collapsed => Ok(Some((0, true))),
@@ -153,27 +155,21 @@ fn forms_of_references(rt: HostRuntime) -> Result<(), Fail> {
     Ok(())
 }
 
-/// Returns what a label finds: the type of the link, its destination, and what is left of the limit.
+/// Returns what a label finds: the type of the link, and its destination.
 fn look_up<'a, F: BrokenLinkCallback<'a>>(
     alloc: Global,
-    held: &Allocations<'a>,
-    callback: &mut Option<F>,
-    limit: &mut usize,
+    lookup: &mut LabelLookup<'a, F>,
     label: &'a str,
 ) -> Result<Option<(LinkType, CowStr<'a>)>, Fault>
-    requires { IfSome callback.old F.can_ask }
-    ensures { IfSome callback.new F.can_ask }
+    requires { IfSome lookup.old.callback F.can_ask }
+    ensures { IfSome lookup.new.callback F.can_ask }
 {
-    let found = look_up_label(
-        alloc,
-        &held.refdefs,
-        callback,
-        limit,
-        0..3,
-        LinkType::Shortcut,
-        CowStr::Borrowed(label),
-    )?;
-    match found {
+    let about = BrokenLink {
+        span: 0..3,
+        link_type: LinkType::Shortcut,
+        reference: CowStr::Borrowed(label),
+    };
+    match look_up_label(alloc, lookup, about)? {
         None => Ok(None),
         Some(target) => Ok(Some((target.link_type, target.destination))),
     }
@@ -181,9 +177,9 @@ fn look_up<'a, F: BrokenLinkCallback<'a>>(
 
 #[test]
 fn look_ups_ask_while_the_limit_lasts(rt: HostRuntime) -> Result<(), Fail> {
-    let held = Allocations::new(rt.alloc(), defining(rt.alloc(), &[("A", "/u")])?)?;
+    let tables = Allocations::new(rt.alloc(), defining(rt.alloc(), &[("A", "/u")])?)?;
     let mut asked = 0u8;
-    let mut callback = Some(Closure::new(
+    let callback = Some(Closure::new(
         |link| -> Option<(CowStr, CowStr)>
             ensures { asked.exit ≡ (asked.entry + 1) % 256 }
         {
@@ -192,41 +188,39 @@ fn look_ups_ask_while_the_limit_lasts(rt: HostRuntime) -> Result<(), Fail> {
             Some((CowStr::Borrowed("YOLO"), CowStr::Borrowed("SWAG")))
         },
     ));
-    let mut limit = 5;
+    let mut lookup = LabelLookup {
+        tables,
+        limit: 5,
+        callback,
+    };
     let alloc = rt.alloc();
-    let defined = look_up(alloc, &held, &mut callback, &mut limit, "a")?;
+    let defined = look_up(alloc, &mut lookup, "a")?;
     assert_eq!(rt; defined, Some((LinkType::Shortcut, CowStr::Borrowed("/u"))));
-    assert_eq!(rt; limit, 3);
+    assert_eq!(rt; lookup.limit, 3);
     // an answer longer than what is left is accepted, and there is no question for the next label
-    let answered = look_up(alloc, &held, &mut callback, &mut limit, "b")?;
+    let answered = look_up(alloc, &mut lookup, "b")?;
     assert_eq!(rt;
         answered,
         Some((LinkType::ShortcutUnknown, CowStr::Borrowed("YOLO")))
     );
-    assert_eq!(rt; limit, 0);
-    assert_eq!(rt;
-        look_up(alloc, &held, &mut callback, &mut limit, "b")?,
-        None
-    );
-    assert_eq!(rt;
-        look_up(alloc, &held, &mut callback, &mut limit, "a")?,
-        None
-    );
-    drop(callback);
+    assert_eq!(rt; lookup.limit, 0);
+    assert_eq!(rt; look_up(alloc, &mut lookup, "b")?, None);
+    assert_eq!(rt; look_up(alloc, &mut lookup, "a")?, None);
+    drop(lookup);
     assert_eq!(rt; asked, 1);
     Ok(())
 }
 
 #[test]
 fn look_ups_with_nobody_to_ask(rt: HostRuntime) -> Result<(), Fail> {
-    let held = Allocations::new(rt.alloc(), no_parts(rt.alloc()))?;
-    let mut nobody: Option<DefaultBrokenLinkCallback> = None;
-    let mut limit = 9;
-    assert_eq!(rt;
-        look_up(rt.alloc(), &held, &mut nobody, &mut limit, "a")?,
-        None
-    );
-    assert_eq!(rt; limit, 9);
+    let nobody: Option<DefaultBrokenLinkCallback> = None;
+    let mut lookup = LabelLookup {
+        tables: Allocations::new(rt.alloc(), no_parts(rt.alloc()))?,
+        limit: 9,
+        callback: nobody,
+    };
+    assert_eq!(rt; look_up(rt.alloc(), &mut lookup, "a")?, None);
+    assert_eq!(rt; lookup.limit, 9);
     Ok(())
 }
 
