@@ -1,6 +1,6 @@
 -- What is above a chain: of the nodes that were entered, only the blocks contribute to a line's prefix, and each is a
 -- node of the tree.
-use Rattle.std.proofs.Common.{◌≡◌, ℕ, zero, suc, ◌<◌, ◌≤◌, ◌+◌, Bool, true, false, List, [], ◌∷◌, ◌++◌, Option, Some, None, length, map}
+use Rattle.std.proofs.Common.{◌≡◌, ℕ, zero, suc, ◌<◌, ◌≤◌, ◌+◌, Bool, true, false, List, [], ◌∷◌, ◌++◌, Option, Some, None, length, map, IsUtf8}
 use Rattle.std.proofs.Common.{drop, get_or, refl, sym, ap, ◌∙◌, arith, append_assoc, append-nil}
 use Rattle.std.specs.Prelude.{if◌then◌else◌, slice_index}
 use Rattle.std.specs.Str.{IsCharBoundary}
@@ -177,8 +177,8 @@ other_read source place nodes spine i item within same is r =
 
 -- after the last it is that of the chain
 pub all_above_read : (source : List ℕ) (place : ChainPlace) (tree : Arena Item) (i : ℕ) → length tree.spine ≤ i
-    → IsReadUpTo source place tree.nodes tree.spine i → IsPlaceOf place tree
-all_above_read source place tree i past r =
+    → IsUtf8 source → IsReadUpTo source place tree.nodes tree.spine i → IsPlaceOf place tree
+all_above_read source place tree i past utf8 r =
     let e = ap (λ (rest : List ℕ). inside_all tree.nodes rest (record {
       block_end = place.block_end;
       in_table = place.in_table;
@@ -189,4 +189,5 @@ all_above_read source place tree i past r =
       block_end = rw r.text (ap (λ (a : Above). a.block_end) e);
       in_table = rw r.text (ap (λ (a : Above). a.in_table) e);
       boundary = rw r.text r.boundary;
+      utf8 = rw r.text utf8;
     }

@@ -124,6 +124,7 @@ module _ {C : Type 0} {step : C → Question → Option Answer → C → Type 0}
           block_end = stands.block_end ∙ ap (λ (a : Above). a.block_end) (sym above);
           in_table = stands.in_table ∙ ap (λ (a : Above). a.in_table) (sym above);
           boundary = stands.boundary;
+          utf8 = stands.utf8;
         };
         above = rw text still_above;
         so_far = rw (text, ← is) r.reads.stands;

@@ -1,6 +1,6 @@
 -- The place of a chain, as a `ChainPlace` represents it.
 use Rattle.std.specs.Prelude.{◌≡◌, ℕ, List, Some}
-use Rattle.std.specs.Str.{IsCharBoundary}
+use Rattle.std.specs.Str.{IsCharBoundary, IsUtf8}
 use Rattle.markdown_base.specs.Arena.{Arena}
 use Rattle.markdown_base.specs.declared.item.Item.{Item}
 use Rattle.markdown_brackets.specs.LeftList.{Entry}
@@ -19,6 +19,7 @@ pub record IsPlaceOf (place : ChainPlace) (tree : Arena Item) : Type 0 where
   pub block_end : place.block_end ≡ (above_cursor place.text.now tree).block_end
   pub in_table : place.in_table ≡ (above_cursor place.text.now tree).in_table
   pub boundary : IsCharBoundary place.text.now place.block_end
+  pub utf8 : IsUtf8 place.text.now
 
 -- the item of a node at this place can be read
 pub record CanReadItem (place : ChainPlace) (tree : Arena Item) (held : Allocated) (ix : ℕ) : Type 0 where

@@ -18,7 +18,7 @@ pub fn place_of_chain<'a>(tree: &Tree<Item>, text: &'a str, options: Options) ->
 {
     let mut place = ChainPlace {
         text,
-        block_end: text.len(),
+        block_end: text.as_bytes().len(),
         in_table: false,
         options,
     };

@@ -144,8 +144,6 @@ impl<'a, F: BrokenLinkCallback<'a>> Resolver<'a, F> {
         ensures refused { IfErr result (λ fault. fault ≡ Fault.Memory) }
         ensures kept { ChangesForBracket self.old self.new }
     {
-        // reading the text shows that it is valid UTF-8
-        let _text = place.text.as_bytes();
         let found = self.decide_closing(tree, place, ix)?;
         finish_bracket(&mut self.waiting.openers, tree, &found);
         put_closed(tree, &mut self.lookup.tables, ix, found)

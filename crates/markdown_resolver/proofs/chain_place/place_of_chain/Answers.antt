@@ -1,5 +1,5 @@
 -- Each node that was entered is read in turn.
-use Rattle.std.proofs.Common.{◌≡◌, ◌<◌, ℕ, List, get_or, length, sym, ◌∙◌, ap, refl, arith}
+use Rattle.std.proofs.Common.{◌≡◌, ◌<◌, ℕ, List, get_or, length, sym, ◌∙◌, ap, refl, arith, subst, IsUtf8}
 use Rattle.markdown_base.specs.BlockTree.{item_at, no_item}
 use Rattle.markdown_resolver.proofs.ChainPlaceLemmas.{nothing_read, block_read, other_read, all_above_read, has_blocks}
 use Rattle.markdown_resolver.proofs.chain_place.place_of_chain.Goals as goal
@@ -7,7 +7,7 @@ use Rattle.markdown_resolver.proofs.chain_place.place_of_chain.Goals.{then-is_bl
 
 pub above-init : goal.above-init
 above-init c = record {
-  read = nothing_read c.args.text.now _ c.args.tree.now.nodes c.args.tree.now.spine 0 refl refl refl refl;
+  read = nothing_read c.args.text.now _ c.args.tree.now.nodes c.args.tree.now.spine 0 refl refl (ap length c.as_bytes.ensures.value) refl;
   options = refl;
 }
 
@@ -42,7 +42,8 @@ above-preserved c =
 pub returns-clause-place : goal.returns-clause-place
 returns-clause-place c =
     all_above_read c.args.text.now c.above.place c.args.tree.now c.above.ix-index
-    (omega (arith, c.above-test.false, ap length c.walk_spine-ix-items.ensures)) c.above.invariant.read
+    (omega (arith, c.above-test.false, ap length c.walk_spine-ix-items.ensures))
+    (subst IsUtf8 c.as_bytes.ensures.value c.as_bytes.ensures.utf8) c.above.invariant.read
 
 pub returns-clause-text : goal.returns-clause-text
 returns-clause-text c = c.above.invariant.read.text

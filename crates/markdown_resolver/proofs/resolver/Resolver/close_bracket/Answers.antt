@@ -1,7 +1,6 @@
 -- What a `]` becomes is decided, and put.
-use Rattle.std.proofs.Common.{Some, ap, ◌∙◌, refl, subst}
+use Rattle.std.proofs.Common.{Some, ap, ◌∙◌, refl}
 use Rattle.std.specs.Prelude.{is_some}
-use Rattle.std.specs.Str.{IsUtf8}
 use Rattle.markdown_document.specs.Stages.{above_cursor}
 use Rattle.markdown_resolver.specs.ReadsBracket.{setting_by, stage_by}
 use Rattle.markdown_resolver.proofs.CloseBracketLemmas.{may_put, reads_closed, stops_decided}
@@ -29,13 +28,13 @@ returns-in_err-found-clause-kept g c = record {
 
 pub finish_bracket-requires : goal.finish_bracket-requires
 finish_bracket-requires g c =
-    let utf8 = subst IsUtf8 c.as_bytes-text.ensures.value c.as_bytes-text.ensures.utf8 in
+    let utf8 = c.requires.ready.was_read.stands.utf8 in
     (may_put g.F.BrokenLinkCallback.answers c.args.place.now c.args.tree.now c.args.self.now c.decide_closing.new.self c.in_ok-found.found
     c.args.ix c.requires.ready utf8 c.requires.closes c.decide_closing.ensures.kept c.in_ok-found.ensures.decides).within
 
 pub put_closed-requires : goal.put_closed-requires
 put_closed-requires g c =
-    let utf8 = subst IsUtf8 c.as_bytes-text.ensures.value c.as_bytes-text.ensures.utf8 in
+    let utf8 = c.requires.ready.was_read.stands.utf8 in
     let m = may_put g.F.BrokenLinkCallback.answers c.args.place.now c.args.tree.now c.args.self.now c.decide_closing.new.self
     c.in_ok-found.found c.args.ix c.requires.ready utf8 c.requires.closes c.decide_closing.ensures.kept c.in_ok-found.ensures.decides in
     (c.args.self.now.text.now, c.requires.ready.first, m.left_then, _, _, m.becomes, m.closes, m.is_become)
@@ -43,7 +42,7 @@ put_closed-requires g c =
 pub returns : goal.returns
 returns g c =
     let n = c.decide_closing.new.self in
-    let utf8 = subst IsUtf8 c.as_bytes-text.ensures.value c.as_bytes-text.ensures.utf8 in
+    let utf8 = c.requires.ready.was_read.stands.utf8 in
     let put = c.put_closed.ensures.tables in
     let kept = c.decide_closing.ensures.kept in
     record {
