@@ -116,4 +116,4 @@ HoldsFrom kind learned nodes link =
 -- the chain from an opener on can be searched: what was learned holds for it
 pub record CanSearch (kind : SpanKind) (learned : Learned) (nodes : List (Node Item)) (opener : ℕ) : Type 0 where
   pub chain : HasChain nodes (Some opener)
-  pub learned : HoldsFrom kind learned nodes (Some opener)
+  pub holds : HoldsFrom kind learned nodes (Some opener)

@@ -30,7 +30,7 @@ returns-in_default-clause-counted c =
 
 pub returns-in_default-clause-learned : goal.returns-in_default-clause-learned
 returns-in_default-clause-learned c = holds_next Code c.args.tree.now.nodes c.args.opener c.args.self.now
-    c.requires.ready.chain c.requires.ready.learned
+    c.requires.ready.chain c.requires.ready.holds
 
 pub returns-then-mark-eq0-clause-counted : goal.returns-then-mark-eq0-clause-counted
 returns-then-mark-eq0-clause-counted c =
@@ -42,7 +42,7 @@ returns-then-mark-eq0-clause-counted c =
 
 pub returns-then-mark-eq0-clause-learned : goal.returns-then-mark-eq0-clause-learned
 returns-then-mark-eq0-clause-learned c = holds_next Code c.args.tree.now.nodes c.args.opener c.args.self.now
-    c.requires.ready.chain c.requires.ready.learned
+    c.requires.ready.chain c.requires.ready.holds
 
 pub returns-then-self-clause-found : goal.returns-then-self-clause-found
 returns-then-self-clause-found c =
@@ -51,7 +51,7 @@ returns-then-self-clause-found c =
     ∙ (sym c.mark_of.ensures ∙ c.in-Some.is) in
     finds_known c.args.tree.now.nodes c.args.opener c.in-Some.mark c.args.self.now
     (reverse c.self.inside.ahead.items) c.take_closer.result
-    c.requires.ready.chain c.requires.ready.learned (learned_from c.self.inside.failed
+    c.requires.ready.chain c.requires.ready.holds (learned_from c.self.inside.failed
     (reverse c.self.inside.ahead.items) c.args.self.now c.self.view_is c.if-self.true) is c.if-mark-eq0.false
     c.take_closer.ensures.value
 
@@ -69,7 +69,7 @@ returns-then-self-clause-learned c =
     ∙ (sym c.mark_of.ensures ∙ c.in-Some.is) in
     rw c.if-self.true (holds_left Code c.args.tree.now.nodes c.args.opener c.in-Some.mark c.args.self.now
     (reverse c.self.inside.ahead.items) _
-    c.requires.ready.chain c.requires.ready.learned (learned_from c.self.inside.failed
+    c.requires.ready.chain c.requires.ready.holds (learned_from c.self.inside.failed
     (reverse c.self.inside.ahead.items) c.args.self.now c.self.view_is c.if-self.true) is c.take_closer.ensures.left)
 
 pub returns-clause-failed : goal.returns-clause-failed
@@ -93,6 +93,6 @@ returns-then-self-clause-within c =
     (chain_at c.args.tree.now.nodes c.args.opener c.requires.ready.chain).later
     (finds_known c.args.tree.now.nodes c.args.opener c.in-Some.mark c.args.self.now
     (reverse c.self.inside.ahead.items) c.take_closer.result
-    c.requires.ready.chain c.requires.ready.learned
+    c.requires.ready.chain c.requires.ready.holds
     (learned_from c.self.inside.failed (reverse c.self.inside.ahead.items) c.args.self.now c.self.view_is
     c.if-self.true) is c.if-mark-eq0.false c.take_closer.ensures.value)

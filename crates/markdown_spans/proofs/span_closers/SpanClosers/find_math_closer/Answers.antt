@@ -13,7 +13,7 @@ of_node-requires c = (chain_at c.args.tree.now.nodes c.args.opener c.requires.re
 
 pub returns-in_default-clause-learned : goal.returns-in_default-clause-learned
 returns-in_default-clause-learned c = holds_next Math c.args.tree.now.nodes c.args.opener c.args.self.now
-    c.requires.ready.chain c.requires.ready.learned
+    c.requires.ready.chain c.requires.ready.holds
 
 pub search_math-requires-clause-opener : goal.search_math-requires-clause-opener
 search_math-requires-clause-opener c = opener_here c.args.tree.now.nodes c.args.opener c.in-Some.opening
@@ -31,7 +31,7 @@ pub close_by-requires : goal.close_by-requires
 close_by-requires c =
     (known_math c.args.tree.now.nodes c.args.opener c.in-Some.opening c.args.self.now
     (reverse c.self.inside.ahead.items) _ c.take_dollar-first.result
-    (sym c.of_node.ensures ∙ c.in-Some.is) c.requires.ready.chain c.requires.ready.learned
+    (sym c.of_node.ensures ∙ c.in-Some.is) c.requires.ready.chain c.requires.ready.holds
     (learned_from c.self.inside.failed (reverse c.self.inside.ahead.items) c.args.self.now c.self.view_is
     c.if-not-self.false) c.take_dollar-first.ensures.value c.take_dollar-first.ensures.left).within
 
@@ -39,7 +39,7 @@ pub returns-clause-found : goal.returns-clause-found
 returns-clause-found c = λ low after h.
     (known_math c.args.tree.now.nodes c.args.opener c.in-Some.opening c.args.self.now
     (reverse c.self.inside.ahead.items) _ c.take_dollar-first.result
-    (sym c.of_node.ensures ∙ c.in-Some.is) c.requires.ready.chain c.requires.ready.learned
+    (sym c.of_node.ensures ∙ c.in-Some.is) c.requires.ready.chain c.requires.ready.holds
     (learned_from c.self.inside.failed (reverse c.self.inside.ahead.items) c.args.self.now c.self.view_is
     c.if-not-self.false) c.take_dollar-first.ensures.value c.take_dollar-first.ensures.left).found low after h
     ∙ sym c.close_by.ensures
@@ -48,7 +48,7 @@ pub returns-clause-learned : goal.returns-clause-learned
 returns-clause-learned c = rw c.if-not-self.false
     (known_math c.args.tree.now.nodes c.args.opener c.in-Some.opening c.args.self.now
     (reverse c.self.inside.ahead.items) _ c.take_dollar-first.result
-    (sym c.of_node.ensures ∙ c.in-Some.is) c.requires.ready.chain c.requires.ready.learned
+    (sym c.of_node.ensures ∙ c.in-Some.is) c.requires.ready.chain c.requires.ready.holds
     (learned_from c.self.inside.failed (reverse c.self.inside.ahead.items) c.args.self.now c.self.view_is
     c.if-not-self.false) c.take_dollar-first.ensures.value c.take_dollar-first.ensures.left).later
 
@@ -57,7 +57,7 @@ returns-clause-within c =
     math_within c.args.tree.now.nodes c.args.opener c.close_by.result c.requires.ready.chain (λ low after h.
     (known_math c.args.tree.now.nodes c.args.opener c.in-Some.opening c.args.self.now
     (reverse c.self.inside.ahead.items) _ c.take_dollar-first.result
-    (sym c.of_node.ensures ∙ c.in-Some.is) c.requires.ready.chain c.requires.ready.learned
+    (sym c.of_node.ensures ∙ c.in-Some.is) c.requires.ready.chain c.requires.ready.holds
     (learned_from c.self.inside.failed (reverse c.self.inside.ahead.items) c.args.self.now c.self.view_is
     c.if-not-self.false) c.take_dollar-first.ensures.value c.take_dollar-first.ensures.left).found low after h
     ∙ sym c.close_by.ensures)
