@@ -2,18 +2,15 @@
 use Rattle.std.proofs.Common.{◌-◌, ◌<◌, ◌≤◌, sym, refl, subst, arith}
 use Rattle.std.specs.Prelude.{IfSome}
 use Rattle.markdown_base.specs.BlockTree.{item_at, no_item}
-use Rattle.markdown_base.specs.CowText.{text_of}
 use Rattle.markdown_base.specs.declared.item.Item.{Item}
-use Rattle.markdown_base.specs.declared.tag.LinkType.TheVariants as kind
 use Rattle.markdown_document.specs.ChainRest.{start_of}
-use Rattle.markdown_document.specs.Origins.{origin_of}
 use Rattle.markdown_brackets.specs.BracketDecision.{a_text, no_link, tried}
 use Rattle.markdown_brackets.specs.LinkTailView.{ReadsTail}
 use Rattle.markdown_brackets.specs.StandsAt.{could_be_at, around_by}
 use Rattle.markdown_brackets.specs.WrittenView.{IsTailFrom, reference_at, tail_ahead}
 use Rattle.markdown_brackets.specs.declared.closing_bracket.ClosedBracket.TheVariants.{Text}
 use Rattle.markdown_brackets.proofs.ComesToLemmas.{comes_quietly, comes_to_tail, tried_as}
-use Rattle.markdown_brackets.proofs.TailTitleLemmas.{title_wider}
+use Rattle.markdown_brackets.proofs.TailTitleLemmas.{tail_wider}
 use Rattle.markdown_brackets.proofs.WrittenLemmas.{nothing_past_block, ok_map, other_written}
 use Rattle.markdown_brackets.proofs.tries.try_live.Goals as goal
 
@@ -41,9 +38,8 @@ returns-in-Some-clause-comes g c skipped bodies o opener start =
     (reference_at nodes place rule at.node (could_be_at nodes at.node c.args.spent.now) ((item_at nodes c.args.opener.node).end - 1))
     (tail_ahead nodes place rule at.node) c.in-Some.tail c.inline_link.result
     (subst (ReadsTail place.in_table (tail_ahead nodes place rule at.node)) c.in-Some.is c.in_ok-tail.ensures.value)
-    (λ t is. c.inline_link.ensures w o t opener is (title_wider place.text.now (item_at nodes at.node).end c.in-Some.tail.end
-    (start_of o.opener) c.in-Some.tail.end kind.Inline (origin_of c.in-Some.tail.title) (text_of c.in-Some.tail.title) low (omega arith)
-    (subst (λ found. IfSome found (IsTailFrom place.text.now (item_at nodes at.node).end)) c.in-Some.is c.in_ok-tail.ensures.from)))
+    (λ t is. c.inline_link.ensures w o t opener is (tail_wider place.text.now (item_at nodes at.node).end (start_of o.opener) c.in-Some.tail
+    low (subst (λ found. IfSome found (IsTailFrom place.text.now (item_at nodes at.node).end)) c.in-Some.is c.in_ok-tail.ensures.from)))
 
 pub returns-in-None-clause-comes : goal.returns-in-None-clause-comes
 returns-in-None-clause-comes g c =
