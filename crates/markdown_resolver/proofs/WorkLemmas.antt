@@ -1,5 +1,5 @@
 -- How much the counts of work rise where a chain is resolved.
-use Rattle.std.proofs.Common.{◌≡◌, ℕ, zero, suc, ◌+◌, ◌-◌, ◌*◌, ◌^◌, ◌≤◌, min, List, ◌++◌, Option, Some, length, refl, sym, ap, ◌∙◌}
+use Rattle.std.proofs.Common.{◌≡◌, ℕ, ◌*◌, List, ◌++◌, Option, Some, length, refl, sym, ap, ◌∙◌}
 use Rattle.std.proofs.Common.{arith, subst}
 use Rattle.std.proofs.lemmas.List.{length-map}
 use Rattle.markdown_base.specs.ArenaForest.{links_of, forest_at}

@@ -27,7 +27,7 @@ use Rattle.markdown_resolver.proofs.ReadingLemmas.{reads_by_rules, stops_at_none
 pub find_math_closer-requires : goal.find_math_closer-requires
 find_math_closer-requires g c =
     let chain = chain_leads c.args.place.now.text.now (tables_of c.args.self.now.lookup.tables) c.args.tree.now.nodes (Some c.args.ix) c.requires.ready.chain.ready in
-    record { chain = chain; holds = c.requires.ready.learned.math }
+    record { ready = record { chain = chain; holds = c.requires.ready.learned.math } }
 
 -- nothing closes it: it is settled
 pub returns-in_default-clause-reads : goal.returns-in_default-clause-reads

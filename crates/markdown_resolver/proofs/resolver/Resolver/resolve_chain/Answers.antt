@@ -1,5 +1,5 @@
 -- What pass one has read is paired.
-use Rattle.std.proofs.Common.{◌∙◌, ap, refl, subst, arith}
+use Rattle.std.proofs.Common.{◌∙◌, ap, refl, subst}
 use Rattle.std.specs.Prelude.{is_some, Some, Result, Ok, Err, IfErr}
 use Rattle.markdown_base.specs.Arena.{Arena}
 use Rattle.markdown_base.specs.declared.item.Item.{Item}
