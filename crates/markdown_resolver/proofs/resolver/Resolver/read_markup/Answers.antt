@@ -119,9 +119,9 @@ returns-in-Some-clause-reads g c =
     (c.new-prefix.ensures.footnotes ∙ c.gfm_footnotes.ensures) c.range-text.ensures.value c.range-text.utf8 value in
     let new : Resolver g.row.F.Denot = record s { lookup = record s.lookup { tables = c.put_markup.new.tables } } in
     only_reads c.put_markup.result place tree s new c.args.ix c.put_markup.new.tree c.requires.ready c.put_markup.ensures.place
-          (if_ok c.put_markup.result _ _ (λ next puts. λ rules gfm.
-          reads_found place tree held c.args.ix prefix m rules next c.put_markup.new.tree.nodes (tables_of c.put_markup.new.tables) scanned gfm
-          (puts place.text.now rules (markup_stands place tree held c.args.ix prefix m scanned))) c.put_markup.ensures.puts) refl refl refl
+    (if_ok c.put_markup.result _ _ (λ next puts. λ rules gfm.
+    reads_found place tree held c.args.ix prefix m rules next c.put_markup.new.tree.nodes (tables_of c.put_markup.new.tables) scanned gfm
+    (puts place.text.now rules (markup_stands place tree held c.args.ix prefix m scanned))) c.put_markup.ensures.puts) refl refl refl
 
 pub returns-in-Some-clause-stops : goal.returns-in-Some-clause-stops
 returns-in-Some-clause-stops g c =
