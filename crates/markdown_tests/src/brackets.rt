@@ -16,7 +16,9 @@ use markdown_brackets::look_up::{LabelLookup, look_up_label};
 use markdown_brackets::openers::Opener;
 use markdown_brackets::reference::{Form, scan_form};
 use markdown_brackets::wikilink::{Shown, scan_wikilink_body};
-use markdown_defs::{Allocations, BrokenLink, BrokenLinkCallback, Closure, DefaultBrokenLinkCallback};
+use markdown_defs::{
+    Allocations, BrokenLink, BrokenLinkCallback, Closure, DefaultBrokenLinkCallback,
+};
 use markdown_scan::line_rule::NoPrefix;
 use markdown_test_helpers::parts::{defining, no_parts};
 use markdown_test_helpers::rows::gives;
