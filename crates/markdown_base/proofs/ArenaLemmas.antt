@@ -1,12 +1,12 @@
 -- Laws of an arena's nodes: what a write and a new node leave as it was.
-use Rattle.std.proofs.Common.{◌≡◌, ℕ, zero, suc, ◌+◌, ◌<◌, ◌≤◌, List, [], ◌∷◌, ◌++◌, Option, Some, None, length, refl, ap, arith}
-use Rattle.std.specs.Prelude.{IfSome, ◌^◌}
+use Rattle.std.proofs.Common.{◌≡◌, ℕ, zero, suc, ◌+◌, ◌<◌, ◌≤◌, List, [], ◌∷◌, ◌++◌, Option, Some, None, length, slice_get, unwrap_or, refl, sym, ap, arith}
+use Rattle.std.specs.Prelude.{IfSome}
 use Rattle.std.specs.List.{AllByRecursion}
 use Rattle.std.proofs.lemmas.List.{length-append}
 use Rattle.markdown_base.specs.declared.node.Node.{Node}
 use Rattle.markdown_base.specs.Arena.{Arena, child_of, sibling_of}
 use Rattle.markdown_base.specs.ArenaChanges.{innermost, changed_at, led_to}
-use Rattle.markdown_base.specs.ArenaBounds.{LeadsBelow, IsWithin}
+use Rattle.markdown_base.specs.ArenaBounds.{node_limit, LeadsBelow, IsWithin}
 
 -- a change keeps the count
 pub length-changed_at : {T : Type 0} (ix : ℕ) (change : Node T → Node T) (nodes : List (Node T)) → length (changed_at ix change nodes)
@@ -51,7 +51,7 @@ All-changed P zero change (n ∷ nodes) k h = (k n h.0, h.1)
 All-changed P (suc ix) change (n ∷ nodes) k h = (h.0, All-changed P ix change nodes k h.1)
 
 -- one more node, whose links lead to nodes that are there
-pub within_more : {T : Type 0} (arena : Arena T) (n : Node T) → IsWithin arena → length arena.nodes < 2 ^ 63
+pub within_more : {T : Type 0} (arena : Arena T) (n : Node T) → IsWithin arena → length arena.nodes < node_limit
     → LeadsBelow (length arena.nodes) n → IsWithin (record arena { nodes = arena.nodes ++ n ∷ [] })
 within_more arena n w few h =
     let s : length (arena.nodes ++ n ∷ []) ≡ length arena.nodes + 1 = length-append arena.nodes (n ∷ []) in
@@ -98,6 +98,14 @@ pub innermost-snoc : (outer : List ℕ) (ix : ℕ) → innermost (outer ++ ix �
 innermost-snoc [] ix = refl
 innermost-snoc (x ∷ []) ix = refl
 innermost-snoc (x ∷ y ∷ outer) ix = innermost-snoc (y ∷ outer) ix
+
+-- the element at the last place is the innermost
+pub innermost-last : (spine : List ℕ) (k ix : ℕ) → length spine ≡ suc k → Some ix ≡ slice_get spine k → innermost spine ≡ ix
+innermost-last [] k ix e h = absurd (omega (arith, e))
+innermost-last (x ∷ []) zero ix e h = ap (λ o. unwrap_or o ix) (sym h)
+innermost-last (x ∷ []) (suc k) ix e h = absurd (omega (arith, e))
+innermost-last (x ∷ y ∷ deeper) zero ix e h = absurd (omega (arith, e))
+innermost-last (x ∷ y ∷ deeper) (suc k) ix e h = innermost-last (y ∷ deeper) k ix (omega (arith, e)) h
 
 -- a link at the cursor's place keeps the count
 pub length-led_to : {T : Type 0} (ix : ℕ) (spine : List ℕ) (cursor : Option ℕ) (nodes : List (Node T))

@@ -1,14 +1,14 @@
 -- Laws of the nodes that a tree stores. A read cites `read_item`, `read_child` or `read_next`, a write `arena_changed` and
 -- `within_written`, and a new node `within_stored`.
-use Rattle.std.proofs.Common.{◌≡◌, ℕ, zero, suc, ◌<◌, List, [], ◌∷◌, ◌++◌, Option, length, get_or, set, refl, ap, ◌∙◌, subst, arith}
-use Rattle.std.specs.Prelude.{IfSome, slice_index_or, ◌^◌}
+use Rattle.std.proofs.Common.{◌≡◌, ℕ, zero, suc, ◌<◌, List, [], ◌∷◌, ◌++◌, Option, Some, None, length, get_or, set, refl, ap, ◌∙◌, subst, arith}
+use Rattle.std.specs.Prelude.{IfSome, slice_index_or}
 use Rattle.std.specs.List.{AllByRecursion}
 use Rattle.std.proofs.lemmas.List.{map-append}
 use Rattle.markdown_base.specs.declared.node.Node.{Node}
 use Rattle.markdown_base.specs.declared.stored_node.StoredNode.{StoredNode}
 use Rattle.markdown_base.specs.Arena.{Arena, items_of, child_of, sibling_of}
 use Rattle.markdown_base.specs.ArenaChanges.{changed_at}
-use Rattle.markdown_base.specs.ArenaBounds.{LeadsBelow, IsWithin}
+use Rattle.markdown_base.specs.ArenaBounds.{node_limit, LeadsBelow, IsWithin}
 use Rattle.markdown_base.specs.StoredNodes.{target_of, node_of, nodes_of}
 use Rattle.markdown_base.proofs.ArenaLemmas.{within_more, within_changed, child_within, sibling_within}
 
@@ -32,6 +32,12 @@ pub read_next : {T : Type 0} (stored : List (StoredNode T)) (ix : ℕ) (n : Stor
 read_next [] ix n l e = absurd (omega (arith, l))
 read_next (m ∷ stored) zero n l e = ap (λ k. target_of k.next) e
 read_next (m ∷ stored) (suc ix) n l e = read_next stored ix n (omega (arith, l)) e
+
+-- a link can hold the number of any node
+pub can_lead : {T : Type 0} (arena : Arena T) (target : Option ℕ) → IsWithin arena
+    → IfSome target (λ ix. ix < length arena.nodes) → IfSome target (λ ix. ix < node_limit)
+can_lead arena None w h = tt
+can_lead arena (Some ix) w h = omega (arith, h, w.few)
 
 -- a node that is read, changed and written back
 nodes-changed : {T : Type 0} (stored : List (StoredNode T)) (ix : ℕ) (before after : StoredNode T) (change : Node T → Node T)
@@ -59,7 +65,7 @@ arena_changed {T} s stored spine cursor ix before after change v l e same =
 
 -- one node more, whose links lead to nodes that are there
 pub within_stored : {T : Type 0} (stored : List (StoredNode T)) (spine : List ℕ) (cursor : Option ℕ) (n : StoredNode T)
-    → IsWithin (record { nodes = nodes_of stored; spine = spine; cursor = cursor }) → length (nodes_of stored) < 2 ^ 63
+    → IsWithin (record { nodes = nodes_of stored; spine = spine; cursor = cursor }) → length (nodes_of stored) < node_limit
     → IfSome (target_of n.child) (λ ix. ix < length (nodes_of stored))
     → IfSome (target_of n.next) (λ ix. ix < length (nodes_of stored))
     → IsWithin (record { nodes = nodes_of (stored ++ n ∷ []); spine = spine; cursor = cursor })

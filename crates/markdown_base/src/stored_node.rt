@@ -1,21 +1,24 @@
-//! Nodes as a tree stores them: a link has the size of one `usize`, half that of an `Option<usize>`.
-ghost use Rattle.std.specs.Prelude.{◌≡◌, ◌<◌, ◌^◌, IfSome};
+//! Nodes as a tree stores them: a link has four bytes, a quarter of an `Option<usize>`.
+ghost use Rattle.std.specs.Prelude.{◌≡◌, ◌<◌, IfSome};
+ghost use Rattle.markdown_base.specs.ArenaBounds.{node_limit};
 ghost use Rattle.markdown_base.specs.StoredNodes.{target_of};
 
 /// A link to a node, stored as the node's number plus one; 0 leads to no node.
 #[derive(Clone, Copy, Drop)]
 pub struct Link {
-    past: usize,
+    past: u32,
 }
 
 impl Link {
     /// Returns the link to a node, or to none.
     pub fn to(target: Option<usize>) -> Link
-        requires { IfSome target (λ ix. ix < 2 ^ 63) }
+        requires { IfSome target (λ ix. ix < node_limit) }
         ensures { target_of result ≡ target }
     {
         match target {
-            Some(ix) => Link { past: ix + 1 },
+            Some(ix) => Link {
+                past: ix as u32 + 1,
+            },
             None => Link { past: 0 },
         }
     }
@@ -26,7 +29,7 @@ impl Link {
     {
         match self.past {
             0 => None,
-            past => Some(past - 1),
+            past => Some(past as usize - 1),
         }
     }
 }

@@ -11,7 +11,11 @@ use crate::stored_node::{Link, StoredNode};
 use std::alloc::{AllocError, Global};
 use std::marker::Model;
 
-/// An arena of nodes, numbered from the root, which is node 0. Nodes are appended at the cursor.
+/// The maximum number of nodes of a tree.
+const NODE_LIMIT: usize = u32::MAX as usize;
+
+/// An arena of nodes, numbered from the root, which is node 0. Nodes are appended at the cursor. There are at most
+/// 2^32 - 1 of them: one more is refused, as an allocation is.
 #[derive(Drop)]
 pub struct Tree<T> {
     nodes: Vec<StoredNode<T>>,
@@ -150,9 +154,8 @@ impl<T: Drop> Tree<T> {
                   record n { child = child }) self.old.nodes;
             } }
     {
-        // a link can hold the number of any node
-        let _nodes = self.len();
-        self.nodes[ix].child = Link::to(child);
+        let node = &mut self.nodes[ix];
+        node.child = Link::to(child);
     }
 
     /// Sets the next sibling of a node.
@@ -165,13 +168,12 @@ impl<T: Drop> Tree<T> {
                   record n { next = next }) self.old.nodes;
             } }
     {
-        // a link can hold the number of any node
-        let _nodes = self.len();
-        self.nodes[ix].next = Link::to(next);
+        let node = &mut self.nodes[ix];
+        node.next = Link::to(next);
     }
 
-    /// Adds a node without children, followed by the given node if any, and returns its number. After a refused
-    /// allocation the tree is unchanged.
+    /// Adds a node without children, followed by the given node if any, and returns its number. A node beyond the
+    /// limit is refused, as an allocation is; the tree is then unchanged.
     fn add_node(&mut self, item: T, next: Option<usize>) -> Result<usize, AllocError>
         requires { IfSome next (λ after. after < length self.old.nodes) }
         ensures number { IfOk result (λ ix. ix ≡ length self.old.nodes) }
@@ -182,6 +184,9 @@ impl<T: Drop> Tree<T> {
         ensures refused { OnErr result (self.new ≡ self.old) }
     {
         let ix = self.nodes.len();
+        if ix == NODE_LIMIT {
+            return Err(AllocError);
+        }
         self.nodes.push(StoredNode {
             item,
             child: Link::to(None),
@@ -205,10 +210,8 @@ impl<T: Drop> Tree<T> {
         ensures value { result ≡ innermost self.now.spine }
         ensures within { result < length self.now.nodes }
     {
-        // the root is there, by the invariant
-        let _ = &self.nodes;
-        match self.peek_up() {
-            Some(ix) => ix,
+        match self.spine.last() {
+            Some(&ix) => ix,
             None => 0,
         }
     }

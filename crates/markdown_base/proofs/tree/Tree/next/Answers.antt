@@ -1,5 +1,5 @@
 -- The link of the node that is read leads to a node of the arena.
-use Rattle.std.proofs.Common.{length, ◌∙◌}
+use Rattle.std.proofs.Common.{length, ◌∙◌, arith}
 use Rattle.markdown_base.specs.StoredNodes.{nodes_of}
 use Rattle.markdown_base.proofs.ArenaLemmas.{sibling_within}
 use Rattle.markdown_base.proofs.StoredNodesLemmas.{read_next}
@@ -21,4 +21,4 @@ returns-clause-within g c =
     rw (← c.self.view_is, value) within
 
 pub returns-clause-few : goal.returns-clause-few
-returns-clause-few g c = rw (← c.self.view_is) c.self.invariant.few
+returns-clause-few g c = rw (← c.self.view_is) (omega (arith, c.self.invariant.few))
