@@ -35,7 +35,8 @@ forest_at-fits k l f s h = followed-fits k.size k l f s h
 -- the links represent at most one forest
 pub Spells-same : (k : Links) (l : Option ℕ) (f g : Forest ℕ) → Spells k l f → Spells k l g → f ≡ g
 Spells-same k l f g s t =
-    sym (followed-fits (max (height f) (height g)) k l f s (omega arith)) ∙ followed-fits (max (height f) (height g)) k l g t (omega arith)
+    sym (followed-fits (max (height f) (height g)) k l f s (omega arith)) ∙ followed-fits (max (height f) (height g)) k
+    l g t (omega arith)
 
 pub record Opened (k : Links) (p : ℕ → Type 0) (i : ℕ) : Type 0 where
   pub within : i < k.size
@@ -49,7 +50,8 @@ open_at : (n : ℕ) (k : Links) (p : ℕ → Type 0) (i : ℕ) → n ≡ k.size 
     → followed n k (Some i) ≡ forest_at k (Some i) → Opened k p i
 open_at zero k p i e s q m = cc
 open_at (suc n) k p i e s q m =
-    let a : forest_at k (k.child i) ≡ followed n k (k.child i) = forest_at-fits k (k.child i) (followed n k (k.child i)) s.2
+    let a : forest_at k (k.child i) ≡ followed n k (k.child i) = forest_at-fits k (k.child i) (followed n k (k.child i))
+    s.2
     (omega (arith, height-followed n k (k.child i))) in
     let b : forest_at k (k.next i) ≡ followed n k (k.next i) = forest_at-fits k (k.next i) (followed n k (k.next i)) s.3
     (omega (arith, height-followed n k (k.next i))) in

@@ -1,5 +1,6 @@
 -- Laws of an arena's nodes: what a write and a new node leave as it was.
-use Rattle.std.proofs.Common.{◌≡◌, ℕ, zero, suc, ◌+◌, ◌<◌, ◌≤◌, List, [], ◌∷◌, ◌++◌, Option, Some, None, length, slice_get, unwrap_or, refl, sym, ap, arith}
+use Rattle.std.proofs.Common.{◌≡◌, ℕ, zero, suc, ◌+◌, ◌<◌, ◌≤◌, List, [], ◌∷◌, ◌++◌, Option, Some, None, length}
+use Rattle.std.proofs.Common.{slice_get, unwrap_or, refl, sym, ap, arith}
 use Rattle.std.specs.Prelude.{IfSome}
 use Rattle.std.specs.List.{AllByRecursion}
 use Rattle.std.proofs.lemmas.List.{length-append}
@@ -9,7 +10,8 @@ use Rattle.markdown_base.specs.ArenaChanges.{innermost, changed_at, led_to}
 use Rattle.markdown_base.specs.ArenaBounds.{node_limit, LeadsBelow, IsWithin}
 
 -- a change keeps the count
-pub length-changed_at : {T : Type 0} (ix : ℕ) (change : Node T → Node T) (nodes : List (Node T)) → length (changed_at ix change nodes)
+pub length-changed_at : {T : Type 0} (ix : ℕ) (change : Node T → Node T) (nodes : List (Node T))
+    → length (changed_at ix change nodes)
     ≡ length nodes
 length-changed_at ix change [] = refl
 length-changed_at zero change (n ∷ nodes) = refl
@@ -28,15 +30,18 @@ links_more : {T : Type 0} (a b : ℕ) (nodes : List (Node T)) → a ≤ b → Al
 links_more a b [] l h = tt
 links_more a b (n ∷ nodes) l h = (leads_more a b n l h.0, links_more a b nodes l h.1)
 
-spine_more : (a b : ℕ) (spine : List ℕ) → a ≤ b → AllByRecursion (λ ix. ix < a) spine → AllByRecursion (λ ix. ix < b) spine
+spine_more : (a b : ℕ) (spine : List ℕ) → a ≤ b → AllByRecursion (λ ix. ix < a) spine
+    → AllByRecursion (λ ix. ix < b) spine
 spine_more a b [] l h = tt
 spine_more a b (x ∷ spine) l h = (omega (arith, h.0, l), spine_more a b spine l h.1)
 
-pub All-snoc : {X : Type 0} (P : X → Type 0) (xs : List X) (x : X) → AllByRecursion P xs → P x → AllByRecursion P (xs ++ x ∷ [])
+pub All-snoc : {X : Type 0} (P : X → Type 0) (xs : List X) (x : X) → AllByRecursion P xs → P x
+    → AllByRecursion P (xs ++ x ∷ [])
 All-snoc P [] x h p = (p, tt)
 All-snoc P (y ∷ xs) x h p = (h.0, All-snoc P xs x h.1 p)
 
-pub All-front : {X : Type 0} (P : X → Type 0) (xs : List X) (x : X) → AllByRecursion P (xs ++ x ∷ []) → AllByRecursion P xs
+pub All-front : {X : Type 0} (P : X → Type 0) (xs : List X) (x : X) → AllByRecursion P (xs ++ x ∷ [])
+    → AllByRecursion P xs
 All-front P [] x h = tt
 All-front P (y ∷ xs) x h = (h.0, All-front P xs x h.1)
 
@@ -60,7 +65,8 @@ within_more arena n w few h =
       rooted = omega (arith, s, w.rooted);
       cursor = below_more arena.cursor _ _ m w.cursor;
       spine = spine_more _ _ arena.spine m w.spine;
-      links = All-snoc (LeadsBelow (length (arena.nodes ++ n ∷ []))) arena.nodes n (links_more _ _ arena.nodes m w.links)
+      links = All-snoc (LeadsBelow (length (arena.nodes ++ n ∷ []))) arena.nodes n
+          (links_more _ _ arena.nodes m w.links)
           (leads_more _ _ n m h);
       few = omega (arith, s, few);
     }
@@ -100,7 +106,8 @@ innermost-snoc (x ∷ []) ix = refl
 innermost-snoc (x ∷ y ∷ outer) ix = innermost-snoc (y ∷ outer) ix
 
 -- the element at the last place is the innermost
-pub innermost-last : (spine : List ℕ) (k ix : ℕ) → length spine ≡ suc k → Some ix ≡ slice_get spine k → innermost spine ≡ ix
+pub innermost-last : (spine : List ℕ) (k ix : ℕ) → length spine ≡ suc k → Some ix ≡ slice_get spine k → innermost spine
+    ≡ ix
 innermost-last [] k ix e h = absurd (omega (arith, e))
 innermost-last (x ∷ []) zero ix e h = ap (λ o. unwrap_or o ix) (sym h)
 innermost-last (x ∷ []) (suc k) ix e h = absurd (omega (arith, e))
@@ -114,7 +121,8 @@ length-led_to ix spine (Some before) nodes = length-changed_at before (λ n. rec
 length-led_to ix spine None nodes = length-changed_at (innermost spine) (λ n. record n { child = Some ix }) nodes
 
 -- the node entered last lies in the arena
-pub innermost_within : (size : ℕ) (spine : List ℕ) → 0 < size → AllByRecursion (λ ix. ix < size) spine → innermost spine < size
+pub innermost_within : (size : ℕ) (spine : List ℕ) → 0 < size → AllByRecursion (λ ix. ix < size) spine
+    → innermost spine < size
 innermost_within size [] r h = r
 innermost_within size (x ∷ []) r h = h.0
 innermost_within size (x ∷ y ∷ spine) r h = innermost_within size (y ∷ spine) r h.1

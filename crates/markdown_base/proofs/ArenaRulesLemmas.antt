@@ -14,7 +14,8 @@ use Rattle.markdown_base.specs.WellFormed.{PartCounts, AllKeepRules}
 use Rattle.markdown_base.proofs.ArenaForestLemmas.{height, forest_at-fits}
 
 -- the trees from a link on are those that its links represent
-pub trees_at-fits : (nodes : List (Node Item)) (l : Option ℕ) (f : Forest ℕ) → Spells (links_of nodes) l f → height f ≤ length nodes
+pub trees_at-fits : (nodes : List (Node Item)) (l : Option ℕ) (f : Forest ℕ) → Spells (links_of nodes) l f
+    → height f ≤ length nodes
     → trees_at nodes l ≡ relabelled (numbered nodes) f
 trees_at-fits nodes l f s h = ap (relabelled (numbered nodes)) (forest_at-fits (links_of nodes) l f s h)
 
@@ -31,7 +32,8 @@ record Opens (nodes : List (Node Item)) (ix : ℕ) (below after : Forest ℕ) : 
   low : height below ≤ length nodes
   flat : height after ≤ length nodes
 
-node_opens : (nodes : List (Node Item)) (l : Option ℕ) (ix : ℕ) (below after : Forest ℕ) → Spells (links_of nodes) l (node ix below after)
+node_opens : (nodes : List (Node Item)) (l : Option ℕ) (ix : ℕ) (below after : Forest ℕ)
+    → Spells (links_of nodes) l (node ix below after)
     → height (node ix below after) ≤ length nodes → Opens nodes ix below after
 node_opens nodes l ix below after s h = record {
   inside = trees_at-fits nodes (child_of nodes ix) below s.2 (omega (arith, h));

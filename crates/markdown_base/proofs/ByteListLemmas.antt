@@ -1,6 +1,7 @@
 -- Laws of bytes that are examined together, for higher crates: of a slice of bytes, and of a test that no byte passes.
 -- A scan that passes over many bytes at once cites `none_further`.
-use Rattle.std.proofs.Common.{◌≡◌, ℕ, zero, suc, ◌+◌, ◌-◌, ◌<◌, ◌≤◌, List, [], ◌∷◌, Bool, true, false, length, get_or, refl, sym, ap, ◌∙◌}
+use Rattle.std.proofs.Common.{◌≡◌, ℕ, zero, suc, ◌+◌, ◌-◌, ◌<◌, ◌≤◌, List, [], ◌∷◌, Bool, true, false, length, get_or}
+use Rattle.std.proofs.Common.{refl, sym, ap, ◌∙◌}
 use Rattle.std.proofs.Common.{arith, slice_range, slice_index, ⊎_elim, drop, length-take-le, length-drop}
 use Rattle.std.proofs.lemmas.Bool.{cases_lt}
 use Rattle.std.proofs.lemmas.List.{get_or-drop, get_or-take}
@@ -26,7 +27,8 @@ pub byte_of_part : (bytes : List ℕ) (start end at : ℕ) → at < end - start
 byte_of_part bytes start end at h = get_or-take (end - start) (drop start bytes) at 0 h ∙ get_or-drop start bytes at 0
 
 -- a slice that ends within the bytes has the length of its range
-pub part_length : (bytes : List ℕ) (start end : ℕ) → end ≤ length bytes → length (slice_range bytes start end) ≡ end - start
+pub part_length : (bytes : List ℕ) (start end : ℕ) → end ≤ length bytes → length (slice_range bytes start end)
+    ≡ end - start
 part_length bytes start end h = length-take-le (end - start) (drop start bytes) (omega (arith, length-drop start bytes))
 
 -- if no byte passes a test from one offset up to a second, nor from there up to a third, none does from the first up to

@@ -5,7 +5,8 @@ use Rattle.std.proofs.lemmas.List.{map-append}
 use Rattle.markdown_base.specs.Forest.{Forest, nil, node, Throughout, Each, preorder, roots, relabelled}
 
 -- what follows from a fact holds where the fact does
-pub Throughout-weaker : {A : Type 0} (p q : A → Forest A → Forest A → Type 0) → ((a : A) (below after : Forest A) → p a below after
+pub Throughout-weaker : {A : Type 0} (p q : A → Forest A → Forest A → Type 0)
+    → ((a : A) (below after : Forest A) → p a below after
     → q a below after)
     → (f : Forest A) → Throughout p f → Throughout q f
 Throughout-weaker p q h nil t = tt
@@ -38,24 +39,28 @@ pub preorder-relabelled : {A B : Type 0} (f : A → B) (t : Forest A) → preord
 preorder-relabelled f nil = refl
 preorder-relabelled f (node a below after) =
     ap (λ x. f a ∷ x) (ap (λ x. x ++ preorder (relabelled f after)) (preorder-relabelled f below)
-    ∙ (ap (λ x. map f (preorder below) ++ x) (preorder-relabelled f after) ∙ sym (map-append f (preorder below) (preorder after))))
+    ∙ (ap (λ x. map f (preorder below) ++ x) (preorder-relabelled f after)
+    ∙ sym (map-append f (preorder below) (preorder after))))
 
 pub roots-relabelled : {A B : Type 0} (f : A → B) (t : Forest A) → roots (relabelled f t) ≡ map f (roots t)
 roots-relabelled f nil = refl
 roots-relabelled f (node a below after) = ap (λ x. f a ∷ x) (roots-relabelled f after)
 
 -- if a fact holds for two lists, it holds for the lists joined
-pub All-append : {X : Type 0} (p : X → Type 0) (xs ys : List X) → AllByRecursion p xs → AllByRecursion p ys → AllByRecursion p (xs ++ ys)
+pub All-append : {X : Type 0} (p : X → Type 0) (xs ys : List X) → AllByRecursion p xs → AllByRecursion p ys
+    → AllByRecursion p (xs ++ ys)
 All-append p [] ys a b = b
 All-append p (x ∷ xs) ys a b = (a.0, All-append p xs ys a.1 b)
 
 -- and conversely
-pub All-parted : {X : Type 0} (p : X → Type 0) (xs ys : List X) → AllByRecursion p (xs ++ ys) → AllByRecursion p xs × AllByRecursion p ys
+pub All-parted : {X : Type 0} (p : X → Type 0) (xs ys : List X) → AllByRecursion p (xs ++ ys) → AllByRecursion p xs
+    × AllByRecursion p ys
 All-parted p [] ys a = (tt, a)
 All-parted p (x ∷ xs) ys a = let parts = All-parted p xs ys a.1 in ((a.0, parts.0), parts.1)
 
 -- a fact about each element of a list, weakened
-pub All-weaker : {X : Type 0} (p q : X → Type 0) → ((x : X) → p x → q x) → (xs : List X) → AllByRecursion p xs → AllByRecursion q xs
+pub All-weaker : {X : Type 0} (p q : X → Type 0) → ((x : X) → p x → q x) → (xs : List X) → AllByRecursion p xs
+    → AllByRecursion q xs
 All-weaker p q h [] a = tt
 All-weaker p q h (x ∷ xs) a = (h x a.0, All-weaker p q h xs a.1)
 

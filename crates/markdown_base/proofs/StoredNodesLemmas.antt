@@ -1,6 +1,7 @@
 -- Laws of the nodes that a tree stores. A read cites `read_item`, `read_child` or `read_next`, a write `arena_changed` and
 -- `within_written`, and a new node `within_stored`.
-use Rattle.std.proofs.Common.{◌≡◌, ℕ, zero, suc, ◌<◌, List, [], ◌∷◌, ◌++◌, Option, Some, None, length, get_or, set, refl, ap, ◌∙◌, subst, arith}
+use Rattle.std.proofs.Common.{◌≡◌, ℕ, zero, suc, ◌<◌, List, [], ◌∷◌, ◌++◌, Option, Some, None, length, get_or, set}
+use Rattle.std.proofs.Common.{refl, ap, ◌∙◌, subst, arith}
 use Rattle.std.specs.Prelude.{IfSome, slice_index_or}
 use Rattle.std.specs.List.{AllByRecursion}
 use Rattle.std.proofs.lemmas.List.{map-append}
@@ -13,7 +14,8 @@ use Rattle.markdown_base.specs.StoredNodes.{target_of, node_of, nodes_of}
 use Rattle.markdown_base.proofs.ArenaLemmas.{within_more, within_changed, child_within, sibling_within}
 
 -- the item of a node that is read
-pub read_item : {T : Type 0} (stored : List (StoredNode T)) (ix : ℕ) (n : StoredNode T) (d : T) → ix < length (nodes_of stored)
+pub read_item : {T : Type 0} (stored : List (StoredNode T)) (ix : ℕ) (n : StoredNode T) (d : T)
+    → ix < length (nodes_of stored)
     → n ≡ get_or stored ix n → n.item ≡ slice_index_or (items_of (nodes_of stored)) ix d
 read_item [] ix n d l e = absurd (omega (arith, l))
 read_item (m ∷ stored) zero n d l e = ap (λ k. k.item) e
@@ -40,16 +42,19 @@ can_lead arena None w h = tt
 can_lead arena (Some ix) w h = omega (arith, h, w.few)
 
 -- a node that is read, changed and written back
-nodes-changed : {T : Type 0} (stored : List (StoredNode T)) (ix : ℕ) (before after : StoredNode T) (change : Node T → Node T)
+nodes-changed : {T : Type 0} (stored : List (StoredNode T)) (ix : ℕ) (before after : StoredNode T)
+    (change : Node T → Node T)
     → ix < length (nodes_of stored) → before ≡ get_or stored ix before → node_of after ≡ change (node_of before)
     → nodes_of (set stored ix after) ≡ changed_at ix change (nodes_of stored)
 nodes-changed [] ix before after change l e same = absurd (omega (arith, l))
-nodes-changed (n ∷ stored) zero before after change l e same = ap (λ m. m ∷ nodes_of stored) (same ∙ ap (λ m. change (node_of m)) e)
+nodes-changed (n ∷ stored) zero before after change l e same = ap (λ m. m ∷ nodes_of stored)
+    (same ∙ ap (λ m. change (node_of m)) e)
 nodes-changed (n ∷ stored) (suc ix) before after change l e same =
     ap (λ m. node_of n ∷ m) (nodes-changed stored ix before after change (omega (arith, l)) e same)
 
 -- the nodes of an arena, where one is read, changed and written back
-pub arena_changed : {T : Type 0} (s : Arena T) (stored : List (StoredNode T)) (spine : List ℕ) (cursor : Option ℕ) (ix : ℕ)
+pub arena_changed : {T : Type 0} (s : Arena T) (stored : List (StoredNode T)) (spine : List ℕ) (cursor : Option ℕ)
+    (ix : ℕ)
     (before after : StoredNode T) (change : Node T → Node T)
     → record { nodes = nodes_of stored; spine = spine; cursor = cursor } ≡ s → ix < length s.nodes
     → before ≡ get_or stored ix before → node_of after ≡ change (node_of before)
@@ -65,7 +70,8 @@ arena_changed {T} s stored spine cursor ix before after change v l e same =
 
 -- one node more, whose links lead to nodes that are there
 pub within_stored : {T : Type 0} (stored : List (StoredNode T)) (spine : List ℕ) (cursor : Option ℕ) (n : StoredNode T)
-    → IsWithin (record { nodes = nodes_of stored; spine = spine; cursor = cursor }) → length (nodes_of stored) < node_limit
+    → IsWithin (record { nodes = nodes_of stored; spine = spine; cursor = cursor })
+    → length (nodes_of stored) < node_limit
     → IfSome (target_of n.child) (λ ix. ix < length (nodes_of stored))
     → IfSome (target_of n.next) (λ ix. ix < length (nodes_of stored))
     → IsWithin (record { nodes = nodes_of (stored ++ n ∷ []); spine = spine; cursor = cursor })
@@ -75,7 +81,8 @@ within_stored stored spine cursor n w few child next =
     (record { child = child; next = next }))
 
 -- the links of a node that is read lead to nodes that are there
-pub leads_within : {T : Type 0} (stored : List (StoredNode T)) (ix : ℕ) (n : StoredNode T) → ix < length (nodes_of stored)
+pub leads_within : {T : Type 0} (stored : List (StoredNode T)) (ix : ℕ) (n : StoredNode T)
+    → ix < length (nodes_of stored)
     → n ≡ get_or stored ix n → AllByRecursion (LeadsBelow (length (nodes_of stored))) (nodes_of stored)
     → LeadsBelow (length (nodes_of stored)) (node_of n)
 leads_within stored ix n l e links = record {
@@ -91,4 +98,5 @@ pub within_written : {T : Type 0} (stored : List (StoredNode T)) (spine : List �
     → IsWithin (record { nodes = nodes_of (set stored ix after); spine = spine; cursor = cursor })
 within_written stored spine cursor ix before after w l e h =
     rw (nodes-changed stored ix before after (λ n. node_of after) l e refl)
-    (within_changed (record { nodes = nodes_of stored; spine = spine; cursor = cursor }) ix (λ n. node_of after) w (λ n k. h))
+    (within_changed (record { nodes = nodes_of stored; spine = spine; cursor = cursor }) ix (λ n. node_of after) w
+    (λ n k. h))

@@ -25,24 +25,28 @@ some_weaker (Some ix) p q h s = h ix s
 pub named_more : (few many : PartCounts) (b : ItemBody) → HasMore few many → PartsAreNamed few b → PartsAreNamed many b
 named_more few many b more n = record {
   text = some_weaker _ (λ ix. ix < few.texts) (λ ix. ix < many.texts) (λ ix k. omega (arith, k, more.texts)) n.text;
-  alignments = some_weaker _ (λ ix. ix < few.alignments) (λ ix. ix < many.alignments) (λ ix k. omega (arith, k, more.alignments))
+  alignments = some_weaker _ (λ ix. ix < few.alignments) (λ ix. ix < many.alignments)
+      (λ ix k. omega (arith, k, more.alignments))
       n.alignments;
   attributes = some_weaker _ (λ ix. (1 ≤ ix) × (ix ≤ few.attributes)) (λ ix. (1 ≤ ix) × (ix ≤ many.attributes))
       (λ ix k. (k.0, omega (arith, k.1, more.attributes))) n.attributes;
 }
 
 -- a fact about the number that each item holds is one about all numbers that are held
-all_named-Each : (name : ItemBody → Option ℕ) (p : ℕ → Type 0) (f : Forest Numbered) → Each (λ n. IfSome (name n.item.body) p) f
+all_named-Each : (name : ItemBody → Option ℕ) (p : ℕ → Type 0) (f : Forest Numbered)
+    → Each (λ n. IfSome (name n.item.body) p) f
     → AllByRecursion p (all_named name f)
 all_named-Each name p nil e = tt
 all_named-Each name p (node a below after) e =
     let parts = filter_map-append (λ (n : Numbered). name n.item.body) (preorder below) (preorder after) in
     let others = All-append p (all_named name below) (all_named name after) (all_named-Each name p below e.1)
     (all_named-Each name p after e.2) in
-    first_named (name a.item.body) (filter_map (λ (n : Numbered). name n.item.body) (preorder below ++ preorder after)) e.0
+    first_named (name a.item.body) (filter_map (λ (n : Numbered). name n.item.body) (preorder below ++ preorder after))
+    e.0
     (rw parts others)
   where
-    first_named : (o : Option ℕ) (others : List ℕ) → IfSome o p → AllByRecursion p others → AllByRecursion p (cons_option o others)
+    first_named : (o : Option ℕ) (others : List ℕ) → IfSome o p → AllByRecursion p others
+        → AllByRecursion p (cons_option o others)
     first_named None others h a = a
     first_named (Some ix) others h a = (h, a)
 
@@ -51,7 +55,8 @@ pub texts_there : (text : List ℕ) (counts : PartCounts) (f : Forest Numbered) 
     → AllByRecursion (λ ix. ix < counts.texts) (all_named text_named f)
 texts_there text counts f t =
     all_named-Each text_named (λ ix. ix < counts.texts) f
-    (Throughout-weaker (λ a below after. KeepsRules text counts a below (first_root after)) _ (λ a below after k. k.parts_are_named.text) f
+    (Throughout-weaker (λ a below after. KeepsRules text counts a below (first_root after)) _
+    (λ a below after k. k.parts_are_named.text) f
     t)
 
 -- likewise the alignments

@@ -1,5 +1,6 @@
 -- Numbers that are marked as they are met, and what it means that none is met twice.
-use Rattle.std.proofs.Common.{◌≡◌, ℕ, suc, zero, ◌<◌, ◌≤◌, List, [], ◌∷◌, Bool, true, false, length, get_or, set, replicate, refl, sym, ap}
+use Rattle.std.proofs.Common.{◌≡◌, ℕ, suc, zero, ◌<◌, ◌≤◌, List, [], ◌∷◌, Bool, true, false, length, get_or, set}
+use Rattle.std.proofs.Common.{replicate, refl, sym, ap}
 use Rattle.std.proofs.Common.{◌∙◌, arith}
 use Rattle.std.specs.Prelude.{nat_eq, ⊤}
 use Rattle.std.specs.List.{AllByRecursion, IsDistinct}
@@ -61,7 +62,8 @@ marked_same (b ∷ seen) (suc ix) = marked_same seen ix
 -- a mark that is not set once another is, is another one
 unset_other : (seen : List Bool) (x y : ℕ) → get_or (set seen x true) y true ≡ false
     → nat_eq x y ≡ false
-unset_other seen x y h = ne_eqb x y (λ e. let same : get_or (set seen x true) y true ≡ true = rw (← e) (marked_same seen x) in cc)
+unset_other seen x y h = ne_eqb x y (λ e. let same : get_or (set seen x true) y true
+    ≡ true = rw (← e) (marked_same seen x) in cc)
 
 -- and it was not set before
 unset_before : (seen : List Bool) (x y : ℕ) → get_or (set seen x true) y true ≡ false
@@ -76,7 +78,8 @@ Fresh-unset : (seen : List Bool) (xs : List ℕ) → Fresh seen xs
 Fresh-unset seen [] h = tt
 Fresh-unset seen (x ∷ xs) h = (
   h.0,
-  All-weaker (λ y. get_or (set seen x true) y true ≡ false) (λ y. get_or seen y true ≡ false) (λ y. unset_before seen x y) xs
+  All-weaker (λ y. get_or (set seen x true) y true ≡ false) (λ y. get_or seen y true ≡ false)
+      (λ y. unset_before seen x y) xs
       (Fresh-unset (set seen x true) xs h.1),
 )
 
@@ -120,12 +123,14 @@ below_unmarked (suc n) (suc x) h = omega (arith, below_unmarked n x h)
 -- numbers that are fresh for n marks, none of which is set, are below n and distinct
 pub AreNamedOnce-from_Fresh : (n : ℕ) (xs : List ℕ) → Fresh (unmarked n) xs → AreNamedOnce n xs
 AreNamedOnce-from_Fresh n xs h = record {
-  within = All-weaker (λ x. get_or (unmarked n) x true ≡ false) (λ x. x < n) (λ x. below_unmarked n x) xs (Fresh-unset (unmarked n) xs h);
+  within = All-weaker (λ x. get_or (unmarked n) x true ≡ false) (λ x. x < n) (λ x. below_unmarked n x) xs
+      (Fresh-unset (unmarked n) xs h);
   once = Fresh-distinct (unmarked n) xs h;
 }
 
 -- numbers below n that are distinct are fresh for n marks, none of which is set
 pub Fresh-from_AreNamedOnce : (n : ℕ) (xs : List ℕ) → AreNamedOnce n xs → Fresh (unmarked n) xs
 Fresh-from_AreNamedOnce n xs o =
-    distinct-Fresh (unmarked n) xs (All-weaker (λ x. x < n) (λ x. get_or (unmarked n) x true ≡ false) (λ x. unmarked_below n x) xs o.within)
+    distinct-Fresh (unmarked n) xs
+    (All-weaker (λ x. x < n) (λ x. get_or (unmarked n) x true ≡ false) (λ x. unmarked_below n x) xs o.within)
     o.once

@@ -1,5 +1,6 @@
 -- The numbers by which nodes name parts of a block result, marked one after another.
-use Rattle.std.proofs.Common.{◌≡◌, ℕ, ◌+◌, ◌<◌, List, ◌∷◌, Some, None, Bool, true, false, length, get_or, set, drop, replicate, refl}
+use Rattle.std.proofs.Common.{◌≡◌, ℕ, ◌+◌, ◌<◌, List, ◌∷◌, Some, None, Bool, true, false, length, get_or, set, drop}
+use Rattle.std.proofs.Common.{replicate, refl}
 use Rattle.std.proofs.Common.{add-one}
 use Rattle.std.proofs.Math.Seq.{drop-cons}
 use Rattle.markdown_base.specs.declared.item.Item.{Item}
@@ -17,13 +18,15 @@ pub record FreshSoFar (size : ℕ) (all : List ℕ) (seen : List Bool) (rest : L
 -- before the first, all are to come
 pub fresh_first : (size : ℕ) (all : List ℕ) (seen : List Bool) → seen ≡ replicate size false
     → FreshSoFar size all seen all
-fresh_first size all seen e = rw e (record { gives = Fresh-from_AreNamedOnce size all; makes = AreNamedOnce-from_Fresh size all })
+fresh_first size all seen e = rw e
+    (record { gives = Fresh-from_AreNamedOnce size all; makes = AreNamedOnce-from_Fresh size all })
 
 -- one that is fresh is marked
 pub fresh_more : (size : ℕ) (all : List ℕ) (seen marked : List Bool) (name : ℕ) (rest : List ℕ)
     → FreshSoFar size all seen (name ∷ rest) → get_or seen name true ≡ false
     → marked ≡ set seen name true → FreshSoFar size all marked rest
-fresh_more size all seen marked name rest w u e = rw e (record { gives = λ a. (w.gives a).1; makes = λ f. w.makes (u, f) })
+fresh_more size all seen marked name rest w u e = rw e
+    (record { gives = λ a. (w.gives a).1; makes = λ f. w.makes (u, f) })
 
 -- one that is not fresh ends it
 pub fresh_never : (size : ℕ) (all : List ℕ) (seen : List Bool) (name : ℕ) (rest : List ℕ)

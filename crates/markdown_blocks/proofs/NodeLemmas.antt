@@ -1,6 +1,7 @@
 -- How the trees from a link on open, node by node, and what that says of the chain that the link
 -- begins.
-use Rattle.std.proofs.Common.{◌≡◌, ℕ, ◌<◌, List, Option, Some, None, Bool, true, false, length, refl, sym, ap, ◌∙◌, arith}
+use Rattle.std.proofs.Common.{◌≡◌, ℕ, ◌<◌, List, Option, Some, None, Bool, true, false, length, refl, sym, ap, ◌∙◌}
+use Rattle.std.proofs.Common.{arith}
 use Rattle.std.specs.Prelude.{⊤, IsTrue, ◌↔◌, ◌||◌, ◌&&◌, not, is_some}
 use Rattle.markdown_base.specs.declared.item.Item.{Item}
 use Rattle.markdown_base.specs.declared.node.Node.{Node}
@@ -23,7 +24,8 @@ always (node ix below after) = (tt, always below, always after)
 pub record OpensAt (nodes : List (Node Item)) (ix : ℕ) : Type 0 where
   pub within : ix < length nodes
   pub after : LeadsOn nodes (sibling_of nodes ix)
-  pub here : trees_at nodes (Some ix) ≡ node (numbered nodes ix) (trees_at nodes (child_of nodes ix)) (trees_at nodes (sibling_of nodes ix))
+  pub here : trees_at nodes (Some ix) ≡ node (numbered nodes ix) (trees_at nodes (child_of nodes ix))
+      (trees_at nodes (sibling_of nodes ix))
 
 -- each link that leads on opens so
 pub opens_at : (nodes : List (Node Item)) (ix : ℕ) → LeadsOn nodes (Some ix) → OpensAt nodes ix
@@ -50,7 +52,8 @@ pub record TellsSoFar (nodes : List (Node Item)) (first link : Option ℕ)
   pub leads : LeadsOn nodes link
   pub any_open : (kinds.any_open || has_open (trees_at nodes link)) ≡ has_open (trees_at nodes first)
   pub only_inline : (kinds.only_inline && all_inline (trees_at nodes link)) ≡ all_inline (trees_at nodes first)
-  pub any_tight : (kinds.any_tight || has_tight_paragraph (trees_at nodes link)) ≡ has_tight_paragraph (trees_at nodes first)
+  pub any_tight : (kinds.any_tight || has_tight_paragraph (trees_at nodes link))
+      ≡ has_tight_paragraph (trees_at nodes first)
 
 -- three tests, one of which passes, taken two by two
 or-or : (a b c : Bool) → ((a || b) || c) ≡ (a || (b || c))
@@ -83,10 +86,13 @@ tells_more nodes first ix kinds more link w o i t e =
     let opened = opens_at nodes ix w.leads in
     record {
       leads = rw e opened.after;
-      any_open = rw (e, o) (or-or kinds.any_open _ _ ∙ (sym (ap (λ c. kinds.any_open || has_open c) opened.here) ∙ w.any_open));
-      only_inline = rw (e, i) (and-and kinds.only_inline _ _ ∙ (sym (ap (λ c. kinds.only_inline && all_inline c) opened.here)
+      any_open = rw (e, o) (or-or kinds.any_open _ _
+          ∙ (sym (ap (λ c. kinds.any_open || has_open c) opened.here) ∙ w.any_open));
+      only_inline = rw (e, i)
+          (and-and kinds.only_inline _ _ ∙ (sym (ap (λ c. kinds.only_inline && all_inline c) opened.here)
           ∙ w.only_inline));
-      any_tight = rw (e, t) (or-or kinds.any_tight _ _ ∙ (sym (ap (λ c. kinds.any_tight || has_tight_paragraph c) opened.here)
+      any_tight = rw (e, t)
+          (or-or kinds.any_tight _ _ ∙ (sym (ap (λ c. kinds.any_tight || has_tight_paragraph c) opened.here)
           ∙ w.any_tight));
     }
 
@@ -104,8 +110,10 @@ tells_all nodes first link kinds w e =
     let none : trees_at nodes link ≡ nil = ap (trees_at nodes) e ∙ trees_at-none nodes in
     record {
       any_open = sym (or-none kinds.any_open) ∙ (sym (ap (λ c. kinds.any_open || has_open c) none) ∙ w.any_open);
-      only_inline = sym (and-all kinds.only_inline) ∙ (sym (ap (λ c. kinds.only_inline && all_inline c) none) ∙ w.only_inline);
-      any_tight = sym (or-none kinds.any_tight) ∙ (sym (ap (λ c. kinds.any_tight || has_tight_paragraph c) none) ∙ w.any_tight);
+      only_inline = sym (and-all kinds.only_inline)
+          ∙ (sym (ap (λ c. kinds.only_inline && all_inline c) none) ∙ w.only_inline);
+      any_tight = sym (or-none kinds.any_tight)
+          ∙ (sym (ap (λ c. kinds.any_tight || has_tight_paragraph c) none) ∙ w.any_tight);
     }
 
 -- where a link leads to nothing it begins nothing

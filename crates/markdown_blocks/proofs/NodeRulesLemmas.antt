@@ -10,7 +10,8 @@ use Rattle.markdown_base.specs.ArenaForest.{Links, links_of, Spells, forest_at, 
 use Rattle.markdown_base.specs.ArenaRules.{NodeKeepsRules}
 use Rattle.markdown_base.specs.BlockTree.{Numbered, numbered, tree_of}
 use Rattle.markdown_base.specs.Forest.{Forest, nil, node, Each, preorder}
-use Rattle.markdown_base.specs.WellFormed.{IsReachedOnce, PartCounts, counts_of, AllKeepRules, has_open, all_named, IsWellFormed}
+use Rattle.markdown_base.specs.WellFormed.{IsReachedOnce, PartCounts, counts_of, AllKeepRules, has_open, all_named}
+use Rattle.markdown_base.specs.WellFormed.{IsWellFormed}
 use Rattle.markdown_base.proofs.ArenaForestLemmas.{height, height-followed, forest_at-fits}
 use Rattle.markdown_base.proofs.ArenaRulesLemmas.{by_number}
 use Rattle.markdown_base.proofs.ForestLemmas.{All-append, preorder-Each, Each-preorder, preorder-relabelled}
@@ -105,7 +106,8 @@ IsWellFormed-from_IsTested text nodes parts order w e t =
     let keeps = NodeKeepsRules text (counts_of parts) nodes in
     record {
       reached_once = w;
-      rules = (kept_below text (counts_of parts) nodes w).1 (Each-preorder keeps (numbers_below nodes) (rw e at t.kept));
+      rules = (kept_below text (counts_of parts) nodes w).1
+          (Each-preorder keeps (numbers_below nodes) (rw e at t.kept));
       top_is_closed = t.top;
       each_text_once = (rw (names_of-all_named Text nodes order e) at t.texts).once;
       each_alignments_once = (rw (names_of-all_named Alignments nodes order e) at t.alignments).once;
@@ -119,9 +121,14 @@ IsTested-from_IsWellFormed text nodes parts order e w =
     let keeps = NodeKeepsRules text (counts_of parts) nodes in
     record {
       top = w.top_is_closed;
-      kept = rw e (preorder-Each keeps (numbers_below nodes) ((kept_below text (counts_of parts) nodes w.reached_once).0 w.rules));
+      kept = rw e (preorder-Each keeps (numbers_below nodes)
+          ((kept_below text (counts_of parts) nodes w.reached_once).0 w.rules));
       texts = rw (names_of-all_named Text nodes order e)
           (record { within = texts_there text (counts_of parts) (tree_of nodes) w.rules; once = w.each_text_once });
       alignments = rw (names_of-all_named Alignments nodes order e)
-          (record { within = alignments_there text (counts_of parts) (tree_of nodes) w.rules; once = w.each_alignments_once });
+          (record {
+            within = alignments_there text (counts_of parts) (tree_of nodes) w.rules;
+            once
+                = w.each_alignments_once;
+          });
     }

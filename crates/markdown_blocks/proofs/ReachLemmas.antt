@@ -1,6 +1,7 @@
 -- A search that marks the nodes that it reaches finds the forest below the root, where there is
 -- one and no node is reached twice.
-use Rattle.std.proofs.Common.{◌≡◌, ℕ, suc, ◌+◌, ◌*◌, ◌<◌, ◌≤◌, List, [], ◌∷◌, ◌++◌, Option, Some, None, Bool, true, false, length, get_or}
+use Rattle.std.proofs.Common.{◌≡◌, ℕ, suc, ◌+◌, ◌*◌, ◌<◌, ◌≤◌, List, [], ◌∷◌, ◌++◌, Option, Some, None, Bool, true}
+use Rattle.std.proofs.Common.{false, length, get_or}
 use Rattle.std.proofs.Common.{set, replicate, reverse, refl, sym, ap, ◌∙◌, arith, append_assoc, append-nil, length-set}
 use Rattle.std.specs.Prelude.{⊤, IsTrue, ◌↔◌}
 use Rattle.std.specs.Bool.{OnTrue}
@@ -14,7 +15,8 @@ use Rattle.markdown_base.specs.Forest.{Forest, nil, node, preorder}
 use Rattle.markdown_base.specs.WellFormed.{IsReachedOnce}
 use Rattle.markdown_base.proofs.ArenaForestLemmas.{height, forest_at-fits}
 use Rattle.markdown_base.proofs.ForestLemmas.{All-append}
-use Rattle.markdown_blocks.proofs.MarkLemmas.{Fresh, unmarked, unset, unset-set, Fresh-unmarked_length, AreNamedOnce-from_Fresh}
+use Rattle.markdown_blocks.proofs.MarkLemmas.{Fresh, unmarked, unset, unset-set, Fresh-unmarked_length}
+use Rattle.markdown_blocks.proofs.MarkLemmas.{AreNamedOnce-from_Fresh}
 use Rattle.markdown_blocks.proofs.MarkLemmas.{Fresh-from_AreNamedOnce}
 
 -- the links below the root lead through a forest with the numbers xs in preorder, and no number
@@ -144,7 +146,17 @@ found_first k h = record {
   sizes = simp (length-set, length-replicate) refl;
   makes = λ xs p. let o = one-Pending k _ _ xs p
       in record { forest = o.0; spelled = o.1; fresh = (get_or-replicate k.size 0 false true h, p.2); numbers = o.2 };
-  breaks = λ zs p. (zs, refl, (p.forest ∷ [], (p.spelled, tt), p.fresh.1, p.numbers ∙ sym (append-nil (preorder p.forest))));
+  breaks = λ zs p. (
+    zs,
+    refl,
+    (
+      p.forest ∷ [],
+      (p.spelled, tt),
+      p.fresh.1,
+      p.numbers
+          ∙ sym (append-nil (preorder p.forest)),
+    ),
+  );
 }
 
 -- so it is when the search begins, once the root was marked
@@ -165,7 +177,8 @@ found_popped k seen old new l done w e = rw (e, reverse-append new (l ∷ [])) a
 pub found_skips : (k : Links) (seen : List Bool) (old new : List (Option ℕ)) (l : Option ℕ) (done : List ℕ)
     → IsFound k seen (reverse old) done → old ≡ new ++ l ∷ [] → l ≡ None
     → IsFound k seen (reverse new) done
-found_skips k seen old new l done w e h = found_none k seen (reverse new) done (rw h at (found_popped k seen old new l done w e))
+found_skips k seen old new l done w e h = found_none k seen (reverse new) done
+    (rw h at (found_popped k seen old new l done w e))
 
 -- a node is taken from the stack, and its links are put there
 pub found_visits : (k : Links) (seen marked : List Bool) (old new last : List (Option ℕ)) (done after : List ℕ) (i : ℕ)
@@ -181,7 +194,8 @@ found_visits k seen marked old new last done after i w e h u m f g =
 pub found_again_top : (k : Links) (seen : List Bool) (old new : List (Option ℕ)) (done : List ℕ) (i : ℕ)
     → IsFound k seen (reverse old) done → old ≡ new ++ Some i ∷ []
     → (get_or seen i true ≡ false → ⊥) → (zs : List ℕ) → IsPreorder k zs → ⊥
-found_again_top k seen old new done i w e h = found_again k seen (reverse new) done i (found_popped k seen old new (Some i) done w e) h
+found_again_top k seen old new done i w e h = found_again k seen (reverse new) done i
+    (found_popped k seen old new (Some i) done w e) h
 
 -- each node that is reached leaves less to do: twice the marks that are not set, and what is
 -- pending

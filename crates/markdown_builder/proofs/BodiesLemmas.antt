@@ -10,9 +10,11 @@ use Rattle.markdown_base.specs.declared.item.ItemBody.TheVariants as body
 use Rattle.markdown_base.specs.declared.tag.HeadingLevel.{HeadingLevel}
 use Rattle.markdown_base.specs.BlockTree.{Numbered}
 use Rattle.markdown_base.specs.Forest.{nil, node}
-use Rattle.markdown_base.specs.Item.{LiesIn, is_open, is_inline, is_childless, is_resolved, is_tight_paragraph, is_unplaced, text_named}
+use Rattle.markdown_base.specs.Item.{LiesIn, is_open, is_inline, is_childless, is_resolved, is_tight_paragraph}
+use Rattle.markdown_base.specs.Item.{is_unplaced, text_named}
 use Rattle.markdown_base.specs.Item.{alignments_named, attributes_named}
-use Rattle.markdown_base.specs.WellFormed.{BlocksAreSettled, ChainsAreKept, MarkupIsThere, StandsOverMarkup, run_character, PartCounts}
+use Rattle.markdown_base.specs.WellFormed.{BlocksAreSettled, ChainsAreKept, MarkupIsThere, StandsOverMarkup}
+use Rattle.markdown_base.specs.WellFormed.{run_character, PartCounts}
 use Rattle.markdown_base.specs.WellFormed.{PartsAreNamed}
 use Rattle.markdown_base.proofs.WellFormedLemmas.{HasMore}
 use Rattle.markdown_builder.specs.Bodies.{is_leaf, is_plain_block, is_settled}
@@ -28,7 +30,8 @@ pub record IsPlain (b : ItemBody) : Type 0 where
   pub attributes : attributes_named b ≡ None
   pub loose : is_tight_paragraph b ≡ false
 
-pub plain : {b : ItemBody} → is_resolved b ≡ false → run_character b ≡ None → is_unplaced b ≡ false → text_named b ≡ None
+pub plain : {b : ItemBody} → is_resolved b ≡ false → run_character b ≡ None → is_unplaced b ≡ false → text_named b
+    ≡ None
     → alignments_named b ≡ None
     → attributes_named b ≡ None → is_tight_paragraph b ≡ false → IsPlain b
 plain unresolved no_run placed texts alignments attributes loose = record {
@@ -145,7 +148,8 @@ chain_of_one above b parent = record {
     open_inline body.MaybeImage h = refl
     open_inline other h = cc (h)
 
-pub parent_of_one : (above : ItemBody) (b : Numbered) → ChainsAreKept above (node b nil nil) → is_childless above ≡ false
+pub parent_of_one : (above : ItemBody) (b : Numbered) → ChainsAreKept above (node b nil nil) → is_childless above
+    ≡ false
 parent_of_one above b k = of_test (is_childless above) k.childless
   where
     of_test : (v : Bool) → (IsTrue v → node b nil nil ≡ nil) → v ≡ false
@@ -240,12 +244,14 @@ placed_fits text few many start end b p markup range = record {
 }
 
 -- a body that may be placed refers to what is new
-pub placed_new : (few many : PartCounts) (start end : ℕ) (b : ItemBody) → MayBePlaced few many b → NamesNew few (item_over start end b)
+pub placed_new : (few many : PartCounts) (start end : ℕ) (b : ItemBody) → MayBePlaced few many b
+    → NamesNew few (item_over start end b)
 placed_new few many start end b p = record { texts = p.texts; alignments = p.alignments }
 
 -- the parts with one text more
 abbrev pub one_text_more : PartCounts → PartCounts → Type 0
-one_text_more few many = (many.texts ≡ few.texts + 1) × (many.alignments ≡ few.alignments) × (many.attributes ≡ few.attributes)
+one_text_more few many = (many.texts ≡ few.texts + 1) × (many.alignments ≡ few.alignments)
+    × (many.attributes ≡ few.attributes)
 
 -- a body that names the text of a number, and nothing else
 pub record NamesText (b : ItemBody) (ix : ℕ) : Type 0 where
@@ -258,10 +264,15 @@ pub record NamesText (b : ItemBody) (ix : ℕ) : Type 0 where
   pub loose : is_tight_paragraph b ≡ false
 
 -- the newest text may be named
-pub text_placed : (few many : PartCounts) (b : ItemBody) (ix : ℕ) → ix ≡ few.texts → one_text_more few many → NamesText b ix
+pub text_placed : (few many : PartCounts) (b : ItemBody) (ix : ℕ) → ix ≡ few.texts → one_text_more few many
+    → NamesText b ix
     → MayBePlaced few many b
 text_placed few many b ix e more n = record {
-  more = record { texts = omega (arith, more.0); alignments = omega (arith, more.1); attributes = omega (arith, more.2) };
+  more = record {
+    texts = omega (arith, more.0);
+    alignments = omega (arith, more.1);
+    attributes = omega (arith, more.2);
+  };
   unresolved = n.unresolved;
   no_run = n.no_run;
   placed = n.placed;
@@ -277,22 +288,55 @@ text_placed few many b ix e more n = record {
 
 pub fenced_names : (ix : CowIndex) → NamesText (body.FencedCodeBlock ix) ix.0
 fenced_names ix =
-    record { unresolved = refl; no_run = refl; placed = refl; text = refl; alignments = refl; attributes = refl; loose = refl }
+    record {
+      unresolved = refl;
+      no_run = refl;
+      placed = refl;
+      text = refl;
+      alignments = refl;
+      attributes = refl;
+      loose
+          = refl;
+    }
 
 pub footnote_names : (ix : CowIndex) → NamesText (body.FootnoteDefinition ix) ix.0
 footnote_names ix =
-    record { unresolved = refl; no_run = refl; placed = refl; text = refl; alignments = refl; attributes = refl; loose = refl }
+    record {
+      unresolved = refl;
+      no_run = refl;
+      placed = refl;
+      text = refl;
+      alignments = refl;
+      attributes = refl;
+      loose
+          = refl;
+    }
 
 pub synthesized_names : (ix : CowIndex) → NamesText (body.SynthesizeText ix) ix.0
 synthesized_names ix =
-    record { unresolved = refl; no_run = refl; placed = refl; text = refl; alignments = refl; attributes = refl; loose = refl }
+    record {
+      unresolved = refl;
+      no_run = refl;
+      placed = refl;
+      text = refl;
+      alignments = refl;
+      attributes = refl;
+      loose
+          = refl;
+    }
 
 -- the newest alignments may be named by a table
-pub table_placed : (few many : PartCounts) (ix : AlignmentIndex) → ix.0 ≡ few.alignments → many.alignments ≡ few.alignments + 1
+pub table_placed : (few many : PartCounts) (ix : AlignmentIndex) → ix.0 ≡ few.alignments → many.alignments
+    ≡ few.alignments + 1
     → many.texts ≡ few.texts
     → many.attributes ≡ few.attributes → MayBePlaced few many (body.Table ix)
 table_placed few many ix e alignments texts attributes = record {
-  more = record { texts = omega (arith, texts); alignments = omega (arith, alignments); attributes = omega (arith, attributes) };
+  more = record {
+    texts = omega (arith, texts);
+    alignments = omega (arith, alignments);
+    attributes = omega
+        (arith, attributes);
+  };
   unresolved = refl;
   no_run = refl;
   placed = refl;
@@ -307,7 +351,12 @@ pub heading_placed : (few many : PartCounts) (level : HeadingLevel) (ix : Headin
     → many.attributes ≡ few.attributes + 1
     → many.texts ≡ few.texts → many.alignments ≡ few.alignments → MayBePlaced few many (body.Heading level (Some ix))
 heading_placed few many level ix e attributes texts alignments = record {
-  more = record { texts = omega (arith, texts); alignments = omega (arith, alignments); attributes = omega (arith, attributes) };
+  more = record {
+    texts = omega (arith, texts);
+    alignments = omega (arith, alignments);
+    attributes = omega
+        (arith, attributes);
+  };
   unresolved = refl;
   no_run = refl;
   placed = refl;

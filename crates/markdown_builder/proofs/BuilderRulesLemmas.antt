@@ -1,5 +1,6 @@
 -- The rules at each number and link are kept by an append and by a written item.
-use Rattle.std.proofs.Common.{◌≡◌, ℕ, zero, suc, ◌<◌, ◌≤◌, List, Option, Some, None, Bool, true, false, length, refl, sym, ap, ◌∙◌, subst}
+use Rattle.std.proofs.Common.{◌≡◌, ℕ, zero, suc, ◌<◌, ◌≤◌, List, Option, Some, None, Bool, true, false, length, refl}
+use Rattle.std.proofs.Common.{sym, ap, ◌∙◌, subst}
 use Rattle.std.proofs.Common.{arith, ◌⊎◌, inl, inr, ⊎_elim}
 use Rattle.std.specs.Prelude.{IfSome}
 use Rattle.std.proofs.lemmas.Bool.{cases_lt}
@@ -21,14 +22,17 @@ use Rattle.markdown_builder.proofs.NodeWriteLemmas.{Grows, Writes, item_beyond}
 pub same_or_not : (i j : ℕ) → (i ≡ j) ⊎ (i ≡ j → ⊥)
 same_or_not i j =
     ⊎_elim (λ (h : i < j). inr (λ e. absurd (omega (arith, h, e))))
-    (λ (h : j ≤ i). ⊎_elim (λ (k : j < i). inr (λ e. absurd (omega (arith, k, e)))) (λ (k : i ≤ j). inl (omega (arith, h, k)))
+    (λ (h : j ≤ i). ⊎_elim (λ (k : j < i). inr (λ e. absurd (omega (arith, k, e))))
+    (λ (k : i ≤ j). inl (omega (arith, h, k)))
     (cases_lt j i))
     (cases_lt i j)
 
 -- two places are one, or they are not
 same_place : (d down : Bool) (i at : ℕ) → ((d ≡ down) × (i ≡ at)) ⊎ ((d ≡ down) × (i ≡ at) → ⊥)
-same_place true true i at = ⊎_elim (λ (e : i ≡ at). inl (refl, e)) (λ (n : i ≡ at → ⊥). inr (λ p. n p.1)) (same_or_not i at)
-same_place false false i at = ⊎_elim (λ (e : i ≡ at). inl (refl, e)) (λ (n : i ≡ at → ⊥). inr (λ p. n p.1)) (same_or_not i at)
+same_place true true i at = ⊎_elim (λ (e : i ≡ at). inl (refl, e)) (λ (n : i ≡ at → ⊥). inr (λ p. n p.1))
+    (same_or_not i at)
+same_place false false i at = ⊎_elim (λ (e : i ≡ at). inl (refl, e)) (λ (n : i ≡ at → ⊥). inr (λ p. n p.1))
+    (same_or_not i at)
 same_place true false i at = inr (λ p. let e = p.0 in cc (e))
 same_place false true i at = inr (λ p. let e = p.0 in cc (e))
 
@@ -39,7 +43,8 @@ pub record IsNewLink (size : ℕ) (down d : Bool) (at i j : ℕ) : Type 0 where
   pub to : j ≡ size
 
 -- each link was there, or is the new one
-pub which_link : (old new : List (Node Item)) (down : Bool) (at : ℕ) (x : Item) → Grows old new down at x → (d : Bool) (i j : ℕ)
+pub which_link : (old new : List (Node Item)) (down : Bool) (at : ℕ) (x : Item) → Grows old new down at x
+    → (d : Bool) (i j : ℕ)
     → link_of (links_of new) d i ≡ Some j → IsNewLink (length old) down d at i j ⊎ (link_of (links_of old) d i ≡ Some j)
 which_link old new down at x g d i j e =
     ⊎_elim (λ (p : (d ≡ down) × (i ≡ at)). inl (record { side = p.0; from = p.1; to = new_to p.0 p.1 }))
@@ -52,11 +57,13 @@ which_link old new down at x g d i j e =
         let b : Some j ≡ Some (length old) = sym e ∙ a in cc (b)
 
 -- links rise
-append_rising : (old new : List (Node Item)) (down : Bool) (at : ℕ) (x : Item) → at < length old → AreRising (links_of old)
+append_rising : (old new : List (Node Item)) (down : Bool) (at : ℕ) (x : Item) → at < length old
+    → AreRising (links_of old)
     → Grows old new down at x
     → AreRising (links_of new)
 append_rising old new down at x low r g = record {
-  rises = λ d i j e. ⊎_elim (λ (n : IsNewLink (length old) down d at i j). (omega (arith, n.from, n.to, low), omega (arith, n.to, g.size)))
+  rises = λ d i j e. ⊎_elim
+      (λ (n : IsNewLink (length old) down d at i j). (omega (arith, n.from, n.to, low), omega (arith, n.to, g.size)))
       (λ (o : link_of (links_of old) d i ≡ Some j). let p = r.rises d i j o in (p.0, omega (arith, p.1, g.size)))
       (which_link old new down at x g d i j e);
   once = λ d b i h j e f. ⊎_elim
@@ -72,16 +79,19 @@ append_rising old new down at x low r g = record {
 }
 
 -- other items stay, whatever the number
-pub same_item : (old new : List (Node Item)) (down : Bool) (at : ℕ) (x : Item) → Grows old new down at x → (i : ℕ) → (i ≡ length old → ⊥)
+pub same_item : (old new : List (Node Item)) (down : Bool) (at : ℕ) (x : Item) → Grows old new down at x → (i : ℕ)
+    → (i ≡ length old → ⊥)
     → item_at new i ≡ item_at old i
 same_item old new down at x g i n =
     ⊎_elim (λ (h : i < length old). g.old_items i h)
-    (λ (h : length old ≤ i). ⊎_elim (λ (k : length old < i). item_beyond new i (omega (arith, k, g.size)) ∙ sym (item_beyond old i h))
+    (λ (h : length old ≤ i). ⊎_elim (λ (k : length old < i). item_beyond new i (omega (arith, k, g.size))
+    ∙ sym (item_beyond old i h))
     (λ (k : i ≤ length old). absurd (n (omega (arith, h, k)))) (cases_lt (length old) i))
     (cases_lt i (length old))
 
 -- an item fits where there are more parts
-pub fits_more : (text : List ℕ) (few many : PartCounts) (item : Item) → HasMore few many → ItemFits text few item → ItemFits text many item
+pub fits_more : (text : List ℕ) (few many : PartCounts) (item : Item) → HasMore few many → ItemFits text few item
+    → ItemFits text many item
 fits_more text few many item m f = record {
   ranges_lie_in = f.ranges_lie_in;
   nothing_resolved = f.nothing_resolved;
@@ -96,13 +106,17 @@ of_name None P t h e = cc (e)
 of_name (Some u) P t h e = let q : u ≡ t = cc (e) in subst P q h
 
 -- old names are small
-low_names : (name : ItemBody → Option ℕ) (nodes : List (Node Item)) (count : ℕ) → name body.Root ≡ None → (item_at nodes 0).body ≡ body.Root
+low_names : (name : ItemBody → Option ℕ) (nodes : List (Node Item)) (count : ℕ) → name body.Root ≡ None
+    → (item_at nodes 0).body ≡ body.Root
     → ((i : ℕ) → 0 < i → i < length nodes → IfSome (name (item_at nodes i).body) (λ ix. ix < count))
     → (i t : ℕ) → name (item_at nodes i).body ≡ Some t → t < count
-low_names name nodes count none root low zero t e = let a : name (item_at nodes 0).body ≡ None = rw root none in cc (a, e)
+low_names name nodes count none root low zero t e = let a : name (item_at nodes 0).body
+    ≡ None = rw root none in cc (a, e)
 low_names name nodes count none root low (suc i) t e =
-    ⊎_elim (λ (h : suc i < length nodes). of_name (name (item_at nodes (suc i)).body) (λ ix. ix < count) t (low (suc i) (omega arith) h) e)
-    (λ (h : length nodes ≤ suc i). let a : name (item_at nodes (suc i)).body ≡ None = rw (item_beyond nodes (suc i) h) none in cc (a, e))
+    ⊎_elim (λ (h : suc i < length nodes). of_name (name (item_at nodes (suc i)).body) (λ ix. ix < count) t
+    (low (suc i) (omega arith) h) e)
+    (λ (h : length nodes ≤ suc i). let a : name (item_at nodes (suc i)).body ≡ None = rw (item_beyond nodes (suc i) h)
+    none in cc (a, e))
     (cases_lt (suc i) (length nodes))
 
 -- entries are referred to once where a new item refers to a new one
@@ -114,11 +128,13 @@ once_more : (name : ItemBody → Option ℕ) (old new : List (Node Item)) (down 
 once_more name old new down at x count g low high once i j t e f =
     ⊎_elim (λ (p : i ≡ length old). ⊎_elim
     (λ (q : j ≡ length old). p ∙ sym q)
-    (λ (q : j ≡ length old → ⊥). let a = low j t (at_old j q f) in let b = of_name (name x.body) (λ ix. count ≤ ix) t high (at_new i p e)
+    (λ (q : j ≡ length old → ⊥). let a = low j t (at_old j q f) in let b = of_name (name x.body) (λ ix. count ≤ ix) t
+    high (at_new i p e)
     in absurd (omega (arith, a, b)))
     (same_or_not j (length old)))
     (λ (p : i ≡ length old → ⊥). ⊎_elim
-    (λ (q : j ≡ length old). let a = low i t (at_old i p e) in let b = of_name (name x.body) (λ ix. count ≤ ix) t high (at_new j q f)
+    (λ (q : j ≡ length old). let a = low i t (at_old i p e) in let b = of_name (name x.body) (λ ix. count ≤ ix) t high
+    (at_new j q f)
     in absurd (omega (arith, a, b)))
     (λ (q : j ≡ length old → ⊥). once i j t (at_old i p e) (at_old j q f))
     (same_or_not j (length old)))
@@ -131,7 +147,8 @@ once_more name old new down at x count g low high once i j t e f =
     at_new i q e = subst (λ (y : Item). name y.body ≡ Some t) (ap (λ (m : ℕ). item_at new m) q ∙ g.new_item) e
 
 -- an append keeps all
-pub append_keeps : (text : List ℕ) (few many : PartCounts) (old new : List (Node Item)) (down : Bool) (at : ℕ) (x : Item)
+pub append_keeps : (text : List ℕ) (few many : PartCounts) (old new : List (Node Item)) (down : Bool) (at : ℕ)
+    (x : Item)
     → KeepsNodes text few old
     → Grows old new down at x → at < length old → HasMore few many → ItemFits text many x → NamesNew few x
     → LinkFits down (numbered old at) (record { number = length old; item = x })
@@ -141,7 +158,8 @@ append_keeps text few many old new down at x k g low more fits names link = reco
   rooted = omega (arith, g.size);
   root = ap (λ (y : Item). y.body) (g.old_items 0 k.rooted) ∙ k.root;
   items = λ i a b. ⊎_elim
-      (λ (q : i ≡ length old). subst (λ (y : Item). ItemFits text many y) (sym (ap (λ (m : ℕ). item_at new m) q ∙ g.new_item)) fits)
+      (λ (q : i ≡ length old). subst (λ (y : Item). ItemFits text many y)
+      (sym (ap (λ (m : ℕ). item_at new m) q ∙ g.new_item)) fits)
       (λ (q : i ≡ length old → ⊥). subst (λ (y : Item). ItemFits text many y) (sym (same_item old new down at x g i q))
       (fits_more text few many (item_at old i) more (k.items i a (before i b q))))
       (same_or_not i (length old));
@@ -149,9 +167,11 @@ append_keeps text few many old new down at x k g low more fits names link = reco
       (λ (o : link_of (links_of old) d i ≡ Some j). old_fits d i j o)
       (which_link old new down at x g d i j e);
   texts = once_more text_named old new down at x few.texts g
-      (low_names text_named old few.texts refl k.root (λ i a b. (k.items i a b).parts_are_named.text)) names.texts k.texts;
+      (low_names text_named old few.texts refl k.root (λ i a b. (k.items i a b).parts_are_named.text)) names.texts
+      k.texts;
   alignments = once_more alignments_named old new down at x few.alignments g
-      (low_names alignments_named old few.alignments refl k.root (λ i a b. (k.items i a b).parts_are_named.alignments)) names.alignments
+      (low_names alignments_named old few.alignments refl k.root (λ i a b. (k.items i a b).parts_are_named.alignments))
+      names.alignments
       k.alignments;
 }
   where
@@ -159,7 +179,8 @@ append_keeps text few many old new down at x k g low more fits names link = reco
     before i b q = ⊎_elim (λ (h : i < length old). h) (λ (h : length old ≤ i). absurd (q (omega (arith, h, b, g.size))))
         (cases_lt i (length old))
 
-    new_fits : (d : Bool) (i j : ℕ) → IsNewLink (length old) down d at i j → LinkFits d (numbered new i) (numbered new j)
+    new_fits : (d : Bool) (i j : ℕ) → IsNewLink (length old) down d at i j
+        → LinkFits d (numbered new i) (numbered new j)
     new_fits d i j n =
         let a : item_at new i ≡ item_at old at = ap (λ (m : ℕ). item_at new m) n.from ∙ g.old_items at low in
         let b : item_at new j ≡ x = ap (λ (m : ℕ). item_at new m) n.to ∙ g.new_item in
@@ -175,7 +196,8 @@ append_keeps text few many old new down at x k g low more fits names link = reco
 -- ---- a written item
 
 -- a link fits with another item at its start
-pub fits_from : (d : Bool) (a b : Numbered) (c : Numbered) → a.number ≡ b.number → MayReplace a.item b.item → LinkFits d a c
+pub fits_from : (d : Bool) (a b : Numbered) (c : Numbered) → a.number ≡ b.number → MayReplace a.item b.item
+    → LinkFits d a c
     → LinkFits d b c
 fits_from true a b c e m l = record {
   kind = l.kind ∙ sym m.leaf;
@@ -189,7 +211,8 @@ fits_from false a b c e m l = record {
 }
 
 -- and at its end
-fits_to : (d : Bool) (a b : Numbered) (c : Numbered) → a.number ≡ b.number → MayReplace a.item b.item → LinkFits d c a → LinkFits d c b
+fits_to : (d : Bool) (a b : Numbered) (c : Numbered) → a.number ≡ b.number → MayReplace a.item b.item → LinkFits d c a
+    → LinkFits d c b
 fits_to true a b c e m l = record {
   kind = m.inline ∙ l.kind;
   chains_are_kept = chain_of_one c.item.body b (parent_of_one c.item.body a l.chains_are_kept);
@@ -211,7 +234,8 @@ stays_fit P old new at i x w here elsewhere = ⊎_elim
     (same_or_not i at)
 
 -- a written item keeps all
-pub write_keeps : (text : List ℕ) (counts : PartCounts) (old new : List (Node Item)) (at : ℕ) (x : Item) → KeepsNodes text counts old
+pub write_keeps : (text : List ℕ) (counts : PartCounts) (old new : List (Node Item)) (at : ℕ) (x : Item)
+    → KeepsNodes text counts old
     → Writes old new at x → 0 < at → ItemFits text counts x → MayReplace (item_at old at) x → KeepsNodes text counts new
 write_keeps text counts old new at x k w low fits m = record {
   rising = record {
@@ -221,8 +245,10 @@ write_keeps text counts old new at x k w low fits m = record {
   rooted = omega (arith, w.size, k.rooted);
   root = ap (λ (y : Item). y.body) (w.old_items 0 (λ e. absurd (omega (arith, e, low)))) ∙ k.root;
   items = λ i a b. ⊎_elim
-      (λ (q : i ≡ at). subst (λ (y : Item). ItemFits text counts y) (sym (ap (λ (n : ℕ). item_at new n) q ∙ w.new_item)) fits)
-      (λ (q : i ≡ at → ⊥). subst (λ (y : Item). ItemFits text counts y) (sym (w.old_items i q)) (k.items i a (omega (arith, b, w.size))))
+      (λ (q : i ≡ at). subst (λ (y : Item). ItemFits text counts y) (sym (ap (λ (n : ℕ). item_at new n) q ∙ w.new_item))
+      fits)
+      (λ (q : i ≡ at → ⊥). subst (λ (y : Item). ItemFits text counts y) (sym (w.old_items i q))
+      (k.items i a (omega (arith, b, w.size))))
       (same_or_not i at);
   links = λ d i j e. right d i j (left d i j (k.links d i j (sym (w.all_links d i) ∙ e)));
   texts = λ i j t e f. k.texts i j t (named_before text_named m.texts i t e) (named_before text_named m.texts j t f);
@@ -233,18 +259,22 @@ write_keeps text counts old new at x k w low fits m = record {
     replaced : (i : ℕ) → i ≡ at → MayReplace (item_at old i) x
     replaced i q = subst (λ (n : ℕ). MayReplace (item_at old n) x) (sym q) m
 
-    left : (d : Bool) (i j : ℕ) → LinkFits d (numbered old i) (numbered old j) → LinkFits d (numbered new i) (numbered old j)
+    left : (d : Bool) (i j : ℕ) → LinkFits d (numbered old i) (numbered old j)
+        → LinkFits d (numbered new i) (numbered old j)
     left d i j l = stays_fit (λ y. LinkFits d y (numbered old j)) old new at i x w
         (λ q. fits_from d (numbered old i) (record { number = i; item = x }) (numbered old j) refl (replaced i q) l) l
 
-    right : (d : Bool) (i j : ℕ) → LinkFits d (numbered new i) (numbered old j) → LinkFits d (numbered new i) (numbered new j)
+    right : (d : Bool) (i j : ℕ) → LinkFits d (numbered new i) (numbered old j)
+        → LinkFits d (numbered new i) (numbered new j)
     right d i j l = stays_fit (λ y. LinkFits d (numbered new i) y) old new at j x w
         (λ q. fits_to d (numbered old j) (record { number = j; item = x }) (numbered new i) refl (replaced j q) l) l
 
-    named_before : (name : ItemBody → Option ℕ) → ((t : ℕ) → name x.body ≡ Some t → name (item_at old at).body ≡ Some t) → (i t : ℕ)
+    named_before : (name : ItemBody → Option ℕ) → ((t : ℕ) → name x.body ≡ Some t → name (item_at old at).body ≡ Some t)
+        → (i t : ℕ)
         → name (item_at new i).body ≡ Some t → name (item_at old i).body ≡ Some t
     named_before name h i t e = ⊎_elim
         (λ (q : i ≡ at). let here : item_at new i ≡ x = ap (λ (n : ℕ). item_at new n) q ∙ w.new_item in
-        subst (λ (n : ℕ). name (item_at old n).body ≡ Some t) (sym q) (h t (sym (ap (λ (y : Item). name y.body) here) ∙ e)))
+        subst (λ (n : ℕ). name (item_at old n).body ≡ Some t) (sym q)
+        (h t (sym (ap (λ (y : Item). name y.body) here) ∙ e)))
         (λ (q : i ≡ at → ⊥). sym (ap (λ (y : Item). name y.body) (w.old_items i q)) ∙ e)
         (same_or_not i at)

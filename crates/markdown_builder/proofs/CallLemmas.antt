@@ -1,6 +1,7 @@
 -- What each call of a builder keeps, by what its caller sees.
 use Rattle.std.specs.Prelude.{slice_index, slice_get, IfSome}
-use Rattle.std.proofs.Common.{◌≡◌, ℕ, suc, ◌+◌, ◌-◌, ◌<◌, ◌≤◌, List, [], ◌∷◌, ◌++◌, Option, Some, None, Bool, true, false, length, refl}
+use Rattle.std.proofs.Common.{◌≡◌, ℕ, suc, ◌+◌, ◌-◌, ◌<◌, ◌≤◌, List, [], ◌∷◌, ◌++◌, Option, Some, None, Bool, true}
+use Rattle.std.proofs.Common.{false, length, refl}
 use Rattle.std.proofs.Common.{sym, ap, ◌∙◌, subst, arith, ◌⊎◌, ⊎_elim}
 use Rattle.std.specs.Str.{IsCharBoundary}
 use Rattle.std.proofs.lemmas.Str.{IsCharBoundary-after_ascii}
@@ -20,77 +21,99 @@ use Rattle.markdown_builder.specs.Bodies.{is_leaf, is_plain_block, is_settled, m
 use Rattle.markdown_builder.specs.BuilderView.{IsWhite, IsRunOf, follows_run, innermost_block, LastHasBody, LastBegins}
 use Rattle.markdown_builder.specs.Standing.{State, Standpoint, seen, open_item, with_item, AreOpen, IsSound}
 use Rattle.markdown_builder.specs.TreeSteps.{Tightens, texts_appended, run_marked}
-use Rattle.markdown_builder.proofs.BodiesLemmas.{item_over, MayBePlaced, plain_placed, placed_fits, placed_new, block_plain, block_parent}
-use Rattle.markdown_builder.proofs.BodiesLemmas.{settled_plain, settled_inline, settled_markup, rule_plain, plain, one_text_more, NamesText}
+use Rattle.markdown_builder.proofs.BodiesLemmas.{item_over, MayBePlaced, plain_placed, placed_fits, placed_new}
+use Rattle.markdown_builder.proofs.BodiesLemmas.{block_plain, block_parent}
+use Rattle.markdown_builder.proofs.BodiesLemmas.{settled_plain, settled_inline, settled_markup, rule_plain, plain}
+use Rattle.markdown_builder.proofs.BodiesLemmas.{one_text_more, NamesText}
 use Rattle.markdown_builder.proofs.BodiesLemmas.{text_placed, synthesized_names}
 use Rattle.markdown_builder.proofs.MarkLemmas.{mark_facts, one_source, two_source, run_source, run_boundary}
 use Rattle.markdown_builder.proofs.RunMarkLemmas.{delimiter_ascii, run_sound}
 use Rattle.markdown_builder.proofs.RunStepLemmas.{TextsStand, texts_stand}
-use Rattle.markdown_builder.proofs.StepLemmas.{skipped, added, after_item, opened, opened_alone, after_opening, more_parts, closed, defined}
+use Rattle.markdown_builder.proofs.StepLemmas.{skipped, added, after_item, opened, opened_alone, after_opening}
+use Rattle.markdown_builder.proofs.StepLemmas.{more_parts, closed, defined}
 use Rattle.markdown_builder.proofs.WrittenLemmas.{StandsClosed, tightens_keeps, changed, begun_later}
 
 -- `skip`
-pub skip_keeps : {s : State} (now : Standpoint) (to : ℕ) → IsSound s → seen s ≡ now → now.at ≤ to → IsCharBoundary now.text to
+pub skip_keeps : {s : State} (now : Standpoint) (to : ℕ) → IsSound s → seen s ≡ now → now.at ≤ to
+    → IsCharBoundary now.text to
     → (now.leaf ≡ false → now.blocks ≡ [] → IsWhite now.text now.at to) → IsSound (record s { at = to })
 skip_keeps {s} now to k e =
-    subst (λ (v : Standpoint). v.at ≤ to → IsCharBoundary v.text to → (v.leaf ≡ false → v.blocks ≡ [] → IsWhite v.text v.at to)
+    subst (λ (v : Standpoint). v.at ≤ to → IsCharBoundary v.text to
+    → (v.leaf ≡ false → v.blocks ≡ [] → IsWhite v.text v.at to)
     → IsSound (record s { at = to })) e
     (skipped s to k)
 
 -- a block that goes into the tree with its parts
-pub placed_keeps : {s : State} (now : Standpoint) (many : PartCounts) (b : ItemBody) → IsSound s → seen s ≡ now → now.leaf ≡ false
+pub placed_keeps : {s : State} (now : Standpoint) (many : PartCounts) (b : ItemBody) → IsSound s → seen s ≡ now
+    → now.leaf ≡ false
     → MayBePlaced s.counts many b
     → is_childless b ≡ false → IsSound (after_opening s many b)
-placed_keeps {s} now many b k e outside placed parent = opened s many b k (ap (λ (v : Standpoint). v.leaf) e ∙ outside) placed parent
+placed_keeps {s} now many b k e outside placed parent = opened s many b k (ap (λ (v : Standpoint). v.leaf) e ∙ outside)
+    placed parent
 
 -- a block whose parts were pushed, and that was not entered
-pub refused_keeps : {s : State} (now : Standpoint) (many : PartCounts) (b : ItemBody) (tree : Arena Item) → IsSound s → seen s ≡ now
+pub refused_keeps : {s : State} (now : Standpoint) (many : PartCounts) (b : ItemBody) (tree : Arena Item) → IsSound s
+    → seen s ≡ now
     → now.leaf ≡ false
-    → MayBePlaced s.counts many b → is_childless b ≡ false → (tree ≡ s.tree) ⊎ (tree ≡ appended s.tree (item_over s.at s.at b))
+    → MayBePlaced s.counts many b → is_childless b ≡ false
+    → (tree ≡ s.tree) ⊎ (tree ≡ appended s.tree (item_over s.at s.at b))
     → IsSound (record s { counts = many; tree = tree })
 refused_keeps {s} now many b tree k e outside placed parent =
     ⊎_elim (λ (q : tree ≡ s.tree). subst (λ (t : Arena Item). IsSound (record s { counts = many; tree = t })) (sym q)
     (more_parts s many placed.more k))
-    (λ (q : tree ≡ appended s.tree (item_over s.at s.at b)). subst (λ (t : Arena Item). IsSound (record s { counts = many; tree = t }))
+    (λ (q : tree ≡ appended s.tree (item_over s.at s.at b)). subst
+    (λ (t : Arena Item). IsSound (record s { counts = many; tree = t }))
     (sym q)
     (opened_alone s many b s.run k (ap (λ (v : Standpoint). v.leaf) e ∙ outside) placed parent))
 
 -- a block that names the text which was pushed: it goes into the tree
-pub named_keeps : {s : State} (now : Standpoint) (many : PartCounts) (b : ItemBody) (ix : CowIndex) → IsSound s → seen s ≡ now
+pub named_keeps : {s : State} (now : Standpoint) (many : PartCounts) (b : ItemBody) (ix : CowIndex) → IsSound s → seen s
+    ≡ now
     → now.leaf ≡ false
-    → ix.0 ≡ s.counts.texts → one_text_more s.counts many → NamesText b ix.0 → is_childless b ≡ false → IsSound (after_opening s many b)
-named_keeps {s} now many b ix k e outside n more names parent = placed_keeps now many b k e outside (text_placed s.counts many b ix.0 n more
+    → ix.0 ≡ s.counts.texts → one_text_more s.counts many → NamesText b ix.0 → is_childless b ≡ false
+    → IsSound (after_opening s many b)
+named_keeps {s} now many b ix k e outside n more names parent = placed_keeps now many b k e outside
+    (text_placed s.counts many b ix.0 n more
     names) parent
 
 -- a block that refers to the text which was pushed, and that was not entered
-pub named_refused : {s : State} (now : Standpoint) (many : PartCounts) (b : ItemBody) (ix : CowIndex) (tree : Arena Item) → IsSound s
+pub named_refused : {s : State} (now : Standpoint) (many : PartCounts) (b : ItemBody) (ix : CowIndex)
+    (tree : Arena Item) → IsSound s
     → seen s ≡ now → now.leaf ≡ false
     → ix.0 ≡ s.counts.texts → one_text_more s.counts many → NamesText b ix.0 → is_childless b ≡ false
-    → (tree ≡ s.tree) ⊎ (tree ≡ appended s.tree (item_over s.at s.at b)) → IsSound (record s { counts = many; tree = tree })
+    → (tree ≡ s.tree) ⊎ (tree ≡ appended s.tree (item_over s.at s.at b))
+    → IsSound (record s { counts = many; tree = tree })
 named_refused {s} now many b ix tree k e outside n more names parent =
     refused_keeps now many b tree k e outside (text_placed s.counts many b ix.0 n more names) parent
 
 -- `open`
-pub open_keeps : {s : State} (now : Standpoint) (b : ItemBody) → IsSound s → seen s ≡ now → is_plain_block b ≡ true → now.leaf ≡ false
+pub open_keeps : {s : State} (now : Standpoint) (b : ItemBody) → IsSound s → seen s ≡ now → is_plain_block b ≡ true
+    → now.leaf ≡ false
     → IsSound (after_opening s s.counts b)
-open_keeps {s} now b k e h outside = placed_keeps now s.counts b k e outside (plain_placed s.counts b (block_plain b h)) (block_parent b h)
+open_keeps {s} now b k e h outside = placed_keeps now s.counts b k e outside (plain_placed s.counts b (block_plain b h))
+    (block_parent b h)
 
-pub open_refused : {s : State} (now : Standpoint) (b : ItemBody) (tree : Arena Item) → IsSound s → seen s ≡ now → is_plain_block b ≡ true
+pub open_refused : {s : State} (now : Standpoint) (b : ItemBody) (tree : Arena Item) → IsSound s → seen s ≡ now
+    → is_plain_block b ≡ true
     → now.leaf ≡ false
     → (tree ≡ s.tree) ⊎ (tree ≡ appended s.tree (item_over s.at s.at b)) → IsSound (record s { tree = tree })
-open_refused {s} now b tree k e h outside = refused_keeps now s.counts b tree k e outside (plain_placed s.counts b (block_plain b h))
+open_refused {s} now b tree k e h outside = refused_keeps now s.counts b tree k e outside
+    (plain_placed s.counts b (block_plain b h))
     (block_parent b h)
 
 -- `inline`
-pub inline_keeps : {s : State} (now : Standpoint) (end : ℕ) (b : ItemBody) → IsSound s → seen s ≡ now → is_settled b ≡ true
+pub inline_keeps : {s : State} (now : Standpoint) (end : ℕ) (b : ItemBody) → IsSound s → seen s ≡ now → is_settled b
+    ≡ true
     → now.leaf ≡ true → now.at ≤ end
     → IsCharBoundary now.text end → IsSound (after_item s s.counts end b None)
 inline_keeps {s} now end b k e h =
-    subst (λ (v : Standpoint). v.leaf ≡ true → v.at ≤ end → IsCharBoundary v.text end → IsSound (after_item s s.counts end b None)) e
+    subst (λ (v : Standpoint). v.leaf ≡ true → v.at ≤ end → IsCharBoundary v.text end
+    → IsSound (after_item s s.counts end b None)) e
     (λ within low boundary.
     let placed = plain_placed s.counts b (settled_plain b h) in
     added s s.counts end b None k placed.more
-    (placed_fits s.text s.counts s.counts s.at end b placed (settled_markup b (source_of s.text (item_over s.at end b)) h)
+    (placed_fits s.text s.counts s.counts s.at end b placed
+    (settled_markup b (source_of s.text (item_over s.at end b)) h)
     (record { ordered = low; start = k.stands.boundary; end = boundary }))
     (placed_new s.counts s.counts s.at end b placed) (settled_inline b h ∙ sym within) placed.no_run placed.loose)
 
@@ -109,11 +132,13 @@ spine_last nodes (s ∷ spine) (b ∷ blocks) block o =
 pub innermost_open : (s : State) (rest : List OpenBlock) (block : OpenBlock) → IsSound s → s.blocks ≡ rest ++ block ∷ []
     → (outer : List ℕ) × (n : ℕ) × (s.tree.spine ≡ outer ++ n ∷ [])
 innermost_open s rest block k e =
-    spine_last s.tree.nodes s.tree.spine rest block (subst (λ (x : List OpenBlock). AreOpen s.tree.nodes s.tree.spine x) e
+    spine_last s.tree.nodes s.tree.spine rest block
+    (subst (λ (x : List OpenBlock). AreOpen s.tree.nodes s.tree.spine x) e
     k.stands.are_open)
 
 -- `close`
-pub close_keeps : {s : State} (rest : List OpenBlock) (block : OpenBlock) (new : Arena Item) → IsSound s → s.blocks ≡ rest ++ block ∷ []
+pub close_keeps : {s : State} (rest : List OpenBlock) (block : OpenBlock) (new : Arena Item) → IsSound s → s.blocks
+    ≡ rest ++ block ∷ []
     → ((outer : List ℕ) (ix : ℕ) → s.tree.spine ≡ outer ++ ix ∷ []
     → new ≡ record {
       nodes = changed_at ix (λ m. record m { item = item_over block.start s.at block.body }) s.tree.nodes;
@@ -124,7 +149,8 @@ pub close_keeps : {s : State} (rest : List OpenBlock) (block : OpenBlock) (new :
     → IsSound (record s { tree = new; blocks = rest; leaf = false; run = None })
 close_keeps {s} rest block new k e left =
     let l = innermost_open s rest block k e in
-    subst (λ (t : Arena Item). IsSound (record s { tree = t; blocks = rest; leaf = false; run = None })) (sym (left l.0 l.1 l.2))
+    subst (λ (t : Arena Item). IsSound (record s { tree = t; blocks = rest; leaf = false; run = None }))
+    (sym (left l.0 l.1 l.2))
     (closed s l.0 rest l.1 block k e l.2)
 
 -- `rule`
@@ -141,26 +167,35 @@ rule_keeps {s} now end k e =
     (placed_new s.counts s.counts s.at end body.Rule placed) (sym outside) refl refl)
 
 -- `synthesize`
-pub synthesize_keeps : {s : State} (now : Standpoint) (many : PartCounts) (end : ℕ) (ix : CowIndex) → IsSound s → seen s ≡ now
+pub synthesize_keeps : {s : State} (now : Standpoint) (many : PartCounts) (end : ℕ) (ix : CowIndex) → IsSound s → seen s
+    ≡ now
     → ix.0 ≡ s.counts.texts
     → one_text_more s.counts many → now.leaf ≡ true → now.at ≤ end → IsCharBoundary now.text end
     → IsSound (after_item s many end (body.SynthesizeText ix) None)
 synthesize_keeps {s} now many end ix k e n more =
     subst (λ (v : Standpoint). v.leaf ≡ true → v.at ≤ end → IsCharBoundary v.text end
     → IsSound (after_item s many end (body.SynthesizeText ix) None)) e
-    (λ within low boundary. let placed = text_placed s.counts many (body.SynthesizeText ix) ix.0 n more (synthesized_names ix) in
+    (λ within low boundary. let placed = text_placed s.counts many (body.SynthesizeText ix) ix.0 n more
+    (synthesized_names ix) in
     added s many end (body.SynthesizeText ix) None k placed.more
     (placed_fits s.text s.counts many s.at end (body.SynthesizeText ix) placed tt
     (record { ordered = low; start = k.stands.boundary; end = boundary }))
     (placed_new s.counts many s.at end (body.SynthesizeText ix) placed) (sym within) refl refl)
 
 -- a text that was pushed, and that nothing refers to
-pub pushed_keeps : {s : State} (many : PartCounts) → IsSound s → one_text_more s.counts many → IsSound (record s { counts = many })
+pub pushed_keeps : {s : State} (many : PartCounts) → IsSound s → one_text_more s.counts many
+    → IsSound (record s { counts = many })
 pushed_keeps {s} many k more =
-    more_parts s many (record { texts = omega (arith, more.0); alignments = omega (arith, more.1); attributes = omega (arith, more.2) }) k
+    more_parts s many (record {
+      texts = omega (arith, more.0);
+      alignments = omega (arith, more.1);
+      attributes = omega
+          (arith, more.2);
+    }) k
 
 -- `mark`
-pub mark_keeps : {s : State} (now : Standpoint) (b : ItemBody) → IsSound s → seen s ≡ now → now.leaf ≡ true → now.at < length now.text
+pub mark_keeps : {s : State} (now : Standpoint) (b : ItemBody) → IsSound s → seen s ≡ now → now.leaf ≡ true
+    → now.at < length now.text
     → mark_byte b ≡ Some (slice_index now.text now.at) → IsSound (after_item s s.counts (s.at + 1) b None)
 mark_keeps {s} now b k e =
     subst (λ (v : Standpoint). v.leaf ≡ true → v.at < length v.text → mark_byte b ≡ Some (slice_index v.text v.at)
@@ -169,26 +204,40 @@ mark_keeps {s} now b k e =
     let placed = plain_placed s.counts b m.plain in
     added s s.counts (s.at + 1) b None k placed.more
     (placed_fits s.text s.counts s.counts s.at (s.at + 1) b placed (rw (one_source s.text s.at low) m.markup)
-    (record { ordered = omega arith; start = k.stands.boundary; end = IsCharBoundary-after_ascii s.text s.at k.utf8 low m.ascii }))
+    (record {
+      ordered = omega arith;
+      start = k.stands.boundary;
+      end = IsCharBoundary-after_ascii s.text s.at k.utf8 low
+          m.ascii;
+    }))
     (placed_new s.counts s.counts s.at (s.at + 1) b placed) (m.inline ∙ sym within) m.plain.no_run m.plain.loose)
 
 -- `image`
-pub image_keeps : {s : State} (now : Standpoint) → IsSound s → seen s ≡ now → now.leaf ≡ true → now.at + 1 < length now.text
+pub image_keeps : {s : State} (now : Standpoint) → IsSound s → seen s ≡ now → now.leaf ≡ true
+    → now.at + 1 < length now.text
     → slice_index now.text now.at ≡ 33 → slice_index now.text (now.at + 1) ≡ 91
     → IsSound (after_item s s.counts (s.at + 2) body.MaybeImage None)
 image_keeps {s} now k e =
-    subst (λ (v : Standpoint). v.leaf ≡ true → v.at + 1 < length v.text → slice_index v.text v.at ≡ 33 → slice_index v.text (v.at + 1) ≡ 91
+    subst (λ (v : Standpoint). v.leaf ≡ true → v.at + 1 < length v.text → slice_index v.text v.at ≡ 33
+    → slice_index v.text (v.at + 1) ≡ 91
     → IsSound (after_item s s.counts (s.at + 2) body.MaybeImage None)) e (λ within low first second.
     let placed = plain_placed s.counts body.MaybeImage (plain refl refl refl refl refl refl refl) in
-    let end : IsCharBoundary s.text ((s.at + 1) + 1) = IsCharBoundary-after_ascii s.text (s.at + 1) k.utf8 low (omega (arith, second)) in
+    let end : IsCharBoundary s.text ((s.at + 1) + 1) = IsCharBoundary-after_ascii s.text (s.at + 1) k.utf8 low
+    (omega (arith, second)) in
     let two : (s.at + 1) + 1 ≡ s.at + 2 = omega arith in
     added s s.counts (s.at + 2) body.MaybeImage None k placed.more
-    (placed_fits s.text s.counts s.counts s.at (s.at + 2) body.MaybeImage placed (two_source s.text s.at low ∙ rw (first, second) refl)
-    (record { ordered = omega arith; start = k.stands.boundary; end = subst (λ (p : ℕ). IsCharBoundary s.text p) two end }))
+    (placed_fits s.text s.counts s.counts s.at (s.at + 2) body.MaybeImage placed
+    (two_source s.text s.at low ∙ rw (first, second) refl)
+    (record {
+      ordered = omega arith;
+      start = k.stands.boundary;
+      end = subst (λ (p : ℕ). IsCharBoundary s.text p) two end;
+    }))
     (placed_new s.counts s.counts s.at (s.at + 2) body.MaybeImage placed) (sym within) refl refl)
 
 -- `backticks`
-pub backticks_keeps : {s : State} (now : Standpoint) (end : ℕ) (escaped : Bool) → IsSound s → seen s ≡ now → now.leaf ≡ true
+pub backticks_keeps : {s : State} (now : Standpoint) (end : ℕ) (escaped : Bool) → IsSound s → seen s ≡ now → now.leaf
+    ≡ true
     → IsRunOf 96 now.text now.at end
     → IsSound (after_item s s.counts end (body.MaybeCode (end - s.at) escaped) None)
 backticks_keeps {s} now end escaped k e =
@@ -216,7 +265,8 @@ pub record RunMayCome (now : Standpoint) (byte end : ℕ) : Type 0 where
 -- the Texts of a run so far
 run_texts : (s : State) (byte end count : ℕ) → IsSound s → RunMayCome (seen s) byte end → s.at + count ≤ end
     → TextsStand s byte count (texts_appended s.tree s.at count)
-run_texts s byte end count k may low = texts_stand s byte end count k may.inside may.whole (delimiter_ascii byte may.delimiter) may.other
+run_texts s byte end count k may low = texts_stand s byte end count k may.inside may.whole
+    (delimiter_ascii byte may.delimiter) may.other
     low
 
 -- there are nodes enough to make characters of
@@ -227,7 +277,8 @@ run_nodes {s} now byte end k e may =
     let p = run_texts s byte end (end - s.at) k here (omega (arith, here.whole.more)) in omega (arith, p.size)
 
 -- after an error, some of the run's bytes are Texts
-pub run_refused : {s : State} (now : Standpoint) (byte end count : ℕ) → IsSound s → seen s ≡ now → RunMayCome now byte end
+pub run_refused : {s : State} (now : Standpoint) (byte end count : ℕ) → IsSound s → seen s ≡ now
+    → RunMayCome now byte end
     → s.at + count ≤ end
     → IsSound (record s { tree = texts_appended s.tree s.at count; at = end })
 run_refused {s} now byte end count k e may low =
@@ -239,7 +290,8 @@ run_refused {s} now byte end count k e may low =
     (λ outside. let none : ⊥ = cc (here.inside, outside) in absurd none)
 
 -- otherwise all of them are characters of the run
-pub run_keeps : {s : State} (now : Standpoint) (byte end : ℕ) (opens closes : Bool) → IsSound s → seen s ≡ now → RunMayCome now byte end
+pub run_keeps : {s : State} (now : Standpoint) (byte end : ℕ) (opens closes : Bool) → IsSound s → seen s ≡ now
+    → RunMayCome now byte end
     → IsSound (record s {
       tree = run_marked (texts_appended s.tree s.at (end - s.at)) end opens closes (end - s.at);
       at = end;
@@ -248,10 +300,12 @@ pub run_keeps : {s : State} (now : Standpoint) (byte end : ℕ) (opens closes : 
     })
 run_keeps {s} now byte end opens closes k e may =
     let here : RunMayCome (seen s) byte end = subst (λ (v : Standpoint). RunMayCome v byte end) (sym e) may in
-    run_sound s byte end (end - s.at) opens closes k here.inside here.whole here.delimiter here.other (omega (arith, here.whole.more))
+    run_sound s byte end (end - s.at) opens closes k here.inside here.whole here.delimiter here.other
+    (omega (arith, here.whole.more))
 
 -- `define`
-pub define_keeps : {s : State} (now : Standpoint) (to : ℕ) (d : CowStr × LinkDef) → IsSound s → seen s ≡ now → now.at ≤ to
+pub define_keeps : {s : State} (now : Standpoint) (to : ℕ) (d : CowStr × LinkDef) → IsSound s → seen s ≡ now
+    → now.at ≤ to
     → IsCharBoundary now.text to
     → slice_index now.text now.at ≡ 91 → d.1.span ≡ record { start = s.at; end = to }
     → IsSound (record s { definitions = s.definitions ++ d ∷ []; at = to })
@@ -278,7 +332,8 @@ pub record EndsWith (blocks : List OpenBlock) (block : OpenBlock) : Type 0 where
   pub outer : List OpenBlock
   pub whole : blocks ≡ outer ++ block ∷ []
 
-pub ends_with : (blocks : List OpenBlock) (block : OpenBlock) → Some block ≡ innermost_block blocks → EndsWith blocks block
+pub ends_with : (blocks : List OpenBlock) (block : OpenBlock) → Some block ≡ innermost_block blocks
+    → EndsWith blocks block
 ends_with [] block e = cc (e)
 ends_with (b ∷ []) block e = record { outer = []; whole = ap (λ (x : OpenBlock). x ∷ []) (cc (e)) }
 ends_with (b ∷ c ∷ blocks) block e =
@@ -291,13 +346,16 @@ ends_with (b ∷ c ∷ blocks) block e =
 
 -- what is written where the innermost block is replaced
 abbrev pub IsRewritten : Arena Item → Arena Item → OpenBlock → Type 0
-IsRewritten old new block = (outer : List ℕ) (ix : ℕ) → old.spine ≡ outer ++ ix ∷ [] → new ≡ with_item old ix (open_item block)
+IsRewritten old new block = (outer : List ℕ) (ix : ℕ) → old.spine ≡ outer ++ ix ∷ [] → new
+    ≡ with_item old ix (open_item block)
 
 abbrev pub IsReplaced : List OpenBlock → List OpenBlock → OpenBlock → Type 0
-IsReplaced old new block = (outer : List OpenBlock) (last : OpenBlock) → old ≡ outer ++ last ∷ [] → new ≡ outer ++ block ∷ []
+IsReplaced old new block = (outer : List OpenBlock) (last : OpenBlock) → old ≡ outer ++ last ∷ [] → new
+    ≡ outer ++ block ∷ []
 
 -- `change`
-pub change_keeps : {s : State} (now : Standpoint) (inner : OpenBlock) (b : ItemBody) (blocks : List OpenBlock) (new : Arena Item)
+pub change_keeps : {s : State} (now : Standpoint) (inner : OpenBlock) (b : ItemBody) (blocks : List OpenBlock)
+    (new : Arena Item)
     → IsSound s → seen s ≡ now
     → is_plain_block b ≡ true → is_leaf b ≡ now.leaf → Some inner ≡ innermost_block s.blocks
     → IsReplaced s.blocks blocks (record inner { body = b })
@@ -307,7 +365,8 @@ change_keeps {s} now inner b blocks new k e h leaf last replace write =
     let l = innermost_open s r.outer inner k r.whole in
     let p = block_plain b h in
     rw (replace r.outer inner r.whole, write l.0 l.1 l.2)
-    (changed s l.0 r.outer l.1 inner b k r.whole l.2 (leaf ∙ sym (ap (λ (v : Standpoint). v.leaf) e)) (plain_placed s.counts b p) p.texts
+    (changed s l.0 r.outer l.1 inner b k r.whole l.2 (leaf ∙ sym (ap (λ (v : Standpoint). v.leaf) e))
+    (plain_placed s.counts b p) p.texts
     p.alignments
     (block_parent b h))
 
@@ -321,9 +380,11 @@ body_changed old new inner b last replace outer block h =
     replace outer block h ∙ rw same.1 refl
 
 -- `begin_later`
-pub begin_later_keeps : {s : State} (now : Standpoint) (inner : OpenBlock) (start : ℕ) (blocks : List OpenBlock) (new : Arena Item)
+pub begin_later_keeps : {s : State} (now : Standpoint) (inner : OpenBlock) (start : ℕ) (blocks : List OpenBlock)
+    (new : Arena Item)
     → IsSound s → seen s ≡ now
-    → start ≤ now.at → IsCharBoundary now.text start → IfSome (innermost_block now.blocks) (λ block. IsWhite now.text block.start start)
+    → start ≤ now.at → IsCharBoundary now.text start
+    → IfSome (innermost_block now.blocks) (λ block. IsWhite now.text block.start start)
     → Some inner ≡ innermost_block s.blocks → IsReplaced s.blocks blocks (record inner { start = start })
     → IsRewritten s.tree new (record inner { start = start }) → IsSound (record s { tree = new; blocks = blocks })
 begin_later_keeps {s} now inner start blocks new k e low boundary white last replace write =
@@ -334,7 +395,8 @@ begin_later_keeps {s} now inner start blocks new k e low boundary white last rep
     let l = innermost_open s r.outer inner k r.whole in
     rw (replace r.outer inner r.whole, write l.0 l.1 l.2)
     (begun_later s l.0 r.outer l.1 inner start k r.whole l.2 here between
-    (subst (λ (o : Option OpenBlock). IfSome o (λ block. IsWhite s.text block.start start)) (sym last) behind))) low boundary white
+    (subst (λ (o : Option OpenBlock). IfSome o (λ block. IsWhite s.text block.start start)) (sym last) behind))) low
+    boundary white
 
 -- it begins there
 pub start_changed : (old new : List OpenBlock) (inner : OpenBlock) (start : ℕ) → Some inner ≡ innermost_block old
@@ -346,7 +408,13 @@ start_changed old new inner start last replace outer block h =
     replace outer block h ∙ rw same.1 refl
 
 -- `finish`
-pub finish_keeps : {s : State} (now : Standpoint) (new : Arena Item) → IsSound s → seen s ≡ now → now.blocks ≡ [] → Tightens s.tree new
+pub finish_keeps : {s : State} (now : Standpoint) (new : Arena Item) → IsSound s → seen s ≡ now → now.blocks ≡ []
+    → Tightens s.tree new
     → StandsClosed (record s { tree = new })
 finish_keeps {s} now new k e closed steps =
-    tightens_keeps s new (record { closed = ap (λ (v : Standpoint). v.blocks) e ∙ closed; stands = k.stands; runs = k.runs }) steps
+    tightens_keeps s new (record {
+      closed = ap (λ (v : Standpoint). v.blocks) e
+          ∙ closed;
+      stands = k.stands;
+      runs = k.runs;
+    }) steps

@@ -1,5 +1,6 @@
 -- What a builder has placed covers the text.
-use Rattle.std.proofs.Common.{◌≡◌, ℕ, ◌<◌, List, [], Bool, true, false, length, refl, ◌∙◌, subst, arith, inl, inr, ⊎_elim}
+use Rattle.std.proofs.Common.{◌≡◌, ℕ, ◌<◌, List, [], Bool, true, false, length, refl, ◌∙◌, subst, arith, inl, inr}
+use Rattle.std.proofs.Common.{⊎_elim}
 use Rattle.std.specs.Prelude.{IsTrue, ◌||◌, ◌&&◌}
 use Rattle.std.specs.List.{list_any}
 use Rattle.markdown_base.specs.declared.block_parts.BlockParts.{BlockParts}
@@ -46,13 +47,16 @@ top_block text counts nodes j k t =
     rw (top_inline text counts nodes j k t, resolved) refl
 
 -- a test that a root passes
-root_passes : (nodes : List (Node Item)) (test : Numbered → Bool) (f : Forest ℕ) (j : ℕ) → IsRoot j f → test (numbered nodes j) ≡ true
+root_passes : (nodes : List (Node Item)) (test : Numbered → Bool) (f : Forest ℕ) (j : ℕ) → IsRoot j f
+    → test (numbered nodes j) ≡ true
     → list_any test (roots (relabelled (numbered nodes) f)) ≡ true
 root_passes nodes test nil j r h = absurd r
 root_passes nodes test (node i below after) j r h =
-    ⊎_elim (λ (e : j ≡ i). first_passes (test (numbered nodes i)) (list_any test (roots (relabelled (numbered nodes) after)))
+    ⊎_elim (λ (e : j ≡ i). first_passes (test (numbered nodes i))
+    (list_any test (roots (relabelled (numbered nodes) after)))
     (subst (λ (x : ℕ). test (numbered nodes x) ≡ true) e h))
-    (λ (q : IsRoot j after). second_passes (test (numbered nodes i)) (list_any test (roots (relabelled (numbered nodes) after)))
+    (λ (q : IsRoot j after). second_passes (test (numbered nodes i))
+    (list_any test (roots (relabelled (numbered nodes) after)))
     (root_passes nodes test after j q h)) r
   where
     first_passes : (a b : Bool) → a ≡ true → (a || b) ≡ true
@@ -63,7 +67,8 @@ root_passes nodes test (node i below after) j r h =
     second_passes false b h = h
 
 -- a byte under a block on top lies in a block of the tree
-in_tree : (text : List ℕ) (counts : PartCounts) (nodes : List (Node Item)) (at : ℕ) → KeepsNodes text counts nodes → IsUnderTop nodes at
+in_tree : (text : List ℕ) (counts : PartCounts) (nodes : List (Node Item)) (at : ℕ) → KeepsNodes text counts nodes
+    → IsUnderTop nodes at
     → is_in_block (tree_of nodes) at ≡ true
 in_tree text counts nodes at k b =
     root_passes nodes (λ n. is_block n.item.body && is_inside at (range_of n.item)) (numbers_below nodes) b.number
@@ -71,10 +76,12 @@ in_tree text counts nodes at k b =
     (rw (top_block text counts nodes b.number k b.top, b.inside) refl)
 
 -- what is made when all blocks are closed and the whole text is read covers it
-pub covers_at_end : {s : State} (now : Standpoint) (parts : BlockParts) → Stands s → seen s ≡ now → s.definitions ≡ parts.definitions.items
+pub covers_at_end : {s : State} (now : Standpoint) (parts : BlockParts) → Stands s → seen s ≡ now → s.definitions
+    ≡ parts.definitions.items
     → now.blocks ≡ [] → now.at ≡ length now.text → Covers now.text s.tree.nodes parts
 covers_at_end {s} now parts k e same =
-    subst (λ (v : Standpoint). v.blocks ≡ [] → v.at ≡ length v.text → Covers v.text s.tree.nodes parts) e (λ closed read. record {
+    subst (λ (v : Standpoint). v.blocks ≡ [] → v.at ≡ length v.text → Covers v.text s.tree.nodes parts) e
+    (λ closed read. record {
       bytes = λ at low dark. either_passes (is_in_block (tree_of s.tree.nodes) at)
           (list_any (λ d. is_inside at d.1.span) parts.definitions.items)
           (⊎_elim (λ (b : IsUnderTop s.tree.nodes at). inl (in_tree s.text s.counts s.tree.nodes at k.nodes b))

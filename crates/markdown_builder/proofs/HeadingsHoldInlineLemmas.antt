@@ -53,7 +53,8 @@ below_heading text counts nodes i f k s h =
     in x.kind ∙ heading_leaf (item_at nodes i).body h)
 
 -- so it is throughout the tree
-pub headings_hold_inline : (text : List ℕ) (counts : PartCounts) (nodes : List (Node Item)) → KeepsNodes text counts nodes
+pub headings_hold_inline : (text : List ℕ) (counts : PartCounts) (nodes : List (Node Item))
+    → KeepsNodes text counts nodes
     → HeadingsHoldInline (tree_of nodes)
 headings_hold_inline text counts nodes k =
     each_node nodes (λ a below after. IsTrue (is_heading_block a.item.body) → EachInline below) k.rising

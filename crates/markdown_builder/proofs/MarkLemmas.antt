@@ -1,5 +1,6 @@
 -- The markup of open items: the text of the ranges over which they are placed.
-use Rattle.std.proofs.Common.{◌≡◌, ℕ, zero, suc, ◌+◌, ◌-◌, ◌<◌, ◌≤◌, List, [], ◌∷◌, Some, None, Bool, true, false, cond, length, get_or}
+use Rattle.std.proofs.Common.{◌≡◌, ℕ, zero, suc, ◌+◌, ◌-◌, ◌<◌, ◌≤◌, List, [], ◌∷◌, Some, None, Bool, true, false, cond}
+use Rattle.std.proofs.Common.{length, get_or}
 use Rattle.std.proofs.Common.{take, drop, replicate, refl, ap, ◌∙◌, subst, arith}
 use Rattle.std.specs.Prelude.{◌==◌, ◌||◌, slice_index, slice_range}
 use Rattle.std.specs.Str.{IsCharBoundary, IsUtf8}
@@ -15,7 +16,8 @@ use Rattle.markdown_builder.specs.BuilderView.{IsRunOf}
 use Rattle.markdown_builder.proofs.BodiesLemmas.{IsPlain, plain}
 
 -- the bytes from a place on, where each is a given one
-bytes_same : (n : ℕ) (text : List ℕ) (at byte : ℕ) → at + n ≤ length text → ((p : ℕ) → at ≤ p → p < at + n → get_or text p 0 ≡ byte)
+bytes_same : (n : ℕ) (text : List ℕ) (at byte : ℕ) → at + n ≤ length text
+    → ((p : ℕ) → at ≤ p → p < at + n → get_or text p 0 ≡ byte)
     → take n (drop at text) ≡ replicate n byte
 bytes_same zero text at byte low h = refl
 bytes_same (suc n) text at byte low h =
@@ -26,9 +28,11 @@ bytes_same (suc n) text at byte low h =
     ∙ (ap (λ (x : ℕ). x ∷ take n (drop (suc at) text)) head ∙ ap (λ (xs : List ℕ). byte ∷ xs) tail)
 
 -- the bytes of a run are copies of its byte
-pub run_source : (text : List ℕ) (from to byte : ℕ) → IsRunOf byte text from to → slice_range text from to ≡ replicate (to - from) byte
+pub run_source : (text : List ℕ) (from to byte : ℕ) → IsRunOf byte text from to → slice_range text from to
+    ≡ replicate (to - from) byte
 run_source text from to byte r =
-    bytes_same (to - from) text from byte (omega (arith, r.more, r.within)) (λ p a b. r.same p a (omega (arith, b, r.more)))
+    bytes_same (to - from) text from byte (omega (arith, r.more, r.within))
+    (λ p a b. r.same p a (omega (arith, b, r.more)))
 
 -- one byte
 pub one_source : (text : List ℕ) (at : ℕ) → at < length text → slice_range text at (at + 1) ≡ slice_index text at ∷ []
@@ -53,7 +57,8 @@ two_source text at low =
     ∙ rw next refl)
 
 -- after each byte of a run of ASCII a character begins
-pub run_boundary : (text : List ℕ) (from to byte : ℕ) → IsUtf8 text → IsRunOf byte text from to → byte < 128 → (p : ℕ) → from < p → p ≤ to
+pub run_boundary : (text : List ℕ) (from to byte : ℕ) → IsUtf8 text → IsRunOf byte text from to → byte < 128 → (p : ℕ)
+    → from < p → p ≤ to
     → IsCharBoundary text p
 run_boundary text from to byte utf8 r ascii p low high =
     let back : (p - 1) + 1 ≡ p = omega (arith, low) in

@@ -1,5 +1,6 @@
 -- What an append and a written item make of a list of nodes, number by number.
-use Rattle.std.proofs.Common.{◌≡◌, ℕ, zero, suc, ◌+◌, ◌<◌, ◌≤◌, List, [], ◌∷◌, ◌++◌, Option, Some, None, Bool, true, false, map, length}
+use Rattle.std.proofs.Common.{◌≡◌, ℕ, zero, suc, ◌+◌, ◌<◌, ◌≤◌, List, [], ◌∷◌, ◌++◌, Option, Some, None, Bool, true}
+use Rattle.std.proofs.Common.{false, map, length}
 use Rattle.std.proofs.Common.{refl, sym, ap, ◌∙◌, arith}
 use Rattle.std.specs.Prelude.{slice_index_or}
 use Rattle.std.proofs.lemmas.List.{length-append}
@@ -22,7 +23,8 @@ field_more g x d e (n ∷ nodes) zero = refl
 field_more g x d e (n ∷ nodes) (suc i) = field_more g x d e nodes i
 
 -- the old nodes' fields stay
-field_old : {X : Type 0} (g : Node Item → X) (x : Node Item) (d : X) (nodes : List (Node Item)) (i : ℕ) → i < length nodes
+field_old : {X : Type 0} (g : Node Item → X) (x : Node Item) (d : X) (nodes : List (Node Item)) (i : ℕ)
+    → i < length nodes
     → slice_index_or (map g (nodes ++ x ∷ [])) i d ≡ slice_index_or (map g nodes) i d
 field_old g x d [] i h = absurd (omega (arith, h))
 field_old g x d (n ∷ nodes) zero h = refl
@@ -42,7 +44,8 @@ field_none g d (n ∷ nodes) zero h = absurd (omega (arith, h))
 field_none g d (n ∷ nodes) (suc i) h = field_none g d nodes i (omega (arith, h))
 
 -- a change elsewhere
-field_elsewhere : {X : Type 0} (g : Node Item → X) (d : X) (change : Node Item → Node Item) (ix i : ℕ) (nodes : List (Node Item))
+field_elsewhere : {X : Type 0} (g : Node Item → X) (d : X) (change : Node Item → Node Item) (ix i : ℕ)
+    (nodes : List (Node Item))
     → (i ≡ ix → ⊥)
     → slice_index_or (map g (changed_at ix change nodes)) i d ≡ slice_index_or (map g nodes) i d
 field_elsewhere g d change ix i [] h = refl
@@ -52,7 +55,8 @@ field_elsewhere g d change (suc ix) zero (n ∷ nodes) h = refl
 field_elsewhere g d change (suc ix) (suc i) (n ∷ nodes) h = field_elsewhere g d change ix i nodes (λ e. h (ap suc e))
 
 -- a change of other fields
-field_kept : {X : Type 0} (g : Node Item → X) (d : X) (change : Node Item → Node Item) → ((n : Node Item) → g (change n) ≡ g n)
+field_kept : {X : Type 0} (g : Node Item → X) (d : X) (change : Node Item → Node Item)
+    → ((n : Node Item) → g (change n) ≡ g n)
     → (ix i : ℕ) (nodes : List (Node Item))
     → slice_index_or (map g (changed_at ix change nodes)) i d ≡ slice_index_or (map g nodes) i d
 field_kept g d change k ix i [] = refl
@@ -62,7 +66,8 @@ field_kept g d change k (suc ix) zero (n ∷ nodes) = refl
 field_kept g d change k (suc ix) (suc i) (n ∷ nodes) = field_kept g d change k ix i nodes
 
 -- a change here
-field_here : {X : Type 0} (g : Node Item → X) (d v : X) (change : Node Item → Node Item) → ((n : Node Item) → g (change n) ≡ v)
+field_here : {X : Type 0} (g : Node Item → X) (d v : X) (change : Node Item → Node Item)
+    → ((n : Node Item) → g (change n) ≡ v)
     → (ix : ℕ) (nodes : List (Node Item)) → ix < length nodes
     → slice_index_or (map g (changed_at ix change nodes)) ix d ≡ v
 field_here g d v change k ix [] h = absurd (omega (arith, h))
@@ -76,7 +81,8 @@ pub record Grows (old new : List (Node Item)) (down : Bool) (at : ℕ) (item : I
   pub size : length new ≡ suc (length old)
   pub old_items : (i : ℕ) → i < length old → item_at new i ≡ item_at old i
   pub new_item : item_at new (length old) ≡ item
-  pub other_links : (d : Bool) (i : ℕ) → ((d ≡ down) × (i ≡ at) → ⊥) → link_of (links_of new) d i ≡ link_of (links_of old) d i
+  pub other_links : (d : Bool) (i : ℕ) → ((d ≡ down) × (i ≡ at) → ⊥) → link_of (links_of new) d i
+      ≡ link_of (links_of old) d i
   pub new_link : link_of (links_of new) down at ≡ Some (length old)
 
 -- what stands at a place
@@ -95,7 +101,8 @@ linked true to = λ n. record n { child = Some to }
 linked false to = λ n. record n { next = Some to }
 
 -- the link of a number is a field of its node
-link_field : (d : Bool) (nodes : List (Node Item)) (i : ℕ) → link_of (links_of nodes) d i ≡ slice_index_or (map (link d) nodes) i None
+link_field : (d : Bool) (nodes : List (Node Item)) (i : ℕ) → link_of (links_of nodes) d i
+    ≡ slice_index_or (map (link d) nodes) i None
 link_field true nodes i = refl
 link_field false nodes i = refl
 
@@ -110,9 +117,12 @@ link_linked false to n = refl
 
 -- other links stay
 others_linked : (down d : Bool) (to at i : ℕ) (nodes : List (Node Item)) → ((d ≡ down) × (i ≡ at) → ⊥)
-    → slice_index_or (map (link d) (changed_at at (linked down to) nodes)) i None ≡ slice_index_or (map (link d) nodes) i None
-others_linked true true to at i nodes k = field_elsewhere (link true) None (linked true to) at i nodes (λ e. k (refl, e))
-others_linked false false to at i nodes k = field_elsewhere (link false) None (linked false to) at i nodes (λ e. k (refl, e))
+    → slice_index_or (map (link d) (changed_at at (linked down to) nodes)) i None
+    ≡ slice_index_or (map (link d) nodes) i None
+others_linked true true to at i nodes k = field_elsewhere (link true) None (linked true to) at i nodes
+    (λ e. k (refl, e))
+others_linked false false to at i nodes k = field_elsewhere (link false) None (linked false to) at i nodes
+    (λ e. k (refl, e))
 others_linked true false to at i nodes k = field_kept (link false) None (linked true to) (λ n. refl) at i nodes
 others_linked false true to at i nodes k = field_kept (link true) None (linked false to) (λ n. refl) at i nodes
 
@@ -142,7 +152,8 @@ grows_at down old at item h =
       other_links = λ d i k. link_field d new i
           ∙ (others_linked down d (length old) at i more k ∙ (field_more (link d) x None (link_alone d item) old i
           ∙ sym (link_field d old i)));
-      new_link = link_field down new at ∙ field_here (link down) None (Some (length old)) change (link_linked down (length old)) at more
+      new_link = link_field down new at ∙ field_here (link down) None (Some (length old)) change
+          (link_linked down (length old)) at more
           (omega (arith, l, h));
     }
 

@@ -1,5 +1,6 @@
 -- The rule of delimiter runs is kept by an append and by a written item.
-use Rattle.std.proofs.Common.{◌≡◌, ℕ, zero, suc, List, Option, Some, None, Bool, true, false, length, refl, sym, ap, ◌∙◌, subst, arith}
+use Rattle.std.proofs.Common.{◌≡◌, ℕ, zero, suc, List, Option, Some, None, Bool, true, false, length, refl, sym, ap}
+use Rattle.std.proofs.Common.{◌∙◌, subst, arith}
 use Rattle.std.proofs.Common.{⊎_elim}
 use Rattle.std.specs.Prelude.{IfSome}
 use Rattle.std.specs.Option.{option_map}
@@ -21,7 +22,8 @@ at_number number item = record { number = number; item = item }
 
 -- a run's character stays whole where its run continues with the new next item as it did with the old one
 character_followed : (text : List ℕ) (a : Numbered) (old new : Option Numbered) → ((count : ℕ) (opens closes : Bool)
-    → RunGoesOn text a count opens closes old → RunGoesOn text a count opens closes new) → RunsAreWhole text a old → RunsAreWhole text a new
+    → RunGoesOn text a count opens closes old → RunGoesOn text a count opens closes new) → RunsAreWhole text a old
+    → RunsAreWhole text a new
 character_followed text a old new goes h = of_character (run_character a.item.body) h
   where
     of_character : (o : Option RunCharacter) → IfSome o (StandsInRun text a old) → IfSome o (StandsInRun text a new)
@@ -34,21 +36,25 @@ character_followed text a old new goes h = of_character (run_character a.item.bo
     }
 
 -- the last item of a chain may be followed by one that ends its run
-pub run_followed : (text : List ℕ) (a b : Numbered) → EndsRun text a (Some b) → RunsAreWhole text a None → RunsAreWhole text a (Some b)
+pub run_followed : (text : List ℕ) (a b : Numbered) → EndsRun text a (Some b) → RunsAreWhole text a None
+    → RunsAreWhole text a (Some b)
 run_followed text a b ends = character_followed text a None (Some b) goes
   where
-    goes : (count : ℕ) (opens closes : Bool) → RunGoesOn text a count opens closes None → RunGoesOn text a count opens closes (Some b)
+    goes : (count : ℕ) (opens closes : Bool) → RunGoesOn text a count opens closes None
+        → RunGoesOn text a count opens closes (Some b)
     goes zero opens closes h = h
     goes (suc zero) opens closes h = ends
     goes (suc (suc count)) opens closes h = absurd h
 
 -- an item that is no character of a run may be replaced by one that ends the run before it
-pub character_replaced : (text : List ℕ) (a b c : Numbered) (r : RunCharacter) → run_character b.item.body ≡ None → EndsRun text a (Some c)
+pub character_replaced : (text : List ℕ) (a b c : Numbered) (r : RunCharacter) → run_character b.item.body ≡ None
+    → EndsRun text a (Some c)
     → StandsInRun text a (Some b) r → StandsInRun text a (Some c) r
 character_replaced text a b c r none ends h =
     record { one_byte = h.one_byte; delimiter = h.delimiter; goes_on = goes r.count r.can_open r.can_close h.goes_on }
   where
-    goes : (count : ℕ) (opens closes : Bool) → RunGoesOn text a count opens closes (Some b) → RunGoesOn text a count opens closes (Some c)
+    goes : (count : ℕ) (opens closes : Bool) → RunGoesOn text a count opens closes (Some b)
+        → RunGoesOn text a count opens closes (Some c)
     goes zero opens closes h = h
     goes (suc zero) opens closes h = ends
     goes (suc (suc count)) opens closes h = let e = h.body in cc (none, e)
@@ -58,7 +64,8 @@ pub run_replaced : (text : List ℕ) (a b c : Numbered) → run_character b.item
     → RunsAreWhole text a (Some c)
 run_replaced text a b c none ends h = of_character (run_character a.item.body) h
   where
-    of_character : (o : Option RunCharacter) → IfSome o (StandsInRun text a (Some b)) → IfSome o (StandsInRun text a (Some c))
+    of_character : (o : Option RunCharacter) → IfSome o (StandsInRun text a (Some b))
+        → IfSome o (StandsInRun text a (Some c))
     of_character None h = tt
     of_character (Some r) h = character_replaced text a b c r none ends h
 
@@ -67,14 +74,17 @@ pub ends_run : (text : List ℕ) (a b : Numbered) → run_character b.item.body 
 ends_run text a b none = rw none tt
 
 -- the same node is followed by the same item
-next_same : (old new : List (Node Item)) (o p : Option ℕ) → p ≡ o → ((j : ℕ) → o ≡ Some j → item_at new j ≡ item_at old j)
+next_same : (old new : List (Node Item)) (o p : Option ℕ) → p ≡ o
+    → ((j : ℕ) → o ≡ Some j → item_at new j ≡ item_at old j)
     → option_map (numbered new) p ≡ option_map (numbered old) o
 next_same old new None p e h = ap (λ (q : Option ℕ). option_map (numbered new) q) e
 next_same old new (Some j) p e h =
-    ap (λ (q : Option ℕ). option_map (numbered new) q) e ∙ ap (λ (y : Item). let n : Numbered = at_number j y in Some n) (h j refl)
+    ap (λ (q : Option ℕ). option_map (numbered new) q) e ∙ ap (λ (y : Item). let n : Numbered = at_number j y in Some n)
+    (h j refl)
 
 -- one more item keeps all runs whole, if it is no character of a run
-pub runs_appended : (text : List ℕ) (old new : List (Node Item)) (down : Bool) (at : ℕ) (x : Item) → AreRising (links_of old)
+pub runs_appended : (text : List ℕ) (old new : List (Node Item)) (down : Bool) (at : ℕ) (x : Item)
+    → AreRising (links_of old)
     → Grows old new down at x
     → link_of (links_of old) down at ≡ None → run_character x.body ≡ None → KeepsRuns text old → KeepsRuns text new
 runs_appended text old new down at x r g free none k i =
@@ -85,13 +95,15 @@ runs_appended text old new down at x r g free none k i =
     new_node : i ≡ length old → RunsAreWhole text (numbered new i) (next_at new i)
     new_node q =
         let here : item_at new i ≡ x = ap (λ (m : ℕ). item_at new m) q ∙ g.new_item in
-        let none_here : run_character (item_at new i).body ≡ None = ap (λ (y : Item). run_character y.body) here ∙ none in
+        let none_here : run_character (item_at new i).body ≡ None = ap (λ (y : Item). run_character y.body) here
+        ∙ none in
         rw none_here tt
 
     same_here : (i ≡ length old → ⊥) → numbered new i ≡ numbered old i
     same_here n = ap (at_number i) (same_item old new down at x g i n)
 
-    elsewhere : (i ≡ length old → ⊥) → sibling_of new i ≡ sibling_of old i → RunsAreWhole text (numbered new i) (next_at new i)
+    elsewhere : (i ≡ length old → ⊥) → sibling_of new i ≡ sibling_of old i
+        → RunsAreWhole text (numbered new i) (next_at new i)
     elsewhere n e =
         let next : next_at new i ≡ next_at old i = next_same old new (sibling_of old i) (sibling_of new i) e
         (λ j q. g.old_items j (r.rises false i j q).1) in
@@ -103,9 +115,11 @@ runs_appended text old new down at x r g free none k i =
     old_node true f h n = elsewhere n (h.other_links false i (λ p. let e = p.0 in cc (e)))
     old_node false f h n =
         ⊎_elim (λ (q : i ≡ at).
-        let was : next_at old i ≡ None = ap (λ (o : Option ℕ). option_map (numbered old) o) (ap (λ (m : ℕ). sibling_of old m) q ∙ f) in
+        let was : next_at old i ≡ None = ap (λ (o : Option ℕ). option_map (numbered old) o)
+        (ap (λ (m : ℕ). sibling_of old m) q ∙ f) in
         let b : Numbered = numbered new (length old) in
-        let now : next_at new i ≡ Some b = ap (λ (o : Option ℕ). option_map (numbered new) o) (ap (λ (m : ℕ). sibling_of new m) q
+        let now : next_at new i ≡ Some b = ap (λ (o : Option ℕ). option_map (numbered new) o)
+        (ap (λ (m : ℕ). sibling_of new m) q
         ∙ h.new_link) in
         let none_new : run_character b.item.body ≡ None = ap (λ (y : Item). run_character y.body) h.new_item ∙ none in
         subst (λ (o : Option Numbered). RunsAreWhole text (numbered new i) o) (sym now)
@@ -116,20 +130,24 @@ runs_appended text old new down at x r g free none k i =
         (same_or_not i at)
 
 -- an item is written that is whole, and by which the run before it stays whole
-pub runs_rewritten : (text : List ℕ) (old new : List (Node Item)) (at : ℕ) (x : Item) → AreRising (links_of old) → Writes old new at x
+pub runs_rewritten : (text : List ℕ) (old new : List (Node Item)) (at : ℕ) (x : Item) → AreRising (links_of old)
+    → Writes old new at x
     → ((i : ℕ) → sibling_of old i ≡ Some at → RunsAreWhole text (numbered old i) (Some (numbered old at))
     → RunsAreWhole text (numbered old i) (Some (at_number at x)))
     → RunsAreWhole text (at_number at x) (next_at old at) → KeepsRuns text old → KeepsRuns text new
 runs_rewritten text old new at x r w replaced here k i =
     ⊎_elim (λ (q : i ≡ at). written q) (λ (n : i ≡ at → ⊥). other n (sibling_of old i) refl) (same_or_not i at)
   where
-    next_of : (o : Option ℕ) → sibling_of old i ≡ o → ((j : ℕ) → o ≡ Some j → j ≡ at → ⊥) → next_at new i ≡ next_at old i
-    next_of o e n = next_same old new (sibling_of old i) (sibling_of new i) (w.all_links false i) (λ j q. w.old_items j (n j (sym e ∙ q)))
+    next_of : (o : Option ℕ) → sibling_of old i ≡ o → ((j : ℕ) → o ≡ Some j → j ≡ at → ⊥) → next_at new i
+        ≡ next_at old i
+    next_of o e n = next_same old new (sibling_of old i) (sibling_of new i) (w.all_links false i)
+        (λ j q. w.old_items j (n j (sym e ∙ q)))
 
     written : i ≡ at → RunsAreWhole text (numbered new i) (next_at new i)
     written q =
         let this : numbered new i ≡ at_number at x = ap (λ (m : ℕ). numbered new m) q ∙ ap (at_number at) w.new_item in
-        let next : next_at new i ≡ next_at old at = next_of (sibling_of old i) refl (λ j e f. let h = r.rises false i j e
+        let next : next_at new i ≡ next_at old at = next_of (sibling_of old i) refl
+        (λ j e f. let h = r.rises false i j e
         in absurd (omega (arith, h.0, q, f)))
         ∙ ap (λ (m : ℕ). next_at old m) q in
         subst (λ (a : Numbered). RunsAreWhole text a (next_at new i)) (sym this)
@@ -158,9 +176,11 @@ runs_rewritten text old new at x r w replaced here k i =
         (same_or_not j at)
 
 -- an item that is not a character of a run is replaced by another such item
-pub runs_written : (text : List ℕ) (old new : List (Node Item)) (at : ℕ) (x : Item) → AreRising (links_of old) → Writes old new at x
+pub runs_written : (text : List ℕ) (old new : List (Node Item)) (at : ℕ) (x : Item) → AreRising (links_of old)
+    → Writes old new at x
     → run_character (item_at old at).body ≡ None → run_character x.body ≡ None → KeepsRuns text old → KeepsRuns text new
 runs_written text old new at x r w was none =
     runs_rewritten text old new at x r w
-    (λ i e h. run_replaced text (numbered old i) (numbered old at) (at_number at x) was (ends_run text (numbered old i) (at_number at x)
+    (λ i e h. run_replaced text (numbered old i) (numbered old at) (at_number at x) was
+    (ends_run text (numbered old i) (at_number at x)
     none) h) (rw none tt)

@@ -1,6 +1,7 @@
 -- The Texts over a delimiter run are made its characters, from the last one on: at each step the characters so far are
 -- a whole run.
-use Rattle.std.proofs.Common.{◌≡◌, ℕ, zero, suc, ◌+◌, ◌-◌, ◌<◌, ◌≤◌, List, Option, Some, None, Bool, true, false, length, refl, sym, ap}
+use Rattle.std.proofs.Common.{◌≡◌, ℕ, zero, suc, ◌+◌, ◌-◌, ◌<◌, ◌≤◌, List, Option, Some, None, Bool, true, false}
+use Rattle.std.proofs.Common.{length, refl, sym, ap}
 use Rattle.std.proofs.Common.{◌∙◌, subst, arith, ⊎_elim}
 use Rattle.std.specs.Prelude.{IfSome, IsTrue, ◌==◌, ⊤, slice_index}
 use Rattle.std.specs.Option.{option_map}
@@ -14,7 +15,8 @@ use Rattle.markdown_base.specs.ArenaRules.{next_at}
 use Rattle.markdown_base.specs.BlockTree.{Numbered, item_at, numbered}
 use Rattle.markdown_base.specs.Coverage.{is_inside}
 use Rattle.markdown_base.specs.Item.{range_of, is_inline}
-use Rattle.markdown_base.specs.WellFormed.{RunCharacter, run_character, is_delimiter, byte_of, EndsRun, RunGoesOn, StandsInRun}
+use Rattle.markdown_base.specs.WellFormed.{RunCharacter, run_character, is_delimiter, byte_of, EndsRun, RunGoesOn}
+use Rattle.markdown_base.specs.WellFormed.{StandsInRun}
 use Rattle.markdown_base.specs.WellFormed.{RunsAreWhole}
 use Rattle.markdown_builder.specs.declared.open_block.OpenBlock.{OpenBlock}
 use Rattle.markdown_builder.specs.BuilderView.{IsRunOf, follows_run}
@@ -35,7 +37,8 @@ pub delimiter_ascii : (byte : ℕ) → is_delimiter byte ≡ true → byte < 128
 delimiter_ascii byte h = grind (arith, nat_tests)
 
 -- the last `count` items are made characters of a run; the other items and all links stay
-pub record RunStands (s : State) (byte end : ℕ) (opens closes : Bool) (texts : Arena Item) (count : ℕ) (t : Arena Item) : Type 0 where
+pub record RunStands (s : State) (byte end : ℕ) (opens closes : Bool) (texts : Arena Item) (count : ℕ) (t : Arena Item)
+    : Type 0 where
   pub stands : Stands (record s { tree = t; at = end; run = Some byte })
   pub runs : KeepsRuns s.text t.nodes
   pub loose : NoneTight t.nodes
@@ -43,7 +46,8 @@ pub record RunStands (s : State) (byte end : ℕ) (opens closes : Bool) (texts :
   pub cursor : t.cursor ≡ texts.cursor
   pub links : (d : Bool) (i : ℕ) → link_of (links_of t.nodes) d i ≡ link_of (links_of texts.nodes) d i
   pub others : (n : ℕ) → n + count < length texts.nodes → item_at t.nodes n ≡ item_at texts.nodes n
-  pub marked : (n left : ℕ) → n + left ≡ length texts.nodes → 1 ≤ left → left ≤ count → item_at t.nodes n ≡ run_item end opens closes left
+  pub marked : (n left : ℕ) → n + left ≡ length texts.nodes → 1 ≤ left → left ≤ count → item_at t.nodes n
+      ≡ run_item end opens closes left
 
 -- the invariant, apart from runs, does not depend on the run that callers see
 stands_with_run : (s : State) (run : Option ℕ) → Stands s → Stands (record s { run = run })
@@ -63,7 +67,8 @@ stands_with_run s run h = record {
 }
 
 -- a Text is no open block
-text_not_open : (nodes : List (Node Item)) (n a start : ℕ) (b : OpenBlock) → item_at nodes n ≡ byte_text start → a ≡ n → IsOpenAt nodes a b
+text_not_open : (nodes : List (Node Item)) (n a start : ℕ) (b : OpenBlock) → item_at nodes n ≡ byte_text start → a ≡ n
+    → IsOpenAt nodes a b
     → ⊥
 text_not_open nodes n a start b was z q =
     let inline : is_inline b.body ≡ true = sym (ap (λ (y : Item). is_inline y.body) q.item)
@@ -71,7 +76,8 @@ text_not_open nodes n a start b was z q =
     let none = parent_not_inline b.body q.parent in cc (inline, none)
 
 -- a character of another byte ends a run
-byte_ends : (text : List ℕ) (byte : ℕ) (a c : Numbered) → byte_of text c.item ≡ byte → (byte == byte_of text a.item) ≡ false
+byte_ends : (text : List ℕ) (byte : ℕ) (a c : Numbered) → byte_of text c.item ≡ byte → (byte == byte_of text a.item)
+    ≡ false
     → EndsRun text a (Some c)
 byte_ends text byte a c same f = of_character (run_character c.item.body)
   where
@@ -80,7 +86,8 @@ byte_ends text byte a c same f = of_character (run_character c.item.body)
     of_character (Some q) = subst (λ (b : ℕ). (b == byte_of text a.item) ≡ false) (sym same) f
 
 -- what may precede a run of a byte stays whole where an item that is not a run's character becomes one of this byte
-before_run : (text : List ℕ) (byte : ℕ) (a b c : Numbered) → run_character b.item.body ≡ None → byte_of text c.item ≡ byte
+before_run : (text : List ℕ) (byte : ℕ) (a b c : Numbered) → run_character b.item.body ≡ None → byte_of text c.item
+    ≡ byte
     → MayPrecede text byte a.item
     → RunsAreWhole text a (Some b) → RunsAreWhole text a (Some c)
 before_run text byte a b c none same may h = of_character (run_character a.item.body) may h
@@ -98,7 +105,8 @@ last_ends text nodes a None h = tt
 last_ends text nodes a (Some j) h = absurd (h j refl)
 
 -- the character that is written next continues with those after it
-goes_on : (s : State) (byte end total : ℕ) (opens closes : Bool) (t old : Arena Item) (m : ℕ) → IsRunOf byte s.text s.at end
+goes_on : (s : State) (byte end total : ℕ) (opens closes : Bool) (t old : Arena Item) (m : ℕ)
+    → IsRunOf byte s.text s.at end
     → s.at + total ≡ end
     → TextsStand s byte total t → RunStands s byte end opens closes t m old → suc m ≤ total
     → RunGoesOn s.text (at_number (length t.nodes - suc m) (run_item end opens closes (suc m))) (suc m) opens closes
@@ -110,12 +118,15 @@ goes_on s byte end total opens closes t old zero run whole p r low =
 goes_on s byte end total opens closes t old (suc m) run whole p r low =
     let n : ℕ = length t.nodes - suc (suc m) in
     let x : Item = run_item end opens closes (suc (suc m)) in
-    let link : sibling_of old.nodes n ≡ Some (suc n) = r.links false n ∙ p.next n (omega (arith, p.size, low)) (omega (arith, p.size, low))
+    let link : sibling_of old.nodes n ≡ Some (suc n) = r.links false n
+    ∙ p.next n (omega (arith, p.size, low)) (omega (arith, p.size, low))
     in
-    let next : next_at old.nodes n ≡ Some (numbered old.nodes (suc n)) = ap (λ (o : Option ℕ). option_map (numbered old.nodes) o) link in
+    let next : next_at old.nodes n
+    ≡ Some (numbered old.nodes (suc n)) = ap (λ (o : Option ℕ). option_map (numbered old.nodes) o) link in
     let item : item_at old.nodes (suc n) ≡ run_item end opens closes (suc m) =
     r.marked (suc n) (suc m) (omega (arith, p.size, low)) (omega arith) (omega arith) in
-    let behind : slice_index s.text (end - suc m) ≡ byte = run.same (end - suc m) (omega (arith, whole, low)) (omega (arith, run.more)) in
+    let behind : slice_index s.text (end - suc m) ≡ byte = run.same (end - suc m) (omega (arith, whole, low))
+    (omega (arith, run.more)) in
     let here : slice_index s.text (end - suc (suc m)) ≡ byte = run.same (end - suc (suc m)) (omega (arith, whole, low))
     (omega (arith, run.more)) in
     let touches : end - suc m ≡ (end - suc (suc m)) + 1 = omega (arith, whole, low) in
@@ -127,10 +138,13 @@ goes_on s byte end total opens closes t old (suc m) run whole p r low =
     })
 
 -- one Text more is made a character
-one_marked : (s : State) (byte end total : ℕ) (opens closes : Bool) (t old : Arena Item) (m : ℕ) → 0 < length s.tree.nodes
+one_marked : (s : State) (byte end total : ℕ) (opens closes : Bool) (t old : Arena Item) (m : ℕ)
+    → 0 < length s.tree.nodes
     → IsRunOf byte s.text s.at end
-    → is_delimiter byte ≡ true → s.at + total ≡ end → TextsStand s byte total t → RunStands s byte end opens closes t m old → suc m ≤ total
-    → RunStands s byte end opens closes t (suc m) (with_item old (length t.nodes - suc m) (run_item end opens closes (suc m)))
+    → is_delimiter byte ≡ true → s.at + total ≡ end → TextsStand s byte total t
+    → RunStands s byte end opens closes t m old → suc m ≤ total
+    → RunStands s byte end opens closes t (suc m)
+    (with_item old (length t.nodes - suc m) (run_item end opens closes (suc m)))
 one_marked s byte end total opens closes t old m rooted run delimiter whole p r low =
     let n : ℕ = length t.nodes - suc m in
     let start : ℕ = end - suc m in
@@ -147,9 +161,11 @@ one_marked s byte end total opens closes t old m rooted run delimiter whole p r 
     let same : slice_index s.text start ≡ byte = run.same start (omega (arith, whole, low)) (omega (arith, run.more)) in
     let no_run : run_character (item_at old.nodes n).body ≡ None = ap (λ (y : Item). run_character y.body) was in
     let fit : ItemFits s.text s.counts (byte_text start) =
-    subst (λ (y : Item). ItemFits s.text s.counts y) was (r.stands.nodes.items n (omega (arith, first, rooted)) in_old) in
+    subst (λ (y : Item). ItemFits s.text s.counts y) was (r.stands.nodes.items n (omega (arith, first, rooted)) in_old)
+    in
     let fits : ItemFits s.text s.counts x = record {
-      ranges_lie_in = record { ordered = fit.ranges_lie_in.ordered; start = fit.ranges_lie_in.start; end = fit.ranges_lie_in.end };
+      ranges_lie_in = record
+          { ordered = fit.ranges_lie_in.ordered; start = fit.ranges_lie_in.start; end = fit.ranges_lie_in.end };
       nothing_resolved = refl;
       markup_is_there = tt;
       parts_are_named = record { text = tt; alignments = tt; attributes = tt };
@@ -165,7 +181,8 @@ one_marked s byte end total opens closes t old m rooted run delimiter whole p r 
       end = λ e. refl;
     }) in
     let blocks : AreOpen new old.spine s.blocks =
-    open_written (λ a. ⊤) old.nodes new n x w (λ a b l q z. text_not_open old.nodes n a start b was z q) old.spine s.blocks
+    open_written (λ a. ⊤) old.nodes new n x w (λ a b l q z. text_not_open old.nodes n a start b was z q) old.spine
+    s.blocks
     (all_true old.spine) r.stands.are_open in
     let whole_here : RunsAreWhole s.text (at_number n x) (next_at old.nodes n) = record {
       one_byte = omega arith;
@@ -174,13 +191,15 @@ one_marked s byte end total opens closes t old m rooted run delimiter whole p r 
     } in
     record {
       stands = written here n x s.blocks r.stands (omega (arith, first, rooted)) in_old fits replaces
-          (λ q i. subst (λ (y : Item). is_inside q (range_of y) ≡ true) was i) blocks r.stands.leaves r.stands.covered r.stands.begun;
+          (λ q i. subst (λ (y : Item). is_inside q (range_of y) ≡ true) was i) blocks r.stands.leaves r.stands.covered
+          r.stands.begun;
       runs = runs_rewritten s.text old.nodes new n x r.stands.nodes.rising w (λ i e h.
           let rise = r.stands.nodes.rising.rises false i n e in
           let stays : item_at old.nodes i ≡ item_at t.nodes i = r.others i (omega (arith, rise.0, p.size, low)) in
           let may : MayPrecede s.text byte (item_at old.nodes i) =
           subst (λ (y : Item). MayPrecede s.text byte y) (sym stays) (p.before i n first (sym (r.links false i) ∙ e)) in
-          before_run s.text byte (numbered old.nodes i) (numbered old.nodes n) (at_number n x) no_run same may h) whole_here r.runs;
+          before_run s.text byte (numbered old.nodes i) (numbered old.nodes n) (at_number n x) no_run same may h)
+          whole_here r.runs;
       loose = none_tight_written old.nodes new n x w r.loose refl;
       size = w.size ∙ r.size;
       cursor = r.cursor;
@@ -215,14 +234,21 @@ run_stands s byte end total opens closes t (suc m) rooted run delimiter whole p 
     (run_stands s byte end total opens closes t m rooted run delimiter whole p (omega (arith, low))) low
 
 -- all Texts of the run are made characters
-pub run_sound : (s : State) (byte end total : ℕ) (opens closes : Bool) → IsSound s → s.leaf ≡ true → IsRunOf byte s.text s.at end
+pub run_sound : (s : State) (byte end total : ℕ) (opens closes : Bool) → IsSound s → s.leaf ≡ true
+    → IsRunOf byte s.text s.at end
     → is_delimiter byte ≡ true
     → follows_run s.run byte ≡ false → s.at + total ≡ end
-    → IsSound (record s { tree = run_marked (texts_appended s.tree s.at total) end opens closes total; at = end; run = Some byte })
+    → IsSound (record s {
+      tree = run_marked (texts_appended s.tree s.at total) end opens closes total;
+      at = end;
+      run
+          = Some byte;
+    })
 run_sound s byte end total opens closes k leaf run delimiter other whole =
     let texts = texts_appended s.tree s.at total in
     let t = run_marked texts end opens closes total in
-    let p : TextsStand s byte total texts = texts_stand s byte end total k leaf run (delimiter_ascii byte delimiter) other
+    let p : TextsStand s byte total texts = texts_stand s byte end total k leaf run (delimiter_ascii byte delimiter)
+    other
     (omega (arith, whole)) in
     let r : RunStands s byte end opens closes texts total t =
     run_stands s byte end total opens closes texts total k.stands.nodes.rooted run delimiter whole p (omega arith) in
@@ -230,7 +256,8 @@ run_sound s byte end total opens closes k leaf run delimiter other whole =
     let cursor : t.cursor ≡ Some last = r.cursor ∙ p.cursor (total - 1) (omega (arith, whole, run.more)) in
     let item : item_at t.nodes last ≡ run_item end opens closes 1 =
     r.marked last 1 (omega (arith, p.size, whole, run.more)) (omega arith) (omega (arith, whole, run.more)) in
-    let same : byte ≡ slice_index s.text (end - 1) = sym (run.same (end - 1) (omega (arith, run.more)) (omega (arith, run.more))) in
+    let same : byte ≡ slice_index s.text (end - 1) = sym
+    (run.same (end - 1) (omega (arith, run.more)) (omega (arith, run.more))) in
     record {
       utf8 = k.utf8;
       stands = r.stands;

@@ -1,6 +1,7 @@
 -- A delimiter run: a Text over each of its bytes is appended, and then each is made a character of the run, from the
 -- last one on.
-use Rattle.std.proofs.Common.{◌≡◌, ℕ, zero, suc, ◌+◌, ◌-◌, ◌<◌, ◌≤◌, List, Option, Some, None, Bool, true, false, length, refl, sym, ap}
+use Rattle.std.proofs.Common.{◌≡◌, ℕ, zero, suc, ◌+◌, ◌-◌, ◌<◌, ◌≤◌, List, Option, Some, None, Bool, true, false}
+use Rattle.std.proofs.Common.{length, refl, sym, ap}
 use Rattle.std.proofs.Common.{◌∙◌, subst, arith, ⊎_elim}
 use Rattle.std.specs.Prelude.{IfSome, ◌==◌}
 use Rattle.std.proofs.lemmas.Bool.{cases_lt}
@@ -45,12 +46,15 @@ last_precedes text nodes (Some d) run c byte e l f =
 pub record TextsStand (s : State) (byte count : ℕ) (t : Arena Item) : Type 0 where
   pub sound : IsSound (record s { tree = t; at = s.at + count })
   pub size : length t.nodes ≡ length s.tree.nodes + count
-  pub texts : (n : ℕ) → length s.tree.nodes ≤ n → n < length t.nodes → item_at t.nodes n ≡ byte_text (s.at + (n - length s.tree.nodes))
+  pub texts : (n : ℕ) → length s.tree.nodes ≤ n → n < length t.nodes → item_at t.nodes n
+      ≡ byte_text (s.at + (n - length s.tree.nodes))
   pub next : (n : ℕ) → length s.tree.nodes ≤ n → suc n < length t.nodes → sibling_of t.nodes n ≡ Some (suc n)
-  pub before : (i n : ℕ) → length s.tree.nodes ≤ n → sibling_of t.nodes i ≡ Some n → MayPrecede s.text byte (item_at t.nodes i)
+  pub before : (i n : ℕ) → length s.tree.nodes ≤ n → sibling_of t.nodes i ≡ Some n
+      → MayPrecede s.text byte (item_at t.nodes i)
   pub cursor : (k : ℕ) → count ≡ suc k → t.cursor ≡ Some (length s.tree.nodes + k)
 
-pub texts_stand : (s : State) (byte end count : ℕ) → IsSound s → s.leaf ≡ true → IsRunOf byte s.text s.at end → byte < 128
+pub texts_stand : (s : State) (byte end count : ℕ) → IsSound s → s.leaf ≡ true → IsRunOf byte s.text s.at end
+    → byte < 128
     → follows_run s.run byte ≡ false
     → s.at + count ≤ end → TextsStand s byte count (texts_appended s.tree s.at count)
 texts_stand s byte end zero k leaf run ascii other low = record {
@@ -74,10 +78,12 @@ texts_stand s byte end (suc count) k leaf run ascii other low =
       end = run_boundary s.text s.at end byte k.utf8 run ascii (s.at + count + 1) (omega arith) (omega (arith, low));
     }) in
     let names = placed_new s.counts s.counts (s.at + count) (s.at + count + 1) b placed in
-    let a : Appended here s.counts x = appended_fits here s.counts x p.sound.stands placed.more fits names (sym leaf) (omega arith) in
+    let a : Appended here s.counts x = appended_fits here s.counts x p.sound.stands placed.more fits names (sym leaf)
+    (omega arith) in
     let new = (appended t x).nodes in
     let g = a.grows in
-    let old_link : (d : Bool) (i j : ℕ) → link_of (links_of t.nodes) d i ≡ Some j → link_of (links_of new) d i ≡ Some j =
+    let old_link : (d : Bool) (i j : ℕ) → link_of (links_of t.nodes) d i ≡ Some j → link_of (links_of new) d i
+    ≡ Some j =
     link_stays t.nodes new (place_down t.cursor) (place_at t.spine t.cursor) x g p.sound.stands.free in
     record {
       sound = let e : s.at + count + 1 ≡ s.at + suc count = omega arith in
@@ -89,8 +95,10 @@ texts_stand s byte end (suc count) k leaf run ascii other low =
           let o : s.at + count ≡ s.at + (n - length s.tree.nodes) = omega (arith, q, p.size) in
           ap (λ (m : ℕ). item_at new m) q ∙ (g.new_item ∙ ap byte_text o)) (cases_lt n (length t.nodes));
       next = λ n lo hi. ⊎_elim (λ (h : suc n < length t.nodes). old_link false n (suc n) (p.next n lo h))
-          (λ (h : length t.nodes ≤ suc n). newest n lo (omega (arith, h, hi, g.size)) p g) (cases_lt (suc n) (length t.nodes));
-      before = λ i n lo e. ⊎_elim (λ (q : IsNewLink (length t.nodes) (place_down t.cursor) false (place_at t.spine t.cursor) i n).
+          (λ (h : length t.nodes ≤ suc n). newest n lo (omega (arith, h, hi, g.size)) p g)
+          (cases_lt (suc n) (length t.nodes));
+      before = λ i n lo e. ⊎_elim
+          (λ (q : IsNewLink (length t.nodes) (place_down t.cursor) false (place_at t.spine t.cursor) i n).
           first_before i q.side q.from p g)
           (λ (q : link_of (links_of t.nodes) false i ≡ Some n). let r = p.sound.stands.nodes.rising.rises false i n q in
           rw (g.old_items i (omega (arith, r.0, r.1))) (p.before i n lo q))
@@ -101,7 +109,8 @@ texts_stand s byte end (suc count) k leaf run ascii other low =
   where
     newest : (n : ℕ) → length s.tree.nodes ≤ n → suc n ≡ length (texts_appended s.tree s.at count).nodes
         → TextsStand s byte count (texts_appended s.tree s.at count)
-        → Grows (texts_appended s.tree s.at count).nodes (appended (texts_appended s.tree s.at count) (byte_text (s.at + count))).nodes
+        → Grows (texts_appended s.tree s.at count).nodes
+        (appended (texts_appended s.tree s.at count) (byte_text (s.at + count))).nodes
         (place_down (texts_appended s.tree s.at count).cursor) (place_at (texts_appended s.tree s.at count).spine
         (texts_appended s.tree s.at count).cursor)
         (byte_text (s.at + count))
@@ -113,17 +122,20 @@ texts_stand s byte end (suc count) k leaf run ascii other low =
         let c : t.cursor ≡ Some (length s.tree.nodes + k) = p.cursor k (omega (arith, lo, q, p.size)) in
         let at : length s.tree.nodes + k ≡ n = omega (arith, lo) in
         let link : sibling_of new (length s.tree.nodes + k) ≡ Some (length t.nodes) =
-        subst (λ (o : Option ℕ). link_of (links_of new) (place_down o) (place_at t.spine o) ≡ Some (length t.nodes)) c g.new_link in
+        subst (λ (o : Option ℕ). link_of (links_of new) (place_down o) (place_at t.spine o) ≡ Some (length t.nodes)) c
+        g.new_link in
         ap (λ (m : ℕ). sibling_of new m) (sym at) ∙ (link ∙ ap (λ (m : ℕ). Some m) (sym q))
 
     first_before : (i : ℕ) → false ≡ place_down (texts_appended s.tree s.at count).cursor
         → i ≡ place_at (texts_appended s.tree s.at count).spine (texts_appended s.tree s.at count).cursor
         → TextsStand s byte count (texts_appended s.tree s.at count)
-        → Grows (texts_appended s.tree s.at count).nodes (appended (texts_appended s.tree s.at count) (byte_text (s.at + count))).nodes
+        → Grows (texts_appended s.tree s.at count).nodes
+        (appended (texts_appended s.tree s.at count) (byte_text (s.at + count))).nodes
         (place_down (texts_appended s.tree s.at count).cursor) (place_at (texts_appended s.tree s.at count).spine
         (texts_appended s.tree s.at count).cursor)
         (byte_text (s.at + count))
-        → MayPrecede s.text byte (item_at (appended (texts_appended s.tree s.at count) (byte_text (s.at + count))).nodes i)
+        → MayPrecede s.text byte (item_at (appended (texts_appended s.tree s.at count) (byte_text (s.at + count))).nodes
+        i)
     first_before i side from p g =
         let t = texts_appended s.tree s.at count in
         let within : i < length t.nodes = omega (arith, from, p.sound.stands.low) in
@@ -138,5 +150,6 @@ texts_stand s byte end (suc count) k leaf run ascii other low =
         of_cursor (Some c) e side from p =
             let t = texts_appended s.tree s.at count in
             let q : i ≡ c = from ∙ ap (place_at t.spine) e in
-            subst (λ (n : ℕ). MayPrecede s.text byte (item_at t.nodes n)) (sym q) (last_precedes s.text t.nodes t.cursor s.run c byte e
+            subst (λ (n : ℕ). MayPrecede s.text byte (item_at t.nodes n)) (sym q)
+            (last_precedes s.text t.nodes t.cursor s.run c byte e
             p.sound.last_run other)

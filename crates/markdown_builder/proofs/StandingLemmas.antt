@@ -1,5 +1,6 @@
 -- What each step of a builder keeps, whatever it appends.
-use Rattle.std.proofs.Common.{◌≡◌, ℕ, suc, ◌<◌, ◌≤◌, List, [], ◌∷◌, ◌++◌, Option, Some, None, Bool, true, false, length, refl, ◌∙◌, subst}
+use Rattle.std.proofs.Common.{◌≡◌, ℕ, suc, ◌<◌, ◌≤◌, List, [], ◌∷◌, ◌++◌, Option, Some, None, Bool, true, false, length}
+use Rattle.std.proofs.Common.{refl, ◌∙◌, subst}
 use Rattle.std.proofs.Common.{arith, inl, inr, ⊎_elim}
 use Rattle.std.specs.Prelude.{IfSome, IsTrue}
 use Rattle.std.specs.List.{AllByRecursion}
@@ -19,7 +20,8 @@ use Rattle.markdown_base.proofs.WellFormedLemmas.{HasMore}
 use Rattle.markdown_builder.specs.declared.open_block.OpenBlock.{OpenBlock}
 use Rattle.markdown_builder.specs.Rising.{link_of, AreRising, IsOnTop, first_block, next_block, place_down, place_at}
 use Rattle.markdown_builder.specs.BuilderRules.{NamesNew, ItemFits, KeepsNodes}
-use Rattle.markdown_builder.specs.Standing.{State, IsOpenAt, AreOpen, IsTopPlace, IsUnderTop, is_in_definition, covered_to, AreCovered}
+use Rattle.markdown_builder.specs.Standing.{State, IsOpenAt, AreOpen, IsTopPlace, IsUnderTop, is_in_definition}
+use Rattle.markdown_builder.specs.Standing.{covered_to, AreCovered}
 use Rattle.markdown_builder.specs.Standing.{Stands}
 use Rattle.markdown_builder.proofs.NodeWriteLemmas.{Grows, Writes, append_grows, item_beyond}
 use Rattle.markdown_builder.proofs.BuilderRulesLemmas.{same_or_not, same_item, append_keeps}
@@ -45,7 +47,8 @@ newest_free k n d r e = nowhere (link_of k d n) (λ j h. let p = r.rises d n j h
 -- open blocks stay open where each does
 pub open_map : (P : ℕ → Type 0) (old new : List (Node Item))
     → ((s : ℕ) (b : OpenBlock) → P s → IsOpenAt old s b → IsOpenAt new s b)
-    → (spine : List ℕ) (blocks : List OpenBlock) → AllByRecursion P spine → AreOpen old spine blocks → AreOpen new spine blocks
+    → (spine : List ℕ) (blocks : List OpenBlock) → AllByRecursion P spine → AreOpen old spine blocks
+    → AreOpen new spine blocks
 open_map P old new h [] [] a o = tt
 open_map P old new h [] (b ∷ blocks) a o = o
 open_map P old new h (s ∷ spine) [] a o = o
@@ -54,7 +57,8 @@ open_map P old new h (s ∷ spine) (b ∷ blocks) a o = (h s b a.0 o.0, o.1, ope
 -- open blocks stay open where an item is written into a node that holds none of them
 pub open_written : (P : ℕ → Type 0) (old new : List (Node Item)) (at : ℕ) (x : Item) → Writes old new at x
     → ((s : ℕ) (b : OpenBlock) → P s → IsOpenAt old s b → s ≡ at → ⊥)
-    → (spine : List ℕ) (blocks : List OpenBlock) → AllByRecursion P spine → AreOpen old spine blocks → AreOpen new spine blocks
+    → (spine : List ℕ) (blocks : List OpenBlock) → AllByRecursion P spine → AreOpen old spine blocks
+    → AreOpen new spine blocks
 open_written P old new at x w other spine blocks = open_map P old new (λ s b p o. record {
   positive = o.positive;
   low = omega (arith, o.low, w.size);
@@ -82,7 +86,8 @@ open_snoc nodes n block (s ∷ spine) (b ∷ blocks) o a i =
     (o.0, All-snoc (λ t. s < t) spine n o.1 a.0, open_snoc nodes n block spine blocks o.2 a.1 i)
 
 -- the innermost open block, and the others
-pub record IsInnermost (nodes : List (Node Item)) (n : ℕ) (block : OpenBlock) (spine : List ℕ) (blocks : List OpenBlock) : Type 0 where
+pub record IsInnermost (nodes : List (Node Item)) (n : ℕ) (block : OpenBlock) (spine : List ℕ) (blocks : List OpenBlock)
+    : Type 0 where
   pub here : IsOpenAt nodes n block
   pub others : AreOpen nodes spine blocks
   pub above : AllByRecursion (λ s. s < n) spine
@@ -92,7 +97,8 @@ none_snoc : (nodes : List (Node Item)) (n : ℕ) (spine : List ℕ) → AreOpen 
 none_snoc nodes n [] o = o
 none_snoc nodes n (s ∷ spine) o = o
 
-snoc_none : (nodes : List (Node Item)) (block : OpenBlock) (blocks : List OpenBlock) → AreOpen nodes [] (blocks ++ block ∷ []) → ⊥
+snoc_none : (nodes : List (Node Item)) (block : OpenBlock) (blocks : List OpenBlock)
+    → AreOpen nodes [] (blocks ++ block ∷ []) → ⊥
 snoc_none nodes block [] o = o
 snoc_none nodes block (b ∷ blocks) o = o
 
@@ -135,13 +141,16 @@ inside p first end low high = grind (arith, nat_tests)
 
 -- what is covered stays so
 pub covered_stays : (text : List ℕ) (old new : List (Node Item)) (definitions : List (CowStr × LinkDef)) (to : ℕ)
-    → ((p : ℕ) → IsUnderTop old p → IsUnderTop new p) → AreCovered text old definitions to → AreCovered text new definitions to
+    → ((p : ℕ) → IsUnderTop old p → IsUnderTop new p) → AreCovered text old definitions to
+    → AreCovered text new definitions to
 covered_stays text old new definitions to h c p low dark =
-    ⊎_elim (λ (b : IsUnderTop old p). inl (h p b)) (λ (d : IsTrue (is_in_definition definitions p)). inr d) (c p low dark)
+    ⊎_elim (λ (b : IsUnderTop old p). inl (h p b)) (λ (d : IsTrue (is_in_definition definitions p)). inr d)
+    (c p low dark)
 
 -- a node appended at a free place
 pub record Appended (s : State) (many : PartCounts) (x : Item) : Type 0 where
-  pub grows : Grows s.tree.nodes (appended s.tree x).nodes (place_down s.tree.cursor) (place_at s.tree.spine s.tree.cursor) x
+  pub grows : Grows s.tree.nodes (appended s.tree x).nodes (place_down s.tree.cursor)
+      (place_at s.tree.spine s.tree.cursor) x
   pub nodes : KeepsNodes s.text many (appended s.tree x).nodes
   pub free : (d : Bool) → link_of (links_of (appended s.tree x).nodes) d (length s.tree.nodes) ≡ None
   pub are_open : AreOpen (appended s.tree x).nodes s.tree.spine s.blocks
@@ -161,14 +170,18 @@ top_appended old new (s ∷ spine) cursor x g free t =
     top_stays old new (link_stays old new (place_down cursor) (place_at (s ∷ spine) cursor) x g free) s t
 
 -- the open blocks are not where the new node is put
-off_place : (spine : List ℕ) (outer : List ℕ) (cursor : Option ℕ) → IfSome cursor (λ c. AllByRecursion (λ s. s < c) spine)
+off_place : (spine : List ℕ) (outer : List ℕ) (cursor : Option ℕ)
+    → IfSome cursor (λ c. AllByRecursion (λ s. s < c) spine)
     → AllByRecursion (λ s. (false ≡ place_down cursor) × (s ≡ place_at outer cursor) → ⊥) spine
-off_place spine outer None b = All-always (λ s. (false ≡ true) × (s ≡ innermost outer) → ⊥) (λ s p. let e = p.0 in cc (e)) spine
+off_place spine outer None b = All-always (λ s. (false ≡ true) × (s ≡ innermost outer) → ⊥)
+    (λ s p. let e = p.0 in cc (e)) spine
 off_place spine outer (Some before) b =
-    All-weaker (λ s. s < before) (λ s. (false ≡ false) × (s ≡ before) → ⊥) (λ s l p. absurd (omega (arith, l, p.1))) spine b
+    All-weaker (λ s. s < before) (λ s. (false ≡ false) × (s ≡ before) → ⊥) (λ s l p. absurd (omega (arith, l, p.1)))
+    spine b
 
 -- an item that fits is appended
-pub appended_fits : (s : State) (many : PartCounts) (x : Item) → Stands s → HasMore s.counts many → ItemFits s.text many x
+pub appended_fits : (s : State) (many : PartCounts) (x : Item) → Stands s → HasMore s.counts many
+    → ItemFits s.text many x
     → NamesNew s.counts x
     → is_inline x.body ≡ s.leaf → s.at ≤ x.start → Appended s many x
 appended_fits s many x h more fits names kind low =
@@ -177,7 +190,8 @@ appended_fits s many x h more fits names kind low =
     let down = place_down s.tree.cursor in
     let place = place_at s.tree.spine s.tree.cursor in
     let g : Grows old new down place x = append_grows old s.tree.spine s.tree.cursor x h.low h.free in
-    let k : KeepsNodes s.text many new = append_keeps s.text s.counts many old new down place x h.nodes g h.low more fits names
+    let k : KeepsNodes s.text many new = append_keeps s.text s.counts many old new down place x h.nodes g h.low more
+    fits names
     (h.fits x kind low) in
     record {
       grows = g;
@@ -192,20 +206,24 @@ appended_fits s many x h more fits names kind low =
       }) s.tree.spine s.blocks (off_place s.tree.spine s.tree.spine s.tree.cursor h.behind) h.are_open;
       behind = open_low old s.tree.spine s.blocks h.are_open;
       top = top_appended old new s.tree.spine s.tree.cursor x g h.free h.top;
-      covered = covered_stays s.text old new s.definitions (covered_to s.blocks s.at) (λ p b. under_top p b g) h.covered;
+      covered = covered_stays s.text old new s.definitions (covered_to s.blocks s.at) (λ p b. under_top p b g)
+          h.covered;
     }
   where
     under_top : (p : ℕ) → IsUnderTop s.tree.nodes p
-        → Grows s.tree.nodes (appended s.tree x).nodes (place_down s.tree.cursor) (place_at s.tree.spine s.tree.cursor) x
+        → Grows s.tree.nodes (appended s.tree x).nodes (place_down s.tree.cursor) (place_at s.tree.spine s.tree.cursor)
+        x
         → IsUnderTop (appended s.tree x).nodes p
     under_top p b g = record {
       number = b.number;
-      top = top_stays s.tree.nodes (appended s.tree x).nodes (link_stays s.tree.nodes (appended s.tree x).nodes (place_down s.tree.cursor)
+      top = top_stays s.tree.nodes (appended s.tree x).nodes
+          (link_stays s.tree.nodes (appended s.tree x).nodes (place_down s.tree.cursor)
           (place_at s.tree.spine s.tree.cursor) x g h.free) b.number b.top;
       inside = ⊎_elim
           (λ (e : b.number ≡ length s.tree.nodes). let none = item_beyond s.tree.nodes b.number (omega (arith, e)) in
           absurd (not_inside p 0 (subst (λ (y : Item). is_inside p (range_of y) ≡ true) none b.inside)))
-          (λ (n : b.number ≡ length s.tree.nodes → ⊥). rw (same_item s.tree.nodes (appended s.tree x).nodes (place_down s.tree.cursor)
+          (λ (n : b.number ≡ length s.tree.nodes → ⊥). rw
+          (same_item s.tree.nodes (appended s.tree x).nodes (place_down s.tree.cursor)
           (place_at s.tree.spine s.tree.cursor) x g b.number n) b.inside)
           (same_or_not b.number (length s.tree.nodes));
     }

@@ -1,5 +1,6 @@
 -- The steps of a builder: how it begins, what each step makes of it, and what it has made in the end.
-use Rattle.std.proofs.Common.{◌≡◌, ℕ, zero, suc, ◌<◌, ◌≤◌, List, [], ◌∷◌, ◌++◌, Option, Some, None, Bool, true, false, length, refl, sym}
+use Rattle.std.proofs.Common.{◌≡◌, ℕ, zero, suc, ◌<◌, ◌≤◌, List, [], ◌∷◌, ◌++◌, Option, Some, None, Bool, true, false}
+use Rattle.std.proofs.Common.{length, refl, sym}
 use Rattle.std.proofs.Common.{ap, ◌∙◌, subst, arith, ◌⊎◌, inl, inr, ⊎_elim}
 use Rattle.std.specs.Prelude.{IsTrue, ◌||◌, slice_index}
 use Rattle.std.specs.List.{AllByRecursion}
@@ -19,7 +20,8 @@ use Rattle.markdown_base.specs.ArenaForest.{links_of}
 use Rattle.markdown_base.specs.ArenaRules.{next_at}
 use Rattle.markdown_base.specs.BlockTree.{item_at, numbered}
 use Rattle.markdown_base.specs.Coverage.{is_inside}
-use Rattle.markdown_base.specs.Item.{range_of, is_inline, is_childless, is_tight_paragraph, text_named, alignments_named}
+use Rattle.markdown_base.specs.Item.{range_of, is_inline, is_childless, is_tight_paragraph, text_named}
+use Rattle.markdown_base.specs.Item.{alignments_named}
 use Rattle.markdown_base.specs.WellFormed.{source_of, PartCounts, run_character, RunsAreWhole}
 use Rattle.markdown_base.proofs.ArenaLemmas.{innermost-snoc, All-snoc, All-front, All-last}
 use Rattle.markdown_base.proofs.ForestLemmas.{All-weaker}
@@ -29,14 +31,17 @@ use Rattle.markdown_builder.specs.Bodies.{is_leaf}
 use Rattle.markdown_builder.specs.BuilderView.{IsWhite}
 use Rattle.markdown_builder.specs.Rising.{link_of, IsOnTop, place_down, place_at}
 use Rattle.markdown_builder.specs.BuilderRules.{ItemFits, NamesNew, MayReplace, KeepsNodes}
-use Rattle.markdown_builder.specs.Standing.{State, open_item, entered, AreOpen, OnlyLastIsLeaf, IsTopPlace, IsUnderTop, is_in_definition}
+use Rattle.markdown_builder.specs.Standing.{State, open_item, entered, AreOpen, OnlyLastIsLeaf, IsTopPlace, IsUnderTop}
+use Rattle.markdown_builder.specs.Standing.{is_in_definition}
 use Rattle.markdown_builder.specs.Standing.{covered_to, AreCovered, NoneTight, IsSound}
-use Rattle.markdown_builder.proofs.BodiesLemmas.{item_over, MayBePlaced, placed_fits, placed_new, block_markup, block_no_run, chain_of_one}
+use Rattle.markdown_builder.proofs.BodiesLemmas.{item_over, MayBePlaced, placed_fits, placed_new, block_markup}
+use Rattle.markdown_builder.proofs.BodiesLemmas.{block_no_run, chain_of_one}
 use Rattle.markdown_builder.proofs.BodiesLemmas.{parent_not_inline}
 use Rattle.markdown_builder.proofs.BuilderRulesLemmas.{same_or_not, same_item, fits_more, write_keeps}
 use Rattle.markdown_builder.proofs.NodeWriteLemmas.{Grows, Writes, item_writes}
 use Rattle.markdown_builder.proofs.RunLemmas.{runs_appended, runs_written}
-use Rattle.markdown_builder.proofs.StandingLemmas.{appended_fits, IsInnermost, open_snoc, open_unsnoc, open_written, top_stays, not_inside}
+use Rattle.markdown_builder.proofs.StandingLemmas.{appended_fits, IsInnermost, open_snoc, open_unsnoc, open_written}
+use Rattle.markdown_builder.proofs.StandingLemmas.{top_stays, not_inside}
 use Rattle.markdown_builder.proofs.StandingLemmas.{inside, covered_stays}
 
 -- of two tests one passes
@@ -48,7 +53,8 @@ either_passes false false h = ⊎_elim (λ (e : false ≡ true). cc (e)) (λ (e 
 -- ---- tight paragraphs
 
 -- with a new item that is no tight paragraph none is tight
-none_tight_grown : (old new : List (Node Item)) (down : Bool) (at : ℕ) (x : Item) → Grows old new down at x → NoneTight old
+none_tight_grown : (old new : List (Node Item)) (down : Bool) (at : ℕ) (x : Item) → Grows old new down at x
+    → NoneTight old
     → is_tight_paragraph x.body ≡ false → NoneTight new
 none_tight_grown old new down at x g k h i = ⊎_elim
     (λ (e : i ≡ length old). ap (λ (m : ℕ). is_tight_paragraph (item_at new m).body) e
@@ -60,7 +66,8 @@ none_tight_grown old new down at x g k h i = ⊎_elim
 pub none_tight_written : (old new : List (Node Item)) (at : ℕ) (x : Item) → Writes old new at x → NoneTight old
     → is_tight_paragraph x.body ≡ false → NoneTight new
 none_tight_written old new at x w k h i = ⊎_elim
-    (λ (e : i ≡ at). ap (λ (m : ℕ). is_tight_paragraph (item_at new m).body) e ∙ (ap (λ (y : Item). is_tight_paragraph y.body) w.new_item
+    (λ (e : i ≡ at). ap (λ (m : ℕ). is_tight_paragraph (item_at new m).body) e
+    ∙ (ap (λ (y : Item). is_tight_paragraph y.body) w.new_item
     ∙ h))
     (λ (n : i ≡ at → ⊥). ap (λ (y : Item). is_tight_paragraph y.body) (w.old_items i n) ∙ k i)
     (same_or_not i at)
@@ -84,13 +91,23 @@ root_item (suc i) = refl
 no_root_link : (d : Bool) (i j : ℕ) → link_of (links_of root_nodes) d i ≡ Some j → ⊥
 no_root_link d i j e = let h = root_links d i in cc (h, e)
 
-root_names : (name : ItemBody → Option ℕ) → name body.Root ≡ None → (i t : ℕ) → name (item_at root_nodes i).body ≡ Some t → ⊥
+root_names : (name : ItemBody → Option ℕ) → name body.Root ≡ None → (i t : ℕ) → name (item_at root_nodes i).body
+    ≡ Some t → ⊥
 root_names name n i t e = let h : name (item_at root_nodes i).body ≡ None = rw (root_item i) n in cc (h, e)
 
 -- a builder before its first step
 abbrev pub beginning : List ℕ → PartCounts → Arena Item → State
 beginning text counts tree =
-    record { text = text; counts = counts; tree = tree; definitions = []; blocks = []; leaf = false; run = None; at = 0 }
+    record {
+      text = text;
+      counts = counts;
+      tree = tree;
+      definitions = [];
+      blocks = [];
+      leaf = false;
+      run = None;
+      at = 0;
+    }
 
 -- it begins with the root alone
 pub begun : (text : List ℕ) (counts : PartCounts) (tree : Arena Item) → IsUtf8 text
@@ -113,7 +130,10 @@ begun text counts tree utf8 e = subst (λ (t : Arena Item). IsSound (beginning t
     };
     low = omega arith;
     free = refl;
-    fits = λ x k l. record { kind = k; chains_are_kept = chain_of_one body.Root (record { number = 1; item = x }) refl };
+    fits = λ x k l. record {
+      kind = k;
+      chains_are_kept = chain_of_one body.Root (record { number = 1; item = x }) refl;
+    };
     are_open = tt;
     leaves = refl;
     behind = tt;
@@ -174,8 +194,10 @@ pub skipped : (s : State) (to : ℕ) → IsSound s → s.at ≤ to → IsCharBou
 skipped s to k low boundary white =
     moved s to s.definitions k low boundary (over s.blocks k.stands.leaves k.stands.covered white) k.stands.brackets
   where
-    over : (blocks : List OpenBlock) → OnlyLastIsLeaf blocks s.leaf → AreCovered s.text s.tree.nodes s.definitions (covered_to blocks s.at)
-        → (s.leaf ≡ false → blocks ≡ [] → IsWhite s.text s.at to) → AreCovered s.text s.tree.nodes s.definitions (covered_to blocks to)
+    over : (blocks : List OpenBlock) → OnlyLastIsLeaf blocks s.leaf → AreCovered s.text s.tree.nodes s.definitions
+        (covered_to blocks s.at)
+        → (s.leaf ≡ false → blocks ≡ [] → IsWhite s.text s.at to) → AreCovered s.text s.tree.nodes s.definitions
+        (covered_to blocks to)
     over [] l c w = covered_white s.text s.tree.nodes s.definitions s.at to c (w l refl)
     over (b ∷ blocks) l c w = c
 
@@ -185,7 +207,8 @@ skipped s to k low boundary white =
 covered_added : (text : List ℕ) (nodes : List (Node Item)) (definitions : List (CowStr × LinkDef)) (spine : List ℕ)
     (blocks : List OpenBlock) (number at to : ℕ) (b : ItemBody)
     → AreOpen nodes spine blocks → IsTopPlace nodes spine (Some number) → item_at nodes number ≡ item_over at to b
-    → AreCovered text nodes definitions (covered_to blocks at) → AreCovered text nodes definitions (covered_to blocks to)
+    → AreCovered text nodes definitions (covered_to blocks at)
+    → AreCovered text nodes definitions (covered_to blocks to)
 covered_added text nodes definitions [] [] number at to b o t e c =
     λ p l dark. ⊎_elim (λ (h : p < at). c p h dark)
     (λ (h : at ≤ p). inl (record { number = number; top = t; inside = rw e (inside p at to h l) }))
@@ -195,18 +218,21 @@ covered_added text nodes definitions spine (x ∷ blocks) number at to b o t e c
 
 -- the state with an item appended, which ends at a place
 abbrev pub after_item : State → PartCounts → ℕ → ItemBody → Option ℕ → State
-after_item s many to b run = record s { counts = many; tree = appended s.tree (item_over s.at to b); run = run; at = to }
+after_item s many to b run = record s
+    { counts = many; tree = appended s.tree (item_over s.at to b); run = run; at = to }
 
 -- an item that has no children is appended
 pub added : (s : State) (many : PartCounts) (to : ℕ) (b : ItemBody) (run : Option ℕ) → IsSound s → HasMore s.counts many
-    → ItemFits s.text many (item_over s.at to b) → NamesNew s.counts (item_over s.at to b) → is_inline b ≡ s.leaf → run_character b ≡ None
+    → ItemFits s.text many (item_over s.at to b) → NamesNew s.counts (item_over s.at to b) → is_inline b ≡ s.leaf
+    → run_character b ≡ None
     → is_tight_paragraph b ≡ false → IsSound (after_item s many to b run)
 added s many to b run k more fits names kind no_run loose =
     let x : Item = item_over s.at to b in
     let a = appended_fits s many x k.stands more fits names kind (omega arith) in
     let low : s.at ≤ to = fits.ranges_lie_in.ordered in
     let n = length s.tree.nodes in
-    let none : run_character (item_at (appended s.tree x).nodes n).body ≡ None = ap (λ (y : Item). run_character y.body) a.grows.new_item
+    let none : run_character (item_at (appended s.tree x).nodes n).body ≡ None = ap (λ (y : Item). run_character y.body)
+    a.grows.new_item
     ∙ no_run in
     record {
       utf8 = k.utf8;
@@ -223,29 +249,35 @@ added s many to b run k more fits names kind no_run loose =
         leaves = k.stands.leaves;
         behind = a.behind;
         top = a.top;
-        covered = covered_added s.text (appended s.tree x).nodes s.definitions s.tree.spine s.blocks n s.at to b a.are_open a.top
+        covered = covered_added s.text (appended s.tree x).nodes s.definitions s.tree.spine s.blocks n s.at to b
+            a.are_open a.top
             a.grows.new_item a.covered;
         boundary = fits.ranges_lie_in.end;
-        begun = All-weaker (λ q. q.start ≤ s.at) (λ q. q.start ≤ to) (λ q h. omega (arith, h, low)) s.blocks k.stands.begun;
+        begun = All-weaker (λ q. q.start ≤ s.at) (λ q. q.start ≤ to) (λ q h. omega (arith, h, low)) s.blocks
+            k.stands.begun;
         brackets = k.stands.brackets;
       };
-      runs = runs_appended s.text s.tree.nodes (appended s.tree x).nodes (place_down s.tree.cursor) (place_at s.tree.spine s.tree.cursor) x
+      runs = runs_appended s.text s.tree.nodes (appended s.tree x).nodes (place_down s.tree.cursor)
+          (place_at s.tree.spine s.tree.cursor) x
           k.stands.nodes.rising
           a.grows k.stands.free no_run k.runs;
       last_run = rw none tt;
-      loose = none_tight_grown s.tree.nodes (appended s.tree x).nodes (place_down s.tree.cursor) (place_at s.tree.spine s.tree.cursor) x
+      loose = none_tight_grown s.tree.nodes (appended s.tree x).nodes (place_down s.tree.cursor)
+          (place_at s.tree.spine s.tree.cursor) x
           a.grows k.loose loose;
     }
 
 -- ---- a block is opened
 
 -- with another open block, as much is covered
-covered_open : (blocks : List OpenBlock) (block : OpenBlock) → covered_to (blocks ++ block ∷ []) block.start ≡ covered_to blocks block.start
+covered_open : (blocks : List OpenBlock) (block : OpenBlock) → covered_to (blocks ++ block ∷ []) block.start
+    ≡ covered_to blocks block.start
 covered_open [] block = refl
 covered_open (b ∷ blocks) block = refl
 
 -- the outermost open block is on top
-top_open : (nodes : List (Node Item)) (spine : List ℕ) (n : ℕ) → IsTopPlace nodes spine (Some n) → IsTopPlace nodes (spine ++ n ∷ []) None
+top_open : (nodes : List (Node Item)) (spine : List ℕ) (n : ℕ) → IsTopPlace nodes spine (Some n)
+    → IsTopPlace nodes (spine ++ n ∷ []) None
 top_open nodes [] n t = t
 top_open nodes (s ∷ spine) n t = t
 
@@ -260,7 +292,14 @@ leaves_open (b ∷ c ∷ blocks) block h = (h.0, leaves_open (c ∷ blocks) bloc
 abbrev pub after_opening : State → PartCounts → ItemBody → State
 after_opening s many b =
     let block : OpenBlock = record { start = s.at; body = b } in
-    record s { counts = many; tree = entered s.tree (open_item block); blocks = s.blocks ++ block ∷ []; leaf = is_leaf b; run = None }
+    record s {
+      counts = many;
+      tree = entered s.tree (open_item block);
+      blocks = s.blocks ++ block ∷ [];
+      leaf = is_leaf
+          b;
+      run = None;
+    }
 
 -- a block is appended and gone into
 pub opened : (s : State) (many : PartCounts) (b : ItemBody) → IsSound s → s.leaf ≡ false → MayBePlaced s.counts many b
@@ -270,9 +309,12 @@ opened s many b k outside placed parent =
     let block : OpenBlock = record { start = s.at; body = b } in
     let x : Item = open_item block in
     let n = length s.tree.nodes in
-    let fits = placed_fits s.text s.counts many s.at s.at b placed (block_markup b (source_of s.text (item_over s.at s.at b))
-    (parent_not_inline b parent)) (record { ordered = omega arith; start = k.stands.boundary; end = k.stands.boundary }) in
-    let a = appended_fits s many x k.stands placed.more fits (placed_new s.counts many s.at s.at b placed) ((parent_not_inline b parent)
+    let fits = placed_fits s.text s.counts many s.at s.at b placed
+    (block_markup b (source_of s.text (item_over s.at s.at b))
+    (parent_not_inline b parent)) (record { ordered = omega arith; start = k.stands.boundary; end = k.stands.boundary })
+    in
+    let a = appended_fits s many x k.stands placed.more fits (placed_new s.counts many s.at s.at b placed)
+    ((parent_not_inline b parent)
     ∙ sym outside) (omega arith) in
     let i = innermost-snoc s.tree.spine n in
     let new = (appended s.tree x).nodes in
@@ -295,15 +337,18 @@ opened s many b k outside placed parent =
         leaves = leaves_open s.blocks block (subst (λ (l : Bool). OnlyLastIsLeaf s.blocks l) outside k.stands.leaves);
         behind = tt;
         top = top_open new s.tree.spine n a.top;
-        covered = subst (λ (to : ℕ). AreCovered s.text new s.definitions to) (sym (covered_open s.blocks block)) a.covered;
+        covered = subst (λ (to : ℕ). AreCovered s.text new s.definitions to) (sym (covered_open s.blocks block))
+            a.covered;
         boundary = k.stands.boundary;
         begun = All-snoc (λ q. q.start ≤ s.at) s.blocks block k.stands.begun (omega arith);
         brackets = k.stands.brackets;
       };
-      runs = runs_appended s.text s.tree.nodes new (place_down s.tree.cursor) (place_at s.tree.spine s.tree.cursor) x k.stands.nodes.rising
+      runs = runs_appended s.text s.tree.nodes new (place_down s.tree.cursor) (place_at s.tree.spine s.tree.cursor) x
+          k.stands.nodes.rising
           a.grows k.stands.free placed.no_run k.runs;
       last_run = tt;
-      loose = none_tight_grown s.tree.nodes new (place_down s.tree.cursor) (place_at s.tree.spine s.tree.cursor) x a.grows k.loose
+      loose = none_tight_grown s.tree.nodes new (place_down s.tree.cursor) (place_at s.tree.spine s.tree.cursor) x
+          a.grows k.loose
           placed.loose;
     })
 
@@ -314,11 +359,14 @@ pub opened_alone : (s : State) (many : PartCounts) (b : ItemBody) (run : Option 
 opened_alone s many b run k outside placed parent =
     added s many s.at b run k placed.more
     (placed_fits s.text s.counts many s.at s.at b placed (block_markup b (source_of s.text (item_over s.at s.at b))
-    (parent_not_inline b parent)) (record { ordered = omega arith; start = k.stands.boundary; end = k.stands.boundary }))
-    (placed_new s.counts many s.at s.at b placed) ((parent_not_inline b parent) ∙ sym outside) placed.no_run placed.loose
+    (parent_not_inline b parent))
+    (record { ordered = omega arith; start = k.stands.boundary; end = k.stands.boundary }))
+    (placed_new s.counts many s.at s.at b placed) ((parent_not_inline b parent) ∙ sym outside) placed.no_run
+    placed.loose
 
 -- with more parts the invariant still holds
-pub more_parts : (s : State) (many : PartCounts) → HasMore s.counts many → IsSound s → IsSound (record s { counts = many })
+pub more_parts : (s : State) (many : PartCounts) → HasMore s.counts many → IsSound s
+    → IsSound (record s { counts = many })
 more_parts s many more k = record {
   utf8 = k.utf8;
   stands = record {
@@ -351,7 +399,8 @@ more_parts s many more k = record {
 -- ---- a block is closed
 
 -- a block with another end or body in place of the open one
-pub block_replaces : (a b : Item) → is_inline a.body ≡ false → is_inline b.body ≡ false → is_leaf b.body ≡ is_leaf a.body
+pub block_replaces : (a b : Item) → is_inline a.body ≡ false → is_inline b.body ≡ false → is_leaf b.body
+    ≡ is_leaf a.body
     → is_childless b.body ≡ is_childless a.body
     → ((t : ℕ) → text_named b.body ≡ Some t → text_named a.body ≡ Some t) → ((t : ℕ) → alignments_named b.body ≡ Some t
     → alignments_named a.body ≡ Some t)
@@ -379,7 +428,8 @@ closed_fits text counts b start end h low boundary f = record {
 }
 
 -- the outermost open block, or the one that was left, is on top
-top_closed : (old new : List (Node Item)) (spine : List ℕ) (n : ℕ) → ((d : Bool) (i j : ℕ) → link_of (links_of old) d i ≡ Some j
+top_closed : (old new : List (Node Item)) (spine : List ℕ) (n : ℕ)
+    → ((d : Bool) (i j : ℕ) → link_of (links_of old) d i ≡ Some j
     → link_of (links_of new) d i ≡ Some j)
     → IsTopPlace old (spine ++ n ∷ []) None → IsTopPlace new spine (Some n)
 top_closed old new [] n h t = top_stays old new h n t
@@ -388,8 +438,10 @@ top_closed old new (s ∷ spine) n h t = top_stays old new h s t
 -- what is covered where a block was closed
 covered_closed : (text : List ℕ) (nodes : List (Node Item)) (definitions : List (CowStr × LinkDef)) (spine : List ℕ)
     (blocks : List OpenBlock) (n at : ℕ) (block : OpenBlock)
-    → AreOpen nodes spine blocks → IsTopPlace nodes spine (Some n) → item_at nodes n ≡ item_over block.start at block.body
-    → AreCovered text nodes definitions (covered_to (blocks ++ block ∷ []) at) → AreCovered text nodes definitions (covered_to blocks at)
+    → AreOpen nodes spine blocks → IsTopPlace nodes spine (Some n) → item_at nodes n
+    ≡ item_over block.start at block.body
+    → AreCovered text nodes definitions (covered_to (blocks ++ block ∷ []) at)
+    → AreCovered text nodes definitions (covered_to blocks at)
 covered_closed text nodes definitions [] [] n at block o t e c =
     covered_added text nodes definitions [] [] n block.start at block.body o t e c
 covered_closed text nodes definitions (s ∷ spine) [] n at block o t e c = absurd o
@@ -403,12 +455,14 @@ leaves_closed (b ∷ []) block leaf h = sym h.0
 leaves_closed (b ∷ c ∷ blocks) block leaf h = (h.0, leaves_closed (c ∷ blocks) block leaf h.1)
 
 -- what stands on top with the innermost block's number apart
-whole_top : (old : List (Node Item)) (all spine : List ℕ) (n : ℕ) (cursor : Option ℕ) → all ≡ spine ++ n ∷ [] → IsTopPlace old all cursor
+whole_top : (old : List (Node Item)) (all spine : List ℕ) (n : ℕ) (cursor : Option ℕ) → all ≡ spine ++ n ∷ []
+    → IsTopPlace old all cursor
     → IsTopPlace old (spine ++ n ∷ []) None
 whole_top old [] [] n cursor e t = cc (e)
 whole_top old [] (s ∷ spine) n cursor e t = cc (e)
 whole_top old (a ∷ all) [] n cursor e t = let q : a ≡ n = cc (e) in subst (λ (y : ℕ). IsOnTop (links_of old) y) q t
-whole_top old (a ∷ all) (s ∷ spine) n cursor e t = let q : a ≡ s = cc (e) in subst (λ (y : ℕ). IsOnTop (links_of old) y) q t
+whole_top old (a ∷ all) (s ∷ spine) n cursor e t = let q : a ≡ s = cc (e) in subst (λ (y : ℕ). IsOnTop (links_of old) y)
+    q t
 
 -- the state with a block left, whose end is written
 abbrev pub after_closing : State → List ℕ → List OpenBlock → ℕ → OpenBlock → State
@@ -435,7 +489,8 @@ closed s spine blocks n block k whole split =
     let old = s.tree.nodes in
     let made = changed_at n (λ m. record m { item = x }) old in
     let both : AreOpen old (spine ++ n ∷ []) (blocks ++ block ∷ []) =
-    subst (λ (y : List ℕ). AreOpen old y (blocks ++ block ∷ [])) split (subst (λ (y : List OpenBlock). AreOpen old s.tree.spine y) whole
+    subst (λ (y : List ℕ). AreOpen old y (blocks ++ block ∷ [])) split
+    (subst (λ (y : List OpenBlock). AreOpen old s.tree.spine y) whole
     k.stands.are_open) in
     let o : IsInnermost old n block spine blocks = open_unsnoc old n block spine blocks both in
     let h = o.here in
@@ -446,20 +501,25 @@ closed s spine blocks n block k whole split =
     let fit : ItemFits s.text s.counts (open_item block) = subst (λ (y : Item). ItemFits s.text s.counts y) h.item
     (k.stands.nodes.items n h.positive h.low) in
     let nodes : KeepsNodes s.text s.counts made = write_keeps s.text s.counts old made n x k.stands.nodes w h.positive
-    (closed_fits s.text s.counts block.body block.start at (parent_not_inline block.body h.parent) start k.stands.boundary fit)
-    (rw h.item (block_replaces (open_item block) x (parent_not_inline block.body h.parent) (parent_not_inline block.body h.parent) refl refl
+    (closed_fits s.text s.counts block.body block.start at (parent_not_inline block.body h.parent) start
+    k.stands.boundary fit)
+    (rw h.item (block_replaces (open_item block) x (parent_not_inline block.body h.parent)
+    (parent_not_inline block.body h.parent) refl refl
     (λ t e. e) (λ t e. e))) in
     let links : (d : Bool) (i j : ℕ) → link_of (links_of old) d i ≡ Some j
     → link_of (links_of made) d i ≡ Some j = λ d i j q. w.all_links d i ∙ q in
     let opens : AreOpen made spine blocks =
-    open_written (λ t. t < n) old made n x w (λ t b l q z. absurd (omega (arith, z, l))) spine blocks o.above o.others in
-    let top_was : IsTopPlace old (spine ++ n ∷ []) None = whole_top old s.tree.spine spine n s.tree.cursor split k.stands.top in
+    open_written (λ t. t < n) old made n x w (λ t b l q z. absurd (omega (arith, z, l))) spine blocks o.above o.others
+    in
+    let top_was : IsTopPlace old (spine ++ n ∷ []) None = whole_top old s.tree.spine spine n s.tree.cursor split
+    k.stands.top in
     let top : IsTopPlace made spine (Some n) = top_closed old made spine n links top_was in
     let covered_was : AreCovered s.text old s.definitions (covered_to (blocks ++ block ∷ []) at) =
     subst (λ (y : List OpenBlock). AreCovered s.text old s.definitions (covered_to y at)) whole k.stands.covered in
     let none : run_character x.body ≡ None = block_no_run block.body (parent_not_inline block.body h.parent) in
     let none_was : run_character (item_at old n).body ≡ None = ap (λ (y : Item). run_character y.body) h.item ∙ none in
-    let none_now : run_character (item_at made n).body ≡ None = ap (λ (y : Item). run_character y.body) w.new_item ∙ none in
+    let none_now : run_character (item_at made n).body ≡ None = ap (λ (y : Item). run_character y.body) w.new_item
+    ∙ none in
     record {
       utf8 = k.utf8;
       stands = record {
@@ -472,7 +532,8 @@ closed s spine blocks n block k whole split =
               (parent_not_inline block.body h.parent) in cc (z, i);
         });
         are_open = opens;
-        leaves = leaves_closed blocks block s.leaf (subst (λ (y : List OpenBlock). OnlyLastIsLeaf y s.leaf) whole k.stands.leaves);
+        leaves = leaves_closed blocks block s.leaf
+            (subst (λ (y : List OpenBlock). OnlyLastIsLeaf y s.leaf) whole k.stands.leaves);
         behind = o.above;
         top = top;
         covered = covered_closed s.text made s.definitions spine blocks n at block opens top w.new_item
@@ -480,7 +541,8 @@ closed s spine blocks n block k whole split =
               number = b.number;
               top = top_stays old made links b.number b.top;
               inside = ⊎_elim
-                  (λ (q : b.number ≡ n). absurd (not_inside p block.start (subst (λ (y : Item). is_inside p (range_of y) ≡ true)
+                  (λ (q : b.number ≡ n). absurd
+                  (not_inside p block.start (subst (λ (y : Item). is_inside p (range_of y) ≡ true)
                   (ap (λ (m : ℕ). item_at old m) q ∙ h.item) b.inside)))
                   (λ (q : b.number ≡ n → ⊥). rw (w.old_items b.number q) b.inside)
                   (same_or_not b.number n);
@@ -491,13 +553,15 @@ closed s spine blocks n block k whole split =
       };
       runs = runs_written s.text old made n x k.stands.nodes.rising w none_was none k.runs;
       last_run = rw none_now tt;
-      loose = none_tight_written old made n x w k.loose (ap (λ (y : Item). is_tight_paragraph y.body) (sym h.item) ∙ k.loose n);
+      loose = none_tight_written old made n x w k.loose (ap (λ (y : Item). is_tight_paragraph y.body) (sym h.item)
+          ∙ k.loose n);
     }
 
 -- ---- definitions
 
 -- a byte in one of some definitions, or in one more
-in_more : (definitions : List (CowStr × LinkDef)) (d : CowStr × LinkDef) (p : ℕ) → IsTrue (is_in_definition definitions p)
+in_more : (definitions : List (CowStr × LinkDef)) (d : CowStr × LinkDef) (p : ℕ)
+    → IsTrue (is_in_definition definitions p)
     → IsTrue (is_in_definition (definitions ++ d ∷ []) p)
 in_more definitions d p h =
     rw (list_any-append (λ (x : CowStr × LinkDef). is_inside p x.1.span) definitions (d ∷ []))
@@ -511,13 +575,16 @@ in_last definitions d p h =
     (either_passes (is_in_definition definitions p) (is_in_definition (d ∷ []) p) (inr here))
 
 -- a definition is added, which stands from here up to a place
-pub defined : (s : State) (to : ℕ) (d : CowStr × LinkDef) → IsSound s → s.at ≤ to → IsCharBoundary s.text to → slice_index s.text s.at ≡ 91
-    → d.1.span ≡ record { start = s.at; end = to } → IsSound (record s { definitions = s.definitions ++ d ∷ []; at = to })
+pub defined : (s : State) (to : ℕ) (d : CowStr × LinkDef) → IsSound s → s.at ≤ to → IsCharBoundary s.text to
+    → slice_index s.text s.at ≡ 91
+    → d.1.span ≡ record { start = s.at; end = to }
+    → IsSound (record s { definitions = s.definitions ++ d ∷ []; at = to })
 defined s to d k low boundary bracket span =
     moved s to (s.definitions ++ d ∷ []) k low boundary (over s.blocks k.stands.covered)
     (All-snoc (λ x. slice_index s.text x.1.span.start ≡ 91) s.definitions d k.stands.brackets (rw span bracket))
   where
-    widened : (end : ℕ) → AreCovered s.text s.tree.nodes s.definitions end → AreCovered s.text s.tree.nodes (s.definitions ++ d ∷ []) end
+    widened : (end : ℕ) → AreCovered s.text s.tree.nodes s.definitions end
+        → AreCovered s.text s.tree.nodes (s.definitions ++ d ∷ []) end
     widened end c p l dark = ⊎_elim (λ (b : IsUnderTop s.tree.nodes p). inl b)
         (λ (h : IsTrue (is_in_definition s.definitions p)). inr (in_more s.definitions d p h)) (c p l dark)
 

@@ -1,5 +1,6 @@
 -- Paragraphs made tight: those of a set of numbers, one after another, and of all tight lists in the end.
-use Rattle.std.proofs.Common.{◌≡◌, ℕ, ◌+◌, ◌-◌, ◌<◌, ◌≤◌, List, Option, Some, None, Bool, true, false, length, refl, sym, ap, ◌∙◌, subst}
+use Rattle.std.proofs.Common.{◌≡◌, ℕ, ◌+◌, ◌-◌, ◌<◌, ◌≤◌, List, Option, Some, None, Bool, true, false, length, refl}
+use Rattle.std.proofs.Common.{sym, ap, ◌∙◌, subst}
 use Rattle.std.proofs.Common.{arith, ◌⊎◌, inl, inr, ⊎_elim}
 use Rattle.std.specs.Prelude.{IfSome}
 use Rattle.std.proofs.lemmas.Bool.{cases_lt}
@@ -13,7 +14,8 @@ use Rattle.markdown_base.specs.BlockTree.{item_at, no_item}
 use Rattle.markdown_base.specs.Item.{is_tight_paragraph}
 use Rattle.markdown_builder.specs.Rising.{link_of, AreRising}
 use Rattle.markdown_builder.specs.Standing.{NoneTight}
-use Rattle.markdown_builder.specs.Tightness.{is_tight_list, IsInChain, first_of, later_in, IsInItemOf, IsInTightList, TightInTightLists}
+use Rattle.markdown_builder.specs.Tightness.{is_tight_list, IsInChain, first_of, later_in, IsInItemOf, IsInTightList}
+use Rattle.markdown_builder.specs.Tightness.{TightInTightLists}
 use Rattle.markdown_builder.specs.TreeSteps.{is_paragraph, tight, Tightened, MadeTight, MakesTight}
 use Rattle.markdown_builder.proofs.BuilderRulesLemmas.{same_or_not}
 use Rattle.markdown_builder.proofs.NodeWriteLemmas.{Writes, item_beyond}
@@ -34,13 +36,15 @@ paragraph_or_tight : (b : ItemBody) → b ≡ body.Paragraph → b ≡ body.Tigh
 paragraph_or_tight b e f = let q : body.Paragraph ≡ body.TightParagraph = sym e ∙ f in cc (q)
 
 -- some more of them are made tight, by which fewer are left
-pub made_more : (S Left D Fewer : ℕ → Type 0) (a b c : List (Node Item)) → MadeTight S Left a b → MadeTight D (λ p. ⊥) b c
+pub made_more : (S Left D Fewer : ℕ → Type 0) (a b c : List (Node Item)) → MadeTight S Left a b
+    → MadeTight D (λ p. ⊥) b c
     → ((p : ℕ) → D p → S p) → ((p : ℕ) → Left p → D p ⊎ Fewer p) → MadeTight S Fewer a c
 made_more S Left D Fewer a b c m n within covers = record {
   size = n.size ∙ m.size;
   links = λ d i. n.links d i ∙ m.links d i;
   made = λ p s. ⊎_elim (λ (l : Left p). ⊎_elim
-      (λ (d : D p). ⊎_elim (λ (no : ⊥). absurd no) (λ (q : (item_at c p).body ≡ body.Paragraph → ⊥). inr q) (n.made p d))
+      (λ (d : D p). ⊎_elim (λ (no : ⊥). absurd no) (λ (q : (item_at c p).body ≡ body.Paragraph → ⊥). inr q)
+      (n.made p d))
       (λ (f : Fewer p). inl f) (covers p l))
       (λ (q : (item_at b p).body ≡ body.Paragraph → ⊥). inr (still p q (n.kept p)))
       (m.made p s);
@@ -53,7 +57,8 @@ made_more S Left D Fewer a b c m n within covers = record {
         was = ap (λ (y : Item). y.body) (sym f) ∙ t.was;
         now = t.now ∙ ap tight f;
       }))
-      (λ (u : Tightened S a b p). absurd (paragraph_or_tight (item_at b p).body t.was (ap (λ (y : Item). y.body) u.now))) (m.kept p))
+      (λ (u : Tightened S a b p). absurd
+      (paragraph_or_tight (item_at b p).body t.was (ap (λ (y : Item). y.body) u.now))) (m.kept p))
       (n.kept p);
 }
   where
@@ -96,36 +101,44 @@ pub none_made : (nodes : List (Node Item)) (number : ℕ) → is_paragraph (item
 none_made nodes number h = record {
   size = refl;
   links = λ d i. refl;
-  made = λ p e. inr (λ q. no_paragraph (item_at nodes number).body h (ap (λ (n : ℕ). (item_at nodes n).body) (sym e) ∙ q));
+  made = λ p e. inr (λ q. no_paragraph (item_at nodes number).body h (ap (λ (n : ℕ). (item_at nodes n).body) (sym e)
+      ∙ q));
   kept = λ p. inl refl;
 }
 
 -- ---- chains
 
 -- a chain is the same where the links are
-pub chain_same : (old new : List (Node Item)) → ((d : Bool) (i : ℕ) → link_of (links_of new) d i ≡ link_of (links_of old) d i)
+pub chain_same : (old new : List (Node Item))
+    → ((d : Bool) (i : ℕ) → link_of (links_of new) d i ≡ link_of (links_of old) d i)
     → (l : Option ℕ) (p : ℕ) → IsInChain old l p → IsInChain new l p
 chain_same old new h l p (first_of _) = first_of p
 chain_same old new h l p (later_in q _ c) =
-    later_in q p (subst (λ (o : Option ℕ). IsInChain new o p) (sym (h false q)) (chain_same old new h (sibling_of old q) p c))
+    later_in q p (subst (λ (o : Option ℕ). IsInChain new o p) (sym (h false q))
+    (chain_same old new h (sibling_of old q) p c))
 
 -- what stands in a chain is its first number, or stands behind that
-pub first_or_later : (nodes : List (Node Item)) (q p : ℕ) → IsInChain nodes (Some q) p → (p ≡ q) ⊎ IsInChain nodes (sibling_of nodes q) p
+pub first_or_later : (nodes : List (Node Item)) (q p : ℕ) → IsInChain nodes (Some q) p
+    → (p ≡ q) ⊎ IsInChain nodes (sibling_of nodes q) p
 first_or_later nodes q p (first_of _) = inl refl
 first_or_later nodes q p (later_in _ _ c) = inr c
 
 -- a chain begins with a number
-nothing_in : (nodes : List (Node Item)) (l : Option ℕ) (p : ℕ) → ((number : ℕ) → l ≡ Some number → ⊥) → IsInChain nodes l p → ⊥
+nothing_in : (nodes : List (Node Item)) (l : Option ℕ) (p : ℕ) → ((number : ℕ) → l ≡ Some number → ⊥)
+    → IsInChain nodes l p → ⊥
 nothing_in nodes l p none (first_of _) = none p refl
 nothing_in nodes l p none (later_in q _ c) = none q refl
 
 -- the same for what stands in the items of a list
-pub item_same : (old new : List (Node Item)) → ((d : Bool) (i : ℕ) → link_of (links_of new) d i ≡ link_of (links_of old) d i)
+pub item_same : (old new : List (Node Item))
+    → ((d : Bool) (i : ℕ) → link_of (links_of new) d i ≡ link_of (links_of old) d i)
     → (list p : ℕ) → IsInItemOf old list p → IsInItemOf new list p
 item_same old new h list p i = record {
   item = i.item;
-  listed = subst (λ (o : Option ℕ). IsInChain new o i.item) (sym (h true list)) (chain_same old new h (child_of old list) i.item i.listed);
-  inside = subst (λ (o : Option ℕ). IsInChain new o p) (sym (h true i.item)) (chain_same old new h (child_of old i.item) p i.inside);
+  listed = subst (λ (o : Option ℕ). IsInChain new o i.item) (sym (h true list))
+      (chain_same old new h (child_of old list) i.item i.listed);
+  inside = subst (λ (o : Option ℕ). IsInChain new o p) (sym (h true i.item))
+      (chain_same old new h (child_of old i.item) p i.inside);
 }
 
 -- ---- tight lists
@@ -158,7 +171,8 @@ tight_in_tight_lists old new loose m = record {
 }
   where
     was_loose : (p : ℕ) → (item_at old p).body ≡ body.TightParagraph → ⊥
-    was_loose p e = let t : is_tight_paragraph (item_at old p).body ≡ true = ap is_tight_paragraph e in let f = loose p in cc (t, f)
+    was_loose p e = let t : is_tight_paragraph (item_at old p).body ≡ true = ap is_tight_paragraph e in let f = loose p
+        in cc (t, f)
 
 -- ---- what is still to be done
 
@@ -192,7 +206,8 @@ fewer_nodes nodes number r low = of_link (sibling_of nodes number) (λ j e. r.ri
 -- the siblings from a link on, one of which is made tight
 pub sibling_made : (nodes old new : List (Node Item)) (first : Option ℕ) (number : ℕ)
     → MadeTight (λ p. IsInChain nodes first p) (λ p. IsInChain nodes (Some number) p) nodes old
-    → MadeTight (λ p. p ≡ number) (λ p. ⊥) old new → ((p : ℕ) → IsInChain nodes (Some number) p → IsInChain nodes first p)
+    → MadeTight (λ p. p ≡ number) (λ p. ⊥) old new
+    → ((p : ℕ) → IsInChain nodes (Some number) p → IsInChain nodes first p)
     → MadeTight (λ p. IsInChain nodes first p) (λ p. IsInChain nodes (sibling_of nodes number) p) nodes new
 sibling_made nodes old new first number m n within =
     made_more (λ p. IsInChain nodes first p) (λ p. IsInChain nodes (Some number) p) (λ p. p ≡ number)
@@ -212,21 +227,26 @@ item_made nodes old new list number m n within =
     (λ p c. record {
       item = number;
       listed = within number (first_of number);
-      inside = chain_same old nodes (λ d i. sym (m.links d i)) (child_of nodes number) p (subst (λ (o : Option ℕ). IsInChain old o p)
+      inside = chain_same old nodes (λ d i. sym (m.links d i)) (child_of nodes number) p
+          (subst (λ (o : Option ℕ). IsInChain old o p)
           (m.links true number) c);
     })
     (λ p i. ⊎_elim
     (λ (e : i.item ≡ number). inl (subst (λ (o : Option ℕ). IsInChain old o p) (sym (m.links true number))
-    (chain_same nodes old m.links (child_of nodes number) p (subst (λ (q : ℕ). IsInChain nodes (child_of nodes q) p) e i.inside))))
-    (λ (c : IsInChain nodes (sibling_of nodes number) i.item). inr (record { item = i.item; listed = c; inside = i.inside }))
+    (chain_same nodes old m.links (child_of nodes number) p
+    (subst (λ (q : ℕ). IsInChain nodes (child_of nodes q) p) e i.inside))))
+    (λ (c : IsInChain nodes (sibling_of nodes number) i.item). inr
+    (record { item = i.item; listed = c; inside = i.inside }))
     (first_or_later nodes number i.item i.listed))
 
 -- the same for one of the lists
-pub list_made : (nodes old new : List (Node Item)) (number : ℕ) → MadeTight (IsInTightList nodes) (IsInTightListFrom nodes number) nodes old
+pub list_made : (nodes old new : List (Node Item)) (number : ℕ)
+    → MadeTight (IsInTightList nodes) (IsInTightListFrom nodes number) nodes old
     → MadeTight (IsInItemOf old number) (λ p. ⊥) old new → is_tight_list (item_at old number).body ≡ true
     → MadeTight (IsInTightList nodes) (IsInTightListFrom nodes (number + 1)) nodes new
 list_made nodes old new number m n tight =
-    made_more (IsInTightList nodes) (IsInTightListFrom nodes number) (IsInItemOf old number) (IsInTightListFrom nodes (number + 1)) nodes
+    made_more (IsInTightList nodes) (IsInTightListFrom nodes number) (IsInItemOf old number)
+    (IsInTightListFrom nodes (number + 1)) nodes
     old new m n
     (λ p i. record {
       list = number;
@@ -240,8 +260,10 @@ list_made nodes old new number m n tight =
     (cases_lt number f.here.list))
 
 -- what is no tight list is passed over
-pub list_passed : (nodes old : List (Node Item)) (number : ℕ) → MadeTight (IsInTightList nodes) (IsInTightListFrom nodes number) nodes old
-    → is_tight_list (item_at old number).body ≡ false → MadeTight (IsInTightList nodes) (IsInTightListFrom nodes (number + 1)) nodes old
+pub list_passed : (nodes old : List (Node Item)) (number : ℕ)
+    → MadeTight (IsInTightList nodes) (IsInTightListFrom nodes number) nodes old
+    → is_tight_list (item_at old number).body ≡ false
+    → MadeTight (IsInTightList nodes) (IsInTightListFrom nodes (number + 1)) nodes old
 list_passed nodes old number m loose = record {
   size = m.size;
   links = m.links;
@@ -259,7 +281,8 @@ list_passed nodes old number m loose = record {
 }
 
 -- and no list comes behind the last
-pub lists_done : (nodes new : List (Node Item)) (size : ℕ) → MadeTight (IsInTightList nodes) (IsInTightListFrom nodes size) nodes new
+pub lists_done : (nodes new : List (Node Item)) (size : ℕ)
+    → MadeTight (IsInTightList nodes) (IsInTightListFrom nodes size) nodes new
     → length nodes ≤ size
     → MadeTight (IsInTightList nodes) (λ p. ⊥) nodes new
 lists_done nodes new size m high = record {
@@ -291,21 +314,25 @@ pub record ItemsLeft (nodes now : List (Node Item)) (list : ℕ) (link : Option 
 pub leads_to : (nodes now : List (Node Item)) (link : Option ℕ) (number : ℕ) → length now ≡ length nodes
     → IfSome link (λ j. j < length nodes) → link ≡ Some number
     → number < length now
-leads_to nodes now link number size h e = let q : number < length nodes = subst (λ (o : Option ℕ). IfSome o (λ j. j < length nodes)) e h
+leads_to nodes now link number size h e = let q : number < length nodes = subst
+    (λ (o : Option ℕ). IfSome o (λ j. j < length nodes)) e h
     in omega (arith, q, size)
 
-pub sibling_step : (nodes old new : List (Node Item)) (first link next : Option ℕ) (number : ℕ) → AreRising (links_of nodes)
+pub sibling_step : (nodes old new : List (Node Item)) (first link next : Option ℕ) (number : ℕ)
+    → AreRising (links_of nodes)
     → SiblingsLeft nodes old first link
     → link ≡ Some number → MakesTight (λ p. p ≡ number) old new → next ≡ sibling_of new number
     → SiblingsLeft nodes new first next × (nodes_from (length nodes) next < nodes_from (length nodes) link)
 sibling_step nodes old new first link next number r l e n f =
-    let m = subst (λ (o : Option ℕ). MadeTight (λ p. IsInChain nodes first p) (λ p. IsInChain nodes o p) nodes old) e l.makes in
+    let m = subst (λ (o : Option ℕ). MadeTight (λ p. IsInChain nodes first p) (λ p. IsInChain nodes o p) nodes old) e
+    l.makes in
     let here : (p : ℕ) → IsInChain nodes (Some number) p
     → IsInChain nodes first p = λ p c. l.inside p (subst (λ (o : Option ℕ). IsInChain nodes o p) (sym e) c) in
     let behind : next ≡ sibling_of nodes number = f ∙ (n.links false number ∙ l.makes.links false number) in
     let fewer = fewer_nodes nodes number r (leads_to nodes nodes link number refl l.within e) in (
       record {
-        makes = subst (λ (o : Option ℕ). MadeTight (λ p. IsInChain nodes first p) (λ p. IsInChain nodes o p) nodes new) (sym behind)
+        makes = subst (λ (o : Option ℕ). MadeTight (λ p. IsInChain nodes first p) (λ p. IsInChain nodes o p) nodes new)
+            (sym behind)
             (sibling_made nodes old new first number m n here);
         inside = λ p c. here p (later_in number p (subst (λ (o : Option ℕ). IsInChain nodes o p) behind c));
         within = subst (λ (o : Option ℕ). IfSome o (λ j. j < length nodes)) (sym behind) fewer.1;
@@ -313,19 +340,23 @@ sibling_step nodes old new first link next number r l e n f =
       rw (behind, e) fewer.0,
     )
 
-pub item_step : (nodes old new : List (Node Item)) (list : ℕ) (link next first : Option ℕ) (number : ℕ) → AreRising (links_of nodes)
+pub item_step : (nodes old new : List (Node Item)) (list : ℕ) (link next first : Option ℕ) (number : ℕ)
+    → AreRising (links_of nodes)
     → ItemsLeft nodes old list link
-    → link ≡ Some number → first ≡ child_of old number → MakesTight (λ p. IsInChain old first p) old new → next ≡ sibling_of new number
+    → link ≡ Some number → first ≡ child_of old number → MakesTight (λ p. IsInChain old first p) old new → next
+    ≡ sibling_of new number
     → ItemsLeft nodes new list next × (nodes_from (length nodes) next < nodes_from (length nodes) link)
 item_step nodes old new list link next first number r l e below n f =
     let m = subst (λ (o : Option ℕ). MadeTight (IsInItemOf nodes list) (IsInItemFrom nodes o) nodes old) e l.makes in
     let d = subst (λ (o : Option ℕ). MakesTight (λ p. IsInChain old o p) old new) below n in
     let here : (p : ℕ) → IsInChain nodes (Some number) p
-    → IsInChain nodes (child_of nodes list) p = λ p c. l.inside p (subst (λ (o : Option ℕ). IsInChain nodes o p) (sym e) c) in
+    → IsInChain nodes (child_of nodes list) p = λ p c. l.inside p
+    (subst (λ (o : Option ℕ). IsInChain nodes o p) (sym e) c) in
     let behind : next ≡ sibling_of nodes number = f ∙ (n.links false number ∙ l.makes.links false number) in
     let fewer = fewer_nodes nodes number r (leads_to nodes nodes link number refl l.within e) in (
       record {
-        makes = subst (λ (o : Option ℕ). MadeTight (IsInItemOf nodes list) (IsInItemFrom nodes o) nodes new) (sym behind)
+        makes = subst (λ (o : Option ℕ). MadeTight (IsInItemOf nodes list) (IsInItemFrom nodes o) nodes new)
+            (sym behind)
             (item_made nodes old new list number m d here);
         inside = λ p c. here p (later_in number p (subst (λ (o : Option ℕ). IsInChain nodes o p) behind c));
         within = subst (λ (o : Option ℕ). IfSome o (λ j. j < length nodes)) (sym behind) fewer.1;
@@ -334,7 +365,8 @@ item_step nodes old new list link next first number r l e below n f =
     )
 
 -- links still rise
-pub rising_still : (S Left : ℕ → Type 0) (nodes now : List (Node Item)) → MadeTight S Left nodes now → AreRising (links_of nodes)
+pub rising_still : (S Left : ℕ → Type 0) (nodes now : List (Node Item)) → MadeTight S Left nodes now
+    → AreRising (links_of nodes)
     → AreRising (links_of now)
 rising_still S Left nodes now m r = record {
   rises = λ d i j e. let q = r.rises d i j (sym (m.links d i) ∙ e) in (q.0, omega (arith, q.1, m.size));
@@ -366,7 +398,8 @@ items_done nodes now list link l none = record {
 }
 
 -- at first all of a list's are left
-pub items_left : (nodes : List (Node Item)) (list : ℕ) (link : Option ℕ) → link ≡ child_of nodes list → IfSome link (λ j. j < length nodes)
+pub items_left : (nodes : List (Node Item)) (list : ℕ) (link : Option ℕ) → link ≡ child_of nodes list
+    → IfSome link (λ j. j < length nodes)
     → ItemsLeft nodes nodes list link
 items_left nodes list link e within = record {
   makes = record {

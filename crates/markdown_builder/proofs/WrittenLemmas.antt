@@ -1,6 +1,7 @@
 -- What a builder keeps where an item is written in the place of another: another open block, and, where none is open, a
 -- tight paragraph.
-use Rattle.std.proofs.Common.{◌≡◌, ℕ, ◌<◌, ◌≤◌, List, [], ◌∷◌, ◌++◌, Option, Some, None, Bool, true, false, length, refl, sym, ap, ◌∙◌}
+use Rattle.std.proofs.Common.{◌≡◌, ℕ, ◌<◌, ◌≤◌, List, [], ◌∷◌, ◌++◌, Option, Some, None, Bool, true, false, length}
+use Rattle.std.proofs.Common.{refl, sym, ap, ◌∙◌}
 use Rattle.std.proofs.Common.{subst, arith, ⊎_elim}
 use Rattle.std.specs.Prelude.{IfSome, ⊤}
 use Rattle.std.specs.List.{AllByRecursion}
@@ -16,7 +17,8 @@ use Rattle.markdown_base.specs.Arena.{Arena}
 use Rattle.markdown_base.specs.ArenaForest.{links_of}
 use Rattle.markdown_base.specs.BlockTree.{Numbered, item_at, numbered}
 use Rattle.markdown_base.specs.Coverage.{is_inside}
-use Rattle.markdown_base.specs.Item.{range_of, is_inline, is_childless, is_tight_paragraph, text_named, alignments_named}
+use Rattle.markdown_base.specs.Item.{range_of, is_inline, is_childless, is_tight_paragraph, text_named}
+use Rattle.markdown_base.specs.Item.{alignments_named}
 use Rattle.markdown_base.specs.WellFormed.{source_of, PartCounts, run_character, byte_of}
 use Rattle.markdown_base.proofs.ArenaLemmas.{All-snoc, All-front, All-last}
 use Rattle.markdown_builder.specs.declared.open_block.OpenBlock.{OpenBlock}
@@ -24,16 +26,19 @@ use Rattle.markdown_builder.specs.Bodies.{is_leaf}
 use Rattle.markdown_builder.specs.BuilderView.{IsWhite}
 use Rattle.markdown_builder.specs.Rising.{link_of, place_down, place_at}
 use Rattle.markdown_builder.specs.BuilderRules.{ItemFits, LinkFits, MayReplace, KeepsNodes, KeepsRuns}
-use Rattle.markdown_builder.specs.Standing.{State, open_item, with_item, AreOpen, OnlyLastIsLeaf, IsTopPlace, covered_to, AreCovered}
+use Rattle.markdown_builder.specs.Standing.{State, open_item, with_item, AreOpen, OnlyLastIsLeaf, IsTopPlace}
+use Rattle.markdown_builder.specs.Standing.{covered_to, AreCovered}
 use Rattle.markdown_builder.specs.Standing.{Stands, LastRun, IsSound}
 use Rattle.markdown_builder.specs.TreeSteps.{is_paragraph, tight, Tightens, none_tight, one_tight}
-use Rattle.markdown_builder.proofs.BodiesLemmas.{item_over, MayBePlaced, placed_fits, block_no_run, block_markup, settled_alone}
+use Rattle.markdown_builder.proofs.BodiesLemmas.{item_over, MayBePlaced, placed_fits, block_no_run, block_markup}
+use Rattle.markdown_builder.proofs.BodiesLemmas.{settled_alone}
 use Rattle.markdown_builder.proofs.BodiesLemmas.{parent_not_inline}
 use Rattle.markdown_builder.proofs.BuilderRulesLemmas.{same_or_not, fits_from, stays_fit, write_keeps}
 use Rattle.markdown_builder.proofs.NodeWriteLemmas.{Writes, item_writes}
 use Rattle.markdown_builder.proofs.TightLemmas.{is_a_paragraph}
 use Rattle.markdown_builder.proofs.RunLemmas.{runs_written}
-use Rattle.markdown_builder.proofs.StandingLemmas.{IsInnermost, open_snoc, open_unsnoc, open_written, top_stays, not_inside, covered_stays}
+use Rattle.markdown_builder.proofs.StandingLemmas.{IsInnermost, open_snoc, open_unsnoc, open_written, top_stays}
+use Rattle.markdown_builder.proofs.StandingLemmas.{not_inside, covered_stays}
 use Rattle.markdown_builder.proofs.StepLemmas.{covered_white, none_tight_written, block_replaces}
 
 -- what may follow at a place may follow where an item of the same kind is written
@@ -45,22 +50,26 @@ still_fits old new number place x y d w m l =
     let z : Numbered = record { number = length old; item = y } in
     subst (λ (n : ℕ). LinkFits d (numbered new place) (record { number = n; item = y })) (sym w.size)
     (stays_fit (λ (a : Numbered). LinkFits d a z) old new number place x w
-    (λ q. fits_from d (numbered old place) (record { number = place; item = x }) z refl (subst (λ (n : ℕ). MayReplace (item_at old n) x)
+    (λ q. fits_from d (numbered old place) (record { number = place; item = x }) z refl
+    (subst (λ (n : ℕ). MayReplace (item_at old n) x)
     (sym q) m) l) l)
 
 -- what stands on top stays there
-top_kept : (old new : List (Node Item)) → ((d : Bool) (i j : ℕ) → link_of (links_of old) d i ≡ Some j → link_of (links_of new) d i ≡ Some j)
+top_kept : (old new : List (Node Item))
+    → ((d : Bool) (i j : ℕ) → link_of (links_of old) d i ≡ Some j → link_of (links_of new) d i ≡ Some j)
     → (spine : List ℕ) (cursor : Option ℕ) → IsTopPlace old spine cursor → IsTopPlace new spine cursor
 top_kept old new h [] None t = t
 top_kept old new h [] (Some c) t = top_stays old new h c t
 top_kept old new h (a ∷ spine) cursor t = top_stays old new h a t
 
 -- an item is written where it covers what the one there covered, and the open blocks may have changed with it
-pub written : (s : State) (number : ℕ) (x : Item) (blocks : List OpenBlock) → Stands s → 0 < number → number < length s.tree.nodes
+pub written : (s : State) (number : ℕ) (x : Item) (blocks : List OpenBlock) → Stands s → 0 < number
+    → number < length s.tree.nodes
     → ItemFits s.text s.counts x → MayReplace (item_at s.tree.nodes number) x
     → ((p : ℕ) → is_inside p (range_of (item_at s.tree.nodes number)) ≡ true → is_inside p (range_of x) ≡ true)
     → AreOpen (with_item s.tree number x).nodes s.tree.spine blocks → OnlyLastIsLeaf blocks s.leaf
-    → AreCovered s.text s.tree.nodes s.definitions (covered_to blocks s.at) → AllByRecursion (λ b. b.start ≤ s.at) blocks
+    → AreCovered s.text s.tree.nodes s.definitions (covered_to blocks s.at)
+    → AllByRecursion (λ b. b.start ≤ s.at) blocks
     → Stands (record s { tree = with_item s.tree number x; blocks = blocks })
 written s number x blocks h positive low fits m stays opens leaves covered begun =
     let old = s.tree.nodes in
@@ -72,7 +81,8 @@ written s number x blocks h positive low fits m stays opens leaves covered begun
       nodes = write_keeps s.text s.counts old new number x h.nodes w positive fits m;
       low = omega (arith, h.low, w.size);
       free = w.all_links (place_down s.tree.cursor) (place_at s.tree.spine s.tree.cursor) ∙ h.free;
-      fits = λ y q l. still_fits old new number (place_at s.tree.spine s.tree.cursor) x y (place_down s.tree.cursor) w m (h.fits y q l);
+      fits = λ y q l. still_fits old new number (place_at s.tree.spine s.tree.cursor) x y (place_down s.tree.cursor) w m
+          (h.fits y q l);
       are_open = opens;
       leaves = leaves;
       behind = h.behind;
@@ -93,19 +103,24 @@ written s number x blocks h positive low fits m stays opens leaves covered begun
     }
 
 -- where no character of a run is written, the run in focus stays
-last_written : (text : List ℕ) (old new : List (Node Item)) (number : ℕ) (x : Item) (cursor run : Option ℕ) → Writes old new number x
+last_written : (text : List ℕ) (old new : List (Node Item)) (number : ℕ) (x : Item) (cursor run : Option ℕ)
+    → Writes old new number x
     → run_character x.body ≡ None → LastRun text old cursor run → LastRun text new cursor run
 last_written text old new number x None run w none l = tt
 last_written text old new number x (Some c) run w none l = ⊎_elim
     (λ (q : c ≡ number). let e : item_at new c ≡ x = ap (λ (n : ℕ). item_at new n) q ∙ w.new_item in
-    let none_here : run_character (item_at new c).body ≡ None = ap (λ (y : Item). run_character y.body) e ∙ none in rw none_here tt)
-    (λ (q : c ≡ number → ⊥). subst (λ (y : Item). IfSome (run_character y.body) (λ r. run ≡ Some (byte_of text y))) (sym (w.old_items c q))
+    let none_here : run_character (item_at new c).body ≡ None = ap (λ (y : Item). run_character y.body) e
+    ∙ none in rw none_here tt)
+    (λ (q : c ≡ number → ⊥). subst (λ (y : Item). IfSome (run_character y.body) (λ r. run ≡ Some (byte_of text y)))
+    (sym (w.old_items c q))
     l)
     (same_or_not c number)
 
 -- a block is written in the place of a block
-pub block_written : (s : State) (number : ℕ) (x : Item) (blocks : List OpenBlock) → IsSound s → number < length s.tree.nodes
-    → is_inline (item_at s.tree.nodes number).body ≡ false → is_inline x.body ≡ false → is_tight_paragraph x.body ≡ false
+pub block_written : (s : State) (number : ℕ) (x : Item) (blocks : List OpenBlock) → IsSound s
+    → number < length s.tree.nodes
+    → is_inline (item_at s.tree.nodes number).body ≡ false → is_inline x.body ≡ false → is_tight_paragraph x.body
+    ≡ false
     → Stands (record s { tree = with_item s.tree number x; blocks = blocks })
     → IsSound (record s { tree = with_item s.tree number x; blocks = blocks })
 block_written s number x blocks k low was now loose h =
@@ -116,7 +131,8 @@ block_written s number x blocks k low was now loose h =
     record {
       utf8 = k.utf8;
       stands = h;
-      runs = runs_written s.text old new number x k.stands.nodes.rising w (block_no_run (item_at old number).body was) none k.runs;
+      runs = runs_written s.text old new number x k.stands.nodes.rising w (block_no_run (item_at old number).body was)
+          none k.runs;
       last_run = last_written s.text old new number x s.tree.cursor s.run w none k.last_run;
       loose = none_tight_written old new number x w k.loose loose;
     }
@@ -148,7 +164,8 @@ not_root text counts nodes number k p = ⊎_elim (λ (h : 0 < number). h)
     (cases_lt 0 number)
 
 -- a paragraph is made tight
-made_tight : (s : State) (number : ℕ) → StandsClosed s → number < length s.tree.nodes → is_paragraph (item_at s.tree.nodes number).body
+made_tight : (s : State) (number : ℕ) → StandsClosed s → number < length s.tree.nodes
+    → is_paragraph (item_at s.tree.nodes number).body
     ≡ true
     → StandsClosed (record s { tree = with_item s.tree number (tight (item_at s.tree.nodes number)) })
 made_tight s number k low passes =
@@ -168,20 +185,25 @@ made_tight s number k low passes =
       parts_are_named = record { text = tt; alignments = tt; attributes = tt };
       blocks_are_settled = settled_alone body.TightParagraph refl;
     } in
-    let m : MayReplace item x = block_replaces item x was refl (rw p refl) (rw p refl) (λ t e. cc (e)) (λ t e. cc (e)) in
+    let m : MayReplace item x = block_replaces item x was refl (rw p refl) (rw p refl) (λ t e. cc (e)) (λ t e. cc (e))
+    in
     let opens : AreOpen new s.tree.spine s.blocks =
     subst (λ (b : List OpenBlock). AreOpen new s.tree.spine b) (sym k.closed)
-    (none_open old new s.tree.spine (subst (λ (b : List OpenBlock). AreOpen old s.tree.spine b) k.closed k.stands.are_open)) in
+    (none_open old new s.tree.spine
+    (subst (λ (b : List OpenBlock). AreOpen old s.tree.spine b) k.closed k.stands.are_open)) in
     record {
       closed = k.closed;
-      stands = written s number x s.blocks k.stands positive low fits m (λ p i. i) opens k.stands.leaves k.stands.covered k.stands.begun;
+      stands = written s number x s.blocks k.stands positive low fits m (λ p i. i) opens k.stands.leaves
+          k.stands.covered k.stands.begun;
       runs = runs_written s.text old new number x k.stands.nodes.rising w (block_no_run item.body was) refl k.runs;
     }
 
 -- some paragraphs are made tight
-pub tightens_keeps : (s : State) (tree : Arena Item) → StandsClosed s → Tightens s.tree tree → StandsClosed (record s { tree = tree })
+pub tightens_keeps : (s : State) (tree : Arena Item) → StandsClosed s → Tightens s.tree tree
+    → StandsClosed (record s { tree = tree })
 tightens_keeps s tree k none_tight = k
-tightens_keeps s tree k (one_tight t number before low p) = made_tight (record s { tree = t }) number (tightens_keeps s t k before) low p
+tightens_keeps s tree k (one_tight t number before low p) = made_tight (record s { tree = t }) number
+    (tightens_keeps s t k before) low p
 
 -- ---- another open block in the place of the innermost
 
@@ -200,12 +222,13 @@ leaves_changed (b ∷ []) block other leaf e h = (h.0, e)
 leaves_changed (b ∷ c ∷ blocks) block other leaf e h = (h.0, leaves_changed (c ∷ blocks) block other leaf e h.1)
 
 -- the innermost open block, as it stands
-pub record StandsInnermost (s : State) (n : ℕ) (block : OpenBlock) (spine : List ℕ) (blocks : List OpenBlock) : Type 0 where
-  pub innermost : IsInnermost s.tree.nodes n block spine blocks
-  pub fits : ItemFits s.text s.counts (open_item block)
-  pub leaves : OnlyLastIsLeaf (blocks ++ block ∷ []) s.leaf
-  pub begun : AllByRecursion (λ c. c.start ≤ s.at) (blocks ++ block ∷ [])
-  pub covered : AreCovered s.text s.tree.nodes s.definitions (covered_to (blocks ++ block ∷ []) s.at)
+pub record StandsInnermost (s : State) (n : ℕ) (block : OpenBlock) (spine : List ℕ) (blocks : List OpenBlock) : Type 0
+  where
+    pub innermost : IsInnermost s.tree.nodes n block spine blocks
+    pub fits : ItemFits s.text s.counts (open_item block)
+    pub leaves : OnlyLastIsLeaf (blocks ++ block ∷ []) s.leaf
+    pub begun : AllByRecursion (λ c. c.start ≤ s.at) (blocks ++ block ∷ [])
+    pub covered : AreCovered s.text s.tree.nodes s.definitions (covered_to (blocks ++ block ∷ []) s.at)
 
 pub innermost_stands : (s : State) (spine : List ℕ) (blocks : List OpenBlock) (n : ℕ) (block : OpenBlock) → IsSound s
     → s.blocks ≡ blocks ++ block ∷ []
@@ -213,21 +236,25 @@ pub innermost_stands : (s : State) (spine : List ℕ) (blocks : List OpenBlock) 
 innermost_stands s spine blocks n block k whole split =
     let old = s.tree.nodes in
     let both : AreOpen old (spine ++ n ∷ []) (blocks ++ block ∷ []) =
-    subst (λ (y : List ℕ). AreOpen old y (blocks ++ block ∷ [])) split (subst (λ (y : List OpenBlock). AreOpen old s.tree.spine y) whole
+    subst (λ (y : List ℕ). AreOpen old y (blocks ++ block ∷ [])) split
+    (subst (λ (y : List OpenBlock). AreOpen old s.tree.spine y) whole
     k.stands.are_open) in
     let o : IsInnermost old n block spine blocks = open_unsnoc old n block spine blocks both in
     record {
       innermost = o;
-      fits = subst (λ (y : Item). ItemFits s.text s.counts y) o.here.item (k.stands.nodes.items n o.here.positive o.here.low);
+      fits = subst (λ (y : Item). ItemFits s.text s.counts y) o.here.item
+          (k.stands.nodes.items n o.here.positive o.here.low);
       leaves = subst (λ (y : List OpenBlock). OnlyLastIsLeaf y s.leaf) whole k.stands.leaves;
       begun = subst (λ (y : List OpenBlock). AllByRecursion (λ c. c.start ≤ s.at) y) whole k.stands.begun;
-      covered = subst (λ (y : List OpenBlock). AreCovered s.text old s.definitions (covered_to y s.at)) whole k.stands.covered;
+      covered = subst (λ (y : List OpenBlock). AreCovered s.text old s.definitions (covered_to y s.at)) whole
+          k.stands.covered;
     }
 
 -- another block is open in its place: of the same kind, and all before it is covered
 pub replaced : (s : State) (spine : List ℕ) (blocks : List OpenBlock) (n : ℕ) (block other : OpenBlock) → IsSound s
     → s.tree.spine ≡ spine ++ n ∷ []
-    → StandsInnermost s n block spine blocks → ItemFits s.text s.counts (open_item other) → MayReplace (open_item block) (open_item other)
+    → StandsInnermost s n block spine blocks → ItemFits s.text s.counts (open_item other)
+    → MayReplace (open_item block) (open_item other)
     → is_tight_paragraph other.body ≡ false → other.start ≤ s.at
     → AreCovered s.text s.tree.nodes s.definitions (covered_to (blocks ++ other ∷ []) s.at)
     → IsSound (record s { tree = with_item s.tree n (open_item other); blocks = blocks ++ other ∷ [] })
@@ -241,8 +268,10 @@ replaced s spine blocks n block other k split o fits may loose begun covered =
     let was : is_inline (item_at old n).body ≡ false = ap (λ (y : Item). is_inline y.body) h.item ∙ inline in
     let m : MayReplace (item_at old n) x = rw h.item may in
     let others : AreOpen new spine blocks =
-    open_written (λ t. t < n) old new n x w (λ t c l q z. absurd (omega (arith, z, l))) spine blocks o.innermost.above o.innermost.others in
-    let opens : AreOpen new (spine ++ n ∷ []) (blocks ++ other ∷ []) = open_snoc new n other spine blocks others o.innermost.above (record {
+    open_written (λ t. t < n) old new n x w (λ t c l q z. absurd (omega (arith, z, l))) spine blocks o.innermost.above
+    o.innermost.others in
+    let opens : AreOpen new (spine ++ n ∷ []) (blocks ++ other ∷ []) = open_snoc new n other spine blocks others
+    o.innermost.above (record {
       positive = h.positive;
       low = omega (arith, h.low, w.size);
       last = w.all_links false n ∙ h.last;
@@ -257,7 +286,8 @@ replaced s spine blocks n block other k split o fits may loose begun covered =
     (All-snoc (λ c. c.start ≤ s.at) blocks other (All-front (λ c. c.start ≤ s.at) blocks block o.begun) begun))
 
 -- as much is covered where it begins there too
-covered_changed : (text : List ℕ) (nodes : List (Node Item)) (definitions : List (CowStr × LinkDef)) (blocks : List OpenBlock)
+covered_changed : (text : List ℕ) (nodes : List (Node Item)) (definitions : List (CowStr × LinkDef))
+    (blocks : List OpenBlock)
     (block : OpenBlock) (b : ItemBody) (at : ℕ)
     → AreCovered text nodes definitions (covered_to (blocks ++ block ∷ []) at)
     → AreCovered text nodes definitions (covered_to (blocks ++ record block { body = b } ∷ []) at)
@@ -265,7 +295,8 @@ covered_changed text nodes definitions [] block b at c = c
 covered_changed text nodes definitions (x ∷ blocks) block b at c = c
 
 -- and where it begins behind white space
-covered_later : (text : List ℕ) (nodes : List (Node Item)) (definitions : List (CowStr × LinkDef)) (blocks : List OpenBlock)
+covered_later : (text : List ℕ) (nodes : List (Node Item)) (definitions : List (CowStr × LinkDef))
+    (blocks : List OpenBlock)
     (block : OpenBlock) (start at : ℕ)
     → AreCovered text nodes definitions (covered_to (blocks ++ block ∷ []) at) → IsWhite text block.start start
     → AreCovered text nodes definitions (covered_to (blocks ++ record block { start = start } ∷ []) at)
@@ -273,7 +304,8 @@ covered_later text nodes definitions [] block start at c w = covered_white text 
 covered_later text nodes definitions (x ∷ blocks) block start at c w = c
 
 -- the innermost open block gets another body of the same kind
-pub changed : (s : State) (spine : List ℕ) (blocks : List OpenBlock) (n : ℕ) (block : OpenBlock) (b : ItemBody) → IsSound s
+pub changed : (s : State) (spine : List ℕ) (blocks : List OpenBlock) (n : ℕ) (block : OpenBlock) (b : ItemBody)
+    → IsSound s
     → s.blocks ≡ blocks ++ block ∷ []
     → s.tree.spine ≡ spine ++ n ∷ [] → is_leaf b ≡ s.leaf → MayBePlaced s.counts s.counts b → text_named b ≡ None
     → alignments_named b ≡ None
@@ -289,16 +321,19 @@ changed s spine blocks n block b k whole split leaf placed no_text no_alignments
     let inline : is_inline b ≡ false = parent_not_inline b parent in
     let same_leaf : is_leaf b ≡ is_leaf block.body = leaf ∙ leaf_last blocks block s.leaf o.leaves in
     replaced s spine blocks n block other k split o
-    (placed_fits s.text s.counts s.counts block.start block.start b placed (block_markup b (source_of s.text (open_item other)) inline)
+    (placed_fits s.text s.counts s.counts block.start block.start b placed
+    (block_markup b (source_of s.text (open_item other)) inline)
     (record { ordered = omega arith; start = o.fits.ranges_lie_in.start; end = o.fits.ranges_lie_in.start }))
-    (block_replaces (open_item block) (open_item other) (parent_not_inline block.body o.innermost.here.parent) inline same_leaf (parent
+    (block_replaces (open_item block) (open_item other) (parent_not_inline block.body o.innermost.here.parent) inline
+    same_leaf (parent
     ∙ sym o.innermost.here.parent)
     (λ t e. cc (no_text, e)) (λ t e. cc (no_alignments, e))) placed.loose
     (All-last (λ c. c.start ≤ s.at) blocks block o.begun)
     (covered_changed s.text s.tree.nodes s.definitions blocks block b s.at o.covered)
 
 -- the innermost open block begins later, behind white space
-pub begun_later : (s : State) (spine : List ℕ) (blocks : List OpenBlock) (n : ℕ) (block : OpenBlock) (start : ℕ) → IsSound s
+pub begun_later : (s : State) (spine : List ℕ) (blocks : List OpenBlock) (n : ℕ) (block : OpenBlock) (start : ℕ)
+    → IsSound s
     → s.blocks ≡ blocks ++ block ∷ []
     → s.tree.spine ≡ spine ++ n ∷ [] → start ≤ s.at → IsCharBoundary s.text start → IsWhite s.text block.start start
     → IsSound (record s {

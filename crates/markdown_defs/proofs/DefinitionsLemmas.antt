@@ -1,5 +1,6 @@
 -- Laws of the definitions that can be found: they give the same look-ups as all definitions, and no key finds two.
-use Rattle.std.proofs.Common.{◌≡◌, ℕ, List, [], ◌∷◌, ◌++◌, true, false, cond, Some, get_or, sym, ◌∙◌, ap, arith, is_some, inl, inr}
+use Rattle.std.proofs.Common.{◌≡◌, ℕ, List, [], ◌∷◌, ◌++◌, true, false, cond, Some, get_or, sym, ◌∙◌, ap, arith}
+use Rattle.std.proofs.Common.{is_some, inl, inr}
 use Rattle.std.proofs.Common.{append_assoc}
 use Rattle.std.specs.Option.{option_map}
 use Rattle.std.specs.List.{fold, AllPairs}
@@ -17,7 +18,8 @@ use Rattle.markdown_defs.proofs.PlaceLemmas.{find_in_both, none_at}
 first_after : (folded : List ℕ) (d : Labelled) (ds kept : List Labelled) → first_at folded (add_first kept d ++ ds)
     ≡ first_at folded (kept ++ d ∷ ds)
 first_after folded d ds kept =
-    elim (cases_Bool (is_some (first_at (case_folding (text_of d.0)) kept))) as (λ _. first_at folded (add_first kept d ++ ds)
+    elim (cases_Bool (is_some (first_at (case_folding (text_of d.0)) kept))) as
+    (λ _. first_at folded (add_first kept d ++ ds)
     ≡ first_at folded (kept ++ d ∷ ds)) [
       | inl there ↦
           rw (there, find_in_both (has_folding folded) kept ds, find_in_both (has_folding folded) kept (d ∷ ds)) (
@@ -25,7 +27,8 @@ first_after folded d ds kept =
           (first_at folded ds) ≡ cond (is_some (first_at folded kept)) (first_at folded kept)
           (cond (has_folding folded d) (Some d) (first_at folded ds))) [
             | inl hit ↦
-                let same : case_folding (text_of d.0) ≡ folded = sym ((bytes_eq-Decides folded (case_folding (text_of d.0))).0 hit) in
+                let same : case_folding (text_of d.0)
+                ≡ folded = sym ((bytes_eq-Decides folded (case_folding (text_of d.0))).0 hit) in
                 let found : is_some (first_at folded kept) ≡ true = rw same at there in
                 rw found
             | inr miss ↦ rw miss
@@ -33,9 +36,11 @@ first_after folded d ds kept =
       | inr absent ↦ rw (absent, append_assoc)
     ]
 
-first_of_firsts_from : (folded : List ℕ) (ds kept : List Labelled) → first_at folded (fold add_first kept ds) ≡ first_at folded (kept ++ ds)
+first_of_firsts_from : (folded : List ℕ) (ds kept : List Labelled) → first_at folded (fold add_first kept ds)
+    ≡ first_at folded (kept ++ ds)
 first_of_firsts_from folded [] kept = ap (first_at folded) (sym (append-nil kept))
-first_of_firsts_from folded (d ∷ ds) kept = first_of_firsts_from folded ds (add_first kept d) ∙ first_after folded d ds kept
+first_of_firsts_from folded (d ∷ ds) kept = first_of_firsts_from folded ds (add_first kept d)
+    ∙ first_after folded d ds kept
 
 -- the first with a folding, among the definitions that can be found and among all
 first_of_firsts : (folded : List ℕ) (ds : List Labelled) → first_at folded (firsts ds) ≡ first_at folded ds
@@ -48,12 +53,14 @@ look_up_firsts key ds = ap (option_map (λ d. d.1)) (first_of_firsts (case_foldi
 
 distinct_add : (kept : List Labelled) (d : Labelled) → AreDistinct kept → AreDistinct (add_first kept d)
 distinct_add kept d h =
-    elim (cases_Bool (is_some (first_at (case_folding (text_of d.0)) kept))) as (λ _. AllPairs HasOtherFolding (add_first kept d)) [
+    elim (cases_Bool (is_some (first_at (case_folding (text_of d.0)) kept))) as
+    (λ _. AllPairs HasOtherFolding (add_first kept d)) [
       | inl there ↦ rw there h
       | inr absent ↦ rw absent (all_pairs_push HasOtherFolding kept d h (λ k x lt same.
           let other : has_folding (case_folding (text_of d.0)) (get_or kept k x)
           ≡ false = none_at (has_folding (case_folding (text_of d.0))) kept absent k x lt in
-          let equal : has_folding (case_folding (text_of d.0)) (get_or kept k x) ≡ true = (bytes_eq-Decides _ _).1 (sym same) in
+          let equal : has_folding (case_folding (text_of d.0)) (get_or kept k x)
+          ≡ true = (bytes_eq-Decides _ _).1 (sym same) in
           let clash : true ≡ false = sym equal ∙ other in cc))
     ]
 

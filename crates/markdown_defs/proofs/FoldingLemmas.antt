@@ -12,6 +12,7 @@ encoded_eq a b =
       | inl same ↦ (bytes_eq-Decides _ _).1 (ap encode_utf8_all ((bytes_eq-Decides a b).0 same)) ∙ sym same
       | inr other ↦
           false_from_ne_true _ (λ t.
-          let clash : true ≡ false = sym ((bytes_eq-Decides a b).1 (encodes_same a b ((bytes_eq-Decides _ _).0 t))) ∙ other in
+          let clash : true ≡ false = sym ((bytes_eq-Decides a b).1 (encodes_same a b ((bytes_eq-Decides _ _).0 t)))
+          ∙ other in
           cc) ∙ sym other
     ]

@@ -1,5 +1,6 @@
 -- Where the bytes that begin items end: between characters.
-use Rattle.std.proofs.Common.{◌≡◌, ◌≢◌, ℕ, zero, suc, ◌+◌, ◌-◌, ◌<◌, ◌≤◌, List, true, false, Option, Some, length, get_or}
+use Rattle.std.proofs.Common.{◌≡◌, ◌≢◌, ℕ, zero, suc, ◌+◌, ◌-◌, ◌<◌, ◌≤◌, List, true, false, Option, Some, length}
+use Rattle.std.proofs.Common.{get_or}
 use Rattle.std.proofs.Common.{sym, ap, subst, ◌∙◌, arith, slice_range, slice_index}
 use Rattle.std.proofs.lemmas.Bool.Decides.{nat_tests}
 use Rattle.std.proofs.lemmas.List.Sums.{prefix_len_is}
@@ -56,7 +57,8 @@ past_entity text at end count u more within between le =
     let some = entity_some _ count between in
     let last : get_or text (at + (count - 1)) 0 ≡ 59 =
     sym (byte_of_part text at end (count - 1) (omega (arith, some, le))) ∙ between.1 in
-    let cut = IsCharBoundary-after_ascii text (at + (count - 1)) u (omega (arith, some, le, more, within)) (omega (arith, last)) in
+    let cut = IsCharBoundary-after_ascii text (at + (count - 1)) u (omega (arith, some, le, more, within))
+    (omega (arith, last)) in
     let n : (at + (count - 1)) + 1 ≡ at + count = omega (arith, some) in
     (some, rw n at cut)
 
@@ -94,7 +96,8 @@ run_end_is text at end stop le whole =
     let part = slice_range text at end in
     let size = part_length text at end le in
     let first : (k : ℕ) → k < stop - at → (get_or part k 0 == get_or text at 0) ≡ true = λ k h.
-    same_eq _ _ (byte_of_part text at end k (omega (arith, h, within)) ∙ run.same (at + k) (omega arith) (omega (arith, h))) in
+    same_eq _ _ (byte_of_part text at end k (omega (arith, h, within))
+    ∙ run.same (at + k) (omega arith) (omega (arith, h))) in
     let n : at + (stop - at) ≡ stop = omega (arith, more) in
     let same : stop < end → get_or part (stop - at) 0 ≡ get_or text stop 0 = λ h.
     byte_of_part text at end (stop - at) (omega (arith, h, more)) ∙ ap (λ k. get_or text k 0) n in

@@ -1,5 +1,6 @@
 -- Bytes that are tested together.
-use Rattle.std.proofs.Common.{◌≡◌, ℕ, ◌+◌, ◌-◌, ◌<◌, ◌≤◌, List, [], ◌∷◌, Bool, true, false, length, get_or, refl, sym, ap, ◌∙◌}
+use Rattle.std.proofs.Common.{◌≡◌, ℕ, ◌+◌, ◌-◌, ◌<◌, ◌≤◌, List, [], ◌∷◌, Bool, true, false, length, get_or, refl, sym}
+use Rattle.std.proofs.Common.{ap, ◌∙◌}
 use Rattle.std.proofs.Common.{arith, slice_range, slice_index, ⊎_elim, inl, inr}
 use Rattle.std.proofs.lemmas.Bool.{cases_lt}
 use Rattle.std.proofs.lemmas.Bool.Decides.{eqb_tells}
@@ -58,12 +59,14 @@ pub first_special_in : (bytes : List ℕ) (from end start stop before found : �
     → stop ≤ length bytes → start ≤ end
     → ((at : ℕ) → from ≤ at → at < start → is_special (slice_index bytes at) ≡ false)
     → IsFirstSpecial (slice_range bytes start stop) 0 (length (slice_range bytes start stop)) before
-    → (start + before < end → before < stop - start) → found ≡ min end (start + before) → IsFirstSpecial bytes from end found
+    → (start + before < end → before < stop - start) → found ≡ min end (start + before)
+    → IsFirstSpecial bytes from end found
 first_special_in bytes from end start stop before found begun order within ahead earlier first inside is =
     record {
       low = omega (arith, begun, ahead, is);
       high = omega (arith, is);
-      plain = λ at low high. plain_through bytes from start stop before order within earlier first at low (omega (arith, is, high));
+      plain = λ at low high. plain_through bytes from start stop before order within earlier first at low
+          (omega (arith, is, high));
       stops = λ (h : found < end).
           let place : found ≡ start + before = omega (arith, is, h) in
           let inner : before < stop - start = inside (omega (arith, place, h)) in

@@ -12,7 +12,8 @@ pub level_some : (count : ℕ) (level : HeadingLevel) → level_of count ≡ Som
 level_some zero level h = cc
 level_some (suc n) level h = omega arith
 
-pub heading_is : (text : List ℕ) (at stop : ℕ) (line rest inner : List ℕ) (count white size from to : ℕ) (level : HeadingLevel)
+pub heading_is : (text : List ℕ) (at stop : ℕ) (line rest inner : List ℕ) (count white size from to : ℕ)
+    (level : HeadingLevel)
     → line ≡ slice_range text at stop → rest ≡ drop count line → inner ≡ drop white rest
     → count ≡ prefix_len is_hash line → level_of count ≡ Some level → is_parted rest ≡ true
     → white ≡ prefix_len is_space_or_tab rest → size ≡ length (heading_content inner) → from ≡ at + count + white

@@ -1,5 +1,6 @@
 -- Laws of runs of bytes: one byte more, and where a text may be cut.
-use Rattle.std.proofs.Common.{◌≡◌, ◌≢◌, ℕ, ◌+◌, ◌-◌, ◌<◌, ◌≤◌, List, [], ◌∷◌, Bool, true, false, length, get_or, refl, sym, ap, ◌∙◌}
+use Rattle.std.proofs.Common.{◌≡◌, ◌≢◌, ℕ, ◌+◌, ◌-◌, ◌<◌, ◌≤◌, List, [], ◌∷◌, Bool, true, false, length, get_or, refl}
+use Rattle.std.proofs.Common.{sym, ap, ◌∙◌}
 use Rattle.std.proofs.Common.{arith, slice_index, slice_range, ⊎_elim}
 use Rattle.std.proofs.lemmas.Bool.{cases_eq, cases_lt}
 use Rattle.std.proofs.lemmas.Bool.Decides.{nat_tests}
@@ -61,7 +62,8 @@ pub none_ends : (bytes : List ℕ) → list_all is_behind_endings bytes ≡ true
 none_ends [] h = refl
 none_ends (byte ∷ bytes) h =
     let both = both_pass (is_behind_endings byte) (list_all is_behind_endings bytes) h in
-    none_of_two (is_line_ending byte) (list_any is_line_ending bytes) (behind_is_none byte both.0) (none_ends bytes both.1)
+    none_of_two (is_line_ending byte) (list_any is_line_ending bytes) (behind_is_none byte both.0)
+    (none_ends bytes both.1)
 
 -- where no byte ends the line up to a part, and none of the first bytes of the part does, none does up to there
 pub content_through : (bytes : List ℕ) (from start stop before : ℕ) → start ≤ stop → stop ≤ length bytes

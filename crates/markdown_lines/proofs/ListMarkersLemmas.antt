@@ -1,5 +1,6 @@
 -- Numbers of list markers, digit by digit.
-use Rattle.std.proofs.Common.{◌≡◌, ℕ, zero, suc, ◌+◌, ◌-◌, ◌*◌, ◌<◌, ◌≤◌, ◌^◌, min, List, [], ◌∷◌, Bool, true, false, Some, length, take}
+use Rattle.std.proofs.Common.{◌≡◌, ℕ, zero, suc, ◌+◌, ◌-◌, ◌*◌, ◌<◌, ◌≤◌, ◌^◌, min, List, [], ◌∷◌, Bool, true, false}
+use Rattle.std.proofs.Common.{Some, length, take}
 use Rattle.std.proofs.Common.{drop, get_or, refl, subst, arith, cond}
 use Rattle.std.proofs.lemmas.Bool.Decides.{nat_tests}
 use Rattle.std.proofs.lemmas.Grind.{common_steps, pow_more}
@@ -38,7 +39,8 @@ pub number_more : (digits : List ℕ) (i number product digit next : ℕ) → i 
     → next ≡ min (product + digit) 18446744073709551615
     → (next ≡ decimal (take (i + 1) digits)) × (next < 10 ^ (i + 1))
 number_more digits i number product digit next more few all value below p d n =
-    let less : digit < 10 = omega (arith, d, digit_below (get_or digits i 0) (AllPass-from_list_all is_ascii_digit digits all i 0 more)) in
+    let less : digit < 10 = omega
+    (arith, d, digit_below (get_or digits i 0) (AllPass-from_list_all is_ascii_digit digits all i 0 more)) in
     let bound = tens i (omega (arith, more, few)) in
     let step = decimal_more digits i more in
     let power = pow_more 10 i in

@@ -1,10 +1,12 @@
 -- Steps over the white space of a line, from a place in its middle on.
-use Rattle.std.proofs.Common.{◌≡◌, ℕ, zero, suc, ◌+◌, ◌-◌, ◌<◌, List, ◌∷◌, true, false, ◌==◌, length, get_or, take, drop, drop-cons}
+use Rattle.std.proofs.Common.{◌≡◌, ℕ, zero, suc, ◌+◌, ◌-◌, ◌<◌, List, ◌∷◌, true, false, ◌==◌, length, get_or, take}
+use Rattle.std.proofs.Common.{drop, drop-cons}
 use Rattle.std.proofs.Common.{slice_range, length-drop, refl, sym, ◌∙◌, ap, arith}
 use Rattle.std.proofs.lemmas.Bool.Decides.{nat_tests}
 use Rattle.std.proofs.lemmas.List.{length-take}
 use Rattle.markdown_base.proofs.ByteListLemmas.{neither, byte_of_part}
-use Rattle.markdown_scan.specs.LineStart.{LineLeft, space_width, column_after, leading_space, space_from, wider, no_space}
+use Rattle.markdown_scan.specs.LineStart.{LineLeft, space_width, column_after, leading_space, space_from, wider}
+use Rattle.markdown_scan.specs.LineStart.{no_space}
 use Rattle.markdown_scan.specs.LineStart as scan
 use Rattle.markdown_scan.specs.LineSteps.{width_next, past_white}
 use Rattle.markdown_scan.proofs.LineStartLemmas.{eq_test_false, space_zero, space_unowed}
@@ -109,7 +111,8 @@ quiet text stop n byte place before within is other none =
     ∙ (space_unowed n place.at place.column (slice_range text place.at stop)
     ∙ (ap (space_from n place.at place.column) cut
     ∙ (none_from n place.at place.column byte (slice_range text (place.at + 1) stop) (no_width place.column byte other)
-    ∙ (ap (λ (bytes : List ℕ). no_space (record { scanned = place.at; owed = 0; column = place.column; bytes = bytes })) (sym cut)
+    ∙ (ap (λ (bytes : List ℕ). no_space (record { scanned = place.at; owed = 0; column = place.column; bytes = bytes }))
+    (sym cut)
     ∙ ap no_space (sym started)))))
 
 -- what was read is all, where nothing more is

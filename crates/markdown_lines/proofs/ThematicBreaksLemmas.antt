@@ -1,9 +1,11 @@
 -- A thematic break, by what was counted in a line's content.
-use Rattle.std.proofs.Common.{◌≡◌, ℕ, ◌<◌, ◌≤◌, List, [], ◌∷◌, Bool, true, false, Some, None, length, drop, refl, sym, subst, ◌&&◌, arith}
+use Rattle.std.proofs.Common.{◌≡◌, ℕ, ◌<◌, ◌≤◌, List, [], ◌∷◌, Bool, true, false, Some, None, length, drop, refl, sym}
+use Rattle.std.proofs.Common.{subst, ◌&&◌, arith}
 use Rattle.std.proofs.lemmas.Bool.Decides.{nat_tests}
 use Rattle.std.specs.Prelude.{◌==◌, nat_le, nat_lt, if◌then◌else◌}
 use Rattle.std.specs.List.{count_by, list_all, prefix_len, slice_get}
-use Rattle.markdown_lines.specs.ThematicBreaks.{is_break_mark, is_of_break, is_thematic_break, IsBrokenOff, underline_level, setext_level}
+use Rattle.markdown_lines.specs.ThematicBreaks.{is_break_mark, is_of_break, is_thematic_break, IsBrokenOff}
+use Rattle.markdown_lines.specs.ThematicBreaks.{underline_level, setext_level}
 use Rattle.markdown_lines.specs.Lines.{is_space_or_tab}
 
 three : (a b c : Bool) → a ≡ true → b ≡ true → c ≡ true → (a && b && c) ≡ true

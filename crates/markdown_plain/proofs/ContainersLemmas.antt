@@ -1,6 +1,8 @@
 -- How containers continue, by places in a text and by the rest of the line there.
-use Rattle.std.proofs.Common.{◌≡◌, ℕ, ◌+◌, ◌-◌, ◌<◌, ◌≤◌, ◌%◌, List, Some, true, ◌==◌, length, take, drop, slice_range, codes, nat_lt}
-use Rattle.std.proofs.Common.{refl, sym, ◌∙◌, ap, arith, Bool, false, ◌&&◌, None, [], ◌∷◌, zero, suc, nat_le, get_or, drop-cons}
+use Rattle.std.proofs.Common.{◌≡◌, ℕ, ◌+◌, ◌-◌, ◌<◌, ◌≤◌, ◌%◌, List, Some, true, ◌==◌, length, take, drop, slice_range}
+use Rattle.std.proofs.Common.{codes, nat_lt}
+use Rattle.std.proofs.Common.{refl, sym, ◌∙◌, ap, arith, Bool, false, ◌&&◌, None, [], ◌∷◌, zero, suc, nat_le, get_or}
+use Rattle.std.proofs.Common.{drop-cons}
 use Rattle.std.proofs.lemmas.Bool.Decides.{nat_tests}
 use Rattle.std.proofs.lemmas.List.{drop_all, drop-drop, drop-take}
 use Rattle.markdown_scan.specs.Beginnings.{begins_with}
@@ -11,7 +13,8 @@ use Rattle.markdown_lines.specs.declared.space.Space.{Space}
 use Rattle.markdown_lines.specs.Places.{left_from, IsSpaceAt}
 use Rattle.markdown_builder.specs.declared.open_block.OpenBlock.{OpenBlock}
 use Rattle.markdown_plain.specs.NewContainers.{item_space, past_bytes}
-use Rattle.markdown_plain.specs.Containers.{Reach, is_container, is_innermost, marker_behind, past_container, reach_behind, reach_from}
+use Rattle.markdown_plain.specs.Containers.{Reach, is_container, is_innermost, marker_behind, past_container}
+use Rattle.markdown_plain.specs.Containers.{reach_behind, reach_from}
 
 -- a part of a text without its first bytes
 rest_of_part : (text : List ℕ) (at stop count : ℕ) → at + count ≤ stop
@@ -49,7 +52,8 @@ pub past_marker_is : (text read_in : List ℕ) (here after : Place) (stop : ℕ)
 past_marker_is text read_in here after stop read same past leading_space =
     ap (λ (t : List ℕ). left_from t read.behind stop) (sym same)
     ∙ (leading_space.behind
-    ∙ (ap (λ (t : List ℕ). (scan.leading_space 1 (left_from t after stop)).after) same ∙ ap (λ (l : LineLeft). (scan.leading_space 1 l).after) past))
+    ∙ (ap (λ (t : List ℕ). (scan.leading_space 1 (left_from t after stop)).after) same
+    ∙ ap (λ (l : LineLeft). (scan.leading_space 1 l).after) past))
 
 -- the rest after the space that follows a marker of a list
 pub past_item_is : (text read_in : List ℕ) (place behind inside : Place) (stop count : ℕ) → read_in ≡ text
@@ -63,14 +67,17 @@ past_item_is text read_in place behind inside stop count same past content =
     ∙ ap (λ (l : LineLeft). (item_space stop l).after) past))
 
 -- the rest after the marker of a block quote and the space that is a part of it
-pub marker_behind_is : (text : List ℕ) (before : scan.Space) (columns : ℕ) (place after : Place) (stop : ℕ) (read : Space)
+pub marker_behind_is : (text : List ℕ) (before : scan.Space) (columns : ℕ) (place after : Place) (stop : ℕ)
+    (read : Space)
     → columns ≡ before.columns → left_from text place stop ≡ before.after → columns < 4
-    → begins_with (codes ">") (slice_range text place.at stop) ≡ true → left_from text after stop ≡ past_one_byte (left_from text place stop)
+    → begins_with (codes ">") (slice_range text place.at stop) ≡ true → left_from text after stop
+    ≡ past_one_byte (left_from text place stop)
     → IsSpaceAt text after stop 1 read → marker_behind before ≡ Some (left_from text read.behind stop)
 marker_behind_is text before columns place after stop read c left few marker past leading_space =
     let test : nat_lt before.columns 4 ≡ true = grind (arith, nat_tests) in
     let begins = ap (λ (l : LineLeft). begins_with (codes ">") l.bytes) (sym left) ∙ marker in
-    let behind : past_marker before.after ≡ left_from text read.behind stop = ap (λ (l : LineLeft). past_marker l) (sym left) ∙ (ap (λ (l : LineLeft). (scan.leading_space 1 l).after) (sym past) ∙ sym leading_space.behind) in
+    let behind : past_marker before.after ≡ left_from text read.behind stop = ap (λ (l : LineLeft). past_marker l)
+    (sym left) ∙ (ap (λ (l : LineLeft). (scan.leading_space 1 l).after) (sym past) ∙ sym leading_space.behind) in
     rw (test, begins) (ap (λ (l : LineLeft). Some l) behind)
 
 -- open blocks from a number on are the block with it, and those inside that
@@ -126,12 +133,14 @@ container_ends old empty last stop block blocks reach container is none = rw (co
 
 pub next_ends : (old empty : Bool) (stop : ℕ) (blocks : List OpenBlock) (number : ℕ) (or : OpenBlock) (reach : Reach)
     → number < length blocks → is_container (get_or blocks number or).body ≡ true
-    → past_container old ((number + 1 == length blocks) && empty) (nat_le stop reach.content) (get_or blocks number or).body
+    → past_container old ((number + 1 == length blocks) && empty) (nat_le stop reach.content)
+    (get_or blocks number or).body
     reach.left ≡ None
     → reach_from old empty stop (drop number blocks) reach ≡ record reach { all = false }
 next_ends old empty stop blocks number or reach more container none =
     ap (λ (b : List OpenBlock). reach_from old empty stop b reach) (inside_of blocks number or more)
-    ∙ container_ends old empty (number + 1 == length blocks) stop (get_or blocks number or) (drop (number + 1) blocks) reach
+    ∙ container_ends old empty (number + 1 == length blocks) stop (get_or blocks number or) (drop (number + 1) blocks)
+    reach
     container (innermost_at blocks number more) none
 
 -- it continues
@@ -145,11 +154,13 @@ container_goes_on old empty last stop block blocks reach left container is some 
 
 pub next_goes_on : (old empty : Bool) (stop : ℕ) (blocks : List OpenBlock) (number : ℕ) (or : OpenBlock) (reach : Reach)
     (left : LineLeft) → number < length blocks → is_container (get_or blocks number or).body ≡ true
-    → past_container old ((number + 1 == length blocks) && empty) (nat_le stop reach.content) (get_or blocks number or).body
+    → past_container old ((number + 1 == length blocks) && empty) (nat_le stop reach.content)
+    (get_or blocks number or).body
     reach.left ≡ Some left
     → reach_from old empty stop (drop number blocks) reach
     ≡ reach_from old empty stop (drop (number + 1) blocks) (reach_behind (get_or blocks number or).body left reach)
 next_goes_on old empty stop blocks number or reach left more container some =
     ap (λ (b : List OpenBlock). reach_from old empty stop b reach) (inside_of blocks number or more)
-    ∙ container_goes_on old empty (number + 1 == length blocks) stop (get_or blocks number or) (drop (number + 1) blocks)
+    ∙ container_goes_on old empty (number + 1 == length blocks) stop (get_or blocks number or)
+    (drop (number + 1) blocks)
     reach left container (innermost_at blocks number more) some

@@ -1,11 +1,13 @@
 -- When a list becomes loose, as an item is added to it, or a block to its last item.
-use Rattle.std.proofs.Common.{◌≡◌, ℕ, zero, suc, List, [], ◌∷◌, ◌++◌, Bool, true, false, ◌&&◌, length, map, set, refl, sym, ap, ◌∙◌, arith}
+use Rattle.std.proofs.Common.{◌≡◌, ℕ, zero, suc, List, [], ◌∷◌, ◌++◌, Bool, true, false, ◌&&◌, length, map, set, refl}
+use Rattle.std.proofs.Common.{sym, ap, ◌∙◌, arith}
 use Rattle.std.specs.Prelude.{◌||◌, not}
 use Rattle.std.specs.List.{list_any}
 use Rattle.std.proofs.lemmas.List.{length-append, map_push}
 use Rattle.std.proofs.lemmas.List.Folds.{list_any-append}
 use Rattle.markdown_plain.specs.declared.looseness.Looseness.{Looseness}
-use Rattle.markdown_plain.specs.ListLooseness.{ItemRead, IsRead, are_separated, is_empty, is_loose, new_item, with_block}
+use Rattle.markdown_plain.specs.ListLooseness.{ItemRead, IsRead, are_separated, is_empty, is_loose, new_item}
+use Rattle.markdown_plain.specs.ListLooseness.{with_block}
 
 -- the last of some flags is written
 pub last_set : (outer : List Bool) (before now : Bool) (i : ℕ) → suc i ≡ length (outer ++ before ∷ [])
@@ -69,11 +71,19 @@ loose_with_block : (items : List ItemRead) (last : ItemRead) (blank : Bool)
     → is_loose (items ++ with_block last blank ∷ [])
     ≡ (is_loose (items ++ last ∷ []) || (not (is_empty last.blocks) && blank))
 loose_with_block items last blank =
-    let blanks : map (λ item. item.blank) (items ++ with_block last blank ∷ []) ≡ map (λ item. item.blank) (items ++ last ∷ []) =
+    let blanks : map (λ item. item.blank) (items ++ with_block last blank ∷ [])
+    ≡ map (λ item. item.blank) (items ++ last ∷ []) =
     map_push (λ item. item.blank) items (with_block last blank) ∙ sym (map_push (λ item. item.blank) items last) in
-    rw (blanks, blocks_separated items (with_block last blank), block_separated last.blocks blank, blocks_separated items last)
+    rw (
+      blanks,
+      blocks_separated items (with_block last blank),
+      block_separated last.blocks blank,
+      blocks_separated
+          items last,
+    )
     (one_of_four (are_separated (map (λ item. item.blank) (items ++ last ∷ [])))
-    (list_any (λ item. are_separated item.blocks) items) (are_separated last.blocks) (not (is_empty last.blocks) && blank))
+    (list_any (λ item. are_separated item.blocks) items) (are_separated last.blocks)
+    (not (is_empty last.blocks) && blank))
 
 -- with one more item, a list is loose where it was, or where a blank line precedes that item
 loose_with_item : (items : List ItemRead) (last : ItemRead) (blank : Bool)
@@ -98,18 +108,21 @@ pub item_added : (outer : List Bool) (items : List ItemRead) (last : ItemRead) (
     → (blank ≡ false → new.lists.items ≡ old.lists.items) → new.item_is_empty ≡ true
     → IsRead outer (items ++ last ∷ []) (new_item blank) new
 item_added outer items last old new true read parted together empty = record {
-  loose = parted refl ∙ ap (λ (b : Bool). outer ++ b ∷ []) (sym (loose_with_item items last true ∙ or_true (is_loose (items ++ last ∷ []))));
+  loose = parted refl ∙ ap (λ (b : Bool). outer ++ b ∷ [])
+      (sym (loose_with_item items last true ∙ or_true (is_loose (items ++ last ∷ []))));
   empty = empty;
 }
 item_added outer items last old new false read parted together empty = record {
   loose = together refl
       ∙ (read.loose
-      ∙ ap (λ (b : Bool). outer ++ b ∷ []) (sym (loose_with_item items last false ∙ or_false (is_loose (items ++ last ∷ [])))));
+      ∙ ap (λ (b : Bool). outer ++ b ∷ [])
+      (sym (loose_with_item items last false ∙ or_false (is_loose (items ++ last ∷ [])))));
   empty = empty;
 }
 
 -- a block was added, and the list is loose where a blank line separates it from another in its item
-pub block_added : (outer : List Bool) (items : List ItemRead) (last : ItemRead) (old new : Looseness) (blank parted : Bool)
+pub block_added : (outer : List Bool) (items : List ItemRead) (last : ItemRead) (old new : Looseness)
+    (blank parted : Bool)
     → IsRead outer items last old → parted ≡ (not (is_empty last.blocks) && blank)
     → (parted ≡ true → new.lists.items ≡ outer ++ true ∷ []) → (parted ≡ false → new.lists.items ≡ old.lists.items)
     → new.item_is_empty ≡ false → IsRead outer items (with_block last blank) new

@@ -14,7 +14,8 @@ use Rattle.markdown_plain.specs.declared.stretches.Taking.{Taking}
 use Rattle.markdown_plain.specs.declared.stretches.Taking.TheVariants as takes
 use Rattle.markdown_plain.specs.OpenBlocks.{outer_of}
 use Rattle.markdown_plain.specs.Containers.{Reach, is_container, past_container, past_indent, reach_behind, reach_from}
-use Rattle.markdown_plain.specs.Stretches.{IsOf, TakesNothing, are_alike, begins_stretch, deep_starts, few, is_same, next_of, starts, starts_behind, taken_by}
+use Rattle.markdown_plain.specs.Stretches.{IsOf, TakesNothing, are_alike, begins_stretch, deep_starts, few, is_same}
+use Rattle.markdown_plain.specs.Stretches.{next_of, starts, starts_behind, taken_by}
 use Rattle.markdown_plain.proofs.ContainersLemmas.{container_goes_on, inside_of}
 use Rattle.markdown_plain.proofs.OpenBlocksLemmas.{outer_of_these}
 
@@ -96,7 +97,8 @@ starts_inside old number (outside ∷ block ∷ inner ∷ blocks) =
     let alike = are_alike old outside.body block.body in
     let inside = starts_inside old (number + 1) (block ∷ inner ∷ blocks) in
     let begins = begins_stretch old (block ∷ inner ∷ blocks) in
-    let last : (number + 1) + (suc (suc (length blocks)) - 1) ≡ number + (suc (suc (suc (length blocks))) - 1) = omega arith in
+    let last : (number + 1) + (suc (suc (length blocks)) - 1) ≡ number + (suc (suc (suc (length blocks))) - 1) = omega
+    arith in
     let outer = starts old (number + 1) (outer_of (block ∷ inner ∷ blocks)) in
     ap (λ (numbers : List ℕ). if alike then numbers else (number + 1) ∷ numbers) inside
     ∙ (ap (λ n. if alike then with_last begins n outer else (number + 1) ∷ with_last begins n outer) last
@@ -147,19 +149,22 @@ starts_inside_deep : (old : Bool) (number : ℕ) (blocks : List OpenBlock)
     (starts old number (drop number (outer_of blocks)))
 starts_inside_deep old number blocks =
     starts_inside old number (drop number blocks)
-    ∙ ap (λ (b : List OpenBlock). with_last (begins_stretch old (drop number blocks)) (number + (length (drop number blocks) - 1))
+    ∙ ap (λ (b : List OpenBlock). with_last (begins_stretch old (drop number blocks))
+    (number + (length (drop number blocks) - 1))
     (starts old number b)) (sym (drop_outer number blocks))
 
 -- the innermost begins one
 starts_begun : (old : Bool) (number : ℕ) (blocks : List OpenBlock) → begins_stretch old (drop number blocks) ≡ true
-    → starts old number (drop number blocks) ≡ starts old number (drop number (outer_of blocks)) ++ (length blocks - 1) ∷ []
+    → starts old number (drop number blocks) ≡ starts old number (drop number (outer_of blocks)) ++ (length blocks - 1)
+    ∷ []
 unfolding with_last
 starts_begun old number blocks begins =
     let left = length-drop number blocks in
     let some = some_left old number blocks begins in
     let last : number + (length (drop number blocks) - 1) ≡ length blocks - 1 = omega (arith, left, some) in
     starts_inside_deep old number blocks
-    ∙ (ap (λ b. with_last b (number + (length (drop number blocks) - 1)) (starts old number (drop number (outer_of blocks)))) begins
+    ∙ (ap (λ b. with_last b (number + (length (drop number blocks) - 1))
+    (starts old number (drop number (outer_of blocks)))) begins
     ∙ ap (λ n. starts old number (drop number (outer_of blocks)) ++ n ∷ []) last)
 
 -- it begins none
@@ -168,7 +173,8 @@ starts_kept : (old : Bool) (number : ℕ) (blocks : List OpenBlock) → begins_s
 unfolding with_last
 starts_kept old number blocks begins =
     starts_inside_deep old number blocks
-    ∙ ap (λ b. with_last b (number + (length (drop number blocks) - 1)) (starts old number (drop number (outer_of blocks)))) begins
+    ∙ ap (λ b. with_last b (number + (length (drop number blocks) - 1))
+    (starts old number (drop number (outer_of blocks)))) begins
 
 -- the same, inside the few outermost blocks
 pub deep_begun : (old : Bool) (blocks : List OpenBlock) → begins_stretch old (drop few blocks) ≡ true
@@ -187,7 +193,8 @@ pub without_last : (numbers outer : List ℕ) (last count : ℕ) → numbers ≡
 without_last numbers outer last count are n =
     let all = length-append outer (last ∷ []) in
     let fewer : count - 1 ≡ length outer = omega (arith, n, ap length are, all) in
-    ap (λ k. take k numbers) fewer ∙ (ap (λ (l : List ℕ). take (length outer) l) are ∙ take-append_seam outer (last ∷ []))
+    ap (λ k. take k numbers) fewer
+    ∙ (ap (λ (l : List ℕ). take (length outer) l) are ∙ take-append_seam outer (last ∷ []))
 
 -- the stretches around a block that is opened in the innermost of some blocks are those of these
 pub stretches_inside : (before now : Stretches) (given blocks new : List OpenBlock) (block : OpenBlock) → given ≡ blocks
@@ -212,7 +219,8 @@ begins_later old here number (block ∷ []) later = refl
 begins_later old here number (outside ∷ block ∷ blocks) later =
     let inside = begins_later old here (number + 1) (block ∷ blocks) (omega (arith, later)) in
     let unlike : (number + 1 == here) ≡ false = grind (arith, nat_tests) in
-    one_later (are_alike old outside.body block.body) here (number + 1) (starts old (number + 1) (block ∷ blocks)) inside unlike
+    one_later (are_alike old outside.body block.body) here (number + 1) (starts old (number + 1) (block ∷ blocks))
+    inside unlike
 
 here_is : (number : ℕ) → (number == number) ≡ true
 here_is number = grind (arith, nat_tests)
@@ -264,7 +272,8 @@ past_nothing old blank (body.List tight character first) left takes = refl
 past_nothing old blank (body.ListItem indent) left takes =
     rw takes.0 (past_indent_nothing indent left takes.1 takes.2)
 past_nothing true blank (body.FootnoteDefinition ix) left takes = rw takes refl
-past_nothing false blank (body.FootnoteDefinition ix) left takes = rw takes.0 (past_indent_nothing 4 left takes.1 takes.2)
+past_nothing false blank (body.FootnoteDefinition ix) left takes = rw takes.0
+    (past_indent_nothing 4 left takes.1 takes.2)
 past_nothing old blank other left takes = absurd takes
 
 -- it is a container
@@ -291,23 +300,27 @@ past_one_block : (old empty : Bool) (stop : ℕ) (block inner : OpenBlock) (bloc
 past_one_block old empty stop block inner blocks reach takes all =
     let blank = nat_le stop reach.content in
     container_goes_on old empty false stop block (inner ∷ blocks) reach reach.left
-    (nothing_is_container old blank block.body reach.left takes) refl (past_nothing old blank block.body reach.left takes)
+    (nothing_is_container old blank block.body reach.left takes) refl
+    (past_nothing old blank block.body reach.left takes)
     ∙ ap (λ (r : Reach). reach_from old empty stop (inner ∷ blocks) r)
     (behind_nothing old blank block.body reach.left reach takes all)
 
 -- What is reached past a stretch, before the block with the number `next`, of blocks of which the outermost has the
 -- number `number`.
-pub record PastStretch (old empty : Bool) (stop number : ℕ) (blocks : List OpenBlock) (reach : Reach) (next : ℕ) : Type 0 where
+pub record PastStretch (old empty : Bool) (stop number : ℕ) (blocks : List OpenBlock) (reach : Reach) (next : ℕ) : Type
+    0 where
   pub skipped : ℕ
   pub some : 0 < skipped
   pub fewer : skipped < length blocks
   pub is : next ≡ number + skipped
-  pub ahead : starts_behind next (starts old number (outer_of blocks)) ≡ starts old next (outer_of (drop skipped blocks))
+  pub ahead : starts_behind next (starts old number (outer_of blocks))
+      ≡ starts old next (outer_of (drop skipped blocks))
   pub reached : reach_from old empty stop blocks reach
       ≡ reach_from old empty stop (drop skipped blocks) (record reach { depth = reach.depth + skipped })
 
 -- past one block more, which is alike
-past_more : (old empty : Bool) (stop number next : ℕ) (block inner : OpenBlock) (blocks : List OpenBlock) (reach : Reach)
+past_more : (old empty : Bool) (stop number next : ℕ) (block inner : OpenBlock) (blocks : List OpenBlock)
+    (reach : Reach)
     → starts old number (outer_of (block ∷ inner ∷ blocks)) ≡ starts old (number + 1) (outer_of (inner ∷ blocks))
     → TakesNothing (nat_le stop reach.content) reach.left (taken_by old block.body) → reach.all ≡ true
     → PastStretch old empty stop (number + 1) (inner ∷ blocks) (record reach { depth = reach.depth + 1 }) next
@@ -356,7 +369,8 @@ no_starts : (old : Bool) (number : ℕ) (block inner : OpenBlock) → starts old
 unfolding starts outer_of
 no_starts old number block inner = refl
 
-past_next : (old empty : Bool) (stop number : ℕ) (block inner next : OpenBlock) (blocks : List OpenBlock) (reach : Reach)
+past_next : (old empty : Bool) (stop number : ℕ) (block inner next : OpenBlock) (blocks : List OpenBlock)
+    (reach : Reach)
     (alike : Bool) → are_alike old block.body inner.body ≡ alike
     → TakesNothing (nat_le stop reach.content) reach.left (taken_by old block.body) → reach.all ≡ true
     → (TakesNothing (nat_le stop reach.content) reach.left (taken_by old inner.body)
@@ -380,7 +394,8 @@ past_next old empty stop number block inner next blocks reach false unlike takes
     (past_this old empty stop number block inner (next ∷ blocks) reach takes all)
 
 -- where a block takes nothing, the line goes past its stretch, up to the block that begins the next or the innermost
-pub past_stretch : (old empty : Bool) (stop number : ℕ) (block inner : OpenBlock) (blocks : List OpenBlock) (reach : Reach)
+pub past_stretch : (old empty : Bool) (stop number : ℕ) (block inner : OpenBlock) (blocks : List OpenBlock)
+    (reach : Reach)
     → TakesNothing (nat_le stop reach.content) reach.left (taken_by old block.body) → reach.all ≡ true
     → PastStretch old empty stop number (block ∷ inner ∷ blocks) reach
     (next_of (number + suc (length blocks)) (starts old number (outer_of (block ∷ inner ∷ blocks))))
@@ -393,7 +408,8 @@ past_stretch old empty stop number block inner (next ∷ blocks) reach takes all
     takes_too all)
 
 -- What is reached past the stretch of the block with the number `number`, before the block with the number `next`.
-pub record AtNextStretch (old empty : Bool) (stop number : ℕ) (blocks : List OpenBlock) (reach : Reach) (numbers : List ℕ)
+pub record AtNextStretch (old empty : Bool) (stop number : ℕ) (blocks : List OpenBlock) (reach : Reach)
+    (numbers : List ℕ)
     (next : ℕ) : Type 0 where
   pub more : number < next
   pub within : next < length blocks
@@ -421,14 +437,17 @@ at_next old empty stop number next blocks inside reach numbers are n ahead depth
           ∙ (past.ahead ∙ ap (λ (b : List OpenBlock). starts old next (outer_of b)) there);
       reached = ap (λ (b : List OpenBlock). reach_from old empty stop b reach) are
           ∙ (past.reached
-          ∙ (ap (λ (b : List OpenBlock). reach_from old empty stop b (record reach { depth = reach.depth + past.skipped })) there
+          ∙ (ap (λ (b : List OpenBlock). reach_from old empty stop b
+          (record reach { depth = reach.depth + past.skipped })) there
           ∙ ap (λ d. reach_from old empty stop (drop next blocks) (record reach { depth = d })) at));
     }
 
 -- where a block that is not the innermost takes nothing, the line goes past its stretch
-pub past_stretch_at : (old empty : Bool) (stop number last : ℕ) (blocks : List OpenBlock) (or : OpenBlock) (reach : Reach)
+pub past_stretch_at : (old empty : Bool) (stop number last : ℕ) (blocks : List OpenBlock) (or : OpenBlock)
+    (reach : Reach)
     (numbers : List ℕ) → number < last → last + 1 ≡ length blocks
-    → TakesNothing (nat_le stop reach.content) reach.left (taken_by old (get_or blocks number or).body) → reach.all ≡ true
+    → TakesNothing (nat_le stop reach.content) reach.left (taken_by old (get_or blocks number or).body) → reach.all
+    ≡ true
     → reach.depth ≡ number → numbers ≡ starts old number (outer_of (drop number blocks))
     → AtNextStretch old empty stop number blocks reach numbers (next_of last numbers)
 past_stretch_at old empty stop number last blocks or reach numbers more n takes all depth ahead =
@@ -465,7 +484,8 @@ abbrev pub starts_ahead : Bool → ℕ → List OpenBlock → List ℕ
 starts_ahead old number blocks = starts old (max few number) (outer_of (drop (max few number) blocks))
 
 -- at the outermost block
-pub starts_at_first : (old : Bool) (blocks : List OpenBlock) → deep_starts old (outer_of blocks) ≡ starts_ahead old 0 blocks
+pub starts_at_first : (old : Bool) (blocks : List OpenBlock) → deep_starts old (outer_of blocks)
+    ≡ starts_ahead old 0 blocks
 unfolding deep_starts
 starts_at_first old blocks = ap (λ (b : List OpenBlock). starts old few b) (drop_outer few blocks)
 
@@ -476,7 +496,8 @@ ahead_deep old number blocks deep =
     let at : max few number ≡ number = omega (arith, deep) in
     ap (λ k. starts old k (outer_of (drop k blocks))) at
 
-past_few : (old : Bool) (number : ℕ) (blocks : List OpenBlock) (numbers : List ℕ) (deep : Bool) → nat_le few number ≡ deep
+past_few : (old : Bool) (number : ℕ) (blocks : List OpenBlock) (numbers : List ℕ) (deep : Bool) → nat_le few number
+    ≡ deep
     → number < length blocks → numbers ≡ starts_ahead old number blocks
     → starts_behind (number + 1) numbers ≡ starts_ahead old (number + 1) blocks
 past_few old number blocks numbers true deep more ahead =
@@ -498,6 +519,7 @@ starts_past_any old number blocks numbers more ahead =
     past_few old number blocks numbers (nat_le few number) refl more ahead
 
 -- none are open, so none are around the innermost
-pub stretches_of_none : (now : Stretches) (blocks : List OpenBlock) → blocks ≡ [] → IsOf now [] → IsOf now (outer_of blocks)
+pub stretches_of_none : (now : Stretches) (blocks : List OpenBlock) → blocks ≡ [] → IsOf now []
+    → IsOf now (outer_of blocks)
 unfolding outer_of
 stretches_of_none now blocks none known = subst (λ (b : List OpenBlock). IsOf now (outer_of b)) (sym none) known

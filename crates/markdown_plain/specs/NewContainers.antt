@@ -43,7 +43,8 @@ past_bytes count left = record {
 -- blank line or with indented code
 abbrev pub item_space : ℕ → LineLeft → Space
 item_space stop left =
-    if nat_lt (leading_space 5 left).after.scanned stop && nat_lt 0 (leading_space 5 left).columns && nat_lt (leading_space 5 left).columns 5
+    if nat_lt (leading_space 5 left).after.scanned stop && nat_lt 0 (leading_space 5 left).columns && nat_lt
+    (leading_space 5 left).columns 5
     then leading_space 5 left else record { columns = 1; after = (leading_space 1 left).after }
 
 -- a colon comes next

@@ -1,9 +1,11 @@
 -- Where a text may be cut: before and after an ASCII byte of what follows a byte.
-use Rattle.std.proofs.Common.{◌≡◌, suc, zero, [], ◌∷◌, Bool, true, ◌&&◌, ℕ, ◌+◌, ◌<◌, ◌≤◌, List, length, get_or, take, drop, arith}
+use Rattle.std.proofs.Common.{◌≡◌, suc, zero, [], ◌∷◌, Bool, true, ◌&&◌, ℕ, ◌+◌, ◌<◌, ◌≤◌, List, length, get_or, take}
+use Rattle.std.proofs.Common.{drop, arith}
 use Rattle.std.proofs.Common.{length-drop}
 use Rattle.std.specs.Str.{IsUtf8, IsCharBoundary}
 use Rattle.std.proofs.lemmas.List.{get_or-drop, get_or-take, length-take}
-use Rattle.std.proofs.lemmas.Str.{IsCharBoundary-before_ascii, IsCharBoundary-after_ascii, IsCharBoundary-from_take, IsUtf8-from_ascii}
+use Rattle.std.proofs.lemmas.Str.{IsCharBoundary-before_ascii, IsCharBoundary-after_ascii, IsCharBoundary-from_take}
+use Rattle.std.proofs.lemmas.Str.{IsUtf8-from_ascii}
 use Rattle.std.proofs.lemmas.Bool.Decides.{nat_tests}
 use Rattle.std.specs.List.{list_all}
 use Rattle.std.specs.Char.{is_ascii}
@@ -16,7 +18,8 @@ before_ascii_of_rest text i n inside ascii =
     IsCharBoundary-before_ascii text (i + n) within (rw get_or-drop at ascii)
 
 -- after an ASCII byte of what follows byte i
-pub after_ascii_of_rest : (text : List ℕ) (i n : ℕ) → IsUtf8 text → n < length (drop i text) → get_or (drop i text) n 0 < 128
+pub after_ascii_of_rest : (text : List ℕ) (i n : ℕ) → IsUtf8 text → n < length (drop i text)
+    → get_or (drop i text) n 0 < 128
     → IsCharBoundary text (i + n + 1)
 after_ascii_of_rest text i n utf8 inside ascii =
     let within : i + n < length text = omega (arith, rw length-drop at inside) in

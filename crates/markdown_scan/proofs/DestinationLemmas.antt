@@ -1,6 +1,7 @@
 -- Steps of the scanner of a destination: the length of the whole is the number of bytes before an offset and the length
 -- of the rest.
-use Rattle.std.proofs.Common.{◌≡◌, ℕ, zero, suc, ◌+◌, ◌<◌, ◌==◌, ◌||◌, List, ◌∷◌, Bool, true, false, Option, Some, None, drop}
+use Rattle.std.proofs.Common.{◌≡◌, ℕ, zero, suc, ◌+◌, ◌<◌, ◌==◌, ◌||◌, List, ◌∷◌, Bool, true, false, Option, Some, None}
+use Rattle.std.proofs.Common.{drop}
 use Rattle.std.proofs.Common.{length, get_or, refl, ◌∙◌, sym, ap, arith}
 use Rattle.std.specs.Option.{option_map}
 use Rattle.std.proofs.lemmas.List.{drop-drop, drop_more}
@@ -8,11 +9,13 @@ use Rattle.markdown_base.specs.Bytes.{backslash, close_parenthesis, open_parenth
 use Rattle.markdown_base.proofs.ByteListLemmas.{neither}
 use Rattle.markdown_scan.specs.AsciiKinds.{is_control_or_space}
 use Rattle.markdown_scan.specs.Backslash.{is_bare}
-use Rattle.markdown_scan.specs.Destination.{angle_length, is_refused, bare_length, is_past_bare, is_too_deep, open_after}
+use Rattle.markdown_scan.specs.Destination.{angle_length, is_refused, bare_length, is_past_bare, is_too_deep}
+use Rattle.markdown_scan.specs.Destination.{open_after}
 use Rattle.markdown_scan.specs.Together.{may_matter, IsPast}
 
 -- one more byte after `at` bytes
-pub one_more : (at : ℕ) (o : Option ℕ) → option_map (λ n. at + n) (option_map (λ n. 1 + n) o) ≡ option_map (λ n. at + 1 + n) o
+pub one_more : (at : ℕ) (o : Option ℕ) → option_map (λ n. at + n) (option_map (λ n. 1 + n) o)
+    ≡ option_map (λ n. at + 1 + n) o
 one_more at None = refl
 one_more at (Some n) = let sum : at + (1 + n) ≡ at + 1 + n = omega arith in rw sum
 
@@ -32,9 +35,11 @@ angle_step whole escaped at b tail was no_end not_refused =
 pub bare_step : (max_nesting : ℕ) (whole : Option ℕ) (escaped : Bool) (opened at b : ℕ) (tail : List ℕ)
     → whole ≡ option_map (λ n. at + n) (bare_length max_nesting escaped opened (b ∷ tail))
     → is_past_bare escaped opened b ≡ false → is_too_deep max_nesting escaped opened b ≡ false
-    → whole ≡ option_map (λ n. at + 1 + n) (bare_length max_nesting (is_bare escaped b backslash) (open_after escaped b opened) tail)
+    → whole ≡ option_map (λ n. at + 1 + n)
+    (bare_length max_nesting (is_bare escaped b backslash) (open_after escaped b opened) tail)
 bare_step max_nesting whole escaped opened at b tail was no_end fits =
-    rw (no_end, fits) at was ∙ one_more at (bare_length max_nesting (is_bare escaped b backslash) (open_after escaped b opened) tail)
+    rw (no_end, fits) at was
+    ∙ one_more at (bare_length max_nesting (is_bare escaped b backslash) (open_after escaped b opened) tail)
 
 -- a byte other than a mark is not that mark, escaped or not
 not_bare : (escaped : Bool) (b mark : ℕ) → (b == mark) ≡ false → is_bare escaped b mark ≡ false

@@ -1,5 +1,6 @@
 -- A label's definitions at a whole character.
-use Rattle.std.proofs.Common.{◌≡◌, ℕ, suc, ◌+◌, ◌≤◌, ◌<◌, List, [], ◌∷◌, ◌++◌, Bool, true, false, Option, Some, None, length, drop, get_or}
+use Rattle.std.proofs.Common.{◌≡◌, ℕ, suc, ◌+◌, ◌≤◌, ◌<◌, List, [], ◌∷◌, ◌++◌, Bool, true, false, Option, Some, None}
+use Rattle.std.proofs.Common.{length, drop, get_or}
 use Rattle.std.proofs.Common.{inl, inr, refl, sym, ◌∙◌, ap, arith, ◌==◌}
 use Rattle.std.specs.Prelude.{encode_utf8}
 use Rattle.std.proofs.lemmas.List.{append-nil}
@@ -22,8 +23,11 @@ IsHigh (x ∷ xs) = (128 ≤ x) × IsHigh xs
 pub high_from_places : (xs : List ℕ) → ((k : ℕ) → k < length xs → 128 ≤ get_or xs k 0) → IsHigh xs
 high_from_places [] each = tt
 high_from_places (x ∷ xs) each =
-    let first : 0 < suc (length xs) = omega arith in
-    (each 0 first, high_from_places xs (λ k inside. let next : suc k < suc (length xs) = omega arith in each (suc k) next))
+    let first : 0 < suc (length xs) = omega arith in (
+      each 0 first,
+      high_from_places xs
+          (λ k inside. let next : suc k < suc (length xs) = omega arith in each (suc k) next),
+    )
 
 below_128 : (n : ℕ) → (n < 128 → ⊥) → 128 ≤ n
 below_128 n h = omega arith
@@ -41,11 +45,14 @@ high_is_solid : (x : ℕ) → 128 ≤ x → is_white_space x ≡ false
 high_is_solid x high = grind (arith, nat_tests)
 
 -- squeezed bytes of which none is ASCII, in the middle of a word
-pub squeeze_high : (xs rest : List ℕ) → IsHigh xs → collapse_whitespace true false (xs ++ rest) ≡ xs ++ collapse_whitespace true false rest
+pub squeeze_high : (xs rest : List ℕ) → IsHigh xs → collapse_whitespace true false (xs ++ rest)
+    ≡ xs ++ collapse_whitespace true false rest
 squeeze_high [] rest high = refl
-squeeze_high (x ∷ xs) rest high = rw (high_is_solid x high.0) (ap (λ (ys : List ℕ). x ∷ ys) (squeeze_high xs rest high.1))
+squeeze_high (x ∷ xs) rest high = rw (high_is_solid x high.0)
+    (ap (λ (ys : List ℕ). x ∷ ys) (squeeze_high xs rest high.1))
 
-squeeze_high_first : (begun waiting : Bool) (xs rest : List ℕ) → IsHigh xs → 0 < length xs → collapse_whitespace begun waiting (xs ++ rest)
+squeeze_high_first : (begun waiting : Bool) (xs rest : List ℕ) → IsHigh xs → 0 < length xs
+    → collapse_whitespace begun waiting (xs ++ rest)
     ≡ gap begun waiting ++ (xs ++ collapse_whitespace true false rest)
 squeeze_high_first begun waiting [] rest high some = absurd (omega arith)
 squeeze_high_first begun waiting (x ∷ xs) rest high some =
@@ -75,7 +82,8 @@ high_is_not_bare : (escaped : Bool) (x k : ℕ) → 128 ≤ x → k < 128 → is
 high_is_not_bare true x k high low = refl
 high_is_not_bare false x k high low = high_is_not x k high low
 
-high_ends_no_line : (skipped : List ℕ → Option ℕ) (x : ℕ) (rest : List ℕ) → 128 ≤ x → prefix_after skipped x rest ≡ Some 0
+high_ends_no_line : (skipped : List ℕ → Option ℕ) (x : ℕ) (rest : List ℕ) → 128 ≤ x → prefix_after skipped x rest
+    ≡ Some 0
 high_ends_no_line skipped x rest high =
     let feed : (x == 10) ≡ false = high_is_not x 10 high (omega arith) in
     let return : (x == 13) ≡ false = high_is_not x 13 high (omega arith) in
@@ -86,12 +94,14 @@ shown_high in_table [] rest high = refl
 shown_high in_table (x ∷ xs) rest high = rw (high_is_not x 92 high.0 (omega arith))
     (ap (λ (ys : List ℕ). x ∷ ys) (shown_high in_table xs rest high.1))
 
-with_shown_high : (in_table : Bool) (m : ℕ) (xs : List ℕ) (o : Option (ℕ × List ℕ)) → IsHigh xs → with_shown in_table (put_before m xs o)
+with_shown_high : (in_table : Bool) (m : ℕ) (xs : List ℕ) (o : Option (ℕ × List ℕ)) → IsHigh xs
+    → with_shown in_table (put_before m xs o)
     ≡ put_before m xs (with_shown in_table o)
 with_shown_high in_table m xs None high = refl
 with_shown_high in_table m xs (Some f) high = rw (shown_high in_table xs f.1 high)
 
-character_shown_high : (in_table : Bool) (c : ℕ) (next : List ℕ) → 128 ≤ c → character_shown in_table c next ≡ encode_utf8 c
+character_shown_high : (in_table : Bool) (c : ℕ) (next : List ℕ) → 128 ≤ c → character_shown in_table c next
+    ≡ encode_utf8 c
 character_shown_high in_table c next high = rw (high_is_not c 92 high (omega arith))
 
 -- a byte of a label that is not ASCII
@@ -100,11 +110,13 @@ high_step : (skipped : List ℕ → Option ℕ) (escaped : Bool) (x : ℕ) (rest
 high_step skipped escaped x rest high =
     let step = body_step skipped escaped x rest 0 (high_is_not_bare escaped x 93 high (omega arith))
     (high_is_not_bare escaped x 91 high (omega arith)) (high_ends_no_line skipped x rest high) (omega arith) in
-    step ∙ ap (λ (e : Bool). put_before 1 (x ∷ []) (body e (label_bytes skipped 0 rest))) (high_is_not_bare escaped x 92 high (omega arith))
+    step ∙ ap (λ (e : Bool). put_before 1 (x ∷ []) (body e (label_bytes skipped 0 rest)))
+    (high_is_not_bare escaped x 92 high (omega arith))
 
 -- bytes of a label of which none is ASCII
 high_run : (skipped : List ℕ → Option ℕ) (xs rest : List ℕ) → IsHigh xs
-    → body false (label_bytes skipped 0 (xs ++ rest)) ≡ put_before (length xs) xs (body false (label_bytes skipped 0 rest))
+    → body false (label_bytes skipped 0 (xs ++ rest))
+    ≡ put_before (length xs) xs (body false (label_bytes skipped 0 rest))
 high_run skipped [] rest high = sym (put_before_none (body false (label_bytes skipped 0 rest)))
 high_run skipped (x ∷ xs) rest high =
     let one : 1 + length xs ≡ suc (length xs) = omega arith in
@@ -113,7 +125,8 @@ high_run skipped (x ∷ xs) rest high =
     ∙ rw one at (put_before_twice 1 (length xs) (x ∷ []) xs (body false (label_bytes skipped 0 rest)))
 
 high_word : (skipped : List ℕ → Option ℕ) (escaped : Bool) (xs rest : List ℕ) → IsHigh xs → 0 < length xs
-    → (m : ℕ) × (body escaped (label_bytes skipped 0 (xs ++ rest)) ≡ put_before m xs (body false (label_bytes skipped 0 rest)))
+    → (m : ℕ) × (body escaped (label_bytes skipped 0 (xs ++ rest))
+    ≡ put_before m xs (body false (label_bytes skipped 0 rest)))
 high_word skipped escaped [] rest high some = absurd (omega arith)
 high_word skipped escaped (x ∷ xs) rest high some = (
   1 + length xs,
@@ -124,9 +137,11 @@ high_word skipped escaped (x ∷ xs) rest high some = (
 
 -- a character that is no bracket, and the prefix after it
 pub character_step : (skipped : List ℕ → Option ℕ) (in_table escaped : Bool) (c : ℕ) (tail : List ℕ) (n : ℕ)
-    → is_bare escaped c 93 ≡ false → is_bare escaped c 91 ≡ false → prefix_after skipped c tail ≡ Some n → n ≤ length tail
+    → is_bare escaped c 93 ≡ false → is_bare escaped c 91 ≡ false → prefix_after skipped c tail ≡ Some n
+    → n ≤ length tail
     → (m : ℕ) × (found_in skipped in_table escaped (encode_utf8 c ++ tail)
-    ≡ put_before m (character_shown in_table c (drop n tail)) (found_in skipped in_table (is_bare escaped c backslash) (drop n tail)))
+    ≡ put_before m (character_shown in_table c (drop n tail))
+    (found_in skipped in_table (is_bare escaped c backslash) (drop n tail)))
 character_step skipped in_table escaped c tail n no_end no_start after within = elim (leb_tells 128 c) [
   | inl high ↦
       let none : n ≡ 0 = same_Some n 0 (sym after ∙ high_ends_no_line skipped c tail high.1) in
@@ -135,7 +150,12 @@ character_step skipped in_table escaped c tail n no_end no_start after within = 
         word.0,
         ap (with_shown in_table) word.1
             ∙ with_shown_high in_table word.0 (encode_utf8 c) (body false (label_bytes skipped 0 tail)) bytes
-            ∙ rw (none, high_is_not_bare escaped c 92 high.1 (omega arith), character_shown_high in_table c tail high.1),
+            ∙ rw (
+              none,
+              high_is_not_bare escaped c 92 high.1 (omega arith),
+              character_shown_high in_table c tail
+                  high.1,
+            ),
       )
   | inr low ↦ (
     1 + n,

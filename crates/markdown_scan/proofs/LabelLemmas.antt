@@ -1,6 +1,8 @@
 -- Steps of the scans of a label.
-use Rattle.std.proofs.Common.{◌≡◌, ℕ, suc, zero, ◌+◌, ◌≤◌, ◌<◌, List, [], ◌∷◌, ◌++◌, Bool, true, false, ◌&&◌, ◌||◌, Option, Some, None}
-use Rattle.std.proofs.Common.{if◌then◌else◌, length, drop, refl, sym, ◌∙◌, ap, arith, append_assoc, count_by, nat_le, ◌==◌, is_none}
+use Rattle.std.proofs.Common.{◌≡◌, ℕ, suc, zero, ◌+◌, ◌≤◌, ◌<◌, List, [], ◌∷◌, ◌++◌, Bool, true, false, ◌&&◌, ◌||◌}
+use Rattle.std.proofs.Common.{Option, Some, None}
+use Rattle.std.proofs.Common.{if◌then◌else◌, length, drop, refl, sym, ◌∙◌, ap, arith, append_assoc, count_by, nat_le}
+use Rattle.std.proofs.Common.{◌==◌, is_none}
 use Rattle.std.proofs.Common.{unwrap_or, IfSome}
 use Rattle.std.specs.List.{list_any}
 use Rattle.std.proofs.lemmas.List.Sums.{sum_by-append}
@@ -9,7 +11,8 @@ use Rattle.std.proofs.lemmas.Bool.{cond_both}
 use Rattle.std.proofs.lemmas.Bool.Decides.{nat_tests}
 use Rattle.markdown_base.specs.Bytes.{pipe, backslash}
 use Rattle.markdown_scan.specs.Backslash.{begins_pipe, escapes_pipe, is_bare}
-use Rattle.markdown_scan.specs.Label.{LabelByte, kept, refused, label_bytes, body, put_before, shown, with_shown, begins_character}
+use Rattle.markdown_scan.specs.Label.{LabelByte, kept, refused, label_bytes, body, put_before, shown, with_shown}
+use Rattle.markdown_scan.specs.Label.{begins_character}
 use Rattle.markdown_scan.specs.Label.{is_not_white_space}
 use Rattle.markdown_scan.specs.LinePrefix.{prefix_after}
 use Rattle.markdown_scan.specs.LabelScan.{byte_shown, end_after, found_in}
@@ -37,23 +40,27 @@ body_past_prefix skipped escaped (suc n) (b ∷ bs) h =
     let shorter : n ≤ length bs = omega arith in
     let later = body_past_prefix skipped escaped n bs shorter in
     let one : 1 + n ≡ suc n = omega arith in
-    ap (put_before 1 []) later ∙ rw one at (put_before_twice 1 n [] [] (body escaped (label_bytes skipped 0 (drop n bs))))
+    ap (put_before 1 []) later
+    ∙ rw one at (put_before_twice 1 n [] [] (body escaped (label_bytes skipped 0 (drop n bs))))
 
 -- a byte that is no bracket, and the prefix after it
 pub body_step : (skipped : List ℕ → Option ℕ) (escaped : Bool) (b : ℕ) (tail : List ℕ) (n : ℕ)
-    → is_bare escaped b 93 ≡ false → is_bare escaped b 91 ≡ false → prefix_after skipped b tail ≡ Some n → n ≤ length tail
+    → is_bare escaped b 93 ≡ false → is_bare escaped b 91 ≡ false → prefix_after skipped b tail ≡ Some n
+    → n ≤ length tail
     → body escaped (label_bytes skipped 0 (b ∷ tail))
     ≡ put_before (1 + n) (b ∷ []) (body (is_bare escaped b backslash) (label_bytes skipped 0 (drop n tail)))
 body_step skipped escaped b tail n no_end no_start after within =
     let past = body_past_prefix skipped (is_bare escaped b backslash) n tail within in
-    let joined = put_before_twice 1 n (b ∷ []) [] (body (is_bare escaped b backslash) (label_bytes skipped 0 (drop n tail))) in
+    let joined = put_before_twice 1 n (b ∷ []) []
+    (body (is_bare escaped b backslash) (label_bytes skipped 0 (drop n tail))) in
     rw (no_end, no_start, after, past, joined)
 
 closing_is_no_pipe : (escaped : Bool) (x : ℕ) → is_bare escaped x 93 ≡ true → false ≡ (x == pipe)
 closing_is_no_pipe true x is = cc
 closing_is_no_pipe false x is = grind (arith, nat_tests, is)
 
-put_begins_pipe : (x : ℕ) (o : Option (ℕ × List ℕ)) → IfSome (put_before 1 (x ∷ []) o) (λ f. begins_pipe f.1 ≡ (x == pipe))
+put_begins_pipe : (x : ℕ) (o : Option (ℕ × List ℕ))
+    → IfSome (put_before 1 (x ∷ []) o) (λ f. begins_pipe f.1 ≡ (x == pipe))
 put_begins_pipe x None = tt
 put_begins_pipe x (Some f) = refl
 
@@ -75,26 +82,31 @@ begins_pipe_alike skipped escaped (x ∷ xs) =
     kept_begins_pipe escaped x (if is_none (prefix_after skipped x xs) then refused ∷ []
     else label_bytes skipped (unwrap_or (prefix_after skipped x xs) 0) xs)
 
-one_shown : (goes : Bool) (b : ℕ) (text : List ℕ) → (if goes then text else b ∷ text) ≡ (if goes then [] else b ∷ []) ++ text
+one_shown : (goes : Bool) (b : ℕ) (text : List ℕ) → (if goes then text else b ∷ text)
+    ≡ (if goes then [] else b ∷ []) ++ text
 one_shown true b text = refl
 one_shown false b text = refl
 
 -- a byte before a text that begins with a pipe if and only if these bytes do, as it is shown
-shown_before : (in_table : Bool) (m b : ℕ) (bytes : List ℕ) (o : Option (ℕ × List ℕ)) → IfSome o (λ f. begins_pipe f.1 ≡ begins_pipe bytes)
+shown_before : (in_table : Bool) (m b : ℕ) (bytes : List ℕ) (o : Option (ℕ × List ℕ))
+    → IfSome o (λ f. begins_pipe f.1 ≡ begins_pipe bytes)
     → with_shown in_table (put_before m (b ∷ []) o) ≡ put_before m (byte_shown in_table b bytes) (with_shown in_table o)
 shown_before in_table m b bytes None same = refl
-shown_before in_table m b bytes (Some f) same = rw (same, one_shown (escapes_pipe in_table b bytes) b (shown in_table f.1))
+shown_before in_table m b bytes (Some f) same = rw
+    (same, one_shown (escapes_pipe in_table b bytes) b (shown in_table f.1))
 
 -- the same of the text as it is shown
 pub found_step : (skipped : List ℕ → Option ℕ) (in_table escaped : Bool) (b : ℕ) (tail : List ℕ) (n : ℕ)
-    → is_bare escaped b 93 ≡ false → is_bare escaped b 91 ≡ false → prefix_after skipped b tail ≡ Some n → n ≤ length tail
+    → is_bare escaped b 93 ≡ false → is_bare escaped b 91 ≡ false → prefix_after skipped b tail ≡ Some n
+    → n ≤ length tail
     → found_in skipped in_table escaped (b ∷ tail) ≡ put_before (1 + n) (byte_shown in_table b (drop n tail))
     (found_in skipped in_table (is_bare escaped b backslash) (drop n tail))
 found_step skipped in_table escaped b tail n no_end no_start after within =
     let later = is_bare escaped b backslash in
     let rest = drop n tail in
     ap (with_shown in_table) (body_step skipped escaped b tail n no_end no_start after within)
-    ∙ shown_before in_table (1 + n) b rest (body later (label_bytes skipped 0 rest)) (begins_pipe_alike skipped later rest)
+    ∙ shown_before in_table (1 + n) b rest (body later (label_bytes skipped 0 rest))
+    (begins_pipe_alike skipped later rest)
 
 or_assoc : (a b c : Bool) → (a || (b || c)) ≡ ((a || b) || c)
 or_assoc true b c = refl
@@ -108,17 +120,21 @@ end_of_put at characters n solid text None = refl
 end_of_put at characters n solid text (Some f) =
     let place : at + (n + f.0) ≡ at + n + f.0 = omega arith in
     let counted = sum_by-append (λ x. if begins_character x then 1 else 0) text f.1 in
-    let sum : characters + (count_by begins_character text + count_by begins_character f.1) ≡ characters + count_by begins_character text
+    let sum : characters + (count_by begins_character text + count_by begins_character f.1)
+    ≡ characters + count_by begins_character text
     + count_by begins_character f.1 = omega arith in
     let any = list_any-append is_not_white_space text f.1 in
     rw (place, counted, sum, any, or_assoc solid (list_any is_not_white_space text) (list_any is_not_white_space f.1))
 
 -- the invariant of the scan for the end, after a byte
-pub end_step : (whole : Option ℕ) (skipped : List ℕ → Option ℕ) (in_table escaped solid : Bool) (at characters b : ℕ) (tail : List ℕ)
+pub end_step : (whole : Option ℕ) (skipped : List ℕ → Option ℕ) (in_table escaped solid : Bool) (at characters b : ℕ)
+    (tail : List ℕ)
     (n : ℕ)
     → whole ≡ end_after at characters solid (found_in skipped in_table escaped (b ∷ tail))
-    → is_bare escaped b 93 ≡ false → is_bare escaped b 91 ≡ false → prefix_after skipped b tail ≡ Some n → n ≤ length tail
-    → whole ≡ end_after (at + 1 + n) (characters + count_by begins_character (byte_shown in_table b (drop n tail))) (solid
+    → is_bare escaped b 93 ≡ false → is_bare escaped b 91 ≡ false → prefix_after skipped b tail ≡ Some n
+    → n ≤ length tail
+    → whole ≡ end_after (at + 1 + n) (characters + count_by begins_character (byte_shown in_table b (drop n tail)))
+    (solid
     || list_any is_not_white_space (byte_shown in_table b (drop n tail)))
     (found_in skipped in_table (is_bare escaped b backslash) (drop n tail))
 end_step whole skipped in_table escaped solid at characters b tail n was no_end no_start after within =
@@ -131,8 +147,10 @@ too_many : (n : ℕ) (b : Bool) (x : Option ℕ) → 999 < n → None ≡ (if na
 too_many n b x more = grind (arith, nat_tests)
 
 -- no label has more than 999 characters
-pub too_long : (at characters : ℕ) (solid : Bool) (o : Option (ℕ × List ℕ)) → 999 < characters → None ≡ end_after at characters solid o
+pub too_long : (at characters : ℕ) (solid : Bool) (o : Option (ℕ × List ℕ)) → 999 < characters → None
+    ≡ end_after at characters solid o
 too_long at characters solid None more = refl
 too_long at characters solid (Some f) more =
     let still : 999 < characters + count_by begins_character f.1 = omega arith in
-    too_many (characters + count_by begins_character f.1) (solid || list_any is_not_white_space f.1) (Some (at + f.0)) still
+    too_many (characters + count_by begins_character f.1) (solid || list_any is_not_white_space f.1) (Some (at + f.0))
+    still

@@ -1,8 +1,11 @@
 -- Columns of space that are taken in two steps.
-use Rattle.std.proofs.Common.{◌≡◌, inl, inr, ℕ, zero, suc, ◌+◌, ◌-◌, ◌≤◌, ◌<◌, List, [], ◌∷◌, true, ◌==◌, refl, sym, ◌∙◌, ap, arith}
+use Rattle.std.proofs.Common.{◌≡◌, inl, inr, ℕ, zero, suc, ◌+◌, ◌-◌, ◌≤◌, ◌<◌, List, [], ◌∷◌, true, ◌==◌, refl, sym}
+use Rattle.std.proofs.Common.{◌∙◌, ap, arith}
 use Rattle.std.proofs.lemmas.Bool.Decides.{nat_tests, leb_tells}
-use Rattle.markdown_scan.specs.LineStart.{LineLeft, Space, space_width, column_after, wider, no_space, space_from, leading_space}
-use Rattle.markdown_scan.proofs.LineStartLemmas.{eq_test_false, le_test_false, le_test_true, lt_test_true, lt_test_false, no_space_from}
+use Rattle.markdown_scan.specs.LineStart.{LineLeft, Space, space_width, column_after, wider, no_space, space_from}
+use Rattle.markdown_scan.specs.LineStart.{leading_space}
+use Rattle.markdown_scan.proofs.LineStartLemmas.{eq_test_false, le_test_false, le_test_true, lt_test_true}
+use Rattle.markdown_scan.proofs.LineStartLemmas.{lt_test_false, no_space_from}
 use Rattle.markdown_scan.proofs.LineStartLemmas.{space_unowed, wider_none, wider_twice}
 
 -- n columns of those that are owed, and m more
@@ -51,7 +54,12 @@ space_twice n m left later = elim (leb_tells n left.owed) [
 -- a space or a tab is as many columns that are owed
 byte_owed : (k scanned column b : ℕ) (bytes : List ℕ) → 0 < k → 0 < space_width column b
     → space_from k scanned column (b ∷ bytes)
-    ≡ leading_space k (record { scanned = scanned + 1; owed = space_width column b; column = column_after column b; bytes = bytes })
+    ≡ leading_space k (record {
+      scanned = scanned + 1;
+      owed = space_width column b;
+      column = column_after column b;
+      bytes = bytes;
+    })
 byte_owed k scanned column b bytes some white =
     let w = space_width column b in
     rw (eq_test_false k some, eq_test_false w white) (elim (leb_tells w k) [
@@ -103,7 +111,12 @@ from_twice (suc n) m scanned column (b ∷ bytes) = elim (leb_tells (space_width
       ∙ (wider_none (leading_space m left) ∙ (space_unowed m scanned column (b ∷ bytes)
       ∙ none_from m scanned column b bytes e)))
   | inr white ↦
-      let left : LineLeft = record { scanned = scanned + 1; owed = space_width column b; column = column_after column b; bytes = bytes } in
+      let left : LineLeft = record {
+        scanned = scanned + 1;
+        owed = space_width column b;
+        column = column_after column b;
+        bytes = bytes;
+      } in
       byte_owed (suc n + m) scanned column b bytes (omega arith) white.1
       ∙ (space_twice (suc n) m left
       (λ i j. from_twice i j (scanned + 1) (column_after column b) bytes)

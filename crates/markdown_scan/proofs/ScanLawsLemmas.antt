@@ -1,6 +1,8 @@
 -- Lemmas of the laws of what is scanned.
-use Rattle.std.proofs.Common.{◌++◌, zero, ◌-◌, ◌&&◌, ◌≤◌, ◌<◌, ◌||◌, ◌⊎◌, inl, inr, nat_le, codes, lit<, lit≤, sym, ◌≡◌, suc, arith, ℕ, ◌+◌}
-use Rattle.std.proofs.Common.{◌==◌, not, List, [], ◌∷◌, Bool, true, false, Option, Some, None, if◌then◌else◌, take, drop, length, get_or}
+use Rattle.std.proofs.Common.{◌++◌, zero, ◌-◌, ◌&&◌, ◌≤◌, ◌<◌, ◌||◌, ◌⊎◌, inl, inr, nat_le, codes, lit<, lit≤, sym, ◌≡◌}
+use Rattle.std.proofs.Common.{suc, arith, ℕ, ◌+◌}
+use Rattle.std.proofs.Common.{◌==◌, not, List, [], ◌∷◌, Bool, true, false, Option, Some, None, if◌then◌else◌, take}
+use Rattle.std.proofs.Common.{drop, length, get_or}
 use Rattle.std.proofs.Common.{refl, ap, ◌∙◌, option_and_then}
 use Rattle.std.proofs.lemmas.Bool.{and_parts, cond_both}
 use Rattle.std.proofs.lemmas.Bool.Decides.{nat_tests}
@@ -17,8 +19,10 @@ use Rattle.std.proofs.lemmas.List.{get_or-drop}
 use Rattle.markdown_scan.specs.AsciiKinds.{is_control_or_space}
 use Rattle.markdown_base.specs.Bytes.{backslash}
 use Rattle.markdown_scan.specs.Backslash.{is_bare}
-use Rattle.markdown_scan.specs.Destination.{bare_destination, bare_length, end_of_bare, is_past_bare, is_too_deep, open_after}
-use Rattle.markdown_scan.specs.Label.{LabelByte, body, dropped, fits_label, kept, label_body, label_bytes, put_before, refused, shown}
+use Rattle.markdown_scan.specs.Destination.{bare_destination, bare_length, end_of_bare, is_past_bare, is_too_deep}
+use Rattle.markdown_scan.specs.Destination.{open_after}
+use Rattle.markdown_scan.specs.Label.{LabelByte, body, dropped, fits_label, kept, label_body, label_bytes, put_before}
+use Rattle.markdown_scan.specs.Label.{refused, shown}
 use Rattle.markdown_scan.specs.Label.{with_shown}
 use Rattle.markdown_scan.proofs.LabelTextLemmas.{neither}
 use Rattle.markdown_scan.proofs.LineStartLemmas.{no_space_from}
@@ -28,7 +32,8 @@ use Rattle.markdown_scan.specs.Unescape.{escape_or_entity, unescaped}
 use Rattle.markdown_scan.proofs.UnescapeLemmas.{step_byte, step_reference}
 
 -- the elements before the first that fails a test pass it
-passing_first : (p : ℕ → Bool) (x : ℕ) (xs : List ℕ) (b : Bool) → p x ≡ b → list_all p (take (prefix_len p xs) xs) ≡ true
+passing_first : (p : ℕ → Bool) (x : ℕ) (xs : List ℕ) (b : Bool) → p x ≡ b → list_all p (take (prefix_len p xs) xs)
+    ≡ true
     → list_all p (take (prefix_len p (x ∷ xs)) (x ∷ xs)) ≡ true
 passing_first p x xs true passes rest =
     let one : 1 + prefix_len p xs ≡ suc (prefix_len p xs) = omega arith in

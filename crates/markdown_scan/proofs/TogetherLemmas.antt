@@ -14,7 +14,8 @@ pub past_further : (test : ℕ → Bool) (bytes : List ℕ) (start stop : ℕ) �
 past_further test bytes start stop order within before none = record {
   within = within;
   none = λ at h.
-      none_further test bytes 0 start stop order within (λ p low high. before.none p high) (sym none) at (omega arith) h;
+      none_further test bytes 0 start stop order within (λ p low high. before.none p high) (sym none) at (omega arith)
+      h;
 }
 
 -- past the last bytes, which include all that are left

@@ -1,10 +1,13 @@
 -- What a text stands for, step by step, and that a reference is longer than what it stands for.
-use Rattle.std.proofs.Common.{◌≡◌, ℕ, suc, zero, ◌+◌, ◌-◌, ◌<◌, ◌≤◌, Bool, true, ◌&&◌, ◌||◌, ◌==◌, false, List, [], ◌∷◌, ◌++◌, Option, Some, None}
-use Rattle.std.proofs.Common.{IfSome, length, get_or, take, drop, nat_le, codes, encode_utf8, cond, append_assoc, arith, rules, refl, sym, ap, ◌∙◌}
+use Rattle.std.proofs.Common.{◌≡◌, ℕ, suc, zero, ◌+◌, ◌-◌, ◌<◌, ◌≤◌, Bool, true, ◌&&◌, ◌||◌, ◌==◌, false, List, [], ◌∷◌}
+use Rattle.std.proofs.Common.{◌++◌, Option, Some, None}
+use Rattle.std.proofs.Common.{IfSome, length, get_or, take, drop, nat_le, codes, encode_utf8, cond, append_assoc, arith}
+use Rattle.std.proofs.Common.{rules, refl, sym, ap, ◌∙◌}
 use Rattle.std.proofs.Common.{lit<, lit≤, IsUtf8, IsCharBoundary}
 use Rattle.std.proofs.lemmas.Bool.{cond_both, and_parts, leb-true}
 use Rattle.std.proofs.lemmas.Bool.Decides.{nat_tests}
-use Rattle.std.proofs.lemmas.List.{get_or-drop, length-drop, length-take-le, length-append, drop_more, take_more, drop-drop}
+use Rattle.std.proofs.lemmas.List.{get_or-drop, length-drop, length-take-le, length-append, drop_more, take_more}
+use Rattle.std.proofs.lemmas.List.{drop-drop}
 use Rattle.std.proofs.lemmas.Str.{length-encode, len_utf8_bounds, len_utf8_ascii, IsCharBoundary-after_ascii}
 use Rattle.std.specs.Char.{digit_value, len_utf8, is_ascii_punctuation}
 use Rattle.std.specs.Option.{option_or, option_map_or}

@@ -10,7 +10,8 @@ use Rattle.markdown_blocks.proofs.rules.is_kept_childless.Goals as goal
 pub returns : goal.returns
 returns c =
     let nodes = c.args.tree.now.nodes in
-    let kept = nothing_tested nodes (child_of nodes c.args.ix) c.is_none.result c.requires.below (sym (ap is_some c.child.ensures.value)
+    let kept = nothing_tested nodes (child_of nodes c.args.ix) c.is_none.result c.requires.below
+    (sym (ap is_some c.child.ensures.value)
     ∙ c.is_none.ensures) in
     let body = c.is_childless.ensures ∙ ap (λ i. is_childless i.body) (c.item.ensures no_item) in (
       λ h b. kept.0 (c.implies.ensures.0 h (body ∙ b)),

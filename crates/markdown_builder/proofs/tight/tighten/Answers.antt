@@ -12,20 +12,26 @@ use Rattle.markdown_builder.proofs.tight.tighten.Goals as goal
 pub returns-then-is_paragraph-clause-steps : goal.returns-then-is_paragraph-clause-steps
 returns-then-is_paragraph-clause-steps c = λ first before.
     let item : c.item-item.result.now ≡ item_at c.args.tree.now.nodes c.args.number = c.item-item.ensures no_item in
-    let passes = ap (λ (x : Item). is_paragraph x.body) (sym item) ∙ (sym c.is_paragraph.ensures ∙ c.if-is_paragraph.true) in
-    let made : c.set_item.new.self ≡ with_item c.args.tree.now c.args.number (tight (item_at c.args.tree.now.nodes c.args.number)) =
+    let passes = ap (λ (x : Item). is_paragraph x.body) (sym item)
+    ∙ (sym c.is_paragraph.ensures ∙ c.if-is_paragraph.true) in
+    let made : c.set_item.new.self ≡ with_item c.args.tree.now c.args.number
+    (tight (item_at c.args.tree.now.nodes c.args.number)) =
     c.set_item.ensures ∙ rw (← item) refl in
-    subst (λ (t : Arena Item). Tightens first t) (sym made) (one_tight c.args.tree.now c.args.number before c.requires passes)
+    subst (λ (t : Arena Item). Tightens first t) (sym made)
+    (one_tight c.args.tree.now c.args.number before c.requires passes)
 
 pub returns-then-is_paragraph-clause-makes : goal.returns-then-is_paragraph-clause-makes
 returns-then-is_paragraph-clause-makes c =
     let item : c.item-item.result.now ≡ item_at c.args.tree.now.nodes c.args.number = c.item-item.ensures no_item in
-    let passes = ap (λ (x : Item). is_paragraph x.body) (sym item) ∙ (sym c.is_paragraph.ensures ∙ c.if-is_paragraph.true) in
-    let made : c.set_item.new.self ≡ with_item c.args.tree.now c.args.number (tight (item_at c.args.tree.now.nodes c.args.number)) =
+    let passes = ap (λ (x : Item). is_paragraph x.body) (sym item)
+    ∙ (sym c.is_paragraph.ensures ∙ c.if-is_paragraph.true) in
+    let made : c.set_item.new.self ≡ with_item c.args.tree.now c.args.number
+    (tight (item_at c.args.tree.now.nodes c.args.number)) =
     c.set_item.ensures ∙ rw (← item) refl in
     subst (λ (t : Arena Item). MakesTight (λ p. p ≡ c.args.number) c.args.tree.now.nodes t.nodes) (sym made)
     (one_made c.args.tree.now.nodes _ c.args.number
-    (item_writes c.args.tree.now.nodes c.args.number (tight (item_at c.args.tree.now.nodes c.args.number)) c.requires) passes)
+    (item_writes c.args.tree.now.nodes c.args.number (tight (item_at c.args.tree.now.nodes c.args.number)) c.requires)
+    passes)
 
 pub returns-else-is_paragraph-clause-makes : goal.returns-else-is_paragraph-clause-makes
 returns-else-is_paragraph-clause-makes c =

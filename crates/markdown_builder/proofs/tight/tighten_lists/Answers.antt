@@ -19,7 +19,8 @@ lists-preserved c =
     elim c.if-is_tight_list.branch [
       | then-is_tight_list w ↦ rw w.tree-is (record {
         steps = w.tighten_items.ensures.steps _ c.lists.invariant.steps;
-        makes = list_made c.args.tree.now.nodes c.lists.tree.nodes _ c.lists.number c.lists.invariant.makes w.tighten_items.ensures.makes
+        makes = list_made c.args.tree.now.nodes c.lists.tree.nodes _ c.lists.number c.lists.invariant.makes
+            w.tighten_items.ensures.makes
             (same ∙ w.if-is_tight_list.true);
       })
       | else-is_tight_list w ↦ rw w.tree-is (record {

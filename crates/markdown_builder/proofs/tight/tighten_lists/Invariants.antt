@@ -7,5 +7,6 @@ use Rattle.markdown_builder.proofs.tight.tighten_lists.Given as goal
 abbrev pub invariant-lists : goal.invariant-lists
 invariant-lists l = record {
   steps : Tightens l.fn.tree l.tree;
-  makes : MadeTight (IsInTightList l.fn.tree.nodes) (IsInTightListFrom l.fn.tree.nodes l.number) l.fn.tree.nodes l.tree.nodes;
+  makes : MadeTight (IsInTightList l.fn.tree.nodes) (IsInTightListFrom l.fn.tree.nodes l.number) l.fn.tree.nodes
+      l.tree.nodes;
 }

@@ -16,24 +16,28 @@ siblings-init c = record {
 pub tighten-requires : goal.tighten-requires
 tighten-requires c =
     let l = c.siblings.invariant.left in
-    leads_to c.args.tree.now.nodes c.siblings.tree.nodes c.siblings.link c.in-Some.number l.makes.size l.within c.in-Some.is
+    leads_to c.args.tree.now.nodes c.siblings.tree.nodes c.siblings.link c.in-Some.number l.makes.size l.within
+    c.in-Some.is
 
 pub next-link-requires : goal.next-link-requires
 next-link-requires c =
     let l = c.siblings.invariant.left in
-    let low = leads_to c.args.tree.now.nodes c.siblings.tree.nodes c.siblings.link c.in-Some.number l.makes.size l.within c.in-Some.is in
+    let low = leads_to c.args.tree.now.nodes c.siblings.tree.nodes c.siblings.link c.in-Some.number l.makes.size
+    l.within c.in-Some.is in
     rw c.tighten.ensures.makes.size low
 
 pub siblings-smaller : goal.siblings-smaller
 siblings-smaller c =
-    (sibling_step c.args.tree.now.nodes c.siblings.tree.nodes c.tighten.new.tree.nodes c.args.first c.siblings.link c.next-link.result
+    (sibling_step c.args.tree.now.nodes c.siblings.tree.nodes c.tighten.new.tree.nodes c.args.first c.siblings.link
+    c.next-link.result
     c.in-Some.number
     c.requires.rising c.siblings.invariant.left c.in-Some.is c.tighten.ensures.makes c.next-link.ensures.value).1
 
 pub siblings-preserved : goal.siblings-preserved
 siblings-preserved c = record {
   steps = λ start t. c.tighten.ensures.steps start (c.siblings.invariant.steps start t);
-  left = (sibling_step c.args.tree.now.nodes c.siblings.tree.nodes c.tighten.new.tree.nodes c.args.first c.siblings.link c.next-link.result
+  left = (sibling_step c.args.tree.now.nodes c.siblings.tree.nodes c.tighten.new.tree.nodes c.args.first c.siblings.link
+      c.next-link.result
       c.in-Some.number
       c.requires.rising c.siblings.invariant.left c.in-Some.is c.tighten.ensures.makes c.next-link.ensures.value).0;
 }
@@ -41,6 +45,7 @@ siblings-preserved c = record {
 pub returns : goal.returns
 returns c = record {
   steps = λ start t. c.siblings.invariant.steps start t;
-  makes = siblings_done c.args.tree.now.nodes c.siblings.tree.nodes c.args.first c.siblings.link c.siblings.invariant.left
+  makes = siblings_done c.args.tree.now.nodes c.siblings.tree.nodes c.args.first c.siblings.link
+      c.siblings.invariant.left
       c.in_default.not-Some;
 }

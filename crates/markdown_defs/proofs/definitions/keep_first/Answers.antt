@@ -13,7 +13,8 @@ returns-then-contains_key-clause-kept c =
     let text : string_bytes c.in_ok-folded.folded ≡ folded_text (text_of c.args.entry.0) = c.in_ok-folded.ensures.folded
     ∙ ap folded_text c.as_str.ensures in
     let asked = rw text at (sym (rw c.as_str-2.ensures.value at c.contains_key.ensures) ∙ c.if-contains_key.true) in
-    left_out c.args.kept.now.items c.args.entry (ap is_some (sym (c.requires (case_folding (text_of c.args.entry.0)))) ∙ asked)
+    left_out c.args.kept.now.items c.args.entry (ap is_some (sym (c.requires (case_folding (text_of c.args.entry.0))))
+    ∙ asked)
 
 pub returns-then-contains_key-clause-indexed : goal.returns-then-contains_key-clause-indexed
 returns-then-contains_key-clause-indexed c = c.requires
@@ -34,9 +35,11 @@ returns-clause-indexed c =
     let absent : is_some (place_of (case_folding (text_of c.args.entry.0)) c.args.kept.now.items)
     ≡ false = ap is_some (sym (c.requires (case_folding (text_of c.args.entry.0)))) ∙ asked in
     let last : c.len.result ≡ length c.args.kept.now.items = c.len.ensures ∙ c.args.kept.now.ok.0 in
-    let updated = rw (text, last) at (btree_map_updates_text (string_bytes c.in_ok-folded.folded) c.args.by_folding.now c.insert.new.self _
+    let updated = rw (text, last) at
+    (btree_map_updates_text (string_bytes c.in_ok-folded.folded) c.args.by_folding.now c.insert.new.self _
     c.in_ok-insert.ensures.updates) in
     rw c.in_ok-push.ensures.items (
-    indexed_push (get_by_text c.args.by_folding.now) (get_by_text c.insert.new.self) (case_folding (text_of c.args.entry.0))
+    indexed_push (get_by_text c.args.by_folding.now) (get_by_text c.insert.new.self)
+    (case_folding (text_of c.args.entry.0))
     c.args.kept.now.items c.args.entry c.requires
     updated refl absent)

@@ -9,7 +9,9 @@ use Rattle.markdown_defs.proofs.footnotes.add_unused.Goals as goal
 
 pub returns-clause-added : goal.returns-clause-added
 returns-clause-added c = λ folded.
-    (rw c.in_ok-folded.ensures.folded at (btree_map_updates_text _ c.args.by_folding.now c.insert.new.self _ c.in_ok-insert.ensures.updates
+    (rw c.in_ok-folded.ensures.folded at
+    (btree_map_updates_text _ c.args.by_folding.now c.insert.new.self _ c.in_ok-insert.ensures.updates
     (encode_utf8_all folded)))
-    ∙ ap (λ b. cond b (Some unused) (get_by_text c.args.by_folding.now (encode_utf8_all folded))) (encoded_eq (case_folding c.args.name.now)
+    ∙ ap (λ b. cond b (Some unused) (get_by_text c.args.by_folding.now (encode_utf8_all folded)))
+    (encoded_eq (case_folding c.args.name.now)
     folded)

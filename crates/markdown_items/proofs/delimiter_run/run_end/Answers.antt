@@ -22,7 +22,12 @@ returns-clause-value c =
     let done = c.loop-stop-test.false in
     run_end_is c.args.text.now c.args.at c.args.end c.args.end within
     (record {
-      run = record { more = more; within = within; same = λ p low high. c.loop-stop.invariant p low (omega (arith, high, done)) };
+      run = record {
+        more = more;
+        within = within;
+        same = λ p low high. c.loop-stop.invariant p low
+            (omega (arith, high, done));
+      };
       within = omega arith;
       whole = λ h. absurd (omega (arith, h));
     })

@@ -33,9 +33,11 @@ content-preserved c =
       content = elim c.if-not-are_behind_endings.branch [
         | then-not-are_behind_endings+else-before-lt-TOGETHER w ↦ λ p low high.
             let full = w.if-before-lt-TOGETHER.false in
-            content_through bytes c.args.from start (start + 16) w.length_before_ending-before.result (omega arith) within
+            content_through bytes c.args.from start (start + 16) w.length_before_ending-before.result (omega arith)
+            within
             kept.content w.length_before_ending-before.ensures p low (omega (arith, high, full))
-        | else-not-are_behind_endings w ↦ none_further is_line_ending bytes c.args.from start (start + 16) (omega arith) within
+        | else-not-are_behind_endings w ↦ none_further is_line_ending bytes c.args.from start (start + 16) (omega arith)
+            within
             kept.content (c.are_behind_endings.ensures w.if-not-are_behind_endings.false)
       ];
     }
@@ -47,4 +49,5 @@ returns c =
     let high = kept.high in
     let bytes = c.args.bytes.now in
     line_end_in bytes c.args.from c.content.start (length bytes) c.length_before_ending.result low high (omega arith)
-    kept.content c.length_before_ending.ensures (λ (h : c.content.start + c.length_before_ending.result < length bytes). omega (arith, h))
+    kept.content c.length_before_ending.ensures
+    (λ (h : c.content.start + c.length_before_ending.result < length bytes). omega (arith, h))

@@ -36,7 +36,8 @@ white-preserved c =
     let started = left_is text stop here none in
     let width = ap width_next started ∙ width_is text stop here.at here.column byte low within is in
     let columns = read.columns ∙ ap (min left) (sym width) in
-    let behind = moved text stop here.at here.column left byte c.past_white-read.result.behind low within is some read.at
+    let behind = moved text stop here.at here.column left byte c.past_white-read.result.behind low within is some
+    read.at
     read.owed read.column ∙ ap (past_white left) (sym started) in
     let positive : 0 < c.past_white-read.result.columns = omega (arith, read.columns, some, more) in
     record {
@@ -44,8 +45,10 @@ white-preserved c =
       few = omega (arith, read.columns, before.few);
       none_owed = λ less. none_owed left c.past_white-read.result.columns (left_from text here stop)
           (left_from text c.past_white-read.result.behind stop) columns behind (omega (arith, less, before.few));
-      value = space_step (leading_space c.args.most (left_from text c.args.place stop)) c.args.most c.white.found.columns
-          c.past_white-read.result.columns (left_from text here stop) (left_from text c.past_white-read.result.behind stop)
+      value = space_step (leading_space c.args.most (left_from text c.args.place stop)) c.args.most
+          c.white.found.columns
+          c.past_white-read.result.columns (left_from text here stop)
+          (left_from text c.past_white-read.result.behind stop)
           before.value none more columns behind positive;
     }
 
@@ -55,12 +58,14 @@ returns-then-found-most-clause-value c =
     c.bytes_of-byte-items.ensures c.white-test.true in
     elim c.then-found-most.branch [
       | then-found-most-via-then-found-most w ↦
-          none_more c.args.text.now c.args.place c.args.stop c.args.most c.white.found w.if-found-most.true c.white.invariant.value
+          none_more c.args.text.now c.args.place c.args.stop c.args.most c.white.found w.if-found-most.true
+          c.white.invariant.value
       | then-found-most-via-else-found-most+then-not-is_space_or_tab w ↦
           other_next c.args.text.now c.args.place c.args.stop c.args.most
           (get_or c.bytes_of-byte-items.result.now c.white.byte-index 0) c.white.found
           (omega (arith, inside.low, c.white.invariant.at)) (omega (arith, inside.within, c.white.invariant.at))
           (inside.byte ∙ ap (λ n. get_or c.args.text.now n 0) (sym c.white.invariant.at))
           (sym w.is_space_or_tab.ensures ∙ w.if-not-is_space_or_tab.true)
-          (c.white.invariant.none_owed (omega (arith, c.white.invariant.few, w.if-found-most.false))) c.white.invariant.value
+          (c.white.invariant.none_owed (omega (arith, c.white.invariant.few, w.if-found-most.false)))
+          c.white.invariant.value
     ]

@@ -21,6 +21,7 @@ returns-then-starts_with c =
     let behind =
     past_byte_is text here c.past.result stop more (c.past.ensures.at (omega (arith, more, c.ranges.stop.fits)))
     c.past.ensures.column c.past.ensures.owed in
-    marker_behind_is text (leading_space 4 (left_from text c.args.place stop)) c.read_space-before.result.columns here c.past.result
+    marker_behind_is text (leading_space 4 (left_from text c.args.place stop)) c.read_space-before.result.columns here
+    c.past.result
     stop c.read_space.result c.read_space-before.ensures.value.columns c.read_space-before.ensures.value.behind
     c.if-before-lt4.true marker behind c.read_space.ensures.value

@@ -5,7 +5,8 @@ use Rattle.markdown_plain.specs.Containers.{Reach, reach_from, reach_of}
 use Rattle.markdown_plain.specs.OpenBlocks.{outer_of}
 use Rattle.markdown_plain.specs.Stretches.{starts, starts_behind}
 use Rattle.markdown_plain.proofs.ContainersLemmas.{none_left, next_is_leaf, next_ends, next_goes_on}
-use Rattle.markdown_plain.proofs.StretchesLemmas.{AtNextStretch, ahead_deep, past_stretch_at, starts_ahead, starts_at_first, starts_past_any}
+use Rattle.markdown_plain.proofs.StretchesLemmas.{AtNextStretch, ahead_deep, past_stretch_at, starts_ahead}
+use Rattle.markdown_plain.proofs.StretchesLemmas.{starts_at_first, starts_past_any}
 use Rattle.markdown_plain.proofs.containers.reach_blocks.Goals as goal
 
 pub blocks-2-init : goal.blocks-2-init
@@ -38,7 +39,8 @@ blocks-2-preserved c =
     let empty = c.args.item_is_empty in
     let blocks = c.args.blocks.now in
     let behind = c.behind_container-reached.ensures in
-    let depth : c.behind_container-reached.result.depth ≡ c.blocks-2.reached.depth + 1 = ap (λ (r : Reach). r.depth) behind in
+    let depth : c.behind_container-reached.result.depth ≡ c.blocks-2.reached.depth + 1 = ap (λ (r : Reach). r.depth)
+    behind in
     let more = c.blocks-2-test.true in
     record {
       within = omega (arith, depth, more);
@@ -50,7 +52,8 @@ blocks-2-preserved c =
           (c.blocks-2.invariant.ahead known)
           ∙ ap (λ n. starts_ahead old n blocks) (sym depth)));
       goes_on =
-          ap (λ n. reach_from old empty stop (drop n blocks) (reach_of text stop c.behind_container-reached.result)) depth
+          ap (λ n. reach_from old empty stop (drop n blocks) (reach_of text stop c.behind_container-reached.result))
+          depth
           ∙ (ap (λ r. reach_from old empty stop (drop (c.blocks-2.reached.depth + 1) blocks) r) behind
           ∙ (sym (next_goes_on old empty stop blocks c.blocks-2.reached.depth _ (reach_of text stop c.blocks-2.reached)
           (left_from text c.in-Some.place stop) more (sym c.is_container.ensures ∙ c.if-not-is_container.false)
@@ -83,7 +86,8 @@ blocks-2-preserved-then-is_skipped c =
       ahead = λ known.
           c.starts_behind-starts.ensures
           ∙ (past.ahead
-          ∙ sym (ahead_deep c.args.stretches.old_notes c.next_start.result c.args.blocks.now (omega (arith, more, deep))));
+          ∙ sym (ahead_deep c.args.stretches.old_notes c.next_start.result c.args.blocks.now
+          (omega (arith, more, deep))));
       goes_on = sym past.reached ∙ c.blocks-2.invariant.goes_on;
     }
 

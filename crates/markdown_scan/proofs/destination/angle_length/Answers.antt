@@ -9,9 +9,11 @@ loop-first-preserved c =
     let invariant = c.loop-first.invariant in
     record {
       sum = omega (arith, split.1, invariant.sum);
-      here = drop_next c.args.bytes.now c.in-Some.tail.now c.loop-first.at c.in-Some.first.now (sym split.0 ∙ invariant.here);
+      here = drop_next c.args.bytes.now c.in-Some.tail.now c.loop-first.at c.in-Some.first.now
+          (sym split.0 ∙ invariant.here);
       value = rw c.is_bare-escaped.ensures (
-          angle_step (angle_length false c.args.bytes.now) c.loop-first.escaped c.loop-first.at c.in-Some.first.now c.in-Some.tail.now
+          angle_step (angle_length false c.args.bytes.now) c.loop-first.escaped c.loop-first.at c.in-Some.first.now
+          c.in-Some.tail.now
           (rw split.0 at invariant.value)
           (sym c.is_bare.ensures ∙ c.if-is_bare.false) (sym c.is_refused.ensures ∙ c.if-is_refused.false));
     }

@@ -10,12 +10,15 @@ loop-first-preserved c =
     let invariant = c.loop-first.invariant in
     record {
       sum = omega (arith, split.1, invariant.sum);
-      here = drop_next c.args.bytes.now c.in-Some.tail.now c.loop-first.at c.in-Some.first.now (sym split.0 ∙ invariant.here);
+      here = drop_next c.args.bytes.now c.in-Some.tail.now c.loop-first.at c.in-Some.first.now
+          (sym split.0 ∙ invariant.here);
       few = omega (arith, invariant.few, c.open_after-opened.ensures.more);
       value = rw (c.is_bare-escaped.ensures, c.open_after-opened.ensures.value) (
-          bare_step c.args.max_nesting (bare_length c.args.max_nesting false 0 c.args.bytes.now) c.loop-first.escaped c.loop-first.opened
+          bare_step c.args.max_nesting (bare_length c.args.max_nesting false 0 c.args.bytes.now) c.loop-first.escaped
+          c.loop-first.opened
           c.loop-first.at c.in-Some.first.now c.in-Some.tail.now
-          (rw split.0 at invariant.value) (sym c.is_past_bare.ensures ∙ c.if-is_past_bare.false) (sym c.is_too_deep.ensures
+          (rw split.0 at invariant.value) (sym c.is_past_bare.ensures ∙ c.if-is_past_bare.false)
+          (sym c.is_too_deep.ensures
           ∙ c.if-is_too_deep.false));
     }
 
@@ -25,10 +28,12 @@ loop-first-preserved-then-not-may_matter c =
     let invariant = c.loop-first.invariant in
     record {
       sum = omega (arith, split.1, invariant.sum);
-      here = drop_next c.args.bytes.now c.in-Some.tail.now c.loop-first.at c.in-Some.first.now (sym split.0 ∙ invariant.here);
+      here = drop_next c.args.bytes.now c.in-Some.tail.now c.loop-first.at c.in-Some.first.now
+          (sym split.0 ∙ invariant.here);
       few = omega (arith, invariant.few);
       value =
-          ordinary_step c.args.max_nesting (bare_length c.args.max_nesting false 0 c.args.bytes.now) c.loop-first.escaped
+          ordinary_step c.args.max_nesting (bare_length c.args.max_nesting false 0 c.args.bytes.now)
+          c.loop-first.escaped
           c.loop-first.opened c.loop-first.at c.in-Some.first.now c.in-Some.tail.now (rw split.0 at invariant.value)
           (sym c.if-not-may_matter.ensures);
     }

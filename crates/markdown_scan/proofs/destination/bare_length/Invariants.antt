@@ -9,7 +9,8 @@ invariant-loop-first l = record {
   sum : l.at + length l.rest ≡ length l.bytes;
   here : l.rest ≡ drop l.at l.bytes;
   few : l.opened ≤ l.at;
-  value : bare_length l.max_nesting false 0 l.bytes ≡ option_map (λ n. l.at + n) (bare_length l.max_nesting l.escaped l.opened l.rest);
+  value : bare_length l.max_nesting false 0 l.bytes
+      ≡ option_map (λ n. l.at + n) (bare_length l.max_nesting l.escaped l.opened l.rest);
 }
 
 abbrev pub decreases-loop-first : goal.decreases-loop-first

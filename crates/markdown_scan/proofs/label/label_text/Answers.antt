@@ -31,9 +31,11 @@ loop-c-preserved g c =
       utf8 = c.in-Some.ensures.text;
       source = ap (λ source. source.now) c.in_ok-put_shown.ensures.source ∙ c.loop-c.invariant.source;
       value = rw c.is_bare-escaped.ensures (
-          read_step (option_map (λ f. collapse_whitespace false false f.1) (found_in skipped in_table false c.args.text.now))
+          read_step (option_map (λ f. collapse_whitespace false false f.1)
+          (found_in skipped in_table false c.args.text.now))
           (found_in skipped in_table escaped c.loop-c.rest.now)
           (found_in skipped in_table (is_bare escaped c.in-Some.c backslash) c.in-Some.tail.now) next.0
           (character_shown in_table c.in-Some.c c.in-Some.tail.now)
-          (completed c.loop-c.found) (completed c.put_shown.new.self) c.loop-c.invariant.value next.1 c.in_ok-put_shown.ensures.text);
+          (completed c.loop-c.found) (completed c.put_shown.new.self) c.loop-c.invariant.value next.1
+          c.in_ok-put_shown.ensures.text);
     }

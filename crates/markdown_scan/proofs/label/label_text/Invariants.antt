@@ -12,7 +12,8 @@ abbrev pub invariant-loop-c : goal.invariant-loop-c
 invariant-loop-c g l = record {
   utf8 : shadow (Utf8 l.rest);
   source : l.found.source.now ≡ l.source;
-  value : option_map (λ f. collapse_whitespace false false f.1) (found_in (g.R.LineRule.skipped l.rule) l.in_table false l.text)
+  value : option_map (λ f. collapse_whitespace false false f.1)
+      (found_in (g.R.LineRule.skipped l.rule) l.in_table false l.text)
       ≡ option_map (λ f. completed l.found f.1) (found_in (g.R.LineRule.skipped l.rule) l.in_table l.escaped l.rest);
 }
 

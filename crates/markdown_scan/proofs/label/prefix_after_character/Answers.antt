@@ -12,7 +12,8 @@ returns-then-is_ascii-clause-boundary g c =
     let rest = c.args.rest.now in
     let within = rw c.as_bytes.ensures.value at c.prefix_after.ensures.within in
     let ascii = rw c.as_bytes.ensures.value at c.prefix_after.ensures.ascii in
-    if_both c.prefix_after.result (λ n. n ≤ length rest) (λ n. list_all is_ascii (take n rest) ≡ true) (λ n. IsCharBoundary rest n) within
+    if_both c.prefix_after.result (λ n. n ≤ length rest) (λ n. list_all is_ascii (take n rest) ≡ true)
+    (λ n. IsCharBoundary rest n) within
     ascii
     (λ n inside all. after_ascii_bytes rest n c.utf8.rest inside all)
 

@@ -10,5 +10,6 @@ returns-clause-boundary c =
     let here = rw (bytes, body) at c.in_ok-name_length.ensures.here in
     let ascii : get_or (take (c.args.start + c.args.length - c.args.start) (drop c.args.start c.args.text.now))
     c.in_ok-name_length.name_length 0 < 128 = omega (arith, here.1) in
-    after_ascii_of_part c.args.text.now c.args.start (c.args.start + c.args.length - c.args.start) c.in_ok-name_length.name_length
+    after_ascii_of_part c.args.text.now c.args.start (c.args.start + c.args.length - c.args.start)
+    c.in_ok-name_length.name_length
     c.utf8.text here.0 ascii

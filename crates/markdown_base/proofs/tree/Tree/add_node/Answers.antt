@@ -12,5 +12,6 @@ invariant_of-self-2 g c =
     let few : length (nodes_of c.self.inside.nodes.items) < node_limit =
     omega (arith, c.len-ix.ensures, length-map c.self.inside.nodes.items node_of) in
     rw c.in_ok-push.ensures.items
-    (within_stored c.self.inside.nodes.items c.self.inside.spine.items c.self.inside.cur _ c.self.invariant few (rw c.to.ensures tt)
+    (within_stored c.self.inside.nodes.items c.self.inside.spine.items c.self.inside.cur _ c.self.invariant few
+    (rw c.to.ensures tt)
     (rw c.to-2.ensures link))

@@ -5,4 +5,5 @@ use Rattle.markdown_base.proofs.tree.Tree.item.Goals as goal
 pub returns : goal.returns
 returns g c =
     λ d. rw (← c.self.view_is)
-    (read_item c.self.inside.nodes.items c.args.ix c.index.result.now d (rw (← c.self.view_is) at c.requires) c.index.ensures)
+    (read_item c.self.inside.nodes.items c.args.ix c.index.result.now d (rw (← c.self.view_is) at c.requires)
+    c.index.ensures)

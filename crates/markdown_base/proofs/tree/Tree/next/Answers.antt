@@ -9,15 +9,18 @@ pub returns-clause-value : goal.returns-clause-value
 returns-clause-value g c =
     rw (← c.self.view_is)
     (c.target.ensures
-    ∙ read_next c.self.inside.nodes.items c.args.ix c.index.result.now (rw (← c.self.view_is) at c.requires) c.index.ensures)
+    ∙ read_next c.self.inside.nodes.items c.args.ix c.index.result.now (rw (← c.self.view_is) at c.requires)
+    c.index.ensures)
 
 pub returns-clause-within : goal.returns-clause-within
 returns-clause-within g c =
-    let within = sibling_within (nodes_of c.self.inside.nodes.items) (length (nodes_of c.self.inside.nodes.items)) c.args.ix
+    let within = sibling_within (nodes_of c.self.inside.nodes.items) (length (nodes_of c.self.inside.nodes.items))
+    c.args.ix
     c.self.invariant.links in
     let value =
     c.target.ensures
-    ∙ read_next c.self.inside.nodes.items c.args.ix c.index.result.now (rw (← c.self.view_is) at c.requires) c.index.ensures in
+    ∙ read_next c.self.inside.nodes.items c.args.ix c.index.result.now (rw (← c.self.view_is) at c.requires)
+    c.index.ensures in
     rw (← c.self.view_is, value) within
 
 pub returns-clause-few : goal.returns-clause-few

@@ -8,4 +8,5 @@ pub returns-in-Some-clause-value : goal.returns-in-Some-clause-value
 returns-in-Some-clause-value g c =
     let there = c.in-Some.ensures.value in
     rw (← c.self.view_is, ← c.deref.ensures.value)
-    (sym (innermost-last c.deref.result.now _ _ (omega (arith, slice_get_within c.deref.result.now _ _ (sym there))) there))
+    (sym (innermost-last c.deref.result.now _ _ (omega (arith, slice_get_within c.deref.result.now _ _ (sym there)))
+    there))

@@ -6,21 +6,32 @@ use Rattle.markdown_base.proofs.tree.Tree.set_child.Goals as goal
 
 pub returns : goal.returns
 returns g c =
-    arena_changed c.args.self.now c.self.inside.nodes.items c.self.inside.spine.items c.self.inside.cur c.args.ix c.index_mut-node.result.now
-    (record c.index_mut-node.result.now { child = c.to-node.result }) (λ n. record n { child = c.args.child }) c.self.view_is c.requires.node
-    c.index_mut-node.ensures.value (ap (λ l. record (node_of c.index_mut-node.result.now) { child = l }) c.to-node.ensures)
+    arena_changed c.args.self.now c.self.inside.nodes.items c.self.inside.spine.items c.self.inside.cur c.args.ix
+    c.index_mut-node.result.now
+    (record c.index_mut-node.result.now { child = c.to-node.result }) (λ n. record n { child = c.args.child })
+    c.self.view_is c.requires.node
+    c.index_mut-node.ensures.value
+    (ap (λ l. record (node_of c.index_mut-node.result.now) { child = l }) c.to-node.ensures)
 
 pub invariant_of-self : goal.invariant_of-self
 invariant_of-self g c =
     let there = rw (← c.self.view_is) at c.requires.node in
-    let leads = leads_within c.self.inside.nodes.items c.args.ix c.index_mut-node.result.now there c.index_mut-node.ensures.value
+    let leads = leads_within c.self.inside.nodes.items c.args.ix c.index_mut-node.result.now there
+    c.index_mut-node.ensures.value
     c.self.invariant.links in
     let link = rw (← c.self.view_is) at c.requires.child in
-    within_written c.self.inside.nodes.items c.self.inside.spine.items c.self.inside.cur c.args.ix c.index_mut-node.result.now
-    (record c.index_mut-node.result.now { child = c.to-node.result }) c.self.invariant there c.index_mut-node.ensures.value
+    within_written c.self.inside.nodes.items c.self.inside.spine.items c.self.inside.cur c.args.ix
+    c.index_mut-node.result.now
+    (record c.index_mut-node.result.now { child = c.to-node.result }) c.self.invariant there
+    c.index_mut-node.ensures.value
     (record { child = rw c.to-node.ensures link; next = leads.next })
 
 pub to-node-requires : goal.to-node-requires
 to-node-requires g c =
-    can_lead (record { nodes = nodes_of c.self.inside.nodes.items; spine = c.self.inside.spine.items; cursor = c.self.inside.cur })
+    can_lead (record {
+      nodes = nodes_of c.self.inside.nodes.items;
+      spine = c.self.inside.spine.items;
+      cursor
+          = c.self.inside.cur;
+    })
     c.args.child c.self.invariant (rw (← c.self.view_is) at c.requires.child)

@@ -5,8 +5,10 @@ use Rattle.markdown_base.proofs.tree.Tree.set_item.Goals as goal
 
 pub returns : goal.returns
 returns g c =
-    arena_changed c.args.self.now c.self.inside.nodes.items c.self.inside.spine.items c.self.inside.cur c.args.ix c.index_mut.result.now
-    (record c.index_mut.result.now { item = c.args.item }) (λ n. record n { item = c.args.item }) c.self.view_is c.requires
+    arena_changed c.args.self.now c.self.inside.nodes.items c.self.inside.spine.items c.self.inside.cur c.args.ix
+    c.index_mut.result.now
+    (record c.index_mut.result.now { item = c.args.item }) (λ n. record n { item = c.args.item }) c.self.view_is
+    c.requires
     c.index_mut.ensures.value refl
 
 pub invariant_of-self : goal.invariant_of-self
@@ -14,6 +16,7 @@ invariant_of-self g c =
     let there = rw (← c.self.view_is) at c.requires in
     let leads = leads_within c.self.inside.nodes.items c.args.ix c.index_mut.result.now there c.index_mut.ensures.value
     c.self.invariant.links in
-    within_written c.self.inside.nodes.items c.self.inside.spine.items c.self.inside.cur c.args.ix c.index_mut.result.now
+    within_written c.self.inside.nodes.items c.self.inside.spine.items c.self.inside.cur c.args.ix
+    c.index_mut.result.now
     (record c.index_mut.result.now { item = c.args.item }) c.self.invariant there c.index_mut.ensures.value
     (record { child = leads.child; next = leads.next })

@@ -14,7 +14,8 @@ next-link-requires c = (opens_at c.args.tree.now.nodes c.in-Some.ix (rw c.in-Som
 
 pub chain-smaller : goal.chain-smaller
 chain-smaller c =
-    let falls = chain_falls c.args.tree.now.nodes c.in-Some.ix c.next-link.result (rw c.in-Some.is at c.chain.invariant.leads)
+    let falls = chain_falls c.args.tree.now.nodes c.in-Some.ix c.next-link.result
+    (rw c.in-Some.is at c.chain.invariant.leads)
     c.next-link.ensures.value in
     rw c.in-Some.is falls
 

@@ -7,4 +7,5 @@ use Rattle.markdown_builder.proofs.builder.Builder.backticks.Goals as goal
 pub invariant_of-self-2 : goal.invariant_of-self-2
 invariant_of-self-2 c =
     rw c.in_ok-append.ensures.made
-    (backticks_keeps (standpoint c.args.self.now) c.args.end c.args.escaped c.self.invariant (ap standpoint c.self.view_is) c.requires.inside c.requires.run)
+    (backticks_keeps (standpoint c.args.self.now) c.args.end c.args.escaped c.self.invariant
+    (ap standpoint c.self.view_is) c.requires.inside c.requires.run)

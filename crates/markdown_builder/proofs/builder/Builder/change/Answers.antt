@@ -7,7 +7,9 @@ use Rattle.markdown_builder.proofs.builder.Builder.change.Goals as goal
 
 pub invariant_of-self : goal.invariant_of-self
 invariant_of-self c =
-    change_keeps (standpoint c.args.self.now) c.in-Some.open.now c.args.body c.replace_last.new.blocks.items c.rewrite.new.tree c.self.invariant
+    change_keeps (standpoint c.args.self.now) c.in-Some.open.now c.args.body c.replace_last.new.blocks.items
+    c.rewrite.new.tree c.self.invariant
     (ap standpoint c.self.view_is)
-    c.requires.block c.requires.same (c.in-Some.ensures.value ∙ ap innermost_block c.deref.ensures.value) c.replace_last.ensures
+    c.requires.block c.requires.same (c.in-Some.ensures.value ∙ ap innermost_block c.deref.ensures.value)
+    c.replace_last.ensures
     c.rewrite.ensures

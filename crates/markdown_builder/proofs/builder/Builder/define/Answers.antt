@@ -7,8 +7,10 @@ use Rattle.markdown_builder.proofs.builder.Builder.define.Goals as goal
 
 pub invariant_of-self-2 : goal.invariant_of-self-2
 invariant_of-self-2 c =
-    let made : LinkDef = record { dest = c.args.dest; title = c.args.title; span = record { start = c.self.inside.at; end = c.args.end } }
+    let made : LinkDef = record
+    { dest = c.args.dest; title = c.args.title; span = record { start = c.self.inside.at; end = c.args.end } }
     in
     rw c.in_ok-push.ensures.items
-    (define_keeps (standpoint c.args.self.now) c.args.end (c.args.label, made) c.self.invariant (ap standpoint c.self.view_is) c.requires.low c.requires.boundary
+    (define_keeps (standpoint c.args.self.now) c.args.end (c.args.label, made) c.self.invariant
+    (ap standpoint c.self.view_is) c.requires.low c.requires.boundary
     c.requires.bracket refl)

@@ -13,13 +13,15 @@ tighten_lists-requires c = c.self.invariant.stands.nodes.rising
 
 pub returns-clause-formed : goal.returns-clause-formed
 returns-clause-formed c =
-    let k = finish_keeps (standpoint c.args.self) c.tighten_lists.new.tree c.self.invariant (ap standpoint c.self.view_is) c.requires.closed
+    let k = finish_keeps (standpoint c.args.self) c.tighten_lists.new.tree c.self.invariant
+    (ap standpoint c.self.view_is) c.requires.closed
     c.tighten_lists.ensures.steps in
     rw (← c.self.view_is) (keeps_formed c.self.inside.text.now c.tighten_lists.new.tree.nodes _ k.stands.nodes k.runs)
 
 pub returns-clause-covered : goal.returns-clause-covered
 returns-clause-covered c =
-    let k = finish_keeps (standpoint c.args.self) c.tighten_lists.new.tree c.self.invariant (ap standpoint c.self.view_is) c.requires.closed
+    let k = finish_keeps (standpoint c.args.self) c.tighten_lists.new.tree c.self.invariant
+    (ap standpoint c.self.view_is) c.requires.closed
     c.tighten_lists.ensures.steps in
     covers_at_end (standpoint c.args.self)
     (record {
@@ -31,11 +33,13 @@ returns-clause-covered c =
     }) k.stands (ap standpoint c.self.view_is) refl c.requires.closed c.requires.read
 
 pub returns-clause-tight : goal.returns-clause-tight
-returns-clause-tight c = tight_in_tight_lists c.self.inside.tree.nodes c.tighten_lists.new.tree.nodes c.self.invariant.loose
+returns-clause-tight c = tight_in_tight_lists c.self.inside.tree.nodes c.tighten_lists.new.tree.nodes
+    c.self.invariant.loose
     c.tighten_lists.ensures.makes
 
 pub returns-clause-headings : goal.returns-clause-headings
 returns-clause-headings c =
-    let k = finish_keeps (standpoint c.args.self) c.tighten_lists.new.tree c.self.invariant (ap standpoint c.self.view_is) c.requires.closed
+    let k = finish_keeps (standpoint c.args.self) c.tighten_lists.new.tree c.self.invariant
+    (ap standpoint c.self.view_is) c.requires.closed
     c.tighten_lists.ensures.steps in
     headings_hold_inline c.self.inside.text.now _ c.tighten_lists.new.tree.nodes k.stands.nodes

@@ -7,4 +7,5 @@ use Rattle.markdown_builder.proofs.builder.Builder.image.Goals as goal
 pub invariant_of-self-2 : goal.invariant_of-self-2
 invariant_of-self-2 c =
     rw c.in_ok-append.ensures.made
-    (image_keeps (standpoint c.args.self.now) c.self.invariant (ap standpoint c.self.view_is) c.requires.inside c.requires.more c.requires.first c.requires.second)
+    (image_keeps (standpoint c.args.self.now) c.self.invariant (ap standpoint c.self.view_is) c.requires.inside
+    c.requires.more c.requires.first c.requires.second)

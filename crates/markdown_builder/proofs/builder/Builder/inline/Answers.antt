@@ -7,5 +7,6 @@ use Rattle.markdown_builder.proofs.builder.Builder.inline.Goals as goal
 pub invariant_of-self-2 : goal.invariant_of-self-2
 invariant_of-self-2 c =
     rw c.in_ok-append.ensures.made
-    (inline_keeps (standpoint c.args.self.now) c.args.end c.args.body c.self.invariant (ap standpoint c.self.view_is) c.requires.settled c.requires.inside c.requires.low
+    (inline_keeps (standpoint c.args.self.now) c.args.end c.args.body c.self.invariant (ap standpoint c.self.view_is)
+    c.requires.settled c.requires.inside c.requires.low
     c.requires.boundary)

@@ -7,10 +7,12 @@ use Rattle.markdown_builder.proofs.builder.Builder.open.Goals as goal
 pub invariant_of-self : goal.invariant_of-self
 invariant_of-self c =
     rw c.in_err-enter.ensures.stays
-    (open_refused (standpoint c.args.self.now) c.args.body c.enter.new.tree c.self.invariant (ap standpoint c.self.view_is) c.requires.block c.requires.outside
+    (open_refused (standpoint c.args.self.now) c.args.body c.enter.new.tree c.self.invariant
+    (ap standpoint c.self.view_is) c.requires.block c.requires.outside
     c.in_err-enter.ensures.refused)
 
 pub invariant_of-self-2 : goal.invariant_of-self-2
 invariant_of-self-2 c =
     rw (c.in_ok-enter.ensures.entered, c.in_ok-enter.ensures.opened, c.is_leaf-self-inside.ensures)
-    (open_keeps (standpoint c.args.self.now) c.args.body c.self.invariant (ap standpoint c.self.view_is) c.requires.block c.requires.outside)
+    (open_keeps (standpoint c.args.self.now) c.args.body c.self.invariant (ap standpoint c.self.view_is)
+    c.requires.block c.requires.outside)

@@ -10,7 +10,8 @@ pub invariant_of-self-in_err-enter : goal.invariant_of-self-in_err-enter
 invariant_of-self-in_err-enter c =
     let ix = c.in_ok-ix.ix in
     rw c.in_err-enter.ensures.stays
-    (named_refused (standpoint c.args.self.now) _ (body.FencedCodeBlock ix) ix c.enter.new.tree c.self.invariant (ap standpoint c.self.view_is) c.requires
+    (named_refused (standpoint c.args.self.now) _ (body.FencedCodeBlock ix) ix c.enter.new.tree c.self.invariant
+    (ap standpoint c.self.view_is) c.requires
     c.in_ok-ix.ensures.number
     (c.in_ok-ix.ensures.more, refl, refl) (fenced_names ix) refl c.in_err-enter.ensures.refused)
 
@@ -18,5 +19,6 @@ pub invariant_of-self-2 : goal.invariant_of-self-2
 invariant_of-self-2 c =
     let ix = c.in_ok-ix.ix in
     rw (c.in_ok-enter.ensures.entered, c.in_ok-enter.ensures.opened)
-    (named_keeps (standpoint c.args.self.now) _ (body.FencedCodeBlock ix) ix c.self.invariant (ap standpoint c.self.view_is) c.requires c.in_ok-ix.ensures.number
+    (named_keeps (standpoint c.args.self.now) _ (body.FencedCodeBlock ix) ix c.self.invariant
+    (ap standpoint c.self.view_is) c.requires c.in_ok-ix.ensures.number
     (c.in_ok-ix.ensures.more, refl, refl) (fenced_names ix) refl)

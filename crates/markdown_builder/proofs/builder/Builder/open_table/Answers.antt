@@ -11,22 +11,28 @@ use Rattle.markdown_builder.proofs.builder.Builder.open_table.Goals as goal
 pub invariant_of-self-in_err-enter : goal.invariant_of-self-in_err-enter
 invariant_of-self-in_err-enter c =
     let ix : AlignmentIndex = record { 0 = c.len.result } in
-    let more : length c.push.new.self.items ≡ length c.self.inside.alignments.items + 1 = ap length c.in_ok-push.ensures.items
+    let more : length c.push.new.self.items ≡ length c.self.inside.alignments.items + 1 = ap length
+    c.in_ok-push.ensures.items
     ∙ length-append c.self.inside.alignments.items _ in
-    let last : ix.0 ≡ length c.self.inside.alignments.items = omega (arith, c.len.ensures, c.self.inside.alignments.ok.0) in
+    let last : ix.0 ≡ length c.self.inside.alignments.items = omega
+    (arith, c.len.ensures, c.self.inside.alignments.ok.0) in
     rw c.in_err-enter.ensures.stays
-    (refused_keeps (standpoint c.args.self.now) _ (body.Table ix) c.enter.new.tree c.self.invariant (ap standpoint c.self.view_is) c.requires
+    (refused_keeps (standpoint c.args.self.now) _ (body.Table ix) c.enter.new.tree c.self.invariant
+    (ap standpoint c.self.view_is) c.requires
     (table_placed _ _ ix last more refl refl)
     refl c.in_err-enter.ensures.refused)
 
 pub invariant_of-self-2 : goal.invariant_of-self-2
 invariant_of-self-2 c =
     let ix : AlignmentIndex = record { 0 = c.len.result } in
-    let more : length c.push.new.self.items ≡ length c.self.inside.alignments.items + 1 = ap length c.in_ok-push.ensures.items
+    let more : length c.push.new.self.items ≡ length c.self.inside.alignments.items + 1 = ap length
+    c.in_ok-push.ensures.items
     ∙ length-append c.self.inside.alignments.items _ in
-    let last : ix.0 ≡ length c.self.inside.alignments.items = omega (arith, c.len.ensures, c.self.inside.alignments.ok.0) in
+    let last : ix.0 ≡ length c.self.inside.alignments.items = omega
+    (arith, c.len.ensures, c.self.inside.alignments.ok.0) in
     rw (c.in_ok-enter.ensures.entered, c.in_ok-enter.ensures.opened)
-    (placed_keeps (standpoint c.args.self.now) _ (body.Table ix) c.self.invariant (ap standpoint c.self.view_is) c.requires (table_placed _ _ ix last more refl refl)
+    (placed_keeps (standpoint c.args.self.now) _ (body.Table ix) c.self.invariant (ap standpoint c.self.view_is)
+    c.requires (table_placed _ _ ix last more refl refl)
     refl)
 
 pub returns : goal.returns

@@ -7,4 +7,5 @@ use Rattle.markdown_builder.proofs.builder.Builder.rule.Goals as goal
 pub invariant_of-self-2 : goal.invariant_of-self-2
 invariant_of-self-2 c =
     rw c.in_ok-append.ensures.made
-    (rule_keeps (standpoint c.args.self.now) c.args.end c.self.invariant (ap standpoint c.self.view_is) c.requires.outside c.requires.low c.requires.boundary)
+    (rule_keeps (standpoint c.args.self.now) c.args.end c.self.invariant (ap standpoint c.self.view_is)
+    c.requires.outside c.requires.low c.requires.boundary)

@@ -7,16 +7,37 @@ use Rattle.markdown_builder.proofs.builder.Builder.run.Goals as goal
 pub invariant_of-self : goal.invariant_of-self
 invariant_of-self c =
     let r = c.in_err-append_texts.ensures.refused in
-    rw r.2 (run_refused (standpoint c.args.self.now) c.args.byte c.args.end r.0 c.self.invariant (ap standpoint c.self.view_is)
-    (record { inside = c.requires.inside; delimiter = c.requires.delimiter; whole = c.requires.whole; other = c.requires.other }) r.1)
+    rw r.2 (run_refused (standpoint c.args.self.now) c.args.byte c.args.end r.0 c.self.invariant
+    (ap standpoint c.self.view_is)
+    (record {
+      inside = c.requires.inside;
+      delimiter = c.requires.delimiter;
+      whole = c.requires.whole;
+      other
+          = c.requires.other;
+    }) r.1)
 
 pub mark_run-requires-clause-nodes : goal.mark_run-requires-clause-nodes
 mark_run-requires-clause-nodes c =
-    rw c.in_ok-append_texts.ensures.appended (run_nodes (standpoint c.args.self.now) c.args.byte c.args.end c.self.invariant (ap standpoint c.self.view_is)
-    (record { inside = c.requires.inside; delimiter = c.requires.delimiter; whole = c.requires.whole; other = c.requires.other }))
+    rw c.in_ok-append_texts.ensures.appended
+    (run_nodes (standpoint c.args.self.now) c.args.byte c.args.end c.self.invariant (ap standpoint c.self.view_is)
+    (record {
+      inside = c.requires.inside;
+      delimiter = c.requires.delimiter;
+      whole = c.requires.whole;
+      other
+          = c.requires.other;
+    }))
 
 pub invariant_of-self-2 : goal.invariant_of-self-2
 invariant_of-self-2 c =
     rw (c.mark_run.ensures, c.in_ok-append_texts.ensures.appended)
-    (run_keeps (standpoint c.args.self.now) c.args.byte c.args.end c.args.opens c.args.closes c.self.invariant (ap standpoint c.self.view_is)
-    (record { inside = c.requires.inside; delimiter = c.requires.delimiter; whole = c.requires.whole; other = c.requires.other }))
+    (run_keeps (standpoint c.args.self.now) c.args.byte c.args.end c.args.opens c.args.closes c.self.invariant
+    (ap standpoint c.self.view_is)
+    (record {
+      inside = c.requires.inside;
+      delimiter = c.requires.delimiter;
+      whole = c.requires.whole;
+      other
+          = c.requires.other;
+    }))

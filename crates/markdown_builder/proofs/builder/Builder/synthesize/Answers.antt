@@ -11,6 +11,7 @@ invariant_of-self-in_err-append c = rw c.in_err-append.ensures.refused
 pub invariant_of-self-2 : goal.invariant_of-self-2
 invariant_of-self-2 c =
     rw c.in_ok-append.ensures.made
-    (synthesize_keeps (standpoint c.args.self.now) _ c.args.end c.in_ok-ix.ix c.self.invariant (ap standpoint c.self.view_is) c.in_ok-ix.ensures.number
+    (synthesize_keeps (standpoint c.args.self.now) _ c.args.end c.in_ok-ix.ix c.self.invariant
+    (ap standpoint c.self.view_is) c.in_ok-ix.ensures.number
     (c.in_ok-ix.ensures.more, refl, refl)
     c.requires.inside c.requires.low c.requires.boundary)

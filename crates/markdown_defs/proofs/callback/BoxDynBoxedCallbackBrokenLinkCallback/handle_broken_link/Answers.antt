@@ -4,7 +4,8 @@ use Rattle.markdown_defs.specs.CallbackViews.{question_of, answer_of}
 use Rattle.markdown_defs.proofs.callback.BoxDynBoxedCallbackBrokenLinkCallback.handle_broken_link.Goals as goal
 
 -- what a step left in a box, as a value of the box as it was before
-left_behind : {I D : Type 0} (X : I → Type 0) (made : (i : I) → X i → D) (G : (i : I) → X i → X i → Type 0) (p : (i : I) × X i) (i : I)
+left_behind : {I D : Type 0} (X : I → Type 0) (made : (i : I) → X i → D) (G : (i : I) → X i → X i → Type 0)
+    (p : (i : I) × X i) (i : I)
     (x : X i) → p ≡ (i, x)
     → (new : X p.0) → G p.0 p.1 new → (y : X i) × G i x y × (made p.0 new ≡ made i y)
 left_behind X made G p i x e new h =

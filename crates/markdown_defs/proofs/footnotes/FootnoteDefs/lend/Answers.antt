@@ -19,7 +19,8 @@ returns c = (
   (
     refl,
     λ w. on_some c.get_mut.result (λ there. λ q. btree_map_updates_text c.args.folded.now c.args.self.now.by_folding
-        (c.get_mut.follows.lender w) (Some w) ((c.get_mut.follows.holds w).3 (some_mapped (λ x. x.now) c.get_mut.result _
+        (c.get_mut.follows.lender w) (Some w)
+        ((c.get_mut.follows.holds w).3 (some_mapped (λ x. x.now) c.get_mut.result _
         c.get_mut.ensures.value there)) q),
     λ q. ap (λ m. get_by_text m q) c.get_mut.follows.holds-at-none,
   ),

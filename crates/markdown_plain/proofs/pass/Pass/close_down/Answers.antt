@@ -13,12 +13,16 @@ blocks-2-preserved c =
           let done = c.close_block.ensures.closes fitted in
           let kept = before.closes done.0 in
           let left = (before.left done.0).1 in
-          let more : c.args.depth < length c.blocks-2.self.placing.builder.blocks = omega (arith, left) in
-          (kept.0, ap (λ (b : BuilderView). take c.args.depth b.blocks) done.1 ∙ take_of_outer c.args.depth _ more ∙ kept.1);
+          let more : c.args.depth < length c.blocks-2.self.placing.builder.blocks = omega (arith, left) in (
+            kept.0,
+            ap (λ (b : BuilderView). take c.args.depth b.blocks) done.1 ∙ take_of_outer c.args.depth _ more
+                ∙ kept.1,
+          );
       left = λ fitted.
           let done = c.close_block.ensures.closes fitted in
           let left = (before.left done.0).1 in
-          let same = ap (λ (b : BuilderView). length b.blocks) done.1 ∙ length_of_outer c.blocks-2.self.placing.builder.blocks in
+          let same = ap (λ (b : BuilderView). length b.blocks) done.1
+          ∙ length_of_outer c.blocks-2.self.placing.builder.blocks in
           ((before.left done.0).0, omega (arith, left, same));
       outside = λ fitted.
           let done = c.close_block.ensures.closes fitted in

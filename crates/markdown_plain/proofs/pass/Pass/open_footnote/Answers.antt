@@ -14,7 +14,8 @@ returns-clause-on c = λ on.
       record {
         label = text_of c.in-Some.label;
         width = width;
-        marker = sym c.in_ok-label.ensures ∙ ap (λ found. option_map (λ marker. (text_of marker.0, marker.1)) found) c.in-Some.is;
+        marker = sym c.in_ok-label.ensures ∙ ap (λ found. option_map (λ marker. (text_of marker.0, marker.1)) found)
+            c.in-Some.is;
         left = λ within.
             past_bytes_is text c.args.here c.past.result c.args.line.stop width within
             (c.past.ensures.at (omega (arith, within))) c.past.ensures.column c.past.ensures.owed;

@@ -17,7 +17,8 @@ returns-in-Some-clause-begins c = λ fitted.
           was = p.is;
           becomes = c.begin_later.ensures.begins (outer_of c.args.self.now.builder.blocks) p.block p.is;
         };
-        content = rw (ap innermost_block p.is ∙ innermost_of_opened (outer_of c.args.self.now.builder.blocks) p.block) at c.in-Some.ensures.next;
+        content = rw (ap innermost_block p.is ∙ innermost_of_opened (outer_of c.args.self.now.builder.blocks) p.block)
+            at c.in-Some.ensures.next;
       },
     )
 

@@ -14,9 +14,11 @@ pub returns-in_ok-push_start-clause-entered : goal.returns-in_ok-push_start-clau
 returns-in_ok-push_start-clause-entered c = λ before known.
     c.in_ok-push_start.ensures.begun
     ∙ (ap (λ (l : List ℕ). l ++ (length c.args.blocks.now - 1) ∷ []) (before known)
-    ∙ sym (deep_begun c.args.self.now.old_notes c.args.blocks.now (sym c.begins_stretch.ensures ∙ c.if-begins_stretch.true)))
+    ∙ sym (deep_begun c.args.self.now.old_notes c.args.blocks.now
+    (sym c.begins_stretch.ensures ∙ c.if-begins_stretch.true)))
 
 pub returns-else-begins_stretch-clause-entered : goal.returns-else-begins_stretch-clause-entered
 returns-else-begins_stretch-clause-entered c = λ before known.
     before known
-    ∙ sym (deep_kept c.args.self.now.old_notes c.args.blocks.now (sym c.begins_stretch.ensures ∙ c.if-begins_stretch.false))
+    ∙ sym (deep_kept c.args.self.now.old_notes c.args.blocks.now
+    (sym c.begins_stretch.ensures ∙ c.if-begins_stretch.false))

@@ -7,9 +7,11 @@ pub returns-then-begins_stretch : goal.returns-then-begins_stretch
 returns-then-begins_stretch c = λ before known.
     c.pop.ensures.rest
     ∙ without_last c.args.self.now.starts.items _ _ c.args.self.now.starts.len
-    (before known ∙ deep_begun c.args.self.now.old_notes c.args.blocks.now (sym c.begins_stretch.ensures ∙ c.if-begins_stretch.true))
+    (before known ∙ deep_begun c.args.self.now.old_notes c.args.blocks.now
+    (sym c.begins_stretch.ensures ∙ c.if-begins_stretch.true))
     c.args.self.now.starts.ok.0
 
 pub returns-else-begins_stretch : goal.returns-else-begins_stretch
 returns-else-begins_stretch c = λ before known.
-    before known ∙ deep_kept c.args.self.now.old_notes c.args.blocks.now (sym c.begins_stretch.ensures ∙ c.if-begins_stretch.false)
+    before known ∙ deep_kept c.args.self.now.old_notes c.args.blocks.now
+    (sym c.begins_stretch.ensures ∙ c.if-begins_stretch.false)

@@ -10,7 +10,8 @@ invariant_of-self-then-begins_with-clause-boundary c =
     let begins = c.begins_with.ensures.yes c.if-begins_with.true in
     let rest = rw c.range_from.ensures.value at begins.1 in
     let utf8 = rw c.range_from.ensures.value at c.range_from.utf8 in
-    rw c.len_utf8.ensures.value (IsCharBoundary-past_char c.args.self.now.source.now begins.0 c.args.self.now.same c.args.c
+    rw c.len_utf8.ensures.value
+    (IsCharBoundary-past_char c.args.self.now.source.now begins.0 c.args.self.now.same c.args.c
     c.args.self.now.boundary.0 utf8 rest)
 
 pub invariant_of-self-then-begins_with-clause-differs : goal.invariant_of-self-then-begins_with-clause-differs
@@ -23,7 +24,8 @@ returns-then-begins_with-clause-text c =
     let source = c.args.self.now.source.now in
     let same = c.args.self.now.same in
     ap (λ own. own_or own (take (same + c.len_utf8.result) source)) c.in_default.is
-    ∙ take_past source (encode_utf8 c.args.c) begins.0 same c.len_utf8.result c.args.self.now.boundary.0 rest (length-encode c.args.c
+    ∙ take_past source (encode_utf8 c.args.c) begins.0 same c.len_utf8.result c.args.self.now.boundary.0 rest
+    (length-encode c.args.c
     ∙ sym c.len_utf8.ensures.value)
     ∙ ap (λ own. own_or own (take same source) ++ encode_utf8 c.args.c) (sym c.in_default.is)
 
@@ -42,5 +44,7 @@ invariant_of-self-2-clause-differs c own is =
     let other = rw c.range_from.ensures.value at (c.begins_with.ensures.no c.if-begins_with.false) in
     let whole : same - 0 ≡ same = omega arith in
     let text : string_bytes own ≡ take same source ++ encode_utf8 c.args.c =
-    ap string_bytes (sym (same_Some c.in_ok-joined.field-0 own is)) ∙ rw (c.range.ensures.value, whole) at c.in_ok-joined.ensures in
-    subst (λ (bytes : List ℕ). IsNoBeginning bytes source) (sym text) (no_beginning source (encode_utf8 c.args.c) same other)
+    ap string_bytes (sym (same_Some c.in_ok-joined.field-0 own is))
+    ∙ rw (c.range.ensures.value, whole) at c.in_ok-joined.ensures in
+    subst (λ (bytes : List ℕ). IsNoBeginning bytes source) (sym text)
+    (no_beginning source (encode_utf8 c.args.c) same other)

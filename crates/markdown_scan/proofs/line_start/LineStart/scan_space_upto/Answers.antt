@@ -20,5 +20,6 @@ loop-taken-preserved c =
           c.take_white-columns.ensures.columns c.take_white-columns.ensures.left less;
       value = space_step (leading_space n (line_left c.args.self.now)) n taken columns (line_left c.loop-taken.self)
           (line_left c.take_white-columns.new.self)
-          invariant.value owed c.loop-taken-test.true c.take_white-columns.ensures.columns c.take_white-columns.ensures.left some;
+          invariant.value owed c.loop-taken-test.true c.take_white-columns.ensures.columns
+          c.take_white-columns.ensures.left some;
     }
