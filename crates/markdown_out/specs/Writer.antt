@@ -136,6 +136,7 @@ IsRarerTag paragraph = ⊥
 IsRarerTag list_item = ⊥
 IsRarerTag emphasis = ⊥
 IsRarerTag strong = ⊥
+IsRarerTag (link l) = ⊥
 IsRarerTag tag = Unit {0}
 
 -- such a tag of which the writer keeps no part: not an image, a table or a footnote definition
@@ -153,5 +154,4 @@ IsFixed indented_code = ⊥
 IsFixed (fenced_code info) = ⊥
 IsFixed (list first) = ⊥
 IsFixed table_cell = ⊥
-IsFixed (link l) = ⊥
 IsFixed tag = IsReleased tag

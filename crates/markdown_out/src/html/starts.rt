@@ -122,18 +122,6 @@ impl<'a> Writer<'a> {
             Tag::CodeBlock(kind) => self.code_block(s, kind),
             Tag::List(first) => self.list(s, *first),
             Tag::TableCell => self.cell(s),
-            Tag::Link {
-                link_type,
-                dest_url,
-                title,
-                ..
-            } => put_link(
-                s,
-                &mut self.fresh,
-                *link_type,
-                dest_url.as_str(),
-                title.as_str(),
-            ),
             _ => self.start_fixed(s, tag),
         }
     }
@@ -201,6 +189,20 @@ impl<'a> Writer<'a> {
             Tag::Item => "\n<li>",
             Tag::Emphasis => "<em>",
             Tag::Strong => "<strong>",
+            Tag::Link {
+                link_type,
+                dest_url,
+                title,
+                ..
+            } => {
+                return put_link(
+                    s,
+                    &mut self.fresh,
+                    link_type,
+                    dest_url.as_str(),
+                    title.as_str(),
+                );
+            }
             rarer => return self.rarer_start(s, rarer),
         };
         self.raw(s, text)
