@@ -39,6 +39,7 @@ use Rattle.markdown_base.specs.EnabledOptions.{gfm_footnotes_on}
 use Rattle.markdown_spans.specs.Finds.{prefix_below}
 use Rattle.markdown_spans.specs.PrefixView.{length_by}
 use Rattle.markdown_spans.specs.declared.prefixes.ContainerPrefix.{ContainerPrefix}
+use Rattle.markdown_resolver.specs.declared.rest.Rest.{Rest}
 use Rattle.markdown_resolver.specs.ChainPlace.{CanReadOn, IsPlaceOf}
 use Rattle.markdown_resolver.specs.Chains.{CanResolve}
 use Rattle.markdown_resolver.specs.Closes.{ClosesAt, PutsClosed, closing_at}
@@ -228,11 +229,11 @@ decides_here step place prefix tree old new ix (Ok found) text options_are prefi
 decides_here step place prefix tree old new ix (Err fault) text options_are prefix_is_its closes decides = tt
 
 -- what is left after a `]` was not read
-unread_closed : (source : List ℕ) (tables tables' : Tables) (old new : List (Node Item)) (first closer : ℕ) (next : Option ℕ)
+unread_closed : (source : List ℕ) (tables tables' : Tables) (old new : List (Node Item)) (first closer : ℕ) (rest : Rest)
     (left : List (Entry ℕ)) (w : Around) (c : Closing ℕ) (becomes : Becomes ℕ) → CanResolve source tables old (Some closer)
-    → PutsClosed source first closer next left w c becomes old new tables tables'
-    → IsUnread (trees_from source tables old (Some closer)) → IsUnread (trees_from source tables' new next)
-unread_closed source tables tables' old new first closer next left w c becomes ready puts h =
+    → PutsClosed source first closer rest left w c becomes old new tables tables'
+    → IsUnread (trees_from source tables old (Some closer)) → IsUnread (trees_from source tables' new rest.next)
+unread_closed source tables tables' old new first closer rest left w c becomes ready puts h =
     let p : Progress ℕ = record {
       left = left;
       goes_on = None;
@@ -312,10 +313,10 @@ module _ {C : Type 0} (step : C → Question → Option Answer → C → Type 0)
   -- it was put in place, or memory was refused
   module _ (tree' : Arena Item) (held : Allocated) (openers : ChainOpeners) where
     -- what is put in place, whatever was decided
-    abbrev pub PutsEach : Option ℕ → Type 0
-    PutsEach next = (source : List ℕ) (first : ℕ) (left : List (Entry ℕ)) (w : Around) (c : Closing ℕ) (becomes : Becomes ℕ)
+    abbrev pub PutsEach : Rest → Type 0
+    PutsEach rest = (source : List ℕ) (first : ℕ) (left : List (Entry ℕ)) (w : Around) (c : Closing ℕ) (becomes : Becomes ℕ)
         → ClosesAt source (tables_of mid.lookup.tables) tree.nodes first ix left w c becomes → IsBecome w becomes found
-        → PutsClosed source first ix next left w c becomes tree.nodes tree'.nodes (tables_of mid.lookup.tables) (tables_of held)
+        → PutsClosed source first ix rest left w c becomes tree.nodes tree'.nodes (tables_of mid.lookup.tables) (tables_of held)
 
     -- and what the stacks hold then
     abbrev pub FinishesEach : Type 0
@@ -330,39 +331,39 @@ module _ {C : Type 0} (step : C → Question → Option Answer → C → Type 0)
       waiting = record mid.waiting { openers = openers };
     }
 
-    puts_here : (next : Option ℕ) (first : ℕ) (left : List (Entry ℕ)) (was_read : WasReadTo place tree old first ix left) → PutsEach next
+    puts_here : (rest : Rest) (first : ℕ) (left : List (Entry ℕ)) (was_read : WasReadTo place tree old first ix left) → PutsEach rest
         → (let d = decision.decides first left was_read in
-        PutsClosed old.text.now first ix next d.left_then around_here closing_here d.becomes tree.nodes tree'.nodes (tables_of old.lookup.tables)
+        PutsClosed old.text.now first ix rest d.left_then around_here closing_here d.becomes tree.nodes tree'.nodes (tables_of old.lookup.tables)
         (tables_of held))
-    puts_here next first left was_read puts =
+    puts_here rest first left was_read puts =
         let d = decision.decides first left was_read in
-        subst (λ (t : Tables). PutsClosed old.text.now first ix next d.left_then around_here closing_here d.becomes tree.nodes tree'.nodes t
+        subst (λ (t : Tables). PutsClosed old.text.now first ix rest d.left_then around_here closing_here d.becomes tree.nodes tree'.nodes t
         (tables_of held)) tables
         (puts old.text.now first d.left_then around_here closing_here d.becomes (closes_there first left was_read) d.is)
 
-    pub reads_closed : {E : Type 0} (r : Result (Option ℕ) E) → held.footdefs ≡ mid.lookup.tables.footdefs → FinishesEach → IfOk r PutsEach
-        → IfOk r (λ next. tree' ≡ record tree { nodes = tree'.nodes })
-        → IfOk r (λ next. ReadsBracket step place ix next tree tree' old put_then)
-    reads_closed (Ok next) footdefs finishes puts place_is =
-        let here = puts_here next can.first can.left can.was_read puts in
+    pub reads_closed : {E : Type 0} (r : Result Rest E) → held.footdefs ≡ mid.lookup.tables.footdefs → FinishesEach → IfOk r PutsEach
+        → IfOk r (λ rest. tree' ≡ record tree { nodes = tree'.nodes })
+        → IfOk r (λ rest. ReadsBracket step place ix rest tree tree' old put_then)
+    reads_closed (Ok rest) footdefs finishes puts place_is =
+        let here = puts_here rest can.first can.left can.was_read puts in
         record {
           goes_on = record {
             reads = λ first left was_read.
                 let d = decision.decides first left was_read in
                 let m = closes_here first left was_read in
-                subst (λ (f : FootnoteDefs). ReadsOn step (setting_by old) (above_cursor old.text.now tree) first (Some ix) next left
+                subst (λ (f : FootnoteDefs). ReadsOn step (setting_by old) (above_cursor old.text.now tree) first (Some ix) rest.next left
                 (stage_by tree old) (record (stage_by tree' put_then) { uses = uses_of f }) old.waiting.spent mid.waiting.spent openers.brackets
                 openers.wikilinks) (sym footdefs)
                 (reads_on_closer step (setting_by old) (above_cursor old.text.now tree) first ix left could_be (stage_by tree old)
                 (record (stage_by tree' put_then) { uses = uses_of mid.lookup.tables.footdefs }) old.waiting.spent mid.waiting.spent mid.waiting.openers.brackets
-                mid.waiting.openers.wikilinks found next openers.brackets openers.wikilinks d (here_stands first left was_read) is
-                (puts_here next first left was_read puts)
+                mid.waiting.openers.wikilinks found rest openers.brackets openers.wikilinks d (here_stands first left was_read) is
+                (puts_here rest first left was_read puts)
                 (record {
                   holds = λ q e. finishes around_here closing_here ix d.left_then d.becomes q m.before m.rises d.splits d.is d.brackets_are
                       d.wikilinks_are e;
                 }));
-            fewer = here.fewer;
-            unread = λ h. unread_closed old.text.now (tables_of old.lookup.tables) (tables_of held) tree.nodes tree'.nodes can.first ix next
+            passes = here.passes;
+            unread = λ h. unread_closed old.text.now (tables_of old.lookup.tables) (tables_of held) tree.nodes tree'.nodes can.first ix rest
                 (decision.decides can.first can.left can.was_read).left_then around_here closing_here
                 (decision.decides can.first can.left can.was_read).becomes (stands_rest old.text.now (tables_of old.lookup.tables) tree.nodes
                 can.first (Some ix) can.left (here_stands can.first can.left can.was_read)) here h;
@@ -372,8 +373,8 @@ module _ {C : Type 0} (step : C → Question → Option Answer → C → Type 0)
         }
     reads_closed (Err fault) footdefs finishes puts place_is = tt
 
-  pub stops_decided : {E : Type 0} (r : Result (Option ℕ) E) → IfErr r (λ fault. StopsAtNode step place ix tree old mid.lookup.callback)
-  stops_decided (Ok next) = tt
+  pub stops_decided : {E : Type 0} (r : Result Rest E) → IfErr r (λ fault. StopsAtNode step place ix tree old mid.lookup.callback)
+  stops_decided (Ok rest) = tt
   stops_decided (Err fault) = λ first left was_read.
       stops_at_closer step (setting_by old) (above_cursor old.text.now tree) first ix left could_be (stage_by tree old)
       (stage_by tree mid) old.waiting.spent mid.waiting.spent mid.waiting.openers.brackets mid.waiting.openers.wikilinks found (decision.decides first left was_read)

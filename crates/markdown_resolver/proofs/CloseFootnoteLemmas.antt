@@ -1,5 +1,5 @@
 -- A footnote reference, put in the place of its opener, or after a Text for the `!` of an opener `![`.
-use Rattle.std.proofs.Common.{◌≡◌, ℕ, ◌+◌, ◌-◌, ◌<◌, ◌≤◌, Bool, true, false, List, [], ◌∷◌, length, Option, Some, None, refl, sym, ap, ◌∙◌}
+use Rattle.std.proofs.Common.{◌≡◌, ℕ, ◌+◌, ◌-◌, ◌<◌, ◌≤◌, Bool, true, false, List, [], ◌∷◌, length, Some, None, refl, sym, ap, ◌∙◌}
 use Rattle.std.proofs.Common.{subst, arith}
 use Rattle.std.specs.Prelude.{IsCharBoundary, codes, drop, slice_range}
 use Rattle.std.proofs.lemmas.List.{length-take, length-drop}
@@ -24,6 +24,7 @@ use Rattle.markdown_document.specs.Document.{Label, Plain, label_of, leaf, made}
 use Rattle.markdown_document.specs.Tables.{Tables, tables_of, text_at}
 use Rattle.markdown_document.specs.NamedEntries.{Named, number_of, size_for, some_alignments, some_link, some_text}
 use Rattle.markdown_document.specs.NamedEntries.{times_named}
+use Rattle.markdown_resolver.specs.declared.rest.Rest.{Rest}
 use Rattle.markdown_resolver.specs.ClosedOver.{CanClose, CanPutMark, CanPutOver, PutsOver, after_mark, in_place_of}
 use Rattle.markdown_resolver.specs.Closes.{ClosesAt, PutsClosed}
 use Rattle.markdown_resolver.specs.Rewritten.{CanPut}
@@ -213,7 +214,7 @@ two_onto w c true opener name left e = refl
 two_onto w c false opener name left e = cc e
 
 -- so it is in the left list
-footnote_closed : (source : List ℕ) (tables tables' : Tables) (old new : List (Node Item)) (first closer : ℕ) (next : Option ℕ)
+footnote_closed : (source : List ℕ) (tables tables' : Tables) (old new : List (Node Item)) (first closer : ℕ) (rest : Rest)
     (left : List (Entry ℕ)) (w : Around) (c : Closing ℕ) (o : Split ℕ)
     (opener : Opener) (number : CowIndex) (name : List ℕ) → ClosesAt source tables old first closer left w c (a_footnote o name)
     → opener ≡ opener_of o → opener.is_image ≡ false
@@ -221,9 +222,9 @@ footnote_closed : (source : List ℕ) (tables tables' : Tables) (old new : List 
     → PutsOver source opener.node closer (inside_numbers o)
     (in_place_of source tables' (footnote_over number (item_at old opener.node).start (item_at old closer).end))
     (item_at old closer).end
-    (opener.node ∷ []) next old new tables tables'
-    → PutsClosed source first closer next left w c (a_footnote o name) old new tables tables'
-footnote_closed source tables tables' old new first closer next left w c o opener number name closes is plain put over =
+    (opener.node ∷ []) rest old new tables tables'
+    → PutsClosed source first closer rest left w c (a_footnote o name) old new tables tables'
+footnote_closed source tables tables' old new first closer rest left w c o opener number name closes is plain put over =
     let at = opener_at source tables old first closer left o closes.stands closes.splits in
     let ends : end_of c.label ≡ (item_at old closer).end = ap (λ (a : Label ℕ). end_of a) closes.label_is in
     let starts : start_of o.opener ≡ (item_at old o.opener.tag).start = ap (λ (a : Label ℕ). start_of a) at.around.label_is in
@@ -231,19 +232,19 @@ footnote_closed source tables tables' old new first closer next left w c o opene
     let end = (item_at old closer).end in
     let item = footnote_over number (item_at old o.opener.tag).start end in
     let here = subst (λ (x : Opener). PutsOver source x.node closer (inside_numbers o)
-    (in_place_of source tables' (footnote_over number (item_at old x.node).start end)) end (x.node ∷ []) next old
+    (in_place_of source tables' (footnote_over number (item_at old x.node).start end)) end (x.node ∷ []) rest old
     new tables tables') is over in
     let mark : o.mark.is_image ≡ false = sym (ap (λ (x : Opener). x.is_image) is) ∙ plain in
     let reads = ap (λ (a : Plain). node a nil nil) (footnote_label source tables' number name (item_at old o.opener.tag).start
     (start_of o.opener) end (end_of c.label) (sym starts) (sym ends)
     put.found) in
-    puts_closed source first closer next left w c (a_footnote o name) o old new tables tables' (before_footnote o.before)
+    puts_closed source first closer rest left w c (a_footnote o name) o old new tables tables' (before_footnote o.before)
     (in_place_of source tables' item) what end (o.opener.tag ∷ []) closes at
     (footnote_stands source tables old first (Some o.opener.tag) o.before at.stands)
     (record { left_is = λ p e. one_onto w c o.mark.is_image o.opener name (before_footnote o.before) mark; goes = λ p. ap Some ends }) reads
     (refl, refl, tt, tt) (λ a i. refl) here
 
-image_footnote_closed : (source : List ℕ) (tables tables' : Tables) (old new : List (Node Item)) (first closer : ℕ) (next : Option ℕ)
+image_footnote_closed : (source : List ℕ) (tables tables' : Tables) (old new : List (Node Item)) (first closer : ℕ) (rest : Rest)
     (left : List (Entry ℕ)) (w : Around) (c : Closing ℕ)
     (o : Split ℕ)
     (opener : Opener) (number : CowIndex) (name : List ℕ) → ClosesAt source tables old first closer left w c (a_footnote o name)
@@ -252,9 +253,9 @@ image_footnote_closed : (source : List ℕ) (tables tables' : Tables) (old new :
     → PutsOver source opener.node closer (inside_numbers o)
     (after_mark source tables' (text_item_over (item_at old opener.node).start ((item_at old opener.node).start + 1))
     (footnote_over number ((item_at old opener.node).start + 1) (item_at old closer).end))
-    (item_at old closer).end (opener.node ∷ closer ∷ []) next old new tables tables'
-    → PutsClosed source first closer next left w c (a_footnote o name) old new tables tables'
-image_footnote_closed source tables tables' old new first closer next left w c o opener number name closes is image put over =
+    (item_at old closer).end (opener.node ∷ closer ∷ []) rest old new tables tables'
+    → PutsClosed source first closer rest left w c (a_footnote o name) old new tables tables'
+image_footnote_closed source tables tables' old new first closer rest left w c o opener number name closes is image put over =
     let at = opener_at source tables old first closer left o closes.stands closes.splits in
     let ends : end_of c.label ≡ (item_at old closer).end = ap (λ (a : Label ℕ). end_of a) closes.label_is in
     let starts : start_of o.opener ≡ (item_at old o.opener.tag).start = ap (λ (a : Label ℕ). start_of a) at.around.label_is in
@@ -266,7 +267,7 @@ image_footnote_closed source tables tables' old new first closer next left w c o
     let here = subst (λ (x : Opener). PutsOver source x.node closer (inside_numbers o)
     (after_mark source tables' (text_item_over (item_at old x.node).start ((item_at old x.node).start + 1))
     (footnote_over number ((item_at old x.node).start + 1) end)) end (x.node ∷ closer ∷ [])
-    next old new tables tables') is over in
+    rest old new tables tables') is over in
     let mark : o.mark.is_image ≡ true = sym (ap (λ (x : Opener). x.is_image) is) ∙ image in
     let reads : node (label_of source tables' (text_item_over start (start + 1))) nil
     (node (label_of source tables' (footnote_over number (start + 1) end)) nil nil)
@@ -277,7 +278,7 @@ image_footnote_closed source tables tables' old new first closer next left w c o
           closes.text_is,
       footnote_label source tables' number name (start + 1) (start_of o.opener + 1) end (end_of c.label) next_is (sym ends) put.found,
     ) refl in
-    puts_closed source first closer next left w c (a_footnote o name) o old new tables tables' (before_footnote o.before)
+    puts_closed source first closer rest left w c (a_footnote o name) o old new tables tables' (before_footnote o.before)
     (after_mark source tables' (text_item_over start (start + 1)) (footnote_over number (start + 1) end)) what end
     (o.opener.tag ∷ closer ∷ []) closes at
     (footnote_stands source tables old first (Some o.opener.tag) o.before at.stands)
@@ -285,27 +286,27 @@ image_footnote_closed source tables tables' old new first closer next left w c o
     (refl, refl, tt, (refl, refl, tt, tt)) (λ a i. refl) here
 
 -- so it is with that range
-pub reference_closed : {source : List ℕ} {tables tables' : Tables} {old new : List (Node Item)} {first closer : ℕ} {next : Option ℕ}
+pub reference_closed : {source : List ℕ} {tables tables' : Tables} {old new : List (Node Item)} {first closer : ℕ} {rest : Rest}
     {left : List (Entry ℕ)} {w : Around} {c : Closing ℕ} {o : Split ℕ} {opener : Opener} {number : CowIndex} {name : List ℕ}
     {start end : ℕ} → ClosesAt source tables old first closer left w c (a_footnote o name) → opener ≡ opener_of o
     → opener.is_image ≡ false → MayRefer source tables tables' old closer o opener number name start end
     → PutsOver source opener.node closer (inside_numbers o) (in_place_of source tables' (footnote_over number start end)) end
-    (opener.node ∷ []) next old new tables tables'
-    → PutsClosed source first closer next left w c (a_footnote o name) old new tables tables'
-reference_closed {source} {tables} {tables'} {old} {new} {first} {closer} {next} {left} {w} {c} {o} {opener} {number} {name} closes is plain
+    (opener.node ∷ []) rest old new tables tables'
+    → PutsClosed source first closer rest left w c (a_footnote o name) old new tables tables'
+reference_closed {source} {tables} {tables'} {old} {new} {first} {closer} {rest} {left} {w} {c} {o} {opener} {number} {name} closes is plain
     r over =
-    footnote_closed source tables tables' old new first closer next left w c o opener number name closes is plain r.put
+    footnote_closed source tables tables' old new first closer rest left w c o opener number name closes is plain r.put
     (rw (r.starts, r.ends) at over)
 
-pub image_reference_closed : {source : List ℕ} {tables tables' : Tables} {old new : List (Node Item)} {first closer : ℕ} {next : Option ℕ}
+pub image_reference_closed : {source : List ℕ} {tables tables' : Tables} {old new : List (Node Item)} {first closer : ℕ} {rest : Rest}
     {left : List (Entry ℕ)} {w : Around} {c : Closing ℕ} {o : Split ℕ} {opener : Opener} {number : CowIndex} {name : List ℕ}
     {start end : ℕ} {mark : Item} → ClosesAt source tables old first closer left w c (a_footnote o name) → opener ≡ opener_of o
     → opener.is_image ≡ true → MayRefer source tables tables' old closer o opener number name start end
     → mark ≡ text_item_over start (start + 1)
     → PutsOver source opener.node closer (inside_numbers o) (after_mark source tables' mark (footnote_over number (start + 1) end)) end
-    (opener.node ∷ closer ∷ []) next old new tables tables'
-    → PutsClosed source first closer next left w c (a_footnote o name) old new tables tables'
-image_reference_closed {source} {tables} {tables'} {old} {new} {first} {closer} {next} {left} {w} {c} {o} {opener} {number} {name} closes is
+    (opener.node ∷ closer ∷ []) rest old new tables tables'
+    → PutsClosed source first closer rest left w c (a_footnote o name) old new tables tables'
+image_reference_closed {source} {tables} {tables'} {old} {new} {first} {closer} {rest} {left} {w} {c} {o} {opener} {number} {name} closes is
     image r e over =
-    image_footnote_closed source tables tables' old new first closer next left w c o opener number name closes is image r.put
+    image_footnote_closed source tables tables' old new first closer rest left w c o opener number name closes is image r.put
     (rw (e, r.starts, r.ends) at over)

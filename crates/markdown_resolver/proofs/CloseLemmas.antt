@@ -1,7 +1,7 @@
 -- What a `]` becomes is put in the place of its opener in the left list, over what is inside: what can be put there,
 -- and what is there then.
 use Rattle.std.proofs.Common.{◌≡◌, ℕ, suc, ◌<◌, ◌≤◌, Bool, true, false, List, [], ◌∷◌, length, Option, Some, refl, sym, ap, ◌∙◌, subst}
-use Rattle.std.proofs.Common.{arith, if◌then◌else◌, nat_le}
+use Rattle.std.proofs.Common.{if◌then◌else◌, nat_le}
 use Rattle.std.specs.Prelude.{slice_range}
 use Rattle.markdown_base.specs.Arena.{child_of, sibling_of}
 use Rattle.markdown_base.specs.ArenaForest.{forest_at, links_of}
@@ -21,7 +21,6 @@ use Rattle.markdown_brackets.specs.QuietItems.{all_done}
 use Rattle.markdown_document.specs.ChainRest.{end_of, past, past_byte}
 use Rattle.markdown_document.specs.Document.{Label, Plain, is_unresolved, shape_of}
 use Rattle.markdown_document.specs.Places.{label_at, trees_from}
-use Rattle.markdown_document.specs.Stages.{items_from}
 use Rattle.markdown_document.specs.Tables.{Tables}
 use Rattle.markdown_document.proofs.PlaceLemmas.{shape-open}
 use Rattle.markdown_spans.proofs.ChainWalkLemmas.{chain_at}
@@ -32,12 +31,14 @@ use Rattle.markdown_resolver.specs.Kept.{IsQuiet}
 use Rattle.markdown_resolver.specs.PutsTrees.{PutsTrees, numbered_label, without_numbers}
 use Rattle.markdown_resolver.specs.ReadOn.{IsOpener, StandsTo, left_without_numbers}
 use Rattle.markdown_resolver.specs.Rewritten.{first_past}
+use Rattle.markdown_resolver.specs.declared.rest.Rest.{Rest}
 use Rattle.markdown_resolver.proofs.ChainLeadsLemmas.{chain_leads, holds_past}
 use Rattle.markdown_resolver.proofs.FollowersLemmas.{InOrder, opens_chain, order_around}
 use Rattle.markdown_resolver.proofs.BehindLemmas.{puts_behind}
 use Rattle.markdown_resolver.proofs.LeftTreesLemmas.{onto_appended, quiet_tagged}
 use Rattle.markdown_resolver.proofs.OverTreesLemmas.{over_trees}
-use Rattle.markdown_resolver.proofs.PutLemmas.{as_many, few_past_byte}
+use Rattle.markdown_resolver.proofs.ComposeLemmas.{stands_ready}
+use Rattle.markdown_resolver.proofs.PastByteLemmas.{passes_past}
 use Rattle.markdown_resolver.proofs.StandsToLemmas.{stands_at_opener, stands_rest}
 use Rattle.markdown_resolver.proofs.SplitLemmas.{InsideOf, inside_numbers, inside_of, opens_numbered}
 use Rattle.markdown_resolver.proofs.UnreadLemmas.{first_cut}
@@ -159,25 +160,8 @@ pub record PutsWhat (w : Around) (c : Closing ℕ) (left : List (Entry ℕ)) (be
   pub left_is : (p : Progress ℕ) → p.left ≡ left → (put w c becomes p).left ≡ all_done trees before
   pub goes : (p : Progress ℕ) → (put w c becomes p).goes_on ≡ Some goes_on
 
--- fewer items are left than from the `]` on
-fewer_past : (source : List ℕ) (tables tables' : Tables) (old new : List (Node Item)) (closer byte : ℕ) (next : Option ℕ)
-    → CanResolve source tables old (Some closer)
-    → trees_from source tables' new next ≡ past_byte byte (trees_from source tables old (sibling_of old closer))
-    → items_from new next < items_from old (Some closer)
-fewer_past source tables tables' old new closer byte next ready rest =
-    let behind = trees_from source tables old (sibling_of old closer) in
-    let here : items_from old (Some closer) ≡ suc (length (roots (forest_at (links_of old) (sibling_of old closer)))) =
-    ap (λ (f : Forest ℕ). length (roots f))
-    (opens_numbered source tables old closer ready).forest in
-    let many = as_many (label_at source tables' new) (forest_at (links_of new) next) in
-    let many' = as_many (label_at source tables old) (forest_at (links_of old) (sibling_of old closer)) in
-    let read : length (roots (trees_from source tables' new next)) ≡ length (roots (past_byte byte behind)) =
-    ap (λ (f : Forest Plain). length (roots f)) rest in
-    let few = few_past_byte byte behind in
-    rw here (omega (arith, many, many', read, few))
-
 -- so it is in the left list
-pub puts_closed : (source : List ℕ) (first closer : ℕ) (next : Option ℕ) (left : List (Entry ℕ)) (w : Around) (c : Closing ℕ)
+pub puts_closed : (source : List ℕ) (first closer : ℕ) (rest : Rest) (left : List (Entry ℕ)) (w : Around) (c : Closing ℕ)
     (becomes : Becomes ℕ) (o : Split ℕ) (old new : List (Node Item))
     (tables tables' : Tables) (before : List (Entry ℕ)) (trees : Enclosing) (what : Forest (Label ℕ)) (goes_on : ℕ) (standing : List ℕ)
     → ClosesAt source tables old first closer left w c becomes → OpenerAt source tables old first closer o
@@ -185,25 +169,26 @@ pub puts_closed : (source : List ℕ) (first closer : ℕ) (next : Option ℕ) (
     → PutsWhat w c left becomes what before goes_on → trees (label_at source tables old o.opener.tag) (without_numbers (inside o))
     ≡ without_numbers what → IsQuiet what
     → ((a : Plain) (i : Forest Plain) → length (roots (trees a i)) ≡ length standing)
-    → PutsOver source o.opener.tag closer (inside_numbers o) trees goes_on standing next old new tables tables'
-    → PutsClosed source first closer next left w c becomes old new tables tables'
-puts_closed source first closer next left w c becomes o old new tables tables' before trees what goes_on standing closes at stands puts
+    → PutsOver source o.opener.tag closer (inside_numbers o) trees goes_on standing rest old new tables tables'
+    → PutsClosed source first closer rest left w c becomes old new tables tables'
+puts_closed source first closer rest left w c becomes o old new tables tables' before trees what goes_on standing closes at stands puts
     reads quiet many over =
     let ix = o.opener.tag in
     let a = label_at source tables old ix in
     let after = trees_from source tables old (sibling_of old ix) in
-    let rest = trees_from source tables old (sibling_of old closer) in
+    let next = rest.next in
+    let behind = trees_from source tables old (sibling_of old closer) in
     let opened = opens_numbered source tables old ix at.ready in
     let is : trees a (first_trees (length (inside_numbers o)) after) ≡ without_numbers what = ap (trees a) at.around.inside_is ∙ reads in
-    let put_there = over_trees source ix closer (inside_numbers o) trees goes_on standing next old new tables tables' a
+    let put_there = over_trees source ix closer (inside_numbers o) trees goes_on standing rest old new tables tables' a
     (trees_from source tables old (child_of old ix)) after at.ready opened.trees
     (subst IsQuiet (sym is) (quiet_tagged (λ n. tt) what quiet)) over many in
-    let so : PutsTrees source ix next (without_numbers what) (past_byte goes_on rest) old new tables tables' =
+    let so : PutsTrees source ix next (without_numbers what) (past_byte goes_on behind) old new tables tables' =
     subst (λ (f : Forest Plain). PutsTrees source ix next (without_numbers what) (past_byte goes_on f) old new tables tables')
     at.around.behind_is
     (subst (λ (f : Forest Plain). PutsTrees source ix next f (past_byte goes_on (trees_past (suc (length (inside_numbers o))) after)) old
     new tables tables') is put_there) in
-    let b = puts_behind source first ix next before (without_numbers what) (past_byte goes_on rest) old new tables tables' stands so in
+    let b = puts_behind source first ix next before (without_numbers what) (past_byte goes_on behind) old new tables tables' stands so in
     record {
       changes = b.changes;
       left_then = all_done b.standing before;
@@ -213,8 +198,9 @@ puts_closed source first closer next left w c becomes o old new tables tables' b
           ∙ ap left_without_numbers (sym (puts.left_is p e));
       brackets = λ p e. brackets_done b.standing before ∙ sym (brackets_done what before) ∙ ap brackets_of (sym (puts.left_is p e));
       wikilinks = λ p e. wikilinks_done b.standing before ∙ sym (wikilinks_done what before) ∙ ap wikilinks_of (sym (puts.left_is p e));
-      rest_is = λ p e. b.rest_is ∙ ap (λ (g : Option ℕ). past g rest) (sym (puts.goes p));
-      fewer = fewer_past source tables tables' old new closer goes_on next at.ready_closer b.rest_is;
+      rest_is = λ p e. b.rest_is ∙ ap (λ (g : Option ℕ). past g behind) (sym (puts.goes p));
+      passes = passes_past source tables tables' old new closer goes_on rest
+          (stands_ready source tables old (Some closer) at.ready_closer) over.past b.rest_is;
       holds = λ kind learned. holds_past kind learned old new closer (Some goes_on) next
           (chain_at old closer (chain_leads source tables old (Some closer) at.ready_closer)).later over.leads;
     }

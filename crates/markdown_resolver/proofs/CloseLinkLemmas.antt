@@ -1,5 +1,5 @@
 -- A link or an image, put in the place of its opener: what can be put there, and what it reads as.
-use Rattle.std.proofs.Common.{◌≡◌, ℕ, ◌<◌, ◌≤◌, Bool, true, false, List, [], ◌∷◌, length, Option, Some, None, refl, sym, ap, subst, arith}
+use Rattle.std.proofs.Common.{◌≡◌, ℕ, ◌<◌, ◌≤◌, Bool, true, false, List, [], ◌∷◌, length, Some, None, refl, sym, ap, subst, arith}
 use Rattle.std.proofs.Common.{if◌then◌else◌}
 use Rattle.std.specs.Prelude.{IsCharBoundary}
 use Rattle.markdown_base.specs.BlockTree.{item_at}
@@ -26,6 +26,7 @@ use Rattle.markdown_document.specs.Origins.{made, origin_of}
 use Rattle.markdown_document.specs.Tables.{Tables, link_at, link_view, link_origins, tables_of}
 use Rattle.markdown_document.specs.NamedEntries.{Named, number_of, size_for, some_alignments, some_link, some_text}
 use Rattle.markdown_document.specs.NamedEntries.{times_named}
+use Rattle.markdown_resolver.specs.declared.rest.Rest.{Rest}
 use Rattle.markdown_resolver.specs.ClosedOver.{CanClose, CanPutOver, PutsOver, over_inside}
 use Rattle.markdown_resolver.specs.Closes.{ClosesAt, PutsClosed}
 use Rattle.markdown_resolver.specs.PutsTrees.{numbered_label, without_numbers}
@@ -194,25 +195,25 @@ may_link {source} {nodes} {first} {closer} {left} {w} {c} {o} {opener} {view} {e
     }
 
 -- so it is in the left list
-pub link_closed : {source : List ℕ} {tables tables' : Tables} {old new : List (Node Item)} {first closer : ℕ} {next : Option ℕ}
+pub link_closed : {source : List ℕ} {tables tables' : Tables} {old new : List (Node Item)} {first closer : ℕ} {rest : Rest}
     {left : List (Entry ℕ)} {w : Around} {c : Closing ℕ} {o : Split ℕ} {opener : Opener} {number : LinkIndex} {view : LinkView}
     {end byte : ℕ} {item : Item} → ClosesAt source tables old first closer left w c (a_link o view end byte) → opener ≡ opener_of o
     → MayLink source tables tables' old closer o opener number view end byte item
-    → PutsOver source opener.node closer (inside_numbers o) (over_inside source tables' item) byte (opener.node ∷ []) next old new tables
+    → PutsOver source opener.node closer (inside_numbers o) (over_inside source tables' item) byte (opener.node ∷ []) rest old new tables
     tables'
-    → PutsClosed source first closer next left w c (a_link o view end byte) old new tables tables'
-link_closed {source} {tables} {tables'} {old} {new} {first} {closer} {next} {left} {w} {c} {o} {opener} {number} {view} {end} {byte} {item}
+    → PutsClosed source first closer rest left w c (a_link o view end byte) old new tables tables'
+link_closed {source} {tables} {tables'} {old} {new} {first} {closer} {rest} {left} {w} {c} {o} {opener} {number} {view} {end} {byte} {item}
     closes is r over =
     let at = opener_at source tables old first closer left o closes.stands closes.splits in
     let what : Forest (Label ℕ) = node (linked o view end) (inside o) nil in
     let there = subst (λ (i : Item). PutsOver source opener.node closer (inside_numbers o) (over_inside source tables' i) byte
-    (opener.node ∷ []) next old new tables tables') r.is over in
+    (opener.node ∷ []) rest old new tables tables') r.is over in
     let here = subst (λ (x : Opener). PutsOver source x.node closer (inside_numbers o)
-    (over_inside source tables' (link_from old x number end)) byte (x.node ∷ []) next old new tables tables') is
+    (over_inside source tables' (link_from old x number end)) byte (x.node ∷ []) rest old new tables tables') is
     there in
     let reads = ap (λ (a : Plain). node a (without_numbers (inside o)) nil) (linked_label source tables tables' old o number view end
     at.around.label_is r.put) in
-    puts_closed source first closer next left w c (a_link o view end byte) o old new tables tables' (before_link o.mark.is_image o.before)
+    puts_closed source first closer rest left w c (a_link o view end byte) o old new tables tables' (before_link o.mark.is_image o.before)
     (over_inside source tables' (link_from old (opener_of o) number end)) what
     byte (o.opener.tag ∷ []) closes at (link_stands source tables old first (Some o.opener.tag) o.before at.stands o.mark.is_image)
     (record { left_is = λ p e. refl; goes = λ p. refl }) reads

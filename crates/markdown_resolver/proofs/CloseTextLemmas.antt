@@ -24,6 +24,7 @@ use Rattle.markdown_resolver.specs.Kept.{IsQuiet}
 use Rattle.markdown_resolver.specs.PutsTrees.{PutsTrees, without_numbers}
 use Rattle.markdown_resolver.specs.ReadOn.{left_without_numbers}
 use Rattle.markdown_resolver.specs.Rewritten.{Puts, settled, text_unless}
+use Rattle.markdown_resolver.specs.declared.rest.Rest.{Rest}
 use Rattle.markdown_resolver.proofs.BehindLemmas.{puts_behind}
 use Rattle.markdown_resolver.proofs.CloseLemmas.{brackets_done, wikilinks_done, without_done}
 use Rattle.markdown_resolver.proofs.PutsTreesLemmas.{put_trees}
@@ -48,21 +49,22 @@ closer_settled source tables nodes closer could_be is =
     ap (λ (b : ItemBody). shape_of tables (slice_range source item.start item.end) b) is in
     ap (λ (s : Shape). text_unless (is_quiet s) source a (trees_from source tables nodes (child_of nodes closer))) shape
 
-pub text_closed : (source : List ℕ) (tables : Tables) (old new : List (Node Item)) (first closer : ℕ) (next : Option ℕ)
+pub text_closed : (source : List ℕ) (tables : Tables) (old new : List (Node Item)) (first closer : ℕ) (rest : Rest)
     (left : List (Entry ℕ)) (w : Around) (c : Closing ℕ)
-    → ClosesAt source tables old first closer left w c a_text → Puts source closer (settled source) None next old new tables tables
-    → PutsClosed source first closer next left w c a_text old new tables tables
-text_closed source tables old new first closer next left w c closes puts =
+    → ClosesAt source tables old first closer left w c a_text → Puts source closer (settled source) None rest old new tables tables
+    → PutsClosed source first closer rest left w c a_text old new tables tables
+text_closed source tables old new first closer rest left w c closes puts =
+    let next = rest.next in
     let ready = stands_rest source tables old first (Some closer) left closes.stands in
     let a = label_at source tables old closer in
-    let rest = trees_from source tables old (sibling_of old closer) in
+    let behind = trees_from source tables old (sibling_of old closer) in
     let what : Forest (Label ℕ) = node (as_text w.setting.text c.label) nil nil in
     let is = closer_settled source tables old closer closes.closes.0 closes.closes.1 in
     let no_block : is_some a.part.block ≡ false = ap (λ (b : ItemBody). is_some (block_of b)) closes.closes.1 in
     let quiet : IsQuiet (node (as_text source a) nil nil) = (refl, no_block, tt, tt) in
-    let p = put_trees source closer (settled source) None next old new tables tables ready puts (subst IsQuiet (sym is) quiet) in
-    let b = puts_behind source first closer next left (node (as_text source a) nil nil) rest old new tables tables closes.stands
-    (subst (λ (f : Forest Plain). PutsTrees source closer next f rest old new tables tables) is p) in
+    let p = put_trees source closer (settled source) None rest old new tables tables ready puts (subst IsQuiet (sym is) quiet) in
+    let b = puts_behind source first closer next left (node (as_text source a) nil nil) behind old new tables tables closes.stands
+    (subst (λ (f : Forest Plain). PutsTrees source closer next f behind old new tables tables) is p) in
     let reads : node (as_text source a) nil nil ≡ without_numbers what =
     ap (λ (text : List ℕ). node (as_text text a) nil nil) (sym closes.text_is)
     ∙ ap (λ (l : Label ℕ). without_numbers (node (as_text w.setting.text l) nil nil)) (sym closes.label_is) in
@@ -74,7 +76,7 @@ text_closed source tables old new first closer next left w c closes puts =
           ∙ ap (λ (l : List (Entry ℕ)). left_without_numbers (all_done what l)) (sym e);
       brackets = λ q e. brackets_done b.standing left ∙ ap brackets_of (sym e);
       wikilinks = λ q e. wikilinks_done b.standing left ∙ ap wikilinks_of (sym e);
-      rest_is = λ q e. b.rest_is ∙ ap (λ (g : Option ℕ). past g rest) (sym e);
-      fewer = puts.leaves.fewer;
+      rest_is = λ q e. b.rest_is ∙ ap (λ (g : Option ℕ). past g behind) (sym e);
+      passes = puts.passes;
       holds = λ kind learned. holds_put kind learned ready puts;
     }

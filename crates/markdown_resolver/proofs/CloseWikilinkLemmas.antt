@@ -1,5 +1,5 @@
 -- A wikilink, put in the place of its opener: over a Text, or over what is inside from a byte offset on.
-use Rattle.std.proofs.Common.{◌≡◌, ℕ, zero, suc, ◌<◌, ◌≤◌, Bool, true, false, List, [], ◌∷◌, ◌++◌, length, max, Option, Some, Bor, refl}
+use Rattle.std.proofs.Common.{◌≡◌, ℕ, zero, suc, ◌<◌, ◌≤◌, Bool, true, false, List, [], ◌∷◌, ◌++◌, length, max, Some, Bor, refl}
 use Rattle.std.proofs.Common.{sym, ap, ◌∙◌, subst, arith, if◌then◌else◌, nat_le}
 use Rattle.std.proofs.lemmas.Bool.Decides.{nat_tests}
 use Rattle.std.specs.Prelude.{IsCharBoundary}
@@ -31,6 +31,7 @@ use Rattle.markdown_document.specs.Tables.{Tables, link_origins, link_view, tabl
 use Rattle.markdown_document.specs.Waiting.{is_quiet}
 use Rattle.markdown_defs.specs.Allocations.{Allocated, LinkParts}
 use Rattle.markdown_defs.specs.AllocationCalls.{with_link}
+use Rattle.markdown_resolver.specs.declared.rest.Rest.{Rest}
 use Rattle.markdown_resolver.specs.ClosedOver.{CanClose, CanPutOver, CanShow, PutsOver, first_trees, over_shown, over_text, trees_past}
 use Rattle.markdown_resolver.specs.Closes.{ClosesAt, FirstLies, NoneOpenAround, PutsClosed, IsNamedIn}
 use Rattle.markdown_resolver.specs.Kept.{IsQuiet}
@@ -369,22 +370,22 @@ named_over {source} {tables} {tables'} {nodes} {first} {closer} {left} {w} {c} {
     ∙ ap (λ (s : ShownNodes). Some (first_shown s)) is)
 
 -- so the wikilink is in the left list
-by_name : (source : List ℕ) (tables tables' : Tables) (old new : List (Node Item)) (first closer : ℕ) (next : Option ℕ)
+by_name : (source : List ℕ) (tables tables' : Tables) (old new : List (Node Item)) (first closer : ℕ) (rest : Rest)
     (left : List (Entry ℕ)) (w : Around) (c : Closing ℕ) (o : Split ℕ)
     (opener : Opener) (number : LinkIndex) (v : Wikilink ℕ) (end n from to : ℕ)
     → ClosesAt source tables old first closer left w c (a_wikilink o v end) → opener ≡ opener_of o
     → PutsLink source (item_at old o.opener.tag).start end tables tables' number (wikilink_target v) → CanName source tables tables' w o v n from to
     → PutsOver source opener.node closer (inside_numbers o) (over_text source tables' (link_from old opener number end)
-    (text_item_over from to)) end (opener.node ∷ []) next old new tables tables'
-    → PutsClosed source first closer next left w c (a_wikilink o v end) old new tables tables'
-by_name source tables tables' old new first closer next left w c o opener number v end n from to closes is put can over =
+    (text_item_over from to)) end (opener.node ∷ []) rest old new tables tables'
+    → PutsClosed source first closer rest left w c (a_wikilink o v end) old new tables tables'
+by_name source tables tables' old new first closer rest left w c o opener number v end n from to closes is put can over =
     let at = opener_at source tables old first closer left o closes.stands closes.splits in
     let what : Forest (Label ℕ) = node (linked o (wikilink_target v) end) v.children nil in
     let shows : node (label_of source tables' (text_item_over from to)) nil nil ≡ without_numbers v.children =
     ap (λ (a : Plain). node a nil nil) (text_label source tables' w can.label from from to to refl refl closes.text_is)
     ∙ ap without_numbers (sym can.children_are) in
     let here = subst (λ (x : Opener). PutsOver source x.node closer (inside_numbers o)
-    (over_text source tables' (link_from old x number end) (text_item_over from to)) end (x.node ∷ []) next old new
+    (over_text source tables' (link_from old x number end) (text_item_over from to)) end (x.node ∷ []) rest old new
     tables tables') is over in
     let reads : node (label_of source tables' (link_from old (opener_of o) number end))
     (node (label_of source tables' (text_item_over from to)) nil nil) nil ≡ without_numbers what =
@@ -392,24 +393,24 @@ by_name source tables tables' old new first closer next left w c o opener number
     (linked_label source tables tables' old o number (wikilink_target v) end at.around.label_is put)
     ∙ ap (λ (f : Forest Plain). node (record { tag = tt; part = (linked o (wikilink_target v) end).part }) f nil) shows in
     let quiet : IsQuiet v.children = subst IsQuiet (sym can.children_are) (refl, refl, tt, tt) in
-    puts_closed source first closer next left w c (a_wikilink o v end) o old new tables tables' (before_wikilink o.before)
+    puts_closed source first closer rest left w c (a_wikilink o v end) o old new tables tables' (before_wikilink o.before)
     (over_text source tables' (link_from old (opener_of o) number end) (text_item_over from to)) what
     end (o.opener.tag ∷ []) closes at (wikilink_stands source tables old first (Some o.opener.tag) o.before at.stands)
     (record { left_is = λ p e. refl; goes = λ p. refl }) reads
     (refl, refl, quiet, tt) (λ a i. refl) here
 
-pub name_closed : {source : List ℕ} {tables tables' : Tables} {old new : List (Node Item)} {first closer : ℕ} {next : Option ℕ}
+pub name_closed : {source : List ℕ} {tables tables' : Tables} {old new : List (Node Item)} {first closer : ℕ} {rest : Rest}
     {left : List (Entry ℕ)} {w : Around} {c : Closing ℕ} {becomes : Becomes ℕ} {opener : Opener} {shown : ShownNodes} {number : LinkIndex}
     {end : ℕ} {item inner : Item} {n from to : ℕ}
     (r : MayShow source tables tables' old first closer left w c becomes opener shown number end item)
     → CanName source tables tables' w r.split r.found n from to → inner ≡ text_item_over from to
-    → PutsOver source opener.node closer (inside_numbers r.split) (over_text source tables' item inner) end (opener.node ∷ []) next old new
+    → PutsOver source opener.node closer (inside_numbers r.split) (over_text source tables' item inner) end (opener.node ∷ []) rest old new
     tables tables'
-    → PutsClosed source first closer next left w c becomes old new tables tables'
-name_closed {source} {tables} {tables'} {old} {new} {first} {closer} {next} {left} {w} {c} {becomes} {opener} {shown} {number} {end} {item}
+    → PutsClosed source first closer rest left w c becomes old new tables tables'
+name_closed {source} {tables} {tables'} {old} {new} {first} {closer} {rest} {left} {w} {c} {becomes} {opener} {shown} {number} {end} {item}
     {inner} {n} {from} {to} r can text over =
-    subst (λ (b : Becomes ℕ). PutsClosed source first closer next left w c b old new tables tables') (sym r.is)
-    (by_name source tables tables' old new first closer next left w c r.split opener number r.found end n from to r.closes r.opener_is r.put
+    subst (λ (b : Becomes ℕ). PutsClosed source first closer rest left w c b old new tables tables') (sym r.is)
+    (by_name source tables tables' old new first closer rest left w c r.split opener number r.found end n from to r.closes r.opener_is r.put
     can (rw (text, r.item_is) at over))
 
 -- what is inside from a byte offset on
@@ -495,41 +496,41 @@ shows_over {source} {tables} {tables'} {nodes} {first} {closer} {left} {w} {c} {
     ∙ ap (λ (s : ShownNodes). Some (first_shown s)) is)
     (subst (IsShownAfterPipe source) is r.piped)
 
-by_shown : (source : List ℕ) (tables tables' : Tables) (old new : List (Node Item)) (first closer : ℕ) (next : Option ℕ)
+by_shown : (source : List ℕ) (tables tables' : Tables) (old new : List (Node Item)) (first closer : ℕ) (rest : Rest)
     (left : List (Entry ℕ)) (w : Around) (c : Closing ℕ) (o : Split ℕ)
     (opener : Opener) (number : LinkIndex) (v : Wikilink ℕ) (end n from : ℕ)
     → ClosesAt source tables old first closer left w c (a_wikilink o v end) → opener ≡ opener_of o
     → PutsLink source (item_at old o.opener.tag).start end tables tables' number (wikilink_target v) → (s : ShowsFrom source old o v n from)
     → PutsOver source opener.node closer (inside_numbers o) (over_shown source tables' (link_from old opener number end) (length s.skipped)
-    from) end (opener.node ∷ []) next old new tables tables'
-    → PutsClosed source first closer next left w c (a_wikilink o v end) old new tables tables'
-by_shown source tables tables' old new first closer next left w c o opener number v end n from closes is put s over =
+    from) end (opener.node ∷ []) rest old new tables tables'
+    → PutsClosed source first closer rest left w c (a_wikilink o v end) old new tables tables'
+by_shown source tables tables' old new first closer rest left w c o opener number v end n from closes is put s over =
     let at = opener_at source tables old first closer left o closes.stands closes.splits in
     let what : Forest (Label ℕ) = node (linked o (wikilink_target v) end) v.children nil in
     let here = subst (λ (x : Opener). PutsOver source x.node closer (inside_numbers o)
-    (over_shown source tables' (link_from old x number end) (length s.skipped) from) end (x.node ∷ []) next old new
+    (over_shown source tables' (link_from old x number end) (length s.skipped) from) end (x.node ∷ []) rest old new
     tables tables') is over in
     let reads : node (label_of source tables' (link_from old (opener_of o) number end))
     (past_byte from (trees_past (length s.skipped) (without_numbers (inside o)))) nil ≡ without_numbers what =
     ap (λ (a : Plain). node a (past_byte from (trees_past (length s.skipped) (without_numbers (inside o)))) nil)
     (linked_label source tables tables' old o number (wikilink_target v) end at.around.label_is put)
     ∙ ap (λ (f : Forest Plain). node (record { tag = tt; part = (linked o (wikilink_target v) end).part }) f nil) s.reads in
-    puts_closed source first closer next left w c (a_wikilink o v end) o old new tables tables' (before_wikilink o.before)
+    puts_closed source first closer rest left w c (a_wikilink o v end) o old new tables tables' (before_wikilink o.before)
     (over_shown source tables' (link_from old (opener_of o) number end) (length s.skipped) from) what
     end (o.opener.tag ∷ []) closes at (wikilink_stands source tables old first (Some o.opener.tag) o.before at.stands)
     (record { left_is = λ p e. refl; goes = λ p. refl }) reads
     (refl, refl, s.quiet, tt) (λ a i. refl) here
 
-pub shown_closed : {source : List ℕ} {tables tables' : Tables} {old new : List (Node Item)} {first closer : ℕ} {next : Option ℕ}
+pub shown_closed : {source : List ℕ} {tables tables' : Tables} {old new : List (Node Item)} {first closer : ℕ} {rest : Rest}
     {left : List (Entry ℕ)} {w : Around} {c : Closing ℕ} {becomes : Becomes ℕ} {opener : Opener} {shown : ShownNodes} {number : LinkIndex}
     {end : ℕ} {item : Item} {n from : ℕ}
     (r : MayShow source tables tables' old first closer left w c becomes opener shown number end item)
     (s : ShowsFrom source old r.split r.found n from)
     → PutsOver source opener.node closer (inside_numbers r.split) (over_shown source tables' item (length s.skipped) from) end
-    (opener.node ∷ []) next old new tables tables'
-    → PutsClosed source first closer next left w c becomes old new tables tables'
-shown_closed {source} {tables} {tables'} {old} {new} {first} {closer} {next} {left} {w} {c} {becomes} {opener} {shown} {number} {end} {item}
+    (opener.node ∷ []) rest old new tables tables'
+    → PutsClosed source first closer rest left w c becomes old new tables tables'
+shown_closed {source} {tables} {tables'} {old} {new} {first} {closer} {rest} {left} {w} {c} {becomes} {opener} {shown} {number} {end} {item}
     {n} {from} r s over =
-    subst (λ (b : Becomes ℕ). PutsClosed source first closer next left w c b old new tables tables') (sym r.is)
-    (by_shown source tables tables' old new first closer next left w c r.split opener number r.found end n from r.closes r.opener_is r.put
+    subst (λ (b : Becomes ℕ). PutsClosed source first closer rest left w c b old new tables tables') (sym r.is)
+    (by_shown source tables tables' old new first closer rest left w c r.split opener number r.found end n from r.closes r.opener_is r.put
     s (rw r.item_is at over))

@@ -26,6 +26,7 @@ use Rattle.markdown_document.specs.Places.{label_at, trees_from}
 use Rattle.markdown_document.specs.Setting.{Setting}
 use Rattle.markdown_document.specs.Stages.{Stage, chain_at, known_at}
 use Rattle.markdown_document.proofs.PlaceLemmas.{shape-open}
+use Rattle.markdown_resolver.specs.declared.rest.Rest.{Rest}
 use Rattle.markdown_resolver.specs.Closes.{PutsClosed, closing_at}
 use Rattle.markdown_resolver.specs.PassOne.{around}
 use Rattle.markdown_resolver.specs.ReadOn.{AreSpent, ReadsOn, StandsTo, StopsOn, all_read, at_left, left_without_numbers}
@@ -132,13 +133,14 @@ module _ {C : Type 0} (step : C → Question → Option Answer → C → Type 0)
           (body.MaybeLinkClose could_be) refl)
 
   -- what it became was put
-  pub reads_on_closer : (next : Option ℕ) (brackets' wikilinks' : List Waiting)
+  pub reads_on_closer : (rest : Rest) (brackets' wikilinks' : List Waiting)
       → (d : IsDecided)
       → StandsTo s.text old.tables old.nodes first (Some ix) left → (item_at old.nodes ix).body ≡ body.MaybeLinkClose could_be
-      → PutsClosed s.text first ix next d.left_then (around s above) the_closing d.becomes old.nodes new.nodes old.tables new.tables
+      → PutsClosed s.text first ix rest d.left_then (around s above) the_closing d.becomes old.nodes new.nodes old.tables new.tables
       → HoldsPut (around s above) the_closing d.becomes d.left_then brackets' wikilinks'
-      → ReadsOn step s above first (Some ix) next left old new spent spent' brackets' wikilinks'
-  reads_on_closer next brackets' wikilinks' d stands is puts held =
+      → ReadsOn step s above first (Some ix) rest.next left old new spent spent' brackets' wikilinks'
+  reads_on_closer rest brackets' wikilinks' d stands is puts held =
+      let next = rest.next in
       let w = around s above in
       let c = the_closing in
       let some : Progress ℕ = record { left = d.left_then; goes_on = None; spent = []; asked = []; known = known_at new []; made = 0 } in

@@ -312,9 +312,6 @@ module _ (source : List ℕ) (tables : Tables) (old new : List (Node Item)) (ope
   rest_forest = found (links_of new) (Some closer) (trees_past k f) rest_spelled (λ n. let z = whole_once n
       in let parts = total_parts (same n) k f in omega arith)
 
-  pub closer_spelled : Spells (links_of new) (Some closer) (forest_at (links_of new) (Some closer))
-  closer_spelled = rw rest_forest rest_spelled
-
   -- it reads so
   labels : (n : ℕ) → label_at source tables new n ≡ label_at source tables old n
   labels n = ap (λ x. label_of source tables x) (v.items n)

@@ -136,6 +136,20 @@ module _ (source : List ℕ) (tables : Tables) (old : List (Node Item)) (opener 
   closer_roots : roots (trees_past k f) ≡ closer ∷ can.after
   closer_roots = ap (λ (g : Forest ℕ). roots g) closer_opens.is ∙ ap (λ (ns : List ℕ). closer ∷ ns) closer_opens.follow
 
+  -- the chain after the closer
+  behind_opened : Opened (links_of old) (IsPlaced source tables old) closer
+  behind_opened = opens (links_of old) (IsPlaced source tables old) closer closer_reaches
+
+  pub behind_spelled : Spells (links_of old) (sibling_of old closer) (forest_at (links_of old) (sibling_of old closer))
+  behind_spelled = behind_opened.after.spelled
+
+  pub behind_is : forest_at (links_of old) (sibling_of old closer) ≡ trees_past (suc k) f
+  behind_is = let both = sym behind_opened.here ∙ closer_forest ∙ closer_opens.is in cc both
+
+  pub next_behind : first_past old byte can.after ≡ first_past old byte (roots (forest_at (links_of old) (sibling_of old closer)))
+  next_behind = ap (λ (ns : List ℕ). first_past old byte ns)
+      (sym closer_opens.follow ∙ ap (λ (g : Forest ℕ). roots g) (sym behind_is))
+
   -- where all from the closer on stays, it reads as it did
   module _ (new : List (Node Item)) (size : length new ≡ length old) (behind : (n : ℕ) → 0 < total (same n) (trees_past k f)
       → IsSameAt old new n) where

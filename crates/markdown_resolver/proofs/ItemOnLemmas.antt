@@ -22,6 +22,7 @@ use Rattle.markdown_document.specs.Tables.{Tables}
 use Rattle.markdown_document.proofs.PlaceLemmas.{shape-open}
 use Rattle.markdown_spans.specs.Finds.{Passed}
 use Rattle.markdown_delims.proofs.PairingLemmas.{closed_shape}
+use Rattle.markdown_resolver.specs.declared.rest.Rest.{Rest}
 use Rattle.markdown_resolver.specs.PutsTrees.{without_numbers}
 use Rattle.markdown_resolver.specs.ReadOn.{AreHeld, PutsBehind, ReadsOn, StandsTo, all_read, at_left, left_without_numbers}
 use Rattle.markdown_resolver.specs.ReadsItem.{ReadsItem, read_at}
@@ -61,20 +62,21 @@ held_done trees left brackets wikilinks held = record {
 
 -- an item that is not a bracket was read
 pub reads_on_item : {C : Type 0} (step : C → Question → Option Answer → C → Type 0) (s : Setting) (above : Above) (first ix : ℕ)
-    (next : Option ℕ) (left : List (Entry ℕ)) (old new : Stage C)
+    (rest : Rest) (left : List (Entry ℕ)) (old new : Stage C)
     (spent : SpentEnds) (brackets wikilinks : List Waiting) → new ≡ record old { nodes = new.nodes; tables = new.tables }
     → StandsTo s.text old.tables old.nodes first (Some ix) left → AreHeld brackets wikilinks left → NoBracket (item_at old.nodes ix).body
-    → ReadsItem s above ix next old.nodes new.nodes old.tables new.tables
-    → ReadsOn step s above first (Some ix) next left old new spent spent brackets wikilinks
-reads_on_item {C} step s above first ix next left old new spent brackets wikilinks same stands held other reads =
+    → ReadsItem s above ix rest old.nodes new.nodes old.tables new.tables
+    → ReadsOn step s above first (Some ix) rest.next left old new spent spent brackets wikilinks
+reads_on_item {C} step s above first ix rest left old new spent brackets wikilinks same stands held other reads =
     let ready = stands_rest s.text old.tables old.nodes first (Some ix) left stands in
     let o = opens_chain s.text old.tables old.nodes ix ready in
     let a = label_at s.text old.tables old.nodes ix in
     let below = trees_from s.text old.tables old.nodes (child_of old.nodes ix) in
-    let rest = trees_from s.text old.tables old.nodes (sibling_of old.nodes ix) in
+    let next = rest.next in
+    let behind = trees_from s.text old.tables old.nodes (sibling_of old.nodes ix) in
     let r : Passed (Unit {0}) = read_at s above old.tables old.nodes ix in
-    let b : PutsBehind s.text first next left r.trees (past r.goes_on rest) old.nodes new.nodes old.tables new.tables =
-    puts_behind s.text first ix next left r.trees (past r.goes_on rest) old.nodes new.nodes old.tables new.tables stands reads.puts in
+    let b : PutsBehind s.text first next left r.trees (past r.goes_on behind) old.nodes new.nodes old.tables new.tables =
+    puts_behind s.text first ix next left r.trees (past r.goes_on behind) old.nodes new.nodes old.tables new.tables stands reads.puts in
     let then = all_done b.standing left in
     let lefts : all_done r.trees (left_without_numbers left) ≡ left_without_numbers then =
     ap (λ (f : Forest Plain). all_done f (left_without_numbers left)) (sym b.reads) ∙ sym (done_unnumbered b.standing left) in
@@ -92,7 +94,7 @@ reads_on_item {C} step s above first ix next left old new spent brackets wikilin
       reads = λ p later are.
           let k : known_at old later ≡ known_at new later = ap (λ (t : Stage C). known_at t later) (sym same) in
           ap (λ (f : Forest Plain). all_read s above f (at_left left old later p)) o.trees
-          ∙ reads_other s above a below rest (at_left left old later p) refl (shape_no_bracket old.tables _ (item_at old.nodes ix).body
+          ∙ reads_other s above a below behind (at_left left old later p) refl (shape_no_bracket old.tables _ (item_at old.nodes ix).body
           other)
           ∙ ap (λ (f : Forest Plain). all_read s above f (record p {
             left = all_done r.trees (left_without_numbers left);

@@ -37,6 +37,7 @@ use Rattle.markdown_raw_html.proofs.RawHtmlLemmas.{EndsWith}
 use Rattle.markdown_raw_html.proofs.TagSourceLemmas.{Closes-html_tag}
 use Rattle.markdown_defs.specs.Allocations.{Allocated, LinkParts}
 use Rattle.markdown_defs.specs.AllocationCalls.{with_link}
+use Rattle.markdown_resolver.specs.declared.rest.Rest.{Rest}
 use Rattle.markdown_resolver.specs.Chains.{CanResolve}
 use Rattle.markdown_resolver.specs.MarkupItems.{IsAddress, address_to, item_to, standing_for}
 use Rattle.markdown_resolver.specs.Rewritten.{CanPut, CanPutParent, Puts, Standing, one_item, parent, replaced}
@@ -264,16 +265,17 @@ one_markup source rules (html_markup end None) a below = refl
 one_markup source rules (html_markup end (Some bytes)) a below = refl
 
 -- so what was put in place replaces it
-pub puts_standing : (source : List ℕ) (rules : Rules) (m : Markup) (ix : ℕ) (trees : Standing) (goes_on next : Option ℕ)
+pub puts_standing : (source : List ℕ) (rules : Rules) (m : Markup) (ix : ℕ) (trees : Standing) (goes_on : Option ℕ) (rest : Rest)
     (old new : List (Node Item)) (tables tables' : Tables)
     → CanResolve source tables old (Some ix) → ReadsFor source rules tables old ix trees m
-    → Puts source ix trees goes_on next old new tables tables'
-    → Puts source ix (standing_for source rules m) goes_on next old new tables tables'
-puts_standing source rules m ix trees goes_on next old new tables tables' ready same p = record {
+    → Puts source ix trees goes_on rest old new tables tables'
+    → Puts source ix (standing_for source rules m) goes_on rest old new tables tables'
+puts_standing source rules m ix trees goes_on rest old new tables tables' ready same p = record {
   whole = λ rule nodes later r.
       let w = p.whole rule nodes later r in
       record { changes = w.changes; runs = w.runs; rewritten = w.rewritten ∙ alike rule };
   leaves = p.leaves;
+  passes = p.passes;
   leads = p.leads;
   standing = p.standing;
   numbers = p.numbers;

@@ -34,6 +34,7 @@ use Rattle.markdown_spans.proofs.AfterLessLemmas.{closed_boundary}
 use Rattle.markdown_spans.proofs.SliceLemmas.{slice_of_slice}
 use Rattle.markdown_document.proofs.OriginLemmas.{slice_wider}
 use Rattle.markdown_defs.specs.Allocations.{Allocated}
+use Rattle.markdown_resolver.specs.declared.rest.Rest.{Rest}
 use Rattle.markdown_resolver.specs.ChainPlace.{CanReadItem, IsPlaceOf}
 use Rattle.markdown_resolver.specs.Chains.{CanResolve}
 use Rattle.markdown_resolver.specs.MarkupItems.{HasAddress, IsMarkupAt, standing_for}
@@ -254,24 +255,24 @@ markup_stands place tree held ix prefix m is =
     }
 
 -- where nothing is found the item is read as it is settled
-pub reads_text : (place : ChainPlace) (tree : Arena Item) (held : Allocated) (ix : ℕ) (rules : Rules) (next : Option ℕ)
+pub reads_text : (place : ChainPlace) (tree : Arena Item) (held : Allocated) (ix : ℕ) (rules : Rules) (rest : Rest)
     (new : List (Node Item)) → CanReadItem place tree held ix
     → (item_at tree.nodes ix).body ≡ body.MaybeHtml → found_by place tree held ix rules ≡ nothing
-    → Puts place.text.now ix (settled place.text.now) None next tree.nodes new (tables_of held) (tables_of held)
-    → ReadsItem (setting_of place.text.now rules) (above_cursor place.text.now tree) ix next tree.nodes new (tables_of held)
+    → Puts place.text.now ix (settled place.text.now) None rest tree.nodes new (tables_of held) (tables_of held)
+    → ReadsItem (setting_of place.text.now rules) (above_cursor place.text.now tree) ix rest tree.nodes new (tables_of held)
     (tables_of held)
-reads_text place tree held ix rules next new can opener none p =
+reads_text place tree held ix rules rest new can opener none p =
     let s = setting_of place.text.now rules in
     let above = above_cursor place.text.now tree in
     reads_item can.ready (settled_reads s above (tables_of held) tree.nodes ix opener none) p
 
 -- where markup is found, the item is read as the trees that replace it
 pub reads_found : (place : ChainPlace) (tree : Arena Item) (held : Allocated) (ix : ℕ) (prefix : ContainerPrefix) (m : Markup)
-    (rules : Rules) (next : Option ℕ) (new : List (Node Item)) (tables' : Tables)
+    (rules : Rules) (rest : Rest) (new : List (Node Item)) (tables' : Tables)
     → IsScanned place tree held ix prefix (Some m) → gfm_footnotes_on rules.options ≡ gfm_footnotes_on place.options
-    → Puts place.text.now ix (standing_for place.text.now rules m) (Some (end_of_markup m)) next tree.nodes new (tables_of held) tables'
-    → ReadsItem (setting_of place.text.now rules) (above_cursor place.text.now tree) ix next tree.nodes new (tables_of held) tables'
-reads_found place tree held ix prefix m rules next new tables' is gfm p =
+    → Puts place.text.now ix (standing_for place.text.now rules m) (Some (end_of_markup m)) rest tree.nodes new (tables_of held) tables'
+    → ReadsItem (setting_of place.text.now rules) (above_cursor place.text.now tree) ix rest tree.nodes new (tables_of held) tables'
+reads_found place tree held ix prefix m rules rest new tables' is gfm p =
     let s = setting_of place.text.now rules in
     let above = above_cursor place.text.now tree in
     let found = scan_finds place tree held ix prefix (Some m) rules is gfm in

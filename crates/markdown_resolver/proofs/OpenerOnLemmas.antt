@@ -39,6 +39,7 @@ use Rattle.markdown_document.specs.Tables.{Tables}
 use Rattle.markdown_document.specs.Waiting.{is_quiet}
 use Rattle.markdown_document.proofs.PlaceLemmas.{shape-open}
 use Rattle.markdown_delims.proofs.PairingLemmas.{closed_shape}
+use Rattle.markdown_resolver.specs.declared.rest.Rest.{Rest}
 use Rattle.markdown_resolver.specs.Chains.{CanResolve, ChangesChain}
 use Rattle.markdown_resolver.specs.Kept.{IsQuiet, IsQuietBelow}
 use Rattle.markdown_resolver.specs.PutsTrees.{PutsTrees, numbered_from, numbered_label, without_numbers}
@@ -187,15 +188,16 @@ pub record IsSettledAt (source : List ℕ) (tables : Tables) (old new : List (No
   childless : child_of new ix ≡ None
   within : ix < length new
 
-pub settled_at : (source : List ℕ) (tables : Tables) (old new : List (Node Item)) (first ix : ℕ) (next : Option ℕ) (left : List (Entry ℕ))
+pub settled_at : (source : List ℕ) (tables : Tables) (old new : List (Node Item)) (first ix : ℕ) (rest : Rest) (left : List (Entry ℕ))
     (is_image : Bool)
     → StandsTo source tables old first (Some ix) left → (item_at old ix).body ≡ opener_body is_image
-    → Puts source ix (settled source) None next old new tables tables → IsSettledAt source tables old new first ix next left
-settled_at source tables old new first ix next left is_image h is puts =
+    → Puts source ix (settled source) None rest old new tables tables → IsSettledAt source tables old new first ix rest.next left
+settled_at source tables old new first ix rest left is_image h is puts =
     let ready = stands_rest source tables old first (Some ix) left h in
     let a = label_at source tables old ix in
     let below = trees_from source tables old (child_of old ix) in
-    let rest = trees_from source tables old (sibling_of old ix) in
+    let next = rest.next in
+    let behind_it = trees_from source tables old (sibling_of old ix) in
     let t = as_text source a in
     let item = item_at old ix in
     let was_open : is_open item.body ≡ true = ap is_open is ∙ opener_open is_image in
@@ -205,10 +207,10 @@ settled_at source tables old new first ix next left is_image h is puts =
     let o = opens_chain source tables old ix ready in
     let block : is_some a.part.block ≡ false = (subst (λ (f : Forest Plain). IsQuietBelow f) o.trees ready.quiet_below).0 in
     let quiet : IsQuiet (node t nil nil) = (refl, block, tt, tt) in
-    let p0 = put_trees source ix (settled source) None next old new tables tables ready puts (subst (λ (f : Forest Plain). IsQuiet f)
+    let p0 = put_trees source ix (settled source) None rest old new tables tables ready puts (subst (λ (f : Forest Plain). IsQuiet f)
     (sym text) quiet) in
-    let p : PutsTrees source ix next (node t nil nil) rest old new tables tables = subst (λ (f : Forest Plain). PutsTrees source ix next f
-    rest old new tables tables) text p0 in
+    let p : PutsTrees source ix next (node t nil nil) behind_it old new tables tables = subst (λ (f : Forest Plain). PutsTrees source ix next f
+    behind_it old new tables tables) text p0 in
     let some = some_nodes source tables old first (Some ix) left h in
     let b = behind source old new tables tables ix (trees_onto left nil) (Some first) some p.changes p.runs
     (stands_from source tables old first (Some ix) left h) (rest_of source tables old first (Some ix) left h).whole in
@@ -229,7 +231,7 @@ settled_at source tables old new first ix next left is_image h is puts =
     let child : numbered_from source tables new (child_of new ix) ≡ nil = cc opened in
     record {
       reads = ap (λ (c : Label ℕ). retag (λ n. tt) c) (sym label) ∙ one.reads;
-      behind_is = puts_behind source first ix next left (node t nil nil) rest old new tables tables h p;
+      behind_is = puts_behind source first ix next left (node t nil nil) behind_it old new tables tables h p;
       stands =
           b.trees ∙ ap (λ (f : Forest (Label ℕ)). joined_chains (trees_onto left nil) f) (here ∙ ap (λ (c : Label ℕ). node c nil next_trees) label)
           ∙ sym (onto_split left (node (numbered_label source tables new ix) nil next_trees));
@@ -240,30 +242,31 @@ settled_at source tables old new first ix next left is_image h is puts =
 
 -- an opener was read
 pub reads_on_opener : {C : Type 0} (step : C → Question → Option Answer → C → Type 0) (s : Setting) (above : Above) (first ix : ℕ)
-    (next : Option ℕ) (left : List (Entry ℕ)) (is_image : Bool) (old new : Stage C)
+    (rest : Rest) (left : List (Entry ℕ)) (is_image : Bool) (old new : Stage C)
     (spent : SpentEnds) (brackets wikilinks brackets' wikilinks' : List Waiting) → new ≡ record old { nodes = new.nodes }
     → StandsTo s.text old.tables old.nodes first (Some ix) left → AreHeld brackets wikilinks left
     → (item_at old.nodes ix).body ≡ opener_body is_image
-    → Puts s.text ix (settled s.text) None next old.nodes new.nodes old.tables old.tables
+    → Puts s.text ix (settled s.text) None rest old.nodes new.nodes old.tables old.tables
     → brackets' ≡ waiting.live_opener (record { node = ix; is_image = is_image }) ∷ brackets
     → wikilinks' ≡ (if wikilinks_on s.rules.options && option_map_or (λ n. is_opener (item_at old.nodes n).body) (sibling_of old.nodes ix)
     false
     then waiting.live_opener (record { node = ix; is_image = is_image }) ∷ wikilinks else wikilinks)
-    → ReadsOn step s above first (Some ix) next left old new spent spent brackets' wikilinks'
-reads_on_opener {C} step s above first ix next left is_image old new spent brackets wikilinks brackets' wikilinks' same stands held is puts
+    → ReadsOn step s above first (Some ix) rest.next left old new spent spent brackets' wikilinks'
+reads_on_opener {C} step s above first ix rest left is_image old new spent brackets wikilinks brackets' wikilinks' same stands held is puts
     brackets_are wikilinks_are =
     let ready = stands_rest s.text old.tables old.nodes first (Some ix) left stands in
     let o = opens_chain s.text old.tables old.nodes ix ready in
     let item = item_at old.nodes ix in
     let a = label_at s.text old.tables old.nodes ix in
     let below = trees_from s.text old.tables old.nodes (child_of old.nodes ix) in
-    let rest = trees_from s.text old.tables old.nodes (sibling_of old.nodes ix) in
+    let next = rest.next in
+    let behind_it = trees_from s.text old.tables old.nodes (sibling_of old.nodes ix) in
     let tables : new.tables ≡ old.tables = ap (λ (t : Stage C). t.tables) same in
-    let at : IsSettledAt s.text old.tables old.nodes new.nodes first ix next left = settled_at s.text old.tables old.nodes new.nodes first
-    ix next left is_image stands is puts in
+    let at : IsSettledAt s.text old.tables old.nodes new.nodes first ix rest.next left = settled_at s.text old.tables old.nodes new.nodes first
+    ix rest left is_image stands is puts in
     let text = as_text s.text a in
     let b = numbered_label s.text old.tables new.nodes ix in
-    let follows = wikilinks_on s.rules.options && is_next is_opener rest in
+    let follows = wikilinks_on s.rules.options && is_next is_opener behind_it in
     let mark : Mark = record { is_image = is_image; bracket = live; wikilink = if follows then live else gone } in
     let left_then : List (Entry ℕ) = waits mark b ∷ left in
     let behind_is = at.behind_is in
@@ -332,11 +335,11 @@ reads_on_opener {C} step s above first ix next left is_image old new spent brack
           let k : known_at old later ≡ known_at new later = ap (λ (t : Stage C). known_at t later) (sym same) in
           let left_is : waits mark text ∷ left_without_numbers left ≡ left_without_numbers left_then =
           ap (λ (c : Plain). waits mark c ∷ left_without_numbers left) (sym at.reads) in
-          let rest_is : rest ≡ chain_at s.text new next = sym behind_is.rest_is ∙ ap (λ (t : Tables). trees_from s.text t new.nodes next)
+          let rest_is : behind_it ≡ chain_at s.text new next = sym behind_is.rest_is ∙ ap (λ (t : Tables). trees_from s.text t new.nodes next)
           (sym tables) in
           let made : p.made ≡ p.made + 0 = omega arith in
           ap (λ (f : Forest Plain). all_read s above f (at_left left old later p)) o.trees
-          ∙ reads_opener s plain_tags above is_image a below rest (at_left left old later p) refl (opener_is is_image item.body is)
+          ∙ reads_opener s plain_tags above is_image a below behind_it (at_left left old later p) refl (opener_is is_image item.body is)
           ∙ ap (λ (f : Forest Plain). all_read s above f (record p {
             left = waits mark text ∷ left_without_numbers left;
             goes_on =

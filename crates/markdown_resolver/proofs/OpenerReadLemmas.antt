@@ -21,6 +21,7 @@ use Rattle.markdown_resolver.specs.ChainPlace.{CanReadOn}
 use Rattle.markdown_resolver.specs.Chains.{CanResolve}
 use Rattle.markdown_resolver.specs.ReadOn.{StandsTo}
 use Rattle.markdown_resolver.specs.ReadsBracket.{CanReadNode, ReadsBracket, setting_by, stage_by}
+use Rattle.markdown_resolver.specs.declared.rest.Rest.{Rest}
 use Rattle.markdown_resolver.specs.Rewritten.{Puts, settled}
 use Rattle.markdown_resolver.specs.declared.bracket_kind.BracketKind.{BracketKind}
 use Rattle.markdown_resolver.specs.declared.bracket_kind.BracketKind.TheVariants.{Opener, Closer}
@@ -81,21 +82,21 @@ if_err_both (Ok x) P Q p q = tt
 if_err_both (Err fault) P Q p q = (p, q)
 
 -- what was put in place for an opener, whatever the text and its tables are
-abbrev pub IsOpened : Arena Item → Arena Item → ℕ → Option ℕ → Type 0
-IsOpened old new ix next = (source : List ℕ) (tables : Tables) → CanResolve source tables old.nodes (Some ix)
-    → Puts source ix (settled source) None next old.nodes new.nodes tables tables
+abbrev pub IsOpened : Arena Item → Arena Item → ℕ → Rest → Type 0
+IsOpened old new ix rest = (source : List ℕ) (tables : Tables) → CanResolve source tables old.nodes (Some ix)
+    → Puts source ix (settled source) None rest old.nodes new.nodes tables tables
 
 -- a resolver has read an opener, once that waits
 pub reads_opener : {C E : Type 0} (step : C → Question → Option Answer → C → Type 0) (place : ChainPlace) (ix : ℕ) (is_image : Bool)
-    (tree tree' : Arena Item) (old : Resolver C) (openers : ChainOpeners) (r : Result (Option ℕ) E)
+    (tree tree' : Arena Item) (old : Resolver C) (openers : ChainOpeners) (r : Result Rest E)
     → CanReadNode place tree old ix → kind_of (item_at tree.nodes ix).body ≡ Some (Opener is_image)
-    → IfOk r (λ next. IsOpened tree tree' ix next) → IfOk r (λ next. tree' ≡ record tree { nodes = tree'.nodes })
+    → IfOk r (λ rest. IsOpened tree tree' ix rest) → IfOk r (λ rest. tree' ≡ record tree { nodes = tree'.nodes })
     → OnOk r (openers.brackets ≡ waiting.live_opener (record { node = ix; is_image = is_image }) ∷ old.waiting.openers.brackets)
     → OnOk r (openers.wikilinks
     ≡ (if wikilinks_on old.options && option_map_or (λ n. is_opener (item_at tree.nodes n).body) (sibling_of tree.nodes ix) false
     then waiting.live_opener (record { node = ix; is_image = is_image }) ∷ old.waiting.openers.wikilinks else old.waiting.openers.wikilinks))
-    → IfOk r (λ next. ReadsBracket step place ix next tree tree' old (record old { waiting = record old.waiting { openers = openers } }))
-reads_opener step place ix is_image tree tree' old openers (Ok next) can kind puts place_is brackets_are wikilinks_are =
+    → IfOk r (λ rest. ReadsBracket step place ix rest tree tree' old (record old { waiting = record old.waiting { openers = openers } }))
+reads_opener step place ix is_image tree tree' old openers (Ok rest) can kind puts place_is brackets_are wikilinks_are =
     let ready = ready_here can.was_read in
     let put = puts place.text.now (tables_of old.lookup.tables) ready in
     record {
@@ -103,17 +104,17 @@ reads_opener step place ix is_image tree tree' old openers (Ok next) can kind pu
         reads = λ first left was_read.
             let so_far : StandsTo old.text.now (tables_of old.lookup.tables) tree.nodes first (Some ix) left = rw (← can.text) was_read.so_far in
             let here = stands_rest old.text.now (tables_of old.lookup.tables) tree.nodes first (Some ix) left so_far in
-            reads_on_opener step (setting_by old) (above_cursor old.text.now tree) first ix next left is_image (stage_by tree old)
+            reads_on_opener step (setting_by old) (above_cursor old.text.now tree) first ix rest left is_image (stage_by tree old)
             (stage_by tree' old) old.waiting.spent old.waiting.openers.brackets old.waiting.openers.wikilinks openers.brackets openers.wikilinks refl so_far
             was_read.openers (opener_kind is_image (item_at tree.nodes ix).body kind) (puts old.text.now (tables_of old.lookup.tables) here)
             brackets_are wikilinks_are;
-        fewer = put.leaves.fewer;
+        passes = put.passes;
         unread = λ h.
             let source = old.text.now in
             let tables = tables_of old.lookup.tables in
             let so_far : StandsTo source tables tree.nodes can.first (Some ix) can.left = rw (← can.text) can.was_read.so_far in
             let here = stands_rest source tables tree.nodes can.first (Some ix) can.left so_far in
-            let settled_there = settled_at source tables tree.nodes tree'.nodes can.first ix next can.left is_image so_far
+            let settled_there = settled_at source tables tree.nodes tree'.nodes can.first ix rest can.left is_image so_far
             (opener_kind is_image (item_at tree.nodes ix).body kind) (puts source tables here) in
             rw settled_there.behind_is.rest_is (unread_after source tables tree.nodes ix here h);
         place_is = place_is;

@@ -1,17 +1,17 @@
 -- What is left of a chain in an arena past a byte offset: items leave it up to there, and the first that is left begins
 -- there.
 use Rattle.markdown_base.specs.declared.item.ItemBody.TheVariants as body
-use Rattle.std.proofs.Common.{[], ◌∷◌, ◌≡◌, ℕ, ◌+◌, ◌-◌, ◌<◌, ◌≤◌, max, Bool, true, false, ⊎_elim, List, length, take, drop, Option, Some}
+use Rattle.std.proofs.Common.{[], ◌∷◌, ◌≡◌, ℕ, zero, suc, ◌+◌, ◌-◌, ◌<◌, ◌≤◌, max, Bool, true, false, ⊎_elim, List, length, take, drop, Option, Some}
 use Rattle.std.proofs.Common.{None, refl, sym, ap, ◌∙◌, subst, arith, if◌then◌else◌, nat_le}
 use Rattle.std.proofs.lemmas.Bool.{cases_lt}
 use Rattle.std.proofs.lemmas.Bool.Decides.{nat_tests}
 use Rattle.std.proofs.lemmas.List.{drop-take, drop-drop}
 use Rattle.std.specs.Prelude.{⊤, slice_range, IsCharBoundary}
 use Rattle.markdown_base.specs.Arena.{child_of, sibling_of}
-use Rattle.markdown_base.specs.ArenaForest.{Spells, forest_at, links_of}
+use Rattle.markdown_base.specs.ArenaForest.{Links, Spells, followed, forest_at, links_of}
 use Rattle.markdown_base.specs.ArenaRules.{next_at}
 use Rattle.markdown_base.specs.BlockTree.{Numbered, item_at}
-use Rattle.markdown_base.specs.Forest.{Forest, nil, node, Each, roots}
+use Rattle.markdown_base.specs.Forest.{Forest, nil, node, Each, relabelled, roots}
 use Rattle.markdown_base.specs.Item.{is_open}
 use Rattle.markdown_base.specs.declared.item.Item.{Item}
 use Rattle.markdown_base.specs.declared.item.ItemBody.{ItemBody}
@@ -29,8 +29,9 @@ use Rattle.markdown_document.specs.Stages.{items_from}
 use Rattle.markdown_document.specs.Tables.{Tables, text_at}
 use Rattle.markdown_document.proofs.ItemRulesLemmas.{keeps-closed}
 use Rattle.markdown_document.proofs.TablesLemmas.{grown-nothing}
-use Rattle.markdown_resolver.specs.Rewritten.{begun_item, first_past}
+use Rattle.markdown_resolver.specs.Rewritten.{IsRestPast, Passes, begun_item, first_past}
 use Rattle.markdown_resolver.specs.Settling.{begun_from}
+use Rattle.markdown_resolver.specs.declared.rest.Rest.{Rest}
 use Rattle.markdown_resolver.proofs.NodeChangeLemmas.{changed_other, changed_here}
 use Rattle.markdown_resolver.proofs.ComposeLemmas.{Stands, Moves, moves_none, moves_twice, first_leaves, HeadWritten, head_moves}
 use Rattle.markdown_resolver.proofs.ComposeLemmas.{after_head, below_kept, following_kept}
@@ -101,6 +102,30 @@ dropped source tables nodes i (node ix below after) l e s =
       reads = all.reads ∙ ap (λ t. if nat_le (item_at nodes ix).end i
           then left_past i (trees_from source tables nodes (sibling_of nodes ix)) else t) is ∙ rw is refl;
     })
+
+-- where a chain reads as what is left of another past a byte offset, that many items are left
+pub as_many : (g : ℕ → Plain) (f : Forest ℕ) → length (roots (relabelled g f)) ≡ length (roots f)
+as_many g nil = refl
+as_many g (node ix below after) = ap suc (as_many g after)
+
+many_begun : (i : ℕ) (f : Forest Plain) → length (roots (first_begun i f)) ≡ length (roots f)
+many_begun i nil = refl
+many_begun i (node a below after) = refl
+
+pub passes_past : (source : List ℕ) (tables t : Tables) (old new : List (Node Item)) (ix i : ℕ) (rest : Rest)
+    → Stands source tables old (Some ix) → IsRestPast old i (sibling_of old ix) rest
+    → trees_from source t new rest.next ≡ past_byte i (trees_from source tables old (sibling_of old ix)) → Passes ix rest old new
+passes_past source tables t old new ix i rest s past reads =
+    let l = sibling_of old ix in
+    let behind = trees_from source tables old l in
+    let o = opens (links_of old) (IsPlaced source tables old) ix s.reaches in
+    let d = dropped source tables old i (forest_at (links_of old) l) l refl (first_leaves source ix old tables s).stands in
+    let left : length (roots (trees_from source t new rest.next)) ≡ length (roots (trees_from source tables old rest.next)) =
+    ap (λ (f : Forest Plain). length (roots f)) (reads ∙ past_is i behind) ∙ many_begun i (left_past i behind)
+    ∙ ap (λ (f : Forest Plain). length (roots f)) (sym d.reads ∙ ap (trees_from source tables old) (sym past.next_is)) in
+    let many = as_many (label_at source t new) (forest_at (links_of new) rest.next) in
+    let many' = as_many (label_at source tables old) (forest_at (links_of old) rest.next) in
+    rw o.here (omega (arith, past.counted, left, many, many'))
 
 -- the bytes of an item that is cut at a byte offset
 slice_begun : (source : List ℕ) (start end i : ℕ) → i ≤ end → start ≤ end → slice_range source (max start i) end
@@ -286,5 +311,15 @@ pub first_none : (nodes : List (Node Item)) (i : ℕ) → first_past nodes i (ro
 first_none nodes i = rw (forest_at-none (links_of nodes)) refl
 
 pub items_fall : (nodes : List (Node Item)) (ix : ℕ) → SpelledAt nodes ix
-    → items_from nodes (sibling_of nodes ix) < items_from nodes (Some ix)
-items_fall nodes ix s = rw s.here (omega arith)
+    → items_from nodes (Some ix) ≡ suc (items_from nodes (sibling_of nodes ix))
+items_fall nodes ix s = rw s.here refl
+
+-- no chain has more items than there are nodes
+followed_few : (n : ℕ) (k : Links) (l : Option ℕ) → length (roots (followed n k l)) ≤ n
+followed_few zero k l = omega arith
+followed_few (suc n) k None = omega arith
+followed_few (suc n) k (Some ix) = omega (arith, followed_few n k (k.next ix))
+
+pub items_few : (nodes : List (Node Item)) (l : Option ℕ) → items_from nodes l ≤ length nodes
+unfolding forest_at
+items_few nodes l = followed_few (length nodes) (links_of nodes) l

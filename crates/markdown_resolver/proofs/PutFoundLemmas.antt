@@ -28,13 +28,14 @@ use Rattle.markdown_document.proofs.ItemRulesLemmas.{keeps-closed}
 use Rattle.markdown_document.proofs.PlaceLemmas.{times-past, slices-none}
 use Rattle.markdown_document.proofs.TablesLemmas.{same-apart, grown-longer, entries-longer}
 use Rattle.markdown_resolver.specs.Chains.{CanResolve}
-use Rattle.markdown_resolver.specs.Rewritten.{Standing, Rewrites, replaced, first_past, one_item, parent, IsFoundAt, CanPut, CanPutParent, Puts}
+use Rattle.markdown_resolver.specs.Rewritten.{Standing, Rewrites, replaced, one_item, parent, IsFoundAt, IsRestPast, CanPut, CanPutParent, Puts}
+use Rattle.markdown_resolver.specs.declared.rest.Rest.{Rest}
 use Rattle.markdown_resolver.specs.Settling.{IsWritten, begun_from}
 use Rattle.markdown_resolver.proofs.ChainOrderLemmas.{rest_past}
 use Rattle.markdown_resolver.proofs.ComposeLemmas.{same_trans, Stands, stands_ready, Moves, changes_move, moves_twice, HeadWritten}
 use Rattle.markdown_resolver.proofs.ComposeLemmas.{head_moves, after_head, Below, below_kept}
 use Rattle.markdown_resolver.proofs.NodeChangeLemmas.{changed_other, changed_here}
-use Rattle.markdown_resolver.proofs.PastByteLemmas.{tree_same}
+use Rattle.markdown_resolver.proofs.PastByteLemmas.{passes_past, tree_same}
 use Rattle.markdown_resolver.proofs.PutLemmas.{leaves_rest, whole_put, ClosesAt, before_closed, runs_closed, no_run_here, rest_past_is}
 use Rattle.markdown_resolver.proofs.PutLemmas.{rewrites_none, next_from, over_numbers}
 use Rattle.markdown_document.proofs.OriginLemmas.{slices_from_place}
@@ -85,14 +86,14 @@ pub record Written (source : List ℕ) (ix : ℕ) (item : Item) (next : Option �
       → BelowReads source ix old mid new later inside
 
 -- so the trees of what was put replace what was found, and the chain continues after it
-pub put_written : (source : List ℕ) (ix : ℕ) (item : Item) (next : Option ℕ) (old mid : List (Node Item)) (tables t : Tables)
+pub put_written : (source : List ℕ) (ix : ℕ) (item : Item) (rest : Rest) (old mid : List (Node Item)) (tables t : Tables)
     (inside : Forest Plain) (trees : Standing)
     → IsFoundAt source tables old ix item.end → CanPut source tables t item → item.start ≡ (item_at old ix).start
-    → next ≡ first_past old item.end (roots (forest_at (links_of old) (sibling_of old ix)))
-    → Written source ix item next old mid tables t inside
+    → IsRestPast old item.end (sibling_of old ix) rest → Written source ix item rest.next old mid tables t inside
     → ((a : Plain) (below : Forest Plain) → trees a below ≡ node (label_of source t item) inside nil)
-    → Puts source ix trees (Some item.end) next old (begun_from next item.end mid) tables t
-put_written source ix item next old mid tables t inside trees finds puts starts link w stand =
+    → Puts source ix trees (Some item.end) rest old (begun_from rest.next item.end mid) tables t
+put_written source ix item rest old mid tables t inside trees finds puts starts past w stand =
+    let next = rest.next in
     let s = stands_ready source tables old (Some ix) finds.ready in
     let a = after_head source ix old mid tables t s w.head in
     let closed : is_open (item_at mid ix).body ≡ false = rw w.item_is puts.closed in
@@ -103,9 +104,9 @@ put_written source ix item next old mid tables t inside trees finds puts starts 
       starts = rw w.item_is
           starts;
     } in
-    let p = rest_past_is source ix item.end old mid tables t next (item_at old ix).end s w.head link
+    let p = rest_past_is source ix item.end old mid tables t next (item_at old ix).end s w.head past.next_is
     (rest_past source tables old ix finds.ready)
-    (λ n e. finds.between n (sym link ∙ e)) puts.lies.end in
+    (λ n e. finds.between n (sym past.next_is ∙ e)) puts.lies.end in
     let place = begun_from next item.end mid in
     let whole : (rule : Forest Plain → Forest Plain) (new : List (Node Item)) (later : Tables) → Rewrites source rule next place new t later
     → Rewrites source (replaced trees (Some item.end) rule) (Some ix) old new tables later = λ rule new later r.
@@ -116,18 +117,19 @@ put_written source ix item next old mid tables t inside trees finds puts starts 
     let follows = r.changes.before (numbered mid ix) (p.follows (numbered mid ix) refl ends) in
     let hm = head_moves source ix old mid new tables t later s w.head (rw w.next_is m) b.below (rw w.next_is follows)
     (no_run_here source (numbered mid ix) (option_map (numbered new) (sibling_of mid ix)) closed) in
-    let rest = past_byte item.end (trees_from source tables old (sibling_of old ix)) in
-    let after : trees_from source later new (sibling_of mid ix) ≡ rule rest =
+    let behind = past_byte item.end (trees_from source tables old (sibling_of old ix)) in
+    let after : trees_from source later new (sibling_of mid ix) ≡ rule behind =
     ap (λ (l : Option ℕ). trees_from source later new l) w.next_is ∙ r.rewritten ∙ ap rule p.reads in
     whole_put source ix old mid new tables t later trees (Some item.end) rule finds.ready w.head hm
     (λ x stands. before_closed ix old mid x closes stands) (runs_closed source ix old mid closes)
     (tree_same _ _ _ _ _ _ (ap (λ x. label_of source t x) w.item_is) b.reads after
-    ∙ ap (λ (f : Forest Plain). joined_chains f (rule rest))
+    ∙ ap (λ (f : Forest Plain). joined_chains f (rule behind))
     (sym (stand (label_at source tables old ix) (trees_from source tables old (child_of old ix))))) in
     let all = whole (λ f. f) place t (rewrites_none source next place t p.moves.stands) in
     record {
       whole = whole;
       leaves = leaves_rest source ix old mid place tables t t next (Some item.end) finds.ready w.head p.moves p.reads;
+      passes = passes_past source tables t old place ix item.end rest s past p.reads;
       leads = p.leads;
       standing = ix ∷ [];
       numbers = over_numbers source ix next place t all.changes.reaches (next_from mid next item.end ix ∙ w.next_is);
@@ -135,22 +137,22 @@ put_written source ix item next old mid tables t inside trees finds puts starts 
     }
 
 -- nothing is put below it
-pub found_puts : (source : List ℕ) (ix : ℕ) (item : Item) (next : Option ℕ) (old mid : List (Node Item)) (tables t : Tables)
+pub found_puts : (source : List ℕ) (ix : ℕ) (item : Item) (rest : Rest) (old mid : List (Node Item)) (tables t : Tables)
     → HasGrown tables t
     → IsFoundAt source tables old ix item.end → CanPut source tables t item → item.start ≡ (item_at old ix).start
-    → next ≡ first_past old item.end (roots (forest_at (links_of old) (sibling_of old ix))) → IsWritten old mid ix item next
-    → Puts source ix (one_item source t item) (Some item.end) next old (begun_from next item.end mid) tables t
-found_puts source ix item next old mid tables t grown finds puts starts link w =
+    → IsRestPast old item.end (sibling_of old ix) rest → IsWritten old mid ix item rest.next
+    → Puts source ix (one_item source t item) (Some item.end) rest old (begun_from rest.next item.end mid) tables t
+found_puts source ix item rest old mid tables t grown finds puts starts past w =
     let s = stands_ready source tables old (Some ix) finds.ready in
     let size = w.size in
     let h = closed_head source ix item old mid tables t grown puts.closed puts.lies puts.named puts.slices puts.new_names w.item_is
     (omega (arith, size)) (λ n l d. w.others n d) in
-    put_written source ix item next old mid tables t nil (one_item source t item) finds puts starts link
+    put_written source ix item rest old mid tables t nil (one_item source t item) finds puts starts past
     (record {
       item_is = w.item_is;
       next_is = w.next_is;
       head = h;
-      below = λ new later m. none_below source ix old mid new tables t later next s h m finds.was_open (rw w.item_is puts.closed)
+      below = λ new later m. none_below source ix old mid new tables t later rest.next s h m finds.was_open (rw w.item_is puts.closed)
           w.child_is;
     })
     (λ a below. refl)
@@ -221,26 +223,26 @@ leaf_below source ix inside old mid new tables t later next s h m b puts names w
     }
 
 -- an item with one child is put there
-pub parent_puts : (source : List ℕ) (ix : ℕ) (item inside : Item) (next : Option ℕ) (old mid : List (Node Item)) (tables t : Tables)
+pub parent_puts : (source : List ℕ) (ix : ℕ) (item inside : Item) (rest : Rest) (old mid : List (Node Item)) (tables t : Tables)
     → HasGrown tables t
     → IsFoundAt source tables old ix item.end → CanPutParent source tables t old ix item inside
-    → next ≡ first_past old item.end (roots (forest_at (links_of old) (sibling_of old ix))) → item_at mid ix ≡ item
-    → sibling_of mid ix ≡ next
+    → IsRestPast old item.end (sibling_of old ix) rest → item_at mid ix ≡ item
+    → sibling_of mid ix ≡ rest.next
     → ((n : ℕ) → n < length old → (n ≡ ix → ⊥) → IsSameAt old mid n) → NewBelow ix inside old mid
-    → Puts source ix (parent source t item inside) (Some item.end) next old (begun_from next item.end mid) tables t
-parent_puts source ix item inside next old mid tables t grown finds can link item_is next_is others b =
+    → Puts source ix (parent source t item inside) (Some item.end) rest old (begun_from rest.next item.end mid) tables t
+parent_puts source ix item inside rest old mid tables t grown finds can past item_is next_is others b =
     let s = stands_ready source tables old (Some ix) finds.ready in
     let puts = can.puts in
     let size = b.size in
     let h = closed_head source ix item old mid tables t grown puts.closed puts.lies puts.named puts.slices puts.new_names item_is
     (omega (arith, size)) others in
-    put_written source ix item next old mid tables t (node (label_of source t inside) nil nil) (parent source t item inside) finds puts
-    can.starts link
+    put_written source ix item rest old mid tables t (node (label_of source t inside) nil nil) (parent source t item inside) finds puts
+    can.starts past
     (record {
       item_is = item_is;
       next_is = next_is;
       head = h;
-      below = λ new later m. leaf_below source ix inside old mid new tables t later next s h m b can.puts_inside can.names_nothing
+      below = λ new later m. leaf_below source ix inside old mid new tables t later rest.next s h m b can.puts_inside can.names_nothing
           finds.was_open (rw item_is puts.closed);
     })
     (λ a below. refl)

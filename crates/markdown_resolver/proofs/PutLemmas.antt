@@ -9,7 +9,7 @@ use Rattle.markdown_base.specs.ArenaChanges.{changed_at}
 use Rattle.markdown_base.specs.ArenaForest.{Spells, forest_at, links_of}
 use Rattle.markdown_base.specs.ArenaWalk.{Reaches}
 use Rattle.markdown_base.specs.BlockTree.{Numbered, numbered, item_at}
-use Rattle.markdown_base.specs.Forest.{Forest, nil, node, relabelled, roots}
+use Rattle.markdown_base.specs.Forest.{Forest, nil, node, roots}
 use Rattle.markdown_base.specs.Item.{is_open}
 use Rattle.markdown_base.specs.WellFormed.{RunCharacter, run_character, RunGoesOn, StandsInRun, RunsAreWhole}
 use Rattle.markdown_base.specs.declared.item.Item.{Item}
@@ -23,7 +23,7 @@ use Rattle.markdown_document.specs.Document.{Plain, label_of}
 use Rattle.markdown_document.specs.ItemRules.{ComesBefore}
 use Rattle.markdown_document.specs.Places.{label_at, trees_from, origin_start}
 use Rattle.markdown_document.specs.PlacedNodes.{IsSameAt, IsPlaced}
-use Rattle.markdown_document.specs.Stages.{items_from, times_in, weight_in}
+use Rattle.markdown_document.specs.Stages.{times_in, weight_in}
 use Rattle.markdown_document.specs.Tables.{Tables}
 use Rattle.markdown_document.specs.Totals.{total, same, weight_at}
 use Rattle.markdown_document.proofs.AboveLemmas.{open-no-block}
@@ -72,7 +72,7 @@ over_numbers source opener next place t reaches link =
     let o = opens (links_of place) (IsPlaced source t place) opener reaches in
     ap (λ (g : Forest ℕ). roots g) o.here ∙ ap (λ (l : Option ℕ). opener ∷ roots (forest_at (links_of place) l)) link
 
--- what is left of a chain without blocks has none either, and no more items
+-- what is left of a chain without blocks has none either
 quiet_if : (b : Bool) (i : ℕ) (a : Plain) (below after rest : Forest Plain) → IsQuietBelow rest → IsQuietBelow (node a below after)
     → IsQuietBelow (if b then rest else node (begun_at i a) below after)
 quiet_if true i a below after rest r h = r
@@ -87,23 +87,6 @@ quiet_past : (goes_on : Option ℕ) (f : Forest Plain) → IsQuietBelow f → Is
 quiet_past None f h = h
 quiet_past (Some i) f h = quiet_past_byte i f h
 
-few_if : (b : Bool) (i : ℕ) (a : Plain) (below after rest : Forest Plain) → length (roots rest) ≤ length (roots after)
-    → length (roots (if b then rest else node (begun_at i a) below after)) ≤ suc (length (roots after))
-few_if true i a below after rest h = omega (arith, h)
-few_if false i a below after rest h = omega arith
-
-pub few_past_byte : (i : ℕ) (f : Forest Plain) → length (roots (past_byte i f)) ≤ length (roots f)
-few_past_byte i nil = omega arith
-few_past_byte i (node a below after) = few_if (nat_le (end_of a) i) i a below after (past_byte i after) (few_past_byte i after)
-
-few_past : (goes_on : Option ℕ) (f : Forest Plain) → length (roots (past goes_on f)) ≤ length (roots f)
-few_past None f = omega arith
-few_past (Some i) f = few_past_byte i f
-
-pub as_many : (g : ℕ → Plain) (f : Forest ℕ) → length (roots (relabelled g f)) ≡ length (roots f)
-as_many g nil = refl
-as_many g (node ix below after) = ap suc (as_many g after)
-
 -- the first item was read in place, if what is left reads as what follows it, past a byte offset
 pub leaves_rest : (source : List ℕ) (ix : ℕ) (old mid new : List (Node Item)) (tables t tables' : Tables) (next goes_on : Option ℕ)
     → CanResolve source tables old (Some ix) → HeadWritten source ix old mid tables t
@@ -115,12 +98,6 @@ leaves_rest source ix old mid new tables t tables' next goes_on ready h m reads 
     let rest = trees_from source tables old (sibling_of old ix) in
     let quiet : IsQuietBelow rest = (rw a.here at ready.quiet_below).2 in
     let size : length old ≤ length mid = h.more in
-    let few = few_past goes_on rest in
-    let new_many = as_many (label_at source tables' new) (forest_at (links_of new) next) in
-    let old_many = as_many (label_at source tables old) (forest_at (links_of old) (sibling_of old ix)) in
-    let left : items_from new next ≤ items_from old (sibling_of old ix) =
-    let e : length (roots (trees_from source tables' new next)) ≡ length (roots (past goes_on rest)) =
-    ap (λ (f : Forest Plain). length (roots f)) reads in omega arith in
     let weight : weight_in new next ≤ weight_in old (sibling_of old ix) = rw (← a.rest.weight) m.no_heavier in
     let two : 2 ≤ weight_at old ix = some_weight (is_open (item_at old ix).body) in
     let times : (n : ℕ) → n < length old → times_in new next n ≤ times_in old (sibling_of old ix) n = λ n l. rw (← a.rest.forest)
@@ -133,7 +110,6 @@ leaves_rest source ix old mid new tables t tables' next goes_on ready h m reads 
         quiet_below = rw reads (quiet_past goes_on rest quiet);
       };
       lighter = rw a.here (omega arith);
-      fewer = rw a.here (omega arith);
       of_chain = λ n l. let y = times n l in rw a.here (omega arith);
       more_nodes = omega (arith, size, m.more_nodes);
       outside = λ n l z.

@@ -29,29 +29,25 @@ use Rattle.markdown_resolver.specs.Chains.{CanResolve}
 use Rattle.markdown_resolver.specs.ClosedOver.{Enclosing, first_trees, trees_past, closed_over, over_inside, last_inside, CanClose}
 use Rattle.markdown_resolver.specs.ClosedOver.{CanPutOver, PutsOver, IsEnclosed}
 use Rattle.markdown_resolver.specs.Kept.{IsQuietBelow}
-use Rattle.markdown_resolver.specs.Rewritten.{RunsGoOn, Rewrites, LeavesRest, CanPut, first_past, numbered_past_byte, MayBeCut}
+use Rattle.markdown_resolver.specs.Rewritten.{RunsGoOn, Rewrites, IsRestPast, LeavesRest, CanPut, first_past, numbered_past_byte, MayBeCut}
+use Rattle.markdown_resolver.specs.declared.rest.Rest.{Rest}
 use Rattle.markdown_resolver.specs.Settling.{IsWritten, begun_from}
 use Rattle.markdown_resolver.proofs.ChainOrderLemmas.{AllPast, leads_kept, leads_left, numbered_left, numbered_past_is}
 use Rattle.markdown_resolver.proofs.ComposeLemmas.{same_trans, Stands, Moves, changes_move, moves_change, moves_twice, HeadWritten}
 use Rattle.markdown_resolver.proofs.ComposeLemmas.{HeadMoved, head_moves, head_leaves, after_head, below_kept}
 use Rattle.markdown_resolver.proofs.EncloseLemmas.{OpensAt, opens_at, inside_reads, spelled_past, spelled_kept, total_parts}
 use Rattle.markdown_resolver.proofs.FoldLemmas.{IsFolded, behind_past, behind_reads, closer_opens, enclosed_folds, first_behind}
-use Rattle.markdown_resolver.proofs.FoldLemmas.{folded_moves, item_behind, stands_once, whole_childless}
+use Rattle.markdown_resolver.proofs.FoldLemmas.{folded_moves, item_behind, next_behind, stands_once, whole_childless}
 use Rattle.markdown_resolver.proofs.PastByteLemmas.{tree_same}
 use Rattle.markdown_resolver.proofs.PutFoundLemmas.{closed_head}
-use Rattle.markdown_resolver.proofs.PutLemmas.{rewrites_none, next_from, over_numbers, quiet_past_byte, few_past_byte, as_many}
+use Rattle.markdown_resolver.proofs.PutLemmas.{rewrites_none, next_from, over_numbers, quiet_past_byte}
 use Rattle.markdown_resolver.proofs.PutLemmas.{closed_no_run, leads_begun, no_run_here, run_closed, first_kept, RestPast, rest_past_is}
 
--- what is left of a quiet chain is quiet, and has no more items
+-- what is left of a quiet chain is quiet
 quiet_trees : (k : ℕ) (f : Forest Plain) → IsQuietBelow f → IsQuietBelow (trees_past k f)
 quiet_trees zero f h = h
 quiet_trees (suc k) nil h = h
 quiet_trees (suc k) (node a below after) h = quiet_trees k after h.2
-
-few_trees : (k : ℕ) (f : Forest Plain) → length (roots (trees_past k f)) ≤ length (roots f)
-few_trees zero f = omega arith
-few_trees (suc k) nil = omega arith
-few_trees (suc k) (node a below after) = omega (arith, few_trees k after)
 
 -- an item was put into a first node that is not open; what is left of what follows it begins at a byte
 pub record HeadPut (source : List ℕ) (ix i : ℕ) (item : Item) (next : Option ℕ) (nodes mid : List (Node Item)) (tables t : Tables) : Type 0
@@ -162,12 +158,6 @@ pub over_leaves : (source : List ℕ) (opener k byte : ℕ) (next : Option ℕ) 
 over_leaves source opener k byte next old place tables t f ready whole left lighter reads =
     let chain = relabelled (label_at source tables old) f in
     let quiet : IsQuietBelow chain = (rw whole at ready.quiet_below).2 in
-    let many = as_many (label_at source t place) (forest_at (links_of place) next) in
-    let many' = as_many (label_at source tables old) f in
-    let read : length (roots (trees_from source t place next)) ≡ length (roots (past_byte byte (trees_past k chain))) =
-    ap (λ (g : Forest Plain). length (roots g)) reads in
-    let few = few_past_byte byte (trees_past k chain) in
-    let few' = few_trees k chain in
     record {
       ready = record {
         reaches = left.stands.reaches;
@@ -176,7 +166,6 @@ over_leaves source opener k byte next old place tables t f ready whole left ligh
         quiet_below = rw reads (quiet_past_byte byte (trees_past k chain) (quiet_trees k chain quiet));
       };
       lighter = lighter;
-      fewer = rw whole (omega (arith, many, many', read, few, few'));
       of_chain = left.of_chain;
       more_nodes = left.more_nodes;
       outside = left.outside;
@@ -207,11 +196,17 @@ abbrev pub over_shape : List ℕ → Tables → Item → (shown : Forest Plain �
 over_shape source tables item shown a inside = node (label_of source tables item) (shown inside) nil
 
 -- the opener's node was written once it was folded
-module _ (source : List ℕ) (opener closer : ℕ) (item : Item) (byte : ℕ) (inside : List ℕ) (next : Option ℕ)
+module _ (source : List ℕ) (opener closer : ℕ) (item : Item) (byte : ℕ) (inside : List ℕ) (rest : Rest)
     (old folded mid : List (Node Item)) (tables t : Tables) (grown : HasGrown tables t)
     (can : CanClose source tables old opener closer inside byte) (over : CanPutOver source tables t old opener item byte)
     (v : IsFolded source tables old folded opener closer (length inside))
-    (next_first : first_past old byte can.after ≡ next) (w : IsWritten folded mid opener item next) where
+    (past : IsRestPast old byte (sibling_of old closer) rest) (w : IsWritten folded mid opener item rest.next) where
+  abbrev next : Option ℕ
+  next = rest.next
+
+  next_first : first_past old byte can.after ≡ next
+  next_first = next_behind source tables old opener closer inside byte can ∙ sym past.next_is
+
   abbrev k : ℕ
   k = length inside
 
@@ -311,18 +306,17 @@ module _ (source : List ℕ) (opener closer : ℕ) (item : Item) (byte : ℕ) (i
         let r = fold_whole (λ g. g) place t (rewrites_none source next place t left_moves.stands) in
         over_numbers source opener next place t r.changes.reaches (next_from mid next byte opener ∙ w.next_is)
 
-    pub fold_puts : PutsOver source opener closer inside (over_shape source t item shown) byte (opener ∷ []) next old place tables t
-    fold_puts = record { whole = fold_whole; leaves = fold_leaves; leads = fold_leads; numbers = fold_numbers }
+    pub fold_puts : PutsOver source opener closer inside (over_shape source t item shown) byte (opener ∷ []) rest old place tables t
+    fold_puts = record { whole = fold_whole; leaves = fold_leaves; past = past; leads = fold_leads; numbers = fold_numbers }
 
 -- a link is over all that is inside
-pub link_puts : (source : List ℕ) (opener last closer : ℕ) (item : Item) (byte : ℕ) (inside : List ℕ) (next : Option ℕ)
+pub link_puts : (source : List ℕ) (opener last closer : ℕ) (item : Item) (byte : ℕ) (inside : List ℕ) (rest : Rest)
     (old folded mid : List (Node Item)) (tables t : Tables) → HasGrown tables t
     → CanClose source tables old opener closer inside byte → CanPutOver source tables t old opener item byte
     → last_inside opener inside ≡ last → IsEnclosed old folded opener last closer
-    → next ≡ first_past folded byte (roots (forest_at (links_of folded) (Some closer))) → IsWritten folded mid opener item next
-    → PutsOver source opener closer inside (over_inside source t item) byte (opener ∷ []) next old (begun_from next byte mid) tables t
-link_puts source opener last closer item byte inside next old folded mid tables t grown can over is enclosed link w =
-    let v = enclosed_folds source tables old folded opener last closer inside byte can is enclosed in
-    fold_puts source opener closer item byte inside next old folded mid tables t grown can over v
-    (sym (link ∙ first_behind source tables old opener closer inside byte can folded v.size v.behind)) w (λ f. f)
+    → IsRestPast old byte (sibling_of old closer) rest → IsWritten folded mid opener item rest.next
+    → PutsOver source opener closer inside (over_inside source t item) byte (opener ∷ []) rest old (begun_from rest.next byte mid) tables t
+link_puts source opener last closer item byte inside rest old folded mid tables t grown can over is enclosed past w =
+    fold_puts source opener closer item byte inside rest old folded mid tables t grown can over
+    (enclosed_folds source tables old folded opener last closer inside byte can is enclosed) past w (λ f. f)
     (inside_reads source tables old folded opener last closer inside byte can is enclosed)

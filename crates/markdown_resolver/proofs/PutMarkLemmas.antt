@@ -4,7 +4,7 @@ use Rattle.std.proofs.Common.{◌≡◌, ℕ, suc, ◌+◌, ◌<◌, ◌≤◌, 
 use Rattle.std.proofs.Common.{arith}
 use Rattle.std.specs.Option.{option_map}
 use Rattle.markdown_base.specs.Arena.{child_of, sibling_of}
-use Rattle.markdown_base.specs.ArenaForest.{Spells, forest_at, links_of}
+use Rattle.markdown_base.specs.ArenaForest.{forest_at, links_of}
 use Rattle.markdown_base.specs.BlockTree.{Numbered, numbered, item_at}
 use Rattle.markdown_base.specs.Forest.{Forest, nil, node, roots}
 use Rattle.markdown_base.specs.Item.{is_open}
@@ -25,12 +25,14 @@ use Rattle.markdown_document.proofs.TablesLemmas.{same-refl, grown-nothing}
 use Rattle.markdown_spans.specs.ChainInArena.{LeadsThrough}
 use Rattle.markdown_resolver.specs.Chains.{CanResolve}
 use Rattle.markdown_resolver.specs.ClosedOver.{trees_past, closed_over, after_mark, CanClose, CanPutMark, PutsOver}
-use Rattle.markdown_resolver.specs.Rewritten.{Rewrites, LeavesRest, first_past, numbered_past_byte}
+use Rattle.markdown_resolver.specs.Rewritten.{Rewrites, IsRestPast, LeavesRest, first_past, numbered_past_byte}
+use Rattle.markdown_resolver.specs.declared.rest.Rest.{Rest}
 use Rattle.markdown_resolver.specs.Settling.{IsWritten, begun_from}
 use Rattle.markdown_resolver.proofs.ChainOrderLemmas.{rest_past}
 use Rattle.markdown_resolver.proofs.ComposeLemmas.{same_trans, Stands, stands_ready, Moves, moves_change, moves_twice, HeadWritten, After}
 use Rattle.markdown_resolver.proofs.ComposeLemmas.{below_kept, head_moves, head_leaves, after_head}
 use Rattle.markdown_resolver.proofs.EncloseLemmas.{opens_at, total_parts}
+use Rattle.markdown_resolver.proofs.FoldLemmas.{next_behind}
 use Rattle.markdown_resolver.proofs.PastByteLemmas.{tree_same}
 use Rattle.markdown_resolver.proofs.PutFoundLemmas.{closed_head}
 use Rattle.markdown_resolver.proofs.PutLemmas.{rewrites_none, next_from, over_numbers, no_run_here, first_kept, first_there, rest_same}
@@ -107,9 +109,6 @@ module _ (source : List ℕ) (opener closer : ℕ) (mark item : Item) (inside : 
   closer_opened : Opened (links_of mid) (IsPlaced source tables mid) closer
   closer_opened = opens (links_of mid) (IsPlaced source tables mid) closer skipped_there.ready.reaches
 
-  pub behind_mark : Spells (links_of mid) (sibling_of mid closer) (forest_at (links_of mid) (sibling_of mid closer))
-  behind_mark = closer_opened.after.spelled
-
   closer_childless : child_of mid closer ≡ None
   closer_childless = closer_opened.holds.keeps.childless (rw closer_same.item over.closer_open)
 
@@ -118,9 +117,11 @@ module _ (source : List ℕ) (opener closer : ℕ) (mark item : Item) (inside : 
       sym skipped_there.reads ∙ ap (λ (g : Forest Plain). past_byte item.end g) after_mark_is.rest.trees
       ∙ past_inside source tables old opener closer item.end inside can over.ends
 
-  module _ (next : Option ℕ) (last : List (Node Item)) (link : next
-      ≡ first_past mid item.end (roots (forest_at (links_of mid) (sibling_of mid closer))))
-      (w : IsWritten mid last closer item next) where
+  module _ (rest : Rest) (last : List (Node Item)) (past : IsRestPast old item.end (sibling_of old closer) rest)
+      (w : IsWritten mid last closer item rest.next) where
+    abbrev next : Option ℕ
+    next = rest.next
+
     abbrev place : List (Node Item)
     place = begun_from next item.end last
 
@@ -128,13 +129,16 @@ module _ (source : List ℕ) (opener closer : ℕ) (mark item : Item) (inside : 
     items_same n z = (rest_same source opener old mid tables tables stands head n (rest_within source opener old mid tables tables stands
         head n z) z).item
 
-    next_all : first_past old item.end (roots f) ≡ next
-    next_all =
-        sym (first_kept old mid item.end f items_same) ∙ ap (λ (g : Forest ℕ). first_past mid item.end (roots g))
-        (sym after_mark_is.rest.forest) ∙ skipped_there.first ∙ sym link
-
     next_first : first_past old item.end can.after ≡ next
-    next_first = sym (first_behind source tables old opener closer item.end inside can over.ends) ∙ next_all
+    next_first = next_behind source tables old opener closer inside item.end can ∙ sym past.next_is
+
+    next_all : first_past old item.end (roots f) ≡ next
+    next_all = first_behind source tables old opener closer item.end inside can over.ends ∙ next_first
+
+    link : next ≡ first_past mid item.end (roots (forest_at (links_of mid) (sibling_of mid closer)))
+    link =
+        sym next_all ∙ sym (first_kept old mid item.end f items_same) ∙ ap (λ (g : Forest ℕ). first_past mid item.end (roots g))
+        (sym after_mark_is.rest.forest) ∙ skipped_there.first
 
     puts : HeadPut source closer item.end item next mid last tables t
     puts =
@@ -229,6 +233,6 @@ module _ (source : List ℕ) (opener closer : ℕ) (mark item : Item) (inside : 
         (next_from last next item.end closer ∙ w.next_is))
 
     -- so both replace what was found
-    pub mark_puts : PutsOver source opener closer inside (after_mark source t mark item) item.end (opener ∷ closer ∷ []) next old place
+    pub mark_puts : PutsOver source opener closer inside (after_mark source t mark item) item.end (opener ∷ closer ∷ []) rest old place
         tables t
-    mark_puts = record { whole = mark_whole; leaves = mark_leaves; leads = mark_leads; numbers = mark_numbers }
+    mark_puts = record { whole = mark_whole; leaves = mark_leaves; past = past; leads = mark_leads; numbers = mark_numbers }

@@ -24,11 +24,12 @@ use Rattle.markdown_document.proofs.ItemRulesLemmas.{keeps-closed}
 use Rattle.markdown_document.proofs.PlaceLemmas.{times-past, slices-none, some_weight}
 use Rattle.markdown_document.proofs.TablesLemmas.{same-refl}
 use Rattle.markdown_resolver.specs.ClosedOver.{first_trees, trees_past, over_text, CanClose, CanPutOver, PutsOver}
-use Rattle.markdown_resolver.specs.Rewritten.{CanPut, first_past}
+use Rattle.markdown_resolver.specs.Rewritten.{CanPut, IsRestPast}
+use Rattle.markdown_resolver.specs.declared.rest.Rest.{Rest}
 use Rattle.markdown_resolver.specs.Settling.{IsWritten, begun_from}
 use Rattle.markdown_resolver.proofs.ComposeLemmas.{same_trans}
 use Rattle.markdown_resolver.proofs.EncloseLemmas.{with_child, with_next, total_parts}
-use Rattle.markdown_resolver.proofs.FoldLemmas.{IsFolded, counted_among, first_behind, first_roots, stands_once, whole_childless}
+use Rattle.markdown_resolver.proofs.FoldLemmas.{IsFolded, counted_among, first_roots, stands_once, whole_childless}
 use Rattle.markdown_resolver.proofs.NodeChangeLemmas.{IsChanged, changed_other, changed_here}
 use Rattle.markdown_resolver.proofs.PutLinkLemmas.{fold_puts}
 use Rattle.markdown_resolver.proofs.PutPairLemmas.{entries_of_none, label_of_none}
@@ -235,20 +236,19 @@ module _ (source : List ℕ) (tables t : Tables) (grown : HasGrown tables t) (ol
 
 -- so a wikilink is put over its name
 pub name_puts : (source : List ℕ) (opener closer : ℕ) (item text : Item) (inside skipped : List ℕ) (first : ℕ) (shown : List ℕ)
-    (next : Option ℕ) (old hung mid : List (Node Item)) (tables t : Tables)
+    (rest : Rest) (old hung mid : List (Node Item)) (tables t : Tables)
     → HasGrown tables t → CanClose source tables old opener closer inside item.end → CanPutOver source tables t old opener item item.end
     → CanPut source tables t text
     → ((n : Named) → times_named n text.body ≡ 0) → inside ≡ skipped ++ first ∷ shown → IsHungIn old hung opener first text
-    → next ≡ first_past old item.end (roots (forest_at (links_of old) (Some closer))) → IsWritten hung mid opener item next
-    → PutsOver source opener closer inside (over_text source t item text) item.end (opener ∷ []) next old (begun_from next item.end mid)
-    tables t
-name_puts source opener closer item text inside skipped first shown next old hung mid tables t grown can over puts names_nothing inside_is v
-    link w =
-    fold_puts source opener closer item item.end inside next old (with_next opener (Some closer) hung) mid tables t grown can over
+    → IsRestPast old item.end (sibling_of old closer) rest → IsWritten hung mid opener item rest.next
+    → PutsOver source opener closer inside (over_text source t item text) item.end (opener ∷ []) rest old
+    (begun_from rest.next item.end mid) tables t
+name_puts source opener closer item text inside skipped first shown rest old hung mid tables t grown can over puts names_nothing inside_is v
+    past w =
+    fold_puts source opener closer item item.end inside rest old (with_next opener (Some closer) hung) mid tables t grown can over
     (name_folds source tables t grown old hung opener closer inside skipped first shown text item.end can puts names_nothing inside_is v)
-    (sym (link ∙ first_behind source tables old opener closer inside item.end can old refl
-    (λ n l. record { child = refl; next = refl; item = refl })))
+    past
     (written source tables t grown old hung opener closer inside skipped first shown text item.end can puts names_nothing inside_is v mid
-    item next w)
+    item rest.next w)
     (λ g. node (label_of source t text) nil nil) (name_reads source tables t grown old hung opener closer inside skipped first shown text
     item.end can puts names_nothing inside_is v)

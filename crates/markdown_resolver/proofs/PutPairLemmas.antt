@@ -27,12 +27,14 @@ use Rattle.markdown_document.proofs.FrameLemmas.{label-same}
 use Rattle.markdown_document.proofs.TablesLemmas.{same-refl, grown-nothing, grown-longer}
 use Rattle.markdown_spans.specs.ChainInArena.{LeadsThrough}
 use Rattle.markdown_resolver.specs.Chains.{CanResolve}
-use Rattle.markdown_resolver.specs.Rewritten.{Rewrites, Puts, replaced, first_past, pair, IsFoundAt, CanPutPair, numbered_past_byte, MayBeCut}
+use Rattle.markdown_resolver.specs.Rewritten.{Rewrites, Puts, replaced, first_past, pair, IsFoundAt, IsRestPast, CanPutPair, MayBeCut}
+use Rattle.markdown_resolver.specs.Rewritten.{numbered_past_byte}
+use Rattle.markdown_resolver.specs.declared.rest.Rest.{Rest}
 use Rattle.markdown_resolver.specs.Settling.{IsWritten, begun_from}
 use Rattle.markdown_resolver.proofs.ChainOrderLemmas.{StandsPast, AllPast, rest_past, leads_kept, leads_lower}
 use Rattle.markdown_resolver.proofs.ComposeLemmas.{Stands, stands_ready, Moves, changes_move, moves_none, moves_twice, first_leaves}
 use Rattle.markdown_resolver.proofs.ComposeLemmas.{HeadWritten, HeadMoved, After, head_moves, head_leaves, after_head}
-use Rattle.markdown_resolver.proofs.PastByteLemmas.{tree_same, SpelledAt, spelled_at}
+use Rattle.markdown_resolver.proofs.PastByteLemmas.{passes_past, tree_same}
 use Rattle.markdown_resolver.proofs.PutLemmas.{leaves_rest, whole_put, ClosesAt, before_closed, runs_closed, no_run_here, first_kept}
 use Rattle.markdown_resolver.proofs.PutLemmas.{first_there, rest_same, rest_within, RestPast, rest_past_is, rewrites_none, next_from}
 use Rattle.markdown_resolver.proofs.PutLemmas.{over_numbers}
@@ -211,22 +213,15 @@ pair_begun source ix closer first second old mid tables t grown finds can v =
     } in
     record { head = h; number = number; skips = skips source tables mid second.end closer can.before can.after l ready listed end }
 
--- what follows the closer then is spelled
-pub closer_spelled : (source : List ℕ) (ix closer : ℕ) (first second : Item) (old mid : List (Node Item)) (tables t : Tables)
-    → HasGrown tables t
-    → IsFoundAt source tables old ix second.end → CanPutPair source tables t old ix closer first second
-    → IsWritten old mid ix first (Some closer) → SpelledAt mid closer
-closer_spelled source ix closer first second old mid tables t grown finds can v =
-    spelled_at mid (Some closer) closer refl (pair_begun source ix closer first second old mid tables t grown finds can
-    v).skips.ready.reaches.spelled
-
 -- the closer is written too, and what is left begins at its end
-module _ (source : List ℕ) (ix closer : ℕ) (first second : Item) (next : Option ℕ) (old mid last : List (Node Item)) (tables t : Tables)
+module _ (source : List ℕ) (ix closer : ℕ) (first second : Item) (rest : Rest) (old mid last : List (Node Item)) (tables t : Tables)
     (grown : HasGrown tables t)
     (finds : IsFoundAt source tables old ix second.end) (can : CanPutPair source tables t old ix closer first second)
-    (v : IsWritten old mid ix first (Some closer))
-    (link : next ≡ first_past mid second.end (roots (forest_at (links_of mid) (sibling_of mid closer))))
-    (w : IsWritten mid last closer second next) where
+    (past : IsRestPast old second.end (sibling_of old ix) rest) (v : IsWritten old mid ix first (Some closer))
+    (w : IsWritten mid last closer second rest.next) where
+  abbrev next : Option ℕ
+  next = rest.next
+
   abbrev l : Option ℕ
   l = sibling_of old ix
 
@@ -272,14 +267,14 @@ module _ (source : List ℕ) (ix closer : ℕ) (first second : Item) (next : Opt
   items_same n z = (rest_same source ix old mid tables tables opener_stands begun.head n (rest_within source ix old mid tables tables
       opener_stands begun.head n z) z).item
 
-  first_is : first_past old second.end (roots (forest_at (links_of old) l)) ≡ next
-  first_is =
-      sym (first_kept old mid second.end (forest_at (links_of old) l) items_same)
-      ∙ ap (λ (f : Forest ℕ). first_past mid second.end (roots f)) (sym opener_after.rest.forest) ∙ begun.skips.first ∙ sym link
+  link : next ≡ first_past mid second.end (roots (forest_at (links_of mid) (sibling_of mid closer)))
+  link =
+      past.next_is ∙ sym (first_kept old mid second.end (forest_at (links_of old) l) items_same)
+      ∙ ap (λ (f : Forest ℕ). first_past mid second.end (roots f)) (sym opener_after.rest.forest) ∙ begun.skips.first
 
   between : (n : ℕ) → next ≡ Some n → (item_at mid n).start < second.end → MayBeCut (item_at mid n).body
-  between n e = rw (items_same n (first_there old second.end n (forest_at (links_of old) l) (first_is ∙ e)))
-      (finds.between n (first_is ∙ e))
+  between n e = rw (items_same n (first_there old second.end n (forest_at (links_of old) l) (sym past.next_is ∙ e)))
+      (finds.between n (sym past.next_is ∙ e))
 
   left : RestPast source closer second.end mid last tables t next
   left =
@@ -347,7 +342,7 @@ module _ (source : List ℕ) (ix closer : ℕ) (first second : Item) (next : Opt
       (next_from last next second.end closer ∙ w.next_is))
 
   -- so the pair replaces what was found, and the chain continues after it
-  pub pair_puts : Puts source ix (pair source t first second) (Some second.end) next old place tables t
+  pub pair_puts : Puts source ix (pair source t first second) (Some second.end) rest old place tables t
   pair_puts = record {
     whole = whole_pair;
     leaves =
@@ -355,6 +350,7 @@ module _ (source : List ℕ) (ix closer : ℕ) (first second : Item) (next : Opt
         (head_leaves source closer mid last tables t closer_stands closer_head) left.moves in
         leaves_rest source ix old mid place tables tables t next (Some second.end) finds.ready begun.head
         (moves_twice source l (Some closer) next mid mid place tables tables t begun.skips.moves m) left_reads;
+    passes = passes_past source tables t old place ix second.end rest opener_stands past left_reads;
     leads = λ low chain e.
         let kept = leads_kept old mid l (forest_at (links_of old) l) low chain opener_after.after.spelled begun.head.more
         (λ n x z. rest_same source ix old mid tables tables opener_stands begun.head n x z) e in

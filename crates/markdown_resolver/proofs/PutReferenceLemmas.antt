@@ -1,13 +1,13 @@
 -- A footnote reference is put into the node of its opener, which is a Text by now: what was inside leaves the chain.
 use Rattle.std.proofs.Common.{◌≡◌, ℕ, suc, ◌+◌, ◌<◌, ◌≤◌, List, [], ◌∷◌, length, Option, Some, refl, sym, ap, ◌∙◌, subst, arith}
 use Rattle.markdown_base.specs.Arena.{child_of, sibling_of}
-use Rattle.markdown_base.specs.ArenaForest.{Spells, forest_at, links_of}
+use Rattle.markdown_base.specs.ArenaForest.{forest_at, links_of}
 use Rattle.markdown_base.specs.BlockTree.{Numbered, item_at}
 use Rattle.markdown_base.specs.Forest.{Forest, nil, node, relabelled, roots}
 use Rattle.markdown_base.specs.Item.{is_open}
 use Rattle.markdown_base.specs.declared.item.Item.{Item}
 use Rattle.markdown_base.specs.declared.node.Node.{Node}
-use Rattle.markdown_base.proofs.ArenaForestLemmas.{opens, Opened, forest_at-none}
+use Rattle.markdown_base.proofs.ArenaForestLemmas.{opens, forest_at-none}
 use Rattle.markdown_document.specs.ChainRest.{past_byte}
 use Rattle.markdown_document.specs.Document.{Plain}
 use Rattle.markdown_document.specs.Places.{label_at, trees_from}
@@ -16,28 +16,22 @@ use Rattle.markdown_document.specs.Stages.{weight_in}
 use Rattle.markdown_document.specs.Tables.{Tables}
 use Rattle.markdown_document.specs.NamedEntries.{HasGrown}
 use Rattle.markdown_document.specs.Totals.{total, same, weight_at}
-use Rattle.markdown_document.proofs.FoundLemmas.{found}
 use Rattle.markdown_document.proofs.PlaceLemmas.{some_weight}
 use Rattle.markdown_document.proofs.TablesLemmas.{same-refl}
 use Rattle.markdown_spans.specs.ChainInArena.{LeadsThrough}
 use Rattle.markdown_resolver.specs.ClosedOver.{trees_past, closed_over, in_place_of, CanClose, CanPutOver, PutsOver}
-use Rattle.markdown_resolver.specs.Rewritten.{Rewrites, LeavesRest, first_past, numbered_past_byte}
+use Rattle.markdown_resolver.specs.Rewritten.{Rewrites, IsRestPast, LeavesRest, first_past, numbered_past_byte}
+use Rattle.markdown_resolver.specs.declared.rest.Rest.{Rest}
 use Rattle.markdown_resolver.specs.Settling.{IsWritten, begun_from}
 use Rattle.markdown_resolver.proofs.ChainOrderLemmas.{rest_past}
 use Rattle.markdown_resolver.proofs.ComposeLemmas.{Stands, stands_ready, Moves, moves_change, moves_twice, head_leaves, after_head}
-use Rattle.markdown_resolver.proofs.EncloseLemmas.{opens_at, read_past, spelled_past, total_parts}
+use Rattle.markdown_resolver.proofs.EncloseLemmas.{read_past, total_parts}
+use Rattle.markdown_resolver.proofs.FoldLemmas.{behind_is, next_behind, stands_once, whole_childless}
 use Rattle.markdown_resolver.proofs.PastByteLemmas.{tree_same}
 use Rattle.markdown_resolver.proofs.PutLemmas.{rewrites_none, next_from, over_numbers}
 use Rattle.markdown_resolver.proofs.PutLinkLemmas.{HeadPut, head_put, head_stands, first_no_block, before_text, runs_text, over_leaves}
 use Rattle.markdown_resolver.proofs.PutLinkLemmas.{behind_leads}
 use Rattle.markdown_resolver.proofs.PutPairLemmas.{Skips, skips, ready_next}
-
--- the chain after a closer
-pub record Behind (nodes : List (Node Item)) (closer : ℕ) (after : List ℕ) (g : Forest ℕ) : Type 0 where
-  pub within : closer < length nodes
-  pub forest : forest_at (links_of nodes) (sibling_of nodes closer) ≡ g
-  pub spelled : Spells (links_of nodes) (sibling_of nodes closer) g
-  pub listed : roots g ≡ after
 
 -- what is inside, and the closer, are not left past the closer's end
 module _ (source : List ℕ) (tables : Tables) (old : List (Node Item)) (opener closer byte : ℕ) (inside : List ℕ)
@@ -52,46 +46,19 @@ module _ (source : List ℕ) (tables : Tables) (old : List (Node Item)) (opener 
   abbrev trees : Forest Plain
   trees = trees_from source tables old (sibling_of old opener)
 
-  opened : Opened (links_of old) (IsPlaced source tables old) opener
-  opened = opens (links_of old) (IsPlaced source tables old) opener can.ready.reaches
-
-  pub whole_old : forest_at (links_of old) (Some opener) ≡ node opener nil numbers
-  whole_old = opened.here ∙ ap (λ l. node opener (forest_at (links_of old) l) numbers) can.childless
-      ∙ ap (λ g. node opener g numbers) (forest_at-none (links_of old))
-
-  pub whole_once : (n : ℕ) → same n opener + total (same n) numbers ≤ 1
-  whole_once n = let x = rw whole_old at (can.ready.once n) in omega arith
-
-  behind : Behind old closer can.after (trees_past (suc many) numbers)
-  behind =
-      let o = opens_at inside can.after closer numbers can.follows in
-      let at : Spells (links_of old) (Some closer) (node closer o.below (trees_past (suc many) numbers)) =
-      rw o.is at (spelled_past old inside can.after closer (sibling_of old opener) numbers can.follows opened.after.spelled) in
-      record {
-        within = at.1;
-        forest = found (links_of old) (sibling_of old closer) (trees_past (suc many) numbers) at.3 (λ n. let z = whole_once n
-            in let parts = total_parts (same n) (suc many) numbers in omega arith);
-        spelled = at.3;
-        listed = o.follow;
-      }
-
-  pub behind_spelled : Spells (links_of old) (sibling_of old closer) (forest_at (links_of old) (sibling_of old closer))
-  behind_spelled = rw behind.forest behind.spelled
-
   skipped_there : Skips source tables old byte (sibling_of old opener) closer
   skipped_there = skips source tables old byte closer inside can.after (sibling_of old opener)
       (ready_next source tables old opener can.ready) can.follows ends
 
   pub past_inside : past_byte byte trees ≡ past_byte byte (trees_past (suc many) trees)
   past_inside =
-      skipped_there.reads ∙ ap (λ (g : Forest ℕ). past_byte byte (relabelled (label_at source tables old) g)) behind.forest
+      skipped_there.reads
+      ∙ ap (λ (g : Forest ℕ). past_byte byte (relabelled (label_at source tables old) g))
+      (behind_is source tables old opener closer inside byte can)
       ∙ ap (λ (g : Forest Plain). past_byte byte g) (read_past (label_at source tables old) (suc many) numbers)
 
-  pub behind_listed : roots (forest_at (links_of old) (sibling_of old closer)) ≡ can.after
-  behind_listed = ap (λ (g : Forest ℕ). roots g) behind.forest ∙ behind.listed
-
   pub first_behind : first_past old byte (roots numbers) ≡ first_past old byte can.after
-  first_behind = skipped_there.first ∙ ap (λ (ns : List ℕ). first_past old byte ns) behind_listed
+  first_behind = skipped_there.first ∙ sym (next_behind source tables old opener closer inside byte can)
 
 -- an opener is written in place of what is inside
 module _ (source : List ℕ) (opener closer : ℕ) (item : Item) (inside : List ℕ) (old : List (Node Item)) (tables t : Tables)
@@ -111,19 +78,21 @@ module _ (source : List ℕ) (opener closer : ℕ) (item : Item) (inside : List 
   stands = stands_ready source tables old (Some opener) can.ready
 
   whole : forest_at (links_of old) (Some opener) ≡ node opener nil f
-  whole = whole_old source tables old opener closer item.end inside can ends
+  whole = whole_childless source tables old opener closer inside item.end can
 
   behind_reads : past_byte item.end chain ≡ past_byte item.end (trees_past (suc k) chain)
   behind_reads = past_inside source tables old opener closer item.end inside can ends
 
-  module _ (next : Option ℕ) (mid : List (Node Item)) (link : next
-      ≡ first_past old item.end (roots (forest_at (links_of old) (sibling_of old closer)))) (w : IsWritten old mid opener item next) where
+  module _ (rest : Rest) (mid : List (Node Item)) (past : IsRestPast old item.end (sibling_of old closer) rest)
+      (w : IsWritten old mid opener item rest.next) where
+    abbrev next : Option ℕ
+    next = rest.next
+
     abbrev place : List (Node Item)
     place = begun_from next item.end mid
 
     next_first : first_past old item.end can.after ≡ next
-    next_first = ap (λ (ns : List ℕ). first_past old item.end ns)
-        (sym (behind_listed source tables old opener closer item.end inside can ends)) ∙ sym link
+    next_first = next_behind source tables old opener closer inside item.end can ∙ sym past.next_is
 
     puts : HeadPut source opener item.end item next old mid tables t
     puts =
@@ -166,7 +135,7 @@ module _ (source : List ℕ) (opener closer : ℕ) (item : Item) (inside : List 
     behind_same : (n : ℕ) → 0 < total (same n) (trees_past (suc k) f) → IsSameAt old mid n
     behind_same n l =
         let parts = total_parts (same n) (suc k) f in
-        let once = whole_once source tables old opener closer item.end inside can ends n in
+        let once = stands_once source tables old opener closer inside item.end can n in
         w.others n (λ q. let self : same n opener ≡ 1 = subst (λ (m : ℕ). same n m ≡ 1) q (same-refl n)
         in absurd (omega (arith, once, self, parts, l)))
 
@@ -184,5 +153,6 @@ module _ (source : List ℕ) (opener closer : ℕ) (item : Item) (inside : List 
         over_numbers source opener next place t r.changes.reaches (next_from mid next item.end opener ∙ w.next_is)
 
     -- so the item replaces what was found
-    pub reference_puts : PutsOver source opener closer inside (in_place_of source t item) item.end (opener ∷ []) next old place tables t
-    reference_puts = record { whole = reference_whole; leaves = reference_leaves; leads = reference_leads; numbers = reference_numbers }
+    pub reference_puts : PutsOver source opener closer inside (in_place_of source t item) item.end (opener ∷ []) rest old place tables t
+    reference_puts =
+        record { whole = reference_whole; leaves = reference_leaves; past = past; leads = reference_leads; numbers = reference_numbers }

@@ -6,7 +6,7 @@ use Rattle.std.proofs.lemmas.Bool.Decides.{nat_tests}
 use Rattle.std.specs.Prelude.{IsCharBoundary}
 use Rattle.markdown_base.specs.Arena.{child_of, sibling_of}
 use Rattle.markdown_base.specs.ArenaChanges.{changed_at}
-use Rattle.markdown_base.specs.ArenaForest.{Spells, forest_at, links_of}
+use Rattle.markdown_base.specs.ArenaForest.{forest_at, links_of}
 use Rattle.markdown_base.specs.BlockTree.{item_at}
 use Rattle.markdown_base.specs.Forest.{Forest, roots}
 use Rattle.markdown_base.specs.Item.{is_open}
@@ -27,11 +27,12 @@ use Rattle.markdown_document.proofs.PlaceLemmas.{times-past, named-past}
 use Rattle.markdown_document.proofs.TablesLemmas.{same-refl, same_entry-refl, grown-longer, grown-nothing}
 use Rattle.markdown_resolver.specs.ClosedOver.{first_trees, trees_past, last_inside, over_shown, CanClose, CanPutOver, CanShow, PutsOver}
 use Rattle.markdown_resolver.specs.ClosedOver.{IsEnclosed}
-use Rattle.markdown_resolver.specs.Rewritten.{begun_item, first_past}
+use Rattle.markdown_resolver.specs.Rewritten.{IsRestPast, begun_item}
+use Rattle.markdown_resolver.specs.declared.rest.Rest.{Rest}
 use Rattle.markdown_resolver.specs.Settling.{IsWritten, begun_from}
 use Rattle.markdown_resolver.proofs.ComposeLemmas.{same_trans, Stands, Moves, moves_none, moves_twice, first_leaves}
 use Rattle.markdown_resolver.proofs.EncloseLemmas.{with_child, inside_forest, inside_reads, total_parts}
-use Rattle.markdown_resolver.proofs.FoldLemmas.{IsFolded, behind_framed, enclosed_folds, counted_among, first_behind, first_roots}
+use Rattle.markdown_resolver.proofs.FoldLemmas.{IsFolded, enclosed_folds, counted_among, first_roots}
 use Rattle.markdown_resolver.proofs.FoldLemmas.{stands_once, whole_childless}
 use Rattle.markdown_resolver.proofs.NodeChangeLemmas.{changed_other, changed_here}
 use Rattle.markdown_resolver.proofs.PastByteLemmas.{Begun, Dropped, begun_is, first_begun}
@@ -208,6 +209,9 @@ module _ (source : List ℕ) (tables : Tables) (old enclosed : List (Node Item))
   place_size : length place ≡ length enclosed
   place_size = length-changed_at first (λ n. record n { item = begun_item from (item_at hung first) }) hung ∙ hung_size
 
+  pub shown_size : length place ≡ length old
+  shown_size = place_size ∙ v.size
+
   begun_size : length begun ≡ length enclosed
   begun_size = length-changed_at first (λ n. record n { item = begun_item from (item_at enclosed first) }) enclosed
 
@@ -290,7 +294,7 @@ module _ (source : List ℕ) (tables : Tables) (old enclosed : List (Node Item))
       let lighter = moved.no_heavier in
       let below = folds.below_weight in
       record {
-        size = place_size ∙ v.size;
+        size = shown_size;
         item_is = opener_same.item ∙ leads.item ∙ v.items opener;
         next_is = opener_same.next ∙ leads.next ∙ v.next_is;
         below = rw child_shown (record {
@@ -314,10 +318,6 @@ module _ (source : List ℕ) (tables : Tables) (old enclosed : List (Node Item))
       (dropped_there.reads ∙ ap (λ (g : Forest Plain). trees_past (length skipped) g) (inside_reads source tables old enclosed opener last
       closer inside byte can is v))
 
-  -- the closer and what follows it are spelled
-  pub closer_shown : Spells (links_of place) (Some closer) (forest_at (links_of place) (Some closer))
-  closer_shown = (behind_framed source tables old opener closer inside byte can place shown_folds.size shown_folds.behind).reaches.spelled
-
   -- the nodes that are written are there
   pub shown_within : first < length hung
   shown_within = omega (arith, hung_size, first_within)
@@ -326,21 +326,19 @@ module _ (source : List ℕ) (tables : Tables) (old enclosed : List (Node Item))
   opener_shown = omega (arith, place_size, opener_within)
 
 -- so a wikilink is put over what it shows
-pub shown_puts : (source : List ℕ) (opener last closer : ℕ) (item : Item) (inside skipped : List ℕ) (first from : ℕ) (next : Option ℕ)
+pub shown_puts : (source : List ℕ) (opener last closer : ℕ) (item : Item) (inside skipped : List ℕ) (first from : ℕ) (rest : Rest)
     (old enclosed place mid : List (Node Item)) (tables t : Tables)
     → HasGrown tables t → CanClose source tables old opener closer inside item.end → CanPutOver source tables t old opener item item.end
     → last_inside opener inside ≡ last
     → IsEnclosed old enclosed opener last closer → CanShow source old inside skipped first from
     → place ≡ begun_from (Some first) from (with_child opener (Some first) enclosed)
-    → next ≡ first_past place item.end (roots (forest_at (links_of place) (Some closer))) → IsWritten place mid opener item next
-    → PutsOver source opener closer inside (over_shown source t item (length skipped) from) item.end (opener ∷ []) next old
-    (begun_from next item.end mid) tables t
-shown_puts source opener last closer item inside skipped first from next old enclosed place mid tables t grown can over is v shows place_is
-    link w =
+    → IsRestPast old item.end (sibling_of old closer) rest → IsWritten place mid opener item rest.next
+    → PutsOver source opener closer inside (over_shown source t item (length skipped) from) item.end (opener ∷ []) rest old
+    (begun_from rest.next item.end mid) tables t
+shown_puts source opener last closer item inside skipped first from rest old enclosed place mid tables t grown can over is v shows place_is
+    past w =
     let there = begun_from (Some first) from (with_child opener (Some first) enclosed) in
     let folds = shown_folds source tables old enclosed opener last closer inside skipped first from item.end can is v shows in
-    let link' : next ≡ first_past there item.end (roots (forest_at (links_of there) (Some closer))) = rw place_is at link in
-    fold_puts source opener closer item item.end inside next old there mid tables t grown can over folds
-    (sym (link' ∙ first_behind source tables old opener closer inside item.end can there folds.size folds.behind)) (rw place_is at w)
+    fold_puts source opener closer item item.end inside rest old there mid tables t grown can over folds past (rw place_is at w)
     (λ g. past_byte from (trees_past (length skipped) g)) (shown_reads source tables old enclosed opener last closer inside skipped first
     from item.end can is v shows)

@@ -1,6 +1,6 @@
 -- What was put in the place of a node, as trees with the numbers of their nodes: these are the first of the chain, and
 -- what is left follows them.
-use Rattle.std.proofs.Common.{◌≡◌, ℕ, zero, suc, Bool, true, false, List, [], ◌∷◌, ◌++◌, length, Option, Some, None, refl, sym, ap, ◌∙◌}
+use Rattle.std.proofs.Common.{◌≡◌, ℕ, zero, suc, List, [], ◌∷◌, ◌++◌, length, Option, Some, refl, sym, ap, ◌∙◌}
 use Rattle.markdown_base.specs.Arena.{child_of, sibling_of}
 use Rattle.markdown_base.specs.ArenaForest.{Spells, forest_at, links_of}
 use Rattle.markdown_base.specs.Forest.{Forest, nil, node, relabelled, roots}
@@ -12,12 +12,12 @@ use Rattle.markdown_document.specs.Document.{Label, Plain}
 use Rattle.markdown_document.specs.Labels.{retag}
 use Rattle.markdown_document.specs.Places.{label_at, trees_from}
 use Rattle.markdown_document.specs.Tables.{Tables}
-use Rattle.markdown_document.specs.Waiting.{is_quiet}
+use Rattle.markdown_resolver.specs.declared.rest.Rest.{Rest}
 use Rattle.markdown_resolver.specs.Chains.{CanResolve, ChangesChain}
 use Rattle.markdown_resolver.specs.ClosedOver.{first_trees, trees_past}
-use Rattle.markdown_resolver.specs.Kept.{IsQuiet, IsQuietBelow}
+use Rattle.markdown_resolver.specs.Kept.{IsQuiet}
 use Rattle.markdown_resolver.specs.PutsTrees.{PutsTrees, numbered_from, numbered_label, without_numbers}
-use Rattle.markdown_resolver.specs.Rewritten.{Puts, RunsGoOn, Standing, replaced, settled, text_unless}
+use Rattle.markdown_resolver.specs.Rewritten.{Puts, RunsGoOn, Standing, replaced}
 use Rattle.markdown_resolver.proofs.ComposeLemmas.{stands_ready}
 use Rattle.markdown_resolver.proofs.EncloseLemmas.{spelled_past}
 use Rattle.markdown_resolver.proofs.FollowersLemmas.{opens_chain}
@@ -131,35 +131,18 @@ puts_trees source ix next trees rest standing old new tables tables' changes run
     }
 
 -- so it is with what was put for the first item of a chain
-pub put_trees : (source : List ℕ) (ix : ℕ) (trees : Standing) (goes_on next : Option ℕ) (old new : List (Node Item))
+pub put_trees : (source : List ℕ) (ix : ℕ) (trees : Standing) (goes_on : Option ℕ) (rest : Rest) (old new : List (Node Item))
     (tables tables' : Tables)
-    → CanResolve source tables old (Some ix) → Puts source ix trees goes_on next old new tables tables'
+    → CanResolve source tables old (Some ix) → Puts source ix trees goes_on rest old new tables tables'
     → IsQuiet (trees (label_at source tables old ix) (trees_from source tables old (child_of old ix)))
-    → PutsTrees source ix next (trees (label_at source tables old ix) (trees_from source tables old (child_of old ix)))
+    → PutsTrees source ix rest.next (trees (label_at source tables old ix) (trees_from source tables old (child_of old ix)))
     (past goes_on (trees_from source tables old (sibling_of old ix))) old new tables tables'
-put_trees source ix trees goes_on next old new tables tables' ready puts quiet =
+put_trees source ix trees goes_on rest old new tables tables' ready puts quiet =
     let o = opens_chain source tables old ix ready in
     let a = label_at source tables old ix in
     let below = trees_from source tables old (child_of old ix) in
     let after = trees_from source tables old (sibling_of old ix) in
-    let w = puts.whole (λ f. f) new tables' (rewrites_none source next new tables' (stands_ready source tables' new next puts.leaves.ready))
+    let w = puts.whole (λ f. f) new tables' (rewrites_none source rest.next new tables' (stands_ready source tables' new rest.next puts.leaves.ready))
     in
-    puts_trees source ix next (trees a below) (past goes_on after) puts.standing old new tables tables' w.changes w.runs
+    puts_trees source ix rest.next (trees a below) (past goes_on after) puts.standing old new tables tables' w.changes w.runs
     (w.rewritten ∙ ap (replaced trees goes_on (λ f. f)) o.trees) puts.numbers (puts.as_many a below) quiet puts.leaves.ready
-
--- an item that was settled is quiet, and so is what is there then
-quiet_text : (quiet : Bool) (source : List ℕ) (a : Plain) (below after : Forest Plain) → is_quiet a.part.shape ≡ quiet
-    → IsQuietBelow (node a below after) → IsQuiet (text_unless quiet source a below)
-quiet_text true source a below after e q = (e, q.0, q.1, tt)
-quiet_text false source a below after e q = (refl, q.0, tt, tt)
-
-pub settled_trees : (source : List ℕ) (ix : ℕ) (next : Option ℕ) (old new : List (Node Item)) (tables tables' : Tables)
-    → CanResolve source tables old (Some ix) → Puts source ix (settled source) None next old new tables tables'
-    → PutsTrees source ix next (settled source (label_at source tables old ix) (trees_from source tables old (child_of old ix)))
-    (trees_from source tables old (sibling_of old ix)) old new tables tables'
-settled_trees source ix next old new tables tables' ready puts =
-    let o = opens_chain source tables old ix ready in
-    let a = label_at source tables old ix in
-    put_trees source ix (settled source) None next old new tables tables' ready puts
-    (quiet_text (is_quiet a.part.shape) source a (trees_from source tables old (child_of old ix))
-    (trees_from source tables old (sibling_of old ix)) refl (rw o.trees at ready.quiet_below))

@@ -1,6 +1,6 @@
 -- A chain is read in place, item by item: what is true of the items that are left.
 use Rattle.std.proofs.Common.{◌≡◌, ℕ, suc, ◌+◌, ◌<◌, ◌≤◌, Bool, true, false, List, length}
-use Rattle.std.proofs.Common.{take, rules, Option, Some, None, refl, sym, subst, arith, ◌∙◌, ap}
+use Rattle.std.proofs.Common.{take, rules, Some, None, refl, sym, subst, arith, ◌∙◌, ap}
 use Rattle.std.proofs.lemmas.Result.{IfOk-weaker}
 use Rattle.std.specs.Prelude.{Result, Ok, Err, IfOk, slice_range}
 use Rattle.markdown_base.specs.Arena.{Arena, sibling_of, child_of}
@@ -32,6 +32,7 @@ use Rattle.markdown_spans.specs.declared.span_text.SpanKind.{SpanKind}
 use Rattle.markdown_delims.proofs.PairingLemmas.{closed_shape}
 use Rattle.markdown_resolver.specs.Chains.{CanResolve}
 use Rattle.markdown_resolver.specs.Rewritten.{Puts, settled}
+use Rattle.markdown_resolver.specs.declared.rest.Rest.{Rest}
 use Rattle.markdown_resolver.specs.ReadsItem.{LooksAt, LooksAtMost, ReadsItem}
 use Rattle.markdown_document.specs.declared.chain_place.ChainPlace.{ChainPlace}
 use Rattle.markdown_resolver.proofs.ChainLeadsLemmas.{chain_leads, holds_next}
@@ -44,30 +45,6 @@ pub node_within : (source : List ℕ) (tables : Tables) (nodes : List (Node Item
 node_within source tables nodes ix ready =
     (opens (links_of nodes) (IsPlaced source tables nodes) ix ready.reaches).within
 
--- what follows the first item can be read too
-pub ready_next : (source : List ℕ) (tables : Tables) (nodes : List (Node Item)) (ix : ℕ)
-    → CanResolve source tables nodes (Some ix) → CanResolve source tables nodes (sibling_of nodes ix)
-ready_next source tables nodes ix ready =
-    let o = opens (links_of nodes) (IsPlaced source tables nodes) ix ready.reaches in
-    record {
-      reaches = o.after;
-      once = λ n. let x = rw o.here at (ready.once n) in omega arith;
-      named_once = λ n. let x = rw o.here at (ready.named_once n) in omega arith;
-      quiet_below = (rw o.here at ready.quiet_below).2;
-    }
-
--- and has one item less
-pub items_next : (source : List ℕ) (tables : Tables) (nodes : List (Node Item)) (ix : ℕ)
-    → CanResolve source tables nodes (Some ix) → items_from nodes (Some ix) ≡ suc (items_from nodes (sibling_of nodes ix))
-items_next source tables nodes ix ready =
-    rw (opens (links_of nodes) (IsPlaced source tables nodes) ix ready.reaches).here refl
-
--- a chain has an item
-pub items_some : (source : List ℕ) (tables : Tables) (nodes : List (Node Item)) (ix : ℕ)
-    → CanResolve source tables nodes (Some ix) → 0 < items_from nodes (Some ix)
-items_some source tables nodes ix ready =
-    rw (opens (links_of nodes) (IsPlaced source tables nodes) ix ready.reaches).here (omega arith)
-
 -- nothing is left of a chain that has ended
 pub items_none : (nodes : List (Node Item)) → items_from nodes None ≡ 0
 items_none nodes = rw (forest_at-none (links_of nodes)) refl
@@ -78,13 +55,17 @@ pub record Counted (old now all rest : ℕ) : Type 0 where
   pub is_all : all ≡ done + rest
   pub count : now ≡ risen done old
 
--- one more was counted
-pub counted_more : (old now new all rest more : ℕ) → Counted old now all rest → rest ≡ suc more → new ≡ risen 1 now
+-- none was counted yet
+pub counted_none : (old all : ℕ) → Counted old old all all
+counted_none old all = record { done = 0; is_all = omega arith; count = refl }
+
+-- some more were counted
+pub counted_more : (old now new all rest n more : ℕ) → Counted old now all rest → rest ≡ n + more → new ≡ risen n now
     → Counted old new all more
-counted_more old now new all rest more c r e = record {
-  done = c.done + 1;
+counted_more old now new all rest n more c r e = record {
+  done = c.done + n;
   is_all = omega (arith, c.is_all, r);
-  count = e ∙ ap (risen 1) c.count ∙ risen_twice c.done 1 old;
+  count = e ∙ ap (risen n) c.count ∙ risen_twice c.done n old;
 }
 
 -- so in the end all were counted
@@ -133,10 +114,10 @@ reads_settled s above a below after none = by_quiet (is_quiet a.part.shape) refl
     by_quiet false e = rw (e, none) (refl, refl)
 
 -- an item at which nothing is found is read when it is settled
-pub settled_reads : (s : Setting) (above : Above) (ix : ℕ) (next : Option ℕ) (old new : List (Node Item)) (tables : Tables)
+pub settled_reads : (s : Setting) (above : Above) (ix : ℕ) (rest : Rest) (old new : List (Node Item)) (tables : Tables)
     → CanResolve s.text tables old (Some ix) → FindsNothing (item_at old ix).body
-    → Puts s.text ix (settled s.text) None next old new tables tables → ReadsItem s above ix next old new tables tables
-settled_reads s above ix next old new tables ready nothing_there puts =
+    → Puts s.text ix (settled s.text) None rest old new tables tables → ReadsItem s above ix rest old new tables tables
+settled_reads s above ix rest old new tables ready nothing_there puts =
     let item = item_at old ix in
     let a = label_at s.text tables old ix in
     let after = trees_from s.text tables old (sibling_of old ix) in
@@ -146,9 +127,9 @@ settled_reads s above ix next old new tables ready nothing_there puts =
     reads_item ready (record { standing = reads.0; ends = reads.1 }) puts
 
 -- where no search was made, none examined an item
-pub looks_at_none : (failed : Bool) (visits items items' : ℕ) → items' < items
+pub looks_at_none : (failed : Bool) (visits items passed items' : ℕ) → items ≡ suc (passed + items')
     → LooksAt failed failed visits visits items items'
-looks_at_none failed visits items items' fewer = record {
+looks_at_none failed visits items passed items' left = record {
   more = 0;
   counted = refl;
   within = omega arith;
@@ -168,22 +149,22 @@ stops_at_none failed visits items = record {
 
 -- an item was read, unless memory was refused: what other searches have learned is true of what is left, and they have
 -- examined no item
-pub record ReadsAlone {E : Type 0} (r : Result (Option ℕ) E) (s : Setting) (above : Above) (ix : ℕ) (old new : List (Node Item))
+pub record ReadsAlone {E : Type 0} (r : Result Rest E) (s : Setting) (above : Above) (ix : ℕ) (old new : List (Node Item))
     (tables tables' : Tables) : Type 0 where
-  pub reads : IfOk r (λ next. ReadsItem s above ix next old new tables tables')
+  pub reads : IfOk r (λ rest. ReadsItem s above ix rest old new tables tables')
   pub holds : (kind : SpanKind) (learned : Learned) → HoldsFrom kind learned old (Some ix)
-      → IfOk r (λ next. HoldsFrom kind learned new next)
+      → IfOk r (λ rest. HoldsFrom kind learned new rest.next)
   pub looks : (failed : Bool) (visits : ℕ)
-      → IfOk r (λ next. LooksAt failed failed visits visits (items_from old (Some ix)) (items_from new next))
+      → IfOk r (λ rest. LooksAt failed failed visits visits (items_from old (Some ix)) (items_from new rest.next))
 
-pub reads_alone : {E : Type 0} (r : Result (Option ℕ) E) (s : Setting) (above : Above) (ix : ℕ) (old new : List (Node Item))
+pub reads_alone : {E : Type 0} (r : Result Rest E) (s : Setting) (above : Above) (ix : ℕ) (old new : List (Node Item))
     (tables tables' : Tables) → CanResolve s.text tables old (Some ix)
-    → IfOk r (λ next. ReadsItem s above ix next old new tables tables') → ReadsAlone r s above ix old new tables tables'
-reads_alone (Ok next) s above ix old new tables tables' ready reads = record {
+    → IfOk r (λ rest. ReadsItem s above ix rest old new tables tables') → ReadsAlone r s above ix old new tables tables'
+reads_alone (Ok rest) s above ix old new tables tables' ready reads = record {
   reads = reads;
   holds = λ kind learned h.
       reads.holds kind learned (holds_next kind learned old ix (chain_leads s.text tables old (Some ix) ready) h);
-  looks = λ failed visits. looks_at_none failed visits (items_from old (Some ix)) (items_from new next) reads.leaves.fewer;
+  looks = λ failed visits. looks_at_none failed visits (items_from old (Some ix)) rest.passed (items_from new rest.next) reads.passes;
 }
 reads_alone (Err fault) s above ix old new tables tables' ready reads = record {
   reads = tt;
@@ -192,16 +173,16 @@ reads_alone (Err fault) s above ix old new tables tables' ready reads = record {
 }
 
 -- so it is by the rules of a setting, where it is so by any rules with its footnotes
-pub reads_by_rules : {E : Type 0} (r : Result (Option ℕ) E) (place : ChainPlace) (source : List ℕ) (rules : Rules) (tree : Arena Item)
+pub reads_by_rules : {E : Type 0} (r : Result Rest E) (place : ChainPlace) (source : List ℕ) (rules : Rules) (tree : Arena Item)
     (ix : ℕ) (new : List (Node Item)) (tables tables' : Tables) → CanResolve place.text.now tables tree.nodes (Some ix)
     → place.text.now ≡ source → gfm_footnotes_on place.options ≡ gfm_footnotes_on rules.options
-    → IfOk r (λ next. (rules : Rules) → gfm_footnotes_on rules.options ≡ gfm_footnotes_on place.options
-    → ReadsItem (setting_of place.text.now rules) (above_cursor place.text.now tree) ix next tree.nodes new tables tables')
+    → IfOk r (λ rest. (rules : Rules) → gfm_footnotes_on rules.options ≡ gfm_footnotes_on place.options
+    → ReadsItem (setting_of place.text.now rules) (above_cursor place.text.now tree) ix rest tree.nodes new tables tables')
     → ReadsAlone r (setting_of source rules) (above_cursor source tree) ix tree.nodes new tables tables'
 reads_by_rules r place source rules tree ix new tables tables' ready same gfm reads =
     subst (λ (t : List ℕ). ReadsAlone r (setting_of t rules) (above_cursor t tree) ix tree.nodes new tables tables') same
     (reads_alone r (setting_of place.text.now rules) (above_cursor place.text.now tree) ix tree.nodes new tables tables' ready
-    (IfOk-weaker r _ _ (λ next by_any. by_any rules (sym gfm)) reads))
+    (IfOk-weaker r _ _ (λ rest by_any. by_any rules (sym gfm)) reads))
 
 -- the bytes up to an offset
 pub up_to : (text : List ℕ) (end : ℕ) → slice_range text 0 end ≡ take end text

@@ -22,6 +22,7 @@ use Rattle.markdown_spans.specs.Finds.{nothing, passed, read_tree, read_unless, 
 use Rattle.markdown_spans.specs.SpanClosers.{HoldsFrom, Learned}
 use Rattle.markdown_spans.specs.declared.span_text.SpanKind.{SpanKind}
 use Rattle.markdown_spans.proofs.ChainWalkLemmas.{chain_at}
+use Rattle.markdown_resolver.specs.declared.rest.Rest.{Rest}
 use Rattle.markdown_resolver.specs.Chains.{CanResolve}
 use Rattle.markdown_resolver.specs.Kept.{IsQuiet, IsQuietBelow}
 use Rattle.markdown_resolver.specs.PutsTrees.{PutsTrees}
@@ -65,31 +66,32 @@ quiet_read s above a below after quiet = by_quiet (is_quiet a.part.shape) refl
     by_quiet false e = quiet_found s a (find s above a after) quiet.0
 
 -- what searches have learned of what follows an item is true of what is left
-pub holds_put : {source : List ℕ} {ix : ℕ} {trees : Standing} {goes_on next : Option ℕ} {old new : List (Node Item)}
+pub holds_put : {source : List ℕ} {ix : ℕ} {trees : Standing} {goes_on : Option ℕ} {rest : Rest} {old new : List (Node Item)}
     {tables tables' : Tables} (kind : SpanKind) (learned : Learned)
-    → CanResolve source tables old (Some ix) → Puts source ix trees goes_on next old new tables tables'
-    → HoldsFrom kind learned old (sibling_of old ix) → HoldsFrom kind learned new next
-holds_put {source} {ix} {trees} {goes_on} {next} {old} {new} {tables} kind learned ready puts =
-    holds_past kind learned old new ix goes_on next (chain_at old ix (chain_leads source tables old (Some ix) ready)).later puts.leads
+    → CanResolve source tables old (Some ix) → Puts source ix trees goes_on rest old new tables tables'
+    → HoldsFrom kind learned old (sibling_of old ix) → HoldsFrom kind learned new rest.next
+holds_put {source} {ix} {trees} {goes_on} {rest} {old} {new} {tables} kind learned ready puts =
+    holds_past kind learned old new ix goes_on rest.next (chain_at old ix (chain_leads source tables old (Some ix) ready)).later puts.leads
 
 -- so the item is read
-pub reads_item : {s : Setting} {above : Above} {ix : ℕ} {trees : Standing} {goes_on next : Option ℕ} {old new : List (Node Item)}
+pub reads_item : {s : Setting} {above : Above} {ix : ℕ} {trees : Standing} {goes_on : Option ℕ} {rest : Rest} {old new : List (Node Item)}
     {tables tables' : Tables}
     → CanResolve s.text tables old (Some ix) → ReadsAs s above tables old ix trees goes_on
-    → Puts s.text ix trees goes_on next old new tables tables' → ReadsItem s above ix next old new tables tables'
-reads_item {s} {above} {ix} {trees} {goes_on} {next} {old} {new} {tables} {tables'} ready reads puts =
+    → Puts s.text ix trees goes_on rest old new tables tables' → ReadsItem s above ix rest old new tables tables'
+reads_item {s} {above} {ix} {trees} {goes_on} {rest} {old} {new} {tables} {tables'} ready reads puts =
     let o = opens_chain s.text tables old ix ready in
     let a = label_at s.text tables old ix in
     let below = trees_from s.text tables old (child_of old ix) in
     let after = trees_from s.text tables old (sibling_of old ix) in
     let quiet : IsQuiet (read_at s above tables old ix).trees = quiet_read s above a below after (rw o.trees at ready.quiet_below) in
-    let p = put_trees s.text ix trees goes_on next old new tables tables' ready puts (subst (λ (f : Forest Plain). IsQuiet f) reads.standing
+    let p = put_trees s.text ix trees goes_on rest old new tables tables' ready puts (subst (λ (f : Forest Plain). IsQuiet f) reads.standing
     quiet) in
-    let q = subst (λ (f : Forest Plain). PutsTrees s.text ix next f (past goes_on after) old new tables tables') (sym reads.standing) p in
+    let q = subst (λ (f : Forest Plain). PutsTrees s.text ix rest.next f (past goes_on after) old new tables tables') (sym reads.standing) p in
     record {
-      puts = subst (λ (goes_on : Option ℕ). PutsTrees s.text ix next (read_at s above tables old ix).trees (past goes_on after) old new
+      puts = subst (λ (goes_on : Option ℕ). PutsTrees s.text ix rest.next (read_at s above tables old ix).trees (past goes_on after) old new
           tables tables') (sym reads.ends) q;
       leaves = puts.leaves;
+      passes = puts.passes;
       holds = λ kind learned. holds_put kind learned ready puts;
     }
 

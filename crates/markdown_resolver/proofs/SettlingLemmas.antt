@@ -227,7 +227,7 @@ one_settled false source a below = refl
 
 -- what replaces it is put in place
 pub settle_puts : (source : List ℕ) (tables : Tables) (nodes : List (Node Item)) (ix : ℕ) → CanResolve source tables nodes (Some ix)
-    → Puts source ix (settled source) None (sibling_of nodes ix) nodes (settled_at ix nodes) tables tables
+    → Puts source ix (settled source) None (record { next = sibling_of nodes ix; passed = 0 }) nodes (settled_at ix nodes) tables tables
 settle_puts source tables nodes ix ready =
     let s = stands_ready source tables nodes (Some ix) ready in
     let item = item_at nodes ix in
@@ -263,6 +263,7 @@ settle_puts source tables nodes ix ready =
       whole = whole;
       leaves = leaves_rest source ix nodes mid mid tables tables tables l None ready h (moves_none source l mid tables a.stands)
           a.rest.trees;
+      passes = rw (o.here, a.rest.forest) (omega arith);
       leads = λ low chain k. leads_kept nodes mid l (forest_at (links_of nodes) l) low chain a.after.spelled h.more
           (rest_same source ix nodes mid tables tables s h) k;
       standing = ix ∷ [];

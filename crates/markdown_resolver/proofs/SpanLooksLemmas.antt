@@ -19,6 +19,7 @@ use Rattle.markdown_spans.specs.SpanClosers.{ClosesCode, ClosesMath, Learned, Lo
 use Rattle.markdown_spans.specs.SpanClosers.{LooksForCodeAtMost, LooksForMathAtMost, item_in, unless_failed}
 use Rattle.markdown_spans.specs.declared.span_closers.FoundMath.{FoundMath}
 use Rattle.markdown_spans.proofs.VisitLemmas.{code_visit_law, math_visit_law}
+use Rattle.markdown_resolver.specs.declared.rest.Rest.{Rest}
 use Rattle.markdown_resolver.specs.Chains.{CanResolve}
 use Rattle.markdown_resolver.specs.Rewritten.{Puts, Standing, numbered_past}
 use Rattle.markdown_resolver.specs.ReadsItem.{LooksAt, LooksAtMost}
@@ -55,14 +56,14 @@ looks_at (Some known) after searched found looked old new items items' rises fai
 }
 
 -- the number of items that are left of a chain
-pub items_put : (source : List ℕ) (ix : ℕ) (trees : Standing) (goes_on next : Option ℕ) (old new : List (Node Item))
+pub items_put : (source : List ℕ) (ix : ℕ) (trees : Standing) (goes_on : Option ℕ) (rest : Rest) (old new : List (Node Item))
     (tables tables' : Tables) → CanResolve source tables old (Some ix)
-    → Puts source ix trees goes_on next old new tables tables'
-    → items_from new next ≡ length (numbered_past goes_on (map (numbered old) (followers old ix)))
-items_put source ix trees goes_on next old new tables tables' ready puts =
+    → Puts source ix trees goes_on rest old new tables tables'
+    → items_from new rest.next ≡ length (numbered_past goes_on (map (numbered old) (followers old ix)))
+items_put source ix trees goes_on rest old new tables tables' ready puts =
     let o = opens_chain source tables old ix ready in
     let chain = map (numbered old) (followers old ix) in
-    items_led source tables' new next (suc ix) (numbered_past goes_on chain) puts.leaves.ready (puts.leads (suc ix) chain o.leads)
+    items_led source tables' new rest.next (suc ix) (numbered_past goes_on chain) puts.leaves.ready (puts.leads (suc ix) chain o.leads)
 
 -- no search is made for backticks that open nothing
 unless_code : (b : ItemBody) (chain : List Numbered) → opens_code b ≡ false → looked_for_code_close item_in b chain ≡ 0
@@ -75,20 +76,20 @@ unless_code other chain h = refl
 
 -- where nothing closes code
 pub nothing_looks : {source : List ℕ} {tables tables' : Tables} {old new : List (Node Item)} {ix : ℕ} {trees : Standing}
-    {next : Option ℕ} {found : Option ℕ} (learned after : Learned) (visits visits' : ℕ)
+    {rest : Rest} {found : Option ℕ} (learned after : Learned) (visits visits' : ℕ)
     → CanResolve source tables old (Some ix) → LooksForCode learned old ix visits visits'
     → has_failed after ≡ failed_by_now learned (opens_code (item_at old ix).body) (is_some found) → found ≡ None
-    → Puts source ix trees None next old new tables tables'
-    → LooksAt (has_failed learned) (has_failed after) visits visits' (items_from old (Some ix)) (items_from new next)
-nothing_looks {source} {tables} {tables'} {old} {new} {ix} {trees} {next} learned after visits visits' ready counted failed none puts =
+    → Puts source ix trees None rest old new tables tables'
+    → LooksAt (has_failed learned) (has_failed after) visits visits' (items_from old (Some ix)) (items_from new rest.next)
+nothing_looks {source} {tables} {tables'} {old} {new} {ix} {trees} {rest} learned after visits visits' ready counted failed none puts =
     let o = opens_chain source tables old ix ready in
     let chain = map (numbered old) (followers old ix) in
     let looked = looked_for_code_close item_in (item_at old ix).body chain in
     let size = length-map (followers old ix) (numbered old) in
-    let left = items_put source ix trees None next old new tables tables' ready puts in
+    let left = items_put source ix trees None rest old new tables tables' ready puts in
     let within = code_visit_law.within (item_at old ix).body chain in
     looks_at learned (has_failed after) (opens_code (item_at old ix).body) false looked visits visits' (items_from old (Some ix))
-    (items_from new next)
+    (items_from new rest.next)
     (counted (suc ix) chain o.leads)
     (failed ∙ ap (λ (f : Option ℕ). failed_by_now learned (opens_code (item_at old ix).body) (is_some f)) none)
     (omega (arith, within, size, o.items)) (omega (arith, left, size, o.items))
@@ -114,13 +115,13 @@ up_to_closer nodes count escaped xs x among closes =
     rw parts (omega (arith, law, size, rest, all))
 
 pub code_looks : {source : List ℕ} {tables tables' : Tables} {old new : List (Node Item)} {ix : ℕ} {x count : ℕ} {escaped : Bool}
-    {trees : Standing} {next : Option ℕ} {found : Option ℕ} (learned after : Learned) (visits visits' : ℕ)
+    {trees : Standing} {rest : Rest} {found : Option ℕ} (learned after : Learned) (visits visits' : ℕ)
     → CanResolve source tables old (Some ix) → (item_at old ix).body ≡ body.MaybeCode count escaped → ClosesCode old ix (Some x)
     → LooksForCode learned old ix visits visits'
     → has_failed after ≡ failed_by_now learned (opens_code (item_at old ix).body) (is_some found) → found ≡ Some x
-    → Puts source ix trees (Some (item_at old x).end) next old new tables tables'
-    → LooksAt (has_failed learned) (has_failed after) visits visits' (items_from old (Some ix)) (items_from new next)
-code_looks {source} {tables} {tables'} {old} {new} {ix} {x} {count} {escaped} {trees} {next} learned after visits visits' ready is
+    → Puts source ix trees (Some (item_at old x).end) rest old new tables tables'
+    → LooksAt (has_failed learned) (has_failed after) visits visits' (items_from old (Some ix)) (items_from new rest.next)
+code_looks {source} {tables} {tables'} {old} {new} {ix} {x} {count} {escaped} {trees} {rest} learned after visits visits' ready is
     closes counted failed some puts =
     let o = opens_chain source tables old ix ready in
     let xs = followers old ix in
@@ -131,7 +132,7 @@ code_looks {source} {tables} {tables'} {old} {new} {ix} {x} {count} {escaped} {t
     let looked = looked_for_code_close item_in (item_at old ix).body chain in
     let ordered : InOrder old (item_at old ix).end (among.before ++ x ∷ among.after) = subst (InOrder old (item_at old ix).end) among.parts
     o.ordered in
-    let left : items_from new next ≡ length (numbered_past (Some end) chain) = items_put source ix trees (Some end) next old new tables
+    let left : items_from new rest.next ≡ length (numbered_past (Some end) chain) = items_put source ix trees (Some end) rest old new tables
     tables' ready puts in
     let fewer : length (numbered_past (Some end) chain) ≤ length among.after =
     subst (λ (xs : List ℕ). length (numbered_past (Some end) (map (numbered old) xs)) ≤ length among.after) (sym among.parts)
@@ -140,7 +141,7 @@ code_looks {source} {tables} {tables'} {old} {new} {ix} {x} {count} {escaped} {t
     subst (λ (b : ItemBody). looked_for_code_close item_in b chain + length among.after ≤ length xs) (sym is)
     (up_to_closer old count escaped xs x among (closes_by_number source tables old ix count escaped (Some x) ready is closes)) in
     looks_at learned (has_failed after) (opens_code (item_at old ix).body) true looked visits visits' (items_from old (Some ix))
-    (items_from new next)
+    (items_from new rest.next)
     (counted (suc ix) chain o.leads)
     (failed ∙ ap (λ (f : Option ℕ). failed_by_now learned (opens_code (item_at old ix).body) (is_some f)) some)
     (omega (arith, up_to, o.items)) (omega (arith, up_to, left, fewer, o.items))
@@ -152,20 +153,20 @@ unless_math opener chain h = rw h refl
 
 -- where nothing closes math
 pub no_math_looks : {source : List ℕ} {tables tables' : Tables} {old new : List (Node Item)} {ix : ℕ} {trees : Standing}
-    {next : Option ℕ} {found : Option FoundMath} (learned after : Learned) (visits visits' : ℕ)
+    {rest : Rest} {found : Option FoundMath} (learned after : Learned) (visits visits' : ℕ)
     → CanResolve source tables old (Some ix) → LooksForMath learned old ix visits visits'
     → has_failed after ≡ failed_by_now learned (can_open (item_at old ix).body) (is_some found) → found ≡ None
-    → Puts source ix trees None next old new tables tables'
-    → LooksAt (has_failed learned) (has_failed after) visits visits' (items_from old (Some ix)) (items_from new next)
-no_math_looks {source} {tables} {tables'} {old} {new} {ix} {trees} {next} learned after visits visits' ready counted failed none puts =
+    → Puts source ix trees None rest old new tables tables'
+    → LooksAt (has_failed learned) (has_failed after) visits visits' (items_from old (Some ix)) (items_from new rest.next)
+no_math_looks {source} {tables} {tables'} {old} {new} {ix} {trees} {rest} learned after visits visits' ready counted failed none puts =
     let o = opens_chain source tables old ix ready in
     let chain = map (numbered old) (followers old ix) in
     let looked = looked_for_math_from item_in (item_at old ix) chain in
     let size = length-map (followers old ix) (numbered old) in
-    let left = items_put source ix trees None next old new tables tables' ready puts in
+    let left = items_put source ix trees None rest old new tables tables' ready puts in
     let within = math_visit_law.within (item_at old ix) chain in
     looks_at learned (has_failed after) (can_open (item_at old ix).body) false looked visits visits' (items_from old (Some ix))
-    (items_from new next)
+    (items_from new rest.next)
     (counted (suc ix) chain o.leads)
     (failed ∙ ap (λ (f : Option FoundMath). failed_by_now learned (can_open (item_at old ix).body) (is_some f)) none)
     (omega (arith, within, size, o.items)) (omega (arith, left, size, o.items))
@@ -191,13 +192,13 @@ up_to_dollar nodes opener xs m closes stands =
     omega (arith, law, length-map xs (numbered nodes), length-map stands.after (numbered nodes))
 
 pub math_looks : {source : List ℕ} {tables tables' : Tables} {old new : List (Node Item)} {ix : ℕ} {m : FoundMath}
-    {trees : Standing} {next : Option ℕ} {found : Option FoundMath} (learned after : Learned) (visits visits' : ℕ)
+    {trees : Standing} {rest : Rest} {found : Option FoundMath} (learned after : Learned) (visits visits' : ℕ)
     → CanResolve source tables old (Some ix) → ClosesMath old ix (Some m)
     → LooksForMath learned old ix visits visits'
     → has_failed after ≡ failed_by_now learned (can_open (item_at old ix).body) (is_some found) → found ≡ Some m
-    → Puts source ix trees (Some (item_at old m.last).end) next old new tables tables'
-    → LooksAt (has_failed learned) (has_failed after) visits visits' (items_from old (Some ix)) (items_from new next)
-math_looks {source} {tables} {tables'} {old} {new} {ix} {m} {trees} {next} learned after visits visits' ready closes counted failed
+    → Puts source ix trees (Some (item_at old m.last).end) rest old new tables tables'
+    → LooksAt (has_failed learned) (has_failed after) visits visits' (items_from old (Some ix)) (items_from new rest.next)
+math_looks {source} {tables} {tables'} {old} {new} {ix} {m} {trees} {rest} learned after visits visits' ready closes counted failed
     some puts =
     let o = opens_chain source tables old ix ready in
     let xs = followers old ix in
@@ -207,14 +208,14 @@ math_looks {source} {tables} {tables'} {old} {new} {ix} {m} {trees} {next} learn
     let looked = looked_for_math_from item_in (item_at old ix) chain in
     let ordered : InOrder old (item_at old ix).end (there.before ++ m.closer ∷ there.after) = subst (InOrder old (item_at old ix).end)
     there.parts o.ordered in
-    let left : items_from new next ≡ length (numbered_past (Some end) chain) = items_put source ix trees (Some end) next old new tables
+    let left : items_from new rest.next ≡ length (numbered_past (Some end) chain) = items_put source ix trees (Some end) rest old new tables
     tables' ready puts in
     let fewer : length (numbered_past (Some end) chain) ≤ length there.after =
     subst (λ (xs : List ℕ). length (numbered_past (Some end) (map (numbered old) xs)) ≤ length there.after) (sym there.parts)
     (fewer_left old (item_at old ix).end end there.before m.closer there.after ordered there.to_last) in
     let up_to = up_to_dollar old (item_at old ix) xs m (math_by_number source tables old ix (Some m) ready closes) there in
     looks_at learned (has_failed after) (can_open (item_at old ix).body) true looked visits visits' (items_from old (Some ix))
-    (items_from new next)
+    (items_from new rest.next)
     (counted (suc ix) chain o.leads)
     (failed ∙ ap (λ (f : Option FoundMath). failed_by_now learned (can_open (item_at old ix).body) (is_some f)) some)
     (omega (arith, up_to, o.items)) (omega (arith, up_to, left, fewer, o.items))

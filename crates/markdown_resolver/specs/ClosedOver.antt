@@ -1,5 +1,5 @@
 -- What a closing bracket becomes, put in place: the terms of private contracts on the nodes from its opener on.
-use Rattle.std.specs.Prelude.{◌≡◌, ℕ, zero, suc, ◌<◌, ◌≤◌, true, false, List, [], ◌∷◌, ◌++◌, Option, Some, None, length}
+use Rattle.std.specs.Prelude.{◌≡◌, ℕ, zero, suc, ◌<◌, ◌≤◌, true, false, List, [], ◌∷◌, ◌++◌, Some, None, length}
 use Rattle.std.specs.Str.{IsCharBoundary}
 use Rattle.markdown_base.specs.Arena.{child_of, sibling_of}
 use Rattle.markdown_base.specs.ArenaForest.{links_of, forest_at}
@@ -17,7 +17,8 @@ use Rattle.markdown_document.specs.Tables.{Tables}
 use Rattle.markdown_document.specs.NamedEntries.{Named, times_named}
 use Rattle.markdown_spans.specs.ChainInArena.{LeadsThrough}
 use Rattle.markdown_resolver.specs.Chains.{CanResolve}
-use Rattle.markdown_resolver.specs.Rewritten.{CanPut, LeavesRest, MayBeCut, Rewrites, first_past, numbered_past_byte}
+use Rattle.markdown_resolver.specs.Rewritten.{CanPut, IsRestPast, LeavesRest, MayBeCut, Rewrites, first_past, numbered_past_byte}
+use Rattle.markdown_resolver.specs.declared.rest.Rest.{Rest}
 
 -- the first k trees of a chain
 abbrev pub first_trees : {A : Type 0} → ℕ → Forest A → Forest A
@@ -120,16 +121,17 @@ pub record CanPutMark (source : List ℕ) (tables tables' : Tables) (nodes : Lis
 
 -- what a `]` becomes was put in place; `standing` are the nodes that hold it now
 pub record PutsOver (source : List ℕ) (opener closer : ℕ) (inside : List ℕ) (trees : Enclosing) (goes_on : ℕ)
-    (standing : List ℕ) (next : Option ℕ) (old new : List (Node Item)) (tables tables' : Tables) : Type 0 where
+    (standing : List ℕ) (rest : Rest) (old new : List (Node Item)) (tables tables' : Tables) : Type 0 where
   -- once what is left is rewritten by a rule, the whole chain is
   pub whole : (rule : Forest Plain → Forest Plain) (nodes : List (Node Item)) (later : Tables)
-      → Rewrites source rule next new nodes tables' later
+      → Rewrites source rule rest.next new nodes tables' later
       → Rewrites source (closed_over (length inside) trees goes_on rule) (Some opener) old nodes tables later
-  pub leaves : LeavesRest source opener next old new tables'
+  pub leaves : LeavesRest source opener rest.next old new tables'
+  pub past : IsRestPast old goes_on (sibling_of old closer) rest
   -- the links after the `]` lead on past that byte offset
   pub leads : (low : ℕ) (after : List Numbered) → LeadsThrough old low (sibling_of old closer) after
-      → LeadsThrough new low next (numbered_past_byte goes_on after)
-  pub numbers : roots (forest_at (links_of new) (Some opener)) ≡ standing ++ roots (forest_at (links_of new) next)
+      → LeadsThrough new low rest.next (numbered_past_byte goes_on after)
+  pub numbers : roots (forest_at (links_of new) (Some opener)) ≡ standing ++ roots (forest_at (links_of new) rest.next)
 
 -- what is inside was moved below the opener's node, which the closer follows; no item has changed
 pub record IsEnclosed (old new : List (Node Item)) (opener last closer : ℕ) : Type 0 where

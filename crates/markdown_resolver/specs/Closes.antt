@@ -1,5 +1,5 @@
 -- What a `]` in an arena becomes: what can be put in its place, and what was put.
-use Rattle.std.specs.Prelude.{◌≡◌, ℕ, ◌<◌, ◌≤◌, ⊤, Bool, true, false, not, ◌&&◌, List, Option, Some, None, nat_le}
+use Rattle.std.specs.Prelude.{◌≡◌, ℕ, ◌<◌, ◌≤◌, ⊤, Bool, true, false, not, ◌&&◌, List, Some, None, nat_le}
 use Rattle.std.specs.Str.{IsCharBoundary}
 use Rattle.markdown_base.specs.Arena.{sibling_of}
 use Rattle.markdown_base.specs.BlockTree.{item_at}
@@ -20,7 +20,6 @@ use Rattle.markdown_document.specs.Document.{Label, is_unresolved}
 use Rattle.markdown_document.specs.LinkOrigins.{destination_origin}
 use Rattle.markdown_document.specs.Origins.{IsSliceWithin, made}
 use Rattle.markdown_document.specs.Places.{trees_from}
-use Rattle.markdown_document.specs.Stages.{items_from}
 use Rattle.markdown_document.specs.Tables.{Tables}
 use Rattle.markdown_spans.specs.SpanClosers.{HoldsFrom, Learned}
 use Rattle.markdown_spans.specs.declared.span_text.SpanKind.{SpanKind}
@@ -28,6 +27,8 @@ use Rattle.markdown_resolver.specs.Chains.{ChangesChain}
 use Rattle.markdown_resolver.specs.Kept.{IsUnmade}
 use Rattle.markdown_resolver.specs.PutsTrees.{numbered_from, numbered_label}
 use Rattle.markdown_resolver.specs.ReadOn.{StandsTo, left_without_numbers}
+use Rattle.markdown_resolver.specs.Rewritten.{Passes}
+use Rattle.markdown_resolver.specs.declared.rest.Rest.{Rest}
 
 -- a `]` of an arena, with the chain after it
 abbrev pub closing_at : List ℕ → Tables → List (Node Item) → SpentEnds → (could_be : Bool) → ℕ → Closing ℕ
@@ -96,21 +97,21 @@ pub record ClosesAt (source : List ℕ) (tables : Tables) (nodes : List (Node It
   pub ends : EndsWell source c becomes
 
 -- what the `]` becomes was put in place
-pub record PutsClosed (source : List ℕ) (first closer : ℕ) (next : Option ℕ) (left : List (Entry ℕ)) (w : Around)
+pub record PutsClosed (source : List ℕ) (first closer : ℕ) (rest : Rest) (left : List (Entry ℕ)) (w : Around)
     (c : Closing ℕ) (becomes : Becomes ℕ) (old new : List (Node Item)) (tables tables' : Tables) : Type 0 where
   pub changes : ChangesChain source (Some first) old new tables tables'
   -- the left list that the arena holds now: what `put` gives, apart from the numbers, with the same openers
   pub left_then : List (Entry ℕ)
-  pub stands : StandsTo source tables' new first next left_then
+  pub stands : StandsTo source tables' new first rest.next left_then
   pub puts : (p : Progress ℕ) → p.left ≡ left
       → left_without_numbers left_then ≡ left_without_numbers (put w c becomes p).left
   pub brackets : (p : Progress ℕ) → p.left ≡ left → brackets_of left_then ≡ brackets_of (put w c becomes p).left
   pub wikilinks : (p : Progress ℕ) → p.left ≡ left → wikilinks_of left_then ≡ wikilinks_of (put w c becomes p).left
   -- what is left of the chain
   pub rest_is : (p : Progress ℕ) → p.goes_on ≡ None
-      → trees_from source tables' new next
+      → trees_from source tables' new rest.next
       ≡ past (put w c becomes p).goes_on (trees_from source tables old (sibling_of old closer))
-  pub fewer : items_from new next < items_from old (Some closer)
+  pub passes : Passes closer rest old new
   -- what searches have learned of what follows the `]` is true of what is left
   pub holds : (kind : SpanKind) (learned : Learned) → HoldsFrom kind learned old (sibling_of old closer)
-      → HoldsFrom kind learned new next
+      → HoldsFrom kind learned new rest.next

@@ -1,5 +1,5 @@
 -- How a resolver reads an item of a chain in place, a bracket or another: the terms of private contracts.
-use Rattle.std.specs.Prelude.{◌≡◌, ℕ, ◌<◌, List, Option, Some, is_some}
+use Rattle.std.specs.Prelude.{◌≡◌, ℕ, List, Option, Some, is_some}
 use Rattle.markdown_base.specs.Arena.{Arena, sibling_of}
 use Rattle.markdown_base.specs.BlockTree.{item_at}
 use Rattle.markdown_base.specs.Questions.{Question, Answer}
@@ -19,8 +19,10 @@ use Rattle.markdown_resolver.specs.Closes.{closing_at}
 use Rattle.markdown_resolver.specs.PassOne.{around}
 use Rattle.markdown_resolver.specs.ReadOn.{ReadsOn, StopsOn}
 use Rattle.markdown_resolver.specs.ReadsItem.{LooksAt, LooksAtMost, ReadsItem}
+use Rattle.markdown_resolver.specs.Rewritten.{IsRefused, Passes}
 use Rattle.markdown_document.specs.declared.chain_place.ChainPlace.{ChainPlace}
 use Rattle.markdown_resolver.specs.declared.resolver.Resolver.{Resolver}
+use Rattle.markdown_resolver.specs.declared.rest.Rest.{Rest}
 use Rattle.markdown_defs.specs.Footnotes.{footnote_at}
 use Rattle.markdown_base.specs.declared.node.Node.{Node}
 use Rattle.markdown_base.specs.declared.fault.Fault.{Fault}
@@ -70,24 +72,24 @@ pub record DecidesClosing {C : Type 0} (step : C → Question → Option Answer 
       old.waiting.spent new.waiting.spent old.lookup.callback new.lookup.callback new.waiting.openers.brackets
       new.waiting.openers.wikilinks found
 
--- after any left list there, the chain was read on from the item of a node to a link, from which fewer items are left
+-- after any left list there, the chain was read on from the item of a node to what is left
 pub record GoesOnTo {C : Type 0} (step : C → Question → Option Answer → C → Type 0) (place : ChainPlace) (ix : ℕ)
-    (next : Option ℕ) (tree tree' : Arena Item) (old new : Resolver C) : Type 0 where
+    (rest : Rest) (tree tree' : Arena Item) (old new : Resolver C) : Type 0 where
   pub reads : (first : ℕ) (left : List (Entry ℕ)) → WasReadTo place tree old first ix left
-      → ReadsOn step (setting_by old) (above_cursor old.text.now tree) first (Some ix) next left (stage_by tree old)
+      → ReadsOn step (setting_by old) (above_cursor old.text.now tree) first (Some ix) rest.next left (stage_by tree old)
       (stage_by tree' new) old.waiting.spent new.waiting.spent new.waiting.openers.brackets new.waiting.openers.wikilinks
-  pub fewer : items_from tree'.nodes next < items_from tree.nodes (Some ix)
+  pub passes : Passes ix rest tree.nodes tree'.nodes
   pub unread : IsUnread (chain_at old.text.now (stage_by tree old) (Some ix))
-      → IsUnread (chain_at old.text.now (stage_by tree' new) next)
+      → IsUnread (chain_at old.text.now (stage_by tree' new) rest.next)
   pub place_is : tree' ≡ record tree { nodes = tree'.nodes }
 
 -- a resolver has read the bracket of a node: what searches have learned of what follows the bracket is true of what is
 -- left
 pub record ReadsBracket {C : Type 0} (step : C → Question → Option Answer → C → Type 0) (place : ChainPlace) (ix : ℕ)
-    (next : Option ℕ) (tree tree' : Arena Item) (old new : Resolver C) : Type 0 where
-  pub goes_on : GoesOnTo step place ix next tree tree' old new
+    (rest : Rest) (tree tree' : Arena Item) (old new : Resolver C) : Type 0 where
+  pub goes_on : GoesOnTo step place ix rest tree tree' old new
   pub holds : (kind : SpanKind) (learned : Learned) → HoldsFrom kind learned tree.nodes (sibling_of tree.nodes ix)
-      → HoldsFrom kind learned tree'.nodes next
+      → HoldsFrom kind learned tree'.nodes rest.next
 
 -- searches have examined items of the chain from the item of a node on, of which the chain from a link on is left
 pub record Looked {C : Type 0} (ix : ℕ) (next : Option ℕ) (tree tree' : Arena Item) (old new : Resolver C) : Type 0
@@ -100,18 +102,18 @@ pub record Looked {C : Type 0} (ix : ℕ) (next : Option ℕ) (tree tree' : Aren
 -- a resolver has read the item of a node: what it has learned from searches is true of what is left, and they have
 -- examined no item of that, unless one failed
 pub record ReadsNode {C : Type 0} (step : C → Question → Option Answer → C → Type 0) (place : ChainPlace) (ix : ℕ)
-    (next : Option ℕ) (tree tree' : Arena Item) (old new : Resolver C) : Type 0 where
-  pub goes_on : GoesOnTo step place ix next tree tree' old new
-  pub learned : HasLearned new tree'.nodes next
-  pub looked : Looked ix next tree tree' old new
+    (rest : Rest) (tree tree' : Arena Item) (old new : Resolver C) : Type 0 where
+  pub goes_on : GoesOnTo step place ix rest tree tree' old new
+  pub learned : HasLearned new tree'.nodes rest.next
+  pub looked : Looked ix rest.next tree tree' old new
 
 -- the same for an item that is not a bracket, by the rules of pass one
-pub record ReadsOther {C : Type 0} (ix : ℕ) (next : Option ℕ) (tree tree' : Arena Item) (old new : Resolver C) : Type 0
+pub record ReadsOther {C : Type 0} (ix : ℕ) (rest : Rest) (tree tree' : Arena Item) (old new : Resolver C) : Type 0
   where
-    pub item : ReadsItem (setting_by old) (above_cursor old.text.now tree) ix next tree.nodes tree'.nodes
+    pub item : ReadsItem (setting_by old) (above_cursor old.text.now tree) ix rest tree.nodes tree'.nodes
         (tables_of old.lookup.tables) (tables_of new.lookup.tables)
-    pub learned : HasLearned new tree'.nodes next
-    pub looked : Looked ix next tree tree' old new
+    pub learned : HasLearned new tree'.nodes rest.next
+    pub looked : Looked ix rest.next tree tree' old new
     pub place_is : tree' ≡ record tree { nodes = tree'.nodes }
 
 -- memory was refused to the resolver while it read the item of a node
@@ -129,11 +131,11 @@ pub record StopsLooking {C : Type 0} (ix : ℕ) (tree : Arena Item) (old new : R
   pub math_looks : LooksAtMost (has_failed old.math_closers) (has_failed new.math_closers) old.work.math_visits
       new.work.math_visits (items_from tree.nodes (Some ix))
 
--- the only error is a refusal of memory; then the callback was asked, and searches have looked, as they are at the item
--- of a node
+-- the only error is a refusal of memory, with the tree as it was; then the callback was asked, and searches have looked,
+-- as they are at the item of a node
 pub record StopsReading {C : Type 0} (step : C → Question → Option Answer → C → Type 0) (place : ChainPlace) (ix : ℕ)
-    (tree : Arena Item) (old new : Resolver C) (fault : Fault) : Type 0 where
-  pub memory : fault ≡ Fault.Memory
+    (tree tree' : Arena Item) (old new : Resolver C) (fault : Fault) : Type 0 where
+  pub refused : IsRefused tree tree' fault
   pub at_node : StopsAtNode step place ix tree old new.lookup.callback
   pub looking : StopsLooking ix tree old new
 

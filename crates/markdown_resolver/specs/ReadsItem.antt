@@ -1,5 +1,5 @@
 -- An item of a chain that is not a bracket was read in place.
-use Rattle.std.specs.Prelude.{◌≡◌, ℕ, ◌+◌, ◌≤◌, Bool, true, false, List, Option}
+use Rattle.std.specs.Prelude.{◌≡◌, ℕ, ◌+◌, ◌≤◌, Bool, true, false, List}
 use Rattle.markdown_base.specs.Arena.{child_of, sibling_of}
 use Rattle.markdown_base.specs.declared.item.Item.{Item}
 use Rattle.markdown_base.specs.declared.node.Node.{Node}
@@ -14,7 +14,8 @@ use Rattle.markdown_spans.specs.Finds.{Passed, read_tree}
 use Rattle.markdown_spans.specs.SpanClosers.{HoldsFrom, Learned}
 use Rattle.markdown_spans.specs.declared.span_text.SpanKind.{SpanKind}
 use Rattle.markdown_resolver.specs.PutsTrees.{PutsTrees}
-use Rattle.markdown_resolver.specs.Rewritten.{LeavesRest}
+use Rattle.markdown_resolver.specs.Rewritten.{LeavesRest, Passes}
+use Rattle.markdown_resolver.specs.declared.rest.Rest.{Rest}
 
 -- what is read of the first tree of a chain in an arena
 abbrev pub read_at : Setting → Above → Tables → List (Node Item) → ℕ → Passed (Unit {0})
@@ -24,15 +25,16 @@ read_at s above tables nodes ix =
     (trees_from s.text tables nodes (sibling_of nodes ix))
 
 -- what is read was put in place, and what is left is what follows it, after the end of what was found
-pub record ReadsItem (s : Setting) (above : Above) (ix : ℕ) (next : Option ℕ) (old new : List (Node Item))
+pub record ReadsItem (s : Setting) (above : Above) (ix : ℕ) (rest : Rest) (old new : List (Node Item))
     (tables tables' : Tables) : Type 0 where
-  pub puts : PutsTrees s.text ix next (read_at s above tables old ix).trees
+  pub puts : PutsTrees s.text ix rest.next (read_at s above tables old ix).trees
       (past (read_at s above tables old ix).goes_on (trees_from s.text tables old (sibling_of old ix))) old new tables
       tables'
-  pub leaves : LeavesRest s.text ix next old new tables'
+  pub leaves : LeavesRest s.text ix rest.next old new tables'
+  pub passes : Passes ix rest old new
   -- what searches have learned of what follows the item is true of what is left
   pub holds : (kind : SpanKind) (learned : Learned) → HoldsFrom kind learned old (sibling_of old ix)
-      → HoldsFrom kind learned new next
+      → HoldsFrom kind learned new rest.next
 
 -- the count of examined items has risen by at most the items of a chain, by none where a search had failed before, and,
 -- unless one has failed now, by none of what is left

@@ -1,13 +1,14 @@
 -- A chain of an arena that is rewritten in place: the terms of private contracts on its nodes.
-use Rattle.std.specs.Prelude.{◌≡◌, ℕ, ◌<◌, ◌≤◌, max, Bool, true, false, List, [], ◌∷◌, ◌++◌, Option, Some, None, length}
+use Rattle.std.specs.Prelude.{◌≡◌, ℕ, suc, ◌+◌, ◌<◌, ◌≤◌, max, Bool, true, false, List, [], ◌∷◌, ◌++◌, Option, Some, None, length}
 use Rattle.std.specs.Prelude.{if◌then◌else◌, nat_le}
 use Rattle.std.specs.Option.{option_map}
-use Rattle.markdown_base.specs.Arena.{sibling_of}
+use Rattle.markdown_base.specs.Arena.{Arena, sibling_of}
 use Rattle.markdown_base.specs.ArenaForest.{links_of, forest_at}
 use Rattle.markdown_base.specs.BlockTree.{Numbered, numbered, item_at}
 use Rattle.markdown_base.specs.Forest.{Forest, nil, node, roots}
 use Rattle.markdown_base.specs.Item.{LiesIn, is_block, is_open}
 use Rattle.markdown_base.specs.WellFormed.{RunsAreWhole, run_character}
+use Rattle.markdown_base.specs.declared.fault.Fault.{Fault}
 use Rattle.markdown_base.specs.declared.item.Item.{Item}
 use Rattle.markdown_base.specs.declared.item.ItemBody.{ItemBody}
 use Rattle.markdown_base.specs.declared.node.Node.{Node}
@@ -21,6 +22,7 @@ use Rattle.markdown_document.specs.NamedEntries.{Named, NamesEntries, number_of,
 use Rattle.markdown_document.specs.Waiting.{is_quiet}
 use Rattle.markdown_spans.specs.ChainInArena.{LeadsThrough}
 use Rattle.markdown_resolver.specs.Chains.{CanResolve, ChangesChain}
+use Rattle.markdown_resolver.specs.declared.rest.Rest.{Rest}
 
 -- a delimiter run before a link that continues there still does
 abbrev pub RunsGoOn : List ℕ → List (Node Item) → List (Node Item) → Option ℕ → Type 0
@@ -89,6 +91,19 @@ abbrev pub first_past : List (Node Item) → ℕ → List ℕ → Option ℕ
 first_past nodes i [] = None
 first_past nodes i (ix ∷ after) = if nat_le (item_at nodes ix).end i then first_past nodes i after else Some ix
 
+-- what is left of a chain past a byte offset, from the first node that ends past it on
+pub record IsRestPast (nodes : List (Node Item)) (i : ℕ) (l : Option ℕ) (rest : Rest) : Type 0 where
+  pub next_is : rest.next ≡ first_past nodes i (roots (forest_at (links_of nodes) l))
+  pub counted : items_from nodes l ≡ rest.passed + items_from nodes rest.next
+
+-- of the chain from the item of a node on, that item and those that were passed after it are not left
+abbrev pub Passes : (ix : ℕ) → Rest → (old new : List (Node Item)) → Type 0
+Passes ix rest old new = items_from old (Some ix) ≡ suc (rest.passed + items_from new rest.next)
+
+-- memory was refused, and the arena is as it was
+abbrev pub IsRefused : (old new : Arena Item) → Fault → Type 0
+IsRefused old new fault = (fault ≡ Fault.Memory) × (new ≡ old)
+
 -- an item with this body may lose its first bytes: it is not open, and nothing that it refers to has to come from the
 -- source
 pub record MayBeCut (b : ItemBody) : Type 0 where
@@ -118,10 +133,9 @@ pub record CanPut (source : List ℕ) (tables tables' : Tables) (item : Item) : 
 -- the first item of a chain was read in place, and the chain continues at a link
 pub record LeavesRest (source : List ℕ) (ix : ℕ) (next : Option ℕ) (old new : List (Node Item)) (tables' : Tables)
     : Type 0 where
-  -- what is left can be read; it is lighter, and has fewer items
+  -- what is left can be read, and is lighter
   pub ready : CanResolve source tables' new next
   pub lighter : weight_in new next < weight_in old (Some ix)
-  pub fewer : items_from new next < items_from old (Some ix)
   -- each node of what is left was in the chain or is new, and nodes outside the chain are unchanged
   pub of_chain : (n : ℕ) → n < length old → times_in new next n ≤ times_in old (Some ix) n
   pub more_nodes : length old ≤ length new
@@ -152,17 +166,18 @@ pub record CanPutParent (source : List ℕ) (tables tables' : Tables) (nodes : L
   pub starts : item.start ≡ (item_at nodes ix).start
 
 -- trees were put in place of what was found, from the item on up to a byte offset
-pub record Puts (source : List ℕ) (ix : ℕ) (trees : Standing) (goes_on : Option ℕ) (next : Option ℕ)
+pub record Puts (source : List ℕ) (ix : ℕ) (trees : Standing) (goes_on : Option ℕ) (rest : Rest)
     (old new : List (Node Item)) (tables tables' : Tables) : Type 0 where
   -- once what is left is rewritten by a rule, the whole chain is
   pub whole : (rule : Forest Plain → Forest Plain) (nodes : List (Node Item)) (later : Tables)
-      → Rewrites source rule next new nodes tables' later
+      → Rewrites source rule rest.next new nodes tables' later
       → Rewrites source (replaced trees goes_on rule) (Some ix) old nodes tables later
-  pub leaves : LeavesRest source ix next old new tables'
+  pub leaves : LeavesRest source ix rest.next old new tables'
+  pub passes : Passes ix rest old new
   -- the links lead on past that byte offset
   pub leads : (low : ℕ) (after : List Numbered) → LeadsThrough old low (sibling_of old ix) after
-      → LeadsThrough new low next (numbered_past goes_on after)
+      → LeadsThrough new low rest.next (numbered_past goes_on after)
   -- the nodes that hold the trees now, one for each
   pub standing : List ℕ
-  pub numbers : roots (forest_at (links_of new) (Some ix)) ≡ standing ++ roots (forest_at (links_of new) next)
+  pub numbers : roots (forest_at (links_of new) (Some ix)) ≡ standing ++ roots (forest_at (links_of new) rest.next)
   pub as_many : (a : Plain) (below : Forest Plain) → length (roots (trees a below)) ≡ length standing

@@ -6,7 +6,6 @@ ghost use Rattle.std.specs.Option.{option_map_or};
 ghost use Rattle.markdown_base.specs.Arena.{sibling_of};
 ghost use Rattle.markdown_base.specs.BlockTree.{item_at};
 ghost use Rattle.markdown_base.specs.CowText.{text_of};
-ghost use Rattle.markdown_base.specs.declared.fault.Fault.{Fault};
 ghost use Rattle.markdown_base.specs.declared.item.ItemBody.TheVariants as body;
 ghost use Rattle.markdown_brackets.specs.declared.closing_bracket.ClosedBracket.TheVariants.{Wikilinked};
 ghost use Rattle.markdown_brackets.specs.BracketDecision.{Around, Becomes, Closing, a_footnote, a_link};
@@ -21,12 +20,13 @@ ghost use Rattle.markdown_document.specs.ChainRest.{start_of};
 ghost use Rattle.markdown_document.specs.Tables.{Tables, tables_of};
 ghost use Rattle.markdown_resolver.specs.Chains.{CanResolve};
 ghost use Rattle.markdown_resolver.specs.Closes.{ClosesAt, PutsClosed};
-ghost use Rattle.markdown_resolver.specs.Rewritten.{Puts, settled};
+ghost use Rattle.markdown_resolver.specs.Rewritten.{IsRefused, Puts, settled};
 
 use crate::found::settle;
 use crate::links::{
-    last_before, put_footnote, put_image_footnote, put_link, put_wikilink_name, put_wikilink_shown,
+    put_footnote, put_image_footnote, put_link, put_wikilink_name, put_wikilink_shown,
 };
+use crate::rest::Rest;
 use markdown_base::cow_str::CowStr;
 use markdown_base::fault::Fault;
 use markdown_base::index::LinkIndex;
@@ -54,20 +54,21 @@ fn leads_to_opener(tree: &Tree<Item>, link: Option<usize>) -> bool
 }
 
 /// Reads an opener, `[` or `![`: it becomes a Text, and waits for its `]`; with wikilinks enabled, one that a `[`
-/// follows also waits for `]]`. Returns the next node of the chain. The only error is `Fault::Memory`.
+/// follows also waits for `]]`. Returns the rest of the chain. The only error is `Fault::Memory`; the tree is then
+/// unchanged.
 pub(crate) fn open_bracket(
     tree: &mut Tree<Item>,
     openers: &mut ChainOpeners,
     options: Options,
     ix: usize,
     is_image: bool,
-) -> Result<Option<usize>, Fault>
+) -> Result<Rest, Fault>
     requires { (source : List ℕ) × (tables : Tables)
         × CanResolve source tables tree.old.nodes (Some ix) }
-    ensures puts { IfOk result (λ next. (source : List ℕ) (tables : Tables)
+    ensures puts { IfOk result (λ rest. (source : List ℕ) (tables : Tables)
         → CanResolve source tables tree.old.nodes (Some ix)
-        → Puts source ix (settled source) None next tree.old.nodes tree.new.nodes tables tables) }
-    ensures next { IfOk result (λ next. next ≡ sibling_of tree.old.nodes ix) }
+        → Puts source ix (settled source) None rest tree.old.nodes tree.new.nodes tables tables) }
+    ensures next { IfOk result (λ rest. rest.next ≡ sibling_of tree.old.nodes ix) }
     ensures place { IfOk result (λ _. tree.new ≡ record tree.old { nodes = tree.new.nodes }) }
     ensures brackets { OnOk result (
         openers.new.brackets
@@ -78,7 +79,7 @@ pub(crate) fn open_bracket(
         is_opener (item_at tree.old.nodes n).body) (sibling_of tree.old.nodes ix) false
         then waiting.live_opener (record { node = ix; is_image = is_image }) ∷ openers.old.wikilinks
         else openers.old.wikilinks)) }
-    ensures refused { IfErr result (λ fault. fault ≡ Fault.Memory) }
+    ensures refused { IfErr result (IsRefused tree.old tree.new) }
 {
     let opener = Opener { node: ix, is_image };
     openers.brackets.push(opener)?;
@@ -111,8 +112,8 @@ fn text_item(start: usize, end: usize) -> Item
     }
 }
 
-/// Puts a link or an image that ends at byte offset `end` into its opener's node. Returns the node at which the chain
-/// continues, which is at byte offset `next` or later. The only error is `Fault::Memory`.
+/// Puts a link or an image that ends at byte offset `end` into its opener's node. Returns the rest of the chain, which
+/// is at byte offset `next` or later. The only error is `Fault::Memory`; the tree is then unchanged.
 fn put_target<'a>(
     tree: &mut Tree<Item>,
     tables: &mut Allocations<'a>,
@@ -121,20 +122,20 @@ fn put_target<'a>(
     target: Target<'a>,
     end: usize,
     next: usize,
-) -> Result<Option<usize>, Fault>
+) -> Result<Rest, Fault>
     requires { (source : List ℕ) × (first : ℕ) × (left : List (Entry ℕ)) × (w : Around)
         × (c : Closing ℕ)
         × (o : Split ℕ) × ClosesAt source (tables_of tables.old) tree.old.nodes first closer left w
         c
         (a_link o (target_view target) end next) × (opener ≡ opener_of o)
         × IsTargetFrom source (start_of o.opener) end target }
-    ensures puts { IfOk result (λ goes_on.
+    ensures puts { IfOk result (λ rest.
         (source : List ℕ) (first : ℕ) (left : List (Entry ℕ)) (w : Around)
         (c : Closing ℕ) (o : Split ℕ)
         → ClosesAt source (tables_of tables.old) tree.old.nodes first closer left w c
         (a_link o (target_view target.entry) end next)
         → opener ≡ opener_of o → IsTargetFrom source (start_of o.opener) end target.entry
-        → PutsClosed source first closer goes_on left w c
+        → PutsClosed source first closer rest left w c
         (a_link o (target_view target.entry) end next)
         tree.old.nodes tree.new.nodes (tables_of tables.old) (tables_of tables.new)) }
     ensures place { IfOk result (λ _. tree.new ≡ record tree.old { nodes = tree.new.nodes }) }
@@ -142,7 +143,7 @@ fn put_target<'a>(
     // on success and on error
     ensures tables { tables.new
         ≡ record tables.old { cows = tables.new.cows; links = tables.new.links } }
-    ensures refused { IfErr result (λ fault. fault ≡ Fault.Memory) }
+    ensures refused { IfErr result (IsRefused tree.old tree.new) }
 {
     let Target {
         link_type,
@@ -156,31 +157,30 @@ fn put_target<'a>(
         end,
         body: link_body(opener.is_image, link),
     };
-    let last = last_before(tree, opener.node, closer);
-    Ok(put_link(tree, opener.node, last, closer, item, next))
+    Ok(put_link(tree, opener.node, closer, item, next))
 }
 
 /// Puts a footnote reference into the nodes of its brackets; the `!` of an opener `![` becomes a Text before it.
-/// Returns the node at which the chain continues. The only error is `Fault::Memory`.
+/// Returns the rest of the chain. The only error is `Fault::Memory`; the tree is then unchanged.
 fn put_reference<'a>(
     tree: &mut Tree<Item>,
     tables: &mut Allocations<'a>,
     closer: usize,
     opener: Opener,
     name: CowStr<'a>,
-) -> Result<Option<usize>, Fault>
+) -> Result<Rest, Fault>
     requires { (source : List ℕ) × (first : ℕ) × (left : List (Entry ℕ)) × (w : Around)
         × (c : Closing ℕ)
         × (o : Split ℕ) × ClosesAt source (tables_of tables.old) tree.old.nodes first closer left w
         c
         (a_footnote o (text_of name)) × (opener ≡ opener_of o) }
-    ensures puts { IfOk result (λ next.
+    ensures puts { IfOk result (λ rest.
         (source : List ℕ) (first : ℕ) (left : List (Entry ℕ)) (w : Around)
         (c : Closing ℕ) (o : Split ℕ)
         → ClosesAt source (tables_of tables.old) tree.old.nodes first closer left w c
         (a_footnote o (text_of name.entry))
         → opener ≡ opener_of o
-        → PutsClosed source first closer next left w c (a_footnote o (text_of name.entry))
+        → PutsClosed source first closer rest left w c (a_footnote o (text_of name.entry))
         tree.old.nodes
         tree.new.nodes (tables_of tables.old) (tables_of tables.new)) }
     ensures place { IfOk result (λ _. tree.new ≡ record tree.old { nodes = tree.new.nodes }) }
@@ -188,7 +188,7 @@ fn put_reference<'a>(
     // on success and on error
     ensures tables { tables.new
         ≡ record tables.old { cows = tables.new.cows; links = tables.new.links } }
-    ensures refused { IfErr result (λ fault. fault ≡ Fault.Memory) }
+    ensures refused { IfErr result (IsRefused tree.old tree.new) }
 {
     let body = ItemBody::FootnoteReference(tables.allocate_cow(name)?);
     let start = tree.item(opener.node).start;
@@ -206,8 +206,8 @@ fn put_reference<'a>(
     Ok(put_footnote(tree, opener.node, closer, item))
 }
 
-/// Puts a wikilink that ends at byte offset `end` into its opener's node, as a link or as an image. Returns the node at
-/// which the chain continues. The only error is `Fault::Memory`.
+/// Puts a wikilink that ends at byte offset `end` into its opener's node, as a link or as an image. Returns the rest of
+/// the chain. The only error is `Fault::Memory`; the tree is then unchanged.
 fn put_wikilink<'a>(
     tree: &mut Tree<Item>,
     tables: &mut Allocations<'a>,
@@ -217,25 +217,25 @@ fn put_wikilink<'a>(
     has_pothole: bool,
     shown: ShownNodes,
     end: usize,
-) -> Result<Option<usize>, Fault>
+) -> Result<Rest, Fault>
     requires { (source : List ℕ) × (first : ℕ) × (left : List (Entry ℕ)) × (w : Around)
         × (c : Closing ℕ)
         × (becomes : Becomes ℕ)
         × ClosesAt source (tables_of tables.old) tree.old.nodes first closer left w c becomes
         × IsBecome w becomes (Wikilinked opener name has_pothole shown end) }
-    ensures puts { IfOk result (λ next.
+    ensures puts { IfOk result (λ rest.
         (source : List ℕ) (first : ℕ) (left : List (Entry ℕ)) (w : Around)
         (c : Closing ℕ) (becomes : Becomes ℕ)
         → ClosesAt source (tables_of tables.old) tree.old.nodes first closer left w c becomes
         → IsBecome w becomes (Wikilinked opener name.entry has_pothole shown end)
-        → PutsClosed source first closer next left w c becomes tree.old.nodes tree.new.nodes
+        → PutsClosed source first closer rest left w c becomes tree.old.nodes tree.new.nodes
         (tables_of tables.old) (tables_of tables.new)) }
     ensures place { IfOk result (λ _. tree.new ≡ record tree.old { nodes = tree.new.nodes }) }
 
     // on success and on error
     ensures tables { tables.new
         ≡ record tables.old { cows = tables.new.cows; links = tables.new.links } }
-    ensures refused { IfErr result (λ fault. fault ≡ Fault.Memory) }
+    ensures refused { IfErr result (IsRefused tree.old tree.new) }
 {
     let link = tables.allocate_link(
         LinkType::WikiLink { has_pothole },
@@ -264,32 +264,32 @@ fn put_wikilink<'a>(
     }
 }
 
-/// Puts what a `]`, the node `closer`, becomes in its place. Returns the node at which the chain continues. The only
-/// error is `Fault::Memory`.
+/// Puts what a `]`, the node `closer`, becomes in its place. Returns the rest of the chain. The only error is
+/// `Fault::Memory`; the tree is then unchanged.
 pub(crate) fn put_closed<'a>(
     tree: &mut Tree<Item>,
     tables: &mut Allocations<'a>,
     closer: usize,
     found: ClosedBracket<'a>,
-) -> Result<Option<usize>, Fault>
+) -> Result<Rest, Fault>
     requires { (source : List ℕ) × (first : ℕ) × (left : List (Entry ℕ)) × (w : Around)
         × (c : Closing ℕ)
         × (becomes : Becomes ℕ)
         × ClosesAt source (tables_of tables.old) tree.old.nodes first closer left w c becomes
         × IsBecome w becomes found }
-    ensures puts { IfOk result (λ next.
+    ensures puts { IfOk result (λ rest.
         (source : List ℕ) (first : ℕ) (left : List (Entry ℕ)) (w : Around)
         (c : Closing ℕ) (becomes : Becomes ℕ)
         → ClosesAt source (tables_of tables.old) tree.old.nodes first closer left w c becomes
         → IsBecome w becomes found.entry
-        → PutsClosed source first closer next left w c becomes tree.old.nodes tree.new.nodes
+        → PutsClosed source first closer rest left w c becomes tree.old.nodes tree.new.nodes
         (tables_of tables.old) (tables_of tables.new)) }
     ensures place { IfOk result (λ _. tree.new ≡ record tree.old { nodes = tree.new.nodes }) }
 
     // on success and on error
     ensures tables { tables.new
         ≡ record tables.old { cows = tables.new.cows; links = tables.new.links } }
-    ensures refused { IfErr result (λ fault. fault ≡ Fault.Memory) }
+    ensures refused { IfErr result (IsRefused tree.old tree.new) }
 {
     match found {
         ClosedBracket::Text => Ok(settle(tree, closer)),

@@ -4,34 +4,36 @@ ghost use Rattle.std.specs.Prelude.{◌≡◌, ◌<◌, ℕ, List, length, Some,
 ghost use Rattle.markdown_base.specs.Arena.{sibling_of};
 ghost use Rattle.markdown_base.specs.ArenaForest.{Spells, forest_at, links_of};
 ghost use Rattle.markdown_base.specs.BlockTree.{item_at};
-ghost use Rattle.markdown_base.specs.Forest.{roots};
 ghost use Rattle.markdown_document.specs.Tables.{Tables};
 ghost use Rattle.markdown_document.specs.NamedEntries.{HasGrown};
 ghost use Rattle.markdown_resolver.specs.Chains.{CanResolve};
-ghost use Rattle.markdown_resolver.specs.Rewritten.{CanPut, CanPutPair, CanPutParent, IsFoundAt, Puts, first_past};
+ghost use Rattle.markdown_resolver.specs.Rewritten.{CanPut, CanPutPair, CanPutParent, IsFoundAt, IsRestPast, Puts};
 ghost use Rattle.markdown_resolver.specs.Rewritten.{settled, one_item, pair, parent};
 ghost use Rattle.markdown_resolver.specs.Settling.{IsWritten, begun_from};
 
+use crate::rest::Rest;
 use crate::settling::settle_node;
 use markdown_base::item::Item;
 use markdown_base::tree::Tree;
 use std::alloc::AllocError;
 
-/// Returns the first node of a chain, from a link on, whose item ends after byte offset `end`.
-pub(crate) fn first_past(tree: &Tree<Item>, first: Option<usize>, end: usize) -> Option<usize>
+/// Returns the first node of a chain, from a link on, whose item ends after byte offset `end`, and the number of nodes
+/// before it.
+pub(crate) fn first_past(tree: &Tree<Item>, first: Option<usize>, end: usize) -> Rest
     requires { Spells (links_of tree.now.nodes) first (forest_at (links_of tree.now.nodes) first) }
-    ensures value { result
-        ≡ first_past tree.now.nodes end (roots (forest_at (links_of tree.now.nodes) first)) }
-    ensures within { IfSome result (λ ix. ix < length tree.now.nodes) }
+    ensures past { IsRestPast tree.now.nodes end first result }
+    ensures within { IfSome result.next (λ ix. ix < length tree.now.nodes) }
 {
-    let mut at = first;
-    'chain: while let Some(ix) = at {
+    let mut next = first;
+    let mut passed = 0;
+    'chain: while let Some(ix) = next {
         if tree.item(ix).end > end {
-            return Some(ix);
+            return Rest { next, passed };
         }
-        at = tree.next(ix);
+        next = tree.next(ix);
+        passed += 1;
     }
-    None
+    Rest { next, passed }
 }
 
 /// Lets the item that a link leads to start at byte offset `start` or later.
@@ -64,23 +66,23 @@ pub(crate) fn write_node(tree: &mut Tree<Item>, ix: usize, item: Item, next: Opt
 }
 
 /// Settles an item at which nothing is found: it becomes a Text, unless it is not open or waits for pairing. Returns
-/// the next node of the chain.
-pub(crate) fn settle(tree: &mut Tree<Item>, ix: usize) -> Option<usize>
+/// the rest of the chain.
+pub(crate) fn settle(tree: &mut Tree<Item>, ix: usize) -> Rest
     requires { (source : List ℕ) × (tables : Tables)
         × CanResolve source tables tree.old.nodes (Some ix) }
     ensures puts { (source : List ℕ) (tables : Tables)
         → CanResolve source tables tree.old.nodes (Some ix)
         → Puts source ix (settled source) None result tree.old.nodes tree.new.nodes tables tables }
-    ensures next { result ≡ sibling_of tree.old.nodes ix }
+    ensures next { result.next ≡ sibling_of tree.old.nodes ix }
     ensures place { tree.new ≡ record tree.old { nodes = tree.new.nodes } }
 {
     let next = tree.next(ix);
     settle_node(tree, ix);
-    next
+    Rest { next, passed: 0 }
 }
 
-/// Puts an item into the node of its opener. Returns the node at which the chain continues.
-pub(crate) fn put_found(tree: &mut Tree<Item>, ix: usize, item: Item) -> Option<usize>
+/// Puts an item into the node of its opener. Returns the rest of the chain.
+pub(crate) fn put_found(tree: &mut Tree<Item>, ix: usize, item: Item) -> Rest
     requires { (source : List ℕ) × (tables : Tables) × (tables' : Tables) × HasGrown tables tables'
         × IsFoundAt source tables tree.old.nodes ix item.end × CanPut source tables tables' item
         × (item.start ≡ (item_at tree.old.nodes ix).start) }
@@ -92,20 +94,20 @@ pub(crate) fn put_found(tree: &mut Tree<Item>, ix: usize, item: Item) -> Option<
     ensures place { tree.new ≡ record tree.old { nodes = tree.new.nodes } }
 {
     let rest = first_past(tree, tree.next(ix), item.end);
-    write_node(tree, ix, item, rest);
-    begin_from(tree, rest, item.end);
+    write_node(tree, ix, item, rest.next);
+    begin_from(tree, rest.next, item.end);
     rest
 }
 
-/// Puts two items into the nodes of an opener and of its closer, which follows it in the chain. Returns the node at
-/// which the chain continues.
+/// Puts two items into the nodes of an opener and of its closer, which follows it in the chain. Returns the rest of the
+/// chain.
 pub(crate) fn put_pair(
     tree: &mut Tree<Item>,
     ix: usize,
     first: Item,
     closer: usize,
     second: Item,
-) -> Option<usize>
+) -> Rest
     requires { (source : List ℕ) × (tables : Tables) × (tables' : Tables) × HasGrown tables tables'
         × IsFoundAt source tables tree.old.nodes ix second.end
         × CanPutPair source tables tables' tree.old.nodes ix closer first second }
@@ -117,29 +119,29 @@ pub(crate) fn put_pair(
         tables tables' }
     ensures place { tree.new ≡ record tree.old { nodes = tree.new.nodes } }
 {
+    let rest = first_past(tree, tree.next(ix), second.end);
     write_node(tree, ix, first, Some(closer));
-    let rest = first_past(tree, tree.next(closer), second.end);
-    write_node(tree, closer, second, rest);
-    begin_from(tree, rest, second.end);
+    write_node(tree, closer, second, rest.next);
+    begin_from(tree, rest.next, second.end);
     rest
 }
 
-/// Puts an item with one child into the node of its opener. Returns the node at which the chain continues, or an error
-/// where memory is refused; the tree is then unchanged.
+/// Puts an item with one child into the node of its opener. Returns the rest of the chain, or an error where memory is
+/// refused; the tree is then unchanged.
 pub(crate) fn put_parent(
     tree: &mut Tree<Item>,
     ix: usize,
     item: Item,
     inside: Item,
-) -> Result<Option<usize>, AllocError>
+) -> Result<Rest, AllocError>
     requires { (source : List ℕ) × (tables : Tables) × (tables' : Tables) × HasGrown tables tables'
         × IsFoundAt source tables tree.old.nodes ix item.end
         × CanPutParent source tables tables' tree.old.nodes ix item inside }
-    ensures puts { IfOk result (λ next. (source : List ℕ) (tables tables' : Tables)
+    ensures puts { IfOk result (λ rest. (source : List ℕ) (tables tables' : Tables)
         → HasGrown tables tables'
         → IsFoundAt source tables tree.old.nodes ix item.end
         → CanPutParent source tables tables' tree.old.nodes ix item inside
-        → Puts source ix (parent source tables' item inside) (Some item.end) next tree.old.nodes
+        → Puts source ix (parent source tables' item inside) (Some item.end) rest tree.old.nodes
         tree.new.nodes tables
         tables') }
     ensures place { IfOk result (λ _. tree.new ≡ record tree.old { nodes = tree.new.nodes }) }
@@ -148,7 +150,7 @@ pub(crate) fn put_parent(
     let rest = first_past(tree, tree.next(ix), item.end);
     let child = tree.create_node(inside)?;
     tree.set_child(ix, Some(child));
-    write_node(tree, ix, item, rest);
-    begin_from(tree, rest, item.end);
+    write_node(tree, ix, item, rest.next);
+    begin_from(tree, rest.next, item.end);
     Ok(rest)
 }

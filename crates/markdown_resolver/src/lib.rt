@@ -9,5 +9,6 @@ pub mod laws;
 pub mod links;
 mod markup;
 pub mod resolver;
+pub mod rest;
 mod settling;
 mod spans;

@@ -10,6 +10,7 @@ ghost use Rattle.markdown_resolver.specs.ClosedOver.{over_text};
 ghost use Rattle.markdown_resolver.specs.Rewritten.{CanPut};
 
 use crate::found::{begin_from, first_past, write_node};
+use crate::rest::Rest;
 use markdown_base::item::Item;
 use markdown_base::tree::Tree;
 
@@ -28,46 +29,39 @@ fn enclose(tree: &mut Tree<Item>, opener: usize, last: usize, closer: usize)
     tree.set_next(opener, Some(closer));
 }
 
-/// Puts a link or an image into the node of its opener, over what is inside, of which `last` is the last node. Returns
-/// the node at which the chain continues, which is at byte offset `next_byte` or later.
+/// Puts a link or an image into the node of its opener, over what is inside. Returns the rest of the chain, which is at
+/// byte offset `next_byte` or later.
 pub fn put_link(
     tree: &mut Tree<Item>,
     opener: usize,
-    last: usize,
     closer: usize,
     item: Item,
     next_byte: usize,
-) -> Option<usize>
+) -> Rest
     requires { (source : List ℕ) × (tables : Tables) × (tables' : Tables) × (inside : List ℕ)
         × HasGrown tables tables'
         × CanClose source tables tree.old.nodes opener closer inside next_byte
-        × CanPutOver source tables tables' tree.old.nodes opener item next_byte
-        × (last_inside opener inside ≡ last) }
+        × CanPutOver source tables tables' tree.old.nodes opener item next_byte }
     ensures puts { (source : List ℕ) (tables tables' : Tables) (inside : List ℕ)
         → HasGrown tables tables'
         → CanClose source tables tree.old.nodes opener closer inside next_byte
         → CanPutOver source tables tables' tree.old.nodes opener item next_byte
-        → last_inside opener inside ≡ last
         → PutsOver source opener closer inside (over_inside source tables' item) next_byte
         (opener ∷ []) result
         tree.old.nodes tree.new.nodes tables tables' }
     ensures place { tree.new ≡ record tree.old { nodes = tree.new.nodes } }
 {
+    let rest = first_past(tree, tree.next(closer), next_byte);
+    let last = last_before(tree, opener, closer);
     enclose(tree, opener, last, closer);
-    let rest = first_past(tree, Some(closer), next_byte);
-    write_node(tree, opener, item, rest);
-    begin_from(tree, rest, next_byte);
+    write_node(tree, opener, item, rest.next);
+    begin_from(tree, rest.next, next_byte);
     rest
 }
 
 /// Puts a footnote reference, which ends where its closer does, into the node of its opener. What was inside leaves the
-/// chain. Returns the node at which the chain continues.
-pub fn put_footnote(
-    tree: &mut Tree<Item>,
-    opener: usize,
-    closer: usize,
-    item: Item,
-) -> Option<usize>
+/// chain. Returns the rest of the chain.
+pub fn put_footnote(tree: &mut Tree<Item>, opener: usize, closer: usize, item: Item) -> Rest
     requires { (source : List ℕ) × (tables : Tables) × (tables' : Tables) × (inside : List ℕ)
         × HasGrown tables tables'
         × CanClose source tables tree.old.nodes opener closer inside item.end
@@ -84,20 +78,20 @@ pub fn put_footnote(
     ensures place { tree.new ≡ record tree.old { nodes = tree.new.nodes } }
 {
     let rest = first_past(tree, tree.next(closer), item.end);
-    write_node(tree, opener, item, rest);
-    begin_from(tree, rest, item.end);
+    write_node(tree, opener, item, rest.next);
+    begin_from(tree, rest.next, item.end);
     rest
 }
 
 /// Puts a Text for the `!` of an opener into its node, and a footnote reference, which ends where its closer does, into
-/// the closer's node. What was inside leaves the chain. Returns the node at which the chain continues.
+/// the closer's node. What was inside leaves the chain. Returns the rest of the chain.
 pub fn put_image_footnote(
     tree: &mut Tree<Item>,
     opener: usize,
     closer: usize,
     mark: Item,
     item: Item,
-) -> Option<usize>
+) -> Rest
     requires { (source : List ℕ) × (tables : Tables) × (tables' : Tables) × (inside : List ℕ)
         × HasGrown tables tables'
         × CanClose source tables tree.old.nodes opener closer inside item.end
@@ -111,10 +105,10 @@ pub fn put_image_footnote(
         result tree.old.nodes tree.new.nodes tables tables' }
     ensures place { tree.new ≡ record tree.old { nodes = tree.new.nodes } }
 {
-    write_node(tree, opener, mark, Some(closer));
     let rest = first_past(tree, tree.next(closer), item.end);
-    write_node(tree, closer, item, rest);
-    begin_from(tree, rest, item.end);
+    write_node(tree, opener, mark, Some(closer));
+    write_node(tree, closer, item, rest.next);
+    begin_from(tree, rest.next, item.end);
     rest
 }
 
@@ -138,8 +132,7 @@ pub(crate) fn last_before(tree: &Tree<Item>, opener: usize, closer: usize) -> us
 }
 
 /// Puts a wikilink that shows its name into the node of its opener, with a Text for the name below it, in the node
-/// `first`. All else that was inside leaves the chain. Returns the node at which the chain continues after the
-/// wikilink.
+/// `first`. All else that was inside leaves the chain. Returns the rest of the chain.
 pub(crate) fn put_wikilink_name(
     tree: &mut Tree<Item>,
     opener: usize,
@@ -147,7 +140,7 @@ pub(crate) fn put_wikilink_name(
     closer: usize,
     item: Item,
     inside: Item,
-) -> Option<usize>
+) -> Rest
     requires { (source : List ℕ) × (tables : Tables) × (tables' : Tables) × (nodes : List ℕ)
         × (skipped : List ℕ)
         × (shown : List ℕ) × HasGrown tables tables'
@@ -166,17 +159,17 @@ pub(crate) fn put_wikilink_name(
         tree.old.nodes tree.new.nodes tables tables' }
     ensures place { tree.new ≡ record tree.old { nodes = tree.new.nodes } }
 {
-    let rest = first_past(tree, Some(closer), item.end);
+    let rest = first_past(tree, tree.next(closer), item.end);
     tree.set_child(opener, Some(first));
     tree.set_child(first, None);
     write_node(tree, first, inside, None);
-    write_node(tree, opener, item, rest);
-    begin_from(tree, rest, item.end);
+    write_node(tree, opener, item, rest.next);
+    begin_from(tree, rest.next, item.end);
     rest
 }
 
 /// Puts a wikilink that shows what is inside it from byte offset `from` on, which begins in the node `first`, into the
-/// node of its opener, with that below it. Returns the node at which the chain continues after the wikilink.
+/// node of its opener, with that below it. Returns the rest of the chain.
 pub(crate) fn put_wikilink_shown(
     tree: &mut Tree<Item>,
     opener: usize,
@@ -184,7 +177,7 @@ pub(crate) fn put_wikilink_shown(
     closer: usize,
     item: Item,
     from: usize,
-) -> Option<usize>
+) -> Rest
     requires { (source : List ℕ) × (tables : Tables) × (tables' : Tables) × (nodes : List ℕ)
         × (skipped : List ℕ)
         × HasGrown tables tables'
@@ -201,11 +194,11 @@ pub(crate) fn put_wikilink_shown(
         (opener ∷ []) result tree.old.nodes tree.new.nodes tables tables' }
     ensures place { tree.new ≡ record tree.old { nodes = tree.new.nodes } }
 {
+    let rest = first_past(tree, tree.next(closer), item.end);
     enclose(tree, opener, last_before(tree, opener, closer), closer);
     tree.set_child(opener, Some(first));
     begin_from(tree, Some(first), from);
-    let rest = first_past(tree, Some(closer), item.end);
-    write_node(tree, opener, item, rest);
-    begin_from(tree, rest, item.end);
+    write_node(tree, opener, item, rest.next);
+    begin_from(tree, rest.next, item.end);
     rest
 }

@@ -10,10 +10,11 @@ ghost use Rattle.markdown_spans.specs.AfterLess.{autolink};
 ghost use Rattle.markdown_spans.specs.Finds.{end_of_markup};
 ghost use Rattle.markdown_spans.specs.MarkupView.{markup_of};
 ghost use Rattle.markdown_resolver.specs.MarkupItems.{IsMarkupAt, item_to, standing_for};
-ghost use Rattle.markdown_resolver.specs.Rewritten.{CanPut, IsFoundAt, Puts, one_item};
+ghost use Rattle.markdown_resolver.specs.Rewritten.{CanPut, IsFoundAt, IsRefused, Puts, one_item};
 
 use crate::found::{put_found, put_parent, settle};
 use crate::resolver::Resolver;
+use crate::rest::Rest;
 use markdown_base::cow_str::CowStr;
 use markdown_base::fault::Fault;
 use markdown_base::item::{Item, ItemBody};
@@ -30,24 +31,24 @@ impl<'a, F: BrokenLinkCallback<'a>> Resolver<'a, F> {
 
     /// Reads a `<`: an absolute-URI autolink (CommonMark 6.5) or raw HTML (6.6), if there is one and the next item
     /// starts directly after the `<`; otherwise the `<` becomes a Text, as it does where it is not before the block's
-    /// end. The scanner has to be one of the text up to that end. Returns the node at which the chain continues. The
-    /// only error is `Fault::Memory`.
+    /// end. The scanner has to be one of the text up to that end. Returns the rest of the chain. The only error is
+    /// `Fault::Memory`; the tree is then unchanged.
     pub(crate) fn read_markup(
         &mut self,
         tree: &mut Tree<Item>,
         place: &ChainPlace<'a>,
         scanner: &mut RawHtmlScanner<'a>,
         ix: usize,
-    ) -> Result<Option<usize>, Fault>
+    ) -> Result<Rest, Fault>
         requires ready { CanReadOther place.now tree.old self.old ix }
         requires opener { (item_at tree.old.nodes ix).body ≡ body.MaybeHtml }
         requires scanner { scanner.old.text.now ≡ take place.now.block_end place.now.text.now }
-        ensures reads { IfOk result (λ next.
-            ReadsOther ix next tree.old tree.new self.old self.new) }
+        ensures reads { IfOk result (λ rest.
+            ReadsOther ix rest tree.old tree.new self.old self.new) }
 
         // on error, and then on success and on error
         ensures stops { IfErr result (λ _. StopsLooking ix tree.old self.old self.new) }
-        ensures refused { IfErr result (λ fault. fault ≡ Fault.Memory) }
+        ensures refused { IfErr result (IsRefused tree.old tree.new) }
         ensures kept { ChangesForOther self.old self.new }
         ensures scanner { scanner.new.text ≡ scanner.old.text }
     {
@@ -75,27 +76,27 @@ fn starts_at(tree: &Tree<Item>, link: Option<usize>, start: usize) -> bool
     }
 }
 
-/// Puts what was found into the node of its `<`. Returns the node at which the chain continues. The only error is
-/// `Fault::Memory`.
+/// Puts what was found into the node of its `<`. Returns the rest of the chain. The only error is `Fault::Memory`; the
+/// tree is then unchanged.
 fn put_markup<'a>(
     tree: &mut Tree<Item>,
     tables: &mut Allocations<'a>,
     ix: usize,
     found: MarkupFound<'a>,
-) -> Result<Option<usize>, Fault>
+) -> Result<Rest, Fault>
     requires { (source : List ℕ)
         × IsMarkupAt source (tables_of tables.old) tree.old.nodes ix (markup_of found) }
-    ensures puts { IfOk result (λ next. (source : List ℕ) (rules : Rules)
+    ensures puts { IfOk result (λ rest. (source : List ℕ) (rules : Rules)
         → IsMarkupAt source (tables_of tables.old) tree.old.nodes ix (markup_of found.entry)
         → Puts source ix (standing_for source rules (markup_of found.entry))
-        (Some (end_of_markup (markup_of found.entry))) next
+        (Some (end_of_markup (markup_of found.entry))) rest
         tree.old.nodes tree.new.nodes (tables_of tables.old) (tables_of tables.new)) }
     ensures place { IfOk result (λ _. tree.new ≡ record tree.old { nodes = tree.new.nodes }) }
 
     // on success and on error
     ensures tables { tables.new
         ≡ record tables.old { cows = tables.new.cows; links = tables.new.links } }
-    ensures refused { IfErr result (λ fault. fault ≡ Fault.Memory) }
+    ensures refused { IfErr result (IsRefused tree.old tree.new) }
 {
     match found {
         MarkupFound::Autolink(end, uri) => put_autolink(tree, tables, ix, end, uri),
@@ -107,9 +108,8 @@ fn put_markup<'a>(
     }
 }
 
-/// Puts raw HTML that ends at byte offset `end` into the node of its `<`. Returns the node at which the chain
-/// continues.
-fn put_html(tree: &mut Tree<Item>, ix: usize, end: usize, body: ItemBody) -> Option<usize>
+/// Puts raw HTML that ends at byte offset `end` into the node of its `<`. Returns the rest of the chain.
+fn put_html(tree: &mut Tree<Item>, ix: usize, end: usize, body: ItemBody) -> Rest
     requires { (source : List ℕ) × (tables : Tables) × (tables' : Tables) × HasGrown tables tables'
         × IsFoundAt source tables tree.old.nodes ix end
         × CanPut source tables tables' (item_to tree.old.nodes ix end body) }
@@ -126,25 +126,25 @@ fn put_html(tree: &mut Tree<Item>, ix: usize, end: usize, body: ItemBody) -> Opt
 }
 
 /// Puts an autolink that ends at byte offset `end` into the node of its `<`, with its URI as a Text below it. Returns
-/// the node at which the chain continues. The only error is `Fault::Memory`.
+/// the rest of the chain. The only error is `Fault::Memory`; the tree is then unchanged.
 fn put_autolink<'a>(
     tree: &mut Tree<Item>,
     tables: &mut Allocations<'a>,
     ix: usize,
     end: usize,
     uri: &'a str,
-) -> Result<Option<usize>, Fault>
+) -> Result<Rest, Fault>
     requires { (source : List ℕ)
         × IsMarkupAt source (tables_of tables.old) tree.old.nodes ix (autolink end uri.now) }
-    ensures puts { IfOk result (λ next. (source : List ℕ) (rules : Rules)
+    ensures puts { IfOk result (λ rest. (source : List ℕ) (rules : Rules)
         → IsMarkupAt source (tables_of tables.old) tree.old.nodes ix (autolink end uri.now)
-        → Puts source ix (standing_for source rules (autolink end uri.now)) (Some end) next
+        → Puts source ix (standing_for source rules (autolink end uri.now)) (Some end) rest
         tree.old.nodes tree.new.nodes (tables_of tables.old) (tables_of tables.new)) }
     ensures place { IfOk result (λ _. tree.new ≡ record tree.old { nodes = tree.new.nodes }) }
 
     // on success and on error
     ensures tables { tables.new ≡ record tables.old { links = tables.new.links } }
-    ensures refused { IfErr result (λ fault. fault ≡ Fault.Memory) }
+    ensures refused { IfErr result (IsRefused tree.old tree.new) }
 {
     let item = *tree.item(ix);
     let link = tables.allocate_link(

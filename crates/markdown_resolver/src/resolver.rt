@@ -4,6 +4,7 @@ use crate::bracket_kind::{BracketKind, kind_of};
 use crate::brackets::{open_bracket, put_closed};
 use crate::chain_place::place_of_chain;
 use crate::found::settle;
+use crate::rest::Rest;
 use markdown_base::fault::Fault;
 use markdown_base::item::{Item, ItemBody};
 use markdown_base::options::Options;
@@ -44,8 +45,9 @@ pub struct Resolver<'a, F> {
 }
 
 impl<'a, F: BrokenLinkCallback<'a>> Resolver<'a, F> {
-    ghost use Rattle.std.specs.Prelude.{◌≡◌, ℕ, List, true, Some, IfOk, IfErr, IfSome};
+    ghost use Rattle.std.specs.Prelude.{◌≡◌, ℕ, suc, List, true, Some, IfOk, IfErr, IfSome};
     ghost use Rattle.std.specs.Prelude.{OnErr, is_some, take, false, None, []};
+    ghost use Rattle.markdown_base.specs.ArenaForest.{Spells, forest_at, links_of};
     ghost use Rattle.markdown_base.specs.BlockTree.{item_at};
     ghost use Rattle.markdown_brackets.specs.Reference.{is_closer};
     ghost use Rattle.markdown_brackets.specs.SpentEnds.{is_spent};
@@ -55,8 +57,9 @@ impl<'a, F: BrokenLinkCallback<'a>> Resolver<'a, F> {
     ghost use Rattle.markdown_document.specs.Stages.{items_from, stage, above_cursor};
     ghost use Rattle.markdown_document.specs.Tables.{tables_of};
     ghost use Rattle.markdown_resolver.specs.BracketKinds.{kind_of};
-    ghost use Rattle.markdown_resolver.specs.Chains.{CanResolve, ResolvesChain, StopsIn};
+    ghost use Rattle.markdown_resolver.specs.Chains.{ResolvesChain, StopsIn};
     ghost use Rattle.markdown_resolver.specs.ReadOn.{StopsInPassOne};
+    ghost use Rattle.markdown_resolver.specs.Rewritten.{IsRefused};
     ghost use Rattle.markdown_resolver.specs.ReadsBracket.{CanReadNode, ChangesForBracket, ChangesForDecision};
     ghost use Rattle.markdown_resolver.specs.ReadsBracket.{ChangesForNode, DecidesClosing};
     ghost use Rattle.markdown_resolver.specs.ReadsBracket.{CanReadOther, ChangesForOther, ReadsBracket, ReadsNode};
@@ -65,22 +68,22 @@ impl<'a, F: BrokenLinkCallback<'a>> Resolver<'a, F> {
     ghost use Rattle.markdown_resolver.specs.ReadsChain.{CanResolveBelow, ChangesForChain, KeepsInput, ReadCounts, ReadsChain};
 
     /// Reads the item of a node of a chain, which is not a bracket. The scanner has to be one of the text up to the
-    /// block's end. Returns the node at which the chain continues. The only error is `Fault::Memory`.
+    /// block's end. Returns the rest of the chain. The only error is `Fault::Memory`; the tree is then unchanged.
     fn read_other(
         &mut self,
         tree: &mut Tree<Item>,
         place: &ChainPlace<'a>,
         scanner: &mut RawHtmlScanner<'a>,
         ix: usize,
-    ) -> Result<Option<usize>, Fault>
+    ) -> Result<Rest, Fault>
         requires ready { CanReadOther place.now tree.old self.old ix }
         requires scanner { scanner.old.text.now ≡ take place.now.block_end place.now.text.now }
-        ensures reads { IfOk result (λ next.
-            ReadsOther ix next tree.old tree.new self.old self.new) }
+        ensures reads { IfOk result (λ rest.
+            ReadsOther ix rest tree.old tree.new self.old self.new) }
 
         // on error, and then on success and on error
         ensures stops { IfErr result (λ _. StopsLooking ix tree.old self.old self.new) }
-        ensures refused { IfErr result (λ fault. fault ≡ Fault.Memory) }
+        ensures refused { IfErr result (IsRefused tree.old tree.new) }
         ensures kept { ChangesForOther self.old self.new }
         ensures scanner { scanner.new.text ≡ scanner.old.text }
     {
@@ -123,25 +126,25 @@ impl<'a, F: BrokenLinkCallback<'a>> Resolver<'a, F> {
         decide_bracket(&closer, &mut self.waiting, &mut self.lookup)
     }
 
-    /// Reads a `]`: decides what it becomes, and puts that in place. Returns the node at which the chain continues. The
-    /// only error is `Fault::Memory`.
+    /// Reads a `]`: decides what it becomes, and puts that in place. Returns the rest of the chain. The only error is
+    /// `Fault::Memory`; the tree is then unchanged.
     fn close_bracket(
         &mut self,
         tree: &mut Tree<Item>,
         place: &ChainPlace<'a>,
         ix: usize,
-    ) -> Result<Option<usize>, Fault>
+    ) -> Result<Rest, Fault>
         requires can_ask { IfSome self.old.lookup.callback F.can_ask }
         requires ready { CanReadNode place.now tree.old self.old ix }
         requires closes { is_closer (item_at tree.old.nodes ix).body ≡ true }
-        ensures reads { IfOk result (λ next.
-            ReadsBracket F.answers place.now ix next tree.old tree.new self.old self.new) }
+        ensures reads { IfOk result (λ rest.
+            ReadsBracket F.answers place.now ix rest tree.old tree.new self.old self.new) }
 
         // on an error, and in any case
         ensures stops { IfErr result (λ _.
             StopsAtNode F.answers place.now ix tree.old self.old self.new.lookup.callback) }
         ensures again { IfSome self.new.lookup.callback F.can_ask }
-        ensures refused { IfErr result (λ fault. fault ≡ Fault.Memory) }
+        ensures refused { IfErr result (IsRefused tree.old tree.new) }
         ensures kept { ChangesForBracket self.old self.new }
     {
         let found = self.decide_closing(tree, place, ix)?;
@@ -149,25 +152,26 @@ impl<'a, F: BrokenLinkCallback<'a>> Resolver<'a, F> {
         put_closed(tree, &mut self.lookup.tables, ix, found)
     }
 
-    /// Reads a bracket of a chain. Returns the node at which the chain continues. The only error is `Fault::Memory`.
+    /// Reads a bracket of a chain. Returns the rest of the chain. The only error is `Fault::Memory`; the tree is then
+    /// unchanged.
     fn read_bracket(
         &mut self,
         tree: &mut Tree<Item>,
         place: &ChainPlace<'a>,
         ix: usize,
         bracket: BracketKind,
-    ) -> Result<Option<usize>, Fault>
+    ) -> Result<Rest, Fault>
         requires can_ask { IfSome self.old.lookup.callback F.can_ask }
         requires ready { CanReadNode place.now tree.old self.old ix }
         requires bracket { kind_of (item_at tree.old.nodes ix).body ≡ Some bracket }
-        ensures reads { IfOk result (λ next.
-            ReadsBracket F.answers place.now ix next tree.old tree.new self.old self.new) }
+        ensures reads { IfOk result (λ rest.
+            ReadsBracket F.answers place.now ix rest tree.old tree.new self.old self.new) }
 
         // on an error, and in any case
         ensures stops { IfErr result (λ _.
             StopsAtNode F.answers place.now ix tree.old self.old self.new.lookup.callback) }
         ensures again { IfSome self.new.lookup.callback F.can_ask }
-        ensures refused { IfErr result (λ fault. fault ≡ Fault.Memory) }
+        ensures refused { IfErr result (IsRefused tree.old tree.new) }
         ensures kept { ChangesForBracket self.old self.new }
     {
         match bracket {
@@ -179,7 +183,7 @@ impl<'a, F: BrokenLinkCallback<'a>> Resolver<'a, F> {
     }
 
     /// Reads the item of a node of a chain. The scanner has to be one of the text up to the block's end. Returns the
-    /// node at which the chain continues. The only error is `Fault::Memory`.
+    /// rest of the chain. The only error is `Fault::Memory`; the tree is then unchanged.
     // only the loop over a chain calls this: without inlining, links would take 4 % more instructions
     #[inline(always)]
     fn read_item(
@@ -188,15 +192,15 @@ impl<'a, F: BrokenLinkCallback<'a>> Resolver<'a, F> {
         place: &ChainPlace<'a>,
         scanner: &mut RawHtmlScanner<'a>,
         ix: usize,
-    ) -> Result<Option<usize>, Fault>
+    ) -> Result<Rest, Fault>
         requires can_ask { IfSome self.old.lookup.callback F.can_ask }
         requires ready { CanReadNode place.now tree.old self.old ix }
         requires scanner { scanner.old.text.now ≡ take place.now.block_end place.now.text.now }
-        ensures reads { IfOk result (λ next.
-            ReadsNode F.answers place.now ix next tree.old tree.new self.old self.new) }
+        ensures reads { IfOk result (λ rest.
+            ReadsNode F.answers place.now ix rest tree.old tree.new self.old self.new) }
 
         // on an error, and in any case
-        ensures stops { IfErr result (StopsReading F.answers place.now ix tree.old self.old
+        ensures stops { IfErr result (StopsReading F.answers place.now ix tree.old tree.new self.old
             self.new) }
         ensures again { IfSome self.new.lookup.callback F.can_ask }
         ensures scanner { scanner.new.text ≡ scanner.old.text }
@@ -208,10 +212,10 @@ impl<'a, F: BrokenLinkCallback<'a>> Resolver<'a, F> {
         }
     }
 
-    /// Counts the items of the chain from the node `first` on.
+    /// Counts the items of the chain from the node `first` on, which are not read.
     fn count_items(&mut self, tree: &Tree<Item>, first: usize)
-        requires { CanResolve self.old.text.now (tables_of self.old.lookup.tables) tree.now.nodes
-            (Some first) }
+        requires { Spells (links_of tree.now.nodes) (Some first)
+            (forest_at (links_of tree.now.nodes) (Some first)) }
         ensures { self.new ≡ record self.old {
           work = record self.old.work {
             items = risen (items_from tree.now.nodes (Some first)) self.old.work.items;
@@ -225,30 +229,33 @@ impl<'a, F: BrokenLinkCallback<'a>> Resolver<'a, F> {
         }
     }
 
-    /// Begins the chain from the node `first` on: counts its items, and discards what was held for the last chain.
-    fn begin_chain(&mut self, tree: &Tree<Item>, first: usize)
-        requires { CanResolve self.old.text.now (tables_of self.old.lookup.tables) tree.now.nodes
-            (Some first) }
+    /// Counts an item that was read, and those that were passed after it.
+    fn count_read(&mut self, passed: usize)
+        ensures { self.new ≡ record self.old {
+          work = record self.old.work { items = risen (suc passed) self.old.work.items };
+        } }
+    {
+        self.work.items = self.work.items.saturating_add(passed as u128 + 1);
+    }
+
+    /// Discards what was held for the last chain.
+    fn begin_chain(&mut self)
         ensures brackets { self.new.waiting.openers.brackets ≡ [] }
         ensures wikilinks { self.new.waiting.openers.wikilinks ≡ [] }
         ensures spent { (end : ℕ) → is_spent self.new.waiting.spent end ≡ false }
         ensures kept { self.new ≡ record self.old {
           waiting = self.new.waiting;
-          work = record self.old.work {
-            items = risen (items_from tree.now.nodes (Some first)) self.old.work.items;
-          };
           code_closers = None;
           math_closers = None;
         } }
     {
-        self.count_items(tree, first);
         self.waiting.clear();
         self.code_closers.clear();
         self.math_closers.clear();
     }
 
-    /// Reads the chain from the node `first` on in place, in pass one: counts its items, and then reads them from left
-    /// to right. The only error is `Fault::Memory`.
+    /// Reads the chain from the node `first` on in place, in pass one, from left to right, and counts its items. The only
+    /// error is `Fault::Memory`.
     fn read_chain(&mut self, tree: &mut Tree<Item>, first: usize) -> Result<(), Fault>
         requires can_ask { IfSome self.old.lookup.callback F.can_ask }
         requires ready { CanResolveBelow self.old.text.now (tables_of self.old.lookup.tables) tree.old
@@ -266,12 +273,22 @@ impl<'a, F: BrokenLinkCallback<'a>> Resolver<'a, F> {
             self.new.work }
         ensures kept { ChangesForChain self.old self.new }
     {
-        self.begin_chain(tree, first);
+        self.begin_chain();
         let place = place_of_chain(tree, self.text, self.options);
         let mut scanner = RawHtmlScanner::new(self.text[..place.block_end].as_bytes());
         let mut at = Some(first);
         'chain: while let Some(ix) = at {
-            at = self.read_item(tree, &place, &mut scanner, ix)?;
+            match self.read_item(tree, &place, &mut scanner, ix) {
+                Ok(rest) => {
+                    self.count_read(rest.passed);
+                    at = rest.next;
+                }
+                Err(fault) => {
+                    // the tree is unchanged since the item before
+                    self.count_items(tree, ix);
+                    return Err(fault);
+                }
+            }
         }
         Ok(())
     }

@@ -19,11 +19,12 @@ ghost use Rattle.markdown_spans.specs.Finds.{is_escaped};
 ghost use Rattle.markdown_spans.specs.MathOpening.{dollar_at};
 ghost use Rattle.markdown_resolver.specs.ChainPlace.{IsPlaceOf};
 ghost use Rattle.markdown_resolver.specs.PutCode.{CanPutCode, code_standing};
-ghost use Rattle.markdown_resolver.specs.Rewritten.{Puts};
+ghost use Rattle.markdown_resolver.specs.Rewritten.{IsRefused, Puts};
 ghost use Rattle.markdown_resolver.specs.StoredText.{CanCut, StoresText, text_between};
 
 use crate::found::{put_found, put_pair, settle};
 use crate::resolver::Resolver;
+use crate::rest::Rest;
 use markdown_base::cow_str::CowStr;
 use markdown_base::fault::Fault;
 use markdown_base::index::CowIndex;
@@ -78,9 +79,8 @@ fn end_of(tree: &Tree<Item>, ix: usize) -> usize
 }
 
 /// Puts a code span into the node of its opener. Where the opener's first backtick is escaped, that backtick becomes a
-/// Text in this node, and the span, which begins after it, goes into the closer's node. Returns the node at which the
-/// chain continues.
-fn put_code(tree: &mut Tree<Item>, ix: usize, closer: usize, body: ItemBody) -> Option<usize>
+/// Text in this node, and the span, which begins after it, goes into the closer's node. Returns the rest of the chain.
+fn put_code(tree: &mut Tree<Item>, ix: usize, closer: usize, body: ItemBody) -> Rest
     requires { (source : List ℕ) × (tables : Tables) × (tables' : Tables)
         × CanPutCode source tables tables' tree.old.nodes ix closer body }
     ensures puts { (source : List ℕ) (tables tables' : Tables)
@@ -184,24 +184,24 @@ impl<'a, F: BrokenLinkCallback<'a>> Resolver<'a, F> {
         self.lookup.tables.allocate_cow(text)
     }
 
-    /// Reads a backtick run: a code span (CommonMark 6.1), if an item closes it, and otherwise a Text. Where a backslash
-    /// precedes the run, its first backtick becomes a Text, and the span goes into the closer's node. Returns the node
-    /// at which the chain continues. The only error is `Fault::Memory`.
+    /// Reads a backtick run: a code span (CommonMark 6.1), if an item closes it, and otherwise a Text. Where a
+    /// backslash precedes the run, its first backtick becomes a Text, and the span goes into the closer's node. Returns
+    /// the rest of the chain. The only error is `Fault::Memory`; the tree is then unchanged.
     pub(crate) fn read_code(
         &mut self,
         tree: &mut Tree<Item>,
         place: &ChainPlace<'a>,
         ix: usize,
-    ) -> Result<Option<usize>, Fault>
+    ) -> Result<Rest, Fault>
         requires ready { CanReadOther place.now tree.old self.old ix }
         requires opener { (count : ℕ) × (escaped : Bool)
             × ((item_at tree.old.nodes ix).body ≡ body.MaybeCode count escaped) }
-        ensures reads { IfOk result (λ next.
-            ReadsOther ix next tree.old tree.new self.old self.new) }
+        ensures reads { IfOk result (λ rest.
+            ReadsOther ix rest tree.old tree.new self.old self.new) }
 
         // on error, and then on success and on error
         ensures stops { IfErr result (λ _. StopsLooking ix tree.old self.old self.new) }
-        ensures refused { IfErr result (λ fault. fault ≡ Fault.Memory) }
+        ensures refused { IfErr result (IsRefused tree.old tree.new) }
         ensures kept { ChangesForOther self.old self.new }
     {
         let visits = &mut self.work.code_visits;
@@ -213,22 +213,22 @@ impl<'a, F: BrokenLinkCallback<'a>> Resolver<'a, F> {
         Ok(put_code(tree, ix, closer, ItemBody::Code(cow)))
     }
 
-    /// Reads a `$`: a math span, if an item closes it, and otherwise a Text. Returns the node at which the chain
-    /// continues. The only error is `Fault::Memory`.
+    /// Reads a `$`: a math span, if an item closes it, and otherwise a Text. Returns the rest of the chain. The only
+    /// error is `Fault::Memory`; the tree is then unchanged.
     pub(crate) fn read_math(
         &mut self,
         tree: &mut Tree<Item>,
         place: &ChainPlace<'a>,
         ix: usize,
-    ) -> Result<Option<usize>, Fault>
+    ) -> Result<Rest, Fault>
         requires ready { CanReadOther place.now tree.old self.old ix }
         requires opener { is_dollar (item_at tree.old.nodes ix).body ≡ true }
-        ensures reads { IfOk result (λ next.
-            ReadsOther ix next tree.old tree.new self.old self.new) }
+        ensures reads { IfOk result (λ rest.
+            ReadsOther ix rest tree.old tree.new self.old self.new) }
 
         // on error, and then on success and on error
         ensures stops { IfErr result (λ _. StopsLooking ix tree.old self.old self.new) }
-        ensures refused { IfErr result (λ fault. fault ≡ Fault.Memory) }
+        ensures refused { IfErr result (IsRefused tree.old tree.new) }
         ensures kept { ChangesForOther self.old self.new }
     {
         let visits = &mut self.work.math_visits;

@@ -2,7 +2,7 @@
 use Rattle.std.proofs.Common.{refl}
 use Rattle.markdown_base.specs.BlockTree.{no_item}
 use Rattle.markdown_document.specs.Tables.{tables_of}
-use Rattle.markdown_resolver.proofs.CloseLemmas.{can_close, opener_at}
+use Rattle.markdown_resolver.proofs.CloseLemmas.{opener_at}
 use Rattle.markdown_resolver.proofs.CloseLinkLemmas.{link_closed, may_link}
 use Rattle.markdown_resolver.proofs.SplitLemmas.{inside_numbers}
 use Rattle.markdown_resolver.proofs.brackets.put_target.Goals as goal
@@ -13,23 +13,6 @@ item-requires c =
     let at = opener_at c.requires.0 (tables_of c.args.tables.now) c.args.tree.now.nodes c.requires.1 c.args.closer c.requires.2 c.requires.5
     closes.stands closes.splits in
     rw c.requires.7 at.opener.within
-
-pub last_before-last-requires : goal.last_before-last-requires
-last_before-last-requires c =
-    let source = c.requires.0 in
-    let tables = tables_of c.args.tables.now in
-    let nodes = c.args.tree.now.nodes in
-    let o = c.requires.5 in
-    let closes = c.requires.6 in
-    let at = opener_at source tables nodes c.requires.1 c.args.closer c.requires.2 o closes.stands closes.splits in (
-      source,
-      tables,
-      inside_numbers o,
-      c.args.next,
-      rw c.requires.7 (can_close source tables nodes c.requires.1 c.args.closer c.requires.2 c.requires.3 c.requires.4 _ o c.args.next
-          closes at
-          closes.ends.0),
-    )
 
 pub put_link-requires : goal.put_link-requires
 put_link-requires c =
@@ -45,7 +28,6 @@ put_link-requires c =
       r.put.grown,
       r.close,
       r.over,
-      c.last_before-last.ensures source tables inside c.args.next r.close,
     )
 
 pub returns-clause-puts : goal.returns-clause-puts
@@ -54,5 +36,4 @@ returns-clause-puts c source first left w closing o closes is from =
     let inside = inside_numbers o in
     let r = may_link c.args.tables.now c.allocate_link.new.self _ c.in_ok-link.link c.item.result.now c.link_body.result closes is from
     c.in_ok-link.ensures.put c.in_ok-link.ensures.number refl (c.item.ensures no_item) c.link_body.ensures in
-    link_closed closes is r (c.put_link.ensures.puts source tables (tables_of c.allocate_link.new.self) inside r.put.grown r.close r.over
-    (c.last_before-last.ensures source tables inside c.args.next r.close))
+    link_closed closes is r (c.put_link.ensures.puts source tables (tables_of c.allocate_link.new.self) inside r.put.grown r.close r.over)

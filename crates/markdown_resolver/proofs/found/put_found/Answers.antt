@@ -1,8 +1,5 @@
 -- An item is put into the node of its opener.
-use Rattle.std.proofs.Common.{◌≡◌, ap, ◌∙◌}
-use Rattle.markdown_base.specs.ArenaForest.{forest_at, links_of}
-use Rattle.markdown_base.specs.Forest.{roots}
-use Rattle.markdown_resolver.specs.Rewritten.{first_past}
+use Rattle.std.proofs.Common.{◌≡◌, ap}
 use Rattle.markdown_resolver.specs.Settling.{begun_from}
 use Rattle.markdown_resolver.proofs.PutFoundLemmas.{rest_spelled, found_puts}
 use Rattle.markdown_resolver.proofs.found.put_found.Goals as goal
@@ -13,11 +10,9 @@ first_past-rest-requires c =
 
 pub returns-clause-puts : goal.returns-clause-puts
 returns-clause-puts c source tables tables' grown finds puts starts =
-    let old = c.args.tree.now.nodes in
-    let next = c.first_past-rest.result in
-    let link = c.first_past-rest.ensures.value ∙ ap (λ l. first_past old c.args.item.end (roots (forest_at (links_of old) l)))
-    c.next.ensures.value in
-    let nodes : c.begin_from.new.tree.nodes ≡ begun_from next c.args.item.end c.write_node.new.tree.nodes = ap (λ t. t.nodes)
+    let rest = c.first_past-rest.result in
+    let past = rw c.next.ensures.value at c.first_past-rest.ensures.past in
+    let nodes : c.begin_from.new.tree.nodes ≡ begun_from rest.next c.args.item.end c.write_node.new.tree.nodes = ap (λ t. t.nodes)
     c.begin_from.ensures in
-    rw nodes (found_puts source c.args.ix c.args.item next old c.write_node.new.tree.nodes tables tables' grown finds puts starts link
+    rw nodes (found_puts source c.args.ix c.args.item rest c.args.tree.now.nodes c.write_node.new.tree.nodes tables tables' grown finds puts starts past
     c.write_node.ensures.written)

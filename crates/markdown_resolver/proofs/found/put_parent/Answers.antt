@@ -1,9 +1,6 @@
 -- An item with one child is put into the node of its opener.
 use Rattle.std.proofs.Common.{◌≡◌, ◌<◌, ℕ, suc, length, Option, Some, None, ap, ◌∙◌, arith}
 use Rattle.std.specs.Prelude.{IfSome}
-use Rattle.markdown_base.specs.ArenaForest.{forest_at, links_of}
-use Rattle.markdown_base.specs.Forest.{roots}
-use Rattle.markdown_resolver.specs.Rewritten.{first_past}
 use Rattle.markdown_resolver.specs.Settling.{begun_from}
 use Rattle.markdown_resolver.proofs.PutFoundLemmas.{rest_spelled, parent_puts, is_hung, hung_size, hung_below}
 use Rattle.markdown_resolver.proofs.SettlingLemmas.{node_within}
@@ -28,14 +25,14 @@ pub write_node-requires-clause-next : goal.write_node-requires-clause-next
 write_node-requires-clause-next c =
     let hung = is_hung c.args.tree.now c.create_node.new.self c.set_child.new.self c.args.ix c.in_ok-child.child c.args.inside
     c.in_ok-child.ensures.number c.in_ok-child.ensures.made c.set_child.ensures in
-    within_more c.first_past-rest.result (length c.args.tree.now.nodes) (length c.set_child.new.self.nodes)
+    within_more c.first_past-rest.result.next (length c.args.tree.now.nodes) (length c.set_child.new.self.nodes)
     (hung_size c.args.tree.now c.set_child.new.self c.args.ix c.in_ok-child.child c.args.inside hung) c.first_past-rest.ensures.within
 
 pub begin_from-requires : goal.begin_from-requires
 begin_from-requires c =
     let hung = is_hung c.args.tree.now c.create_node.new.self c.set_child.new.self c.args.ix c.in_ok-child.child c.args.inside
     c.in_ok-child.ensures.number c.in_ok-child.ensures.made c.set_child.ensures in
-    within_more c.first_past-rest.result (length c.args.tree.now.nodes) (length c.write_node.new.tree.nodes)
+    within_more c.first_past-rest.result.next (length c.args.tree.now.nodes) (length c.write_node.new.tree.nodes)
     (c.write_node.ensures.written.size ∙ hung_size c.args.tree.now c.set_child.new.self c.args.ix c.in_ok-child.child c.args.inside hung)
     c.first_past-rest.ensures.within
 
@@ -43,13 +40,12 @@ pub returns-clause-puts : goal.returns-clause-puts
 returns-clause-puts c source tables tables' grown finds can =
     let old = c.args.tree.now.nodes in
     let mid = c.write_node.new.tree.nodes in
-    let next = c.first_past-rest.result in
-    let link = c.first_past-rest.ensures.value ∙ ap (λ l. first_past old c.args.item.end (roots (forest_at (links_of old) l)))
-    c.next.ensures.value in
-    let nodes : c.begin_from.new.tree.nodes ≡ begun_from next c.args.item.end mid = ap (λ t. t.nodes) c.begin_from.ensures in
+    let rest = c.first_past-rest.result in
+    let past = rw c.next.ensures.value at c.first_past-rest.ensures.past in
+    let nodes : c.begin_from.new.tree.nodes ≡ begun_from rest.next c.args.item.end mid = ap (λ t. t.nodes) c.begin_from.ensures in
     let hung = is_hung c.args.tree.now c.create_node.new.self c.set_child.new.self c.args.ix c.in_ok-child.child c.args.inside
     c.in_ok-child.ensures.number c.in_ok-child.ensures.made c.set_child.ensures in
-    let h = hung_below c.args.tree.now c.set_child.new.self mid c.args.ix c.in_ok-child.child c.args.item c.args.inside next
+    let h = hung_below c.args.tree.now c.set_child.new.self mid c.args.ix c.in_ok-child.child c.args.item c.args.inside rest.next
     (node_within source tables old c.args.ix finds.ready) hung c.write_node.ensures.written in
-    rw nodes (parent_puts source c.args.ix c.args.item c.args.inside next old mid tables tables' grown finds can link h.item_is h.next_is
+    rw nodes (parent_puts source c.args.ix c.args.item c.args.inside rest old mid tables tables' grown finds can past h.item_is h.next_is
     h.others h.new_below)

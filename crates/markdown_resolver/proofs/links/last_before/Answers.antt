@@ -1,5 +1,5 @@
 -- Each node that is passed is inside, until the closer follows.
-use Rattle.std.proofs.Common.{sym, ◌∙◌}
+use Rattle.std.proofs.Common.{sym, ◌∙◌, arith}
 use Rattle.markdown_base.specs.Arena.{sibling_of}
 use Rattle.markdown_resolver.proofs.LastInsideLemmas.{ahead_first, ahead_here, ahead_next, ahead_none, first_spelled}
 use Rattle.markdown_resolver.proofs.PastByteLemmas.{items_fall, spelled_at}
@@ -27,8 +27,9 @@ pub inside-smaller : goal.inside-smaller
 inside-smaller c =
     let nodes = c.args.tree.now.nodes in
     let link = sym c.next.ensures.value ∙ c.in-Some.is in
-    rw link (items_fall nodes c.in-Some.next (spelled_at nodes (sibling_of nodes c.inside.last) c.in-Some.next link
-    c.inside.invariant.spelled))
+    let one = items_fall nodes c.in-Some.next (spelled_at nodes (sibling_of nodes c.inside.last) c.in-Some.next link
+    c.inside.invariant.spelled) in
+    rw link (omega (arith, one))
 
 pub inside-preserved : goal.inside-preserved
 inside-preserved c =

@@ -1,11 +1,9 @@
 -- A reference is put into the node of its opener.
-use Rattle.std.proofs.Common.{◌≡◌, ap, ◌∙◌}
-use Rattle.markdown_base.specs.ArenaForest.{forest_at, links_of}
-use Rattle.markdown_base.specs.Forest.{roots}
-use Rattle.markdown_resolver.specs.Rewritten.{first_past}
+use Rattle.std.proofs.Common.{◌≡◌, ap}
 use Rattle.markdown_resolver.specs.Settling.{begun_from}
 use Rattle.markdown_resolver.proofs.EncloseLemmas.{closer_within}
-use Rattle.markdown_resolver.proofs.PutReferenceLemmas.{behind_spelled, reference_puts}
+use Rattle.markdown_resolver.proofs.FoldLemmas.{behind_spelled}
+use Rattle.markdown_resolver.proofs.PutReferenceLemmas.{reference_puts}
 use Rattle.markdown_resolver.proofs.SettlingLemmas.{node_within}
 use Rattle.markdown_resolver.proofs.links.put_footnote.Goals as goal
 
@@ -16,8 +14,7 @@ next-requires c = closer_within c.requires.0 c.requires.1 c.args.tree.now.nodes 
 pub first_past-rest-requires : goal.first_past-rest-requires
 first_past-rest-requires c =
     rw c.next.ensures.value
-    (behind_spelled c.requires.0 c.requires.1 c.args.tree.now.nodes c.args.opener c.args.closer c.args.item.end c.requires.3 c.requires.5
-    c.requires.7)
+    (behind_spelled c.requires.0 c.requires.1 c.args.tree.now.nodes c.args.opener c.args.closer c.requires.3 c.args.item.end c.requires.5)
 
 pub write_node-requires-clause-node : goal.write_node-requires-clause-node
 write_node-requires-clause-node c = node_within c.requires.0 c.requires.1 c.args.tree.now.nodes c.args.opener c.requires.5.ready
@@ -26,10 +23,9 @@ pub returns-clause-puts : goal.returns-clause-puts
 returns-clause-puts c source tables tables' inside grown can over ends =
     let old = c.args.tree.now.nodes in
     let mid = c.write_node.new.tree.nodes in
-    let next = c.first_past-rest.result in
-    let link = c.first_past-rest.ensures.value ∙ ap (λ l. first_past old c.args.item.end (roots (forest_at (links_of old) l)))
-    c.next.ensures.value in
-    let nodes : c.begin_from.new.tree.nodes ≡ begun_from next c.args.item.end mid = ap (λ t. t.nodes) c.begin_from.ensures in
+    let rest = c.first_past-rest.result in
+    let past = rw c.next.ensures.value at c.first_past-rest.ensures.past in
+    let nodes : c.begin_from.new.tree.nodes ≡ begun_from rest.next c.args.item.end mid = ap (λ t. t.nodes) c.begin_from.ensures in
     rw nodes
-    (reference_puts source c.args.opener c.args.closer c.args.item inside old tables tables' grown can over ends next mid link
+    (reference_puts source c.args.opener c.args.closer c.args.item inside old tables tables' grown can over ends rest mid past
     c.write_node.ensures.written)

@@ -1,11 +1,9 @@
 -- A Text is put into the node of an opener, and a reference into that of its closer.
-use Rattle.std.proofs.Common.{◌≡◌, ap, ◌∙◌}
-use Rattle.markdown_base.specs.ArenaForest.{forest_at, links_of}
-use Rattle.markdown_base.specs.Forest.{roots}
-use Rattle.markdown_resolver.specs.Rewritten.{first_past}
+use Rattle.std.proofs.Common.{◌≡◌, ap}
 use Rattle.markdown_resolver.specs.Settling.{begun_from}
 use Rattle.markdown_resolver.proofs.EncloseLemmas.{closer_within}
-use Rattle.markdown_resolver.proofs.PutMarkLemmas.{behind_mark, mark_puts}
+use Rattle.markdown_resolver.proofs.FoldLemmas.{behind_spelled}
+use Rattle.markdown_resolver.proofs.PutMarkLemmas.{mark_puts}
 use Rattle.markdown_resolver.proofs.SettlingLemmas.{node_within}
 use Rattle.markdown_resolver.proofs.links.put_image_footnote.Goals as goal
 
@@ -17,16 +15,13 @@ write_node-requires-clause-next c = closer_within c.requires.0 c.requires.1 c.ar
     c.args.item.end c.requires.5
 
 pub next-requires : goal.next-requires
-next-requires c =
-    rw c.write_node.ensures.written.size
-    (closer_within c.requires.0 c.requires.1 c.args.tree.now.nodes c.args.opener c.args.closer c.requires.3 c.args.item.end c.requires.5)
+next-requires c = closer_within c.requires.0 c.requires.1 c.args.tree.now.nodes c.args.opener c.args.closer c.requires.3 c.args.item.end
+    c.requires.5
 
 pub first_past-rest-requires : goal.first_past-rest-requires
 first_past-rest-requires c =
     rw c.next.ensures.value
-    (behind_mark c.requires.0 c.args.opener c.args.closer c.args.mark c.args.item c.requires.3 c.args.tree.now.nodes
-    c.write_node.new.tree.nodes c.requires.1 c.requires.2 c.requires.4
-    c.requires.5 c.requires.6 c.write_node.ensures.written)
+    (behind_spelled c.requires.0 c.requires.1 c.args.tree.now.nodes c.args.opener c.args.closer c.requires.3 c.args.item.end c.requires.5)
 
 pub write_node-requires-2-clause-node : goal.write_node-requires-2-clause-node
 write_node-requires-2-clause-node c =
@@ -38,11 +33,10 @@ returns-clause-puts c source tables tables' inside grown can over =
     let old = c.args.tree.now.nodes in
     let mid = c.write_node.new.tree.nodes in
     let last = c.write_node-2.new.tree.nodes in
-    let next = c.first_past-rest.result in
-    let link = c.first_past-rest.ensures.value ∙ ap (λ l. first_past mid c.args.item.end (roots (forest_at (links_of mid) l)))
-    c.next.ensures.value in
-    let nodes : c.begin_from.new.tree.nodes ≡ begun_from next c.args.item.end last = ap (λ t. t.nodes) c.begin_from.ensures in
+    let rest = c.first_past-rest.result in
+    let past = rw c.next.ensures.value at c.first_past-rest.ensures.past in
+    let nodes : c.begin_from.new.tree.nodes ≡ begun_from rest.next c.args.item.end last = ap (λ t. t.nodes) c.begin_from.ensures in
     rw nodes
     (mark_puts source c.args.opener c.args.closer c.args.mark c.args.item inside old mid tables tables' grown can over
-    c.write_node.ensures.written next last link
+    c.write_node.ensures.written rest last past
     c.write_node-2.ensures.written)

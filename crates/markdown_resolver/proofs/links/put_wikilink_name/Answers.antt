@@ -1,14 +1,19 @@
 -- A wikilink is put into the node of its opener, with a Text for its name below it.
 use Rattle.std.proofs.Common.{◌≡◌, None, Some, ap}
 use Rattle.markdown_resolver.specs.Settling.{begun_from}
-use Rattle.markdown_resolver.proofs.EncloseLemmas.{size_child}
-use Rattle.markdown_resolver.proofs.FoldLemmas.{closer_reaches}
+use Rattle.markdown_resolver.proofs.EncloseLemmas.{closer_within, size_child}
+use Rattle.markdown_resolver.proofs.FoldLemmas.{behind_spelled}
 use Rattle.markdown_resolver.proofs.PutNameLemmas.{are_there, hung_tree, name_puts}
 use Rattle.markdown_resolver.proofs.links.put_wikilink_name.Goals as goal
 
+pub next-requires : goal.next-requires
+next-requires c = closer_within c.requires.0 c.requires.1 c.args.tree.now.nodes c.args.opener c.args.closer c.requires.3 c.args.item.end
+    c.requires.7
+
 pub first_past-rest-requires : goal.first_past-rest-requires
-first_past-rest-requires c = (closer_reaches c.requires.0 c.requires.1 c.args.tree.now.nodes c.args.opener c.args.closer c.requires.3
-    c.args.item.end c.requires.7).spelled
+first_past-rest-requires c =
+    rw c.next.ensures.value
+    (behind_spelled c.requires.0 c.requires.1 c.args.tree.now.nodes c.args.opener c.args.closer c.requires.3 c.args.item.end c.requires.7)
 
 pub set_child-requires-clause-node : goal.set_child-requires-clause-node
 set_child-requires-clause-node c =
@@ -71,9 +76,11 @@ returns-clause-puts c source tables tables' inside skipped shown grown can over 
     let hung = hung_tree c.args.tree.now c.set_child.new.self c.set_child-2.new.self c.write_node.new.tree.nodes c.args.opener c.args.first
     c.args.inside both.within both.first_within both.apart
     c.set_child.ensures c.set_child-2.ensures c.write_node.ensures.written in
-    let nodes : c.begin_from.new.tree.nodes ≡ begun_from c.first_past-rest.result c.args.item.end c.write_node-2.new.tree.nodes =
-    ap (λ t. t.nodes) c.begin_from.ensures in
+    let rest = c.first_past-rest.result in
+    let past = rw c.next.ensures.value at c.first_past-rest.ensures.past in
+    let nodes : c.begin_from.new.tree.nodes ≡ begun_from rest.next c.args.item.end c.write_node-2.new.tree.nodes = ap (λ t. t.nodes)
+    c.begin_from.ensures in
     rw nodes
-    (name_puts source c.args.opener c.args.closer c.args.item c.args.inside inside skipped c.args.first shown c.first_past-rest.result old
+    (name_puts source c.args.opener c.args.closer c.args.item c.args.inside inside skipped c.args.first shown rest old
     c.write_node.new.tree.nodes c.write_node-2.new.tree.nodes
-    tables tables' grown can over puts names_nothing inside_is hung c.first_past-rest.ensures.value c.write_node-2.ensures.written)
+    tables tables' grown can over puts names_nothing inside_is hung past c.write_node-2.ensures.written)

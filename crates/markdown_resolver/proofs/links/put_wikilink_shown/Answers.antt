@@ -4,9 +4,19 @@ use Rattle.markdown_base.specs.declared.item.Item.{Item}
 use Rattle.markdown_base.specs.declared.node.Node.{Node}
 use Rattle.std.specs.Prelude.{List}
 use Rattle.markdown_resolver.specs.Settling.{begun_from}
-use Rattle.markdown_resolver.proofs.EncloseLemmas.{are_within, with_child}
-use Rattle.markdown_resolver.proofs.PutShownLemmas.{closer_shown, opener_shown, shown_puts, shown_within}
+use Rattle.markdown_resolver.proofs.EncloseLemmas.{are_within, closer_within, with_child}
+use Rattle.markdown_resolver.proofs.FoldLemmas.{behind_spelled}
+use Rattle.markdown_resolver.proofs.PutShownLemmas.{opener_shown, shown_puts, shown_size, shown_within}
 use Rattle.markdown_resolver.proofs.links.put_wikilink_shown.Goals as goal
+
+pub next-requires : goal.next-requires
+next-requires c = closer_within c.requires.0 c.requires.1 c.args.tree.now.nodes c.args.opener c.args.closer c.requires.3 c.args.item.end
+    c.requires.6
+
+pub first_past-rest-requires : goal.first_past-rest-requires
+first_past-rest-requires c =
+    rw c.next.ensures.value
+    (behind_spelled c.requires.0 c.requires.1 c.args.tree.now.nodes c.args.opener c.args.closer c.requires.3 c.args.item.end c.requires.6)
 
 pub enclose-requires-clause-opener : goal.enclose-requires-clause-opener
 enclose-requires-clause-opener c =
@@ -36,31 +46,38 @@ begin_from-requires c =
     c.args.from c.args.item.end c.requires.6 (c.last_before.ensures c.requires.0 c.requires.1 c.requires.3 c.args.item.end c.requires.6)
     c.enclose.ensures.enclosed c.requires.8)
 
-pub first_past-rest-requires : goal.first_past-rest-requires
-first_past-rest-requires c =
+pub write_node-requires : goal.write_node-requires
+write_node-requires c =
     let hung : c.set_child.new.self.nodes ≡ with_child c.args.opener (Some c.args.first) c.enclose.new.tree.nodes = ap (λ t. t.nodes)
     c.set_child.ensures in
     let place : c.begin_from.new.tree.nodes ≡ begun_from (Some c.args.first) c.args.from (with_child c.args.opener (Some c.args.first)
     c.enclose.new.tree.nodes) =
     ap (λ t. t.nodes) c.begin_from.ensures ∙ ap (λ (ns : List (Node Item)). begun_from (Some c.args.first) c.args.from ns) hung in
-    rw place
-    (closer_shown c.requires.0 c.requires.1 c.args.tree.now.nodes c.enclose.new.tree.nodes c.args.opener c.last_before.result c.args.closer
-    c.requires.3 c.requires.4 c.args.first
-    c.args.from c.args.item.end c.requires.6 (c.last_before.ensures c.requires.0 c.requires.1 c.requires.3 c.args.item.end c.requires.6)
-    c.enclose.ensures.enclosed c.requires.8)
+    let last = c.last_before.ensures c.requires.0 c.requires.1 c.requires.3 c.args.item.end c.requires.6 in
+    rw place (record {
+      node = opener_shown c.requires.0 c.requires.1 c.args.tree.now.nodes c.enclose.new.tree.nodes c.args.opener c.last_before.result
+          c.args.closer c.requires.3 c.requires.4 c.args.first c.args.from c.args.item.end c.requires.6 last c.enclose.ensures.enclosed
+          c.requires.8;
+      next = rw (shown_size c.requires.0 c.requires.1 c.args.tree.now.nodes c.enclose.new.tree.nodes c.args.opener c.last_before.result
+          c.args.closer c.requires.3 c.requires.4 c.args.first c.args.from c.args.item.end c.requires.6 last c.enclose.ensures.enclosed
+          c.requires.8) c.first_past-rest.ensures.within;
+    })
 
-pub write_node-requires-clause-node : goal.write_node-requires-clause-node
-write_node-requires-clause-node c =
+pub begin_from-requires-2 : goal.begin_from-requires-2
+begin_from-requires-2 c =
     let hung : c.set_child.new.self.nodes ≡ with_child c.args.opener (Some c.args.first) c.enclose.new.tree.nodes = ap (λ t. t.nodes)
     c.set_child.ensures in
     let place : c.begin_from.new.tree.nodes ≡ begun_from (Some c.args.first) c.args.from (with_child c.args.opener (Some c.args.first)
     c.enclose.new.tree.nodes) =
     ap (λ t. t.nodes) c.begin_from.ensures ∙ ap (λ (ns : List (Node Item)). begun_from (Some c.args.first) c.args.from ns) hung in
-    rw place
-    (opener_shown c.requires.0 c.requires.1 c.args.tree.now.nodes c.enclose.new.tree.nodes c.args.opener c.last_before.result c.args.closer
-    c.requires.3 c.requires.4 c.args.first
-    c.args.from c.args.item.end c.requires.6 (c.last_before.ensures c.requires.0 c.requires.1 c.requires.3 c.args.item.end c.requires.6)
-    c.enclose.ensures.enclosed c.requires.8)
+    let last = c.last_before.ensures c.requires.0 c.requires.1 c.requires.3 c.args.item.end c.requires.6 in
+    rw (
+      c.write_node.ensures.written.size,
+      place,
+      shown_size c.requires.0 c.requires.1 c.args.tree.now.nodes c.enclose.new.tree.nodes c.args.opener c.last_before.result
+          c.args.closer c.requires.3 c.requires.4 c.args.first c.args.from c.args.item.end c.requires.6 last c.enclose.ensures.enclosed
+          c.requires.8,
+    ) c.first_past-rest.ensures.within
 
 pub returns-clause-puts : goal.returns-clause-puts
 returns-clause-puts c source tables tables' inside skipped grown can over shows =
@@ -70,10 +87,12 @@ returns-clause-puts c source tables tables' inside skipped grown can over shows 
     let place : c.begin_from.new.tree.nodes ≡ begun_from (Some c.args.first) c.args.from (with_child c.args.opener (Some c.args.first)
     c.enclose.new.tree.nodes) =
     ap (λ t. t.nodes) c.begin_from.ensures ∙ ap (λ (ns : List (Node Item)). begun_from (Some c.args.first) c.args.from ns) hung in
-    let nodes : c.begin_from-2.new.tree.nodes ≡ begun_from c.first_past-rest.result c.args.item.end c.write_node.new.tree.nodes =
+    let rest = c.first_past-rest.result in
+    let past = rw c.next.ensures.value at c.first_past-rest.ensures.past in
+    let nodes : c.begin_from-2.new.tree.nodes ≡ begun_from rest.next c.args.item.end c.write_node.new.tree.nodes =
     ap (λ t. t.nodes) c.begin_from-2.ensures in
     rw nodes
     (shown_puts source c.args.opener c.last_before.result c.args.closer c.args.item inside skipped c.args.first c.args.from
-    c.first_past-rest.result c.args.tree.now.nodes c.enclose.new.tree.nodes
+    rest c.args.tree.now.nodes c.enclose.new.tree.nodes
     c.begin_from.new.tree.nodes c.write_node.new.tree.nodes tables tables' grown can over last c.enclose.ensures.enclosed shows place
-    c.first_past-rest.ensures.value c.write_node.ensures.written)
+    past c.write_node.ensures.written)

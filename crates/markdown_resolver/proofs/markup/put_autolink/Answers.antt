@@ -46,7 +46,7 @@ returns-clause-puts c = λ source rules at.
     let end = c.args.end in
     let uri = c.args.uri.now in
     let link = c.in_ok-link.link in
-    let next = c.in_ok-put_parent.field-0 in
+    let rest = c.in_ok-put_parent.field-0 in
     let over : Item → Item = λ item. record { start = item.start; end = end; body = body.Link link } in
     let inside : Item → Item = λ item. record { start = item.end; end = end - 1; body = body.Text false } in
     let put : PutsLink source (item_at old ix).start end tables tables' link (address uri) =
@@ -56,8 +56,8 @@ returns-clause-puts c = λ source rules at.
     let can = can_put_autolink source tables tables' link uri old ix end put at.lies at.address in
     let puts =
     subst (λ (item : Item). CanPutParent source tables tables' old ix (over item) (inside item)
-    → Puts source ix (parent source tables' (over item) (inside item)) (Some end) next old new tables tables')
+    → Puts source ix (parent source tables' (over item) (inside item)) (Some end) rest old new tables tables')
     (c.item-item.ensures no_item) (λ h. c.in_ok-put_parent.ensures.puts source tables tables' put.grown at.found h) can in
     puts_standing source rules (autolink end uri) ix (parent source tables' (item_to old ix end (body.Link link)) (address_to old ix end))
-    (Some end) next old new tables tables' at.found.ready
+    (Some end) rest old new tables tables' at.found.ready
     (autolink_trees source rules tables tables' link uri old ix end put) puts

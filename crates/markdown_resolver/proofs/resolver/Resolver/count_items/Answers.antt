@@ -1,36 +1,32 @@
 -- One item of the chain after another is counted.
 use Rattle.std.proofs.Common.{ℕ, refl, ap, ◌∙◌, arith}
 use Rattle.markdown_document.specs.Stages.{items_from}
-use Rattle.markdown_document.specs.Tables.{tables_of}
 use Rattle.markdown_document.specs.declared.work.Work.{Work}
 use Rattle.markdown_resolver.specs.declared.resolver.Resolver.{Resolver}
-use Rattle.markdown_resolver.proofs.ReadingLemmas.{node_within, ready_next, items_next, items_none, counted_more, counted_all}
+use Rattle.markdown_resolver.proofs.PastByteLemmas.{items_fall, spelled_at}
+use Rattle.markdown_resolver.proofs.ReadingLemmas.{items_none, counted_more, counted_all}
 use Rattle.markdown_resolver.proofs.resolver.Resolver.count_items.Goals as goal
 
 pub next-at-requires : goal.next-at-requires
-next-at-requires g c =
-    let s = c.args.self.now in
-    node_within s.text.now (tables_of s.lookup.tables) c.args.tree.now.nodes c.in-Some.ix (rw c.in-Some.is at c.chain.invariant.ready)
+next-at-requires g c = (spelled_at c.args.tree.now.nodes c.chain.at c.in-Some.ix c.in-Some.is c.chain.invariant.spelled).within
 
 pub chain-smaller : goal.chain-smaller
 chain-smaller g c =
-    let s = c.args.self.now in
-    let ready = rw c.in-Some.is at c.chain.invariant.ready in
-    rw (c.in-Some.is, c.next-at.ensures.value)
-    (omega (arith, items_next s.text.now (tables_of s.lookup.tables) c.args.tree.now.nodes c.in-Some.ix ready))
+    let nodes = c.args.tree.now.nodes in
+    let one = items_fall nodes c.in-Some.ix (spelled_at nodes c.chain.at c.in-Some.ix c.in-Some.is c.chain.invariant.spelled) in
+    rw (c.in-Some.is, c.next-at.ensures.value) (omega (arith, one))
 
 pub chain-preserved : goal.chain-preserved
 chain-preserved g c =
-    let s = c.args.self.now in
     let i = c.chain.invariant in
     let nodes = c.args.tree.now.nodes in
-    let ix = c.in-Some.ix in
-    let ready = rw c.in-Some.is at i.ready in
+    let at = spelled_at nodes c.chain.at c.in-Some.ix c.in-Some.is i.spelled in
+    let one = ap (items_from nodes) c.in-Some.is ∙ items_fall nodes c.in-Some.ix at in
     rw c.next-at.ensures.value (record {
-      ready = ready_next s.text.now (tables_of s.lookup.tables) nodes ix ready;
+      spelled = at.after;
       resolver = rw (c.count_item.ensures, i.resolver) refl;
-      counted = counted_more _ c.chain.self.work.items _ _ _ _ i.counted (ap (items_from nodes) c.in-Some.is
-          ∙ items_next s.text.now (tables_of s.lookup.tables) nodes ix ready) (ap (λ (w : Work). w.items) c.count_item.ensures);
+      counted = counted_more _ c.chain.self.work.items _ _ _ 1 _ i.counted (omega (arith, one)) (ap (λ (w : Work). w.items)
+          c.count_item.ensures);
     })
 
 pub returns : goal.returns

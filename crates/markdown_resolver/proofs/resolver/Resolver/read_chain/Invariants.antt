@@ -4,10 +4,9 @@ use Rattle.markdown_document.specs.Setting.{rules_from, setting_of}
 use Rattle.markdown_document.specs.Stages.{items_from}
 use Rattle.markdown_spans.specs.SpanClosers.{has_failed}
 use Rattle.markdown_resolver.proofs.ChainReadLemmas.{ReadsUpTo}
-use Rattle.markdown_resolver.proofs.ReadingLemmas.{LookedUpTo}
+use Rattle.markdown_resolver.proofs.ReadingLemmas.{Counted, LookedUpTo}
 use Rattle.markdown_resolver.proofs.resolver.Resolver.read_chain.Given as goal
 use Rattle.markdown_defs.specs.Footnotes.{footnote_at}
-use Rattle.markdown_document.specs.Counts.{risen}
 use Rattle.markdown_resolver.specs.ReadsBracket.{HasLearned}
 
 abbrev pub invariant-chain : goal.invariant-chain
@@ -23,6 +22,7 @@ invariant-chain g l = record {
       (items_from l.fn.tree.nodes (Some l.first)) (items_from l.tree.nodes l.at);
   math_looks : LookedUpTo (has_failed l.self.math_closers) l.fn.self.work.math_visits l.self.work.math_visits
       (items_from l.fn.tree.nodes (Some l.first)) (items_from l.tree.nodes l.at);
+  counted : Counted l.fn.self.work.items l.self.work.items (items_from l.fn.tree.nodes (Some l.first)) (items_from l.tree.nodes l.at);
   footnotes : (name : List ℕ) → is_some (footnote_at l.self.lookup.tables.footdefs name) ≡ is_some (footnote_at l.fn.self.lookup.tables.footdefs name);
   kept : l.self ≡ record l.fn.self {
     lookup = record l.fn.self.lookup {
@@ -36,7 +36,7 @@ invariant-chain g l = record {
     };
     waiting = l.self.waiting;
     work = record l.fn.self.work {
-      items = risen (items_from l.fn.tree.nodes (Some l.first)) l.fn.self.work.items;
+      items = l.self.work.items;
       code_visits = l.self.work.code_visits;
       math_visits = l.self.work.math_visits;
     };

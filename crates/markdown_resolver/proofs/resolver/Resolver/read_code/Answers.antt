@@ -1,5 +1,5 @@
 -- Reading a backtick run: the contracts of the searches and the writes give what the lemmas on code spans require.
-use Rattle.std.proofs.Common.{◌≡◌, Some, None, ap, ◌∙◌, subst, ℕ, Option, refl}
+use Rattle.std.proofs.Common.{◌≡◌, Some, None, ap, ◌∙◌, subst, refl}
 use Rattle.markdown_base.specs.BlockTree.{item_at, no_item}
 use Rattle.markdown_base.specs.declared.item.Item.{Item}
 use Rattle.markdown_base.specs.declared.item.ItemBody.TheVariants as body
@@ -8,6 +8,7 @@ use Rattle.markdown_document.specs.Stages.{above_cursor}
 use Rattle.markdown_document.specs.Setting.{Setting, setting_of, Rules, rules_from}
 use Rattle.markdown_document.specs.Tables.{tables_of, text_at}
 use Rattle.markdown_spans.specs.Finds.{is_escaped}
+use Rattle.markdown_resolver.specs.declared.rest.Rest.{Rest}
 use Rattle.markdown_resolver.specs.StoredText.{text_between, origin_between}
 use Rattle.markdown_spans.specs.SpanClosers.{ClosesCode, has_failed}
 use Rattle.markdown_spans.specs.declared.span_text.SpanKind.TheVariants.{Code}
@@ -45,7 +46,7 @@ returns-in_default-clause-reads g c =
     let found = c.in_ok-closer.ensures in
     let closes : ClosesCode nodes ix None = subst (ClosesCode nodes ix) c.in_default.is found.found in
     let puts = c.settle.ensures.puts place.text.now tables ready in
-    let result : Result (Option ℕ) Fault = Ok c.settle.result in
+    let result : Result Rest Fault = Ok c.settle.result in
     let read = reads_by_rules result place s.text.now (rules_from s.options s.lookup.tables (is_some s.lookup.callback)) tree ix
     c.settle.new.tree.nodes tables tables ready c.requires.ready.text (ap gfm_footnotes_on c.requires.ready.options)
     (λ rules gfm. let set : Setting = setting_of place.text.now rules in
@@ -106,7 +107,7 @@ returns-clause-reads g c =
     let ready = c.requires.ready.chain.ready in
     let o = c.requires.opener in
     let found = c.in_ok-closer.ensures in
-    let result : Result (Option ℕ) Fault = Ok c.put_code.result in
+    let result : Result Rest Fault = Ok c.put_code.result in
     let here : FoundCode place.text.now tables tables' nodes ix x c.in_ok-cow.cow =
     found_code place.text.now tables tables' nodes ix x o.0 o.1 c.in_ok-cow.cow _ c.in_ok-closer.field-0 c.item.result.now
     c.item-2.result.now ready o.2 found.found c.in-Some.is found.within (c.item.ensures no_item) (c.item-2.ensures no_item)

@@ -31,9 +31,9 @@ returns-in-Some g c =
     let e = c.read_bracket.ensures in
     let new = c.read_bracket.new.self in
     record {
-      reads = IfOk-weaker c.read_bracket.result _ _ (λ next r. bracket_read c.requires.ready e.kept r) e.reads;
+      reads = IfOk-weaker c.read_bracket.result _ _ (λ rest r. bracket_read c.requires.ready e.kept r) e.reads;
       stops = IfErr-weaker c.read_bracket.result _ _ (λ fault both. record {
-        memory = both.0;
+        refused = both.0;
         at_node = both.1;
         looking = bracket_stops c.args.ix c.args.tree.now c.args.self.now new e.kept;
       }) (if_err_both c.read_bracket.result _ _ e.refused e.stops);
@@ -64,7 +64,7 @@ returns-in-None g c =
       reads = other_read c.read_other.result g.F.BrokenLinkCallback.answers c.args.place.now c.args.ix t new.tree s new.self
           c.requires.ready kind e.kept e.reads;
       stops = IfErr-weaker c.read_other.result _ _ (λ fault both. record {
-        memory = both.0;
+        refused = both.0;
         at_node = λ first left was_read.
             stops_here g.F.BrokenLinkCallback.answers (setting_by s) (above_cursor s.text.now t) (Some c.args.ix) left (stage_by t s)
             s.waiting.spent new.self.lookup.callback (ap (λ (r : Resolver g.row.F.Denot). r.lookup.callback) e.kept);

@@ -1,11 +1,12 @@
 -- What the scan finds is what pass one finds from the `<` on, and what is put there reads so.
-use Rattle.std.proofs.Common.{ℕ, List, Some, None, sym, ap, ◌∙◌, subst, arith, ◌≡◌, Option, refl}
+use Rattle.std.proofs.Common.{ℕ, List, Some, None, sym, ap, ◌∙◌, subst, arith, ◌≡◌, refl}
 use Rattle.std.specs.Str.{IsCharBoundary}
 use Rattle.std.specs.Option.{option_map}
 use Rattle.markdown_base.specs.BlockTree.{no_item}
 use Rattle.markdown_base.specs.declared.item.Item.{Item}
 use Rattle.markdown_document.specs.Tables.{tables_of}
 use Rattle.markdown_spans.specs.MarkupView.{markup_of}
+use Rattle.markdown_resolver.specs.declared.rest.Rest.{Rest}
 use Rattle.markdown_resolver.proofs.ChainPlaceLemmas.{has_blocks}
 use Rattle.markdown_resolver.proofs.MarkupItemLemmas.{boundary_before, lies_at}
 use Rattle.markdown_resolver.proofs.MarkupLemmas.{if_ok, is_scanned, markup_stands, none_follows, none_past_block, reads_found, reads_text}
@@ -46,7 +47,7 @@ returns-then-item-place-clause-reads g c =
           (none_follows place tree held c.args.ix rules c.item-item.result.now w.next.result c.requires.ready.chain same w.next.ensures.value
           (sym w.if-not-starts_at.true ∙ w.starts_at.ensures)) puts
     ] in
-    let result : Result (Option ℕ) Fault = Ok c.settle.result in
+    let result : Result Rest Fault = Ok c.settle.result in
     only_reads result place tree s s c.args.ix c.settle.new.tree c.requires.ready c.settle.ensures.place reads refl refl refl
 
 pub new-prefix-requires : goal.new-prefix-requires
@@ -98,7 +99,7 @@ returns-in-None-clause-reads g c =
     c.requires.ready.chain c.requires.opener
     (c.item-item.ensures no_item) c.if-item-place.false c.next.ensures.value c.if-not-starts_at.ensures c.new-prefix.ensures.tree
     (c.new-prefix.ensures.footnotes ∙ c.gfm_footnotes.ensures) c.range-text.ensures.value c.range-text.utf8 value in
-    let result : Result (Option ℕ) Fault = Ok c.settle-in-None.result in
+    let result : Result Rest Fault = Ok c.settle-in-None.result in
     only_reads result place tree s s c.args.ix c.settle-in-None.new.tree c.requires.ready c.settle-in-None.ensures.place
     (λ rules gfm. reads_text place tree held c.args.ix rules c.settle-in-None.result c.settle-in-None.new.tree.nodes
     c.requires.ready.chain c.requires.opener (scan_finds place tree held c.args.ix prefix None rules scanned gfm)

@@ -1,11 +1,12 @@
 -- Reading a `$`: the contracts of the searches and the writes give what the lemmas on math spans require.
-use Rattle.std.proofs.Common.{◌≡◌, Some, None, ap, ◌∙◌, subst, ℕ, Option, refl}
+use Rattle.std.proofs.Common.{◌≡◌, Some, None, ap, ◌∙◌, subst, refl}
 use Rattle.markdown_base.specs.BlockTree.{item_at, no_item}
 use Rattle.markdown_base.specs.declared.item.Item.{Item}
 use Rattle.markdown_document.specs.Origins.{origin_at}
 use Rattle.markdown_document.specs.Stages.{above_cursor}
 use Rattle.markdown_document.specs.Setting.{Setting, setting_of, Rules, rules_from}
 use Rattle.markdown_document.specs.Tables.{tables_of, text_at}
+use Rattle.markdown_resolver.specs.declared.rest.Rest.{Rest}
 use Rattle.markdown_resolver.specs.StoredText.{text_between, origin_between}
 use Rattle.markdown_spans.specs.SpanClosers.{ClosesMath, has_failed}
 use Rattle.markdown_spans.specs.declared.span_text.SpanKind.TheVariants.{Math}
@@ -43,7 +44,7 @@ returns-in_default-clause-reads g c =
     let found = c.in_ok-math.ensures in
     let closes : ClosesMath nodes ix None = subst (ClosesMath nodes ix) c.in_default.is found.found in
     let puts = c.settle.ensures.puts place.text.now tables ready in
-    let result : Result (Option ℕ) Fault = Ok c.settle.result in
+    let result : Result Rest Fault = Ok c.settle.result in
     let read = reads_by_rules result place s.text.now (rules_from s.options s.lookup.tables (is_some s.lookup.callback)) tree ix
     c.settle.new.tree.nodes tables tables ready c.requires.ready.text (ap gfm_footnotes_on c.requires.ready.options)
     (λ rules gfm. let set : Setting = setting_of place.text.now rules in
@@ -106,7 +107,7 @@ returns-clause-reads g c =
     let d = dollar_body (item_at nodes ix).body c.requires.opener in
     let found = c.in_ok-math.ensures in
     let start = start_is place.text.now tables nodes ix c.math_text_start.result ready c.math_text_start.ensures in
-    let result : Result (Option ℕ) Fault = Ok c.put_found.result in
+    let result : Result Rest Fault = Ok c.put_found.result in
     let standing_item = math_item nodes ix m c.in_ok-cow.cow in
     let here : PutsMath place.text.now tables tables' nodes ix m c.in_ok-cow.cow
     (span_of c.item-2.result.now c.item-3.result.now m c.in_ok-cow.cow) =

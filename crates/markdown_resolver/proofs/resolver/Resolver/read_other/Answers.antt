@@ -1,5 +1,5 @@
 -- Each kind of item is read by its own function; at any other item nothing is found.
-use Rattle.std.proofs.Common.{ℕ, Option, Some, refl, sym, ap, ◌∙◌, subst}
+use Rattle.std.proofs.Common.{Some, refl, sym, ap, ◌∙◌, subst}
 use Rattle.std.specs.Prelude.{Result, Ok}
 use Rattle.markdown_base.specs.BlockTree.{no_item}
 use Rattle.markdown_base.specs.declared.fault.Fault.{Fault}
@@ -9,6 +9,7 @@ use Rattle.markdown_document.specs.Tables.{tables_of}
 use Rattle.markdown_spans.specs.Closers.{is_dollar}
 use Rattle.markdown_spans.specs.SpanClosers.{has_failed}
 use Rattle.markdown_spans.specs.declared.span_text.SpanKind.{SpanKind}
+use Rattle.markdown_resolver.specs.declared.rest.Rest.{Rest}
 use Rattle.markdown_resolver.specs.Chains.{CanResolve}
 use Rattle.markdown_resolver.specs.ReadsBracket.{setting_by}
 use Rattle.markdown_resolver.proofs.ReadingLemmas.{FindsNothing, finds_nothing, node_within, reads_alone, settled_reads}
@@ -44,7 +45,7 @@ returns-in_default g c =
     let nothing_there : FindsNothing c.item.result.now.body = finds_nothing c.item.result.now.body c.in_default.not-MaybeCode
     c.in_default.not-MaybeMath c.in_default.not-MaybeHtml in
     let ready : CanResolve s.text.now tables nodes (Some c.args.ix) = rw c.requires.ready.text at c.requires.ready.chain.ready in
-    let result : Result (Option ℕ) Fault = Ok c.settle.result in
+    let result : Result Rest Fault = Ok c.settle.result in
     let read = reads_alone result set above c.args.ix nodes c.settle.new.tree.nodes tables tables ready
     (settled_reads set above c.args.ix c.settle.result nodes c.settle.new.tree.nodes tables ready
     (subst FindsNothing (ap (λ (item : Item). item.body) (c.item.ensures no_item)) nothing_there)
