@@ -24,7 +24,7 @@ ghost use Rattle.markdown_resolver.specs.Rewritten.{IsRefused, Puts, settled};
 
 use crate::found::settle;
 use crate::links::{
-    put_footnote, put_image_footnote, put_link, put_wikilink_name, put_wikilink_shown,
+    Brackets, put_footnote, put_image_footnote, put_link, put_wikilink_name, put_wikilink_shown,
 };
 use crate::rest::Rest;
 use markdown_base::cow_str::CowStr;
@@ -41,6 +41,25 @@ use markdown_brackets::openers::Opener;
 use markdown_brackets::options::wikilinks_on;
 use markdown_brackets::wikilink_nodes::ShownNodes;
 use markdown_defs::Allocations;
+
+/// A link or an image that a `]` closes. It ends at byte offset `end`, and the chain continues at `next` or later.
+#[derive(Drop)]
+struct ClosedLink<'a> {
+    opener: Opener,
+    target: Target<'a>,
+    end: usize,
+    next: usize,
+}
+
+/// A wikilink that a `]` closes. It ends at byte offset `end`.
+#[derive(Drop)]
+struct ClosedWikilink<'a> {
+    opener: Opener,
+    name: &'a str,
+    has_pothole: bool,
+    shown: ShownNodes,
+    end: usize,
+}
 
 /// Returns whether a link leads to a `[`.
 fn leads_to_opener(tree: &Tree<Item>, link: Option<usize>) -> bool
@@ -112,31 +131,29 @@ fn text_item(start: usize, end: usize) -> Item
     }
 }
 
-/// Puts a link or an image that ends at byte offset `end` into its opener's node. Returns the rest of the chain, which
-/// is at byte offset `next` or later. The only error is `Fault::Memory`; the tree is then unchanged.
+/// Puts a link or an image into its opener's node. Returns the rest of the chain. The only error is `Fault::Memory`; the
+/// tree is then unchanged.
 fn put_target<'a>(
     tree: &mut Tree<Item>,
     tables: &mut Allocations<'a>,
     closer: usize,
-    opener: Opener,
-    target: Target<'a>,
-    end: usize,
-    next: usize,
+    link: ClosedLink<'a>,
 ) -> Result<Rest, Fault>
     requires { (source : List ℕ) × (first : ℕ) × (left : List (Entry ℕ)) × (w : Around)
         × (c : Closing ℕ)
         × (o : Split ℕ) × ClosesAt source (tables_of tables.old) tree.old.nodes first closer left w
         c
-        (a_link o (target_view target) end next) × (opener ≡ opener_of o)
-        × IsTargetFrom source (start_of o.opener) end target }
+        (a_link o (target_view link.target) link.end link.next) × (link.opener ≡ opener_of o)
+        × IsTargetFrom source (start_of o.opener) link.end link.target }
     ensures puts { IfOk result (λ rest.
         (source : List ℕ) (first : ℕ) (left : List (Entry ℕ)) (w : Around)
         (c : Closing ℕ) (o : Split ℕ)
         → ClosesAt source (tables_of tables.old) tree.old.nodes first closer left w c
-        (a_link o (target_view target.entry) end next)
-        → opener ≡ opener_of o → IsTargetFrom source (start_of o.opener) end target.entry
+        (a_link o (target_view link.entry.target) link.entry.end link.entry.next)
+        → link.entry.opener ≡ opener_of o
+        → IsTargetFrom source (start_of o.opener) link.entry.end link.entry.target
         → PutsClosed source first closer rest left w c
-        (a_link o (target_view target.entry) end next)
+        (a_link o (target_view link.entry.target) link.entry.end link.entry.next)
         tree.old.nodes tree.new.nodes (tables_of tables.old) (tables_of tables.new)) }
     ensures place { IfOk result (λ _. tree.new ≡ record tree.old { nodes = tree.new.nodes }) }
 
@@ -145,6 +162,12 @@ fn put_target<'a>(
         ≡ record tables.old { cows = tables.new.cows; links = tables.new.links } }
     ensures refused { IfErr result (IsRefused tree.old tree.new) }
 {
+    let ClosedLink {
+        opener,
+        target,
+        end,
+        next,
+    } = link;
     let Target {
         link_type,
         destination,
@@ -157,7 +180,11 @@ fn put_target<'a>(
         end,
         body: link_body(opener.is_image, link),
     };
-    Ok(put_link(tree, opener.node, closer, item, next))
+    let brackets = Brackets {
+        opener: opener.node,
+        closer,
+    };
+    Ok(put_link(tree, brackets, item, next))
 }
 
 /// Puts a footnote reference into the nodes of its brackets; the `!` of an opener `![` becomes a Text before it.
@@ -191,6 +218,10 @@ fn put_reference<'a>(
     ensures refused { IfErr result (IsRefused tree.old tree.new) }
 {
     let body = ItemBody::FootnoteReference(tables.allocate_cow(name)?);
+    let brackets = Brackets {
+        opener: opener.node,
+        closer,
+    };
     let start = tree.item(opener.node).start;
     let end = tree.item(closer).end;
     if opener.is_image {
@@ -200,34 +231,32 @@ fn put_reference<'a>(
             end,
             body,
         };
-        return Ok(put_image_footnote(tree, opener.node, closer, mark, item));
+        return Ok(put_image_footnote(tree, brackets, mark, item));
     }
     let item = Item { start, end, body };
-    Ok(put_footnote(tree, opener.node, closer, item))
+    Ok(put_footnote(tree, brackets, item))
 }
 
-/// Puts a wikilink that ends at byte offset `end` into its opener's node, as a link or as an image. Returns the rest of
-/// the chain. The only error is `Fault::Memory`; the tree is then unchanged.
+/// Puts a wikilink into its opener's node, as a link or as an image. Returns the rest of the chain. The only error is
+/// `Fault::Memory`; the tree is then unchanged.
 fn put_wikilink<'a>(
     tree: &mut Tree<Item>,
     tables: &mut Allocations<'a>,
     closer: usize,
-    opener: Opener,
-    name: &'a str,
-    has_pothole: bool,
-    shown: ShownNodes,
-    end: usize,
+    wikilink: ClosedWikilink<'a>,
 ) -> Result<Rest, Fault>
     requires { (source : List ℕ) × (first : ℕ) × (left : List (Entry ℕ)) × (w : Around)
         × (c : Closing ℕ)
         × (becomes : Becomes ℕ)
         × ClosesAt source (tables_of tables.old) tree.old.nodes first closer left w c becomes
-        × IsBecome w becomes (Wikilinked opener name has_pothole shown end) }
+        × IsBecome w becomes (Wikilinked wikilink.opener wikilink.name wikilink.has_pothole
+        wikilink.shown wikilink.end) }
     ensures puts { IfOk result (λ rest.
         (source : List ℕ) (first : ℕ) (left : List (Entry ℕ)) (w : Around)
         (c : Closing ℕ) (becomes : Becomes ℕ)
         → ClosesAt source (tables_of tables.old) tree.old.nodes first closer left w c becomes
-        → IsBecome w becomes (Wikilinked opener name.entry has_pothole shown end)
+        → IsBecome w becomes (Wikilinked wikilink.entry.opener wikilink.entry.name
+        wikilink.entry.has_pothole wikilink.entry.shown wikilink.entry.end)
         → PutsClosed source first closer rest left w c becomes tree.old.nodes tree.new.nodes
         (tables_of tables.old) (tables_of tables.new)) }
     ensures place { IfOk result (λ _. tree.new ≡ record tree.old { nodes = tree.new.nodes }) }
@@ -238,29 +267,28 @@ fn put_wikilink<'a>(
     ensures refused { IfErr result (IsRefused tree.old tree.new) }
 {
     let link = tables.allocate_link(
-        LinkType::WikiLink { has_pothole },
-        CowStr::Borrowed(name),
+        LinkType::WikiLink {
+            has_pothole: wikilink.has_pothole,
+        },
+        CowStr::Borrowed(wikilink.name),
         CowStr::Borrowed(""),
         CowStr::Borrowed(""),
     )?;
-    let item = Item {
-        start: tree.item(opener.node).start,
-        end,
-        body: link_body(opener.is_image, link),
+    let brackets = Brackets {
+        opener: wikilink.opener.node,
+        closer,
     };
-    match shown {
+    let item = Item {
+        start: tree.item(brackets.opener).start,
+        end: wikilink.end,
+        body: link_body(wikilink.opener.is_image, link),
+    };
+    match wikilink.shown {
         ShownNodes::Over { node, start, end } => {
             let inside = text_item(start, end);
-            Ok(put_wikilink_name(tree, opener.node, node, closer, item, inside))
+            Ok(put_wikilink_name(tree, brackets, node, item, inside))
         }
-        ShownNodes::From { node, at } => Ok(put_wikilink_shown(
-            tree,
-            opener.node,
-            node,
-            closer,
-            item,
-            at,
-        )),
+        ShownNodes::From { node, at } => Ok(put_wikilink_shown(tree, brackets, node, item, at)),
     }
 }
 
@@ -298,7 +326,15 @@ pub(crate) fn put_closed<'a>(
             target,
             end,
             next,
-        } => put_target(tree, tables, closer, opener, target, end, next),
+        } => {
+            let link = ClosedLink {
+                opener,
+                target,
+                end,
+                next,
+            };
+            put_target(tree, tables, closer, link)
+        }
         ClosedBracket::Footnote { opener, name } => {
             put_reference(tree, tables, closer, opener, name)
         }
@@ -308,6 +344,15 @@ pub(crate) fn put_closed<'a>(
             has_pothole,
             shown,
             end,
-        } => put_wikilink(tree, tables, closer, opener, name, has_pothole, shown, end),
+        } => {
+            let wikilink = ClosedWikilink {
+                opener,
+                name,
+                has_pothole,
+                shown,
+                end,
+            };
+            put_wikilink(tree, tables, closer, wikilink)
+        }
     }
 }

@@ -14,6 +14,13 @@ use crate::rest::Rest;
 use markdown_base::item::Item;
 use markdown_base::tree::Tree;
 
+/// The nodes of an opener and of the `]` that closes it.
+#[derive(Clone, Copy, Drop)]
+pub struct Brackets {
+    pub opener: usize,
+    pub closer: usize,
+}
+
 /// Moves the nodes between an opener and its closer, of which `last` is the last, below the opener, which the closer
 /// then follows.
 fn enclose(tree: &mut Tree<Item>, opener: usize, last: usize, closer: usize)
@@ -31,83 +38,71 @@ fn enclose(tree: &mut Tree<Item>, opener: usize, last: usize, closer: usize)
 
 /// Puts a link or an image into the node of its opener, over what is inside. Returns the rest of the chain, which is at
 /// byte offset `next_byte` or later.
-pub fn put_link(
-    tree: &mut Tree<Item>,
-    opener: usize,
-    closer: usize,
-    item: Item,
-    next_byte: usize,
-) -> Rest
+pub fn put_link(tree: &mut Tree<Item>, brackets: Brackets, item: Item, next_byte: usize) -> Rest
     requires { (source : List ℕ) × (tables : Tables) × (tables' : Tables) × (inside : List ℕ)
         × HasGrown tables tables'
-        × CanClose source tables tree.old.nodes opener closer inside next_byte
-        × CanPutOver source tables tables' tree.old.nodes opener item next_byte }
+        × CanClose source tables tree.old.nodes brackets.opener brackets.closer inside next_byte
+        × CanPutOver source tables tables' tree.old.nodes brackets.opener item next_byte }
     ensures puts { (source : List ℕ) (tables tables' : Tables) (inside : List ℕ)
         → HasGrown tables tables'
-        → CanClose source tables tree.old.nodes opener closer inside next_byte
-        → CanPutOver source tables tables' tree.old.nodes opener item next_byte
-        → PutsOver source opener closer inside (over_inside source tables' item) next_byte
-        (opener ∷ []) result
+        → CanClose source tables tree.old.nodes brackets.opener brackets.closer inside next_byte
+        → CanPutOver source tables tables' tree.old.nodes brackets.opener item next_byte
+        → PutsOver source brackets.opener brackets.closer inside (over_inside source tables' item) next_byte
+        (brackets.opener ∷ []) result
         tree.old.nodes tree.new.nodes tables tables' }
     ensures place { tree.new ≡ record tree.old { nodes = tree.new.nodes } }
 {
-    let rest = first_past(tree, tree.next(closer), next_byte);
-    let last = last_before(tree, opener, closer);
-    enclose(tree, opener, last, closer);
-    write_node(tree, opener, item, rest.next);
+    let rest = first_past(tree, tree.next(brackets.closer), next_byte);
+    let last = last_before(tree, brackets.opener, brackets.closer);
+    enclose(tree, brackets.opener, last, brackets.closer);
+    write_node(tree, brackets.opener, item, rest.next);
     begin_from(tree, rest.next, next_byte);
     rest
 }
 
 /// Puts a footnote reference, which ends where its closer does, into the node of its opener. What was inside leaves the
 /// chain. Returns the rest of the chain.
-pub fn put_footnote(tree: &mut Tree<Item>, opener: usize, closer: usize, item: Item) -> Rest
+pub fn put_footnote(tree: &mut Tree<Item>, brackets: Brackets, item: Item) -> Rest
     requires { (source : List ℕ) × (tables : Tables) × (tables' : Tables) × (inside : List ℕ)
         × HasGrown tables tables'
-        × CanClose source tables tree.old.nodes opener closer inside item.end
-        × CanPutOver source tables tables' tree.old.nodes opener item item.end
-        × (item.end ≡ (item_at tree.old.nodes closer).end) }
+        × CanClose source tables tree.old.nodes brackets.opener brackets.closer inside item.end
+        × CanPutOver source tables tables' tree.old.nodes brackets.opener item item.end
+        × (item.end ≡ (item_at tree.old.nodes brackets.closer).end) }
     ensures puts { (source : List ℕ) (tables tables' : Tables) (inside : List ℕ)
         → HasGrown tables tables'
-        → CanClose source tables tree.old.nodes opener closer inside item.end
-        → CanPutOver source tables tables' tree.old.nodes opener item item.end
-        → item.end ≡ (item_at tree.old.nodes closer).end
-        → PutsOver source opener closer inside (in_place_of source tables' item) item.end
-        (opener ∷ []) result
+        → CanClose source tables tree.old.nodes brackets.opener brackets.closer inside item.end
+        → CanPutOver source tables tables' tree.old.nodes brackets.opener item item.end
+        → item.end ≡ (item_at tree.old.nodes brackets.closer).end
+        → PutsOver source brackets.opener brackets.closer inside (in_place_of source tables' item) item.end
+        (brackets.opener ∷ []) result
         tree.old.nodes tree.new.nodes tables tables' }
     ensures place { tree.new ≡ record tree.old { nodes = tree.new.nodes } }
 {
-    let rest = first_past(tree, tree.next(closer), item.end);
-    write_node(tree, opener, item, rest.next);
+    let rest = first_past(tree, tree.next(brackets.closer), item.end);
+    write_node(tree, brackets.opener, item, rest.next);
     begin_from(tree, rest.next, item.end);
     rest
 }
 
 /// Puts a Text for the `!` of an opener into its node, and a footnote reference, which ends where its closer does, into
 /// the closer's node. What was inside leaves the chain. Returns the rest of the chain.
-pub fn put_image_footnote(
-    tree: &mut Tree<Item>,
-    opener: usize,
-    closer: usize,
-    mark: Item,
-    item: Item,
-) -> Rest
+pub fn put_image_footnote(tree: &mut Tree<Item>, brackets: Brackets, mark: Item, item: Item) -> Rest
     requires { (source : List ℕ) × (tables : Tables) × (tables' : Tables) × (inside : List ℕ)
         × HasGrown tables tables'
-        × CanClose source tables tree.old.nodes opener closer inside item.end
-        × CanPutMark source tables tables' tree.old.nodes opener closer mark item }
+        × CanClose source tables tree.old.nodes brackets.opener brackets.closer inside item.end
+        × CanPutMark source tables tables' tree.old.nodes brackets.opener brackets.closer mark item }
     ensures puts { (source : List ℕ) (tables tables' : Tables) (inside : List ℕ)
         → HasGrown tables tables'
-        → CanClose source tables tree.old.nodes opener closer inside item.end
-        → CanPutMark source tables tables' tree.old.nodes opener closer mark item
-        → PutsOver source opener closer inside (after_mark source tables' mark item) item.end
-        (opener ∷ closer ∷ [])
+        → CanClose source tables tree.old.nodes brackets.opener brackets.closer inside item.end
+        → CanPutMark source tables tables' tree.old.nodes brackets.opener brackets.closer mark item
+        → PutsOver source brackets.opener brackets.closer inside (after_mark source tables' mark item) item.end
+        (brackets.opener ∷ brackets.closer ∷ [])
         result tree.old.nodes tree.new.nodes tables tables' }
     ensures place { tree.new ≡ record tree.old { nodes = tree.new.nodes } }
 {
-    let rest = first_past(tree, tree.next(closer), item.end);
-    write_node(tree, opener, mark, Some(closer));
-    write_node(tree, closer, item, rest.next);
+    let rest = first_past(tree, tree.next(brackets.closer), item.end);
+    write_node(tree, brackets.opener, mark, Some(brackets.closer));
+    write_node(tree, brackets.closer, item, rest.next);
     begin_from(tree, rest.next, item.end);
     rest
 }
@@ -135,30 +130,30 @@ pub(crate) fn last_before(tree: &Tree<Item>, opener: usize, closer: usize) -> us
 /// `first`. All else that was inside leaves the chain. Returns the rest of the chain.
 pub(crate) fn put_wikilink_name(
     tree: &mut Tree<Item>,
-    opener: usize,
+    brackets: Brackets,
     first: usize,
-    closer: usize,
     item: Item,
     inside: Item,
 ) -> Rest
     requires { (source : List ℕ) × (tables : Tables) × (tables' : Tables) × (nodes : List ℕ)
         × (skipped : List ℕ)
         × (shown : List ℕ) × HasGrown tables tables'
-        × CanClose source tables tree.old.nodes opener closer nodes item.end
-        × CanPutOver source tables tables' tree.old.nodes opener item item.end
+        × CanClose source tables tree.old.nodes brackets.opener brackets.closer nodes item.end
+        × CanPutOver source tables tables' tree.old.nodes brackets.opener item item.end
         × CanPut source tables tables' inside
         × (nodes ≡ skipped ++ first ∷ shown) × ((n : Named) → times_named n inside.body ≡ 0) }
     ensures puts { (source : List ℕ) (tables tables' : Tables) (nodes skipped shown : List ℕ)
         → HasGrown tables tables'
-        → CanClose source tables tree.old.nodes opener closer nodes item.end
-        → CanPutOver source tables tables' tree.old.nodes opener item item.end
+        → CanClose source tables tree.old.nodes brackets.opener brackets.closer nodes item.end
+        → CanPutOver source tables tables' tree.old.nodes brackets.opener item item.end
         → CanPut source tables tables' inside
         → nodes ≡ skipped ++ first ∷ shown → ((n : Named) → times_named n inside.body ≡ 0)
-        → PutsOver source opener closer nodes (over_text source tables' item inside) item.end
-        (opener ∷ []) result
+        → PutsOver source brackets.opener brackets.closer nodes (over_text source tables' item inside) item.end
+        (brackets.opener ∷ []) result
         tree.old.nodes tree.new.nodes tables tables' }
     ensures place { tree.new ≡ record tree.old { nodes = tree.new.nodes } }
 {
+    let Brackets { opener, closer } = brackets;
     let rest = first_past(tree, tree.next(closer), item.end);
     tree.set_child(opener, Some(first));
     tree.set_child(first, None);
@@ -172,28 +167,28 @@ pub(crate) fn put_wikilink_name(
 /// node of its opener, with that below it. Returns the rest of the chain.
 pub(crate) fn put_wikilink_shown(
     tree: &mut Tree<Item>,
-    opener: usize,
+    brackets: Brackets,
     first: usize,
-    closer: usize,
     item: Item,
     from: usize,
 ) -> Rest
     requires { (source : List ℕ) × (tables : Tables) × (tables' : Tables) × (nodes : List ℕ)
         × (skipped : List ℕ)
         × HasGrown tables tables'
-        × CanClose source tables tree.old.nodes opener closer nodes item.end
-        × CanPutOver source tables tables' tree.old.nodes opener item item.end
+        × CanClose source tables tree.old.nodes brackets.opener brackets.closer nodes item.end
+        × CanPutOver source tables tables' tree.old.nodes brackets.opener item item.end
         × CanShow source tree.old.nodes nodes skipped first from }
     ensures puts { (source : List ℕ) (tables tables' : Tables) (nodes skipped : List ℕ)
         → HasGrown tables tables'
-        → CanClose source tables tree.old.nodes opener closer nodes item.end
-        → CanPutOver source tables tables' tree.old.nodes opener item item.end
+        → CanClose source tables tree.old.nodes brackets.opener brackets.closer nodes item.end
+        → CanPutOver source tables tables' tree.old.nodes brackets.opener item item.end
         → CanShow source tree.old.nodes nodes skipped first from
-        → PutsOver source opener closer nodes (over_shown source tables' item (length skipped) from)
+        → PutsOver source brackets.opener brackets.closer nodes (over_shown source tables' item (length skipped) from)
         item.end
-        (opener ∷ []) result tree.old.nodes tree.new.nodes tables tables' }
+        (brackets.opener ∷ []) result tree.old.nodes tree.new.nodes tables tables' }
     ensures place { tree.new ≡ record tree.old { nodes = tree.new.nodes } }
 {
+    let Brackets { opener, closer } = brackets;
     let rest = first_past(tree, tree.next(closer), item.end);
     enclose(tree, opener, last_before(tree, opener, closer), closer);
     tree.set_child(opener, Some(first));

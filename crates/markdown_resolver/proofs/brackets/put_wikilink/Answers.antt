@@ -11,11 +11,11 @@ use Rattle.markdown_resolver.proofs.SplitLemmas.{inside_numbers}
 use Rattle.markdown_resolver.proofs.brackets.put_wikilink.Goals as goal
 
 pub item-requires : goal.item-requires
-item-requires c = opener_there c.args.opener c.args.name c.args.has_pothole c.args.shown c.args.end c.requires.6 c.requires.7
+item-requires c = opener_there c.args.wikilink.opener c.args.wikilink.name c.args.wikilink.has_pothole c.args.wikilink.shown c.args.wikilink.end c.requires.6 c.requires.7
 
 pub put_wikilink_name-requires : goal.put_wikilink_name-requires
 put_wikilink_name-requires c =
-    let r = may_show c.args.tables.now c.allocate_link.new.self c.args.opener c.args.name c.args.has_pothole c.args.shown c.args.end _
+    let r = may_show c.args.tables.now c.allocate_link.new.self c.args.wikilink.opener c.args.wikilink.name c.args.wikilink.has_pothole c.args.wikilink.shown c.args.wikilink.end _
     c.in_ok-link.link c.item.result.now c.link_body.result c.requires.6 c.requires.7 c.in_ok-link.ensures.put c.in_ok-link.ensures.number
     refl refl (c.item.ensures no_item) c.link_body.ensures in
     let can = named_over r c.in-Over.is in (
@@ -36,7 +36,7 @@ put_wikilink_name-requires c =
 
 pub put_wikilink_shown-requires : goal.put_wikilink_shown-requires
 put_wikilink_shown-requires c =
-    let r = may_show c.args.tables.now c.allocate_link.new.self c.args.opener c.args.name c.args.has_pothole c.args.shown c.args.end _
+    let r = may_show c.args.tables.now c.allocate_link.new.self c.args.wikilink.opener c.args.wikilink.name c.args.wikilink.has_pothole c.args.wikilink.shown c.args.wikilink.end _
     c.in_ok-link.link c.item.result.now c.link_body.result c.requires.6 c.requires.7 c.in_ok-link.ensures.put c.in_ok-link.ensures.number
     refl refl (c.item.ensures no_item) c.link_body.ensures in
     let s = shows_over r c.in-From.is in (
@@ -55,7 +55,7 @@ pub returns-in-Over-clause-puts : goal.returns-in-Over-clause-puts
 returns-in-Over-clause-puts c source first left w closing becomes closes is =
     let tables = tables_of c.args.tables.now in
     let tables' = tables_of c.allocate_link.new.self in
-    let r = may_show c.args.tables.now c.allocate_link.new.self c.args.opener c.args.name c.args.has_pothole c.args.shown c.args.end _
+    let r = may_show c.args.tables.now c.allocate_link.new.self c.args.wikilink.opener c.args.wikilink.name c.args.wikilink.has_pothole c.args.wikilink.shown c.args.wikilink.end _
     c.in_ok-link.link c.item.result.now c.link_body.result closes is c.in_ok-link.ensures.put c.in_ok-link.ensures.number
     refl refl (c.item.ensures no_item) c.link_body.ensures in
     let can = named_over r c.in-Over.is in
@@ -66,7 +66,7 @@ returns-in-Over-clause-puts c source first left w closing becomes closes is =
 
 pub returns-in-From-clause-puts : goal.returns-in-From-clause-puts
 returns-in-From-clause-puts c source first left w closing becomes closes is =
-    let r = may_show c.args.tables.now c.allocate_link.new.self c.args.opener c.args.name c.args.has_pothole c.args.shown c.args.end _
+    let r = may_show c.args.tables.now c.allocate_link.new.self c.args.wikilink.opener c.args.wikilink.name c.args.wikilink.has_pothole c.args.wikilink.shown c.args.wikilink.end _
     c.in_ok-link.link c.item.result.now c.link_body.result closes is c.in_ok-link.ensures.put c.in_ok-link.ensures.number
     refl refl (c.item.ensures no_item) c.link_body.ensures in
     let s = shows_over r c.in-From.is in
