@@ -11,7 +11,8 @@ use Rattle.markdown_delims.specs.declared.run.Run.{Run}
 use Rattle.markdown_delims.specs.declared.run.Characters.{Characters}
 use Rattle.markdown_delims.specs.declared.bounds.CharacterBounds.{CharacterBounds}
 use Rattle.markdown_delims.specs.declared.bounds.LowerBounds.{LowerBounds}
-use Rattle.markdown_delims.specs.MayPair.{can_do_both, may_pair, needs_equal_length, is_tilde_or_caret}
+use Rattle.markdown_delims.specs.MayPair.{can_do_both, may_pair, needs_equal_length}
+use Rattle.markdown_delims.specs.PairingLaws.{is_tilde_or_caret}
 use Rattle.markdown_delims.specs.Bounds.{IsOutOfStep, IsOfBoth, BoundCharacter, BoundStack, remainder_bound, character_bound_for, bound_at}
 use Rattle.markdown_delims.specs.Bounds.{bound_for, character_raised_for, raised_at, raised_for, character_lowered, lowered, no_bounds}
 use Rattle.markdown_delims.specs.Bounds.{zero_bounds, drop_bound}

@@ -8,10 +8,10 @@ use Rattle.markdown_document.specs.Setting.{Setting}
 use Rattle.markdown_document.specs.Waiting.{text_if, as_closed}
 use Rattle.markdown_delims.specs.declared.run.Run.{Run}
 use Rattle.markdown_delims.specs.MayPair.{may_pair}
-use Rattle.markdown_delims.specs.Pairing.{Read, done_read, waiting, texts_before, FoundOpener, found_if, nearest_opener, paired}
+use Rattle.markdown_delims.specs.Pairing.{Read, done_read, waiting, texts_before, FoundOpener, found_if, nearest_opener, paired, NothingOpen}
 use Rattle.markdown_delims.specs.PairingFinds.{finds_in}
 use Rattle.markdown_delims.specs.Layers.{marks_of}
-use Rattle.markdown_delims.specs.PairingLaws.{NothingOpen, below_trees, NonePairs, PairingClosedLaw, PairingOrderLaw, JoinsLaw, MissesNoneLaw, KeepsLaw}
+use Rattle.markdown_delims.specs.PairingLaws.{below_trees, NonePairs, PairingClosedLaw, PairingOrderLaw, JoinsLaw, MissesNoneLaw, KeepsLaw}
 use Rattle.markdown_delims.specs.PairingLaws.{PairingTagLaw}
 use Rattle.markdown_delims.specs.Quotes.{first_turn, quotes_after, with_quotes}
 use Rattle.markdown_delims.proofs.KeepLemmas.{EachTree, MakesTrees, IsReadable, runs-keep, IsClosedTree, as_closed-closed, paired-closed}

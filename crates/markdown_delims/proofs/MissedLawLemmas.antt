@@ -15,7 +15,7 @@ use Rattle.markdown_delims.specs.declared.run.Delimiter.{Delimiter}
 use Rattle.markdown_delims.specs.declared.run.Delimiter.TheVariants.{Star, Underscore, Tilde, Caret}
 use Rattle.markdown_delims.specs.declared.run.Run.{Run}
 use Rattle.markdown_delims.specs.Layers.{marks_of, layer_of_one, layer_of_two, run_of_shape, run_of}
-use Rattle.markdown_delims.specs.MayPair.{delimiter_of, drops, is_tilde_or_caret, may_pair}
+use Rattle.markdown_delims.specs.MayPair.{delimiter_of, drops, may_pair}
 use Rattle.markdown_delims.specs.Pairing.{paired, Read, done_read, waiting, texts_before, characters_done, read_trees, FoundOpener, nearest_opener}
 use Rattle.markdown_delims.specs.Pairing.{drop_read, Layers, layers, trees_done, still_waiting, last_first, opened_if}
 use Rattle.markdown_delims.specs.Pairing.{left_over, after_layers, after_search, closed_by, run_read, first_texts, after_tree, reads_from}
@@ -24,7 +24,7 @@ use Rattle.markdown_delims.specs.Quotes.{kind_of_shape, closes_later, is_closed_
 use Rattle.markdown_delims.specs.Quotes.{with_quotes}
 use Rattle.markdown_delims.specs.declared.quotes.Kind.TheVariants as kind
 use Rattle.markdown_base.specs.declared.item.ItemBody.TheVariants as body
-use Rattle.markdown_delims.specs.PairingLaws.{NonePairs, RunAt, run_at, further, no_run, with_runs, run_if_text, kept_run, DoNotPair}
+use Rattle.markdown_delims.specs.PairingLaws.{is_tilde_or_caret, NonePairs, RunAt, run_at, further, no_run, with_runs, run_if_text, kept_run, DoNotPair}
 use Rattle.markdown_delims.specs.PairingLaws.{NonePairsLater, NoneMissed, without_tags, NoneMissedLaw}
 use Rattle.markdown_delims.proofs.BeginLawLemmas.{some-long}
 use Rattle.markdown_delims.proofs.LawLemmas.{misses-law, tag-law}

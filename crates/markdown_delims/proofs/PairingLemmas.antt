@@ -27,7 +27,7 @@ use Rattle.markdown_delims.specs.MayPair.{delimiter_of}
 use Rattle.markdown_delims.specs.PairedChain.{WaitsForPairing}
 use Rattle.markdown_delims.specs.Pairing.{Read, done_read, read_trees, trees_done, reads_from, runs_paired}
 use Rattle.markdown_delims.specs.PairingFinds.{finds_from}
-use Rattle.markdown_delims.specs.Quotes.{left_single, right_single, kind_by, kind_of_shape, is_closed_later, is_end, QuoteTurn, single_turn}
+use Rattle.markdown_delims.specs.Quotes.{left_single, right_single, kind_of_shape, is_closed_later, is_end, QuoteTurn, single_turn}
 use Rattle.markdown_delims.specs.Quotes.{double_turn, turn_by, first_turn, quotes_after}
 use Rattle.markdown_delims.specs.RunReading.{StandsWhole, HasWholeRuns, counts_one, delimiters_of}
 use Rattle.markdown_delims.proofs.ReadLemmas.{reads_none, finds_none}
@@ -80,11 +80,11 @@ closed_count : (shape : Shape) → is_unresolved shape ≡ false → ShowsCount 
 closed_count (unresolved b) h = cc h
 closed_count other h = tt
 
-quote_kind : (q x y : Bool) → kind_by q x y ≡ kind.Other → ⊥
+quote_kind : (q x y : Bool) → (if q then kind.Single x y else kind.Double x y) ≡ kind.Other → ⊥
 quote_kind true x y e = cc
 quote_kind false x y e = cc
 
-quote_break : (q x y : Bool) → kind.Break ≡ kind_by q x y → ⊥
+quote_break : (q x y : Bool) → kind.Break ≡ (if q then kind.Single x y else kind.Double x y) → ⊥
 quote_break true x y e = cc
 quote_break false x y e = cc
 

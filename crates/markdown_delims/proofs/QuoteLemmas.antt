@@ -2,6 +2,7 @@
 use Rattle.std.proofs.Common.{◌≡◌, ℕ, suc, ◌<◌, Bool, true, false, List, Option, Some, None, length, refl, ap, sym, ◌∙◌, subst, arith, inl, inr}
 use Rattle.std.specs.Prelude.{◌⊎◌, ◌||◌, ◌&&◌, ◌==◌, if◌then◌else◌, IfSome, is_some}
 use Rattle.std.proofs.lemmas.Bool.{eqb-true, eqb-false, eq-eqb}
+use Rattle.markdown_base.specs.Bytes.{backslash}
 use Rattle.markdown_base.specs.declared.item.Item.{Item}
 use Rattle.markdown_base.specs.declared.item.ItemBody.{ItemBody}
 use Rattle.markdown_base.specs.declared.item.ItemBody.TheVariants as body
@@ -13,7 +14,7 @@ use Rattle.markdown_document.specs.Tables.{Tables}
 use Rattle.markdown_delims.specs.declared.quotes.Kind.{Kind}
 use Rattle.markdown_delims.specs.declared.quotes.Kind.TheVariants as kind
 use Rattle.markdown_delims.specs.ChainStanding.{Chain, view, read_back}
-use Rattle.markdown_delims.specs.Quotes.{synthesized, left_single, right_single, left_double, right_double, shown_backslash, kind_of_shape}
+use Rattle.markdown_delims.specs.Quotes.{synthesized, left_single, right_single, left_double, right_double, kind_of_shape}
 use Rattle.markdown_delims.specs.Quotes.{closes_later, is_closed_later, is_end, turn_by, quotes_after}
 use Rattle.markdown_delims.specs.Quoting.{IsRoot, left_quoted, remembered_as, quoted_from, QuotesStand, QuotesOn}
 use Rattle.markdown_delims.specs.Views.{View, Writes, WroteBody, Holds, LeftHolds, next_number, LeftRises, IsMade, Kept, AllTouched}
@@ -155,10 +156,10 @@ module _ (begun : Forest (Label ℕ)) (a : Label ℕ) (below after : Forest (Lab
   turn_other single double low = stays single double a.part.shape low
 
   pub turn_break : (single : Option ℕ) (double : Bool) → IfSome single (λ x. x < a.tag) → is_end after ≡ true
-      → quoted_from single double (node (shaped shown_backslash a) below begun) after ≡ turned single double kind.Break
+      → quoted_from single double (node (shaped (synthesized backslash) a) below begun) after ≡ turned single double kind.Break
   turn_break single double low e =
-      stays single double shown_backslash low
-      ∙ ap (λ l. read_back (node (shaped (if l then shown_backslash else a.part.shape) a) below
+      stays single double (synthesized backslash) low
+      ∙ ap (λ l. read_back (node (shaped (if l then synthesized backslash else a.part.shape) a) below
       (remembered_as single (is_closed_later after)
       begun)) (quotes_after (is_some single) double after)) (sym e)
 
@@ -166,7 +167,7 @@ module _ (begun : Forest (Label ℕ)) (a : Label ℕ) (below after : Forest (Lab
       → quoted_from single double (node a below begun) after ≡ turned single double kind.Break
   turn_no_break single double low e =
       stays single double a.part.shape low
-      ∙ ap (λ l. read_back (node (shaped (if l then shown_backslash else a.part.shape) a) below
+      ∙ ap (λ l. read_back (node (shaped (if l then synthesized backslash else a.part.shape) a) below
       (remembered_as single (is_closed_later after)
       begun)) (quotes_after (is_some single) double after)) (sym e)
 

@@ -9,7 +9,8 @@ use Rattle.markdown_delims.specs.declared.run.Delimiter.TheVariants.{Star, Under
 use Rattle.markdown_delims.specs.declared.run.Run.{Run}
 use Rattle.markdown_delims.specs.declared.run.Characters.{Characters}
 use Rattle.markdown_delims.specs.declared.bounds.LowerBounds.{LowerBounds}
-use Rattle.markdown_delims.specs.MayPair.{same_delimiter, is_tilde_or_caret, drops, may_pair}
+use Rattle.markdown_delims.specs.MayPair.{same_delimiter, drops, may_pair}
+use Rattle.markdown_delims.specs.PairingLaws.{is_tilde_or_caret}
 use Rattle.markdown_delims.specs.RunSearch.{may_take, OpenRun, nearest_run, drop_run, dropped_by}
 use Rattle.markdown_delims.specs.Bounds.{BoundStack, bound_at, bound_for, raised_at, raised_for, lowered, drop_bound}
 use Rattle.markdown_delims.specs.OpenRuns.{open_run, open_runs_from, open_runs}

@@ -2,11 +2,9 @@
 use Rattle.std.specs.Prelude.{ℕ, zero, suc, Bool, true, false, List, Option, Some, None, slice_index, slice_range}
 use Rattle.markdown_base.specs.EnabledOptions.{strikethrough_on, subscript_on, superscript_on}
 use Rattle.markdown_base.specs.Event.{TagView, emphasis, strong, strikethrough, superscript, subscript}
-use Rattle.markdown_base.specs.declared.item.ItemBody.{ItemBody}
 use Rattle.markdown_base.specs.declared.item.ItemBody.TheVariants as body
 use Rattle.markdown_base.specs.declared.options.Options.{Options}
-use Rattle.markdown_document.specs.Document.{Shape, leaf, enclosed, plain, backslash_break, unresolved, Part, Label}
-use Rattle.markdown_document.specs.Document.{text_over}
+use Rattle.markdown_document.specs.Document.{Shape, enclosed, unresolved, Part, Label, text_over}
 use Rattle.markdown_delims.specs.declared.marks.Marks.{Marks}
 use Rattle.markdown_delims.specs.declared.run.Delimiter.{Delimiter}
 use Rattle.markdown_delims.specs.declared.run.Delimiter.TheVariants.{Star, Underscore, Tilde, Caret}
@@ -59,18 +57,10 @@ run_by zero opens closes (Some d) = None
 run_by (suc n) opens closes (Some d) =
     Some (record { delimiter = d; length = suc n; can_open = opens; can_close = closes })
 
--- the run of an open item, by its body
-abbrev pub run_of_body : ItemBody → Option Delimiter → Option Run
-run_of_body (body.MaybeEmphasis count opens closes) d = run_by count opens closes d
-run_of_body other d = None
-
 -- the run of a shape, if it is open
 abbrev pub run_of_shape : Shape → Option Delimiter → Option Run
-run_of_shape (leaf e origins) d = None
-run_of_shape (enclosed tag) d = None
-run_of_shape plain d = None
-run_of_shape backslash_break d = None
-run_of_shape (unresolved b) d = run_of_body b d
+run_of_shape (unresolved (body.MaybeEmphasis count opens closes)) d = run_by count opens closes d
+run_of_shape other d = None
 
 -- the run that a part's character begins
 abbrev pub run_of : List ℕ → Part → Option Run

@@ -21,13 +21,6 @@ same_delimiter Tilde Tilde = true
 same_delimiter Caret Caret = true
 same_delimiter _ _ = false
 
--- the delimiters whose runs a failed search can drop
-abbrev pub is_tilde_or_caret : Delimiter → Bool
-is_tilde_or_caret Star = false
-is_tilde_or_caret Underscore = false
-is_tilde_or_caret Tilde = true
-is_tilde_or_caret Caret = true
-
 -- a failed search by a closer of the first delimiter drops each open run of the second
 abbrev pub drops : Delimiter → Delimiter → Bool
 drops Tilde Tilde = true

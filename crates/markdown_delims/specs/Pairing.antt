@@ -1,9 +1,9 @@
 -- Pairing of a chain: it is read from left to right, and a closer encloses what lies between its opener and itself
 -- (CommonMark 6.2, and the appendix's "process emphasis").
-use Rattle.std.specs.Prelude.{ℕ, zero, suc, ◌-◌, Bool, true, false, not, ◌&&◌, ◌||◌, List, [], ◌∷◌, map, length, Option}
-use Rattle.std.specs.Prelude.{Some, None}
+use Rattle.std.specs.Prelude.{◌≡◌, ℕ, zero, suc, ◌-◌, ⊤, Bool, true, false, not, ◌&&◌, ◌||◌, List, [], ◌∷◌, map}
+use Rattle.std.specs.Prelude.{length, Option, Some, None}
 use Rattle.markdown_base.specs.Forest.{Forest, nil, node}
-use Rattle.markdown_document.specs.Document.{Label, as_text}
+use Rattle.markdown_document.specs.Document.{Label, as_text, is_unresolved}
 use Rattle.markdown_document.specs.Setting.{Setting}
 use Rattle.markdown_document.specs.Waiting.{as_closed}
 use Rattle.markdown_delims.specs.declared.run.Delimiter.{Delimiter}
@@ -70,18 +70,11 @@ pub record Layers (A : Type 0) : Type 0 where
 abbrev pub layers : {A : Type 0} → Setting → Delimiter → (opener closer : List (Label A)) → Forest (Label A) → Layers A
 layers s d [] vs inside = record { whole = inside; opening = []; closing = vs }
 layers s d (x ∷ xs) [] inside = record { whole = inside; opening = x ∷ xs; closing = [] }
-layers s d (x ∷ []) (v ∷ vs) inside = record {
-  whole = node (spanned s.text (layer_of_one (marks_of s.rules.options) d) x v) inside nil;
-  opening = [];
-  closing = vs;
-}
-layers s d (x ∷ y ∷ xs) (v ∷ []) inside = record {
-  whole = node (spanned s.text (layer_of_one (marks_of s.rules.options) d) x v) inside nil;
-  opening = y ∷ xs;
-  closing = [];
-}
 layers s d (x ∷ y ∷ xs) (v ∷ w ∷ vs) inside =
     layers s d xs vs (node (spanned s.text (layer_of_two (marks_of s.rules.options) d) y w) inside nil)
+layers s d (x ∷ xs) (v ∷ vs) inside =
+    let outer : Label _ = spanned s.text (layer_of_one (marks_of s.rules.options) d) x v in
+    record { whole = node outer inside nil; opening = xs; closing = vs }
 
 -- the trees of a chain, added to what was read
 abbrev pub trees_done : {A : Type 0} → Forest (Label A) → List (Read A) → List (Read A)
@@ -161,3 +154,8 @@ runs_paired s chain = read_trees (reads_from s 0 chain []) nil
 -- a chain resolved after pass one: its quotes and its last break, and then its runs
 unfoldable pub paired : {A : Type 0} → Setting → Forest (Label A) → Forest (Label A)
 paired s chain = runs_paired s (with_quotes chain)
+
+-- no tree of a chain is open
+abbrev pub NothingOpen : {A : Type 0} → Forest (Label A) → Type 0
+NothingOpen nil = ⊤
+NothingOpen (node a below after) = (is_unresolved a.part.shape ≡ false) × NothingOpen after

@@ -5,15 +5,12 @@ use Rattle.markdown_base.specs.Forest.{Forest, nil, node, Each, Throughout}
 use Rattle.markdown_document.specs.Document.{Shape, leaf, Label, Plain, is_unresolved}
 use Rattle.markdown_document.specs.Labels.{Begins, is_plain, weight, retag, retagged}
 use Rattle.markdown_document.specs.Setting.{Setting}
+use Rattle.markdown_delims.specs.declared.run.Delimiter.{Delimiter}
+use Rattle.markdown_delims.specs.declared.run.Delimiter.TheVariants.{Star, Underscore, Tilde, Caret}
 use Rattle.markdown_delims.specs.declared.run.Run.{Run}
 use Rattle.markdown_delims.specs.Layers.{run_of}
-use Rattle.markdown_delims.specs.MayPair.{is_tilde_or_caret, may_pair}
-use Rattle.markdown_delims.specs.Pairing.{Read, done_read, waiting, nearest_opener, paired}
-
--- no tree of a chain is open
-abbrev pub NothingOpen : {A : Type 0} → Forest (Label A) → Type 0
-NothingOpen nil = ⊤
-NothingOpen (node a below after) = (is_unresolved a.part.shape ≡ false) × NothingOpen after
+use Rattle.markdown_delims.specs.MayPair.{may_pair}
+use Rattle.markdown_delims.specs.Pairing.{Read, done_read, waiting, nearest_opener, paired, NothingOpen}
 
 -- a chain with the forest below each of its trees changed
 abbrev pub below_trees : {A : Type 0} → (Forest (Label A) → Forest (Label A)) → Forest (Label A) → Forest (Label A)
@@ -91,6 +88,13 @@ run_if_text other r = None
 -- the run of a character that remained text
 abbrev pub kept_run : Label (Option RunAt) → Option RunAt
 kept_run a = run_if_text a.part.shape a.tag
+
+-- the delimiters whose runs a failed search can drop
+abbrev pub is_tilde_or_caret : Delimiter → Bool
+is_tilde_or_caret Star = false
+is_tilde_or_caret Underscore = false
+is_tilde_or_caret Tilde = true
+is_tilde_or_caret Caret = true
 
 -- two runs may not pair, if the earlier one is of `*` or `_` and can open, and the later one can close
 abbrev pub DoNotPair : (earlier later : Option RunAt) → Type 0

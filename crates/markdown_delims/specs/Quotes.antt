@@ -3,10 +3,8 @@ use Rattle.std.specs.Prelude.{ℕ, encode_utf8, Bool, true, false, ◌&&◌, ◌
 use Rattle.markdown_base.specs.Bytes.{apostrophe, backslash}
 use Rattle.markdown_base.specs.Event.{text}
 use Rattle.markdown_base.specs.Forest.{Forest, nil, node}
-use Rattle.markdown_base.specs.declared.item.ItemBody.{ItemBody}
 use Rattle.markdown_base.specs.declared.item.ItemBody.TheVariants as body
-use Rattle.markdown_document.specs.Document.{Shape, leaf, enclosed, plain, backslash_break, unresolved, Label, shaped}
-use Rattle.markdown_document.specs.Document.{inlined}
+use Rattle.markdown_document.specs.Document.{Shape, leaf, backslash_break, unresolved, Label, shaped, inlined}
 use Rattle.markdown_delims.specs.declared.quotes.Kind.{Kind}
 use Rattle.markdown_delims.specs.declared.quotes.Kind.TheVariants as kind
 
@@ -30,34 +28,18 @@ left_double = synthesized 8220
 abbrev pub right_double : Shape
 right_double = synthesized 8221
 
--- a backslash
-abbrev pub shown_backslash : Shape
-shown_backslash = synthesized backslash
-
--- the kind of a quote: a `'` or a `"`, with whether it can open and can close
-abbrev pub kind_by : (is_single opens closes : Bool) → Kind
-kind_by true opens closes = kind.Single opens closes
-kind_by false opens closes = kind.Double opens closes
-
--- the kind of an open item's body, for reading quotes
-abbrev pub kind_of_open : ItemBody → Kind
-kind_of_open (body.MaybeSmartQuote quote opens closes) = kind_by (quote == apostrophe) opens closes
-kind_of_open other = kind.Other
-
--- the kind of a shape, for reading quotes
+-- the kind of a shape, for reading quotes: a `'` or a `"`, with whether it can open and can close, or a break by a
+-- backslash
 abbrev pub kind_of_shape : Shape → Kind
-kind_of_shape (leaf e origins) = kind.Other
-kind_of_shape (enclosed tag) = kind.Other
-kind_of_shape plain = kind.Other
 kind_of_shape backslash_break = kind.Break
-kind_of_shape (unresolved b) = kind_of_open b
+kind_of_shape (unresolved (body.MaybeSmartQuote quote opens closes)) =
+    if quote == apostrophe then kind.Single opens closes else kind.Double opens closes
+kind_of_shape other = kind.Other
 
 -- whether the `'` that is remembered is closed later: the next one that can close or open decides
 abbrev pub closes_later : Kind → Bool → Bool
 closes_later (kind.Single opens closes) later = if closes then true else if opens then false else later
-closes_later (kind.Double opens closes) later = later
-closes_later kind.Break later = later
-closes_later kind.Other later = later
+closes_later _ later = later
 
 -- whether it is closed in the chain after it
 abbrev pub is_closed_later : {A : Type 0} → Forest (Label A) → Bool
@@ -93,7 +75,7 @@ turn_by (kind.Single opens closes) shape single double later last =
     single_turn (single && closes) opens single double later
 turn_by (kind.Double opens closes) shape single double later last = double_turn (double && closes) opens single double
 turn_by kind.Break shape single double later last =
-    record { made = if last then shown_backslash else shape; single = single; double = double }
+    record { made = if last then synthesized backslash else shape; single = single; double = double }
 turn_by kind.Other shape single double later last = record { made = shape; single = single; double = double }
 
 -- what a chain's first tree becomes

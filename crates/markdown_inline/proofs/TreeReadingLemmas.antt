@@ -7,7 +7,7 @@ use Rattle.markdown_base.specs.Forest.{Forest, nil, node}
 use Rattle.markdown_base.specs.Questions.{Answers, Question}
 use Rattle.markdown_blocks.specs.Blocks.{block_parts, text_of_blocks, block_tree}
 use Rattle.markdown_blocks.specs.declared.blocks.Blocks.{Blocks}
-use Rattle.markdown_delims.specs.PairingLaws.{NothingOpen}
+use Rattle.markdown_delims.specs.Pairing.{NothingOpen}
 use Rattle.markdown_document.specs.Above.{Above, inside_label, no_blocks}
 use Rattle.markdown_document.specs.ChainRest.{joined_chains}
 use Rattle.markdown_document.specs.Document.{Shape, leaf, enclosed, plain, backslash_break, unresolved, Plain}

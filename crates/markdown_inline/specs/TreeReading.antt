@@ -5,7 +5,7 @@ use Rattle.markdown_base.specs.Event.{EventView, start, end, tag_end, hard_break
 use Rattle.markdown_base.specs.Forest.{Forest, nil, node, Each}
 use Rattle.markdown_base.specs.Questions.{Answers}
 use Rattle.markdown_blocks.specs.declared.blocks.Blocks.{Blocks}
-use Rattle.markdown_delims.specs.PairingLaws.{NothingOpen}
+use Rattle.markdown_delims.specs.Pairing.{NothingOpen}
 use Rattle.markdown_document.specs.Above.{Above}
 use Rattle.markdown_document.specs.ChainRest.{joined_chains}
 use Rattle.markdown_document.specs.Document.{Shape, leaf, enclosed, plain, backslash_break, unresolved, Label, Plain}

@@ -7,11 +7,12 @@ use Rattle.markdown_document.specs.Document.{Tags, Label, is_unresolved}
 use Rattle.markdown_document.specs.Labels.{Begins}
 use Rattle.markdown_document.specs.Setting.{Setting, Known}
 use Rattle.markdown_spans.proofs.FindsLemmas.{IsQuietLabel}
-use Rattle.markdown_delims.specs.Pairing.{paired}
-use Rattle.markdown_delims.specs.PairingLaws.{NothingOpen, below_trees}
+use Rattle.markdown_delims.specs.Pairing.{paired, NothingOpen}
+use Rattle.markdown_delims.specs.PairingLaws.{below_trees}
 use Rattle.markdown_delims.proofs.BeginLawLemmas.{begins-law}
 use Rattle.markdown_delims.proofs.LawLemmas.{closed-law, order-law, paired-keeps}
-use Rattle.markdown_resolver.specs.Kept.{IsQuiet, IsQuietBelow, IsUnread}
+use Rattle.markdown_resolver.specs.Kept.{IsQuiet, IsQuietBelow}
+use Rattle.markdown_resolver.specs.Unread.{IsUnread}
 use Rattle.markdown_resolver.specs.KeptChains.{IsKept, IsSettled}
 use Rattle.markdown_resolver.specs.PassOne.{pass_one}
 use Rattle.markdown_resolver.specs.Resolved.{resolved, then_paired, paired_if_open, all_paired}
