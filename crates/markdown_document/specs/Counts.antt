@@ -4,7 +4,7 @@ use Rattle.markdown_document.specs.declared.work.Work.{Work}
 use Rattle.markdown_base.specs.declared.item.ItemBody.TheVariants as body
 use Rattle.markdown_base.specs.Forest.{Forest, nil, node}
 use Rattle.markdown_base.specs.declared.item.ItemBody.{ItemBody}
-use Rattle.markdown_document.specs.Document.{Shape, leaf, enclosed, plain, backslash_break, unresolved, Label}
+use Rattle.markdown_document.specs.Document.{Shape, unresolved, Label}
 
 -- the numbers of items of a chain from its first open item on, of delimiter characters that are left in it when pairing
 -- begins, and of searches for an opener that find one then
@@ -54,11 +54,8 @@ counts_delimiter other = 0
 
 -- the same for a shape: 0 where it is not open
 abbrev pub counts_shape : Shape → ℕ
-counts_shape (leaf e origins) = 0
-counts_shape (enclosed tag) = 0
-counts_shape plain = 0
-counts_shape backslash_break = 0
 counts_shape (unresolved b) = counts_delimiter b
+counts_shape other = 0
 
 -- the number of delimiter characters of a chain
 abbrev pub delimiters_in : {A : Type 0} → Forest (Label A) → ℕ

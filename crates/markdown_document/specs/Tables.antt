@@ -33,8 +33,7 @@ tables_at_start parts = record {
   cows = parts.cows.items;
   links = [];
   alignments = parts.alignments.items;
-  headings =
-      parts.headings.items;
+  headings = parts.headings.items;
 }
 
 -- no entries
@@ -78,8 +77,7 @@ abbrev pub attributes_view : HeadingAttributes → AttributesView
 attributes_view a = record {
   id = option_map text_of a.id;
   classes = map text_of a.classes.items;
-  attributes =
-      map attribute_view a.attrs.items;
+  attributes = map attribute_view a.attrs.items;
 }
 
 -- the attributes of a heading that has none

@@ -2,8 +2,7 @@
 use Rattle.markdown_base.specs.declared.item.ItemBody.TheVariants as body
 use Rattle.std.specs.Prelude.{ℕ, Bool, true, false, List}
 use Rattle.markdown_base.specs.declared.item.ItemBody.{ItemBody}
-use Rattle.markdown_document.specs.Document.{Shape, leaf, enclosed, plain, backslash_break, unresolved, Label}
-use Rattle.markdown_document.specs.Document.{is_unresolved, as_text}
+use Rattle.markdown_document.specs.Document.{Shape, unresolved, Label, is_unresolved, as_text}
 
 -- pairing decides about the item: it is a character of a delimiter run, or a quotation mark
 abbrev pub waits_for_pairing : ItemBody → Bool
@@ -13,11 +12,8 @@ waits_for_pairing other = false
 
 -- pass one leaves a tree of this shape as it is: it is not open, or waits for pairing
 abbrev pub is_quiet : Shape → Bool
-is_quiet (leaf e origins) = true
-is_quiet (enclosed tag) = true
-is_quiet plain = true
-is_quiet backslash_break = true
 is_quiet (unresolved b) = waits_for_pairing b
+is_quiet other = true
 
 -- a Text over the label's range where the condition is true, and otherwise the label as it was
 abbrev pub text_if : {A : Type 0} → Bool → List ℕ → Label A → Label A
