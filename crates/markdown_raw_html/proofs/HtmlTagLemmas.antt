@@ -7,8 +7,7 @@ use Rattle.std.specs.List.{prefix_len}
 use Rattle.std.specs.Char.{is_ascii_alphabetic}
 use Rattle.std.specs.Option.{option_map, option_map_or, option_or}
 use Rattle.markdown_raw_html.specs.HtmlTag.{TagPart, all, attribute, both, byte, either, html_tag, nonempty, nonzero, often, often_past}
-use Rattle.markdown_raw_html.specs.HtmlTag.{one, optional, quoted_value, tag_name, white_space, is_tag_blank, in_tag_name, in_attribute}
-use Rattle.markdown_raw_html.specs.HtmlTag.{in_unquoted, begins_attribute}
+use Rattle.markdown_raw_html.specs.HtmlTag.{one, optional, quoted_value, tag_name, white_space, is_tag_blank, in_unquoted}
 use Rattle.markdown_raw_html.specs.TagSteps.{after_part}
 use Rattle.markdown_raw_html.specs.TagText.{source_after, source_after_byte, text_in}
 use Rattle.markdown_scan.specs.LinePrefix.{prefix_after}
@@ -117,7 +116,7 @@ IsWithin-white_space =
 pub IsWithin-attribute : IsWithin attribute
 IsWithin-attribute =
     IsWithin-both _ _ (IsWithin-nonempty _ IsWithin-white_space) (IsWithin-both _ _
-    (IsWithin-both _ _ (IsWithin-one begins_attribute) (IsWithin-all in_attribute))
+    (IsWithin-both _ _ (IsWithin-one _) (IsWithin-all _))
     (IsWithin-optional _ (IsWithin-both _ _ IsWithin-white_space (IsWithin-both _ _
     (IsWithin-byte 61) (IsWithin-both _ _ IsWithin-white_space (IsWithin-either _ _
     (IsWithin-both _ _ (IsWithin-one in_unquoted) (IsWithin-all in_unquoted))
@@ -129,7 +128,7 @@ IsWithin-attribute =
         (IsWithin-all (λ b. not (b == mark))) (IsWithin-byte mark))
 
 IsWithin-tag_name : IsWithin tag_name
-IsWithin-tag_name = IsWithin-both _ _ (IsWithin-one is_ascii_alphabetic) (IsWithin-all in_tag_name)
+IsWithin-tag_name = IsWithin-both _ _ (IsWithin-one is_ascii_alphabetic) (IsWithin-all _)
 
 pub IsWithin-html_tag : IsWithin html_tag
 IsWithin-html_tag =

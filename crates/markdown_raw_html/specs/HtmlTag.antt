@@ -62,18 +62,6 @@ is_of marks b = list_any (λ mark. mark == b) marks
 abbrev pub is_tag_blank : ℕ → Bool
 is_tag_blank = is_of (space ∷ tab ∷ [])
 
--- a byte of a tag's name after its first letter
-abbrev pub in_tag_name : ℕ → Bool
-in_tag_name b = is_ascii_alphanumeric b || is_of (codes "-") b
-
--- the first byte of an attribute's name
-abbrev pub begins_attribute : ℕ → Bool
-begins_attribute b = is_ascii_alphabetic b || is_of (codes "_:") b
-
--- a byte of an attribute's name after the first one
-abbrev pub in_attribute : ℕ → Bool
-in_attribute b = is_ascii_alphanumeric b || is_of (codes "_.:-") b
-
 -- a byte of a value without quotes: any but spaces, tabs, line endings and ``"'=<>` ``
 abbrev pub in_unquoted : ℕ → Bool
 in_unquoted b = not (is_of
@@ -94,11 +82,13 @@ white_space = both (all is_tag_blank) (both (optional line_end) (all is_tag_blan
 
 -- an ASCII letter, and then ASCII letters, digits and hyphens
 abbrev pub tag_name : TagPart
-tag_name = both (one is_ascii_alphabetic) (all in_tag_name)
+tag_name = both (one is_ascii_alphabetic) (all (λ b. is_ascii_alphanumeric b || is_of (codes "-") b))
 
 -- an ASCII letter, `_` or `:`, and then ASCII letters, digits, `_`, `.`, `:` and `-`
 abbrev pub attribute_name : TagPart
-attribute_name = both (one begins_attribute) (all in_attribute)
+attribute_name =
+    both (one (λ b. is_ascii_alphabetic b || is_of (codes "_:") b))
+    (all (λ b. is_ascii_alphanumeric b || is_of (codes "_.:-") b))
 
 -- a value without quotes, of at least one byte
 abbrev pub unquoted_value : TagPart
