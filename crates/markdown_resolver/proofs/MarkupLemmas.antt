@@ -26,7 +26,7 @@ use Rattle.markdown_document.specs.Setting.{Rules, Setting, setting_of}
 use Rattle.markdown_document.specs.Tables.{Tables, tables_of}
 use Rattle.markdown_spans.specs.AfterLess.{Markup, autolink, html_markup, markup_at}
 use Rattle.markdown_base.specs.EnabledOptions.{gfm_footnotes_on}
-use Rattle.markdown_spans.specs.Finds.{Find, Passed, end_of_markup, markup, markup_found, markup_or_nothing, nothing, passed}
+use Rattle.markdown_spans.specs.Finds.{Find, Passed, end_of_markup, markup, markup_found, nothing, passed}
 use Rattle.markdown_spans.specs.Finds.{prefix_below}
 use Rattle.markdown_spans.specs.PrefixView.{length_by}
 use Rattle.markdown_spans.specs.declared.prefixes.ContainerPrefix.{ContainerPrefix}
@@ -147,6 +147,10 @@ is_scanned place tree held ix prefix found item next text can opener same inside
       value = value ∙ (ap (λ (xs : List ℕ). markup_at (λ rest. Some (length_by prefix rest)) xs item.start item.end) whole
           ∙ ap (λ (i : Item). markup_at (λ rest. Some (length_by prefix rest)) (take place.block_end place.text.now) i.start i.end) same);
     }
+
+-- the markup that was found, or nothing
+abbrev pub markup_or_nothing : Option Markup → Find (Unit {0})
+markup_or_nothing found = option_map_or markup found nothing
 
 -- what pass one finds there
 abbrev pub found_by : ChainPlace → Arena Item → Allocated → ℕ → Rules → Find (Unit {0})

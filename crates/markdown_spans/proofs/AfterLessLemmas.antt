@@ -20,7 +20,8 @@ use Rattle.markdown_raw_html.proofs.RawHtmlLawsLemmas.{tag_between}
 use Rattle.markdown_raw_html.proofs.HtmlTagLemmas.{IsWithin-html_tag}
 use Rattle.markdown_scan.specs.ScanLaws.{StandsBetween}
 use Rattle.markdown_scan.specs.Autolink.{uri_autolink}
-use Rattle.markdown_spans.specs.AfterLess.{html_markup, html_at, is_unbroken, markup_at}
+use Rattle.markdown_spans.specs.AfterLess.{html_markup, html_at, markup_at}
+use Rattle.markdown_spans.specs.MarkupView.{is_unbroken}
 use Rattle.markdown_spans.specs.PrefixView.{length_by}
 use Rattle.markdown_spans.specs.declared.prefixes.ContainerPrefix.{ContainerPrefix}
 use Rattle.markdown_spans.proofs.ContainerPrefixLemmas.{IsAsciiPrefix, length_by_is_ascii}

@@ -17,7 +17,7 @@ use Rattle.markdown_spans.specs.Closers.{Dollar, MathClose, can_close, can_open,
 use Rattle.markdown_spans.specs.Closers.{context_of, display_close, dollar_next, first_dollar, inline_close, is_code_of, is_dollar}
 use Rattle.markdown_spans.specs.Closers.{is_dollar_of, math_close, math_close_from}
 use Rattle.markdown_spans.specs.Finds.{Find, Passed, SpanText, code_found, code_span, code_trees, end_of_find, find, find_by, is_escaped}
-use Rattle.markdown_spans.specs.Finds.{made_by, prefix_below, span_between, markup, markup_found, markup_or_nothing, markup_trees}
+use Rattle.markdown_spans.specs.Finds.{made_by, prefix_below, span_between, markup, markup_found, markup_trees}
 use Rattle.markdown_spans.specs.Finds.{math_found, math_span, math_text_start, nothing, passed, read_tree, read_unless, trees_for}
 use Rattle.markdown_spans.specs.declared.span_text.SpanKind.TheVariants.{Math}
 
@@ -160,7 +160,8 @@ module _ {A B : Type 0} (f : A → B) where
   next_retag i nil = refl
   next_retag i (node a below after) = refl
 
-  markup_or_retag : (m : Option Markup) → markup_or_nothing {A = B} m ≡ retag_find (markup_or_nothing {A = A} m)
+  markup_or_retag : (m : Option Markup) → let none : Find B = nothing in
+      option_map_or markup m none ≡ retag_find (option_map_or markup m nothing)
   markup_or_retag None = refl
   markup_or_retag (Some m) = refl
 

@@ -1,5 +1,5 @@
 -- What begins at a `<`: an absolute-URI autolink (CommonMark 6.5), raw HTML (6.6), or nothing.
-use Rattle.std.specs.Prelude.{ℕ, ◌+◌, ◌==◌, Bool, true, false, List, Option, Some, None, if◌then◌else◌, slice_index}
+use Rattle.std.specs.Prelude.{ℕ, ◌+◌, ◌==◌, List, Option, None, if◌then◌else◌, slice_index}
 use Rattle.std.specs.Option.{option_map, option_or}
 use Rattle.markdown_base.specs.Bytes.{exclamation_mark, question_mark}
 use Rattle.markdown_scan.specs.Autolink.{uri_autolink}
@@ -33,8 +33,3 @@ unfoldable pub markup_at : (skipped : List ℕ → Option ℕ) → List ℕ → 
 markup_at skipped text start at =
     option_or (option_map (λ found. autolink found.0 found.1) (uri_autolink text at))
     (option_map (λ found. html_markup found.0 found.1) (html_at skipped text start at))
-
--- what was found contains no line prefix
-abbrev pub is_unbroken : Option Markup → Bool
-is_unbroken (Some (html_markup end (Some bytes))) = false
-is_unbroken found = true

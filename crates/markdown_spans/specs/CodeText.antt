@@ -23,24 +23,16 @@ abbrev pub shown_ending : SpanKind → List ℕ → List ℕ
 shown_ending Code ending = space ∷ []
 shown_ending Math ending = ending
 
--- a line ending, with the prefix after it
-abbrev pub ending_piece : SpanKind → (prefix : List ℕ → ℕ) → List ℕ → Option Piece
-ending_piece kind prefix bytes =
-    option_map (λ n. record { taken = n + prefix (drop n bytes); shown = shown_ending kind (take n bytes) })
-    (line_ending bytes)
-
 -- in a table, the bytes begin with a pipe that a backslash escapes
 abbrev pub begins_escaped_pipe : (in_table : Bool) → List ℕ → Bool
 begins_escaped_pipe in_table bytes = in_table && begins_with (backslash ∷ pipe ∷ []) bytes
 
--- in a table, `\|` becomes `|`
-abbrev pub pipe_piece : Bool → List ℕ → Option Piece
-pipe_piece in_table bytes = if begins_escaped_pipe in_table bytes then Some (record { taken = 2; shown = pipe ∷ [] })
-    else None
-
--- the piece that the bytes begin with, if any
+-- the piece that the bytes begin with, if any: a line ending, with the prefix after it; or, in a table, `\|`
 abbrev pub piece_at : SpanKind → Bool → (List ℕ → ℕ) → List ℕ → Option Piece
-piece_at kind in_table prefix bytes = option_or (ending_piece kind prefix bytes) (pipe_piece in_table bytes)
+piece_at kind in_table prefix bytes = option_or
+    (option_map (λ n. record { taken = n + prefix (drop n bytes); shown = shown_ending kind (take n bytes) })
+    (line_ending bytes))
+    (if begins_escaped_pipe in_table bytes then Some (record { taken = 2; shown = pipe ∷ [] }) else None)
 
 -- the bytes with each such piece replaced, without the first `passed` bytes, which belong to an earlier piece
 unfoldable pub replaced_past : (List ℕ → Option Piece) → ℕ → List ℕ → List ℕ

@@ -63,17 +63,11 @@ math_found s above a after None = nothing
 math_found s above a after (Some m) =
     math_span m.display (span_between s above Math (math_text_start a after) (start_of m.closer)) (end_of m.last)
 
--- the markup that was found, or nothing
-abbrev pub markup_or_nothing : {A : Type 0} → Option Markup → Find A
-markup_or_nothing None = nothing
-markup_or_nothing (Some m) = markup m
-
 -- what begins at a `<`, up to the block's end, if the next item starts directly after the `<`
 abbrev pub markup_found : {A : Type 0} → Setting → Above → Label A → (is_followed : Bool) → Find A
 markup_found s above a false = nothing
-markup_found s above a true =
-    markup_or_nothing
-    (markup_at (λ bytes. Some (prefix_below s above bytes)) (take above.block_end s.text) (start_of a) (end_of a))
+markup_found s above a true = option_map_or markup
+    (markup_at (λ bytes. Some (prefix_below s above bytes)) (take above.block_end s.text) (start_of a) (end_of a)) nothing
 
 -- what is found at an item with this body, from the chain after it
 abbrev pub find_by : {A : Type 0} → Setting → Above → ItemBody → Label A → Forest (Label A) → Find A

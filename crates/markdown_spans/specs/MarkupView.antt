@@ -1,5 +1,5 @@
 -- What a `MarkupFound` represents.
-use Rattle.std.specs.Prelude.{ℕ, Some, None, string_bytes}
+use Rattle.std.specs.Prelude.{ℕ, Bool, true, false, Option, Some, None, string_bytes}
 use Rattle.markdown_spans.specs.AfterLess.{Markup, autolink, html_markup}
 use Rattle.markdown_spans.specs.declared.after_less.MarkupFound.{MarkupFound}
 use Rattle.markdown_spans.specs.declared.after_less.MarkupFound.TheVariants.{Autolink, Html, OwnedHtml}
@@ -15,3 +15,8 @@ abbrev pub markup_end : MarkupFound → ℕ
 markup_end (Autolink end uri) = end
 markup_end (Html end) = end
 markup_end (OwnedHtml end text) = end
+
+-- what was found contains no line prefix
+abbrev pub is_unbroken : Option Markup → Bool
+is_unbroken (Some (html_markup end (Some bytes))) = false
+is_unbroken found = true

@@ -3,8 +3,8 @@ ghost use Rattle.std.specs.Prelude.{◌≡◌, ◌≤◌, ◌+◌, ◌-◌, ℕ,
 ghost use Rattle.std.specs.Prelude.{true, string_bytes, option_and_then};
 ghost use Rattle.std.specs.Option.{option_map};
 ghost use Rattle.std.specs.Str.{IsCharBoundary, IsUtf8};
-ghost use Rattle.markdown_spans.specs.AfterLess.{declared_end, html_at, is_unbroken, markup_at, unbroken};
-ghost use Rattle.markdown_spans.specs.MarkupView.{markup_end, markup_of};
+ghost use Rattle.markdown_spans.specs.AfterLess.{declared_end, html_at, markup_at, unbroken};
+ghost use Rattle.markdown_spans.specs.MarkupView.{markup_end, markup_of, is_unbroken};
 ghost use Rattle.markdown_spans.specs.PrefixView.{length_by};
 ghost use Rattle.markdown_raw_html.specs.TagSource.{tag_at};
 
