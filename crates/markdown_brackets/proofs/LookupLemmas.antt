@@ -8,8 +8,8 @@ use Rattle.markdown_base.specs.Questions.{Question, Answer, Answers}
 use Rattle.markdown_base.specs.declared.block_parts.LinkDef.{LinkDef}
 use Rattle.markdown_defs.specs.Callback.{Asks}
 use Rattle.markdown_defs.specs.Definitions as definitions
-use Rattle.markdown_brackets.specs.Lookup.{LookedUp, look_up, finds_nothing, defined_target, defined_or_asked, limit_after, asked}
-use Rattle.markdown_brackets.specs.LookupView.{LooksUp, IsAnswered, FindsTarget, target_by}
+use Rattle.markdown_brackets.specs.Lookup.{LookedUp, look_up, finds_nothing, defined_target, defined_or_asked, asked}
+use Rattle.markdown_brackets.specs.LookupView.{LooksUp, IsAnswered, FindsTarget, target_by, limit_after}
 use Rattle.markdown_brackets.specs.declared.look_up.LabelLookup.{LabelLookup}
 
 module _ {C : Type 0} (step : C → Question → Option Answer → C → Type 0) (old : LabelLookup C) (q : Question) where

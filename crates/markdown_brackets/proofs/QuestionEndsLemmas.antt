@@ -20,8 +20,8 @@ use Rattle.markdown_document.specs.Document.{Shape, leaf, enclosed, plain, backs
 use Rattle.markdown_document.specs.Setting.{Known}
 use Rattle.markdown_brackets.specs.BracketDecision.{Around, Closing, Progress, block_text, lines}
 use Rattle.markdown_brackets.specs.ClosingBracket.{closed}
-use Rattle.markdown_brackets.specs.QuestionEnds.{AsksAtMost, AsksNothing, EndApart, HoldsNoOpener, StandInLine, StandsInLine, closers_among}
-use Rattle.markdown_brackets.specs.QuestionEnds.{closes_bracket}
+use Rattle.markdown_brackets.specs.QuestionEnds.{AsksNothing, HoldsNoOpener, StandInLine, StandsInLine}
+use Rattle.markdown_brackets.specs.QuestionsAsked.{AsksAtMost, EndApart, closers_among, closes_bracket}
 use Rattle.markdown_brackets.specs.ReadChain.{Reader, among, begun, closing_of, opened, read, read_as, read_chain, read_past}
 use Rattle.markdown_brackets.specs.Reference.{is_closer}
 use Rattle.markdown_brackets.proofs.AsksAboutLemmas.{Asks, AsksFull, AsksNone, AsksOwn, AtMostOneTo, Told, closed_told, full_label, told_by}

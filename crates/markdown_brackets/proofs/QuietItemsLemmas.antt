@@ -7,8 +7,8 @@ use Rattle.markdown_document.specs.ChainRest.{open_body}
 use Rattle.markdown_document.specs.Document.{Shape, leaf, enclosed, plain, backslash_break, unresolved, Label}
 use Rattle.markdown_document.specs.Waiting.{is_quiet, waits_for_pairing}
 use Rattle.markdown_brackets.specs.BracketDecision.{Around, Progress}
-use Rattle.markdown_brackets.specs.LeftList.{Entry, done, trees_onto}
-use Rattle.markdown_brackets.specs.QuietItems.{LeavesQuiet, QuietItemsLaw, WaitsAtMost, all_done}
+use Rattle.markdown_brackets.specs.LeftList.{Entry, done, trees_onto, all_done}
+use Rattle.markdown_brackets.specs.QuietItems.{LeavesQuiet, QuietItemsLaw, WaitsAtMost}
 use Rattle.markdown_brackets.specs.ReadChain.{Reader, begun, read_as, read_chain, read_past}
 
 -- the trees put are the chain's, after those that stood there

@@ -25,21 +25,24 @@ pub data Entry (A : Type 0) : Type 0 where
 
 -- an opener was taken off
 abbrev pub is_gone : Flag → Bool
-is_gone live = false
-is_gone disabled = false
 is_gone gone = true
+is_gone other = false
 
 -- an opener can still become a link
 abbrev pub is_live : Flag → Bool
 is_live live = true
-is_live disabled = false
-is_live gone = false
+is_live other = false
 
 -- the trees of a left list from left to right, followed by `later`
 abbrev pub trees_onto : {A : Type 0} → List (Entry A) → Forest (Label A) → Forest (Label A)
 trees_onto [] later = later
 trees_onto (done a below ∷ left) later = trees_onto left (node a below later)
 trees_onto (waits m a ∷ left) later = trees_onto left (node a nil later)
+
+-- the trees of a chain, added to a left list
+abbrev pub all_done : {A : Type 0} → Forest (Label A) → List (Entry A) → List (Entry A)
+all_done nil left = left
+all_done (node a below after) left = all_done after (done a below ∷ left)
 
 -- a left list, split at one of its openers: the opener, the entries after it, the nearest first, and those before it
 pub record Split (A : Type 0) : Type 0 where
@@ -106,9 +109,8 @@ on_marks f left = map (on_mark f) left
 
 -- a live opener is disabled
 abbrev pub disabled_flag : Flag → Flag
-disabled_flag live = disabled
-disabled_flag disabled = disabled
 disabled_flag gone = gone
+disabled_flag other = disabled
 
 -- a `[` can no longer become a link; an image's opener can still become an image
 abbrev pub disabled_mark : Mark → Mark

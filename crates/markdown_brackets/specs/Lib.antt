@@ -22,6 +22,7 @@ pub mod BracketDecision
 pub mod ClosingBracket
 pub mod ReadChain
 pub mod BracketLaws
+pub mod QuestionsAsked
 pub mod QuestionEnds
 pub mod BracketTags
 pub mod NoLinkInLink

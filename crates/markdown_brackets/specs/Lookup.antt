@@ -29,11 +29,6 @@ unknown other = other
 abbrev pub size_of : LinkView → ℕ
 size_of t = length t.destination + length t.title
 
--- the limit that is left after a link was found, or after nothing was found
-abbrev pub limit_after : ℕ → Option LinkView → ℕ
-limit_after limit None = limit
-limit_after limit (Some t) = limit - size_of t
-
 -- a link is found: the limit falls by its number of bytes, but not below 0
 abbrev pub finds : ℕ → Answers → List Question → LinkView → LookedUp
 finds limit answers questions t =

@@ -1,5 +1,5 @@
 -- Look-ups, as contracts describe them: the callback answered at most one question.
-use Rattle.std.specs.Prelude.{◌≡◌, ◌++◌, List, Option, Some, None, MatchOption, is_some}
+use Rattle.std.specs.Prelude.{◌≡◌, ◌++◌, ℕ, ◌-◌, List, Option, Some, None, MatchOption, is_some}
 use Rattle.markdown_base.specs.BlockParts.{definition_view}
 use Rattle.markdown_base.specs.CowText.{text_of}
 use Rattle.markdown_base.specs.Event.{LinkView}
@@ -7,7 +7,7 @@ use Rattle.markdown_base.specs.Questions.{Question, Answer, Answers}
 use Rattle.markdown_defs.specs.Callback.{Asks}
 use Rattle.markdown_defs.specs.Definitions as definitions
 use Rattle.markdown_defs.specs.Definitions.{Labelled}
-use Rattle.markdown_brackets.specs.Lookup.{look_up, answered_target, defined_target}
+use Rattle.markdown_brackets.specs.Lookup.{look_up, answered_target, defined_target, size_of}
 use Rattle.markdown_brackets.specs.declared.look_up.LabelLookup.{LabelLookup}
 use Rattle.markdown_brackets.specs.declared.look_up.Target.{Target}
 
@@ -39,6 +39,11 @@ abbrev pub FindsTarget : {C : Type 0} → (C → Question → Option Answer → 
 FindsTarget step defined q old new target =
     MatchOption (definitions.find_definition q.reference defined) (IsAnswered step q old new target)
     (λ d. (new ≡ old) × (target ≡ Some (defined_target q.link_type (definition_view d) q.reference)))
+
+-- the limit that is left after a link was found, or after nothing was found
+abbrev pub limit_after : ℕ → Option LinkView → ℕ
+limit_after limit None = limit
+limit_after limit (Some t) = limit - size_of t
 
 -- the target of a look-up: the callback answered the questions asked, and the result is the defined one whatever
 -- answers follow, which are left

@@ -1,36 +1,17 @@
--- The questions that reading a chain asks: at most one for each `]`, none if references may not expand to any bytes,
--- and no two that end at the same byte offset, if items are in order and their source is their markup.
-use Rattle.std.specs.Prelude.{◌≡◌, ℕ, ◌≤◌, ⊤, Bool, false, List, [], map, Option, IfSome, length, nat_eq, take}
-use Rattle.std.specs.Prelude.{count_by}
-use Rattle.std.specs.List.{IsDistinct, list_any}
+-- Laws of the questions that reading a chain asks: at most one for each `]`, none if references may not expand to any
+-- bytes, and no two that end at the same byte offset, if items are in order and their source is their markup.
+use Rattle.std.specs.Prelude.{◌≡◌, ℕ, ◌≤◌, ⊤, false, List, Option, IfSome, nat_eq, take}
+use Rattle.std.specs.List.{list_any}
 use Rattle.markdown_base.specs.Bytes.{open_bracket}
 use Rattle.markdown_base.specs.Forest.{Forest, nil, node, first_root, roots}
 use Rattle.markdown_base.specs.Item.{LiesIn}
-use Rattle.markdown_base.specs.Questions.{Question}
 use Rattle.markdown_base.specs.WellFormed.{MarkupIsThere}
-use Rattle.markdown_document.specs.ChainRest.{as_item, end_of, open_body, start_of}
+use Rattle.markdown_document.specs.ChainRest.{as_item, end_of, start_of}
 use Rattle.markdown_document.specs.Document.{Label}
 use Rattle.markdown_document.specs.Setting.{Known}
 use Rattle.markdown_brackets.specs.BracketDecision.{Around, Progress}
+use Rattle.markdown_brackets.specs.QuestionsAsked.{AsksAtMost, EndApart, closers_among}
 use Rattle.markdown_brackets.specs.ReadChain.{Reader, begun, read_chain}
-use Rattle.markdown_brackets.specs.Reference.{is_closer}
-
--- the label is an open `]`
-abbrev pub closes_bracket : {A : Type 0} → Label A → Bool
-closes_bracket a = is_closer (open_body a.part.shape)
-
--- the number of open `]` among these labels
-abbrev pub closers_among : {A : Type 0} → List (Label A) → ℕ
-closers_among items = count_by closes_bracket items
-
--- at most `closers` questions are asked, and none at a limit of 0
-pub record AsksAtMost (closers limit : ℕ) (questions : List Question) : Type 0 where
-  pub once : length questions ≤ closers
-  pub silent : limit ≡ 0 → questions ≡ []
-
--- no two questions end at the same byte offset
-abbrev pub EndApart : List Question → Type 0
-EndApart questions = IsDistinct nat_eq (map (λ q. q.span.end) questions)
 
 -- an item lies in the text, its source is its markup, and it precedes the next item
 pub record StandsInLine {A : Type 0} (source : List ℕ) (a : Label A) (next : Option (Label A)) : Type 0 where

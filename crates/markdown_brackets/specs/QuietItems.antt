@@ -1,11 +1,11 @@
 -- A chain in which only delimiter runs and quotes are open, which wait for pairing, is left unchanged.
-use Rattle.std.specs.Prelude.{◌≡◌, ⊤, true, List, [], ◌∷◌, None}
+use Rattle.std.specs.Prelude.{◌≡◌, ⊤, true, [], ◌∷◌, None}
 use Rattle.markdown_base.specs.Forest.{Forest, nil, node}
 use Rattle.markdown_document.specs.Document.{Label}
 use Rattle.markdown_document.specs.Setting.{Known}
 use Rattle.markdown_document.specs.Waiting.{is_quiet}
 use Rattle.markdown_brackets.specs.BracketDecision.{Around, Progress}
-use Rattle.markdown_brackets.specs.LeftList.{Entry, done, trees_onto}
+use Rattle.markdown_brackets.specs.LeftList.{done, trees_onto, all_done}
 use Rattle.markdown_brackets.specs.ReadChain.{Reader, begun, read_chain}
 
 -- only delimiter runs and quotes are open in a chain
@@ -17,11 +17,6 @@ WaitsAtMost (node a below after) = (is_quiet a.part.shape ≡ true) × WaitsAtMo
 abbrev pub LeavesQuiet : {A : Type 0} → Reader A → Type 0
 LeavesQuiet {A} others = (a : Label A) (below rest : Forest (Label A)) (p : Progress A) → is_quiet a.part.shape ≡ true
     → p.goes_on ≡ None → others a below rest p ≡ record p { left = done a below ∷ p.left }
-
--- the trees of a chain, added to a left list
-abbrev pub all_done : {A : Type 0} → Forest (Label A) → List (Entry A) → List (Entry A)
-all_done nil left = left
-all_done (node a below after) left = all_done after (done a below ∷ left)
 
 -- reading adds the chain's own trees, and does nothing else
 pub record IsLeftAlone {A : Type 0} (w : Around) (others : Reader A) (chain : Forest (Label A)) (known : Known) : Type 0

@@ -9,6 +9,7 @@ ghost use Rattle.markdown_defs.specs.CallbackViews.{answer_of, question_of};
 ghost use Rattle.markdown_brackets.specs.Lookup as lookup;
 ghost use Rattle.markdown_brackets.specs.LookupView.{FindsTarget, IsAnswered, LooksUp};
 ghost use Rattle.markdown_brackets.specs.LookupView.{target_by, target_view};
+ghost use Rattle.markdown_brackets.specs.LookupView as view;
 
 use markdown_base::block_parts::LinkDef;
 use markdown_base::cow_str::CowStr;
@@ -160,7 +161,7 @@ fn find_target<'a, F: BrokenLinkCallback<'a>>(
 
 // Returns the limit that is left after a link was found, or after nothing was found.
 fn limit_after(limit: usize, target: &Option<Target<'_>>) -> usize
-    ensures { result ≡ lookup.limit_after limit (option_map target_view target.now) }
+    ensures { result ≡ view.limit_after limit (option_map target_view target.now) }
 {
     match target {
         None => limit,

@@ -35,7 +35,7 @@ use Rattle.markdown_resolver.specs.Resolved.{resolved, all_paired}
 use Rattle.markdown_document.specs.Document.{plain_tags, Plain, Shape, leaf, enclosed, plain, backslash_break, unresolved, is_unresolved}
 use Rattle.markdown_document.specs.Document.{shape_of}
 use Rattle.markdown_document.specs.Labels.{GivesFirst, Begins}
-use Rattle.markdown_resolver.specs.Kept.{IsUnread}
+use Rattle.markdown_resolver.specs.Unread.{IsUnread}
 use Rattle.markdown_resolver.specs.KeptChains.{IsSettled}
 use Rattle.markdown_document.specs.Totals.{same}
 use Rattle.markdown_document.specs.NamedEntries.{naming, Named, number_of, size_for}

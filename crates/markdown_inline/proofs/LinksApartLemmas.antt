@@ -23,10 +23,9 @@ use Rattle.markdown_delims.proofs.KeepLemmas.{EachTree, IsReadable, MakesTrees, 
 use Rattle.markdown_delims.proofs.LayerLawLemmas.{turn-made}
 use Rattle.markdown_delims.proofs.SumLemmas.{sum_of}
 use Rattle.markdown_brackets.specs.BracketDecision.{Progress}
-use Rattle.markdown_brackets.specs.LeftList.{Entry, done, waits}
+use Rattle.markdown_brackets.specs.LeftList.{Entry, done, waits, all_done}
 use Rattle.markdown_brackets.specs.NoLinkInLink.{AreFreeTrees, ClosesOverNone, HasMoreTrees, HasNoLinkInLink, HasNoneBelow, IsFreeOfLinks}
 use Rattle.markdown_brackets.specs.NoLinkInLink.{IsNoLink, OpensNoLink, is_autolink}
-use Rattle.markdown_brackets.specs.QuietItems.{all_done}
 use Rattle.markdown_brackets.proofs.NoLinkLemmas.{no_link_in_link}
 use Rattle.markdown_resolver.specs.PassOne.{around, pass_one, read_other}
 use Rattle.markdown_resolver.specs.Resolved.{all_paired, paired_from, paired_if_open, resolved}

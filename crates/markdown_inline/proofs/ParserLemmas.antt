@@ -41,7 +41,7 @@ use Rattle.markdown_document.proofs.CallbackLemmas.{Asks-append, Asks-some}
 use Rattle.markdown_inline.proofs.ChainLemmas.{ChainMoves, are_above, chain_ahead, moves_chain, can_resolve, stops_chain, is_unread}
 use Rattle.markdown_inline.proofs.CountLemmas.{part-chain, part-none, rises-none, rises-chain}
 use Rattle.markdown_inline.proofs.WalkStepsLemmas.{counts_ended, left_of_ended, steps_ended, steps_at_cursor}
-use Rattle.markdown_resolver.specs.Kept.{IsUnread}
+use Rattle.markdown_resolver.specs.Unread.{IsUnread}
 
 -- the elements that are left, by a parser's parts
 pub elements-parts : {F : Type 0} (p : Parser F) (answers : Answers)

@@ -12,7 +12,8 @@ use Rattle.markdown_base.specs.declared.item.Item.{Item}
 use Rattle.markdown_base.specs.declared.item.ItemBody.{ItemBody}
 use Rattle.markdown_base.specs.declared.item.ItemBody.TheVariants as body
 use Rattle.markdown_base.specs.declared.node.Node.{Node}
-use Rattle.markdown_brackets.specs.QuestionEnds.{AsksAtMost, StandInLine, closers_among, closes_bracket}
+use Rattle.markdown_brackets.specs.QuestionEnds.{StandInLine}
+use Rattle.markdown_brackets.specs.QuestionsAsked.{AsksAtMost, closers_among, closes_bracket}
 use Rattle.markdown_brackets.specs.Reference.{is_closer}
 use Rattle.markdown_document.specs.Above.{Above, inside_label, no_blocks}
 use Rattle.markdown_document.specs.ChainRest.{open_body}

@@ -37,9 +37,8 @@ use Rattle.markdown_brackets.specs.FootnoteUse.{is_reference}
 use Rattle.markdown_brackets.specs.LeftList.{Entry, Mark, Split, before_footnote, before_link, before_wikilink, behind, bracket_taken}
 use Rattle.markdown_brackets.specs.LeftList.{change_nearest, disabled_mark, done, inside, is_live, nearest, on_marks, opens_bracket}
 use Rattle.markdown_brackets.specs.LeftList.{opens_wikilink, second_folded, trees_onto, waits, wikilink_taken, without_bracket}
-use Rattle.markdown_brackets.specs.LeftList.{without_wikilink}
+use Rattle.markdown_brackets.specs.LeftList.{without_wikilink, all_done}
 use Rattle.markdown_brackets.specs.Lookup.{LookedUp, answered, defined_or_asked, finds_nothing, look_up, size_of}
-use Rattle.markdown_brackets.specs.QuietItems.{all_done}
 use Rattle.markdown_brackets.specs.ReadChain.{begun, closing_of, read, read_as, read_chain, read_past}
 use Rattle.markdown_brackets.specs.Reference.{is_closer}
 use Rattle.markdown_brackets.proofs.ClosingBracketLemmas.{some_of}

@@ -41,7 +41,8 @@ use Rattle.markdown_document.specs.Places.{label_at, trees_from, origin_start}
 use Rattle.markdown_document.specs.PlacedNodes.{IsPlaced, HasSlices}
 use Rattle.markdown_document.specs.Document.{block_of, label_of, document, shape_of}
 use Rattle.markdown_document.specs.Setting.{Rules, rules_from, use_count, uses_of}
-use Rattle.markdown_resolver.specs.Kept.{IsQuiet, IsQuietBelow, IsUnmade, IsUnread, is_made}
+use Rattle.markdown_resolver.specs.Kept.{IsQuiet, IsQuietBelow}
+use Rattle.markdown_resolver.specs.Unread.{IsUnmade, IsUnread, is_made}
 use Rattle.markdown_resolver.specs.KeptChains.{IsKept}
 use Rattle.markdown_document.specs.Totals.{total, same}
 use Rattle.markdown_document.specs.NamedEntries.{same_as, naming, Named, some_text, some_link, some_alignments}

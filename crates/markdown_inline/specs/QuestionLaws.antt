@@ -7,7 +7,7 @@ use Rattle.markdown_base.specs.WellFormed.{IsWellFormed}
 use Rattle.markdown_base.specs.declared.block_parts.BlockParts.{BlockParts}
 use Rattle.markdown_base.specs.declared.item.Item.{Item}
 use Rattle.markdown_base.specs.declared.node.Node.{Node}
-use Rattle.markdown_brackets.specs.QuestionEnds.{AsksAtMost, EndApart}
+use Rattle.markdown_brackets.specs.QuestionsAsked.{AsksAtMost, EndApart}
 use Rattle.markdown_brackets.specs.Reference.{is_closer}
 use Rattle.markdown_document.specs.Above.{Above, no_blocks}
 use Rattle.markdown_document.specs.Document.{Plain, document, plain_tags}

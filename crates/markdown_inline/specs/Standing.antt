@@ -14,7 +14,8 @@ use Rattle.markdown_base.specs.declared.item.Item.{Item}
 use Rattle.markdown_base.specs.declared.node.Node.{Node}
 use Rattle.markdown_document.specs.Document.{Label}
 use Rattle.markdown_resolver.specs.KeptChains.{IsKept}
-use Rattle.markdown_resolver.specs.Kept.{IsQuiet, IsQuietBelow, IsUnmade, IsUnread}
+use Rattle.markdown_resolver.specs.Kept.{IsQuiet, IsQuietBelow}
+use Rattle.markdown_resolver.specs.Unread.{IsUnmade, IsUnread}
 use Rattle.markdown_inline.specs.WalkTotals.{times_left, left_total}
 use Rattle.markdown_document.specs.PlacedOneWay.{IsPlaced-prop}
 use Rattle.markdown_document.specs.PlacedNodes.{IsPlaced}

@@ -7,7 +7,7 @@ use Rattle.markdown_base.specs.Questions.{Question, Answer, Answers}
 use Rattle.markdown_base.specs.declared.event.Event.{Event}
 use Rattle.markdown_blocks.specs.Blocks.{text_of_blocks, block_tree, block_parts}
 use Rattle.markdown_blocks.specs.declared.blocks.Blocks.{Blocks}
-use Rattle.markdown_brackets.specs.QuestionEnds.{AsksAtMost, EndApart, closers_among}
+use Rattle.markdown_brackets.specs.QuestionsAsked.{AsksAtMost, EndApart, closers_among}
 use Rattle.markdown_defs.specs.Callback.{Asks}
 use Rattle.markdown_document.specs.Above.{Above}
 use Rattle.markdown_document.specs.Document.{Plain, document, plain_tags}

@@ -13,7 +13,8 @@ use Rattle.markdown_base.specs.declared.item.Item.{Item}
 use Rattle.markdown_base.specs.declared.item.ItemBody.{ItemBody}
 use Rattle.markdown_base.specs.declared.item.ItemBody.TheVariants as body
 use Rattle.markdown_base.specs.declared.node.Node.{Node}
-use Rattle.markdown_brackets.specs.QuestionEnds.{AsksAtMost, AsksNothing, EndApart, HoldsNoOpener, StandInLine, closers_among}
+use Rattle.markdown_brackets.specs.QuestionEnds.{AsksNothing, HoldsNoOpener, StandInLine}
+use Rattle.markdown_brackets.specs.QuestionsAsked.{AsksAtMost, EndApart, closers_among}
 use Rattle.markdown_brackets.proofs.QuestionEndsLemmas.{asks_at_most, end_apart, stays_zero}
 use Rattle.markdown_document.specs.Above.{Above}
 use Rattle.markdown_document.specs.ChainRest.{end_of, open_body, start_of}

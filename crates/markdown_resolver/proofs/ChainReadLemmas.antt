@@ -27,7 +27,7 @@ use Rattle.markdown_resolver.proofs.ReadOnLemmas.{reads_on_all, reads_on_none, r
 use Rattle.markdown_resolver.proofs.StandsToLemmas.{above_changed, above_rest, stands_rest}
 use Rattle.markdown_defs.specs.Allocations.{Allocated}
 use Rattle.markdown_defs.specs.Footnotes.{footnote_at}
-use Rattle.markdown_resolver.specs.Kept.{IsUnread}
+use Rattle.markdown_resolver.specs.Unread.{IsUnread}
 use Rattle.markdown_document.specs.Places.{trees_from}
 
 -- the setting of a chain stays where its text, the options, the reference definitions, the names of its footnotes, and

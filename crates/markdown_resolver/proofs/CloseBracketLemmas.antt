@@ -60,7 +60,7 @@ use Rattle.markdown_resolver.proofs.WaitingOpenerLemmas.{StandsOpen, can_find, c
 use Rattle.markdown_defs.specs.Allocations.{Allocated}
 use Rattle.markdown_defs.specs.declared.footnotes.FootnoteDefs.{FootnoteDefs}
 use Rattle.markdown_resolver.proofs.UnreadLemmas.{unmade_after, unread_after, unread_past}
-use Rattle.markdown_resolver.specs.Kept.{IsUnread}
+use Rattle.markdown_resolver.specs.Unread.{IsUnread}
 use Rattle.markdown_document.specs.Places.{trees_from}
 use Rattle.markdown_document.specs.Waiting.{waits_for_pairing}
 use Rattle.markdown_base.specs.Item.{is_open}

@@ -15,8 +15,7 @@ use Rattle.markdown_base.specs.declared.node.Node.{Node}
 use Rattle.markdown_brackets.specs.BracketDecision.{Around, Becomes, Closing, a_footnote, a_link, a_text, a_wikilink, text_from}
 use Rattle.markdown_brackets.specs.ClosingBracket.{footnote_from, footnote_onto}
 use Rattle.markdown_brackets.specs.DecisionView.{IsBecome, opener_of}
-use Rattle.markdown_brackets.specs.LeftList.{Entry, Split, before_footnote}
-use Rattle.markdown_brackets.specs.QuietItems.{all_done}
+use Rattle.markdown_brackets.specs.LeftList.{Entry, Split, before_footnote, all_done}
 use Rattle.markdown_brackets.specs.declared.closing_bracket.ClosedBracket.TheVariants.{Footnote}
 use Rattle.markdown_brackets.specs.declared.openers.Opener.{Opener}
 use Rattle.markdown_document.specs.ChainRest.{start_of, end_of}

@@ -15,9 +15,8 @@ use Rattle.markdown_base.specs.declared.node.Node.{Node}
 use Rattle.markdown_brackets.specs.BracketDecision.{Around, Becomes, Closing, Progress}
 use Rattle.markdown_brackets.specs.ClosingBracket.{put}
 use Rattle.markdown_brackets.specs.Finish.{IsSplit}
-use Rattle.markdown_brackets.specs.LeftList.{Entry, done, waits, Split, inside, trees_onto}
+use Rattle.markdown_brackets.specs.LeftList.{Entry, done, waits, Split, inside, trees_onto, all_done}
 use Rattle.markdown_brackets.specs.HeldOpeners.{brackets_of, wikilinks_of}
-use Rattle.markdown_brackets.specs.QuietItems.{all_done}
 use Rattle.markdown_document.specs.ChainRest.{end_of, past, past_byte}
 use Rattle.markdown_document.specs.Document.{Label, Plain, is_unresolved, shape_of}
 use Rattle.markdown_document.specs.Places.{label_at, trees_from}

@@ -10,9 +10,8 @@ use Rattle.markdown_base.specs.declared.item.ItemBody.TheVariants as body
 use Rattle.markdown_base.specs.declared.node.Node.{Node}
 use Rattle.markdown_brackets.specs.BracketDecision.{Around, Becomes, Closing, a_footnote, a_link, a_text, a_wikilink}
 use Rattle.markdown_brackets.specs.DecisionView.{IsBecome}
-use Rattle.markdown_brackets.specs.LeftList.{Entry}
+use Rattle.markdown_brackets.specs.LeftList.{Entry, all_done}
 use Rattle.markdown_brackets.specs.HeldOpeners.{brackets_of, wikilinks_of}
-use Rattle.markdown_brackets.specs.QuietItems.{all_done}
 use Rattle.markdown_brackets.specs.declared.closing_bracket.ClosedBracket.TheVariants.{Text}
 use Rattle.markdown_document.specs.ChainRest.{past}
 use Rattle.markdown_document.specs.Document.{Label, Plain, Shape, as_text, block_of, shape_of, unresolved}

@@ -42,7 +42,7 @@ use Rattle.markdown_raw_html.proofs.TagTextLemmas.{source_after-more, source_aft
 use Rattle.markdown_resolver.specs.Chains.{CanResolve}
 use Rattle.markdown_resolver.specs.Rewritten.{IsFoundAt, first_past}
 use Rattle.markdown_resolver.proofs.UnreadLemmas.{first_cut, unmade_after}
-use Rattle.markdown_resolver.specs.Kept.{IsUnread}
+use Rattle.markdown_resolver.specs.Unread.{IsUnread}
 
 -- what begins at one byte offset of a text and ends at another has bytes, and `>` is the last
 pub record EndsClosed (text : List ℕ) (start end : ℕ) : Type 0 where

@@ -26,7 +26,7 @@ use Rattle.markdown_resolver.proofs.OpenerReadLemmas.{other_kind, ready_here}
 use Rattle.markdown_resolver.proofs.ReadingLemmas.{looks_at_none, stops_at_none, reads_by_rules}
 use Rattle.markdown_defs.specs.Footnotes.{footnote_at}
 use Rattle.markdown_resolver.proofs.UnreadLemmas.{unread_after, unread_past}
-use Rattle.markdown_resolver.specs.Kept.{IsUnread}
+use Rattle.markdown_resolver.specs.Unread.{IsUnread}
 use Rattle.markdown_resolver.specs.Chains.{CanResolve}
 use Rattle.markdown_document.specs.Places.{trees_from}
 use Rattle.markdown_base.specs.declared.node.Node.{Node}

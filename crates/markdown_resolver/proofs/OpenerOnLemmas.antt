@@ -20,12 +20,11 @@ use Rattle.markdown_base.specs.declared.item.ItemBody.{ItemBody}
 use Rattle.markdown_base.specs.declared.node.Node.{Node}
 use Rattle.markdown_brackets.specs.BracketDecision.{is_next}
 use Rattle.markdown_base.specs.EnabledOptions.{wikilinks_on}
-use Rattle.markdown_brackets.specs.LeftList.{Entry, Mark, gone, live, trees_onto, waits}
+use Rattle.markdown_brackets.specs.LeftList.{Entry, Mark, gone, live, trees_onto, waits, all_done}
 use Rattle.markdown_brackets.specs.HeldOpeners.{held_as, wikilinks_of}
 use Rattle.markdown_brackets.specs.Openers as waiting
 use Rattle.markdown_brackets.specs.Openers.{Waiting}
 use Rattle.markdown_brackets.specs.Reference.{is_opener}
-use Rattle.markdown_brackets.specs.QuietItems.{all_done}
 use Rattle.markdown_brackets.specs.declared.spent_ends.SpentEnds.{SpentEnds}
 use Rattle.markdown_base.proofs.ArenaForestLemmas.{forest_at-none}
 use Rattle.markdown_document.specs.Above.{Above}

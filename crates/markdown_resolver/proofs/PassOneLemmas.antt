@@ -14,8 +14,8 @@ use Rattle.markdown_brackets.specs.BracketTags.{ReaderFollows as RetagsTo, retag
 use Rattle.markdown_brackets.specs.BracketWeight.{label_weight, weight_left}
 use Rattle.markdown_brackets.specs.ChainBegins.{BeginsSo, BeginsWith}
 use Rattle.markdown_brackets.specs.ClosingBracket.{closed}
-use Rattle.markdown_brackets.specs.LeftList.{Entry, done, trees_onto}
-use Rattle.markdown_brackets.specs.QuietItems.{LeavesQuiet, WaitsAtMost, all_done}
+use Rattle.markdown_brackets.specs.LeftList.{Entry, done, trees_onto, all_done}
+use Rattle.markdown_brackets.specs.QuietItems.{LeavesQuiet, WaitsAtMost}
 use Rattle.markdown_brackets.specs.ReadChain.{Reader, begun, closing_of, opened, read, read_as, read_chain, read_past}
 use Rattle.markdown_brackets.proofs.BracketLawLemmas.{asks_none, chain_law}
 use Rattle.markdown_brackets.proofs.BracketTagLemmas.{onto_retag, read_chain_retag}

@@ -5,8 +5,7 @@ use Rattle.std.specs.Prelude.{is_some}
 use Rattle.markdown_base.specs.Forest.{Forest, nil, node, Each}
 use Rattle.markdown_brackets.specs.BracketDecision.{Progress}
 use Rattle.markdown_brackets.specs.KeptShapes.{EachLeft}
-use Rattle.markdown_brackets.specs.LeftList.{Entry, done, trees_onto}
-use Rattle.markdown_brackets.specs.QuietItems.{all_done}
+use Rattle.markdown_brackets.specs.LeftList.{Entry, done, trees_onto, all_done}
 use Rattle.markdown_brackets.specs.ReadChain.{begun}
 use Rattle.markdown_brackets.proofs.KeptLabelsLemmas.{EachBelow, KeepsLabels, each_left}
 use Rattle.markdown_document.specs.Above.{Above}

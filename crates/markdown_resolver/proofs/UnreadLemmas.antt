@@ -17,7 +17,7 @@ use Rattle.markdown_document.specs.Tables.{Tables}
 use Rattle.markdown_document.specs.Waiting.{is_quiet, waits_for_pairing}
 use Rattle.markdown_document.proofs.PlaceLemmas.{shape-open}
 use Rattle.markdown_resolver.specs.Chains.{CanResolve}
-use Rattle.markdown_resolver.specs.Kept.{IsUnmade, IsUnread, is_made}
+use Rattle.markdown_resolver.specs.Unread.{IsUnmade, IsUnread, is_made}
 use Rattle.markdown_resolver.specs.Rewritten.{MayBeCut, first_past}
 use Rattle.markdown_resolver.proofs.FollowersLemmas.{opens_chain}
 

@@ -15,8 +15,7 @@ use Rattle.markdown_brackets.specs.BracketDecision.{Around, Closing, Progress, W
 use Rattle.markdown_brackets.specs.ClosingBracket.{closed, footnote_from, footnote_onto, linked, tag_for, wikilink_target}
 use Rattle.markdown_brackets.specs.LeftList.{Entry, Mark, Split, before_footnote, before_link, behind, change_nearest, disabled_mark, done}
 use Rattle.markdown_brackets.specs.LeftList.{inside, nearest, on_marks, opens_bracket, opens_wikilink, second_folded, trees_onto, waits}
-use Rattle.markdown_brackets.specs.LeftList.{without_bracket, without_wikilink}
-use Rattle.markdown_brackets.specs.QuietItems.{all_done}
+use Rattle.markdown_brackets.specs.LeftList.{without_bracket, without_wikilink, all_done}
 use Rattle.markdown_brackets.specs.ReadChain.{begun, closing_of, opened, read, read_as, read_chain, read_past}
 use Rattle.markdown_brackets.proofs.ClosingBracketLemmas.{Cases, in_each_case, some_of}
 use Rattle.markdown_brackets.proofs.NoLinkLemmas.{wikilink_keeps}

@@ -9,7 +9,7 @@ use Rattle.markdown_document.specs.Stages.{above_cursor}
 use Rattle.markdown_document.specs.Places.{trees_from}
 use Rattle.markdown_document.specs.Tables.{tables_of}
 use Rattle.markdown_resolver.specs.Chains.{AreAbove, CanResolve}
-use Rattle.markdown_resolver.specs.Kept.{IsUnread}
+use Rattle.markdown_resolver.specs.Unread.{IsUnread}
 use Rattle.markdown_resolver.specs.ReadOn.{AreHeld, StandsTo}
 use Rattle.markdown_document.specs.declared.chain_place.ChainPlace.{ChainPlace}
 use Rattle.markdown_defs.specs.Allocations.{Allocated}

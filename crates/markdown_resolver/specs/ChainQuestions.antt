@@ -7,7 +7,8 @@ use Rattle.markdown_base.specs.WellFormed.{IsWellFormed}
 use Rattle.markdown_base.specs.declared.block_parts.BlockParts.{BlockParts}
 use Rattle.markdown_base.specs.declared.item.Item.{Item}
 use Rattle.markdown_base.specs.declared.node.Node.{Node}
-use Rattle.markdown_brackets.specs.QuestionEnds.{AsksAtMost, EndApart, StandInLine, closers_among}
+use Rattle.markdown_brackets.specs.QuestionEnds.{StandInLine}
+use Rattle.markdown_brackets.specs.QuestionsAsked.{AsksAtMost, EndApart, closers_among}
 use Rattle.markdown_document.specs.Above.{Above}
 use Rattle.markdown_document.specs.Document.{Label, Tags, document}
 use Rattle.markdown_document.specs.Setting.{Known, Setting}

@@ -24,7 +24,7 @@ use Rattle.markdown_document.specs.Tables.{Tables}
 use Rattle.markdown_spans.specs.SpanClosers.{HoldsFrom, Learned}
 use Rattle.markdown_spans.specs.declared.span_text.SpanKind.{SpanKind}
 use Rattle.markdown_resolver.specs.Chains.{ChangesChain}
-use Rattle.markdown_resolver.specs.Kept.{IsUnmade}
+use Rattle.markdown_resolver.specs.Unread.{IsUnmade}
 use Rattle.markdown_resolver.specs.PutsTrees.{numbered_from, numbered_label}
 use Rattle.markdown_resolver.specs.ReadOn.{StandsTo, left_without_numbers}
 use Rattle.markdown_resolver.specs.Rewritten.{Passes}

@@ -1,8 +1,7 @@
 -- What resolving a chain requires of its items, and what is true of each chain of a forest.
-use Rattle.std.specs.Prelude.{◌≡◌, ⊤, Bool, true, false, is_some}
-use Rattle.markdown_base.specs.Event.{code, display_math, image, inline_math, link}
+use Rattle.std.specs.Prelude.{◌≡◌, ⊤, true, false, is_some}
 use Rattle.markdown_base.specs.Forest.{Forest, nil, node}
-use Rattle.markdown_document.specs.Document.{Label, Shape, enclosed, is_unresolved, leaf}
+use Rattle.markdown_document.specs.Document.{Label, is_unresolved}
 use Rattle.markdown_document.specs.Waiting.{is_quiet}
 
 -- no item of a forest is open except those that wait for pairing, and none is a block, at every depth
@@ -15,25 +14,6 @@ IsQuiet (node a below after) = (is_quiet a.part.shape ≡ true) × (is_some a.pa
 abbrev pub IsQuietBelow : {A : Type 0} → Forest (Label A) → Type 0
 IsQuietBelow nil = ⊤
 IsQuietBelow (node a below after) = (is_some a.part.block ≡ false) × IsQuiet below × IsQuietBelow after
-
--- pass one makes items of this shape: code, math, links and images
-abbrev pub is_made : Shape → Bool
-is_made (leaf (code t) origins) = true
-is_made (leaf (inline_math t) origins) = true
-is_made (leaf (display_math t) origins) = true
-is_made (enclosed (link l)) = true
-is_made (enclosed (image l)) = true
-is_made other = false
-
--- pass one has made no item of a chain
-abbrev pub IsUnmade : {A : Type 0} → Forest (Label A) → Type 0
-IsUnmade nil = ⊤
-IsUnmade (node a below after) = (is_made a.part.shape ≡ false) × IsUnmade after
-
--- no item of a chain that pass one has made follows one that it has still to read
-abbrev pub IsUnread : {A : Type 0} → Forest (Label A) → Type 0
-IsUnread nil = ⊤
-IsUnread (node a below after) = (is_quiet a.part.shape ≡ false → IsUnmade after) × IsUnread after
 
 -- p is true of each chain at every depth, from each of its open items on
 abbrev pub EachChain : {A : Type 0} → (Forest (Label A) → Type 0) → Forest (Label A) → Type 0

@@ -2,7 +2,8 @@
 use Rattle.std.specs.Prelude.{◌≡◌, ⊤, true, false}
 use Rattle.markdown_base.specs.Forest.{Forest, nil, node}
 use Rattle.markdown_document.specs.Document.{Label, is_unresolved}
-use Rattle.markdown_resolver.specs.Kept.{IsQuiet, IsQuietBelow, IsUnread}
+use Rattle.markdown_resolver.specs.Kept.{IsQuiet, IsQuietBelow}
+use Rattle.markdown_resolver.specs.Unread.{IsUnread}
 
 -- each chain can be resolved from its first open item on: it is quiet below, and what has still to be read comes last
 abbrev pub IsKept : {A : Type 0} → Forest (Label A) → Type 0

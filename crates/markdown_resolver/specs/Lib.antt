@@ -7,6 +7,7 @@ pub mod ReadOn
 pub mod ReadsItem
 pub mod Resolved
 pub mod Kept
+pub mod Unread
 pub mod KeptChains
 pub mod Laws
 pub mod ChainQuestions

@@ -5,8 +5,7 @@ use Rattle.std.specs.Prelude.{List}
 use Rattle.markdown_base.specs.Forest.{Forest, nil}
 use Rattle.markdown_base.specs.Questions.{Question}
 use Rattle.markdown_brackets.specs.BracketDecision.{Around, Progress}
-use Rattle.markdown_brackets.specs.LeftList.{trees_onto}
-use Rattle.markdown_brackets.specs.QuietItems.{all_done}
+use Rattle.markdown_brackets.specs.LeftList.{trees_onto, all_done}
 use Rattle.markdown_brackets.specs.ReadChain.{Reader, begun, read_chain}
 use Rattle.markdown_document.specs.Above.{Above}
 use Rattle.markdown_document.specs.Document.{Tags, Label}

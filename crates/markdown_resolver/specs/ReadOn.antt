@@ -10,10 +10,9 @@ use Rattle.markdown_base.specs.declared.item.Item.{Item}
 use Rattle.markdown_base.specs.declared.node.Node.{Node}
 use Rattle.markdown_brackets.specs.BracketDecision.{Progress}
 use Rattle.markdown_brackets.specs.BracketTags.{retag_left}
-use Rattle.markdown_brackets.specs.LeftList.{Entry, done, waits, trees_onto}
+use Rattle.markdown_brackets.specs.LeftList.{Entry, done, waits, trees_onto, all_done}
 use Rattle.markdown_brackets.specs.HeldOpeners.{brackets_of, wikilinks_of}
 use Rattle.markdown_brackets.specs.Openers.{Waiting}
-use Rattle.markdown_brackets.specs.QuietItems.{all_done}
 use Rattle.markdown_brackets.specs.ReadChain.{among}
 use Rattle.markdown_brackets.specs.SpentEnds.{is_spent}
 use Rattle.markdown_brackets.specs.declared.spent_ends.SpentEnds.{SpentEnds}

@@ -14,7 +14,7 @@ use Rattle.markdown_document.specs.Tables.{tables_of}
 use Rattle.markdown_spans.specs.SpanClosers.{HoldsFrom, Learned, has_failed}
 use Rattle.markdown_spans.specs.declared.span_text.SpanKind.{SpanKind}
 use Rattle.markdown_resolver.specs.ChainPlace.{CanReadOn, CanReadItem}
-use Rattle.markdown_resolver.specs.Kept.{IsUnread}
+use Rattle.markdown_resolver.specs.Unread.{IsUnread}
 use Rattle.markdown_resolver.specs.Closes.{closing_at}
 use Rattle.markdown_resolver.specs.PassOne.{around}
 use Rattle.markdown_resolver.specs.ReadOn.{ReadsOn, StopsOn}
