@@ -7,7 +7,6 @@ pub mod LabelLengthLemmas
 pub mod LookupLemmas
 pub mod LookupLawsLemmas
 pub mod OpenerLemmas
-pub mod LeftListLemmas
 pub mod BracketLawLemmas
 pub mod ChainAsksLemmas
 pub mod LabelPairLemmas

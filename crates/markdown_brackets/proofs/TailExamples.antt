@@ -77,6 +77,13 @@ title_of_two_lines : link_tail quote_prefix item_from_11 (codes "[a](c 't\n> u')
     ≡ Some (record { ends = 14; destination = codes "c"; title = codes "t\nu"; is_joined = true })
 title_of_two_lines = refl
 
+abbrev item_from_9 : ℕ → Option ℕ
+item_from_9 at = if nat_lt at 11 then Some 9 else None
+
+title_without_prefix : link_tail no_prefix item_from_9 (codes "[a](c 't\ru')") 3
+    ≡ Some (record { ends = 12; destination = codes "c"; title = codes "t\nu"; is_joined = true })
+title_without_prefix = refl
+
 line_ending_stays : link_tail quote_prefix no_item (codes "[a](c 't\n> u')") 3
     ≡ Some (record { ends = 14; destination = codes "c"; title = codes "t\n> u"; is_joined = false })
 line_ending_stays = refl

@@ -1,18 +1,17 @@
 -- The title of a tail comes from the source: it is what is written between its marks.
 use Rattle.std.proofs.Common.{◌≡◌, ℕ, suc, ◌+◌, ◌-◌, ◌≤◌, ◌==◌, Bool, true, false, List, [], ◌∷◌, Option, Some, None, take, drop}
-use Rattle.std.proofs.Common.{slice_range, refl, ◌∙◌, ap, subst, arith}
-use Rattle.std.specs.Option.{option_map}
+use Rattle.std.proofs.Common.{slice_range, refl, sym, ◌∙◌, ap, subst, arith, ◌<◌, is_some, nat_lt, unwrap_or}
+use Rattle.std.specs.Option.{option_and_then, option_map}
 use Rattle.std.specs.Prelude.{slice_index, if◌then◌else◌, ⊤, IfSome}
 use Rattle.markdown_base.specs.CowText.{text_of}
 use Rattle.markdown_base.specs.StoredTexts.{IsBorrowed}
 use Rattle.markdown_base.specs.declared.cow_str.CowStr.{CowStr}
 use Rattle.markdown_base.specs.declared.cow_str.CowStr.TheVariants.{Boxed, Borrowed, Inlined}
-use Rattle.markdown_base.specs.Bytes.{backslash}
+use Rattle.markdown_base.specs.Bytes.{backslash, line_feed}
 use Rattle.markdown_base.specs.declared.tag.LinkType.TheVariants as kind
 use Rattle.markdown_scan.specs.Backslash.{is_bare}
 use Rattle.markdown_scan.specs.Unescape.{unescaped}
-use Rattle.markdown_document.specs.LinkTitle.{Title, after_text, byte_shown, first_closer, is_line, next_line, opened_by, passed_with}
-use Rattle.markdown_document.specs.LinkTitle.{refuses, title_at, title_from}
+use Rattle.markdown_document.specs.LinkTitle.{Title, closer_of, joined_lines, next_line, title_at, title_in}
 use Rattle.markdown_document.specs.LinkOrigins.{IsWrittenTitle}
 use Rattle.markdown_document.specs.Origins.{origin_of, sliced}
 use Rattle.markdown_document.proofs.OriginLemmas.{title_wider}
@@ -21,65 +20,68 @@ use Rattle.markdown_brackets.specs.LinkTail.{after_destination, after_title, clo
 use Rattle.markdown_brackets.specs.LinkTailView.{BorrowsTail, ReadsTail}
 use Rattle.markdown_brackets.specs.WrittenView.{IsTailFrom}
 use Rattle.markdown_brackets.specs.declared.link_tail.LinkTail.{LinkTail}
+use Rattle.markdown_brackets.proofs.ChainAheadLemmas.{is_below}
+use Rattle.markdown_brackets.proofs.TitleLemmas.{after, joined_after}
 
--- a title from the byte i on, no line of which is joined, is the bytes up to its closing mark
-abbrev IsSliceFrom : ℕ → List ℕ → Option Title → Type 0
-IsSliceFrom i bytes None = ⊤
-IsSliceFrom i bytes (Some t) = t.is_joined ≡ false → (i + 1 ≤ t.ends) × (t.text ≡ take (t.ends - 1 - i) bytes)
+-- a title from the byte i on ends after it, and where no bytes are skipped and no line is joined is the bytes up to its closing mark
+abbrev IsFrom : (from i : ℕ) → List ℕ → Option Title → Type 0
+IsFrom from i bytes None = ⊤
+IsFrom from i bytes (Some t) = (i < t.ends) × (from ≤ i → t.is_joined ≡ false → t.text ≡ take (t.ends - 1 - i) bytes)
 
-mapped : (i b : ℕ) (bytes : List ℕ) (o : Option Title) → IsSliceFrom (i + 1) bytes o
-    → IsSliceFrom i (b ∷ bytes) (option_map (after_text (b ∷ []) false) o)
-mapped i b bytes None h = tt
-mapped i b bytes (Some t) h = λ j.
-    let k = h j in
-    let past = k.0 in
-    let one : suc (t.ends - 1 - (i + 1)) ≡ t.ends - 1 - i = omega (arith, past) in
-    (omega (arith, past), ap (λ (text : List ℕ). b ∷ text) k.1 ∙ ap (λ (n : ℕ). take n (b ∷ bytes)) one)
-
-joined : (i : ℕ) (shown bytes : List ℕ) (o : Option Title) → IsSliceFrom i bytes (option_map (after_text shown true) o)
-joined i shown bytes None = tt
-joined i shown bytes (Some t) = λ j. cc j
-
-from_sliced : (starts : ℕ → Option ℕ) (closer i : ℕ) (escaped : Bool) (bytes : List ℕ)
-    → IsSliceFrom i bytes (title_from starts closer i escaped 0 bytes)
-from_sliced starts closer i escaped [] = tt
-from_sliced starts closer i escaped (b ∷ bytes) = by (is_bare escaped b closer) (refuses closer escaped b)
-    (from_sliced starts closer (i + 1) (is_bare escaped b backslash) bytes)
+is_from : (starts : ℕ → Option ℕ) (closer from i : ℕ) (escaped : Bool) (bytes : List ℕ)
+    → IsFrom from i bytes (title_in closer escaped (joined_lines starts from i bytes))
+is_from starts closer from i escaped [] = tt
+is_from starts closer from i escaped (b ∷ bytes) =
+    let line = next_line starts i b in
+    by line (nat_lt i from) refl (is_from starts closer from (i + 1) escaped bytes)
+    (is_from starts closer (unwrap_or line (i + 1)) (i + 1) (is_bare escaped (if is_some line then line_feed else b) backslash) bytes)
   where
-    lined : (line : Option ℕ) → IsSliceFrom (i + 1) bytes (title_from starts closer (i + 1) (is_bare escaped b backslash) 0 bytes)
-        → IsSliceFrom i (b ∷ bytes) (option_map (after_text (byte_shown line b) (is_line line))
-        (title_from starts closer (i + 1) (is_bare escaped b backslash) (passed_with i line) bytes))
-    lined None h = mapped i b bytes (title_from starts closer (i + 1) (is_bare escaped b backslash) 0 bytes) h
-    lined (Some start) h = joined i (byte_shown (Some start) b) (b ∷ bytes)
-        (title_from starts closer (i + 1) (is_bare escaped b backslash) (passed_with i (Some start)) bytes)
+    skipped : (o : Option Title) → i < from → IsFrom from (i + 1) bytes o → IsFrom from i (b ∷ bytes) o
+    skipped None past h = tt
+    skipped (Some t) past h = (omega (arith, h.0), λ low. absurd (omega (arith, low, past)))
 
-    by : (bare refused : Bool) → IsSliceFrom (i + 1) bytes (title_from starts closer (i + 1) (is_bare escaped b backslash) 0 bytes)
-        → IsSliceFrom i (b ∷ bytes) (if bare then Some (record { ends = i + 1; text = []; is_joined = false })
-        else if refused then None
-        else option_map (after_text (byte_shown (next_line starts i b) b) (is_line (next_line starts i b)))
-        (title_from starts closer (i + 1) (is_bare escaped b backslash) (passed_with i (next_line starts i b)) bytes))
-    by true refused h = λ j.
-        let none : 0 ≡ i + 1 - 1 - i = omega arith in
-        (omega arith, ap (λ (n : ℕ). take n (b ∷ bytes)) none)
-    by false true h = tt
-    by false false h = lined (next_line starts i b) h
+    shown : (line : Option ℕ) (bare refused : Bool) (o : Option Title) → IsFrom (unwrap_or line (i + 1)) (i + 1) bytes o
+        → IsFrom from i (b ∷ bytes) (if bare then Some (record { ends = i + 1; text = []; is_joined = false }) else if refused then None
+        else option_map (after ((if is_some line then line_feed else b) ∷ []) (is_some line)) o)
+    shown line true refused o h = (omega arith, λ low j. let none : 0 ≡ i + 1 - 1 - i = omega arith in ap (λ (n : ℕ). take n (b ∷ bytes)) none)
+    shown line false true o h = tt
+    shown line false false None h = tt
+    shown None false false (Some t) h =
+        let past = h.0 in
+        let one : suc (t.ends - 1 - (i + 1)) ≡ t.ends - 1 - i = omega (arith, past) in (
+          omega (arith, past),
+          λ low j. ap (λ (text : List ℕ). b ∷ text) (h.1 (omega arith) j) ∙ ap (λ (n : ℕ). take n (b ∷ bytes)) one,
+        )
+    shown (Some start) false false (Some t) h = (omega (arith, h.0), λ low j. cc j)
 
--- so is a title at a byte
-abbrev IsSliceAt : List ℕ → ℕ → Option Title → Type 0
-IsSliceAt text i None = ⊤
-IsSliceAt text i (Some t) = t.is_joined ≡ false → t.text ≡ slice_range text (i + 1) (t.ends - 1)
+    by : (line : Option ℕ) (skips : Bool) → nat_lt i from ≡ skips
+        → IsFrom from (i + 1) bytes (title_in closer escaped (joined_lines starts from (i + 1) bytes))
+        → IsFrom (unwrap_or line (i + 1)) (i + 1) bytes (title_in closer (is_bare escaped (if is_some line then line_feed else b) backslash)
+        (joined_lines starts (unwrap_or line (i + 1)) (i + 1) bytes))
+        → IsFrom from i (b ∷ bytes) (title_in closer escaped (if skips then joined_lines starts from (i + 1) bytes
+        else (i, if is_some line then line_feed else b, is_some line) ∷ joined_lines starts (unwrap_or line (i + 1)) (i + 1) bytes))
+    by line true e skips here = skipped (title_in closer escaped (joined_lines starts from (i + 1) bytes)) (is_below i from e) skips
+    by line false e skips here = shown line _ _ _ here
 
-title_sliced : (starts : ℕ → Option ℕ) (text : List ℕ) (i : ℕ) → IsSliceAt text i (title_at starts text i)
-title_sliced starts text i = by (first_closer (drop i text))
+-- a title ends after its first byte, and where no line is joined is the bytes between its marks
+abbrev pub IsTitleAt : List ℕ → ℕ → Option Title → Type 0
+IsTitleAt text i None = ⊤
+IsTitleAt text i (Some t) = (i < t.ends) × (t.is_joined ≡ false → t.text ≡ slice_range text (i + 1) (t.ends - 1))
+
+pub title_is_at : (starts : ℕ → Option ℕ) (text : List ℕ) (i : ℕ) → IsTitleAt text i (title_at starts text i)
+title_is_at starts text i = by (closer_of (slice_index text i))
   where
-    slice : (o : Option Title) → IsSliceFrom (i + 1) (drop (i + 1) text) o → IsSliceAt text i o
-    slice None h = tt
-    slice (Some t) h = λ j. (h j).1
+    at : (o : Option Title) → IsFrom (i + 1) (i + 1) (drop (i + 1) text) o → IsTitleAt text i o
+    at None h = tt
+    at (Some t) h = (omega (arith, h.0), h.1 (omega arith))
 
-    by : (closer : Option ℕ) → IsSliceAt text i (opened_by starts text i closer)
+    by : (closer : Option ℕ)
+        → IsTitleAt text i (option_and_then (λ closer. title_in closer false (joined_lines starts (i + 1) 0 text)) closer)
     by None = tt
-    by (Some closer) = slice (title_from starts closer (i + 1) false 0 (drop (i + 1) text))
-        (from_sliced starts closer (i + 1) false (drop (i + 1) text))
+    by (Some closer) =
+        let bytes = joined_lines starts (i + 1) (i + 1) (drop (i + 1) text) in
+        subst (λ l. IsTitleAt text i (title_in closer false l)) (sym (joined_after starts (i + 1) 0 (i + 1) (i + 1) text (omega arith) (omega arith)))
+        (at (title_in closer false bytes) (is_from starts closer (i + 1) (i + 1) false (drop (i + 1) text)))
 
 borrowed_sliced : (c : CowStr) → IsBorrowed c → origin_of c ≡ sliced
 borrowed_sliced (Borrowed slice) h = refl
@@ -129,7 +131,7 @@ module _ (in_table : Bool) (skipped : List ℕ → Option ℕ) (starts : ℕ →
         reads = reads;
         slice = λ unjoined same. (
           borrowed_sliced found.title (borrows unjoined same),
-          same ∙ subst (IsSliceAt text next) e (title_sliced starts text next) unjoined,
+          same ∙ (subst (IsTitleAt text next) e (title_is_at starts text next)).1 unjoined,
         );
       })
 

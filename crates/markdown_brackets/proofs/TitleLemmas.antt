@@ -1,150 +1,154 @@
--- Steps of the scan of a title: what the whole has is what was read, and then what the rest has.
-use Rattle.std.proofs.Common.{◌≡◌, ℕ, suc, zero, ◌+◌, ◌-◌, ◌<◌, ◌≤◌, Bool, true, false, ◌||◌, ◌==◌, cond, List, [], ◌∷◌, ◌++◌, Option, Some}
-use Rattle.std.proofs.Common.{None, length, get_or, take, drop, slice_range, refl, sym, ◌∙◌, ap, subst, arith, append_assoc}
+-- Steps of the scan of a title: one byte of joined lines, and what it adds.
+use Rattle.std.proofs.Common.{◌≡◌, ℕ, suc, zero, ◌+◌, ◌-◌, ◌<◌, ◌≤◌, Bool, true, false, ◌&&◌, ◌||◌, ◌==◌, List, [], ◌∷◌, ◌++◌}
+use Rattle.std.proofs.Common.{Option, Some, None, if◌then◌else◌, is_some, unwrap_or, length, get_or, take, drop, slice_range, refl, sym}
+use Rattle.std.proofs.Common.{◌∙◌, ap, subst, arith, append_assoc, nat_lt}
 use Rattle.std.specs.Option.{option_map}
-use Rattle.std.proofs.lemmas.List.{append-nil, drop_all, drop_more, take_more, get_or-drop, length-drop, drop-drop}
+use Rattle.std.proofs.Math.Bool.{or-false, or_assoc}
+use Rattle.std.proofs.lemmas.List.{append-nil, drop_all, drop_more, take_more, get_or-drop, length-drop}
 use Rattle.std.proofs.lemmas.Bool.Decides.{nat_tests}
 use Rattle.markdown_base.specs.CowText.{text_of}
 use Rattle.markdown_base.specs.StoredTexts.{IsBorrowed}
 use Rattle.markdown_base.specs.declared.cow_str.CowStr.{CowStr}
-use Rattle.markdown_base.specs.Bytes.{backslash, line_feed, carriage_return}
+use Rattle.markdown_base.specs.Bytes.{backslash, carriage_return, close_parenthesis, line_feed, open_parenthesis}
 use Rattle.markdown_scan.specs.Backslash.{is_bare}
-use Rattle.markdown_document.specs.LinkTitle.{Title, title_from, after_text, refuses, next_line, byte_shown, is_line, passed_with}
-use Rattle.markdown_document.specs.LinkTitle.{start_past}
+use Rattle.markdown_scan.specs.Unescape.{unescaped}
+use Rattle.markdown_document.specs.LinkTitle.{Title, joined_lines, next_line, title_in}
 use Rattle.markdown_brackets.specs.TitleView.{BorrowsTitle, ReadsTitle}
+use Rattle.markdown_brackets.proofs.ChainAheadLemmas.{below_is, not_below_is}
 
--- bytes that are left out
-title_skip : (starts : ℕ → Option ℕ) (closer i : ℕ) (escaped : Bool) (n : ℕ) (bytes : List ℕ) → title_from starts closer i escaped n bytes
-    ≡ title_from starts closer (i + n) escaped 0 (drop n bytes)
-title_skip starts closer i escaped zero bytes = let same : i ≡ i + 0 = omega arith
-    in ap (λ (k : ℕ). title_from starts closer k escaped 0 bytes) same
-title_skip starts closer i escaped (suc n) [] = refl
-title_skip starts closer i escaped (suc n) (b ∷ bytes) =
-    let same : i + 1 + n ≡ i + suc n = omega arith in
-    title_skip starts closer (i + 1) escaped n bytes ∙ ap (λ (k : ℕ). title_from starts closer k escaped 0 (drop n bytes)) same
+-- the byte that stands for this one
+abbrev shown : Option ℕ → ℕ → ℕ
+shown line b = if is_some line then line_feed else b
 
-or_assoc : (a b c : Bool) → (a || (b || c)) ≡ ((a || b) || c)
-or_assoc true b c = refl
-or_assoc false b c = refl
+-- it is bare where this one is
+shown_bare : (starts : ℕ → Option ℕ) (i : ℕ) (escaped : Bool) (b what : ℕ) → 13 < what
+    → is_bare escaped (shown (next_line starts i b) b) what ≡ is_bare escaped b what
+shown_bare starts i escaped b what h = by ((b == line_feed) || (b == carriage_return)) refl
+  where
+    both : (lines : Bool) → ((b == line_feed) || (b == carriage_return)) ≡ true
+        → is_bare escaped (if lines then line_feed else b) what ≡ is_bare escaped b what
+    both true e = grind (arith, nat_tests)
+    both false e = refl
 
-or_true : (a : Bool) → (a || true) ≡ true
-or_true true = refl
-or_true false = refl
+    by : (ends : Bool) → ((b == line_feed) || (b == carriage_return)) ≡ ends
+        → is_bare escaped (shown (if ends && nat_lt i (unwrap_or (starts (i + 1)) 0) then starts (i + 1) else None) b) what
+        ≡ is_bare escaped b what
+    by true e = both (is_some (if nat_lt i (unwrap_or (starts (i + 1)) 0) then starts (i + 1) else None)) e
+    by false e = refl
 
-or_false : (a : Bool) → (a || false) ≡ a
-or_false true = refl
-or_false false = refl
+-- a title after a text that was read
+abbrev pub after : List ℕ → Bool → Title → Title
+after so is_joined t = record { ends = t.ends; text = so ++ t.text; is_joined = is_joined || t.is_joined }
 
--- after two texts
-after_both : (so p : List ℕ) (joined line : Bool) (o : Option Title) → option_map (after_text so joined) (option_map (after_text p line) o)
-    ≡ option_map (after_text (so ++ p) (joined || line)) o
-after_both so p joined line None = refl
-after_both so p joined line (Some t) =
-    ap (λ (text : List ℕ). Some (record { ends = t.ends; text = text; is_joined = joined || (line || t.is_joined) }))
-    (sym (append_assoc so p t.text))
-    ∙ ap (λ (b : Bool). Some (record { ends = t.ends; text = so ++ p ++ t.text; is_joined = b })) (or_assoc joined line t.is_joined)
+abbrev title_on : List ℕ → Bool → ℕ → Bool → List (ℕ × ℕ × Bool) → Option Title
+title_on so is_joined closer escaped bytes = option_map (after so is_joined) (title_in closer escaped bytes)
 
--- at the closing mark
-at_close : (starts : ℕ → Option ℕ) (closer i : ℕ) (escaped : Bool) (b : ℕ) (rest : List ℕ) → is_bare escaped b closer ≡ true
-    → title_from starts closer i escaped 0 (b ∷ rest) ≡ Some (record { ends = i + 1; text = []; is_joined = false })
-at_close starts closer i escaped b rest bare = rw bare
+-- bytes before the offset from which lines are joined
+pub joined_after : (starts : ℕ → Option ℕ) (from i n at : ℕ) (bytes : List ℕ) → i + n ≡ at → at ≤ from
+    → joined_lines starts from i bytes ≡ joined_lines starts from at (drop n bytes)
+joined_after starts from i zero at bytes e h = let same : i ≡ at = omega (arith, e) in ap (λ (k : ℕ). joined_lines starts from k bytes) same
+joined_after starts from i (suc n) at [] e h = refl
+joined_after starts from i (suc n) at (b ∷ bytes) e h =
+    rw (below_is i from (omega (arith, e, h))) (joined_after starts from (i + 1) n at bytes (omega (arith, e)) h)
 
--- at any other byte
-at_byte : (starts : ℕ → Option ℕ) (closer i : ℕ) (escaped : Bool) (b : ℕ) (rest : List ℕ) → is_bare escaped b closer ≡ false
-    → refuses closer escaped b ≡ false
-    → title_from starts closer i escaped 0 (b ∷ rest)
-    ≡ option_map (after_text (byte_shown (next_line starts i b) b) (is_line (next_line starts i b)))
-    (title_from starts closer (i + 1) (is_bare escaped b backslash) (passed_with i (next_line starts i b)) rest)
-at_byte starts closer i escaped b rest bare refused = rw (bare, refused)
+-- what starts later is asked of what ends past the next byte alone
+next_line_same : (starts starts' : ℕ → Option ℕ) (i b : ℕ) → starts (i + 1) ≡ starts' (i + 1)
+    → next_line starts i b ≡ next_line starts' i b
+next_line_same starts starts' i b e =
+    ap (λ o. if ((b == line_feed) || (b == carriage_return)) && nat_lt i (unwrap_or o 0) then o else None) e
 
--- the whole, where the byte at i is the closing mark
-pub whole_closes : (whole : Option Title) (starts : ℕ → Option ℕ) (closer i : ℕ) (escaped : Bool) (so : List ℕ) (joined : Bool)
-    (text : List ℕ)
-    → whole ≡ option_map (after_text so joined) (title_from starts closer i escaped 0 (drop i text)) → i < length text
-    → is_bare escaped (get_or text i 0) closer ≡ true
-    → whole ≡ Some (record { ends = i + 1; text = so; is_joined = joined })
-whole_closes whole starts closer i escaped so joined text was here bare =
-    was ∙ ap (λ (rest : List ℕ). option_map (after_text so joined) (title_from starts closer i escaped 0 rest)) (drop_more text i 0 here)
-    ∙ ap (option_map (after_text so joined)) (at_close starts closer i escaped (get_or text i 0) (drop (i + 1) text) bare)
-    ∙ ap (λ (t : List ℕ). Some (record { ends = i + 1; text = t; is_joined = joined || false })) (append-nil so)
-    ∙ ap (λ (b : Bool). Some (record { ends = i + 1; text = so; is_joined = b })) (or_false joined)
+-- a title has this text up to a byte offset, and then what the rest has
+pub record ReadTo (starts : ℕ → Option ℕ) (bytes : List ℕ) (closer : ℕ) (whole : Option Title) (at : ℕ) (escaped : Bool) (so : List ℕ)
+    (is_joined : Bool) : Type 0 where
+  pub mark : 13 < closer
+  pub rest : whole ≡ title_on so is_joined closer escaped (joined_lines starts at 0 bytes)
 
--- the whole, one byte on, with what the byte gives
-whole_goes_on : (whole : Option Title) (starts : ℕ → Option ℕ) (closer i : ℕ) (escaped : Bool) (so : List ℕ) (joined : Bool) (text : List ℕ)
-    (line : Option ℕ)
-    → whole ≡ option_map (after_text so joined) (title_from starts closer i escaped 0 (drop i text)) → i < length text
-    → is_bare escaped (get_or text i 0) closer ≡ false → refuses closer escaped (get_or text i 0) ≡ false
-    → next_line starts i (get_or text i 0) ≡ line
-    → whole ≡ option_map (after_text (so ++ byte_shown line (get_or text i 0)) (joined || is_line line))
-    (title_from starts closer (i + 1) (is_bare escaped (get_or text i 0) backslash) (passed_with i line) (drop (i + 1) text))
-whole_goes_on whole starts closer i escaped so joined text line was here bare refused is =
-    let b = get_or text i 0 in
-    let rest = drop (i + 1) text in
-    was ∙ ap (λ (bytes : List ℕ). option_map (after_text so joined) (title_from starts closer i escaped 0 bytes)) (drop_more text i 0 here)
-    ∙ ap (option_map (after_text so joined)) (at_byte starts closer i escaped b rest bare refused)
-    ∙ ap (λ (l : Option ℕ). option_map (after_text so joined) (option_map (after_text (byte_shown l b) (is_line l))
-    (title_from starts closer (i + 1) (is_bare escaped b backslash) (passed_with i l) rest))) is
-    ∙ after_both so (byte_shown line b) joined (is_line line) (title_from starts closer (i + 1) (is_bare escaped b backslash)
-    (passed_with i line) rest)
+-- at first it has none
+pub begins : (starts : ℕ → Option ℕ) (bytes : List ℕ) (closer at : ℕ) (so : List ℕ) (is_joined : Bool) → 13 < closer → so ≡ []
+    → is_joined ≡ false → ReadTo starts bytes closer (title_in closer false (joined_lines starts at 0 bytes)) at false so is_joined
+begins starts bytes closer at so is_joined mark none unjoined =
+    record { mark = mark; rest = rw (none, unjoined) (by (title_in closer false (joined_lines starts at 0 bytes))) }
+  where
+    by : (o : Option Title) → o ≡ option_map (after [] false) o
+    by None = refl
+    by (Some t) = refl
 
--- the whole, past a byte
-pub whole_past_byte : (whole : Option Title) (starts : ℕ → Option ℕ) (closer i : ℕ) (escaped : Bool) (so : List ℕ) (joined : Bool)
-    (text : List ℕ)
-    → whole ≡ option_map (after_text so joined) (title_from starts closer i escaped 0 (drop i text)) → i < length text
-    → is_bare escaped (get_or text i 0) closer ≡ false → refuses closer escaped (get_or text i 0) ≡ false
-    → next_line starts i (get_or text i 0) ≡ None
-    → whole ≡ option_map (after_text (so ++ get_or text i 0 ∷ []) joined)
-    (title_from starts closer (i + 1) (is_bare escaped (get_or text i 0) backslash) 0 (drop (i + 1) text))
-whole_past_byte whole starts closer i escaped so joined text was here bare refused is =
-    let b = get_or text i 0 in
-    whole_goes_on whole starts closer i escaped so joined text None was here bare refused is
-    ∙ ap (λ (j : Bool). option_map (after_text (so ++ b ∷ []) j) (title_from starts closer (i + 1) (is_bare escaped b backslash) 0
-    (drop (i + 1) text))) (or_false joined)
+module _ {starts : ℕ → Option ℕ} {bytes : List ℕ} {closer : ℕ} {whole : Option Title} {at : ℕ} {escaped : Bool} {so : List ℕ} {is_joined : Bool}
+    (read : ReadTo starts bytes closer whole at escaped so is_joined) where
+  -- nothing is left
+  pub past_end : length bytes ≤ at → whole ≡ None
+  past_end past =
+      read.rest ∙ ap (title_on so is_joined closer escaped) (joined_after starts at 0 (length bytes) (length bytes) bytes (omega arith) past
+      ∙ ap (joined_lines starts at (length bytes)) (drop_all (length bytes) bytes (omega arith)))
 
--- the whole, past the line that the byte ends
-pub whole_past_line : (whole : Option Title) (starts : ℕ → Option ℕ) (closer i : ℕ) (escaped : Bool) (so : List ℕ) (joined : Bool)
-    (text : List ℕ) (start : ℕ)
-    → whole ≡ option_map (after_text so joined) (title_from starts closer i escaped 0 (drop i text)) → i < length text
-    → is_bare escaped (get_or text i 0) closer ≡ false → refuses closer escaped (get_or text i 0) ≡ false
-    → next_line starts i (get_or text i 0) ≡ Some start → i < start
-    → whole ≡ option_map (after_text (so ++ line_feed ∷ []) true)
-    (title_from starts closer start (is_bare escaped (get_or text i 0) backslash) 0 (drop start text))
-whole_past_line whole starts closer i escaped so joined text start was here bare refused is later =
-    let b = get_or text i 0 in
-    let e = is_bare escaped b backslash in
-    let place : i + 1 + (start - (i + 1)) ≡ start = omega arith in
-    whole_goes_on whole starts closer i escaped so joined text (Some start) was here bare refused is
-    ∙ ap (λ (j : Bool). option_map (after_text (so ++ line_feed ∷ []) j) (title_from starts closer (i + 1) e (start - (i + 1))
-    (drop (i + 1) text))) (or_true joined)
-    ∙ ap (option_map (after_text (so ++ line_feed ∷ []) true)) (title_skip starts closer (i + 1) e (start - (i + 1)) (drop (i + 1) text))
-    ∙ ap (λ (bytes : List ℕ). option_map (after_text (so ++ line_feed ∷ []) true) (title_from starts closer (i + 1 + (start - (i + 1))) e 0
-    bytes)) (drop-drop (start - (i + 1)) (i + 1) text)
-    ∙ ap (λ (k : ℕ). option_map (after_text (so ++ line_feed ∷ []) true) (title_from starts closer k e 0 (drop k text))) place
+  module _ (here : at < length bytes) where
+    abbrev byte : ℕ
+    byte = get_or bytes at 0
 
--- nothing, where that line starts past the text's end
-nothing_left : (starts : ℕ → Option ℕ) (closer i : ℕ) (escaped : Bool) (so : List ℕ) (joined : Bool) (rest : List ℕ) → rest ≡ []
-    → option_map (after_text so joined) (title_from starts closer i escaped 0 rest) ≡ None
-nothing_left starts closer i escaped so joined rest e = ap (λ (bytes : List ℕ). option_map (after_text so joined)
-    (title_from starts closer i escaped 0 bytes)) e
+    -- the byte at the offset comes next
+    now : (line : Option ℕ) → next_line starts at byte ≡ line
+        → whole ≡ title_on so is_joined closer escaped ((at, shown line byte, is_some line)
+        ∷ joined_lines starts (unwrap_or line (at + 1)) (at + 1) (drop (at + 1) bytes))
+    now line is =
+        let first : joined_lines starts at at (byte ∷ drop (at + 1) bytes) ≡ (at, shown line byte, is_some line)
+        ∷ joined_lines starts (unwrap_or line (at + 1)) (at + 1) (drop (at + 1) bytes) = rw (not_below_is at at (omega arith), is) refl in
+        read.rest ∙ ap (title_on so is_joined closer escaped) (joined_after starts at 0 at at bytes (omega arith) (omega arith)
+        ∙ ap (joined_lines starts at at) (drop_more bytes at 0 here) ∙ first)
 
-pub whole_past_end : (whole : Option Title) (starts : ℕ → Option ℕ) (closer i : ℕ) (escaped : Bool) (so : List ℕ) (joined : Bool)
-    (text : List ℕ) (start : ℕ)
-    → whole ≡ option_map (after_text so joined) (title_from starts closer i escaped 0 (drop i text)) → i < length text
-    → is_bare escaped (get_or text i 0) closer ≡ false → refuses closer escaped (get_or text i 0) ≡ false
-    → next_line starts i (get_or text i 0) ≡ Some start → i < start
-    → length text ≤ start → whole ≡ None
-whole_past_end whole starts closer i escaped so joined text start was here bare refused is later past =
-    whole_past_line whole starts closer i escaped so joined text start was here bare refused is later
-    ∙ nothing_left starts closer start (is_bare escaped (get_or text i 0) backslash) (so ++ line_feed ∷ []) true (drop start text)
-    (drop_all start text past)
+    bare : (line : Option ℕ) (what : ℕ) (b : Bool) → next_line starts at byte ≡ line → 13 < what → is_bare escaped byte what ≡ b
+        → is_bare escaped (shown line byte) what ≡ b
+    bare line what b is h e = ap (λ l. is_bare escaped (shown l byte) what) (sym is) ∙ shown_bare starts at escaped byte what h ∙ e
+
+    -- it is the closing mark
+    pub closes : is_bare escaped (get_or bytes at 0) closer ≡ true → whole ≡ Some (record { ends = at + 1; text = so; is_joined = is_joined })
+    closes e = now (next_line starts at byte) refl
+        ∙ rw (bare (next_line starts at byte) closer true refl read.mark e, append-nil so, or-false is_joined) refl
+
+    -- it is an open parenthesis that is not allowed
+    pub refused : is_bare escaped (get_or bytes at 0) closer ≡ false
+        → ((closer == close_parenthesis) && is_bare escaped (get_or bytes at 0) open_parenthesis) ≡ true → whole ≡ None
+    refused e r = now (next_line starts at byte) refl
+        ∙ rw (
+          bare (next_line starts at byte) closer false refl read.mark e,
+          bare (next_line starts at byte) open_parenthesis (is_bare escaped byte open_parenthesis) refl (omega arith) refl,
+          r,
+        ) refl
+
+    -- it is another byte
+    pub goes_on : (starts' : ℕ → Option ℕ) (line : Option ℕ) (next : ℕ) (so' : List ℕ) (is_joined' escaped' : Bool)
+        → is_bare escaped (get_or bytes at 0) closer ≡ false
+        → ((closer == close_parenthesis) && is_bare escaped (get_or bytes at 0) open_parenthesis) ≡ false
+        → starts' (at + 1) ≡ starts (at + 1) → line ≡ next_line starts' at (get_or bytes at 0) → unwrap_or line (at + 1) ≡ next → at < next
+        → so' ≡ so ++ (if is_some line then line_feed else get_or bytes at 0) ∷ [] → is_joined' ≡ (is_joined || is_some line)
+        → escaped' ≡ is_bare escaped (get_or bytes at 0) backslash
+        → ReadTo starts bytes closer whole next escaped' so' is_joined'
+    goes_on starts' line next so' is_joined' escaped' e r same lined to later text joins escapes =
+        let is : next_line starts at byte ≡ line = sym (lined ∙ next_line_same starts' starts at byte same) in
+        record {
+          mark = read.mark;
+          rest =
+              now line is
+              ∙ rw (
+                bare line closer false is read.mark e,
+                bare line open_parenthesis (is_bare escaped byte open_parenthesis) is (omega arith) refl,
+                r,
+                bare line backslash (is_bare escaped byte backslash) is (omega arith) refl,
+                to,
+                text,
+                joins,
+                escapes,
+                joined_after starts next 0 (at + 1) (at + 1) bytes (omega arith) (omega (arith, later)),
+              )
+              (by (title_in closer (is_bare escaped byte backslash) (joined_lines starts next (at + 1) (drop (at + 1) bytes))));
+        }
+      where
+        by : (o : Option Title) → option_map (after so is_joined) (option_map (after (shown line byte ∷ []) (is_some line)) o)
+            ≡ option_map (after (so ++ shown line byte ∷ []) (is_joined || is_some line)) o
+        by None = refl
+        by (Some t) = rw (append_assoc so (shown line byte ∷ []) t.text, or_assoc is_joined (is_some line) t.is_joined) refl
 
 pub ReadsTitle-none : (in_table : Bool) (whole : Option Title) → whole ≡ None → ReadsTitle in_table whole None
 ReadsTitle-none in_table whole e = subst (λ (t : Option Title). ReadsTitle in_table t None) (sym e) tt
-
--- what starts later is asked of what ends past the next byte alone
-pub next_line_same : (starts starts' : ℕ → Option ℕ) (i b : ℕ) → starts (i + 1) ≡ starts' (i + 1)
-    → next_line starts i b ≡ next_line starts' i b
-next_line_same starts starts' i b e = ap (λ (o : Option ℕ). cond ((b == line_feed) || (b == carriage_return)) (start_past i o) None) e
 
 -- a slice with one byte more
 pub slice_more : (text : List ℕ) (start at : ℕ) → start ≤ at → at < length text
@@ -163,6 +167,13 @@ slice_empty text at = let n : at - at ≡ 0 = omega arith in ap (λ (k : ℕ). t
 -- a bare byte is that byte
 pub bare_is : (escaped : Bool) (b what : ℕ) → is_bare escaped b what ≡ true → b ≡ what
 bare_is escaped b what e = grind (arith, nat_tests)
+
+-- what is returned at the closing mark
+pub ReadsTitle-closed : (in_table : Bool) (whole : Option Title) (so : List ℕ) (joined : Bool) (at : ℕ) (found : CowStr)
+    → whole ≡ Some (record { ends = at + 1; text = so; is_joined = joined }) → text_of found ≡ unescaped in_table so
+    → ReadsTitle in_table whole (Some (at + 1, found))
+ReadsTitle-closed in_table whole so joined at found is text =
+    subst (λ (t : Option Title). ReadsTitle in_table t (Some (at + 1, found))) (sym is) (refl, text)
 
 -- a title that is a slice where nothing is replaced
 pub BorrowsTitle-closed : (whole : Option Title) (so : List ℕ) (joined : Bool) (at : ℕ) (found : CowStr)

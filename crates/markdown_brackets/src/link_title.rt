@@ -1,9 +1,11 @@
 //! Titles of inline links (CommonMark 6.3).
-ghost use Rattle.std.specs.Prelude.{◌≡◌, ◌+◌, ◌^◌, ◌≤◌, ◌<◌, ℕ, Some, false, IfOk, IfSome, drop, length, slice_index};
+ghost use Rattle.std.specs.Prelude.{◌≡◌, ◌+◌, ◌^◌, ◌≤◌, ◌<◌, ◌==◌, ◌&&◌, ℕ, Some, false, IfOk, IfSome, length};
+ghost use Rattle.std.specs.Prelude.{slice_index};
 ghost use Rattle.std.specs.Str.{IsCharBoundary};
+ghost use Rattle.markdown_base.specs.Bytes.{close_parenthesis, open_parenthesis};
 ghost use Rattle.markdown_scan.specs.Backslash as backslash;
 ghost use Rattle.markdown_document.specs.LinkTitle as title;
-ghost use Rattle.markdown_document.specs.LinkTitle.{title_at, title_from};
+ghost use Rattle.markdown_document.specs.LinkTitle.{joined_lines, title_at, title_in};
 ghost use Rattle.markdown_brackets.specs.TitleView.{ReadsTitle, BorrowsTitle};
 
 use crate::items_after::ItemsAfter;
@@ -14,7 +16,7 @@ use std::alloc::{AllocError, Global};
 // Returns the mark that closes a title which this byte opens; `None` if it opens none.
 fn closer_of(byte: u8) -> Option<u8>
     ensures value { result ≡ title.closer_of byte }
-    ensures ascii { IfSome result (λ closer. (byte < 128) × (closer < 128)) }
+    ensures ascii { IfSome result (λ closer. (byte < 128) × (13 < closer) × (closer < 128)) }
 {
     match byte {
         b'"' | b'\'' => Some(byte),
@@ -25,9 +27,9 @@ fn closer_of(byte: u8) -> Option<u8>
 
 // Returns the mark that closes a title which the byte at the offset `at` opens; `None` if it opens none.
 fn closer_at(text: &str, at: usize) -> Option<u8>
-    ensures value { result ≡ title.first_closer (drop at text.now) }
-    ensures ascii { IfSome result (λ closer.
-        (at < length text.now) × (slice_index text.now at < 128) × (closer < 128)) }
+    ensures value { result ≡ title.closer_of (slice_index text.now at) }
+    ensures ascii { IfSome result (λ closer. (at < length text.now)
+        × (slice_index text.now at < 128) × (13 < closer) × (closer < 128)) }
 {
     match text.as_bytes().get(at) {
         Some(byte) => closer_of(*byte),
@@ -44,7 +46,8 @@ fn is_bare(escaped: bool, byte: u8, what: u8) -> bool
 
 // Returns whether the byte is an open parenthesis that a title in parentheses may not contain.
 fn refuses(closer: u8, escaped: bool, byte: u8) -> bool
-    ensures { result ≡ title.refuses closer escaped byte }
+    ensures { result
+        ≡ ((closer == close_parenthesis) && backslash.is_bare escaped byte open_parenthesis) }
 {
     closer == b')' && is_bare(escaped, byte, b'(')
 }
@@ -85,17 +88,14 @@ fn scan_title_text<'t, I: ItemsAfter>(
     items: &mut I,
 ) -> Result<Option<(usize, CowStr<'t>)>, AllocError>
     requires start { IsCharBoundary text.now from.start }
-    requires ascii { from.closer < 128 }
+    requires mark { (13 < from.closer) × (from.closer < 128) }
     requires items { (n s : ℕ) → I.starts items.old n ≡ Some s → s ≤ length text.now
         → IsCharBoundary text.now s }
     ensures value { IfOk result (
         ReadsTitle in_table
-        (title_from (I.starts items.old) from.closer from.start false 0
-        (drop from.start text.now))) }
+        (title_in from.closer false (joined_lines (I.starts items.old) from.start 0 text.now))) }
     ensures borrowed { IfOk result (
-        BorrowsTitle
-        (title_from (I.starts items.old) from.closer from.start false 0
-        (drop from.start text.now))) }
+        BorrowsTitle (title_in from.closer false (joined_lines (I.starts items.old) from.start 0 text.now))) }
     ensures within { IfOk result (λ found. IfSome found (λ t. IsCharBoundary text.now t.0)) }
 {
     let bytes = text.as_bytes();

@@ -18,35 +18,16 @@ use Rattle.markdown_delims.specs.Bounds.{bound_for, character_raised_for, raised
 use Rattle.markdown_delims.specs.Bounds.{zero_bounds, drop_bound}
 use Rattle.markdown_delims.proofs.PairTests.{IsOutOfStep-failed, IsOfBoth-failed, may_pair-fails}
 
--- what holds below a bound still holds below it after a push
-All-pushed : (P : Characters → Type 0) (stack : List Characters) (c : Characters) (n : ℕ) → n ≤ length stack → All P (take n stack)
-    → All P (take n (stack ++ c ∷ []))
-All-pushed P stack c n h a = rw take-append-le a
-
--- and below the lesser bound after a cut
+-- what holds below a bound still holds below the lesser bound after a cut
 All-cut : (P : Characters → Type 0) (stack : List Characters) (n m : ℕ) → All P (take n stack) → All P (take (min n m) (take m stack))
 All-cut P stack n m a =
     let e : take (min n m) (take m stack) ≡ take (min n m) (take n stack) = take-take (min n m) m stack (omega arith)
     ∙ sym (take-take (min n m) n stack (omega arith)) in
     subst (All P) (sym e) (All-take P (min n m) (take n stack) a)
 
--- of what holds of a whole stack
+-- what holds of a whole stack holds below its length
 All-whole : (P : Characters → Type 0) (stack : List Characters) → All P stack → All P (take (length stack) stack)
 All-whole P stack a = let h : length stack ≤ length stack = omega arith in rw take_all a
-
-pub BoundCharacter-push : (d : Delimiter) (stack : List Characters) (b : CharacterBounds) (c : Characters) → BoundCharacter d stack b
-    → BoundCharacter d (stack ++ c ∷ []) b
-BoundCharacter-push d stack b c h =
-    record {
-      cannot_open_within = simp length_push (omega (arith, h.cannot_open_within));
-      zero_within = simp length_push (omega (arith, h.zero_within));
-      one_within = simp length_push (omega (arith, h.one_within));
-      two_within = simp length_push (omega (arith, h.two_within));
-      cannot_open = All-pushed (IsOfBoth d) stack c _ h.cannot_open_within h.cannot_open;
-      remainder_zero = All-pushed (IsOutOfStep d 0) stack c _ h.zero_within h.remainder_zero;
-      remainder_one = All-pushed (IsOutOfStep d 1) stack c _ h.one_within h.remainder_one;
-      remainder_two = All-pushed (IsOutOfStep d 2) stack c _ h.two_within h.remainder_two;
-    }
 
 pub BoundCharacter-cut : (d : Delimiter) (stack : List Characters) (b : CharacterBounds) (n : ℕ) → n ≤ length stack
     → BoundCharacter d stack b → BoundCharacter d (take n stack) (character_lowered n b)
@@ -135,15 +116,6 @@ module _ (closer : Run) (stack : List Characters) (b : CharacterBounds) where
       (All-take (IsOfBoth closer.delimiter) (min m n) (take n stack) i.cannot_open) in
       (λ k x l. may_pair-fails (get_or (take (min m n) stack) k x) closer (a1 k x l) (λ _. a2 k x l)))
 
-pub BoundStack-push : (stack : List Characters) (b : LowerBounds) (c : Characters) → BoundStack stack b → BoundStack (stack ++ c ∷ []) b
-BoundStack-push stack b c h =
-    record {
-      star = BoundCharacter-push Star stack b.star c h.star;
-      underscore = BoundCharacter-push Underscore stack b.underscore c h.underscore;
-      tilde_within = simp length_push (omega (arith, h.tilde_within));
-      caret_within = simp length_push (omega (arith, h.caret_within));
-    }
-
 pub BoundStack-cut : (stack : List Characters) (b : LowerBounds) (n : ℕ) → n ≤ length stack → BoundStack stack b
     → BoundStack (take n stack) (lowered n b)
 BoundStack-cut stack b n w h =
@@ -211,28 +183,6 @@ pub BoundStack-raised : (closer : Run) (stack : List Characters) (b : LowerBound
     → ((k : ℕ) (x : Characters) → bound_for closer b ≤ k → k < length stack → may_pair (get_or stack k x).run closer ≡ false)
     → BoundStack stack (raised_for closer (length stack) b)
 BoundStack-raised closer stack b h f = raised_at_each closer.delimiter closer stack b refl h f
-
-pub BoundStack-none : BoundStack [] zero_bounds
-BoundStack-none =
-    record {
-      star = none_of Star;
-      underscore = none_of Underscore;
-      tilde_within = omega arith;
-      caret_within = omega arith;
-    }
-  where
-    none_of : (d : Delimiter) → BoundCharacter d [] no_bounds
-    none_of d =
-        record {
-          cannot_open_within = omega arith;
-          zero_within = omega arith;
-          one_within = omega arith;
-          two_within = omega arith;
-          cannot_open = λ k x l. absurd (omega arith);
-          remainder_zero = λ k x l. absurd (omega arith);
-          remainder_one = λ k x l. absurd (omega arith);
-          remainder_two = λ k x l. absurd (omega arith);
-        }
 
 within_remainder : (r : ℕ) (d : Delimiter) (stack : List Characters) (b : CharacterBounds) → BoundCharacter d stack b
     → remainder_bound r b ≤ length stack

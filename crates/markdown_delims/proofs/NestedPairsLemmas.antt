@@ -106,12 +106,6 @@ module _ {A : Type 0} where
   turned [] ys chain = refl
   turned (v ∷ vs) ys chain = turned vs (v ∷ ys) chain
 
-  without_texts : (k : ℕ) (vs : List (Label A)) (chain : Forest (Label A)) → Lies k (forward vs chain) chain
-  without_texts k [] chain i h = h
-  without_texts k (v ∷ vs) chain i h =
-      let own : start_of v ≤ end_of v = h.1 in
-      wider i (end_of v) k k chain (omega (arith, h.0, own)) (omega arith) (without_texts k vs chain (end_of v) h.2)
-
   -- what is added to what was read precedes the chain
   done_before : (xs : List (Label A)) (rs : List (Read A)) (chain : Forest (Label A)) → read_trees (characters_done xs rs) chain
       ≡ read_trees rs (texts_before xs chain)

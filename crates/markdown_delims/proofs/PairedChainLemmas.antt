@@ -33,7 +33,7 @@ use Rattle.markdown_delims.specs.Quoting.{IsQuoted}
 use Rattle.markdown_delims.specs.RunReading.{delimiters_of}
 use Rattle.markdown_delims.specs.Views.{IsMade, Kept}
 use Rattle.markdown_delims.proofs.LawLemmas.{tag-law, tag-finds}
-use Rattle.markdown_delims.proofs.PairingLemmas.{whole_quoted, closed_shape}
+use Rattle.markdown_delims.proofs.PairingLemmas.{open_agrees, whole_quoted}
 use Rattle.markdown_delims.proofs.PlacedLemmas.{items_placed, moved, moved_count, none_moved, still_before}
 use Rattle.markdown_delims.proofs.SumLemmas.{sum_of, CountsNoMore, sum-paired}
 use Rattle.markdown_delims.proofs.WeightLawLemmas.{weighs, weights-count}
@@ -159,13 +159,6 @@ tags_count count s = record {
 }
 
 -- weights
-open_agrees : (tables : Tables) (source : List ℕ) (b : ItemBody) → is_unresolved (shape_of tables source b) ≡ is_open b
-open_agrees tables source b = by_open (is_open b) refl
-  where
-    by_open : (x : Bool) → is_open b ≡ x → is_unresolved (shape_of tables source b) ≡ is_open b
-    by_open true e = ap is_unresolved (shape-open tables source b e) ∙ sym e
-    by_open false e = closed_shape tables source b e ∙ sym e
-
 weight_sum : (s : Setting) (nodes : List (Node Item)) (f : Forest ℕ) → sum_of weighs (labels s no_tables nodes f) ≡ total (weight_at nodes) f
 weight_sum s nodes nil = refl
 weight_sum s nodes (node ix below after) =

@@ -32,13 +32,13 @@ use Rattle.markdown_delims.specs.Quotes.{double_turn, turn_by, first_turn, quote
 use Rattle.markdown_delims.specs.RunReading.{StandsWhole, HasWholeRuns, counts_one, delimiters_of}
 use Rattle.markdown_delims.proofs.ReadLemmas.{reads_none, finds_none}
 
--- what is not open reads as what is not
+-- what is open, and nothing else, reads as what is
+pub open_agrees : (tables : Tables) (source : List ℕ) (b : ItemBody) → is_unresolved (shape_of tables source b) ≡ is_open b
+open_agrees tables source (body.HardBreak x) = refl
+open_agrees tables source other = refl
+
 pub closed_shape : (tables : Tables) (source : List ℕ) (b : ItemBody) → is_open b ≡ false → is_unresolved (shape_of tables source b) ≡ false
-closed_shape tables source b e = closed_if (is_unresolved (shape_of tables source b)) refl
-  where
-    closed_if : (x : Bool) → is_unresolved (shape_of tables source b) ≡ x → is_unresolved (shape_of tables source b) ≡ false
-    closed_if true p = absurd (let no : true ≡ false = sym (open-unresolved tables source b p) ∙ e in cc)
-    closed_if false p = p
+closed_shape tables source b e = open_agrees tables source b ∙ e
 
 -- a delimiter's byte is one of the four
 pub delimiter_some : (i : ℕ) → IsTrue (is_delimiter i) → (d : Delimiter) × (delimiter_of i ≡ Some d)

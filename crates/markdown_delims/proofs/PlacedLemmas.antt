@@ -29,16 +29,8 @@ use Rattle.markdown_delims.specs.PairedChain.{HasNoBlock}
 use Rattle.markdown_delims.specs.Pairing.{paired}
 use Rattle.markdown_delims.specs.Views.{IsMade, SameAt, view_of}
 use Rattle.markdown_delims.proofs.InOrderLemmas.{Precedes, IsRight, AreRight, InOrder, paired_right}
+use Rattle.markdown_delims.proofs.PairingLemmas.{open_agrees}
 use Rattle.markdown_delims.proofs.SumLemmas.{sum_of, CountsNoMore}
-
--- what is open reads as what is
-pub open_closed : (tables : Tables) (source : List ℕ) (b : ItemBody) → is_unresolved (shape_of tables source b) ≡ false → is_open b ≡ false
-open_closed tables source b h =
-    by_open (is_open b) refl
-  where
-    by_open : (x : Bool) → is_open b ≡ x → is_open b ≡ false
-    by_open false e = e
-    by_open true e = absurd (let no : true ≡ false = sym (ap is_unresolved (shape-open tables source b e)) ∙ h in cc)
 
 -- what holds of each number of a forest holds of each that occurs in it
 same_is : (n m : ℕ) → 1 ≤ same n m → n ≡ m
@@ -177,7 +169,7 @@ module _ (s : Setting) (tables : Tables) (old : List (Node Item)) (own : ℕ →
               named = names.named;
               slices = names.slices;
               keeps = keeps-closed s.text (numbered new ix) (child_of new ix) (next_at new ix)
-                  (open_closed tables (slice_range s.text (item_at new ix).start (item_at new ix).end) (item_at new ix).body r.0)
+                  (sym (open_agrees tables (slice_range s.text (item_at new ix).start (item_at new ix).end) (item_at new ix).body) ∙ r.0)
                   (before after (sibling_of new ix) k.3 r.2);
             }
 

@@ -183,16 +183,15 @@ module _ (begun : Forest (Label ℕ)) (a : Label ℕ) (below after : Forest (Lab
   turn_double_opens single false opens true low e = stays single (opens || false) left_double low
   turn_double_opens single true opens true low e = cc
 
+  opens_if : (double later : Bool) → read_back (if later then left_quoted a.tag (node (shaped right_single a) below begun)
+      else node (shaped right_single a) below begun) (quotes_after true double after)
+      ≡ read_back (node (shaped (if true && later then left_single else right_single) a) below begun) (quotes_after true double after)
+  opens_if double true = ap (λ f. read_back f (quotes_after true double after)) (left_quoted-here (shaped right_single a) below begun)
+  opens_if double false = refl
+
   pub turn_none_opens : (double closes : Bool) → quoted_from (Some a.tag) double (node (shaped right_single a) below begun) after
       ≡ turned None double (kind.Single true closes)
-  turn_none_opens double closes = later_if (is_closed_later after)
-    where
-      later_if : (later : Bool) → read_back (if later then left_quoted a.tag (node (shaped right_single a) below begun)
-          else node (shaped right_single a) below begun) (quotes_after true double after)
-          ≡ read_back (node (shaped (if true && later then left_single else right_single) a) below begun)
-          (quotes_after true double after)
-      later_if true = ap (λ f. read_back f (quotes_after true double after)) (left_quoted-here (shaped right_single a) below begun)
-      later_if false = refl
+  turn_none_opens double closes = opens_if double (is_closed_later after)
 
   pub turn_none_stays : (double closes : Bool) → quoted_from None double (node (shaped right_single a) below begun) after
       ≡ turned None double (kind.Single false closes)
@@ -205,14 +204,7 @@ module _ (begun : Forest (Label ℕ)) (a : Label ℕ) (below after : Forest (Lab
 
   pub turn_some_opens : (x : ℕ) (double : Bool) → quoted_from (Some a.tag) double (node (shaped right_single a) below begun) after
       ≡ turned (Some x) double (kind.Single true false)
-  turn_some_opens x double = later_if (is_closed_later after)
-    where
-      later_if : (later : Bool) → read_back (if later then left_quoted a.tag (node (shaped right_single a) below begun)
-          else node (shaped right_single a) below begun) (quotes_after true double after)
-          ≡ read_back (node (shaped (if true && later then left_single else right_single) a) below begun)
-          (quotes_after true double after)
-      later_if true = ap (λ f. read_back f (quotes_after true double after)) (left_quoted-here (shaped right_single a) below begun)
-      later_if false = refl
+  turn_some_opens x double = opens_if double (is_closed_later after)
 
   pub turn_some_stays : (x : ℕ) (double : Bool) → x < a.tag → quoted_from (Some x) double (node (shaped right_single a) below begun)
       after ≡ turned (Some x) double (kind.Single false false)

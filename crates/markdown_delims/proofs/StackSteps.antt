@@ -35,14 +35,6 @@ module _ (stack : List Characters) (examined : ℕ) (b : LowerBounds) (sound : I
   openers_of-push c =
       rw (open_runs-pushed b stack c (drop_bound-within c.run.delimiter stack b sound.bound), potential-push c) refl
 
-  pub IsSound-push : (c : Characters) → 0 < c.count → potential_of stack examined b + comparisons_per_delimiter < 2 ^ 128 → IsSound (stack ++ c ∷ []) examined b
-  IsSound-push c some room =
-      record {
-        bound = BoundStack-push stack b c sound.bound;
-        counts = All-push (λ d. 0 < d.count) stack c sound.counts some;
-        fits = subst (λ p. p < 2 ^ 128) (sym (potential-push c)) room;
-      }
-
   -- a search that succeeds at a position has paid for its comparisons with the runs that it removes
   pub potential-cut : (i after : ℕ) → i ≤ length stack → after + i ≡ examined + length stack
       → potential_of (take i stack) after (lowered i b) ≤ potential_of stack examined b

@@ -55,6 +55,13 @@ fn pair_runs(
     Ok(())
 }
 
+/// What a chain is paired by: the text that its items are ranges of, and the enabled options.
+#[derive(Clone, Copy, Drop)]
+pub struct ChainText<'t> {
+    pub text: &'t str,
+    pub options: Options,
+}
+
 /// Pairs the chain of inline items from the node `first` on in place, once pass one has left nothing open in it but
 /// quotes and delimiter runs: quotes become their characters, a hard break by a backslash at its end becomes that
 /// backslash, paired delimiter characters become nodes around what lies between them, and all other delimiter
@@ -67,18 +74,19 @@ fn pair_runs(
 pub fn pair_chain(
     tree: &mut Tree<Item>,
     open_runs: &mut OpenRuns,
-    text: &str,
-    options: Options,
+    source: ChainText<'_>,
     first: usize,
     work: &mut Work,
 ) -> Result<(), AllocError>
-    requires chain { CanPair text.now tree.old.nodes first }
-    ensures pairs { OnOk result ((rules : Rules) → rules.options ≡ options
-        → PairsChain (setting_of text.now rules) first tree.old.nodes tree.new.nodes) }
+    requires chain { CanPair source.text.now tree.old.nodes first }
+    ensures pairs { OnOk result ((rules : Rules) → rules.options ≡ source.entry.options
+        → PairsChain (setting_of source.entry.text.now rules) first tree.old.nodes
+        tree.new.nodes) }
     ensures place { OnOk result (tree.new ≡ record tree.old { nodes = tree.new.nodes }) }
-    ensures found { OnOk result ((rules : Rules) (tables : Tables) → rules.options ≡ options
-        → RisesAtLeast (finds_in (setting_of text.now rules)
-        (trees_from text.now tables tree.old.nodes (Some first)))
+    ensures found { OnOk result ((rules : Rules) (tables : Tables)
+        → rules.options ≡ source.entry.options
+        → RisesAtLeast (finds_in (setting_of source.entry.text.now rules)
+        (trees_from source.entry.text.now tables tree.old.nodes (Some first)))
         work.old.examined work.new.examined) }
 
     // on success and on error
@@ -91,12 +99,12 @@ pub fn pair_chain(
     } }
 {
     open_runs.clear();
-    let source = Source {
-        text: text.as_bytes(),
-        marks: Marks::of_options(options),
+    let marked = Source {
+        text: source.text.as_bytes(),
+        marks: Marks::of_options(source.options),
     };
     let delimiters = quote_chain(tree, first);
-    let done = pair_runs(tree, open_runs, source, first, delimiters);
+    let done = pair_runs(tree, open_runs, marked, first, delimiters);
     work.count_pairing(delimiters as u128, open_runs.examined());
     done
 }

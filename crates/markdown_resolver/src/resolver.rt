@@ -16,7 +16,7 @@ use markdown_brackets::finish::finish_bracket;
 use markdown_brackets::look_up::LabelLookup;
 use markdown_brackets::waiting::WaitingBrackets;
 use markdown_defs::BrokenLinkCallback;
-use markdown_delims::chain::pair_chain;
+use markdown_delims::chain::{ChainText, pair_chain};
 use markdown_delims::open_runs::OpenRuns;
 use markdown_document::chain_place::ChainPlace;
 use markdown_document::work::Work;
@@ -318,14 +318,11 @@ impl<'a, F: BrokenLinkCallback<'a>> Resolver<'a, F> {
         ensures kept { KeepsInput self.old self.new }
     {
         self.read_chain(tree, first)?;
-        pair_chain(
-            tree,
-            &mut self.open_runs,
-            self.text,
-            self.options,
-            first,
-            &mut self.work,
-        )?;
+        let source = ChainText {
+            text: self.text,
+            options: self.options,
+        };
+        pair_chain(tree, &mut self.open_runs, source, first, &mut self.work)?;
         Ok(())
     }
 }

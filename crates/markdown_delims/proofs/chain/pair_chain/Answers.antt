@@ -39,9 +39,9 @@ place_is old new e f =
 pub quote_chain-delimiters-requires : goal.quote_chain-delimiters-requires
 quote_chain-delimiters-requires c = record {
   chain = record {
-    setting = setting_of c.args.text.now (rules_by c.args.options);
+    setting = setting_of c.args.source.text.now (rules_by c.args.source.options);
     forest = trees c.args.tree.now.nodes c.args.first;
-    is = spelled_is c.args.text.now c.args.tree.now.nodes c.args.first c.requires.chain;
+    is = spelled_is c.args.source.text.now c.args.tree.now.nodes c.args.first c.requires.chain;
   };
 }
 
@@ -84,7 +84,7 @@ module _ (s : Setting) (tables : Tables) (old mid : Arena Item) (first count : �
 
 pub pair_runs-done-requires-clause-chain : goal.pair_runs-done-requires-clause-chain
 pair_runs-done-requires-clause-chain c =
-    let s : Setting = setting_of c.args.text.now (rules_by c.args.options) in
+    let s : Setting = setting_of c.args.source.text.now (rules_by c.args.source.options) in
     let ch = chain_at s no_tables c.args.tree.now c.quote_chain-delimiters.new.tree c.args.first c.quote_chain-delimiters.result
     c.requires.chain c.quote_chain-delimiters.ensures.quotes c.quote_chain-delimiters.ensures.count c.quote_chain-delimiters.ensures.few in
     record {
@@ -107,7 +107,7 @@ pub returns-clause-pairs : goal.returns-clause-pairs
 returns-clause-pairs c =
     on_ok c.pair_runs-done.result
     (λ pairs rules same.
-    let s : Setting = setting_of c.args.text.now rules in
+    let s : Setting = setting_of c.args.source.text.now rules in
     pairs_chain s c.args.tree.now c.pair_runs-done.new.tree c.args.first c.requires.chain
     (λ tables. chain_done s tables c.args.tree.now c.quote_chain-delimiters.new.tree c.args.first c.quote_chain-delimiters.result
     c.requires.chain c.quote_chain-delimiters.ensures.quotes c.quote_chain-delimiters.ensures.count c.quote_chain-delimiters.ensures.few
@@ -119,7 +119,7 @@ pub returns-clause-place : goal.returns-clause-place
 returns-clause-place c =
     on_ok c.pair_runs-done.result
     (λ pairs.
-    let s : Setting = setting_of c.args.text.now (rules_by c.args.options) in
+    let s : Setting = setting_of c.args.source.text.now (rules_by c.args.source.options) in
     let r = chain_done s no_tables c.args.tree.now c.quote_chain-delimiters.new.tree c.args.first c.quote_chain-delimiters.result
     c.requires.chain c.quote_chain-delimiters.ensures.quotes c.quote_chain-delimiters.ensures.count c.quote_chain-delimiters.ensures.few
     c.of_options.result c.as_bytes.result.now c.pair_runs-done.new.tree (sym c.of_options.ensures) (sym c.as_bytes.ensures.value) pairs in
@@ -130,20 +130,20 @@ pub returns-clause-found : goal.returns-clause-found
 returns-clause-found c =
     on_ok c.pair_runs-done.result
     (λ found rules tables same.
-    let s : Setting = setting_of c.args.text.now rules in
+    let s : Setting = setting_of c.args.source.text.now rules in
     let all = chain_found s tables c.args.tree.now c.quote_chain-delimiters.new.tree c.args.first c.quote_chain-delimiters.result
     c.requires.chain c.quote_chain-delimiters.ensures.quotes c.quote_chain-delimiters.ensures.count c.quote_chain-delimiters.ensures.few
     c.of_options.result c.as_bytes.result.now c.clear.new.self c.pair_runs-done.new.openers (ap marks_of same ∙ sym c.of_options.ensures)
     (sym c.as_bytes.ensures.value) found in
     let none : c.clear.new.self.examined ≡ 0 = ap (λ o. o.examined) c.clear.ensures in
-    let rises = risen_at_least c.examined.result (finds_in s (trees_from c.args.text.now tables c.args.tree.now.nodes (Some c.args.first)))
+    let rises = risen_at_least c.examined.result (finds_in s (trees_from c.args.source.text.now tables c.args.tree.now.nodes (Some c.args.first)))
     c.args.work.now.examined (omega (arith, all, none, c.examined.ensures.value)) in
     rw c.count_pairing.ensures rises)
     c.pair_runs-done.ensures.found
 
 pub returns-clause-examined : goal.returns-clause-examined
 returns-clause-examined c =
-    let s : Setting = setting_of c.args.text.now (rules_by c.args.options) in
+    let s : Setting = setting_of c.args.source.text.now (rules_by c.args.source.options) in
     let paid = chain_paid s no_tables c.args.tree.now c.quote_chain-delimiters.new.tree c.args.first c.quote_chain-delimiters.result
     c.requires.chain c.quote_chain-delimiters.ensures.quotes c.quote_chain-delimiters.ensures.count c.quote_chain-delimiters.ensures.few
     c.of_options.result c.as_bytes.result.now c.clear.new.self c.pair_runs-done.new.openers (sym c.of_options.ensures)
@@ -157,7 +157,7 @@ returns-clause-examined c =
 
 pub returns-clause-counted : goal.returns-clause-counted
 returns-clause-counted c =
-    let s : Setting = setting_of c.args.text.now (rules_by c.args.options) in
+    let s : Setting = setting_of c.args.source.text.now (rules_by c.args.source.options) in
     rw (
       c.count_pairing.ensures,
       counted s no_tables c.args.tree.now c.quote_chain-delimiters.new.tree c.args.first
