@@ -1,8 +1,8 @@
 -- What the bounds say of a stack, as it changes.
-use Rattle.std.proofs.Common.{◌≡◌, ℕ, ◌%◌, ◌<◌, ◌≤◌, min, false, List, [], ◌∷◌, ◌++◌, length, take, get_or, inl, inr, refl, ap, sym, ◌∙◌}
+use Rattle.std.proofs.Common.{◌≡◌, ℕ, ◌%◌, ◌<◌, ◌≤◌, min, false, List, length, take, get_or, inl, inr, refl, ap, sym, ◌∙◌}
 use Rattle.std.proofs.Common.{subst, arith}
 use Rattle.std.specs.Prelude.{All, if◌then◌else◌, ◌==◌}
-use Rattle.std.proofs.lemmas.List.{take-append-le, take_all, take-take, length-take-le, length_push, length-take, get_or-take}
+use Rattle.std.proofs.lemmas.List.{take_all, take-take, length-take-le, length-take, get_or-take}
 use Rattle.std.proofs.lemmas.List.Elements.{All-take}
 use Rattle.std.proofs.lemmas.Bool.{eqb-true, eqb-false, cond_both, cases_lt}
 use Rattle.markdown_delims.specs.declared.run.Delimiter.{Delimiter}
@@ -14,8 +14,8 @@ use Rattle.markdown_delims.specs.declared.bounds.LowerBounds.{LowerBounds}
 use Rattle.markdown_delims.specs.MayPair.{can_do_both, may_pair, needs_equal_length}
 use Rattle.markdown_delims.specs.PairingLaws.{is_tilde_or_caret}
 use Rattle.markdown_delims.specs.Bounds.{IsOutOfStep, IsOfBoth, BoundCharacter, BoundStack, remainder_bound, character_bound_for, bound_at}
-use Rattle.markdown_delims.specs.Bounds.{bound_for, character_raised_for, raised_at, raised_for, character_lowered, lowered, no_bounds}
-use Rattle.markdown_delims.specs.Bounds.{zero_bounds, drop_bound}
+use Rattle.markdown_delims.specs.Bounds.{bound_for, character_raised_for, raised_at, raised_for, character_lowered, lowered}
+use Rattle.markdown_delims.specs.Bounds.{drop_bound}
 use Rattle.markdown_delims.proofs.PairTests.{IsOutOfStep-failed, IsOfBoth-failed, may_pair-fails}
 
 -- what holds below a bound still holds below the lesser bound after a cut

@@ -7,7 +7,6 @@ use Rattle.markdown_base.specs.Arena.{Arena}
 use Rattle.markdown_base.specs.ArenaForest.{links_of, Spells, forest_at}
 use Rattle.markdown_base.specs.BlockTree.{numbered, item_at}
 use Rattle.markdown_base.specs.Forest.{Forest, nil, node, Each, roots, relabelled}
-use Rattle.markdown_base.specs.Item.{is_open}
 use Rattle.markdown_base.specs.declared.item.Item.{Item}
 use Rattle.markdown_base.specs.declared.item.ItemBody.{ItemBody}
 use Rattle.markdown_base.specs.declared.node.Node.{Node}
@@ -22,7 +21,6 @@ use Rattle.markdown_document.specs.NamedEntries.{times_named}
 use Rattle.markdown_document.specs.Totals.{total, same, weight_if, weight_at}
 use Rattle.markdown_document.proofs.FoundLemmas.{found}
 use Rattle.markdown_document.proofs.TablesLemmas.{same-refl}
-use Rattle.markdown_document.proofs.PlaceLemmas.{shape-open}
 use Rattle.markdown_delims.specs.ChainForest.{RisesFrom}
 use Rattle.markdown_delims.specs.ChainReading.{is_among, NoneBelow, AreWhole, labels, IsSpelled, IsChainAt, IsPaired, runs_in}
 use Rattle.markdown_delims.specs.PairedChain.{CanPair, PairsChain}

@@ -15,7 +15,7 @@ use Rattle.markdown_document.specs.Document.{shape_of, block_of, part_of}
 use Rattle.markdown_document.specs.Setting.{Setting}
 use Rattle.markdown_document.specs.Tables.{Tables}
 use Rattle.markdown_document.specs.Waiting.{waits_for_pairing}
-use Rattle.markdown_document.proofs.PlaceLemmas.{open-unresolved, shape-open}
+use Rattle.markdown_document.proofs.PlaceLemmas.{shape-open}
 use Rattle.markdown_delims.specs.declared.quotes.Kind.{Kind}
 use Rattle.markdown_delims.specs.declared.quotes.Kind.TheVariants as kind
 use Rattle.markdown_delims.specs.declared.run.Delimiter.{Delimiter}
@@ -34,7 +34,8 @@ use Rattle.markdown_delims.proofs.ReadLemmas.{reads_none, finds_none}
 
 -- what is open, and nothing else, reads as what is
 pub open_agrees : (tables : Tables) (source : List ℕ) (b : ItemBody) → is_unresolved (shape_of tables source b) ≡ is_open b
-open_agrees tables source (body.HardBreak x) = refl
+open_agrees tables source (body.HardBreak true) = refl
+open_agrees tables source (body.HardBreak false) = refl
 open_agrees tables source other = refl
 
 pub closed_shape : (tables : Tables) (source : List ℕ) (b : ItemBody) → is_open b ≡ false → is_unresolved (shape_of tables source b) ≡ false

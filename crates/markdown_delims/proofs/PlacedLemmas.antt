@@ -9,11 +9,11 @@ use Rattle.markdown_base.specs.ArenaForest.{links_of, Spells}
 use Rattle.markdown_base.specs.ArenaRules.{next_at}
 use Rattle.markdown_base.specs.BlockTree.{Numbered, numbered, item_at}
 use Rattle.markdown_base.specs.Forest.{Forest, nil, node, Each, first_root, relabelled}
-use Rattle.markdown_base.specs.Item.{is_block, is_open, LiesIn}
+use Rattle.markdown_base.specs.Item.{is_block, LiesIn}
 use Rattle.markdown_base.specs.declared.item.Item.{Item}
 use Rattle.markdown_base.specs.declared.item.ItemBody.{ItemBody}
 use Rattle.markdown_base.specs.declared.node.Node.{Node}
-use Rattle.markdown_document.specs.Document.{Label, block_of, shape_of, part_of, is_unresolved}
+use Rattle.markdown_document.specs.Document.{Label, block_of, part_of}
 use Rattle.markdown_document.specs.ItemRules.{ComesBefore, KeepsItemRules}
 use Rattle.markdown_document.specs.Places.{origin_start}
 use Rattle.markdown_document.specs.PlacedNodes.{ComesFromPlace, IsPlaced}
@@ -22,7 +22,7 @@ use Rattle.markdown_document.specs.Tables.{Tables, no_tables}
 use Rattle.markdown_document.specs.NamedEntries.{NamesEntries}
 use Rattle.markdown_document.specs.Totals.{total, same}
 use Rattle.markdown_document.proofs.ItemRulesLemmas.{keeps-closed}
-use Rattle.markdown_document.proofs.PlaceLemmas.{slices-unnamed, shape-open}
+use Rattle.markdown_document.proofs.PlaceLemmas.{slices-unnamed}
 use Rattle.markdown_document.proofs.TablesLemmas.{same-refl}
 use Rattle.markdown_delims.specs.ChainReading.{NoneBelow, labels}
 use Rattle.markdown_delims.specs.PairedChain.{HasNoBlock}

@@ -1,8 +1,8 @@
 -- A push, a search that finds and one that does not, of the stack and its bounds.
-use Rattle.std.proofs.Common.{◌≡◌, ℕ, ◌+◌, ◌-◌, ◌<◌, ◌≤◌, ◌^◌, true, false, List, [], ◌∷◌, ◌++◌, length, take, get_or, Some, None, refl, ap}
+use Rattle.std.proofs.Common.{◌≡◌, ℕ, ◌+◌, ◌-◌, ◌<◌, ◌≤◌, true, false, List, [], ◌∷◌, ◌++◌, length, take, get_or, Some, None, refl, ap}
 use Rattle.std.proofs.Common.{sym, ◌∙◌, subst, arith}
 use Rattle.std.proofs.lemmas.List.{length-take-le, length_push}
-use Rattle.std.proofs.lemmas.List.Elements.{All-take, All-push}
+use Rattle.std.proofs.lemmas.List.Elements.{All-take}
 use Rattle.markdown_document.specs.Counts.{comparisons_per_delimiter}
 use Rattle.markdown_delims.specs.declared.run.Run.{Run}
 use Rattle.markdown_delims.specs.declared.run.Characters.{Characters}
@@ -11,7 +11,7 @@ use Rattle.markdown_delims.specs.MayPair.{may_pair}
 use Rattle.markdown_delims.specs.RunSearch.{nearest_run}
 use Rattle.markdown_delims.specs.Bounds.{bound_for, raised_for, lowered, above_bounds}
 use Rattle.markdown_delims.specs.OpenRuns.{open_runs, openers_of, potential_of, IsSound}
-use Rattle.markdown_delims.proofs.BoundLaws.{BoundStack-push, BoundStack-cut, BoundStack-raised, bound_at-within, drop_bound-within}
+use Rattle.markdown_delims.proofs.BoundLaws.{BoundStack-cut, BoundStack-raised, bound_at-within, drop_bound-within}
 use Rattle.markdown_delims.proofs.Potential.{above_bounds-push, above_bounds-cut, above_bounds-raised}
 use Rattle.markdown_delims.proofs.Searches.{open_runs-pushed, open_runs-lowered, nearest-passed, nearest-taken, nearest-below}
 use Rattle.markdown_delims.proofs.Searches.{may_take-fails, may_take-holds}
