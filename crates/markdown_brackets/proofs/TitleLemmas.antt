@@ -63,16 +63,6 @@ pub record ReadTo (starts : ℕ → Option ℕ) (bytes : List ℕ) (closer : ℕ
   pub mark : 13 < closer
   pub rest : whole ≡ title_on so is_joined closer escaped (joined_lines starts at 0 bytes)
 
--- at first it has none
-pub begins : (starts : ℕ → Option ℕ) (bytes : List ℕ) (closer at : ℕ) (so : List ℕ) (is_joined : Bool) → 13 < closer → so ≡ []
-    → is_joined ≡ false → ReadTo starts bytes closer (title_in closer false (joined_lines starts at 0 bytes)) at false so is_joined
-begins starts bytes closer at so is_joined mark none unjoined =
-    record { mark = mark; rest = rw (none, unjoined) (by (title_in closer false (joined_lines starts at 0 bytes))) }
-  where
-    by : (o : Option Title) → o ≡ option_map (after [] false) o
-    by None = refl
-    by (Some t) = refl
-
 module _ {starts : ℕ → Option ℕ} {bytes : List ℕ} {closer : ℕ} {whole : Option Title} {at : ℕ} {escaped : Bool} {so : List ℕ} {is_joined : Bool}
     (read : ReadTo starts bytes closer whole at escaped so is_joined) where
   -- nothing is left
