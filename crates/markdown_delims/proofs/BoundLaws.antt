@@ -1,5 +1,6 @@
 -- What the bounds say of a stack, as it changes.
-use Rattle.std.proofs.Common.{◌≡◌, ℕ, ◌%◌, ◌<◌, ◌≤◌, min, false, List, length, take, get_or, inl, inr, refl, ap, sym, ◌∙◌}
+use Rattle.std.proofs.Common.{◌≡◌, ℕ, ◌%◌, ◌<◌, ◌≤◌, min, false, List, length, take, get_or, inl, inr, refl, ap, sym}
+use Rattle.std.proofs.Common.{◌∙◌}
 use Rattle.std.proofs.Common.{subst, arith}
 use Rattle.std.specs.Prelude.{All, if◌then◌else◌, ◌==◌}
 use Rattle.std.proofs.lemmas.List.{take_all, take-take, length-take-le, length-take, get_or-take}
@@ -13,13 +14,16 @@ use Rattle.markdown_delims.specs.declared.bounds.CharacterBounds.{CharacterBound
 use Rattle.markdown_delims.specs.declared.bounds.LowerBounds.{LowerBounds}
 use Rattle.markdown_delims.specs.MayPair.{can_do_both, may_pair, needs_equal_length}
 use Rattle.markdown_delims.specs.PairingLaws.{is_tilde_or_caret}
-use Rattle.markdown_delims.specs.Bounds.{IsOutOfStep, IsOfBoth, BoundCharacter, BoundStack, remainder_bound, character_bound_for, bound_at}
-use Rattle.markdown_delims.specs.Bounds.{bound_for, character_raised_for, raised_at, raised_for, character_lowered, lowered}
+use Rattle.markdown_delims.specs.Bounds.{IsOutOfStep, IsOfBoth, BoundCharacter, BoundStack, remainder_bound}
+use Rattle.markdown_delims.specs.Bounds.{character_bound_for, bound_at}
+use Rattle.markdown_delims.specs.Bounds.{bound_for, character_raised_for, raised_at, raised_for, character_lowered}
+use Rattle.markdown_delims.specs.Bounds.{lowered}
 use Rattle.markdown_delims.specs.Bounds.{drop_bound}
 use Rattle.markdown_delims.proofs.PairTests.{IsOutOfStep-failed, IsOfBoth-failed, may_pair-fails}
 
 -- what holds below a bound still holds below the lesser bound after a cut
-All-cut : (P : Characters → Type 0) (stack : List Characters) (n m : ℕ) → All P (take n stack) → All P (take (min n m) (take m stack))
+All-cut : (P : Characters → Type 0) (stack : List Characters) (n m : ℕ) → All P (take n stack)
+    → All P (take (min n m) (take m stack))
 All-cut P stack n m a =
     let e : take (min n m) (take m stack) ≡ take (min n m) (take n stack) = take-take (min n m) m stack (omega arith)
     ∙ sym (take-take (min n m) n stack (omega arith)) in
@@ -49,32 +53,44 @@ module _ (closer : Run) (stack : List Characters) (b : CharacterBounds) where
       → closer.length % 3 ≡ r → All (IsOutOfStep closer.delimiter r) (take (length stack) stack)
   out_of_step n h r e =
       All-whole (IsOutOfStep closer.delimiter r) stack
-      (λ k x l. subst (λ q. IsOutOfStep closer.delimiter q (get_or stack k x)) e (IsOutOfStep-failed (get_or stack k x) closer n (h k x l)))
+      (λ k x l. subst (λ q. IsOutOfStep closer.delimiter q (get_or stack k x)) e
+      (IsOutOfStep-failed (get_or stack k x) closer n (h k x l)))
 
   -- the bounds that a failed search read may be raised to the top
-  pub BoundCharacter-raised : needs_equal_length closer.delimiter ≡ false → All (λ c. may_pair c.run closer ≡ false) stack
-      → BoundCharacter closer.delimiter stack b → BoundCharacter closer.delimiter stack (character_raised_for closer (length stack) b)
+  pub BoundCharacter-raised : needs_equal_length closer.delimiter ≡ false → All (λ c. may_pair c.run closer ≡ false)
+      stack
+      → BoundCharacter closer.delimiter stack b
+      → BoundCharacter closer.delimiter stack (character_raised_for closer (length stack) b)
   BoundCharacter-raised n h i =
       record {
-        cannot_open_within = cond_both (can_do_both closer) b.cannot_open (length stack) (λ m. m ≤ length stack) (λ _. i.cannot_open_within)
+        cannot_open_within = cond_both (can_do_both closer) b.cannot_open (length stack) (λ m. m ≤ length stack)
+            (λ _. i.cannot_open_within)
             (λ _. omega arith);
-        zero_within = cond_both (closer.length % 3 == 0) (length stack) b.remainder_zero (λ m. m ≤ length stack) (λ _. omega arith)
+        zero_within = cond_both (closer.length % 3 == 0) (length stack) b.remainder_zero (λ m. m ≤ length stack)
+            (λ _. omega arith)
             (λ _. i.zero_within);
-        one_within = cond_both (closer.length % 3 == 1) (length stack) b.remainder_one (λ m. m ≤ length stack) (λ _. omega arith)
+        one_within = cond_both (closer.length % 3 == 1) (length stack) b.remainder_one (λ m. m ≤ length stack)
+            (λ _. omega arith)
             (λ _. i.one_within);
-        two_within = cond_both (closer.length % 3 == 2) (length stack) b.remainder_two (λ m. m ≤ length stack) (λ _. omega arith)
+        two_within = cond_both (closer.length % 3 == 2) (length stack) b.remainder_two (λ m. m ≤ length stack)
+            (λ _. omega arith)
             (λ _. i.two_within);
         cannot_open =
-            cond_both (can_do_both closer) b.cannot_open (length stack) (λ m. All (IsOfBoth closer.delimiter) (take m stack)) (λ _. i.cannot_open)
-            (λ e. All-whole (IsOfBoth closer.delimiter) stack (λ k x l. IsOfBoth-failed (get_or stack k x) closer n e (h k x l)));
+            cond_both (can_do_both closer) b.cannot_open (length stack)
+            (λ m. All (IsOfBoth closer.delimiter) (take m stack)) (λ _. i.cannot_open)
+            (λ e. All-whole (IsOfBoth closer.delimiter) stack
+            (λ k x l. IsOfBoth-failed (get_or stack k x) closer n e (h k x l)));
         remainder_zero =
-            cond_both (closer.length % 3 == 0) (length stack) b.remainder_zero (λ m. All (IsOutOfStep closer.delimiter 0) (take m stack))
+            cond_both (closer.length % 3 == 0) (length stack) b.remainder_zero
+            (λ m. All (IsOutOfStep closer.delimiter 0) (take m stack))
             (λ e. out_of_step n h 0 (eqb-true (closer.length % 3) 0 e)) (λ _. i.remainder_zero);
         remainder_one =
-            cond_both (closer.length % 3 == 1) (length stack) b.remainder_one (λ m. All (IsOutOfStep closer.delimiter 1) (take m stack))
+            cond_both (closer.length % 3 == 1) (length stack) b.remainder_one
+            (λ m. All (IsOutOfStep closer.delimiter 1) (take m stack))
             (λ e. out_of_step n h 1 (eqb-true (closer.length % 3) 1 e)) (λ _. i.remainder_one);
         remainder_two =
-            cond_both (closer.length % 3 == 2) (length stack) b.remainder_two (λ m. All (IsOutOfStep closer.delimiter 2) (take m stack))
+            cond_both (closer.length % 3 == 2) (length stack) b.remainder_two
+            (λ m. All (IsOutOfStep closer.delimiter 2) (take m stack))
             (λ e. out_of_step n h 2 (eqb-true (closer.length % 3) 2 e)) (λ _. i.remainder_two);
       }
 
@@ -82,13 +98,16 @@ module _ (closer : Run) (stack : List Characters) (b : CharacterBounds) where
   below_remainder : BoundCharacter closer.delimiter stack b
       → All (IsOutOfStep closer.delimiter (closer.length % 3)) (take (remainder_bound (closer.length % 3) b) stack)
   below_remainder i =
-      cond_both (closer.length % 3 == 0) b.remainder_zero (if closer.length % 3 == 1 then b.remainder_one else b.remainder_two)
+      cond_both (closer.length % 3 == 0) b.remainder_zero
+      (if closer.length % 3 == 1 then b.remainder_one else b.remainder_two)
       (λ m. All (IsOutOfStep closer.delimiter (closer.length % 3)) (take m stack))
-      (λ e. subst (λ r. All (IsOutOfStep closer.delimiter r) (take b.remainder_zero stack)) (sym (eqb-true (closer.length % 3) 0 e))
+      (λ e. subst (λ r. All (IsOutOfStep closer.delimiter r) (take b.remainder_zero stack))
+      (sym (eqb-true (closer.length % 3) 0 e))
       i.remainder_zero)
       (λ f. cond_both (closer.length % 3 == 1) b.remainder_one b.remainder_two
       (λ m. All (IsOutOfStep closer.delimiter (closer.length % 3)) (take m stack))
-      (λ e. subst (λ r. All (IsOutOfStep closer.delimiter r) (take b.remainder_one stack)) (sym (eqb-true (closer.length % 3) 1 e))
+      (λ e. subst (λ r. All (IsOutOfStep closer.delimiter r) (take b.remainder_one stack))
+      (sym (eqb-true (closer.length % 3) 1 e))
       i.remainder_one)
       (λ e.
       let ne0 : closer.length % 3 ≡ 0 → ⊥ = eqb-false (closer.length % 3) 0 f in
@@ -100,9 +119,11 @@ module _ (closer : Run) (stack : List Characters) (b : CharacterBounds) where
   pub NonePairs-below : BoundCharacter closer.delimiter stack b
       → All (λ c. may_pair c.run closer ≡ false) (take (character_bound_for closer b) stack)
   NonePairs-below i =
-      cond_both (can_do_both closer) (remainder_bound (closer.length % 3) b) (min (remainder_bound (closer.length % 3) b) b.cannot_open)
+      cond_both (can_do_both closer) (remainder_bound (closer.length % 3) b)
+      (min (remainder_bound (closer.length % 3) b) b.cannot_open)
       (λ m. All (λ c. may_pair c.run closer ≡ false) (take m stack))
-      (λ e k x l. may_pair-fails (get_or (take (remainder_bound (closer.length % 3) b) stack) k x) closer (below_remainder i k x l)
+      (λ e k x l. may_pair-fails (get_or (take (remainder_bound (closer.length % 3) b) stack) k x) closer
+      (below_remainder i k x l)
       (λ f. cc))
       (λ e.
       let m : ℕ = remainder_bound (closer.length % 3) b in
@@ -110,7 +131,8 @@ module _ (closer : Run) (stack : List Characters) (b : CharacterBounds) where
       let s1 : take (min m n) (take m stack) ≡ take (min m n) stack = take-take (min m n) m stack (omega arith) in
       let s2 : take (min m n) (take n stack) ≡ take (min m n) stack = take-take (min m n) n stack (omega arith) in
       let a1 : All (IsOutOfStep closer.delimiter (closer.length % 3)) (take (min m n) stack) =
-      subst (All (IsOutOfStep closer.delimiter (closer.length % 3))) s1 (All-take (IsOutOfStep closer.delimiter (closer.length % 3))
+      subst (All (IsOutOfStep closer.delimiter (closer.length % 3))) s1
+      (All-take (IsOutOfStep closer.delimiter (closer.length % 3))
       (min m n) (take m stack) (below_remainder i)) in
       let a2 : All (IsOfBoth closer.delimiter) (take (min m n) stack) = subst (All (IsOfBoth closer.delimiter)) s2
       (All-take (IsOfBoth closer.delimiter) (min m n) (take n stack) i.cannot_open) in
@@ -128,18 +150,23 @@ BoundStack-cut stack b n w h =
     }
 
 -- with what the bound says, no run of the stack pairs
-joined_failures : (closer : Run) (stack : List Characters) (n : ℕ) → All (λ c. may_pair c.run closer ≡ false) (take n stack)
+joined_failures : (closer : Run) (stack : List Characters) (n : ℕ) → All (λ c. may_pair c.run closer ≡ false)
+    (take n stack)
     → ((k : ℕ) (x : Characters) → n ≤ k → k < length stack → may_pair (get_or stack k x).run closer ≡ false)
     → All (λ c. may_pair c.run closer ≡ false) stack
 joined_failures closer stack n a f k x l =
     elim (cases_lt k n) [
-      | inl below ↦ let e : length (take n stack) ≡ min n (length stack) = length-take n stack in let g : get_or (take n stack) k x
-          ≡ get_or stack k x = get_or-take n stack k x below in subst (λ c. may_pair c.run closer ≡ false) g (a k x (omega arith))
+      | inl below ↦ let e : length (take n stack) ≡ min n (length stack) = length-take n stack in let g : get_or
+          (take n stack) k x
+          ≡ get_or stack k x = get_or-take n stack k x below in subst (λ c. may_pair c.run closer ≡ false) g
+          (a k x (omega arith))
       | inr above ↦ f k x above l
     ]
 
-raised_at_each : (d : Delimiter) (closer : Run) (stack : List Characters) (b : LowerBounds) → d ≡ closer.delimiter → BoundStack stack b
-    → ((k : ℕ) (x : Characters) → bound_at d closer b ≤ k → k < length stack → may_pair (get_or stack k x).run closer ≡ false)
+raised_at_each : (d : Delimiter) (closer : Run) (stack : List Characters) (b : LowerBounds) → d ≡ closer.delimiter
+    → BoundStack stack b
+    → ((k : ℕ) (x : Characters) → bound_at d closer b ≤ k → k < length stack → may_pair (get_or stack k x).run closer
+    ≡ false)
     → BoundStack stack (raised_at d closer (length stack) b)
 raised_at_each Star closer stack b e h f =
     let i : BoundCharacter closer.delimiter stack b.star = subst (λ d. BoundCharacter d stack b.star) e h.star in
@@ -153,12 +180,14 @@ raised_at_each Star closer stack b e h f =
       caret_within = h.caret_within;
     }
 raised_at_each Underscore closer stack b e h f =
-    let i : BoundCharacter closer.delimiter stack b.underscore = subst (λ d. BoundCharacter d stack b.underscore) e h.underscore in
+    let i : BoundCharacter closer.delimiter stack b.underscore = subst (λ d. BoundCharacter d stack b.underscore) e
+    h.underscore in
     let n : needs_equal_length closer.delimiter ≡ false = sym (ap needs_equal_length e) in
     record {
       star = h.star;
       underscore = subst (λ d. BoundCharacter d stack (character_raised_for closer (length stack) b.underscore)) (sym e)
-          (BoundCharacter-raised closer stack b.underscore n (joined_failures closer stack (character_bound_for closer b.underscore)
+          (BoundCharacter-raised closer stack b.underscore n
+          (joined_failures closer stack (character_bound_for closer b.underscore)
           (NonePairs-below closer stack b.underscore i) f) i);
       tilde_within = h.tilde_within;
       caret_within = h.caret_within;
@@ -180,21 +209,26 @@ raised_at_each Caret closer stack b e h f = record {
 
 -- a search that failed may raise the bounds that it read
 pub BoundStack-raised : (closer : Run) (stack : List Characters) (b : LowerBounds) → BoundStack stack b
-    → ((k : ℕ) (x : Characters) → bound_for closer b ≤ k → k < length stack → may_pair (get_or stack k x).run closer ≡ false)
+    → ((k : ℕ) (x : Characters) → bound_for closer b ≤ k → k < length stack → may_pair (get_or stack k x).run closer
+    ≡ false)
     → BoundStack stack (raised_for closer (length stack) b)
 BoundStack-raised closer stack b h f = raised_at_each closer.delimiter closer stack b refl h f
 
 within_remainder : (r : ℕ) (d : Delimiter) (stack : List Characters) (b : CharacterBounds) → BoundCharacter d stack b
     → remainder_bound r b ≤ length stack
 within_remainder r d stack b h =
-    cond_both (r == 0) b.remainder_zero (if r == 1 then b.remainder_one else b.remainder_two) (λ m. m ≤ length stack) (λ _. h.zero_within)
-    (λ _. cond_both (r == 1) b.remainder_one b.remainder_two (λ m. m ≤ length stack) (λ _. h.one_within) (λ _. h.two_within))
+    cond_both (r == 0) b.remainder_zero (if r == 1 then b.remainder_one else b.remainder_two) (λ m. m ≤ length stack)
+    (λ _. h.zero_within)
+    (λ _. cond_both (r == 1) b.remainder_one b.remainder_two (λ m. m ≤ length stack) (λ _. h.one_within)
+    (λ _. h.two_within))
 
-within_character : (closer : Run) (d : Delimiter) (stack : List Characters) (b : CharacterBounds) → BoundCharacter d stack b
+within_character : (closer : Run) (d : Delimiter) (stack : List Characters) (b : CharacterBounds)
+    → BoundCharacter d stack b
     → character_bound_for closer b ≤ length stack
 within_character closer d stack b h =
     let w : remainder_bound (closer.length % 3) b ≤ length stack = within_remainder (closer.length % 3) d stack b h in
-    cond_both (can_do_both closer) (remainder_bound (closer.length % 3) b) (min (remainder_bound (closer.length % 3) b) b.cannot_open)
+    cond_both (can_do_both closer) (remainder_bound (closer.length % 3) b)
+    (min (remainder_bound (closer.length % 3) b) b.cannot_open)
     (λ m. m ≤ length stack) (λ _. w) (λ _. omega arith)
 
 -- the bound of a closer lies within the stack
@@ -206,16 +240,20 @@ bound_at-within Tilde closer stack b h = h.tilde_within
 bound_at-within Caret closer stack b h = h.caret_within
 
 -- below the bound of a closer of `*` or `_` no run pairs with it
-pub below_bound_fails : (d : Delimiter) (closer : Run) (stack : List Characters) (b : LowerBounds) → d ≡ closer.delimiter
-    → is_tilde_or_caret d ≡ false → BoundStack stack b → All (λ c. may_pair c.run closer ≡ false) (take (bound_at d closer b) stack)
-below_bound_fails Star closer stack b e q h = NonePairs-below closer stack b.star (subst (λ d. BoundCharacter d stack b.star) e h.star)
+pub below_bound_fails : (d : Delimiter) (closer : Run) (stack : List Characters) (b : LowerBounds) → d
+    ≡ closer.delimiter
+    → is_tilde_or_caret d ≡ false → BoundStack stack b → All (λ c. may_pair c.run closer ≡ false)
+    (take (bound_at d closer b) stack)
+below_bound_fails Star closer stack b e q h = NonePairs-below closer stack b.star
+    (subst (λ d. BoundCharacter d stack b.star) e h.star)
 below_bound_fails Underscore closer stack b e q h = NonePairs-below closer stack b.underscore
     (subst (λ d. BoundCharacter d stack b.underscore) e h.underscore)
 below_bound_fails Tilde closer stack b e q h = cc
 below_bound_fails Caret closer stack b e q h = cc
 
 -- each bound below which runs are dropped lies within the stack
-pub drop_bound-within : (d : Delimiter) (stack : List Characters) (b : LowerBounds) → BoundStack stack b → drop_bound d b ≤ length stack
+pub drop_bound-within : (d : Delimiter) (stack : List Characters) (b : LowerBounds) → BoundStack stack b
+    → drop_bound d b ≤ length stack
 drop_bound-within Star stack b h = omega arith
 drop_bound-within Underscore stack b h = omega arith
 drop_bound-within Tilde stack b h = h.tilde_within

@@ -1,5 +1,6 @@
 -- The search of the stack is the search of what was read; and what a find, or none, leaves.
-use Rattle.std.proofs.Common.{◌≡◌, ℕ, suc, ◌+◌, ◌-◌, ◌<◌, min, Bool, true, false, List, [], ◌∷◌, map, Option, Some, None, length}
+use Rattle.std.proofs.Common.{◌≡◌, ℕ, suc, ◌+◌, ◌-◌, ◌<◌, min, Bool, true, false, List, [], ◌∷◌, map, Option, Some}
+use Rattle.std.proofs.Common.{None, length}
 use Rattle.std.proofs.Common.{refl, ap, sym, ◌∙◌, subst, arith}
 use Rattle.std.specs.Prelude.{not, ◌&&◌, ◌||◌}
 use Rattle.markdown_base.specs.declared.item.Item.{Item}
@@ -10,10 +11,12 @@ use Rattle.markdown_document.specs.Setting.{Setting}
 use Rattle.markdown_delims.specs.declared.run.Characters.{Characters}
 use Rattle.markdown_delims.specs.declared.run.Delimiter.{Delimiter}
 use Rattle.markdown_delims.specs.declared.run.Run.{Run}
-use Rattle.markdown_delims.specs.ChainStanding.{Chain, view, texts, left_texts, flat, FirstFrom, LastFrom, AreFirst, AreLast, IsOpen, AreOpen}
+use Rattle.markdown_delims.specs.ChainStanding.{Chain, view, texts, left_texts, flat, FirstFrom, LastFrom, AreFirst}
+use Rattle.markdown_delims.specs.ChainStanding.{AreLast, IsOpen, AreOpen}
 use Rattle.markdown_delims.specs.ChainStanding.{Stands, StandsAt, IsRead}
 use Rattle.markdown_delims.specs.MayPair.{drops, may_pair}
-use Rattle.markdown_delims.specs.Pairing.{Read, done_read, waiting, texts_before, characters_done, FoundOpener, found_if, nearest_opener, drop_read}
+use Rattle.markdown_delims.specs.Pairing.{Read, done_read, waiting, texts_before, characters_done, FoundOpener}
+use Rattle.markdown_delims.specs.Pairing.{found_if, nearest_opener, drop_read}
 use Rattle.markdown_delims.specs.Pairing.{Layers, layers, trees_done, last_first, opened_if, left_over}
 use Rattle.markdown_delims.specs.RunSearch.{OpenRun, Found, may_take, nearest_run, dropped_by}
 use Rattle.markdown_delims.specs.Views.{View, LeftHolds, Cut, AllTouched, top}
@@ -35,7 +38,8 @@ same_take : (closer : Run) (r : OpenRun) (dropped : Bool) (run : Run) (xs : List
 same_take closer r dropped run xs is = ap (λ d. not d && may_pair r.opener.run closer) is.dropped_is
     ∙ ap (λ o. not dropped && may_pair o closer) is.run_is
 
-pub found_as : (closer : Run) (runs : List OpenRun) (rs : List (Read ℕ)) (inside : Forest (Label ℕ)) (f : Found) → AreOpen runs rs
+pub found_as : (closer : Run) (runs : List OpenRun) (rs : List (Read ℕ)) (inside : Forest (Label ℕ)) (f : Found)
+    → AreOpen runs rs
     → nearest_run closer runs ≡ Some f → FoundAs closer rs inside f
 found_as closer runs [] inside f a h = let none : nearest_run closer [] ≡ Some f = rw a at h in cc
 found_as closer runs (done_read b below ∷ rs) inside f a h =
@@ -48,7 +52,8 @@ found_as closer (r ∷ runs) (waiting dropped run xs ∷ rs) inside f a h =
     here_or : (b : Bool) → (nearest_run closer runs ≡ Some f → FoundAs closer rs (texts_before xs inside) f)
         → (not dropped && may_pair run closer) ≡ b → FoundAs closer (waiting dropped run xs ∷ rs) inside f
     here_or true further e =
-        let here : Some (record { opener = r.opener; before = runs }) ≡ Some f = rw (same_take closer r dropped run xs a.0 ∙ e) at h in
+        let here : Some (record { opener = r.opener; before = runs })
+        ≡ Some f = rw (same_take closer r dropped run xs a.0 ∙ e) at h in
         let same : record { opener = r.opener; before = runs } ≡ f = cc in
         record {
           found = record { inside = inside; run = run; characters = xs; before = rs };
@@ -77,11 +82,13 @@ found_none closer (r ∷ runs) (waiting dropped run xs ∷ rs) inside a h =
     none_if false further e = rw e (further (rw (same_take closer r dropped run xs a.0 ∙ e) at h))
 
 -- an opener that is found is in the chain
-stands_over : (xs : List (Label ℕ)) (before : Forest (Label ℕ)) → (top before ≡ None → ⊥) → top (left_texts xs before) ≡ None → ⊥
+stands_over : (xs : List (Label ℕ)) (before : Forest (Label ℕ)) → (top before ≡ None → ⊥) → top (left_texts xs before)
+    ≡ None → ⊥
 stands_over [] before h e = h e
 stands_over (x ∷ xs) before h e = cc
 
-pub opener_stands : (closer : Run) (rs : List (Read ℕ)) (inside : Forest (Label ℕ)) (f : FoundOpener ℕ) → 0 < length f.characters
+pub opener_stands : (closer : Run) (rs : List (Read ℕ)) (inside : Forest (Label ℕ)) (f : FoundOpener ℕ)
+    → 0 < length f.characters
     → nearest_opener closer rs inside ≡ Some f → top (flat rs) ≡ None → ⊥
 opener_stands closer [] inside f some h e = cc
 opener_stands closer (done_read a below ∷ rs) inside f some h e = cc
@@ -122,11 +129,13 @@ open-dropped closer (r ∷ runs) (waiting dropped run xs ∷ rs) a = (
 )
 
 -- trees and characters that are done leave the open runs
-pub open-trees : (runs : List OpenRun) (f : Forest (Label ℕ)) (rs : List (Read ℕ)) → AreOpen runs rs → AreOpen runs (trees_done f rs)
+pub open-trees : (runs : List OpenRun) (f : Forest (Label ℕ)) (rs : List (Read ℕ)) → AreOpen runs rs
+    → AreOpen runs (trees_done f rs)
 open-trees runs nil rs a = a
 open-trees runs (node b below after) rs a = open-trees runs after (done_read b below ∷ rs) a
 
-open-done : (runs : List OpenRun) (xs : List (Label ℕ)) (rs : List (Read ℕ)) → AreOpen runs rs → AreOpen runs (characters_done xs rs)
+open-done : (runs : List OpenRun) (xs : List (Label ℕ)) (rs : List (Read ℕ)) → AreOpen runs rs
+    → AreOpen runs (characters_done xs rs)
 open-done runs [] rs a = a
 open-done runs (x ∷ xs) rs a = open-done runs xs rs a
 
@@ -139,7 +148,8 @@ pub record LayersLeave (number end : ℕ) (xs vs : List (Label ℕ)) (made : Lay
   pub closing : FirstFrom next made.closing
   pub closing_count : length made.closing ≡ length vs - min (length xs) (length vs)
 
-pub layers_leave : (s : Setting) (d : Delimiter) (number end : ℕ) (xs vs : List (Label ℕ)) (inside : Forest (Label ℕ)) → LastFrom number xs
+pub layers_leave : (s : Setting) (d : Delimiter) (number end : ℕ) (xs vs : List (Label ℕ)) (inside : Forest (Label ℕ))
+    → LastFrom number xs
     → FirstFrom end vs → LayersLeave number end xs vs (layers s d xs vs inside)
 layers_leave s d number end [] vs inside f g = record {
   next = end;
@@ -185,15 +195,18 @@ layers_leave s d number end (x ∷ y ∷ xs) (v ∷ w ∷ vs) inside f g =
     }
 
 -- the cut goes to the right over characters
-read_over : (own : ℕ → Bool) (k : View Part) (first : Option ℕ) (vs xs : List (Label ℕ)) (before : Forest (Label ℕ)) (l : Option ℕ)
+read_over : (own : ℕ → Bool) (k : View Part) (first : Option ℕ) (vs xs : List (Label ℕ)) (before : Forest (Label ℕ))
+    (l : Option ℕ)
     (after : Forest (Label ℕ)) (hi : ℕ) → Cut own k first (left_texts xs before) l (texts vs after) hi
     → (m : Option ℕ) × Cut own k first (left_texts (last_first vs xs) before) m after hi
 read_over own k first [] xs before l after hi c = (l, c)
 read_over own k first (v ∷ vs) xs before l after hi c = read_over own k first vs (v ∷ xs) before (k.next v.tag) after hi
     (step_right own k first (left_texts xs before) l v nil (texts vs after) hi c)
 
-touched_read : (touched : ℕ → Bool) (vs xs : List (Label ℕ)) (before after : Forest (Label ℕ)) → AllTouched touched (left_texts xs before)
-    → AllTouched touched (texts vs after) → AllTouched touched (left_texts (last_first vs xs) before) × AllTouched touched after
+touched_read : (touched : ℕ → Bool) (vs xs : List (Label ℕ)) (before after : Forest (Label ℕ))
+    → AllTouched touched (left_texts xs before)
+    → AllTouched touched (texts vs after) → AllTouched touched (left_texts (last_first vs xs) before)
+    × AllTouched touched after
 touched_read touched [] xs before after h a = (h, a)
 touched_read touched (v ∷ vs) xs before after h a = touched_read touched vs (v ∷ xs) before after (a.0, h) a.1
 
@@ -202,7 +215,8 @@ last_from : (number : ℕ) (vs xs : List (Label ℕ)) → FirstFrom (number + le
     → LastFrom number (last_first vs xs)
 last_from number [] xs f g = g
 last_from number (v ∷ vs) xs f g =
-    last_from number vs (v ∷ xs) (subst (λ n. FirstFrom n vs) (let e : suc (number + length xs) ≡ number + suc (length xs) = omega arith in e)
+    last_from number vs (v ∷ xs)
+    (subst (λ n. FirstFrom n vs) (let e : suc (number + length xs) ≡ number + suc (length xs) = omega arith in e)
     f.2) (f.0, f.1, g)
 
 last_count : (vs xs : List (Label ℕ)) → length (last_first vs xs) ≡ length vs + length xs
@@ -211,7 +225,8 @@ last_count (v ∷ vs) xs = omega (arith, last_count vs (v ∷ xs))
 
 in_reverse : (c : Characters) (vs : List (Label ℕ)) → AreFirst c vs → AreLast c (last_first vs [])
 in_reverse c vs are = record {
-  from = last_from c.number vs [] (subst (λ n. FirstFrom n vs) (let e : c.number ≡ c.number + 0 = omega arith in e) are.from) tt;
+  from = last_from c.number vs []
+      (subst (λ n. FirstFrom n vs) (let e : c.number ≡ c.number + 0 = omega arith in e) are.from) tt;
   count = omega (arith, last_count vs [], are.count);
 }
 
@@ -219,16 +234,19 @@ flat-done : (xs : List (Label ℕ)) (rs : List (Read ℕ)) → flat (characters_
 flat-done [] rs = refl
 flat-done (x ∷ xs) rs = ap (node x nil) (flat-done xs rs)
 
-flat-opened : (b : Bool) (run : Run) (xs : List (Label ℕ)) (rs : List (Read ℕ)) → flat (opened_if b run xs rs) ≡ left_texts xs (flat rs)
+flat-opened : (b : Bool) (run : Run) (xs : List (Label ℕ)) (rs : List (Read ℕ)) → flat (opened_if b run xs rs)
+    ≡ left_texts xs (flat rs)
 flat-opened true run xs rs = refl
 flat-opened false run xs rs = flat-done xs rs
 
-last_there : (k : View Part) (first : Option ℕ) (c : Characters) (xs : List (Label ℕ)) (before : Forest (Label ℕ)) (l : Option ℕ)
+last_there : (k : View Part) (first : Option ℕ) (c : Characters) (xs : List (Label ℕ)) (before : Forest (Label ℕ))
+    (l : Option ℕ)
     → 0 < c.count → AreLast c xs → LeftHolds k first (left_texts xs before) l
     → (c.number + (c.count - 1) < k.size) × (Some (c.number + (c.count - 1)) ≡ top (left_texts xs before))
 last_there k first c [] before l some are h = absurd (omega (arith, some, are.count))
 last_there k first c (x ∷ xs) before l some are h =
-    let e : x.tag ≡ c.number + (c.count - 1) = omega (arith, are.from.0, are.count) in (omega (arith, h.0, e), ap Some (sym e))
+    let e : x.tag ≡ c.number + (c.count - 1) = omega (arith, are.from.0, are.count) in
+    (omega (arith, h.0, e), ap Some (sym e))
 
 module _ (h : Chain) (s : Arena Item) (rs : List (Read ℕ)) (last : Option ℕ) (c : Characters) (vs : List (Label ℕ))
     (after : Forest (Label ℕ)) (st : StandsAt h s rs last c vs after) (some : 0 < c.count) where
@@ -248,12 +266,14 @@ module _ (h : Chain) (s : Arena Item) (rs : List (Read ℕ)) (last : Option ℕ)
   characters_kept runs' last' l e f a =
       let flat_is = flat-opened c.run.can_open c.run xs rs in
       let there = last_there (view h s) h.first c xs (flat rs) over.0 some (in_reverse c vs st.are) over.1.left in
-      let link : over.0 ≡ l = last_link (view h s) h.first c xs (flat rs) over.0 some (in_reverse c vs st.are) over.1.left ∙ sym f in
+      let link : over.0 ≡ l = last_link (view h s) h.first c xs (flat rs) over.0 some (in_reverse c vs st.are)
+      over.1.left ∙ sym f in
       let touched = touched_read h.touched vs [] (flat rs) after st.stands.left_touched st.stands.rest_touched in
       record {
         reads = record {
           stands = record {
-            cut = subst (λ m. Cut h.touched (view h s) h.first (flat (left_over c.run vs rs)) m after h.bound) link (rw flat_is over.1);
+            cut = subst (λ m. Cut h.touched (view h s) h.first (flat (left_over c.run vs rs)) m after h.bound) link
+                (rw flat_is over.1);
             last_is = e ∙ there.1 ∙ ap top (sym flat_is);
             left_touched = rw flat_is touched.0;
             rest_touched = touched.1;
@@ -266,13 +286,16 @@ module _ (h : Chain) (s : Arena Item) (rs : List (Read ℕ)) (last : Option ℕ)
 
   pub opened_open : (runs : List OpenRun) → AreOpen runs rs → c.run.can_open ≡ true
       → AreOpen (record { dropped = false; opener = c } ∷ runs) (opened_if c.run.can_open c.run xs rs)
-  opened_open runs a e = subst (λ b. AreOpen (record { dropped = false; opener = c } ∷ runs) (opened_if b c.run xs rs)) (sym e) (record { dropped_is = refl; run_is = refl; are = in_reverse c vs st.are }, a)
+  opened_open runs a e = subst (λ b. AreOpen (record { dropped = false; opener = c } ∷ runs) (opened_if b c.run xs rs))
+      (sym e) (record { dropped_is = refl; run_is = refl; are = in_reverse c vs st.are }, a)
 
-  pub opened_lone : (runs : List OpenRun) → AreOpen runs rs → c.run.can_open ≡ false → AreOpen runs (opened_if c.run.can_open c.run xs rs)
+  pub opened_lone : (runs : List OpenRun) → AreOpen runs rs → c.run.can_open ≡ false
+      → AreOpen runs (opened_if c.run.can_open c.run xs rs)
   opened_lone runs a e = subst (λ b. AreOpen runs (opened_if b c.run xs rs)) (sym e) (open-done runs xs rs a)
 
 -- what was read may be replaced by the same chain
-pub stands_as : (h : Chain) (s : Arena Item) (rs rs' : List (Read ℕ)) (last l : Option ℕ) (rest : Forest (Label ℕ)) → flat rs' ≡ flat rs
+pub stands_as : (h : Chain) (s : Arena Item) (rs rs' : List (Read ℕ)) (last l : Option ℕ) (rest : Forest (Label ℕ))
+    → flat rs' ≡ flat rs
     → Stands h s rs last l rest → Stands h s rs' last l rest
 stands_as h s rs rs' last l rest e st = record {
   cut = rw e st.cut;

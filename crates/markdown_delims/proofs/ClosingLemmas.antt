@@ -1,5 +1,6 @@
 -- A closer goes on while it finds openers: what is read from here on, and what is found, are what the whole run gives.
-use Rattle.std.proofs.Common.{◌≡◌, ℕ, zero, suc, ◌+◌, ◌-◌, ◌<◌, ◌≤◌, Bool, true, false, List, [], ◌∷◌, map, Option, Some, None, length}
+use Rattle.std.proofs.Common.{◌≡◌, ℕ, zero, suc, ◌+◌, ◌-◌, ◌<◌, ◌≤◌, Bool, true, false, List, [], ◌∷◌, map, Option}
+use Rattle.std.proofs.Common.{Some, None, length}
 use Rattle.std.proofs.Common.{refl, ap, sym, ◌∙◌, subst, arith}
 use Rattle.std.specs.Prelude.{not}
 use Rattle.markdown_base.specs.declared.item.Item.{Item}
@@ -10,16 +11,19 @@ use Rattle.markdown_document.specs.Setting.{Setting}
 use Rattle.markdown_delims.specs.declared.marks.Marks.{Marks}
 use Rattle.markdown_delims.specs.declared.run.Characters.{Characters}
 use Rattle.markdown_delims.specs.declared.run.Run.{Run}
-use Rattle.markdown_delims.specs.ChainStanding.{Chain, view, texts, AreFirst, AreLast, AreOpen, Stands, Reads, StandsAt, Finds, Pairs, CanPair, IsRead}
+use Rattle.markdown_delims.specs.ChainStanding.{Chain, view, texts, AreFirst, AreLast, AreOpen, Stands, Reads, StandsAt}
+use Rattle.markdown_delims.specs.ChainStanding.{Finds, Pairs, CanPair, IsRead}
 use Rattle.markdown_delims.specs.ChainStanding.{Keeps, RunRead, CanRead}
 use Rattle.markdown_delims.specs.Layers.{marks_of}
 use Rattle.markdown_delims.specs.OpenRuns.{Openers}
-use Rattle.markdown_delims.specs.Pairing.{Read, nearest_opener, drop_read, Layers, layers, left_over, after_layers, after_search}
+use Rattle.markdown_delims.specs.Pairing.{Read, nearest_opener, drop_read, Layers, layers, left_over, after_layers}
+use Rattle.markdown_delims.specs.Pairing.{after_search}
 use Rattle.markdown_delims.specs.Pairing.{still_waiting, closed_by, run_read}
 use Rattle.markdown_delims.specs.PairingFinds.{search_finds, closer_finds, run_finds}
 use Rattle.markdown_delims.specs.RunSearch.{OpenRun, nearest_run, dropped_by}
 use Rattle.markdown_delims.specs.Views.{Kept}
-use Rattle.markdown_delims.proofs.CloseLemmas.{LayersLeave, FoundAs, found_as, found_none, opener_stands, flat-dropped, open-dropped, open-trees, layers_leave}
+use Rattle.markdown_delims.proofs.CloseLemmas.{LayersLeave, FoundAs, found_as, found_none, opener_stands, flat-dropped}
+use Rattle.markdown_delims.proofs.CloseLemmas.{open-dropped, open-trees, layers_leave}
 use Rattle.markdown_delims.proofs.CloseLemmas.{stands_as}
 use Rattle.markdown_delims.proofs.EncloseLemmas.{texts_link}
 use Rattle.markdown_delims.proofs.WriteLemmas.{kept_none, kept_both}
@@ -52,7 +56,8 @@ module _ (s : Setting) (k : ℕ) (closer : Run) (rs : List (Read ℕ)) where
   closed_empty turns (v ∷ vs) none = absurd (omega (arith, none))
 
 -- a run that cannot close is read
-pub kept_read : (h : Chain) (s t : Arena Item) (run : Run) (vs : List (Label ℕ)) (rs : List (Read ℕ)) (old new : Openers)
+pub kept_read : (h : Chain) (s t : Arena Item) (run : Run) (vs : List (Label ℕ)) (rs : List (Read ℕ))
+    (old new : Openers)
     (last l : Option ℕ) (after : Forest (Label ℕ)) → not run.can_close ≡ true → new.examined ≡ old.examined
     → IsRead h s t (left_over run vs rs) new.runs last l after → RunRead h s t run vs rs old new last l after
 kept_read h s t run vs rs old new last l after e counted r =
@@ -66,7 +71,8 @@ kept_read h s t run vs rs old new last l after e counted r =
     }
 
 -- the state after some finds
-pub record ClosingAt (h : Chain) (met : Characters) (met_vs : List (Label ℕ)) (begun : List (Read ℕ)) (after : Forest (Label ℕ))
+pub record ClosingAt (h : Chain) (met : Characters) (met_vs : List (Label ℕ)) (begun : List (Read ℕ))
+    (after : Forest (Label ℕ))
     (s t : Arena Item) (old now : Openers) (closer : Characters) (last : Option ℕ) : Type 0 where
   pub rs : List (Read ℕ)
   pub vs : List (Label ℕ)
@@ -80,7 +86,8 @@ pub record ClosingAt (h : Chain) (met : Characters) (met_vs : List (Label ℕ)) 
   pub found : old.examined + closer_finds h.setting (length met_vs) met.run met_vs begun
       ≤ now.examined + closer_finds h.setting turns closer.run vs rs
 
-pub closing_begin : (h : Chain) (met : Characters) (vs : List (Label ℕ)) (rs : List (Read ℕ)) (after : Forest (Label ℕ)) (s : Arena Item)
+pub closing_begin : (h : Chain) (met : Characters) (vs : List (Label ℕ)) (rs : List (Read ℕ)) (after : Forest (Label ℕ))
+    (s : Arena Item)
     (o : Openers) (last : Option ℕ) → StandsAt h s rs last met vs after → AreOpen o.runs rs
     → ClosingAt h met vs rs after s s o o met last
 closing_begin h met vs rs after s o last st a = record {
@@ -96,7 +103,8 @@ closing_begin h met vs rs after s o last st a = record {
   found = omega arith;
 }
 
-module _ (h : Chain) (met : Characters) (met_vs : List (Label ℕ)) (begun : List (Read ℕ)) (after : Forest (Label ℕ)) (s t : Arena Item)
+module _ (h : Chain) (met : Characters) (met_vs : List (Label ℕ)) (begun : List (Read ℕ)) (after : Forest (Label ℕ))
+    (s t : Arena Item)
     (old now : Openers) (closer : Characters) (last : Option ℕ)
     (a : ClosingAt h met met_vs begun after s t old now closer last) (some : 0 < closer.count) where
   turn : a.turns ≡ suc (a.turns - 1)
@@ -106,7 +114,8 @@ module _ (h : Chain) (met : Characters) (met_vs : List (Label ℕ)) (begun : Lis
   left = omega (arith, a.stands.are.count, some)
 
   closed_is : closed_by h.setting (length met_vs) met.run met_vs begun
-      ≡ after_search h.setting (λ left others. closed_by h.setting (a.turns - 1) closer.run left others) closer.run a.vs a.rs
+      ≡ after_search h.setting (λ left others. closed_by h.setting (a.turns - 1) closer.run left others) closer.run a.vs
+      a.rs
       (nearest_opener closer.run a.rs nil)
   closed_is = sym a.same ∙ ap (λ k. closed_by h.setting k closer.run a.vs a.rs) turn
       ∙ closed_turn h.setting (a.turns - 1) closer.run a.rs a.vs left
@@ -114,7 +123,8 @@ module _ (h : Chain) (met : Characters) (met_vs : List (Label ℕ)) (begun : Lis
   finds_are : closer_finds h.setting a.turns closer.run a.vs a.rs
       ≡ search_finds h.setting (λ left others. closer_finds h.setting (a.turns - 1) closer.run left others) a.vs
       (nearest_opener closer.run a.rs nil)
-  finds_are = ap (λ k. closer_finds h.setting k closer.run a.vs a.rs) turn ∙ finds_turn h.setting (a.turns - 1) closer.run a.rs a.vs left
+  finds_are = ap (λ k. closer_finds h.setting k closer.run a.vs a.rs) turn
+      ∙ finds_turn h.setting (a.turns - 1) closer.run a.rs a.vs left
 
   -- a run that can close is read
   closed_read : (u : Arena Item) (new : Openers) (rs : List (Read ℕ)) (last' l : Option ℕ) → met.run.can_close ≡ true
@@ -128,13 +138,15 @@ module _ (h : Chain) (met : Characters) (met_vs : List (Label ℕ)) (begun : Lis
   }
 
   -- where the search finds none, what is left is kept
-  module _ (dropped : List OpenRun) (none : nearest_run closer.run now.runs ≡ None) (is : dropped ≡ dropped_by closer.run now.runs) where
+  module _ (dropped : List OpenRun) (none : nearest_run closer.run now.runs ≡ None)
+      (is : dropped ≡ dropped_by closer.run now.runs) where
     abbrev rs' : List (Read ℕ)
     rs' = map (drop_read closer.run.delimiter) a.rs
 
     stands_dropped : StandsAt h t rs' last closer a.vs after
     stands_dropped = record {
-      stands = stands_as h t a.rs rs' last (Some closer.number) (texts a.vs after) (flat-dropped closer.run.delimiter a.rs) a.stands.stands;
+      stands = stands_as h t a.rs rs' last (Some closer.number) (texts a.vs after)
+          (flat-dropped closer.run.delimiter a.rs) a.stands.stands;
       are = a.stands.are;
     }
 
@@ -152,14 +164,20 @@ module _ (h : Chain) (met : Characters) (met_vs : List (Label ℕ)) (begun : Lis
       are = are_dropped;
     }
 
-    pub closing_none : (new : Openers) (last' l : Option ℕ) → met.run.can_close ≡ true → Keeps closer t dropped new.runs last' l
+    pub closing_none : (new : Openers) (last' l : Option ℕ) → met.run.can_close ≡ true
+        → Keeps closer t dropped new.runs last' l
         → now.examined ≤ new.examined → RunRead h s t met.run met_vs begun old new last' l after
     closing_none new last' l closes keeps counted =
         let e = found_none closer.run now.runs a.rs nil a.are none in
         let r = keeps h rs' last a.vs after stands_dropped are_dropped in
         closed_read t new (left_over closer.run a.vs rs') last' l closes
-        (closed_is ∙ ap (after_search h.setting (λ left others. closed_by h.setting (a.turns - 1) closer.run left others) closer.run a.vs a.rs) e)
-        (record { reads = record { stands = r.reads.stands; kept = kept_both h.touched s t t a.kept r.reads.kept }; are = r.are })
+        (closed_is ∙ ap (after_search h.setting
+        (λ left others. closed_by h.setting (a.turns - 1) closer.run left others) closer.run a.vs a.rs) e)
+        (record {
+          reads = record { stands = r.reads.stands; kept = kept_both h.touched s t t a.kept r.reads.kept };
+          are
+              = r.are;
+        })
         (omega (
           arith,
           a.found,
@@ -207,12 +225,15 @@ module _ (h : Chain) (met : Characters) (met_vs : List (Label ℕ)) (begun : Lis
         reads = p h a.rs a.vs after taken.found marks_are stands_after finds_here
 
         leave : LayersLeave opener.number closer.number taken.found.characters a.vs made
-        leave = layers_leave h.setting taken.found.run.delimiter opener.number closer.number taken.found.characters a.vs taken.found.inside
+        leave = layers_leave h.setting taken.found.run.delimiter opener.number closer.number taken.found.characters a.vs
+            taken.found.inside
             taken.are.from a.stands.are.from
 
         closed_on : closed_by h.setting (length met_vs) met.run met_vs begun
             ≡ closed_by h.setting (a.turns - 1) closer.run made.closing (after_layers taken.found made)
-        closed_on = closed_is ∙ ap (after_search h.setting (λ left others. closed_by h.setting (a.turns - 1) closer.run left others) closer.run
+        closed_on = closed_is
+            ∙ ap (after_search h.setting (λ left others. closed_by h.setting (a.turns - 1) closer.run left others)
+            closer.run
             a.vs a.rs) taken.finds
 
         found_one : (examined : ℕ) → now.examined < examined
@@ -229,32 +250,44 @@ module _ (h : Chain) (met : Characters) (met_vs : List (Label ℕ)) (begun : Lis
             )
 
         -- the opener is used up
-        none_open : (xs : List (Label ℕ)) → length xs ≡ 0 → AreOpen before (still_waiting taken.found.run xs taken.found.before)
+        none_open : (xs : List (Label ℕ)) → length xs ≡ 0
+            → AreOpen before (still_waiting taken.found.run xs taken.found.before)
         none_open [] e = taken.before_are
         none_open (x ∷ xs) e = absurd (omega (arith, e))
 
         -- or some of its characters are left
-        some_open_still : (left : Characters) (xs : List (Label ℕ)) → left.run ≡ taken.found.run → AreLast left xs → 0 < left.count
-            → AreOpen (record { dropped = false; opener = left } ∷ before) (still_waiting taken.found.run xs taken.found.before)
+        some_open_still : (left : Characters) (xs : List (Label ℕ)) → left.run ≡ taken.found.run → AreLast left xs
+            → 0 < left.count
+            → AreOpen (record { dropped = false; opener = left } ∷ before)
+            (still_waiting taken.found.run xs taken.found.before)
         some_open_still left [] e are l = absurd (omega (arith, are.count, l))
         some_open_still left (x ∷ xs) e are l = (record { dropped_is = refl; run_is = e; are = are }, taken.before_are)
 
         -- the closer has characters left
-        pub closing_more : (next : Openers) → next.runs ≡ before → now.examined < next.examined → opener.count < closer.count
+        pub closing_more : (next : Openers) → next.runs ≡ before → now.examined < next.examined
+            → opener.count < closer.count
             → ClosingAt h met met_vs begun after s u old next
             (record closer { number = closer.number + opener.count; count = closer.count - opener.count }) (Some root)
         closing_more next e counted more =
             let l = leave in
-            let n : l.next ≡ closer.number + opener.count = omega (arith, l.next_is, taken.are.count, a.stands.are.count, more) in
-            let first = subst (λ i. AreFirst (record closer { number = i; count = closer.count - opener.count }) made.closing) n
-            (record { from = l.closing; count = omega (arith, l.closing_count, taken.are.count, a.stands.are.count, more) }) in
-            let none : length made.opening ≡ 0 = omega (arith, l.opening_count, taken.are.count, a.stands.are.count, more) in
+            let n : l.next ≡ closer.number + opener.count = omega
+            (arith, l.next_is, taken.are.count, a.stands.are.count, more) in
+            let first = subst (λ i. AreFirst (record closer { number = i; count = closer.count - opener.count })
+            made.closing) n
+            (record {
+              from = l.closing;
+              count = omega
+                  (arith, l.closing_count, taken.are.count, a.stands.are.count, more);
+            }) in
+            let none : length made.opening
+            ≡ 0 = omega (arith, l.opening_count, taken.are.count, a.stands.are.count, more) in
             record {
               rs = after_layers taken.found made;
               vs = made.closing;
               turns = a.turns - 1;
               stands = record {
-                stands = subst (λ x. Stands h u (after_layers taken.found made) (Some root) x (texts made.closing after))
+                stands = subst (λ x. Stands h u (after_layers taken.found made) (Some root) x
+                    (texts made.closing after))
                     (texts_link (view h u) rest (closer.number + opener.count) made.closing after
                     (omega (arith, first.count, more)) first.from reads.stands.cut.right) reads.stands;
                 are = first;
@@ -274,13 +307,16 @@ module _ (h : Chain) (met : Characters) (met_vs : List (Label ℕ)) (begun : Lis
             → RunRead h s u met.run met_vs begun old new (Some root) rest after
         ended new all closes counted open_runs =
             let l = leave in
-            let none : length made.closing ≡ 0 = omega (arith, l.closing_count, taken.are.count, a.stands.are.count, all) in
+            let none : length made.closing
+            ≡ 0 = omega (arith, l.closing_count, taken.are.count, a.stands.are.count, all) in
             let no_texts : texts made.closing after ≡ after = no_characters made.closing none in
             closed_read u new (after_layers taken.found made) (Some root) rest closes
-            (closed_on ∙ closed_empty h.setting 0 closer.run (after_layers taken.found made) (a.turns - 1) made.closing none)
+            (closed_on ∙ closed_empty h.setting 0 closer.run (after_layers taken.found made) (a.turns - 1) made.closing
+            none)
             (record {
               reads = record {
-                stands = subst (λ f. Stands h u (after_layers taken.found made) (Some root) rest f) no_texts reads.stands;
+                stands = subst (λ f. Stands h u (after_layers taken.found made) (Some root) rest f) no_texts
+                    reads.stands;
                 kept = kept_both h.touched s t u a.kept reads.kept;
               };
               are = open-trees new.runs made.whole _ open_runs;
@@ -300,7 +336,8 @@ module _ (h : Chain) (met : Characters) (met_vs : List (Label ℕ)) (begun : Lis
             no_characters [] e = refl
             no_characters (v ∷ vs) e = absurd (omega (arith, e))
 
-        pub closing_used : (new : Openers) → new.runs ≡ before → now.examined < new.examined → closer.count ≡ opener.count
+        pub closing_used : (new : Openers) → new.runs ≡ before → now.examined < new.examined → closer.count
+            ≡ opener.count
             → met.run.can_close ≡ true → RunRead h s u met.run met_vs begun old new (Some root) rest after
         closing_used new e counted equal closes =
             let l = leave in
@@ -317,5 +354,9 @@ module _ (h : Chain) (met : Characters) (met_vs : List (Label ℕ)) (begun : Lis
             ended new (omega (arith, fewer)) closes counted
             (subst (λ runs. AreOpen runs (still_waiting taken.found.run made.opening taken.found.before)) (sym e)
             (some_open_still (record opener { count = opener.count - closer.count }) made.opening taken.run_is
-            (record { from = l.opening; count = omega (arith, l.opening_count, taken.are.count, a.stands.are.count, fewer) })
+            (record {
+              from = l.opening;
+              count = omega
+                  (arith, l.opening_count, taken.are.count, a.stands.are.count, fewer);
+            })
             (omega (arith, fewer))))

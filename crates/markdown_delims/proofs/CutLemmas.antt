@@ -2,19 +2,22 @@
 use Rattle.std.proofs.Common.{◌≡◌, ℕ, suc, ◌<◌, ◌≤◌, Bool, true, Option, Some, refl, sym, ◌∙◌, subst, arith}
 use Rattle.markdown_base.specs.Forest.{Forest, nil, node}
 use Rattle.markdown_document.specs.Document.{Part, Label}
-use Rattle.markdown_delims.specs.Views.{View, Writes, Holds, LeftHolds, next_number, Between, Inside, Rises, LeftRises, Cut}
+use Rattle.markdown_delims.specs.Views.{View, Writes, Holds, LeftHolds, next_number, Between, Inside, Rises, LeftRises}
+use Rattle.markdown_delims.specs.Views.{Cut}
 
 pub Rises-le : (own : ℕ → Bool) (lo : ℕ) (f : Forest (Label ℕ)) (hi : ℕ) → Rises own lo f hi → lo ≤ hi
 Rises-le own lo nil hi r = r
 Rises-le own lo (node a below after) hi r = omega (arith, r.0, Rises-le own (suc a.tag) after hi r.2)
 
 -- a chain's first number is not above its end
-pub next_number-le : (own : ℕ → Bool) (lo : ℕ) (f : Forest (Label ℕ)) (hi : ℕ) → Rises own lo f hi → next_number f hi ≤ hi
+pub next_number-le : (own : ℕ → Bool) (lo : ℕ) (f : Forest (Label ℕ)) (hi : ℕ) → Rises own lo f hi
+    → next_number f hi ≤ hi
 next_number-le own lo nil hi r = omega arith
 next_number-le own lo (node a below after) hi r = omega (arith, Rises-le own (suc a.tag) after hi r.2)
 
 -- what is below a tree may lie in a wider span of numbers
-pub Between-wider : (own : ℕ → Bool) (lo lo' : ℕ) (f : Forest (Label ℕ)) (hi hi' : ℕ) → lo' ≤ lo → hi ≤ hi' → Between own lo f hi
+pub Between-wider : (own : ℕ → Bool) (lo lo' : ℕ) (f : Forest (Label ℕ)) (hi hi' : ℕ) → lo' ≤ lo → hi ≤ hi'
+    → Between own lo f hi
     → Between own lo' f hi'
 Between-wider own lo lo' nil hi hi' l h b = tt
 Between-wider own lo lo' (node a below after) hi hi' l h b = (
@@ -24,7 +27,8 @@ Between-wider own lo lo' (node a below after) hi hi' l h b = (
       own lo lo' after hi hi' l h b.2,
 )
 
-pub Inside-further : (own : ℕ → Bool) (lo : ℕ) (f : Forest (Label ℕ)) (hi hi' : ℕ) → hi ≤ hi' → Inside own lo f hi → Inside own lo f hi'
+pub Inside-further : (own : ℕ → Bool) (lo : ℕ) (f : Forest (Label ℕ)) (hi hi' : ℕ) → hi ≤ hi' → Inside own lo f hi
+    → Inside own lo f hi'
 Inside-further own lo f hi hi' l b = (omega (arith, b.0), Between-wider own lo lo f hi hi' (omega arith) l b.1)
 
 -- a chain may occur below a tree
@@ -35,63 +39,78 @@ Between-of own lo (node a below after) hi r =
     let end : next_number after hi ≤ hi = next_number-le own (suc a.tag) after hi r.2 in (
       λ o. (r.0, omega arith),
       Between-wider own (suc a.tag) lo below (next_number after hi) hi (omega (arith, r.0)) end r.1.1,
-      Between-wider own (suc a.tag) lo after hi hi (omega (arith, r.0)) (omega arith) (Between-of own (suc a.tag) after hi r.2),
+      Between-wider own (suc a.tag) lo after hi hi (omega (arith, r.0)) (omega arith)
+          (Between-of own (suc a.tag) after hi r.2),
     )
 
 pub Inside-of : (own : ℕ → Bool) (lo : ℕ) (f : Forest (Label ℕ)) (hi : ℕ) → Rises own lo f hi → Inside own lo f hi
 Inside-of own lo f hi r = (Rises-le own lo f hi r, Between-of own lo f hi r)
 
 -- it may begin earlier, or where its first number is
-pub Rises-lower : (own : ℕ → Bool) (lo lo' : ℕ) (f : Forest (Label ℕ)) (hi : ℕ) → lo' ≤ lo → Rises own lo f hi → Rises own lo' f hi
+pub Rises-lower : (own : ℕ → Bool) (lo lo' : ℕ) (f : Forest (Label ℕ)) (hi : ℕ) → lo' ≤ lo → Rises own lo f hi
+    → Rises own lo' f hi
 Rises-lower own lo lo' nil hi l r = omega (arith, r)
 Rises-lower own lo lo' (node a below after) hi l r = (omega (arith, r.0), r.1, r.2)
 
-pub Rises-raise : (own : ℕ → Bool) (lo lo' : ℕ) (f : Forest (Label ℕ)) (hi : ℕ) → lo' ≤ next_number f hi → Rises own lo f hi
+pub Rises-raise : (own : ℕ → Bool) (lo lo' : ℕ) (f : Forest (Label ℕ)) (hi : ℕ) → lo' ≤ next_number f hi
+    → Rises own lo f hi
     → Rises own lo' f hi
 Rises-raise own lo lo' nil hi l r = l
 Rises-raise own lo lo' (node a below after) hi l r = (l, r.1, r.2)
 
 -- a write at a node of the chain does not change what has other numbers: all before it, and all after it
-pub Holds-inside : (own : ℕ → Bool) (k k' : View Part) (ix : ℕ) (item : Part) (child next : Option ℕ) → Writes k k' ix item child next
+pub Holds-inside : (own : ℕ → Bool) (k k' : View Part) (ix : ℕ) (item : Part) (child next : Option ℕ)
+    → Writes k k' ix item child next
     → own ix ≡ true
-    → (l : Option ℕ) (lo : ℕ) (f : Forest (Label ℕ)) (hi : ℕ) → ((n : ℕ) → lo ≤ n → n < hi → n ≡ ix → ⊥) → Between own lo f hi → Holds k l f
+    → (l : Option ℕ) (lo : ℕ) (f : Forest (Label ℕ)) (hi : ℕ) → ((n : ℕ) → lo ≤ n → n < hi → n ≡ ix → ⊥)
+    → Between own lo f hi → Holds k l f
     → Holds k' l f
 Holds-inside own k k' ix item child next w o l lo nil hi b r h = h
 Holds-inside own k k' ix item child next w o l lo (node a below after) hi b r h =
     let same = w.others a.tag (λ e. let here = r.0 (subst (λ n. own n ≡ true) (sym e) o) in b a.tag here.0 here.1 e) in
-    let inside : Holds k' (k.child a.tag) below = Holds-inside own k k' ix item child next w o (k.child a.tag) lo below hi b r.1 h.3
+    let inside : Holds k' (k.child a.tag) below = Holds-inside own k k' ix item child next w o (k.child a.tag) lo below
+    hi b r.1 h.3
     in
-    let behind : Holds k' (k.next a.tag) after = Holds-inside own k k' ix item child next w o (k.next a.tag) lo after hi b r.2 h.4 in
+    let behind : Holds k' (k.next a.tag) after = Holds-inside own k k' ix item child next w o (k.next a.tag) lo after hi
+    b r.2 h.4 in
     (h.0, rw w.size h.1, same.item ∙ h.2, rw same.child inside, rw same.next behind)
 
-pub Holds-inside_before : (own : ℕ → Bool) (k k' : View Part) (ix : ℕ) (item : Part) (child next : Option ℕ) → Writes k k' ix item child next
+pub Holds-inside_before : (own : ℕ → Bool) (k k' : View Part) (ix : ℕ) (item : Part) (child next : Option ℕ)
+    → Writes k k' ix item child next
     → own ix ≡ true
-    → (l : Option ℕ) (lo : ℕ) (f : Forest (Label ℕ)) (hi : ℕ) → ix < lo → Inside own lo f hi → Holds k l f → Holds k' l f
+    → (l : Option ℕ) (lo : ℕ) (f : Forest (Label ℕ)) (hi : ℕ) → ix < lo → Inside own lo f hi → Holds k l f
+    → Holds k' l f
 Holds-inside_before own k k' ix item child next w o l lo f hi b r h =
     Holds-inside own k k' ix item child next w o l lo f hi (λ n p q e. omega arith) r.1 h
 
-pub Holds-inside_behind : (own : ℕ → Bool) (k k' : View Part) (ix : ℕ) (item : Part) (child next : Option ℕ) → Writes k k' ix item child next
+pub Holds-inside_behind : (own : ℕ → Bool) (k k' : View Part) (ix : ℕ) (item : Part) (child next : Option ℕ)
+    → Writes k k' ix item child next
     → own ix ≡ true
-    → (l : Option ℕ) (lo : ℕ) (f : Forest (Label ℕ)) (hi : ℕ) → hi ≤ ix → Inside own lo f hi → Holds k l f → Holds k' l f
+    → (l : Option ℕ) (lo : ℕ) (f : Forest (Label ℕ)) (hi : ℕ) → hi ≤ ix → Inside own lo f hi → Holds k l f
+    → Holds k' l f
 Holds-inside_behind own k k' ix item child next w o l lo f hi b r h =
     Holds-inside own k k' ix item child next w o l lo f hi (λ n p q e. omega arith) r.1 h
 
-pub Holds-write_before : (own : ℕ → Bool) (k k' : View Part) (ix : ℕ) (item : Part) (child next : Option ℕ) → Writes k k' ix item child next
+pub Holds-write_before : (own : ℕ → Bool) (k k' : View Part) (ix : ℕ) (item : Part) (child next : Option ℕ)
+    → Writes k k' ix item child next
     → own ix ≡ true
     → (l : Option ℕ) (lo : ℕ) (f : Forest (Label ℕ)) (hi : ℕ) → ix < lo → Rises own lo f hi → Holds k l f → Holds k' l f
 Holds-write_before own k k' ix item child next w o l lo f hi b r h =
     Holds-inside_before own k k' ix item child next w o l lo f hi b (Inside-of own lo f hi r) h
 
 -- a write after a left list's numbers does not change it
-pub LeftHolds-write_behind : (own : ℕ → Bool) (k k' : View Part) (ix : ℕ) (item : Part) (child next : Option ℕ) → Writes k k' ix item child next
+pub LeftHolds-write_behind : (own : ℕ → Bool) (k k' : View Part) (ix : ℕ) (item : Part) (child next : Option ℕ)
+    → Writes k k' ix item child next
     → own ix ≡ true
-    → (first : Option ℕ) (f : Forest (Label ℕ)) (l : Option ℕ) (hi : ℕ) → hi ≤ ix → LeftRises own f hi → LeftHolds k first f l
+    → (first : Option ℕ) (f : Forest (Label ℕ)) (l : Option ℕ) (hi : ℕ) → hi ≤ ix → LeftRises own f hi
+    → LeftHolds k first f l
     → LeftHolds k' first f l
 LeftHolds-write_behind own k k' ix item child next w o first nil l hi b r h = h
 LeftHolds-write_behind own k k' ix item child next w o first (node a below before) l hi b r h =
     let within : suc a.tag ≤ hi = r.0.0 in
     let same = w.others a.tag (λ e. omega arith) in
-    let inside : Holds k' (k.child a.tag) below = Holds-inside_behind own k k' ix item child next w o (k.child a.tag) (suc a.tag)
+    let inside : Holds k' (k.child a.tag) below = Holds-inside_behind own k k' ix item child next w o (k.child a.tag)
+    (suc a.tag)
     below hi b r.0 h.2 in (
       rw w.size h.0,
       same.item ∙ h.1,
@@ -101,7 +120,8 @@ LeftHolds-write_behind own k k' ix item child next w o first (node a below befor
     )
 
 -- over one tree, to the right and to the left
-pub step_right : (own : ℕ → Bool) (k : View Part) (first : Option ℕ) (left : Forest (Label ℕ)) (l : Option ℕ) (a : Label ℕ)
+pub step_right : (own : ℕ → Bool) (k : View Part) (first : Option ℕ) (left : Forest (Label ℕ)) (l : Option ℕ)
+    (a : Label ℕ)
     (below after : Forest (Label ℕ)) (hi : ℕ)
     → Cut own k first left l (node a below after) hi → Cut own k first (node a below left) (k.next a.tag) after hi
 step_right own k first left l a below after hi c =
@@ -112,7 +132,8 @@ step_right own k first left l a below after hi c =
       rises_right = Rises-lower own (suc a.tag) 0 after hi (omega arith) c.rises_right.2;
     }
 
-pub step_left : (own : ℕ → Bool) (k : View Part) (first : Option ℕ) (a : Label ℕ) (below before : Forest (Label ℕ)) (l : Option ℕ)
+pub step_left : (own : ℕ → Bool) (k : View Part) (first : Option ℕ) (a : Label ℕ) (below before : Forest (Label ℕ))
+    (l : Option ℕ)
     (right : Forest (Label ℕ)) (hi : ℕ)
     → Cut own k first (node a below before) l right hi → Cut own k first before (Some a.tag) (node a below right) hi
 step_left own k first a below before l right hi c =
@@ -125,14 +146,17 @@ step_left own k first a below before l right hi c =
     }
 
 -- the nearest tree now leads elsewhere; the chain that followed it is unchanged
-pub record Parted (k : View Part) (first : Option ℕ) (before : Forest (Label ℕ)) (m : Option ℕ) (l : Option ℕ) (after : Forest (Label ℕ)) : Type 0
+pub record Parted (k : View Part) (first : Option ℕ) (before : Forest (Label ℕ)) (m : Option ℕ) (l : Option ℕ)
+    (after : Forest (Label ℕ)) : Type 0
   where
     pub left : LeftHolds k first before m
     pub right : Holds k l after
 
-pub parted : (own : ℕ → Bool) (k k' : View Part) (first : Option ℕ) (a : Label ℕ) (below before : Forest (Label ℕ)) (l m : Option ℕ)
+pub parted : (own : ℕ → Bool) (k k' : View Part) (first : Option ℕ) (a : Label ℕ) (below before : Forest (Label ℕ))
+    (l m : Option ℕ)
     (right : Forest (Label ℕ)) (hi : ℕ)
-    → Cut own k first (node a below before) l right hi → own a.tag ≡ true → Writes k k' a.tag (k.item a.tag) (k.child a.tag) m
+    → Cut own k first (node a below before) l right hi → own a.tag ≡ true
+    → Writes k k' a.tag (k.item a.tag) (k.child a.tag) m
     → Parted k' first (node a below before) m l right
 parted own k k' first a below before l m right hi c o w =
     let above : suc a.tag ≤ next_number right hi = c.rises_left.0.0 in
@@ -148,12 +172,14 @@ parted own k k' first a below before l m right hi c o w =
         LeftHolds-write_behind own k k' a.tag (k.item a.tag) (k.child a.tag) m w o first before (Some a.tag) a.tag
             (omega arith) c.rises_left.1 c.left.4,
       );
-      right = Holds-write_before own k k' a.tag (k.item a.tag) (k.child a.tag) m w o l (suc a.tag) right hi (omega arith)
+      right = Holds-write_before own k k' a.tag (k.item a.tag) (k.child a.tag) m w o l (suc a.tag) right hi
+          (omega arith)
           (Rises-raise own 0 (suc a.tag) right hi above c.rises_right) c.right;
     }
 
 -- a node that a left list leads to encloses a chain
-pub enclosing : (own : ℕ → Bool) (k k' : View Part) (first : Option ℕ) (before : Forest (Label ℕ)) (a : Label ℕ) (l m : Option ℕ)
+pub enclosing : (own : ℕ → Bool) (k k' : View Part) (first : Option ℕ) (before : Forest (Label ℕ)) (a : Label ℕ)
+    (l m : Option ℕ)
     (inside : Forest (Label ℕ)) (hi : ℕ) → own a.tag ≡ true
     → a.tag < k.size → LeftHolds k first before (Some a.tag) → LeftRises own before a.tag → Holds k l inside
     → Inside own (suc a.tag) inside hi

@@ -1,5 +1,6 @@
 -- Characters of an opener become nodes, one layer at a time.
-use Rattle.std.proofs.Common.{◌≡◌, ℕ, suc, ◌+◌, ◌-◌, ◌<◌, ◌≤◌, min, Bool, true, List, [], ◌∷◌, Option, Some, None, length, refl, ap}
+use Rattle.std.proofs.Common.{◌≡◌, ℕ, suc, ◌+◌, ◌-◌, ◌<◌, ◌≤◌, min, Bool, true, List, [], ◌∷◌, Option, Some, None}
+use Rattle.std.proofs.Common.{length, refl, ap}
 use Rattle.std.proofs.Common.{sym, ◌∙◌, subst, arith}
 use Rattle.std.specs.Prelude.{IfSome, slice_range, ◌^◌}
 use Rattle.markdown_base.specs.declared.item.Item.{Item}
@@ -16,13 +17,16 @@ use Rattle.markdown_delims.specs.ChainStanding.{Chain, view, texts, left_texts, 
 use Rattle.markdown_delims.specs.Enclosing.{IsLayer, Around, Encloses, IsEnclosed}
 use Rattle.markdown_delims.specs.Layers.{marks_of, layer_of_one, layer_of_two, spanned}
 use Rattle.markdown_delims.specs.Pairing.{Layers, layers}
-use Rattle.markdown_delims.specs.Views.{View, Writes, Wrote, Holds, LeftHolds, next_number, Rises, LeftRises, Cut, Kept, AllTouched}
-use Rattle.markdown_delims.proofs.CutLemmas.{Rises-le, Rises-raise, Rises-lower, Inside-of, Inside-further, Holds-write_before, step_left}
+use Rattle.markdown_delims.specs.Views.{View, Writes, Wrote, Holds, LeftHolds, next_number, Rises, LeftRises, Cut, Kept}
+use Rattle.markdown_delims.specs.Views.{AllTouched}
+use Rattle.markdown_delims.proofs.CutLemmas.{Rises-le, Rises-raise, Rises-lower, Inside-of, Inside-further}
+use Rattle.markdown_delims.proofs.CutLemmas.{Holds-write_before, step_left}
 use Rattle.markdown_delims.proofs.CutLemmas.{enclosing}
 use Rattle.markdown_delims.proofs.WriteLemmas.{parts_written, kept_none, kept_made}
 
 -- a chain's first number is not below where it begins
-pub next_number-from : (own : ℕ → Bool) (lo : ℕ) (f : Forest (Label ℕ)) (hi : ℕ) → Rises own lo f hi → lo ≤ next_number f hi
+pub next_number-from : (own : ℕ → Bool) (lo : ℕ) (f : Forest (Label ℕ)) (hi : ℕ) → Rises own lo f hi
+    → lo ≤ next_number f hi
 next_number-from own lo nil hi r = r
 next_number-from own lo (node a below after) hi r = r.0
 
@@ -33,7 +37,8 @@ link_within k (Some ix) nil h = cc
 link_within k (Some ix) (node a below after) h = let e : ix ≡ a.tag = cc in omega (arith, h.1, e)
 
 -- a character of a left list, with what precedes it and the chain that is to be inside
-pub record Peeled (own : ℕ → Bool) (k : View Part) (first : Option ℕ) (x : Label ℕ) (before : Forest (Label ℕ)) (l : Option ℕ)
+pub record Peeled (own : ℕ → Bool) (k : View Part) (first : Option ℕ) (x : Label ℕ) (before : Forest (Label ℕ))
+    (l : Option ℕ)
     (chain : Forest (Label ℕ)) (hi : ℕ) : Type 0 where
   pub within : x.tag < k.size
   pub item : k.item x.tag ≡ x.part
@@ -55,7 +60,8 @@ module _ (own : ℕ → Bool) (k : View Part) (first : Option ℕ) (x : Label �
         rises = Rises-raise own 0 (suc x.tag) chain hi c.rises_left.0.0 c.rises_right;
       }
 
-  pub peel_two : (y : Label ℕ) → Cut own k first (node y nil (node x nil before)) l chain hi → Peeled own k first x before l chain hi
+  pub peel_two : (y : Label ℕ) → Cut own k first (node y nil (node x nil before)) l chain hi
+      → Peeled own k first x before l chain hi
   peel_two y c =
       let last : suc y.tag ≤ next_number chain hi = c.rises_left.0.0 in
       let above : suc x.tag ≤ y.tag = c.rises_left.1.0.0 in
@@ -76,22 +82,28 @@ module _ (own : ℕ → Bool) (k : View Part) (first : Option ℕ) (x : Label �
     pub layer_inside : Writes k k' x.tag p l None → Cut own k' first before (Some x.tag) (node made chain nil) hi
     layer_inside w =
         let inner = Inside-of own (suc x.tag) chain hi peeled.rises in
-        let held = enclosing own k k' first before made l None chain hi o peeled.within peeled.left peeled.rises_left peeled.right inner w in
+        let held = enclosing own k k' first before made l None chain hi o peeled.within peeled.left peeled.rises_left
+        peeled.right inner w in
         step_left own k' first made chain before None nil hi
         (record { left = held; right = refl; rises_left = (inner, peeled.rises_left); rises_right = omega arith })
 
     -- the outermost one
-    pub layer_last : (m : Option ℕ) (after : Forest (Label ℕ)) (lo bound : ℕ) → hi ≤ lo → Holds k m after → Rises own lo after bound
+    pub layer_last : (m : Option ℕ) (after : Forest (Label ℕ)) (lo bound : ℕ) → hi ≤ lo → Holds k m after
+        → Rises own lo after bound
         → Writes k k' x.tag p l m → Cut own k' first (node made chain before) m after bound
     layer_last m after lo bound high h r w =
         let inner = Inside-of own (suc x.tag) chain hi peeled.rises in
-        let held = enclosing own k k' first before made l m chain hi o peeled.within peeled.left peeled.rises_left peeled.right inner w in
+        let held = enclosing own k k' first before made l m chain hi o peeled.within peeled.left peeled.rises_left
+        peeled.right inner w in
         let low : suc x.tag ≤ hi = Rises-le own (suc x.tag) chain hi peeled.rises in
         let from : lo ≤ next_number after bound = next_number-from own lo after bound r in
         record {
           left = held;
           right = Holds-write_before own k k' x.tag p l m w o m lo after bound (omega arith) r h;
-          rises_left = (Inside-further own (suc x.tag) chain hi (next_number after bound) (omega arith) inner, peeled.rises_left);
+          rises_left = (
+            Inside-further own (suc x.tag) chain hi (next_number after bound) (omega arith) inner,
+            peeled.rises_left,
+          );
           rises_right = Rises-lower own lo 0 after bound (omega arith) r;
         }
 
@@ -100,7 +112,8 @@ pub spanned_part : (s : Setting) (tables : Tables) (i j : Item) (x v : Label ℕ
     → part_of s.text tables i ≡ x.part → part_of s.text tables j ≡ v.part → x.part.block ≡ None → IsLayer b shape
     → part_of s.text tables (record { start = i.start; end = j.end; body = b }) ≡ (spanned s.text shape x v).part
 spanned_part s tables i j x v b shape e f none is =
-    ap (λ y. let p : Part = record { shape = y; range = record { start = i.start; end = j.end }; block = block_of b } in p)
+    ap (λ y. let p : Part = record { shape = y; range = record { start = i.start; end = j.end }; block = block_of b } in
+    p)
     (is.reads tables (slice_range s.text i.start j.end))
     ∙ ap (λ o. let p : Part = record {
       shape = shape (slice_range s.text i.start j.end);
@@ -119,7 +132,8 @@ spanned_part s tables i j x v b shape e f none is =
     } in p) f
 
 -- where the characters of one side are used up, no layer is left
-layers_end : (s : Setting) (d : Delimiter) (xs vs : List (Label ℕ)) (inside : Forest (Label ℕ)) → min (length xs) (length vs) ≡ 0
+layers_end : (s : Setting) (d : Delimiter) (xs vs : List (Label ℕ)) (inside : Forest (Label ℕ))
+    → min (length xs) (length vs) ≡ 0
     → layers s d xs vs inside ≡ record { whole = inside; opening = xs; closing = vs }
 layers_end s d [] vs inside e = refl
 layers_end s d (x ∷ xs) [] inside e = refl
@@ -128,19 +142,25 @@ layers_end s d (x ∷ xs) (v ∷ vs) inside e = absurd (omega (arith, e))
 layers_once : (s : Setting) (d : Delimiter) (x v : Label ℕ) (xs vs : List (Label ℕ)) (inside : Forest (Label ℕ))
     → min (length xs) (length vs) ≡ 0
     → layers s d (x ∷ xs) (v ∷ vs) inside
-    ≡ record { whole = node (spanned s.text (layer_of_one (marks_of s.rules.options) d) x v) inside nil; opening = xs; closing = vs }
+    ≡ record {
+      whole = node (spanned s.text (layer_of_one (marks_of s.rules.options) d) x v) inside nil;
+      opening = xs;
+      closing = vs;
+    }
 layers_once s d x v [] vs inside e = refl
 layers_once s d x v (y ∷ xs) [] inside e = refl
 layers_once s d x v (y ∷ xs) (w ∷ vs) inside e = absurd (omega (arith, e))
 
 -- a chain of characters begins at their first number
-pub texts_link : (k : View Part) (l : Option ℕ) (number : ℕ) (vs : List (Label ℕ)) (after : Forest (Label ℕ)) → 0 < length vs
+pub texts_link : (k : View Part) (l : Option ℕ) (number : ℕ) (vs : List (Label ℕ)) (after : Forest (Label ℕ))
+    → 0 < length vs
     → FirstFrom number vs → Holds k l (texts vs after) → l ≡ Some number
 texts_link k l number [] after some f h = absurd (omega (arith, some))
 texts_link k l number (v ∷ vs) after some f h = h.0 ∙ ap Some f.0
 
 -- the state after some layers: the characters that are left enclose the chain that was made so far
-pub record LayersAt (h : Chain) (g : Around) (s t : Arena Item) (d : Delimiter) (o c : Characters) (left : ℕ) (inner : Option ℕ) : Type 0
+pub record LayersAt (h : Chain) (g : Around) (s t : Arena Item) (d : Delimiter) (o c : Characters) (left : ℕ)
+    (inner : Option ℕ) : Type 0
   where
     pub opening : List (Label ℕ)
     pub closing : List (Label ℕ)
@@ -156,7 +176,8 @@ pub record LayersAt (h : Chain) (g : Around) (s t : Arena Item) (d : Delimiter) 
     pub left_is : left ≡ min o.count c.count
     pub kept : Kept h.touched s t
 
-pub layers_begin : (h : Chain) (g : Around) (s : Arena Item) (d : Delimiter) (o c : Characters) (left : ℕ) (inner : Option ℕ)
+pub layers_begin : (h : Chain) (g : Around) (s : Arena Item) (d : Delimiter) (o c : Characters) (left : ℕ)
+    (inner : Option ℕ)
     → left ≡ min o.count c.count → Encloses h g s o c inner → LayersAt h g s s d o c left inner
 layers_begin h g s d o c left inner e st = record {
   opening = g.opening;
@@ -170,134 +191,154 @@ layers_begin h g s d o c left inner e st = record {
 
 -- the next layer, of the last n characters that are left of the opener and the first n of the closer, for an n of one
 -- or two: from x to v
-pub record NextLayer (h : Chain) (g : Around) (t : Arena Item) (o c : Characters) (inner : Option ℕ) (n : ℕ) : Type 0 where
-  pub x : Label ℕ
-  pub v : Label ℕ
-  pub xs : List (Label ℕ)
-  pub vs : List (Label ℕ)
-  pub hi : ℕ
-  pub low : hi ≤ c.number
-  pub root_is : x.tag ≡ o.number + (o.count - n)
-  pub end_is : suc v.tag ≡ c.number + n
-  pub none : x.part.block ≡ None
-  pub opening : LastFrom o.number xs
-  pub opening_count : length xs + n ≡ o.count
-  pub closing : FirstFrom (c.number + n) vs
-  pub closing_count : length vs + n ≡ c.count
-  pub peeled : Peeled h.touched (view h t) h.first x (left_texts xs g.before) inner g.inside hi
-  pub root_touched : h.touched x.tag ≡ true
-  pub left_touched : AllTouched h.touched (left_texts xs g.before)
-  pub end_within : v.tag < length t.nodes
-  pub end_part : (view h t).item v.tag ≡ v.part
-  pub right : Holds (view h t) ((view h t).next v.tag) (texts vs g.after)
-  pub rises : Rises h.touched (suc v.tag) (texts vs g.after) h.bound
-  pub right_touched : AllTouched h.touched (texts vs g.after)
+pub record NextLayer (h : Chain) (g : Around) (t : Arena Item) (o c : Characters) (inner : Option ℕ) (n : ℕ) : Type 0
+  where
+    pub x : Label ℕ
+    pub v : Label ℕ
+    pub xs : List (Label ℕ)
+    pub vs : List (Label ℕ)
+    pub hi : ℕ
+    pub low : hi ≤ c.number
+    pub root_is : x.tag ≡ o.number + (o.count - n)
+    pub end_is : suc v.tag ≡ c.number + n
+    pub none : x.part.block ≡ None
+    pub opening : LastFrom o.number xs
+    pub opening_count : length xs + n ≡ o.count
+    pub closing : FirstFrom (c.number + n) vs
+    pub closing_count : length vs + n ≡ c.count
+    pub peeled : Peeled h.touched (view h t) h.first x (left_texts xs g.before) inner g.inside hi
+    pub root_touched : h.touched x.tag ≡ true
+    pub left_touched : AllTouched h.touched (left_texts xs g.before)
+    pub end_within : v.tag < length t.nodes
+    pub end_part : (view h t).item v.tag ≡ v.part
+    pub right : Holds (view h t) ((view h t).next v.tag) (texts vs g.after)
+    pub rises : Rises h.touched (suc v.tag) (texts vs g.after) h.bound
+    pub right_touched : AllTouched h.touched (texts vs g.after)
 
 -- of two characters, and of one
-module _ (h : Chain) (t : Arena Item) (o c : Characters) (inner : Option ℕ) (before inside after : Forest (Label ℕ)) where
-  abbrev around : List (Label ℕ) → List (Label ℕ) → Around
-  around xs vs = record { before = before; opening = xs; inside = inside; closing = vs; after = after }
+module _ (h : Chain) (t : Arena Item) (o c : Characters) (inner : Option ℕ) (before inside after : Forest (Label ℕ))
+  where
+    abbrev around : List (Label ℕ) → List (Label ℕ) → Around
+    around xs vs = record { before = before; opening = xs; inside = inside; closing = vs; after = after }
 
-  pub record LayerOfTwo (opening closing : List (Label ℕ)) : Type 0 where
-    pub next : NextLayer h (around opening closing) t o c inner 2
-    pub layers_are : (s : Setting) (d : Delimiter) → layers s d opening closing inside
-        ≡ layers s d next.xs next.vs (node (spanned s.text (layer_of_two (marks_of s.rules.options) d) next.x next.v) inside nil)
+    pub record LayerOfTwo (opening closing : List (Label ℕ)) : Type 0 where
+      pub next : NextLayer h (around opening closing) t o c inner 2
+      pub layers_are : (s : Setting) (d : Delimiter) → layers s d opening closing inside
+          ≡ layers s d next.xs next.vs
+          (node (spanned s.text (layer_of_two (marks_of s.rules.options) d) next.x next.v) inside nil)
 
-  pub layer_of_two_at : (opening closing : List (Label ℕ)) → Encloses h (around opening closing) t o c inner → 2 ≤ min o.count c.count
-      → LayerOfTwo opening closing
-  layer_of_two_at [] closing st m = absurd (omega (arith, st.opener_are.count, m))
-  layer_of_two_at (x ∷ []) closing st m = absurd (omega (arith, st.opener_are.count, m))
-  layer_of_two_at (x ∷ y ∷ xs) [] st m = absurd (omega (arith, st.closer_are.count, m))
-  layer_of_two_at (x ∷ y ∷ xs) (v ∷ []) st m = absurd (omega (arith, st.closer_are.count, m))
-  layer_of_two_at (x ∷ y ∷ xs) (v ∷ w ∷ vs) st m =
-      record {
-        next = record {
-          x = y;
-          v = w;
-          xs = xs;
-          vs = vs;
-          hi = st.hi;
-          low = st.low;
-          root_is = omega (arith, st.opener_are.from.2.0, st.opener_are.count);
-          end_is = omega (arith, st.closer_are.from.2.0);
-          none = st.opener_are.from.2.1;
-          opening = st.opener_are.from.2.2;
-          opening_count = omega (arith, st.opener_are.count);
-          closing = subst (λ n. FirstFrom n vs) (let e : suc (suc c.number) ≡ c.number + 2 = omega arith in e) st.closer_are.from.2.2;
-          closing_count = omega (arith, st.closer_are.count);
-          peeled = peel_two h.touched (view h t) h.first y (left_texts xs before) inner inside st.hi x st.cut;
-          root_touched = st.left_touched.1.0;
-          left_touched = st.left_touched.1.1;
-          end_within = st.right.4.1;
-          end_part = st.right.4.2;
-          right = st.right.4.4;
-          rises = st.rises.2.2;
-          right_touched = st.right_touched.1.1;
-        };
-        layers_are = λ s d. refl;
-      }
-
-  pub record LayerOfOne (opening closing : List (Label ℕ)) : Type 0 where
-    pub next : NextLayer h (around opening closing) t o c inner 1
-    pub layers_are : min (length next.xs) (length next.vs) ≡ 0 → (s : Setting) (d : Delimiter) → layers s d opening closing inside
-        ≡ record {
-          whole = node (spanned s.text (layer_of_one (marks_of s.rules.options) d) next.x next.v) inside nil;
-          opening = next.xs;
-          closing = next.vs;
+    pub layer_of_two_at : (opening closing : List (Label ℕ)) → Encloses h (around opening closing) t o c inner
+        → 2 ≤ min o.count c.count
+        → LayerOfTwo opening closing
+    layer_of_two_at [] closing st m = absurd (omega (arith, st.opener_are.count, m))
+    layer_of_two_at (x ∷ []) closing st m = absurd (omega (arith, st.opener_are.count, m))
+    layer_of_two_at (x ∷ y ∷ xs) [] st m = absurd (omega (arith, st.closer_are.count, m))
+    layer_of_two_at (x ∷ y ∷ xs) (v ∷ []) st m = absurd (omega (arith, st.closer_are.count, m))
+    layer_of_two_at (x ∷ y ∷ xs) (v ∷ w ∷ vs) st m =
+        record {
+          next = record {
+            x = y;
+            v = w;
+            xs = xs;
+            vs = vs;
+            hi = st.hi;
+            low = st.low;
+            root_is = omega (arith, st.opener_are.from.2.0, st.opener_are.count);
+            end_is = omega (arith, st.closer_are.from.2.0);
+            none = st.opener_are.from.2.1;
+            opening = st.opener_are.from.2.2;
+            opening_count = omega (arith, st.opener_are.count);
+            closing = subst (λ n. FirstFrom n vs) (let e : suc (suc c.number) ≡ c.number + 2 = omega arith in e)
+                st.closer_are.from.2.2;
+            closing_count = omega (arith, st.closer_are.count);
+            peeled = peel_two h.touched (view h t) h.first y (left_texts xs before) inner inside st.hi x st.cut;
+            root_touched = st.left_touched.1.0;
+            left_touched = st.left_touched.1.1;
+            end_within = st.right.4.1;
+            end_part = st.right.4.2;
+            right = st.right.4.4;
+            rises = st.rises.2.2;
+            right_touched = st.right_touched.1.1;
+          };
+          layers_are = λ s d. refl;
         }
 
-  pub layer_of_one_at : (opening closing : List (Label ℕ)) → Encloses h (around opening closing) t o c inner → 1 ≤ min o.count c.count
-      → LayerOfOne opening closing
-  layer_of_one_at [] closing st m = absurd (omega (arith, st.opener_are.count, m))
-  layer_of_one_at (x ∷ xs) [] st m = absurd (omega (arith, st.closer_are.count, m))
-  layer_of_one_at (x ∷ xs) (v ∷ vs) st m =
-      record {
-        next = record {
-          x = x;
-          v = v;
-          xs = xs;
-          vs = vs;
-          hi = st.hi;
-          low = st.low;
-          root_is = omega (arith, st.opener_are.from.0, st.opener_are.count);
-          end_is = omega (arith, st.closer_are.from.0);
-          none = st.opener_are.from.1;
-          opening = st.opener_are.from.2;
-          opening_count = omega (arith, st.opener_are.count);
-          closing = subst (λ n. FirstFrom n vs) (let e : suc c.number ≡ c.number + 1 = omega arith in e) st.closer_are.from.2;
-          closing_count = omega (arith, st.closer_are.count);
-          peeled = peel_one h.touched (view h t) h.first x (left_texts xs before) inner inside st.hi st.cut;
-          root_touched = st.left_touched.0;
-          left_touched = st.left_touched.1;
-          end_within = st.right.1;
-          end_part = st.right.2;
-          right = st.right.4;
-          rises = st.rises.2;
-          right_touched = st.right_touched.1;
-        };
-        layers_are = λ none s d. layers_once s d x v xs vs inside none;
-      }
+    pub record LayerOfOne (opening closing : List (Label ℕ)) : Type 0 where
+      pub next : NextLayer h (around opening closing) t o c inner 1
+      pub layers_are : min (length next.xs) (length next.vs) ≡ 0 → (s : Setting) (d : Delimiter)
+          → layers s d opening closing inside
+          ≡ record {
+            whole = node (spanned s.text (layer_of_one (marks_of s.rules.options) d) next.x next.v) inside nil;
+            opening = next.xs;
+            closing = next.vs;
+          }
 
-  -- the layer is written
-  module _ (g : Around) (n : ℕ) (next : NextLayer h g t o c inner n) (b : ItemBody) (shape : List ℕ → Shape) (is : IsLayer b shape)
-      (u : Arena Item) (root end : ℕ) (m : Option ℕ)
-      (w : Wrote t u root (record { start = (item_at t.nodes root).start; end = (item_at t.nodes end).end; body = b }) inner m)
-      (root_is : root ≡ next.x.tag) (end_is : end ≡ next.v.tag) where
-    pub layer_written : Writes (view h t) (view h u) next.x.tag (spanned h.setting.text shape next.x next.v).part inner m
-    layer_written =
-        let i : Item = record { start = (item_at t.nodes next.x.tag).start; end = (item_at t.nodes next.v.tag).end; body = b } in
-        let at : Wrote t u next.x.tag i inner m =
-        subst (λ e. Wrote t u next.x.tag (record { start = (item_at t.nodes next.x.tag).start; end = (item_at t.nodes e).end; body = b }) inner
-        m) end_is
-        (subst (λ x. Wrote t u x (record { start = (item_at t.nodes x).start; end = (item_at t.nodes end).end; body = b }) inner m)
-        root_is w) in
-        subst (λ p. Writes (view h t) (view h u) next.x.tag p inner m)
-        (spanned_part h.setting h.tables (item_at t.nodes next.x.tag) (item_at t.nodes next.v.tag) next.x next.v b shape next.peeled.item
-        next.end_part next.none is)
-        (parts_written (part_of h.setting.text h.tables) t.nodes u.nodes next.x.tag i inner m at.nodes)
+    pub layer_of_one_at : (opening closing : List (Label ℕ)) → Encloses h (around opening closing) t o c inner
+        → 1 ≤ min o.count c.count
+        → LayerOfOne opening closing
+    layer_of_one_at [] closing st m = absurd (omega (arith, st.opener_are.count, m))
+    layer_of_one_at (x ∷ xs) [] st m = absurd (omega (arith, st.closer_are.count, m))
+    layer_of_one_at (x ∷ xs) (v ∷ vs) st m =
+        record {
+          next = record {
+            x = x;
+            v = v;
+            xs = xs;
+            vs = vs;
+            hi = st.hi;
+            low = st.low;
+            root_is = omega (arith, st.opener_are.from.0, st.opener_are.count);
+            end_is = omega (arith, st.closer_are.from.0);
+            none = st.opener_are.from.1;
+            opening = st.opener_are.from.2;
+            opening_count = omega (arith, st.opener_are.count);
+            closing = subst (λ n. FirstFrom n vs) (let e : suc c.number ≡ c.number + 1 = omega arith in e)
+                st.closer_are.from.2;
+            closing_count = omega (arith, st.closer_are.count);
+            peeled = peel_one h.touched (view h t) h.first x (left_texts xs before) inner inside st.hi st.cut;
+            root_touched = st.left_touched.0;
+            left_touched = st.left_touched.1;
+            end_within = st.right.1;
+            end_part = st.right.2;
+            right = st.right.4;
+            rises = st.rises.2;
+            right_touched = st.right_touched.1;
+          };
+          layers_are = λ none s d. layers_once s d x v xs vs inside none;
+        }
 
-    pub layer_kept : (s : Arena Item) → Kept h.touched s t → Kept h.touched s u
-    layer_kept s k = kept_made h.touched s t u root _ inner m k (subst (λ x. h.touched x ≡ true) (sym root_is) next.root_touched) w is.made
+    -- the layer is written
+    module _ (g : Around) (n : ℕ) (next : NextLayer h g t o c inner n) (b : ItemBody) (shape : List ℕ → Shape)
+        (is : IsLayer b shape)
+        (u : Arena Item) (root end : ℕ) (m : Option ℕ)
+        (w : Wrote t u root (record { start = (item_at t.nodes root).start; end = (item_at t.nodes end).end; body = b })
+        inner m)
+        (root_is : root ≡ next.x.tag) (end_is : end ≡ next.v.tag) where
+      pub layer_written : Writes (view h t) (view h u) next.x.tag (spanned h.setting.text shape next.x next.v).part inner
+          m
+      layer_written =
+          let i : Item = record {
+            start = (item_at t.nodes next.x.tag).start;
+            end = (item_at t.nodes next.v.tag).end;
+            body
+                = b;
+          } in
+          let at : Wrote t u next.x.tag i inner m =
+          subst (λ e. Wrote t u next.x.tag
+          (record { start = (item_at t.nodes next.x.tag).start; end = (item_at t.nodes e).end; body = b }) inner
+          m) end_is
+          (subst (λ x. Wrote t u x
+          (record { start = (item_at t.nodes x).start; end = (item_at t.nodes end).end; body = b }) inner m)
+          root_is w) in
+          subst (λ p. Writes (view h t) (view h u) next.x.tag p inner m)
+          (spanned_part h.setting h.tables (item_at t.nodes next.x.tag) (item_at t.nodes next.v.tag) next.x next.v b shape
+          next.peeled.item
+          next.end_part next.none is)
+          (parts_written (part_of h.setting.text h.tables) t.nodes u.nodes next.x.tag i inner m at.nodes)
+
+      pub layer_kept : (s : Arena Item) → Kept h.touched s t → Kept h.touched s u
+      layer_kept s k = kept_made h.touched s t u root _ inner m k
+          (subst (λ x. h.touched x ≡ true) (sym root_is) next.root_touched) w is.made
 
 -- the nodes of the next layer are those of an arena
 pub record LayersFit (t : Arena Item) (o c : Characters) (left : ℕ) (inner : Option ℕ) : Type 0 where
@@ -314,45 +355,57 @@ pub record LayersFit (t : Arena Item) (o c : Characters) (left : ℕ) (inner : O
 module _ (h : Chain) (g : Around) (s t u : Arena Item) (d : Delimiter) (o c : Characters) (left : ℕ) (inner : Option ℕ)
     (a : LayersAt h g s t d o c left inner) where
   abbrev two : 2 ≤ left → LayerOfTwo h t o c inner g.before a.inside g.after a.opening a.closing
-  two l = layer_of_two_at h t o c inner g.before a.inside g.after a.opening a.closing a.stands (omega (arith, a.left_is, l))
+  two l = layer_of_two_at h t o c inner g.before a.inside g.after a.opening a.closing a.stands
+      (omega (arith, a.left_is, l))
 
   abbrev one : 1 ≤ left → LayerOfOne h t o c inner g.before a.inside g.after a.opening a.closing
-  one l = layer_of_one_at h t o c inner g.before a.inside g.after a.opening a.closing a.stands (omega (arith, a.left_is, l))
+  one l = layer_of_one_at h t o c inner g.before a.inside g.after a.opening a.closing a.stands
+      (omega (arith, a.left_is, l))
 
   module _ (b : ItemBody) where
     abbrev LayerWritten : ℕ → Option ℕ → (root end : ℕ) → Type 0
     LayerWritten n m root end =
-        Wrote t u root (record { start = (item_at t.nodes root).start; end = (item_at t.nodes end).end; body = b }) inner m
+        Wrote t u root (record { start = (item_at t.nodes root).start; end = (item_at t.nodes end).end; body = b })
+        inner m
 
-    pub layers_more : IsLayer b (layer_of_two (marks_of h.setting.rules.options) d) → (root : ℕ) → root ≡ o.number + (o.count - 2) → 2 < left
+    pub layers_more : IsLayer b (layer_of_two (marks_of h.setting.rules.options) d) → (root : ℕ) → root
+        ≡ o.number + (o.count - 2) → 2 < left
         → LayerWritten 2 None root (c.number + 1)
-        → LayersAt h g s u d (record o { count = o.count - 2 }) (record c { number = c.number + 2; count = c.count - 2 }) (left - 2)
+        → LayersAt h g s u d (record o { count = o.count - 2 })
+        (record c { number = c.number + 2; count = c.count - 2 }) (left - 2)
         (Some root)
     layers_more is root e more w =
         let z = two (omega (arith, more)) in
         let n = z.next in
         let root_is : root ≡ n.x.tag = e ∙ sym n.root_is in
         let end_is : c.number + 1 ≡ n.v.tag = omega (arith, n.end_is) in
-        let written = layer_written h t o c inner g.before a.inside g.after _ 2 n b _ is u root (c.number + 1) None w root_is end_is in
-        let k = layer_kept h t o c inner g.before a.inside g.after _ 2 n b _ is u root (c.number + 1) None w root_is end_is s a.kept in
+        let written = layer_written h t o c inner g.before a.inside g.after _ 2 n b _ is u root (c.number + 1) None w
+        root_is end_is in
+        let k = layer_kept h t o c inner g.before a.inside g.after _ 2 n b _ is u root (c.number + 1) None w root_is
+        end_is s a.kept in
         let low : suc n.x.tag ≤ n.hi = Rises-le h.touched (suc n.x.tag) a.inside n.hi n.peeled.rises in
-        let right = Holds-write_before h.touched (view h t) (view h u) n.x.tag _ inner None written n.root_touched ((view h t).next n.v.tag)
+        let right = Holds-write_before h.touched (view h t) (view h u) n.x.tag _ inner None written n.root_touched
+        ((view h t).next n.v.tag)
         (suc n.v.tag) (texts n.vs g.after) h.bound (omega (arith, low, n.low, n.end_is)) n.rises n.right in
         let some : 0 < length n.vs = omega (arith, n.closing_count, a.left_is, more) in
         record {
           opening = n.xs;
           closing = n.vs;
-          inside = node (spanned h.setting.text (layer_of_two (marks_of h.setting.rules.options) d) n.x n.v) a.inside nil;
+          inside = node (spanned h.setting.text (layer_of_two (marks_of h.setting.rules.options) d) n.x n.v) a.inside
+              nil;
           stands = record {
             opener_are = record { from = n.opening; count = omega (arith, n.opening_count) };
             closer_are = record { from = n.closing; count = omega (arith, n.closing_count) };
             hi = n.hi;
             low = omega (arith, n.low);
             cut = subst (λ x. Cut h.touched (view h u) h.first (left_texts n.xs g.before) (Some x)
-                (node (spanned h.setting.text (layer_of_two (marks_of h.setting.rules.options) d) n.x n.v) a.inside nil) n.hi) (sym root_is)
+                (node (spanned h.setting.text (layer_of_two (marks_of h.setting.rules.options) d) n.x n.v) a.inside nil)
+                n.hi) (sym root_is)
                 (layer_inside h.touched (view h t) h.first n.x (left_texts n.xs g.before) inner a.inside n.hi (view h u)
-                (spanned h.setting.text (layer_of_two (marks_of h.setting.rules.options) d) n.x n.v).part n.peeled n.root_touched written);
-            right = subst (λ l. Holds (view h u) l (texts n.vs g.after)) (texts_link (view h u) _ (c.number + 2) n.vs g.after some n.closing
+                (spanned h.setting.text (layer_of_two (marks_of h.setting.rules.options) d) n.x n.v).part n.peeled
+                n.root_touched written);
+            right = subst (λ l. Holds (view h u) l (texts n.vs g.after))
+                (texts_link (view h u) _ (c.number + 2) n.vs g.after some n.closing
                 right) right;
             rises = subst (λ x. Rises h.touched x (texts n.vs g.after) h.bound) n.end_is n.rises;
             left_touched = n.left_touched;
@@ -366,31 +419,43 @@ module _ (h : Chain) (g : Around) (s t u : Arena Item) (d : Delimiter) (o c : Ch
         }
 
     -- the outermost layer
-    outermost : (n : ℕ) (next : NextLayer h (around h t o c inner g.before a.inside g.after a.opening a.closing) t o c inner n)
-        (shape : List ℕ → Shape) → IsLayer b shape → (root end : ℕ) (rest : Option ℕ) → root ≡ next.x.tag → end ≡ next.v.tag
+    outermost : (n : ℕ) (next : NextLayer h (around h t o c inner g.before a.inside g.after a.opening a.closing) t o c
+        inner n)
+        (shape : List ℕ → Shape) → IsLayer b shape → (root end : ℕ) (rest : Option ℕ) → root ≡ next.x.tag → end
+        ≡ next.v.tag
         → rest ≡ (view h t).next end → LayerWritten n rest root end → (made : Layers ℕ)
-        → made ≡ record { whole = node (spanned h.setting.text shape next.x next.v) a.inside nil; opening = next.xs; closing = next.vs }
+        → made ≡ record {
+          whole = node (spanned h.setting.text shape next.x next.v) a.inside nil;
+          opening = next.xs;
+          closing = next.vs;
+        }
         → IsEnclosed h g s u made root rest
     outermost n next shape is root end rest root_is end_is rest_is w made e =
-        let written = layer_written h t o c inner g.before a.inside g.after _ n next b shape is u root end rest w root_is end_is in
+        let written = layer_written h t o c inner g.before a.inside g.after _ n next b shape is u root end rest w
+        root_is end_is in
         let here : rest ≡ (view h t).next next.v.tag = rest_is ∙ ap (view h t).next end_is in
         let low : next.hi ≤ suc next.v.tag = omega (arith, next.low, next.end_is) in
         subst (λ (l : Layers ℕ). IsEnclosed h g s u l root rest) (sym e)
         (record {
           whole = spanned h.setting.text shape next.x next.v;
           inside = a.inside;
-          cut = layer_last h.touched (view h t) h.first next.x (left_texts next.xs g.before) inner a.inside next.hi (view h u)
-              (spanned h.setting.text shape next.x next.v).part next.peeled next.root_touched rest (texts next.vs g.after) (suc next.v.tag)
-              h.bound low (subst (λ l. Holds (view h t) l (texts next.vs g.after)) (sym here) next.right) next.rises written;
+          cut = layer_last h.touched (view h t) h.first next.x (left_texts next.xs g.before) inner a.inside next.hi
+              (view h u)
+              (spanned h.setting.text shape next.x next.v).part next.peeled next.root_touched rest
+              (texts next.vs g.after) (suc next.v.tag)
+              h.bound low (subst (λ l. Holds (view h t) l (texts next.vs g.after)) (sym here) next.right) next.rises
+              written;
           whole_is = refl;
           last = sym root_is;
           left_touched = (next.root_touched, next.left_touched);
           right_touched = next.right_touched;
-          kept = layer_kept h t o c inner g.before a.inside g.after _ n next b shape is u root end rest w root_is end_is s a.kept;
+          kept = layer_kept h t o c inner g.before a.inside g.after _ n next b shape is u root end rest w root_is end_is
+              s a.kept;
         })
 
     pub layers_two : IsLayer b (layer_of_two (marks_of h.setting.rules.options) d) → (root end : ℕ) (rest : Option ℕ)
-        → root ≡ o.number + (o.count - 2) → end ≡ c.number + 1 → left ≡ 2 → rest ≡ (view h t).next end → LayerWritten 2 rest root end
+        → root ≡ o.number + (o.count - 2) → end ≡ c.number + 1 → left ≡ 2 → rest ≡ (view h t).next end
+        → LayerWritten 2 rest root end
         → IsEnclosed h g s u (layers h.setting d g.opening g.closing g.inside) root rest
     layers_two is root end rest e f l r w =
         let z = two (omega (arith, l)) in
@@ -400,7 +465,8 @@ module _ (h : Chain) (g : Around) (s t u : Arena Item) (d : Delimiter) (o c : Ch
         ∙ layers_end h.setting d n.xs n.vs _ (omega (arith, l, a.left_is, n.opening_count, n.closing_count)))
 
     pub layers_one : IsLayer b (layer_of_one (marks_of h.setting.rules.options) d) → (root : ℕ) (rest : Option ℕ)
-        → root ≡ o.number + (o.count - 1) → left ≡ 1 → rest ≡ (view h t).next c.number → LayerWritten 1 rest root c.number
+        → root ≡ o.number + (o.count - 1) → left ≡ 1 → rest ≡ (view h t).next c.number
+        → LayerWritten 1 rest root c.number
         → IsEnclosed h g s u (layers h.setting d g.opening g.closing g.inside) root rest
     layers_one is root rest e l r w =
         let z = one (omega (arith, l)) in

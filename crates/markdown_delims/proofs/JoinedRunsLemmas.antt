@@ -1,7 +1,8 @@
 -- In a chain in which the tag of each character is its run, each tree that is made from a run is a character of it, or
 -- joins it to a run with which it may pair: this holds for all that is read, since the characters of a closer belong to
 -- one run, and so do those of an open run.
-use Rattle.std.proofs.Common.{◌≡◌, inl, inr, ℕ, zero, suc, ◌-◌, Bool, true, false, List, [], ◌∷◌, map, Option, Some, None, refl, ap, sym}
+use Rattle.std.proofs.Common.{◌≡◌, inl, inr, ℕ, zero, suc, ◌-◌, Bool, true, false, List, [], ◌∷◌, map, Option, Some}
+use Rattle.std.proofs.Common.{None, refl, ap, sym}
 use Rattle.std.proofs.Common.{subst, ◌∙◌, arith}
 use Rattle.std.specs.Prelude.{⊤, IfSome, not, ◌&&◌}
 use Rattle.std.specs.List.{AllByRecursion}
@@ -16,8 +17,10 @@ use Rattle.markdown_delims.specs.declared.run.Run.{Run}
 use Rattle.markdown_delims.specs.JoinedRuns.{HasCharacter, IsMadeOfRun, JoinedLaw, JoinsRuns}
 use Rattle.markdown_delims.specs.Layers.{marks_of, layer_of_one, layer_of_two, run_of, spanned}
 use Rattle.markdown_delims.specs.MayPair.{may_pair}
-use Rattle.markdown_delims.specs.Pairing.{Read, done_read, waiting, texts_before, characters_done, read_trees, FoundOpener, nearest_opener, drop_read}
-use Rattle.markdown_delims.specs.Pairing.{Layers, layers, trees_done, still_waiting, last_first, opened_if, left_over, after_layers}
+use Rattle.markdown_delims.specs.Pairing.{Read, done_read, waiting, texts_before, characters_done, read_trees}
+use Rattle.markdown_delims.specs.Pairing.{FoundOpener, nearest_opener, drop_read}
+use Rattle.markdown_delims.specs.Pairing.{Layers, layers, trees_done, still_waiting, last_first, opened_if, left_over}
+use Rattle.markdown_delims.specs.Pairing.{after_layers}
 use Rattle.markdown_delims.specs.Pairing.{first_texts, reads_from, runs_paired, paired}
 use Rattle.markdown_delims.specs.PairingLaws.{RunAt, further, no_run, run_at, with_runs}
 use Rattle.markdown_delims.specs.Quotes.{first_turn, quotes_after, with_quotes}
@@ -32,7 +35,8 @@ abbrev Character : Type 0
 Character = Label MaybeRun
 
 -- what holds of the range of a character, where another thing did
-has_other : (p : RunAt) (holds other : Range ℕ → Type 0) → ((r : Range ℕ) → holds r → other r) → (chain : Forest Character)
+has_other : (p : RunAt) (holds other : Range ℕ → Type 0) → ((r : Range ℕ) → holds r → other r)
+    → (chain : Forest Character)
     → HasCharacter p holds chain → HasCharacter p other chain
 has_other p holds other i nil h = absurd h
 has_other p holds other i (node a below after) (inl h) = inl (h.0, i a.part.range h.1)
@@ -46,7 +50,8 @@ Follows (suc more) before source (node a below after) = (a.tag ≡ before) × Fo
 Follows zero before source (node a below after) =
     (a.tag ≡ run_at a.part.range.start (run_of source a.part)) × Follows (further a.tag) a.tag source after
 
-fresh : (before : MaybeRun) (source : List ℕ) (chain : Forest Character) → Follows 0 before source chain → Follows 0 None source chain
+fresh : (before : MaybeRun) (source : List ℕ) (chain : Forest Character) → Follows 0 before source chain
+    → Follows 0 None source chain
 fresh before source nil h = tt
 fresh before source (node a below after) h = h
 
@@ -83,7 +88,8 @@ module _ (whole : Forest Character) where
   stays_text : (p : RunAt) (x : Character) → IsOf p x → IsTree x nil
   stays_text p x h = (subst (λ t. IsMadeOfRun whole t x.part.range nil) (sym h.0) (inl (refl, h.1)), tt)
 
-  texts_join : (p : RunAt) (xs : List Character) (chain : Forest Character) → AllByRecursion (IsOf p) xs → JoinsRuns whole chain
+  texts_join : (p : RunAt) (xs : List Character) (chain : Forest Character) → AllByRecursion (IsOf p) xs
+      → JoinsRuns whole chain
       → JoinsRuns whole (texts_before xs chain)
   texts_join p [] chain a h = h
   texts_join p (x ∷ xs) chain a h = texts_join p xs (node x nil chain) a.1 ((stays_text p x a.0).0, tt, h)
@@ -92,7 +98,8 @@ module _ (whole : Forest Character) where
       → JoinsRuns whole (read_trees rs chain)
   trees_join [] chain r h = h
   trees_join (done_read a below ∷ rs) chain r h = trees_join rs (node a below chain) r.1 (r.0.0, r.0.1, h)
-  trees_join (waiting dropped run xs ∷ rs) chain r h = trees_join rs (texts_before xs chain) r.2 (texts_join r.1.at xs chain r.1.all h)
+  trees_join (waiting dropped run xs ∷ rs) chain r h = trees_join rs (texts_before xs chain) r.2
+      (texts_join r.1.at xs chain r.1.all h)
 
   done_join : (p : RunAt) (xs : List Character) (rs : List (Read MaybeRun)) → AllByRecursion (IsOf p) xs → AllRead rs
       → AllRead (characters_done xs rs)
@@ -104,7 +111,8 @@ module _ (whole : Forest Character) where
   turned_of p [] ys a b = b
   turned_of p (x ∷ xs) ys a b = turned_of p xs (x ∷ ys) a.1 (a.0, b)
 
-  opened_join : (b : Bool) (run : Run) (xs : List Character) (rs : List (Read MaybeRun)) → run.can_open ≡ b → AreOf run xs → AllRead rs
+  opened_join : (b : Bool) (run : Run) (xs : List Character) (rs : List (Read MaybeRun)) → run.can_open ≡ b
+      → AreOf run xs → AllRead rs
       → AllRead (opened_if b run xs rs)
   opened_join true run xs rs e a r = (e, a, r)
   opened_join false run xs rs e a r = done_join a.at xs rs a.all r
@@ -120,12 +128,14 @@ module _ (whole : Forest Character) where
   dropped_join d (done_read a below ∷ rs) r = (r.0, dropped_join d rs r.1)
   dropped_join d (waiting dropped run xs ∷ rs) r = (r.0, r.1, dropped_join d rs r.2)
 
-  still_join : (run : Run) (xs : List Character) (rs : List (Read MaybeRun)) → run.can_open ≡ true → AreOf run xs → AllRead rs
+  still_join : (run : Run) (xs : List Character) (rs : List (Read MaybeRun)) → run.can_open ≡ true → AreOf run xs
+      → AllRead rs
       → AllRead (still_waiting run xs rs)
   still_join run [] rs o a r = r
   still_join run (x ∷ xs) rs o a r = (o, a, r)
 
-  trees_read : (f : Forest Character) (rs : List (Read MaybeRun)) → JoinsRuns whole f → AllRead rs → AllRead (trees_done f rs)
+  trees_read : (f : Forest Character) (rs : List (Read MaybeRun)) → JoinsRuns whole f → AllRead rs
+      → AllRead (trees_done f rs)
   trees_read nil rs h r = r
   trees_read (node a below after) rs h r = trees_read after (done_read a below ∷ rs) h.2 ((h.0, h.1), r)
 
@@ -133,12 +143,15 @@ module _ (whole : Forest Character) where
   abbrev FoundJoins : FoundOpener MaybeRun → Type 0
   FoundJoins f = (f.run.can_open ≡ true) × AreOf f.run f.characters × AllRead f.before × JoinsRuns whole f.inside
 
-  nearest_found : (closer : Run) (rs : List (Read MaybeRun)) (inside : Forest Character) → AllRead rs → JoinsRuns whole inside
+  nearest_found : (closer : Run) (rs : List (Read MaybeRun)) (inside : Forest Character) → AllRead rs
+      → JoinsRuns whole inside
       → IfSome (nearest_opener closer rs inside) FoundJoins
   nearest_found closer [] inside r h = tt
-  nearest_found closer (done_read a below ∷ rs) inside r h = nearest_found closer rs (node a below inside) r.1 (r.0.0, r.0.1, h)
+  nearest_found closer (done_read a below ∷ rs) inside r h = nearest_found closer rs (node a below inside) r.1
+      (r.0.0, r.0.1, h)
   nearest_found closer (waiting dropped run xs ∷ rs) inside r h =
-      found-if FoundJoins (not dropped && may_pair run closer) (record { inside = inside; run = run; characters = xs; before = rs })
+      found-if FoundJoins (not dropped && may_pair run closer)
+      (record { inside = inside; run = run; characters = xs; before = rs })
       (nearest_opener closer rs (texts_before xs inside)) (r.0, r.1, r.2, h)
       (nearest_found closer rs (texts_before xs inside) r.2 (texts_join r.1.at xs inside r.1.all h))
 
@@ -156,9 +169,11 @@ module _ (whole : Forest Character) where
         let range : Range ℕ = (spanned s.text shape x v).part.range in
         subst (λ t. IsMadeOfRun whole t range inside) (sym h.0) (inr (record {
           closer = q;
-          begins = has_other p (λ own. own ≡ x.part.range) (λ own. own.start ≡ range.start) (λ r e. ap (λ (r : Range ℕ). r.start) e) whole
+          begins = has_other p (λ own. own ≡ x.part.range) (λ own. own.start ≡ range.start)
+              (λ r e. ap (λ (r : Range ℕ). r.start) e) whole
               h.1;
-          ends = has_other q (λ own. own ≡ v.part.range) (λ own. own.end ≡ range.end) (λ r e. ap (λ (r : Range ℕ). r.end) e) whole k.1;
+          ends = has_other q (λ own. own ≡ v.part.range) (λ own. own.end ≡ range.end)
+              (λ r e. ap (λ (r : Range ℕ). r.end) e) whole k.1;
           can_open = m.can_open;
           can_close = m.can_close;
           may = m.may;
@@ -185,7 +200,8 @@ module _ (whole : Forest Character) where
     abbrev HoldsOf : List Character → List (Read MaybeRun) → Forest Character → Type 0
     HoldsOf vs rs rest = AllRead rs × Follows 0 None s.text rest × AreThere rest
 
-    pair_joins : (closer : Run) (vs : List Character) (rest : Forest Character) (f : FoundOpener MaybeRun) → closer.can_close ≡ true
+    pair_joins : (closer : Run) (vs : List Character) (rest : Forest Character) (f : FoundOpener MaybeRun)
+        → closer.can_close ≡ true
         → AreOf closer vs → Follows 0 None s.text rest × AreThere rest → may_pair f.run closer ≡ true → FoundJoins f
         → AreOf closer (layers s f.run.delimiter f.characters vs f.inside).closing
         × HoldsOf (layers s f.run.delimiter f.characters vs f.inside).closing
@@ -211,7 +227,8 @@ module _ (whole : Forest Character) where
 
     -- the characters of a run that follow its first
     firsts_of : (n : ℕ) (p : RunAt) (chain : Forest Character) → Follows n (Some p) s.text chain → AreThere chain
-        → AllByRecursion (IsOf p) (first_texts s.text n chain) × Follows 0 None s.text (later n chain) × AreThere (later n chain)
+        → AllByRecursion (IsOf p) (first_texts s.text n chain) × Follows 0 None s.text (later n chain)
+        × AreThere (later n chain)
     firsts_of zero p chain f h = (tt, fresh (Some p) s.text chain f, h)
     firsts_of (suc n) p nil f h = (tt, tt, tt)
     firsts_of (suc n) p (node a below after) f h =
@@ -219,7 +236,8 @@ module _ (whole : Forest Character) where
 
     of_length : (n : ℕ) (p : RunAt) (a : Character) (below after : Forest Character) → a.tag ≡ Some p
         → Follows (n - 1) (Some p) s.text after → AreThere (node a below after)
-        → AllByRecursion (IsOf p) (first_texts s.text n (node a below after)) × Follows 0 None s.text (later (n - 1) after)
+        → AllByRecursion (IsOf p) (first_texts s.text n (node a below after))
+        × Follows 0 None s.text (later (n - 1) after)
         × AreThere (later (n - 1) after)
     of_length zero p a below after e f h = firsts_of 0 p after f h.2
     of_length (suc n) p a below after e f h =
@@ -230,14 +248,16 @@ module _ (whole : Forest Character) where
           subst (λ k. AreThere (later k after)) (sym one) k.2,
         )
 
-    run_holds : (run : Run) (a : Character) (below after : Forest Character) (rs : List (Read MaybeRun)) → run_of s.text a.part ≡ Some run
+    run_holds : (run : Run) (a : Character) (below after : Forest Character) (rs : List (Read MaybeRun))
+        → run_of s.text a.part ≡ Some run
         → HoldsOf [] rs (node a below after)
         → AreOf run (first_texts s.text run.length (node a below after))
         × HoldsOf (first_texts s.text run.length (node a below after)) rs (later (run.length - 1) after)
     run_holds run a below after rs e h =
         let p : RunAt = record { start = a.part.range.start; run = run } in
         let tag : a.tag ≡ Some p = h.1.0 ∙ ap (run_at a.part.range.start) e in
-        let k = of_length run.length p a below after tag (subst (λ t. Follows (further t) t s.text after) tag h.1.1) h.2 in
+        let k = of_length run.length p a below after tag (subst (λ t. Follows (further t) t s.text after) tag h.1.1) h.2
+        in
         (record { at = p; same = refl; all = k.0 }, (h.0, k.1, k.2))
 
     closed_tree : (b : Bool) (a : Character) (below : Forest Character) → a.tag ≡ None → JoinsRuns whole below
@@ -245,7 +265,8 @@ module _ (whole : Forest Character) where
     closed_tree true a below e h = (subst (λ t. IsMadeOfRun whole t a.part.range below) (sym e) tt, h)
     closed_tree false a below e h = (subst (λ t. IsMadeOfRun whole t a.part.range below) (sym e) tt, h)
 
-    tree_holds : (a : Character) (below after : Forest Character) (rs : List (Read MaybeRun)) → run_of s.text a.part ≡ None
+    tree_holds : (a : Character) (below after : Forest Character) (rs : List (Read MaybeRun)) → run_of s.text a.part
+        ≡ None
         → HoldsOf [] rs (node a below after) → HoldsOf [] (done_read (as_closed s.text a) below ∷ rs) after
     tree_holds a below after rs e h =
         let tag : a.tag ≡ None = h.1.0 ∙ ap (run_at a.part.range.start) e in (
@@ -265,7 +286,8 @@ module _ (whole : Forest Character) where
           (nearest_found closer rs nil h.0 tt));
     }
       where
-        pairs : (o : Option (FoundOpener MaybeRun)) (closer : Run) (vs : List Character) (rest : Forest Character) → closer.can_close ≡ true
+        pairs : (o : Option (FoundOpener MaybeRun)) (closer : Run) (vs : List Character) (rest : Forest Character)
+            → closer.can_close ≡ true
             → AreOf closer vs → Follows 0 None s.text rest × AreThere rest
             → IfSome o (λ f. (may_pair f.run closer ≡ true) × FoundJoins f)
             → IfSome o (λ f. AreOf closer (layers s f.run.delimiter f.characters vs f.inside).closing
@@ -275,12 +297,18 @@ module _ (whole : Forest Character) where
         pairs (Some f) closer vs rest c a follows h = pair_joins closer vs rest f c a follows h.0 h.1
 
     -- quotes leave characters where they are
-    quotes_there : (single double : Bool) (chain : Forest Character) → AreThere chain → AreThere (quotes_after single double chain)
+    quotes_there : (single double : Bool) (chain : Forest Character) → AreThere chain
+        → AreThere (quotes_after single double chain)
     quotes_there single double nil h = tt
-    quotes_there single double (node a below after) h =
-        (h.0, h.1, quotes_there (first_turn a after single double).single (first_turn a after single double).double after h.2)
+    quotes_there single double (node a below after) h = (
+      h.0,
+      h.1,
+      quotes_there (first_turn a after single double).single (first_turn a after single double).double
+          after h.2,
+    )
 
-    reads_join : (chain : Forest Character) → Follows 0 None s.text chain → AreThere chain → JoinsRuns whole (runs_paired s chain)
+    reads_join : (chain : Forest Character) → Follows 0 None s.text chain → AreThere chain
+        → JoinsRuns whole (runs_paired s chain)
     unfolding runs_paired
     reads_join chain f h =
         trees_join (reads_from s 0 chain []) nil (reads-stay-of s AreOf HoldsOf join_on 0 chain [] (tt, f, h)).0 tt
@@ -292,15 +320,18 @@ none_below whole (node a below after) = (tt, none_below whole below, none_below 
 
 -- the characters of a chain occur in another
 abbrev Stands : (whole part : Forest Character) → Type 0
-Stands whole part = (p : RunAt) (r : Range ℕ) → HasCharacter p (λ own. own ≡ r) part → HasCharacter p (λ own. own ≡ r) whole
+Stands whole part = (p : RunAt) (r : Range ℕ) → HasCharacter p (λ own. own ≡ r) part
+    → HasCharacter p (λ own. own ≡ r) whole
 
 module _ {A : Type 0} (s : Setting) where
   -- each character has its run as its tag, and occurs in its own chain
-  runs_follow : (more : ℕ) (before : MaybeRun) (chain : Forest (Label A)) → Follows more before s.text (with_runs s more before chain)
+  runs_follow : (more : ℕ) (before : MaybeRun) (chain : Forest (Label A))
+      → Follows more before s.text (with_runs s more before chain)
   runs_follow more before nil = tt
   runs_follow (suc more) before (node a below after) = (refl, runs_follow more before after)
   runs_follow zero before (node a below after) =
-      let here : MaybeRun = run_at a.part.range.start (run_of s.text a.part) in (refl, runs_follow (further here) here after)
+      let here : MaybeRun = run_at a.part.range.start (run_of s.text a.part) in
+      (refl, runs_follow (further here) here after)
 
   runs_there : (whole : Forest Character) (more : ℕ) (before : MaybeRun) (chain : Forest (Label A))
       → Stands whole (with_runs s more before chain) → AreThere whole (with_runs s more before chain)
@@ -322,5 +353,6 @@ unfolding paired with_quotes
 joined-law {A} s chain =
     let told : Forest Character = with_runs s 0 None chain in
     reads_join told s (quotes_after false false told)
-    (subst (Follows 0 None s.text) (sym (quotes_told s 0 None chain false false)) (runs_follow s 0 None (quotes_after false false chain)))
+    (subst (Follows 0 None s.text) (sym (quotes_told s 0 None chain false false))
+    (runs_follow s 0 None (quotes_after false false chain)))
     (quotes_there told s false false told (runs_there s told 0 None chain (λ p r k. k)))

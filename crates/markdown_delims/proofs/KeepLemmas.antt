@@ -12,8 +12,10 @@ use Rattle.markdown_delims.specs.declared.run.Delimiter.{Delimiter}
 use Rattle.markdown_delims.specs.declared.run.Run.{Run}
 use Rattle.markdown_delims.specs.Layers.{marks_of, layer_of_one, layer_of_two, spanned}
 use Rattle.markdown_delims.specs.MayPair.{may_pair}
-use Rattle.markdown_delims.specs.Pairing.{Read, done_read, waiting, texts_before, characters_done, read_trees, FoundOpener, nearest_opener, drop_read}
-use Rattle.markdown_delims.specs.Pairing.{Layers, layers, trees_done, still_waiting, last_first, opened_if, after_layers}
+use Rattle.markdown_delims.specs.Pairing.{Read, done_read, waiting, texts_before, characters_done, read_trees}
+use Rattle.markdown_delims.specs.Pairing.{FoundOpener, nearest_opener, drop_read}
+use Rattle.markdown_delims.specs.Pairing.{Layers, layers, trees_done, still_waiting, last_first, opened_if}
+use Rattle.markdown_delims.specs.Pairing.{after_layers}
 use Rattle.markdown_delims.specs.Pairing.{first_texts, reads_from, runs_paired, paired}
 use Rattle.markdown_delims.specs.Quotes.{with_quotes}
 use Rattle.markdown_delims.proofs.LayerLawLemmas.{one-closed, two-closed}
@@ -25,7 +27,8 @@ EachTree t nil = ⊤
 EachTree t (node a below after) = t a below × EachTree t after
 
 -- t holds of each tree that is made where c holds of the characters and t of the trees
-pub record MakesTrees {A : Type 0} (s : Setting) (c : Label A → Type 0) (t : Label A → Forest (Label A) → Type 0) : Type 0 where
+pub record MakesTrees {A : Type 0} (s : Setting) (c : Label A → Type 0) (t : Label A → Forest (Label A) → Type 0) : Type
+    0 where
   pub text : (x : Label A) → c x → t x nil
   pub one : (d : Delimiter) (x v : Label A) (inside : Forest (Label A)) → c x → EachTree t inside
       → t (spanned s.text (layer_of_one (marks_of s.rules.options) d) x v) inside
@@ -55,21 +58,27 @@ module _ {A : Type 0} (c : Label A → Type 0) (t : Label A → Forest (Label A)
     texts_keep [] chain h k = k
     texts_keep (x ∷ xs) chain h k = texts_keep xs (node x nil chain) h.1 (makes.text x h.0, k)
 
-    trees_keep : (rs : List (Read A)) (after : Forest (Label A)) → EachRead rs → EachTree t after → EachTree t (read_trees rs after)
+    trees_keep : (rs : List (Read A)) (after : Forest (Label A)) → EachRead rs → EachTree t after
+        → EachTree t (read_trees rs after)
     trees_keep [] after h k = k
     trees_keep (done_read a below ∷ rs) after h k = trees_keep rs (node a below after) h.1 (h.0, k)
-    trees_keep (waiting dropped run xs ∷ rs) after h k = trees_keep rs (texts_before xs after) h.1 (texts_keep xs after h.0 k)
+    trees_keep (waiting dropped run xs ∷ rs) after h k = trees_keep rs (texts_before xs after) h.1
+        (texts_keep xs after h.0 k)
 
-    done_keeps : (xs : List (Label A)) (rs : List (Read A)) → AllByRecursion c xs → EachRead rs → EachRead (characters_done xs rs)
+    done_keeps : (xs : List (Label A)) (rs : List (Read A)) → AllByRecursion c xs → EachRead rs
+        → EachRead (characters_done xs rs)
     done_keeps [] rs h k = k
     done_keeps (x ∷ xs) rs h k = (makes.text x h.0, done_keeps xs rs h.1 k)
 
-    pub nearest-keeps : (closer : Run) (rs : List (Read A)) (inside : Forest (Label A)) → EachRead rs → EachTree t inside
+    pub nearest-keeps : (closer : Run) (rs : List (Read A)) (inside : Forest (Label A)) → EachRead rs
+        → EachTree t inside
         → IfSome (nearest_opener closer rs inside) EachFound
     nearest-keeps closer [] inside h k = tt
-    nearest-keeps closer (done_read a below ∷ rs) inside h k = nearest-keeps closer rs (node a below inside) h.1 (h.0, k)
+    nearest-keeps closer (done_read a below ∷ rs) inside h k = nearest-keeps closer rs (node a below inside) h.1
+        (h.0, k)
     nearest-keeps closer (waiting dropped run xs ∷ rs) inside h k =
-        found-if EachFound (not dropped && may_pair run closer) (record { inside = inside; run = run; characters = xs; before = rs })
+        found-if EachFound (not dropped && may_pair run closer)
+        (record { inside = inside; run = run; characters = xs; before = rs })
         (nearest_opener closer rs (texts_before xs inside)) (k, h.0, h.1)
         (nearest-keeps closer rs (texts_before xs inside) h.1 (texts_keep xs inside h.0 k))
 
@@ -78,17 +87,20 @@ module _ {A : Type 0} (c : Label A → Type 0) (t : Label A → Forest (Label A)
     dropped_keep d (done_read a below ∷ rs) h = (h.0, dropped_keep d rs h.1)
     dropped_keep d (waiting dropped run xs ∷ rs) h = (h.0, dropped_keep d rs h.1)
 
-    layers_keep : (d : Delimiter) (xs vs : List (Label A)) (inside : Forest (Label A)) → AllByRecursion c xs → AllByRecursion c vs
+    layers_keep : (d : Delimiter) (xs vs : List (Label A)) (inside : Forest (Label A)) → AllByRecursion c xs
+        → AllByRecursion c vs
         → EachTree t inside → EachLayer (layers s d xs vs inside)
     layers_keep d [] vs inside h k i = (i, tt, k)
     layers_keep d (x ∷ xs) [] inside h k i = (i, h, tt)
     layers_keep d (x ∷ []) (v ∷ vs) inside h k i = ((makes.one d x v inside h.0 i, tt), tt, k.1)
     layers_keep d (x ∷ y ∷ xs) (v ∷ []) inside h k i = ((makes.one d x v inside h.0 i, tt), h.1, tt)
     layers_keep d (x ∷ y ∷ xs) (v ∷ w ∷ vs) inside h k i =
-        layers_keep d xs vs (node (spanned s.text (layer_of_two (marks_of s.rules.options) d) y w) inside nil) h.1.1 k.1.1
+        layers_keep d xs vs (node (spanned s.text (layer_of_two (marks_of s.rules.options) d) y w) inside nil) h.1.1
+        k.1.1
         (makes.two d y w inside h.1.0 i, tt)
 
-    done_trees_keep : (f : Forest (Label A)) (rs : List (Read A)) → EachTree t f → EachRead rs → EachRead (trees_done f rs)
+    done_trees_keep : (f : Forest (Label A)) (rs : List (Read A)) → EachTree t f → EachRead rs
+        → EachRead (trees_done f rs)
     done_trees_keep nil rs h k = k
     done_trees_keep (node a below after) rs h k = done_trees_keep after (done_read a below ∷ rs) h.1 (h.0, k)
 
@@ -97,7 +109,8 @@ module _ {A : Type 0} (c : Label A → Type 0) (t : Label A → Forest (Label A)
     still_keeps run [] rs h k = k
     still_keeps run (x ∷ xs) rs h k = (h, k)
 
-    turned_keep : (xs ys : List (Label A)) → AllByRecursion c xs → AllByRecursion c ys → AllByRecursion c (last_first xs ys)
+    turned_keep : (xs ys : List (Label A)) → AllByRecursion c xs → AllByRecursion c ys
+        → AllByRecursion c (last_first xs ys)
     turned_keep [] ys h k = k
     turned_keep (x ∷ xs) ys h k = turned_keep xs (x ∷ ys) h.1 (h.0, k)
 
@@ -106,7 +119,8 @@ module _ {A : Type 0} (c : Label A → Type 0) (t : Label A → Forest (Label A)
     opened_keeps true run xs rs h k = (h, k)
     opened_keeps false run xs rs h k = done_keeps xs rs h k
 
-    pub firsts-keep : (n : ℕ) (chain : Forest (Label A)) → EachTree (IsReadable s) chain → AllByRecursion c (first_texts s.text n chain)
+    pub firsts-keep : (n : ℕ) (chain : Forest (Label A)) → EachTree (IsReadable s) chain
+        → AllByRecursion c (first_texts s.text n chain)
         × EachTree (IsReadable s) (later n chain)
     firsts-keep zero chain h = (tt, h)
     firsts-keep (suc n) nil h = (tt, tt)
@@ -124,7 +138,8 @@ module _ {A : Type 0} (c : Label A → Type 0) (t : Label A → Forest (Label A)
         let made : Layers A = layers s f.run.delimiter f.characters vs f.inside in
         let l = layers_keep f.run.delimiter f.characters vs f.inside g.1 h g.0 in (
           l.2,
-          done_trees_keep made.whole (still_waiting f.run made.opening f.before) l.0 (still_keeps f.run made.opening f.before l.1 g.2),
+          done_trees_keep made.whole (still_waiting f.run made.opening f.before) l.0
+              (still_keeps f.run made.opening f.before l.1 g.2),
           k,
         )
 
@@ -145,7 +160,8 @@ module _ {A : Type 0} (c : Label A → Type 0) (t : Label A → Forest (Label A)
 
     pub runs-keep : (chain : Forest (Label A)) → EachTree (IsReadable s) chain → EachTree t (runs_paired s chain)
     unfolding runs_paired
-    runs-keep chain h = trees_keep (reads_from s 0 chain []) nil (reads-stay s Holds holds-on 0 chain [] (tt, tt, h)).1 tt
+    runs-keep chain h = trees_keep (reads_from s 0 chain []) nil (reads-stay s Holds holds-on 0 chain [] (tt, tt, h)).1
+        tt
 
 -- a label is not open; nor is that of a tree
 abbrev pub IsClosed : {A : Type 0} → Label A → Type 0
@@ -154,7 +170,8 @@ IsClosed a = is_unresolved a.part.shape ≡ false
 abbrev pub IsClosedTree : {A : Type 0} → Label A → Forest (Label A) → Type 0
 IsClosedTree a below = IsClosed a
 
-closed_text : {A : Type 0} (source : List ℕ) (b : Bool) (a : Label A) → is_unresolved a.part.shape ≡ b → IsClosed (text_if b source a)
+closed_text : {A : Type 0} (source : List ℕ) (b : Bool) (a : Label A) → is_unresolved a.part.shape ≡ b
+    → IsClosed (text_if b source a)
 closed_text source true a e = refl
 closed_text source false a e = e
 
@@ -162,18 +179,22 @@ pub as_closed-closed : {A : Type 0} (source : List ℕ) (a : Label A) → IsClos
 as_closed-closed source a = closed_text source (is_unresolved a.part.shape) a refl
 
 -- it becomes so, whatever it was
-pub readable : {A : Type 0} (s : Setting) (chain : Forest (Label A)) → EachTree (IsReadable IsClosed IsClosedTree s) chain
+pub readable : {A : Type 0} (s : Setting) (chain : Forest (Label A)) → EachTree (IsReadable IsClosed IsClosedTree s)
+    chain
 readable s nil = tt
 readable s (node a below after) = ((refl, as_closed-closed s.text a), readable s after)
 
 pub makes-closed : {A : Type 0} (s : Setting) → MakesTrees {A = A} s IsClosed IsClosedTree
 makes-closed s = record {
   text = λ x h. h;
-  one = λ d x v inside h i. one-closed (marks_of s.rules.options) d (slice_range s.text x.part.range.start v.part.range.end);
-  two = λ d x v inside h i. two-closed (marks_of s.rules.options) d (slice_range s.text x.part.range.start v.part.range.end);
+  one = λ d x v inside h i. one-closed (marks_of s.rules.options) d
+      (slice_range s.text x.part.range.start v.part.range.end);
+  two = λ d x v inside h i. two-closed (marks_of s.rules.options) d
+      (slice_range s.text x.part.range.start v.part.range.end);
 }
 
 -- nothing of the chain stays open
 pub paired-closed : {A : Type 0} (s : Setting) (chain : Forest (Label A)) → EachTree IsClosedTree (paired s chain)
 unfolding paired
-paired-closed s chain = runs-keep IsClosed IsClosedTree s (makes-closed s) (with_quotes chain) (readable s (with_quotes chain))
+paired-closed s chain = runs-keep IsClosed IsClosedTree s (makes-closed s) (with_quotes chain)
+    (readable s (with_quotes chain))

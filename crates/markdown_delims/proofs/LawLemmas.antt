@@ -8,13 +8,16 @@ use Rattle.markdown_document.specs.Setting.{Setting}
 use Rattle.markdown_document.specs.Waiting.{text_if, as_closed}
 use Rattle.markdown_delims.specs.declared.run.Run.{Run}
 use Rattle.markdown_delims.specs.MayPair.{may_pair}
-use Rattle.markdown_delims.specs.Pairing.{Read, done_read, waiting, texts_before, FoundOpener, found_if, nearest_opener, paired, NothingOpen}
+use Rattle.markdown_delims.specs.Pairing.{Read, done_read, waiting, texts_before, FoundOpener, found_if, nearest_opener}
+use Rattle.markdown_delims.specs.Pairing.{paired, NothingOpen}
 use Rattle.markdown_delims.specs.PairingFinds.{finds_in}
 use Rattle.markdown_delims.specs.Layers.{marks_of}
-use Rattle.markdown_delims.specs.PairingLaws.{below_trees, NonePairs, PairingClosedLaw, PairingOrderLaw, JoinsLaw, MissesNoneLaw, KeepsLaw}
+use Rattle.markdown_delims.specs.PairingLaws.{below_trees, NonePairs, PairingClosedLaw, PairingOrderLaw, JoinsLaw}
+use Rattle.markdown_delims.specs.PairingLaws.{MissesNoneLaw, KeepsLaw}
 use Rattle.markdown_delims.specs.PairingLaws.{PairingTagLaw}
 use Rattle.markdown_delims.specs.Quotes.{first_turn, quotes_after, with_quotes}
-use Rattle.markdown_delims.proofs.KeepLemmas.{EachTree, MakesTrees, IsReadable, runs-keep, IsClosedTree, as_closed-closed, paired-closed}
+use Rattle.markdown_delims.proofs.KeepLemmas.{EachTree, MakesTrees, IsReadable, runs-keep, IsClosedTree}
+use Rattle.markdown_delims.proofs.KeepLemmas.{as_closed-closed, paired-closed}
 use Rattle.markdown_delims.proofs.LayerLawLemmas.{one-closed, two-closed}
 use Rattle.markdown_delims.proofs.OrderLemmas.{deep, paired-deep, finds-deep}
 
@@ -33,7 +36,8 @@ below_same change (node a below after) = ap (node a (change below)) (below_same 
 
 pub order-law : {A : Type 0} → PairingOrderLaw A
 order-law s change none stays chain =
-    ap (paired s) (sym (below_same change chain)) ∙ paired-deep (λ x. x) change s none (λ f h. stays f (closed_nothing f h)
+    ap (paired s) (sym (below_same change chain))
+    ∙ paired-deep (λ x. x) change s none (λ f h. stays f (closed_nothing f h)
     ∙ sym (below_same change f)) chain ∙ below_same change (paired s chain)
 
 -- other tags, and no other change
@@ -42,12 +46,15 @@ tags_same f nil = refl
 tags_same f (node a below after) = ap (node (retag f a) (retagged f below)) (tags_same f after)
 
 pub tag-law : {A B : Type 0} → PairingTagLaw A B
-tag-law f s chain = ap (paired s) (sym (tags_same f chain)) ∙ paired-deep f (retagged f) s refl (λ g h. sym (tags_same f g)) chain
+tag-law f s chain = ap (paired s) (sym (tags_same f chain))
+    ∙ paired-deep f (retagged f) s refl (λ g h. sym (tags_same f g)) chain
     ∙ tags_same f (paired s chain)
 
 -- nor do searches depend on them
-pub tag-finds : {A B : Type 0} (f : A → B) (s : Setting) (chain : Forest (Label A)) → finds_in s (retagged f chain) ≡ finds_in s chain
-tag-finds f s chain = ap (finds_in s) (sym (tags_same f chain)) ∙ finds-deep f (retagged f) s refl (λ g h. sym (tags_same f g)) chain
+pub tag-finds : {A B : Type 0} (f : A → B) (s : Setting) (chain : Forest (Label A)) → finds_in s (retagged f chain)
+    ≡ finds_in s chain
+tag-finds f s chain = ap (finds_in s) (sym (tags_same f chain))
+    ∙ finds-deep f (retagged f) s refl (λ g h. sym (tags_same f g)) chain
 
 -- what holds for each label at every depth, and for a label that is not open if it held for one with the same block
 module _ {A : Type 0} (p : Label A → Type 0) (stays : (a b : Label A) → p a → b.part.block ≡ a.part.block
@@ -118,7 +125,8 @@ joins-law closer (waiting dropped run xs ∷ rs) inside =
     (nearest_opener closer rs (texts_before xs inside)) (may_pair run closer) refl
     (joins-law closer rs (texts_before xs inside))
 
-misses_if : {A : Type 0} (closer run : Run) (dropped : Bool) (rs : List (Read A)) (f : FoundOpener A) (o : Option (FoundOpener A))
+misses_if : {A : Type 0} (closer run : Run) (dropped : Bool) (rs : List (Read A)) (f : FoundOpener A)
+    (o : Option (FoundOpener A))
     (b : Bool) → may_pair run closer ≡ b → IfNone o (NonePairs closer rs)
     → IfNone (found_if (not dropped && b) f o) ((dropped ≡ false → may_pair run closer ≡ false) × NonePairs closer rs)
 misses_if closer run true rs f None b e h = (λ d. absurd (no_drop d), h)

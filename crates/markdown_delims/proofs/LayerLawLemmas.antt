@@ -3,7 +3,8 @@
 use Rattle.std.proofs.Common.{◌≡◌, ℕ, Bool, true, false, List, refl}
 use Rattle.std.specs.Prelude.{◌&&◌, if◌then◌else◌}
 use Rattle.markdown_base.specs.Event.{TagView}
-use Rattle.markdown_document.specs.Document.{Shape, leaf, enclosed, plain, backslash_break, unresolved, is_unresolved, text_over}
+use Rattle.markdown_document.specs.Document.{Shape, leaf, enclosed, plain, backslash_break, unresolved, is_unresolved}
+use Rattle.markdown_document.specs.Document.{text_over}
 use Rattle.markdown_document.specs.Labels.{GivesFirst, is_plain}
 use Rattle.markdown_delims.specs.declared.marks.Marks.{Marks}
 use Rattle.markdown_delims.specs.declared.quotes.Kind.{Kind}
@@ -57,7 +58,8 @@ module _ (p : Shape → Type 0) (of_text : (c : ℕ) → p (synthesized c)) wher
   left_if true = of_text 8216
   left_if false = of_text 8217
 
-  single_made : (is_closing opens single double later : Bool) → p (single_turn is_closing opens single double later).made
+  single_made : (is_closing opens single double later : Bool)
+      → p (single_turn is_closing opens single double later).made
   single_made true opens single double later = of_text 8217
   single_made false opens single double later = left_if (opens && later)
 
@@ -65,9 +67,12 @@ module _ (p : Shape → Type 0) (of_text : (c : ℕ) → p (synthesized c)) wher
   double_made true opens single double = of_text 8221
   double_made false opens single double = of_text 8220
 
-  pub turn-made : (k : Kind) (shape : Shape) (single double later last : Bool) → p shape → p (turn_by k shape single double later last).made
-  turn-made (kind.Single opens closes) shape single double later last h = single_made (single && closes) opens single double later
-  turn-made (kind.Double opens closes) shape single double later last h = double_made (double && closes) opens single double
+  pub turn-made : (k : Kind) (shape : Shape) (single double later last : Bool) → p shape
+      → p (turn_by k shape single double later last).made
+  turn-made (kind.Single opens closes) shape single double later last h = single_made (single && closes) opens single
+      double later
+  turn-made (kind.Double opens closes) shape single double later last h = double_made (double && closes) opens single
+      double
   turn-made kind.Break shape single double later true h = of_text 92
   turn-made kind.Break shape single double later false h = h
   turn-made kind.Other shape single double later last h = h

@@ -1,12 +1,14 @@
 -- Of two runs of `*` or `_` that may pair, some pair encloses what is left of one and not of the other: no two such
 -- runs have characters left in the same chain, at any depth, once a chain is read.
-use Rattle.std.proofs.Common.{◌≡◌, ℕ, zero, suc, ◌-◌, ◌<◌, Bool, true, false, List, [], ◌∷◌, length, Option, Some, None, refl, ap, sym, ◌∙◌}
+use Rattle.std.proofs.Common.{◌≡◌, ℕ, zero, suc, ◌-◌, ◌<◌, Bool, true, false, List, [], ◌∷◌, length, Option, Some, None}
+use Rattle.std.proofs.Common.{refl, ap, sym, ◌∙◌}
 use Rattle.std.proofs.Common.{subst, arith, map, ◌≤◌}
 use Rattle.std.specs.Prelude.{⊤, IfSome, IfNone, not, ◌&&◌, ◌||◌, slice_range, slice_index}
 use Rattle.std.specs.List.{AllByRecursion}
 use Rattle.markdown_base.specs.Forest.{Forest, nil, node}
 use Rattle.markdown_base.proofs.ForestLemmas.{relabelled-relabelled}
-use Rattle.markdown_document.specs.Document.{Shape, leaf, backslash_break, unresolved, Label, Plain, is_unresolved, shaped}
+use Rattle.markdown_document.specs.Document.{Shape, leaf, backslash_break, unresolved, Label, Plain, is_unresolved}
+use Rattle.markdown_document.specs.Document.{shaped}
 use Rattle.markdown_document.specs.Labels.{retag, retagged}
 use Rattle.markdown_document.specs.Setting.{Setting}
 use Rattle.markdown_document.specs.Waiting.{text_if, as_closed}
@@ -16,15 +18,19 @@ use Rattle.markdown_delims.specs.declared.run.Delimiter.TheVariants.{Star, Under
 use Rattle.markdown_delims.specs.declared.run.Run.{Run}
 use Rattle.markdown_delims.specs.Layers.{marks_of, layer_of_one, layer_of_two, run_of_shape, run_of}
 use Rattle.markdown_delims.specs.MayPair.{delimiter_of, drops, may_pair}
-use Rattle.markdown_delims.specs.Pairing.{paired, Read, done_read, waiting, texts_before, characters_done, read_trees, FoundOpener, nearest_opener}
+use Rattle.markdown_delims.specs.Pairing.{paired, Read, done_read, waiting, texts_before, characters_done, read_trees}
+use Rattle.markdown_delims.specs.Pairing.{FoundOpener, nearest_opener}
 use Rattle.markdown_delims.specs.Pairing.{drop_read, Layers, layers, trees_done, still_waiting, last_first, opened_if}
-use Rattle.markdown_delims.specs.Pairing.{left_over, after_layers, after_search, closed_by, run_read, first_texts, after_tree, reads_from}
+use Rattle.markdown_delims.specs.Pairing.{left_over, after_layers, after_search, closed_by, run_read, first_texts}
+use Rattle.markdown_delims.specs.Pairing.{after_tree, reads_from}
 use Rattle.markdown_delims.specs.Pairing.{runs_paired}
-use Rattle.markdown_delims.specs.Quotes.{kind_of_shape, closes_later, is_closed_later, is_end, QuoteTurn, turn_by, first_turn, quotes_after}
+use Rattle.markdown_delims.specs.Quotes.{kind_of_shape, closes_later, is_closed_later, is_end, QuoteTurn, turn_by}
+use Rattle.markdown_delims.specs.Quotes.{first_turn, quotes_after}
 use Rattle.markdown_delims.specs.Quotes.{with_quotes}
 use Rattle.markdown_delims.specs.declared.quotes.Kind.TheVariants as kind
 use Rattle.markdown_base.specs.declared.item.ItemBody.TheVariants as body
-use Rattle.markdown_delims.specs.PairingLaws.{is_tilde_or_caret, NonePairs, RunAt, run_at, further, no_run, with_runs, run_if_text, kept_run, DoNotPair}
+use Rattle.markdown_delims.specs.PairingLaws.{is_tilde_or_caret, NonePairs, RunAt, run_at, further, no_run, with_runs}
+use Rattle.markdown_delims.specs.PairingLaws.{run_if_text, kept_run, DoNotPair}
 use Rattle.markdown_delims.specs.PairingLaws.{NonePairsLater, NoneMissed, without_tags, NoneMissedLaw}
 use Rattle.markdown_delims.proofs.BeginLawLemmas.{some-long}
 use Rattle.markdown_delims.proofs.LawLemmas.{misses-law, tag-law}
@@ -39,7 +45,8 @@ abbrev Character : Type 0
 Character = Label MaybeRun
 
 -- a chain whose first tree belongs to this run, as do the next `more` trees
-abbrev with_run : {A : Type 0} → Setting → MaybeRun → ℕ → Label A → Forest (Label A) → Forest (Label A) → Forest Character
+abbrev with_run : {A : Type 0} → Setting → MaybeRun → ℕ → Label A → Forest (Label A) → Forest (Label A)
+    → Forest Character
 with_run s r more a below after = node (retag (λ _. r) a) (retagged no_run below) (with_runs s more r after)
 
 differ : true ≡ false → ⊥
@@ -85,7 +92,8 @@ tilde_shut p e star opens = differ (sym e ∙ star)
 abbrev NoneEarlier : MaybeRun → List (Read MaybeRun) → Type 0
 NoneEarlier k [] = ⊤
 NoneEarlier k (done_read a below ∷ rs) = DoNotPair (kept_run a) k × NoneEarlier k rs
-NoneEarlier k (waiting dropped run xs ∷ rs) = AllByRecursion (λ (x : Character). DoNotPair x.tag k) xs × NoneEarlier k rs
+NoneEarlier k (waiting dropped run xs ∷ rs) = AllByRecursion (λ (x : Character). DoNotPair x.tag k) xs
+    × NoneEarlier k rs
 
 -- characters of one run, and that there are some
 abbrev AreOf : RunAt → List Character → Type 0
@@ -107,7 +115,8 @@ record IsLeft (run : Run) (xs : List Character) (before : List (Read MaybeRun)) 
 abbrev Fine : List (Read MaybeRun) → Type 0
 Fine [] = ⊤
 Fine (done_read a below ∷ rs) = Shut (kept_run a) × NoneEarlier (kept_run a) rs × NoneMissed below × Fine rs
-Fine (waiting dropped run xs ∷ rs) = (dropped ≡ true → is_tilde_or_caret run.delimiter ≡ true) × IsLeft run xs rs × Fine rs
+Fine (waiting dropped run xs ∷ rs) = (dropped ≡ true → is_tilde_or_caret run.delimiter ≡ true) × IsLeft run xs rs
+    × Fine rs
 
 each_apart : (k : MaybeRun) → ((r : MaybeRun) → DoNotPair r k) → (xs : List Character)
     → AllByRecursion (λ (x : Character). DoNotPair x.tag k) xs
@@ -119,7 +128,8 @@ all_earlier k h [] = tt
 all_earlier k h (done_read a below ∷ rs) = (h (kept_run a), all_earlier k h rs)
 all_earlier k h (waiting dropped run xs ∷ rs) = (each_apart k h xs, all_earlier k h rs)
 
-text_earlier : (shape : Shape) (r : MaybeRun) (rs : List (Read MaybeRun)) → NoneEarlier r rs → NoneEarlier (run_if_text shape r) rs
+text_earlier : (shape : Shape) (r : MaybeRun) (rs : List (Read MaybeRun)) → NoneEarlier r rs
+    → NoneEarlier (run_if_text shape r) rs
 text_earlier (leaf e origins) r rs h = h
 text_earlier other r rs h = all_earlier None none_later rs
 
@@ -127,7 +137,8 @@ no_later : (f : Forest Character) → NonePairsLater None f
 no_later nil = tt
 no_later (node a below after) = (tt, no_later after)
 
-text_pairs_later : (shape : Shape) (r : MaybeRun) (f : Forest Character) → NonePairsLater r f → NonePairsLater (run_if_text shape r) f
+text_pairs_later : (shape : Shape) (r : MaybeRun) (f : Forest Character) → NonePairsLater r f
+    → NonePairsLater (run_if_text shape r) f
 text_pairs_later (leaf e origins) r f h = h
 text_pairs_later other r f h = no_later f
 
@@ -163,13 +174,15 @@ abbrev AllLater : List (Read MaybeRun) → Forest Character → Type 0
 AllLater rs nil = ⊤
 AllLater rs (node a below after) = NoneEarlier (kept_run a) rs × AllLater rs after
 
-after_done : (a : Character) (below : Forest Character) (rs : List (Read MaybeRun)) (f : Forest Character) → AllLater (done_read a below ∷ rs) f
+after_done : (a : Character) (below : Forest Character) (rs : List (Read MaybeRun)) (f : Forest Character)
+    → AllLater (done_read a below ∷ rs) f
     → NonePairsLater (kept_run a) f × AllLater rs f
 after_done a below rs nil h = (tt, tt)
 after_done a below rs (node b under after) h =
     let k = after_done a below rs after h.1 in ((h.0.0, k.0), (h.0.1, k.1))
 
-after_waiting : (dropped : Bool) (run : Run) (xs : List Character) (rs : List (Read MaybeRun)) (l : IsLeft run xs rs) (f : Forest Character)
+after_waiting : (dropped : Bool) (run : Run) (xs : List Character) (rs : List (Read MaybeRun)) (l : IsLeft run xs rs)
+    (f : Forest Character)
     → AllLater (waiting dropped run xs ∷ rs) f
     → NonePairsLater (Some l.at) f × AllLater rs f
 after_waiting dropped run xs rs l nil h = (tt, tt)
@@ -177,7 +190,8 @@ after_waiting dropped run xs rs l (node b under after) h =
     let k = after_waiting dropped run xs rs l after h.1 in
     ((first_of_all l.at (kept_run b) xs l.some l.all h.0.0, k.0), (h.0.1, k.1))
 
-texts_fine : (p : RunAt) (rs : List (Read MaybeRun)) (xs : List Character) (f : Forest Character) → AreOf p xs → NoneEarlier (Some p) rs
+texts_fine : (p : RunAt) (rs : List (Read MaybeRun)) (xs : List Character) (f : Forest Character) → AreOf p xs
+    → NoneEarlier (Some p) rs
     → NoneMissed f → NonePairsLater (Some p) f → AllLater rs f
     → NoneMissed (texts_before xs f) × AllLater rs (texts_before xs f)
 texts_fine p rs [] f a e m n l = (m, l)
@@ -185,7 +199,8 @@ texts_fine p rs (x ∷ xs) f a e m n l =
     texts_fine p rs xs (node x nil f) a.1 e (pairs_later p x a.0 f n, tt, m) (is_later p x a.0 (Some p) (same_run p), n)
     (is_earlier p x a.0 rs e, l)
 
-trees_fine : (rs : List (Read MaybeRun)) (f : Forest Character) → Fine rs → NoneMissed f → AllLater rs f → NoneMissed (read_trees rs f)
+trees_fine : (rs : List (Read MaybeRun)) (f : Forest Character) → Fine rs → NoneMissed f → AllLater rs f
+    → NoneMissed (read_trees rs f)
 trees_fine [] f h m l = m
 trees_fine (done_read a below ∷ rs) f h m l =
     let k = after_done a below rs f l in trees_fine rs (node a below f) h.3 (k.0, h.2, m) (h.1, k.1)
@@ -197,7 +212,8 @@ trees_fine (waiting dropped run xs ∷ rs) f h m l =
 abbrev FoundFine : FoundOpener MaybeRun → Type 0
 FoundFine f = IsLeft f.run f.characters f.before × Fine f.before × NoneMissed f.inside
 
-nearest_fine : (closer : Run) (rs : List (Read MaybeRun)) (inside : Forest Character) → Fine rs → NoneMissed inside → AllLater rs inside
+nearest_fine : (closer : Run) (rs : List (Read MaybeRun)) (inside : Forest Character) → Fine rs → NoneMissed inside
+    → AllLater rs inside
     → IfSome (nearest_opener closer rs inside) FoundFine
 nearest_fine closer [] inside h m l = tt
 nearest_fine closer (done_read a below ∷ rs) inside h m l =
@@ -205,7 +221,8 @@ nearest_fine closer (done_read a below ∷ rs) inside h m l =
 nearest_fine closer (waiting dropped run xs ∷ rs) inside h m l =
     let k = after_waiting dropped run xs rs h.1 inside l in
     let t = texts_fine h.1.at rs xs inside h.1.all h.1.earlier m k.0 k.1 in
-    found-if FoundFine (not dropped && may_pair run closer) (record { inside = inside; run = run; characters = xs; before = rs })
+    found-if FoundFine (not dropped && may_pair run closer)
+    (record { inside = inside; run = run; characters = xs; before = rs })
     (nearest_opener closer rs (texts_before xs inside)) (h.1, h.2, m)
     (nearest_fine closer rs (texts_before xs inside) h.2 t.0 t.1)
 
@@ -215,17 +232,23 @@ open_apart : (dropped : Bool) (run closer : Run) (q p : RunAt) → q.run ≡ run
     → (dropped ≡ false → may_pair run closer ≡ false) → DoNotPair (Some q) (Some p)
 open_apart true run closer q p e g d m n star opens closes =
     absurd (differ (sym (d refl) ∙ ap (λ (r : Run). is_tilde_or_caret r.delimiter) (sym e) ∙ star))
-open_apart false run closer q p e g d m n star opens closes = ap (λ r. may_pair r p.run) e ∙ ap (may_pair run) g ∙ m refl
+open_apart false run closer q p e g d m n star opens closes = ap (λ r. may_pair r p.run) e ∙ ap (may_pair run) g
+    ∙ m refl
 
 none_found : (closer : Run) (p : RunAt) → p.run ≡ closer → (rs : List (Read MaybeRun)) → Fine rs → NonePairs closer rs
     → NoneEarlier (Some p) rs
 none_found closer p e [] h m = tt
-none_found closer p e (done_read a below ∷ rs) h m = (shut_apart (kept_run a) (Some p) h.0, none_found closer p e rs h.3 m)
-none_found closer p e (waiting dropped run xs ∷ rs) h m =
-    (all_first h.1.at (Some p) xs h.1.all (open_apart dropped run closer h.1.at p h.1.same e h.0 m.0), none_found closer p e rs h.2 m.1)
+none_found closer p e (done_read a below ∷ rs) h m
+    = (shut_apart (kept_run a) (Some p) h.0, none_found closer p e rs h.3 m)
+none_found closer p e (waiting dropped run xs ∷ rs) h m = (
+  all_first h.1.at (Some p) xs h.1.all (open_apart dropped run closer h.1.at p h.1.same e h.0 m.0),
+  none_found closer
+      p e rs h.2 m.1,
+)
 
 -- runs are dropped
-drop_earlier : (d : Delimiter) (k : MaybeRun) (rs : List (Read MaybeRun)) → NoneEarlier k rs → NoneEarlier k (map (drop_read d) rs)
+drop_earlier : (d : Delimiter) (k : MaybeRun) (rs : List (Read MaybeRun)) → NoneEarlier k rs
+    → NoneEarlier k (map (drop_read d) rs)
 drop_earlier d k [] h = tt
 drop_earlier d k (done_read a below ∷ rs) h = (h.0, drop_earlier d k rs h.1)
 drop_earlier d k (waiting dropped run xs ∷ rs) h = (h.0, drop_earlier d k rs h.1)
@@ -243,7 +266,8 @@ drops_tilde Underscore Underscore h = h
 drops_tilde Tilde Underscore h = h
 drops_tilde Caret Underscore h = h
 
-drop_tilde : (dropped : Bool) (d e : Delimiter) → (dropped ≡ true → is_tilde_or_caret e ≡ true) → (dropped || drops d e) ≡ true
+drop_tilde : (dropped : Bool) (d e : Delimiter) → (dropped ≡ true → is_tilde_or_caret e ≡ true) → (dropped || drops d e)
+    ≡ true
     → is_tilde_or_caret e ≡ true
 drop_tilde true d e h k = h refl
 drop_tilde false d e h k = drops_tilde d e k
@@ -253,18 +277,28 @@ drop_fine d [] h = tt
 drop_fine d (done_read a below ∷ rs) h = (h.0, drop_earlier d (kept_run a) rs h.1, h.2, drop_fine d rs h.3)
 drop_fine d (waiting dropped run xs ∷ rs) h = (
   drop_tilde dropped d run.delimiter h.0,
-  record { at = h.1.at; same = h.1.same; all = h.1.all; some = h.1.some; earlier = drop_earlier d (Some h.1.at) rs h.1.earlier },
+  record {
+    at = h.1.at;
+    same = h.1.same;
+    all = h.1.all;
+    some = h.1.some;
+    earlier = drop_earlier d (Some h.1.at) rs
+        h.1.earlier;
+  },
   drop_fine d rs h.2,
 )
 
 -- characters that do not pair, of a run p
 module _ (p : RunAt) where
-  done_fine : (xs : List Character) (rs : List (Read MaybeRun)) → AreOf p xs → Shut (Some p) → Fine rs → NoneEarlier (Some p) rs
+  done_fine : (xs : List Character) (rs : List (Read MaybeRun)) → AreOf p xs → Shut (Some p) → Fine rs
+      → NoneEarlier (Some p) rs
       → Fine (characters_done xs rs) × NoneEarlier (Some p) (characters_done xs rs)
   done_fine [] rs a s h e = (h, e)
   done_fine (x ∷ xs) rs a s h e =
-      let k = done_fine xs rs a.1 s h e in
-      ((is_shut p x a.0 s, is_earlier p x a.0 (characters_done xs rs) k.1, tt, k.0), (is_first p x a.0 (Some p) (same_run p), k.1))
+      let k = done_fine xs rs a.1 s h e in (
+        (is_shut p x a.0 s, is_earlier p x a.0 (characters_done xs rs) k.1, tt, k.0),
+        (is_first p x a.0 (Some p) (same_run p), k.1),
+      )
 
   turned_of : (xs ys : List Character) → AreOf p xs → AreOf p ys → AreOf p (last_first xs ys)
   turned_of [] ys a b = b
@@ -274,36 +308,46 @@ module _ (p : RunAt) where
   some_turned [] ys h = h
   some_turned (x ∷ xs) ys h = some_turned xs (x ∷ ys) tt
 
-  still_open : (run : Run) (xs : List Character) (rs : List (Read MaybeRun)) → p.run ≡ run → AreOf p xs → HasSome xs → Fine rs
+  still_open : (run : Run) (xs : List Character) (rs : List (Read MaybeRun)) → p.run ≡ run → AreOf p xs → HasSome xs
+      → Fine rs
       → NoneEarlier (Some p) rs → Fine (waiting false run xs ∷ rs)
-  still_open run xs rs g a s h e = (λ d. absurd (differ (sym d)), record { at = p; same = g; all = a; some = s; earlier = e }, h)
+  still_open run xs rs g a s h e
+      = (λ d. absurd (differ (sym d)), record { at = p; same = g; all = a; some = s; earlier = e }, h)
 
-  opened_fine : (b : Bool) (run : Run) (xs : List Character) (rs : List (Read MaybeRun)) → run.can_open ≡ b → p.run ≡ run → AreOf p xs
+  opened_fine : (b : Bool) (run : Run) (xs : List Character) (rs : List (Read MaybeRun)) → run.can_open ≡ b → p.run
+      ≡ run → AreOf p xs
       → HasSome xs → Fine rs → NoneEarlier (Some p) rs
       → Fine (opened_if b run xs rs)
   opened_fine true run xs rs c g a s h e = still_open run xs rs g a s h e
-  opened_fine false run xs rs c g a s h e = (done_fine xs rs a (λ star opens. differ (sym opens ∙ ap (λ (r : Run). r.can_open) g ∙ c)) h
+  opened_fine false run xs rs c g a s h e
+      = (done_fine xs rs a (λ star opens. differ (sym opens ∙ ap (λ (r : Run). r.can_open) g ∙ c)) h
       e).0
 
-  left_fine : (run : Run) (vs : List Character) (rs : List (Read MaybeRun)) → p.run ≡ run → AreOf p vs → HasSome vs → Fine rs
+  left_fine : (run : Run) (vs : List Character) (rs : List (Read MaybeRun)) → p.run ≡ run → AreOf p vs → HasSome vs
+      → Fine rs
       → NoneEarlier (Some p) rs → Fine (left_over run vs rs)
   left_fine run [] rs g a s h e = absurd s
-  left_fine run (v ∷ vs) rs g a s h e = opened_fine run.can_open run (last_first (v ∷ vs) []) rs refl g (turned_of (v ∷ vs) [] a tt)
+  left_fine run (v ∷ vs) rs g a s h e = opened_fine run.can_open run (last_first (v ∷ vs) []) rs refl g
+      (turned_of (v ∷ vs) [] a tt)
       (some_turned vs (v ∷ []) tt) h e
 
-  still_fine : (run : Run) (xs : List Character) (rs : List (Read MaybeRun)) → p.run ≡ run → AreOf p xs → Fine rs → NoneEarlier (Some p) rs
+  still_fine : (run : Run) (xs : List Character) (rs : List (Read MaybeRun)) → p.run ≡ run → AreOf p xs → Fine rs
+      → NoneEarlier (Some p) rs
       → Fine (still_waiting run xs rs) × NoneEarlier (Some p) (still_waiting run xs rs)
   still_fine run [] rs g a h e = (h, e)
-  still_fine run (x ∷ xs) rs g a h e = (still_open run (x ∷ xs) rs g a tt h e, (all_first p (Some p) (x ∷ xs) a (same_run p), e))
+  still_fine run (x ∷ xs) rs g a h e
+      = (still_open run (x ∷ xs) rs g a tt h e, (all_first p (Some p) (x ∷ xs) a (same_run p), e))
 
   -- a layer of p
-  one_shut : (m : Marks) (d : Delimiter) (source : List ℕ) → p.run.delimiter ≡ d → Shut (run_if_text (layer_of_one m d source) (Some p))
+  one_shut : (m : Marks) (d : Delimiter) (source : List ℕ) → p.run.delimiter ≡ d
+      → Shut (run_if_text (layer_of_one m d source) (Some p))
   one_shut m Star source e = tt
   one_shut m Underscore source e = tt
   one_shut m Tilde source e = shut_text (layer_of_one m Tilde source) (Some p) (tilde_shut p (ap is_tilde_or_caret e))
   one_shut m Caret source e = shut_text (layer_of_one m Caret source) (Some p) (tilde_shut p (ap is_tilde_or_caret e))
 
-  two_shut : (m : Marks) (d : Delimiter) (source : List ℕ) → p.run.delimiter ≡ d → Shut (run_if_text (layer_of_two m d source) (Some p))
+  two_shut : (m : Marks) (d : Delimiter) (source : List ℕ) → p.run.delimiter ≡ d
+      → Shut (run_if_text (layer_of_two m d source) (Some p))
   two_shut m Star source e = tt
   two_shut m Underscore source e = tt
   two_shut m Tilde source e = shut_text (layer_of_two m Tilde source) (Some p) (tilde_shut p (ap is_tilde_or_caret e))
@@ -319,13 +363,15 @@ module _ (p : RunAt) where
   layer_missed (node a below nil) h = (tt, h.2, tt)
   layer_missed (node a below (node b under after)) h = absurd h
 
-  layer_fine : (f : Forest Character) (rs : List (Read MaybeRun)) → IsLayer f → Fine rs → NoneEarlier (Some p) rs → Fine (trees_done f rs)
+  layer_fine : (f : Forest Character) (rs : List (Read MaybeRun)) → IsLayer f → Fine rs → NoneEarlier (Some p) rs
+      → Fine (trees_done f rs)
   layer_fine nil rs l h e = absurd l
   layer_fine (node a below nil) rs l h e = (l.1, is_earlier p a l.0 rs e, l.2, h)
   layer_fine (node a below (node b under after)) rs l h e = absurd l
 
   module _ (s : Setting) where
-    one_layer : (d : Delimiter) (x v : Character) (inside : Forest Character) → p.run.delimiter ≡ d → x.tag ≡ Some p → NoneMissed inside
+    one_layer : (d : Delimiter) (x v : Character) (inside : Forest Character) → p.run.delimiter ≡ d → x.tag ≡ Some p
+        → NoneMissed inside
         → IsLayer (layers s d (x ∷ []) (v ∷ []) inside).whole
     one_layer d x v inside e t m =
         let source : List ℕ = slice_range s.text x.part.range.start v.part.range.end in (
@@ -335,7 +381,8 @@ module _ (p : RunAt) where
           m,
         )
 
-    two_layer : (d : Delimiter) (x y v w : Character) (inside : Forest Character) → p.run.delimiter ≡ d → y.tag ≡ Some p → NoneMissed inside
+    two_layer : (d : Delimiter) (x y v w : Character) (inside : Forest Character) → p.run.delimiter ≡ d → y.tag ≡ Some p
+        → NoneMissed inside
         → IsLayer (layers s d (x ∷ y ∷ []) (v ∷ w ∷ []) inside).whole
     two_layer d x y v w inside e t m =
         let source : List ℕ = slice_range s.text y.part.range.start w.part.range.end in (
@@ -348,17 +395,20 @@ module _ (p : RunAt) where
     abbrev AreMade : RunAt → Layers MaybeRun → Type 0
     AreMade q l = IsLayer l.whole × AreOf p l.opening × AreOf q l.closing
 
-    more_layers : (q : RunAt) (d : Delimiter) (xs vs : List Character) (inside : Forest Character) → p.run.delimiter ≡ d → AreOf p xs
+    more_layers : (q : RunAt) (d : Delimiter) (xs vs : List Character) (inside : Forest Character) → p.run.delimiter ≡ d
+        → AreOf p xs
         → AreOf q vs → IsLayer inside → AreMade q (layers s d xs vs inside)
     more_layers q d [] vs inside e a b l = (l, tt, b)
     more_layers q d (x ∷ xs) [] inside e a b l = (l, a, tt)
     more_layers q d (x ∷ []) (v ∷ vs) inside e a b l = (one_layer d x v inside e a.0 (layer_missed inside l), tt, b.1)
-    more_layers q d (x ∷ y ∷ xs) (v ∷ []) inside e a b l = (one_layer d x v inside e a.0 (layer_missed inside l), a.1, tt)
+    more_layers q d (x ∷ y ∷ xs) (v ∷ []) inside e a b l
+        = (one_layer d x v inside e a.0 (layer_missed inside l), a.1, tt)
     more_layers q d (x ∷ y ∷ xs) (v ∷ w ∷ vs) inside e a b l =
         more_layers q d xs vs (layers s d (x ∷ y ∷ []) (v ∷ w ∷ []) inside).whole e a.1.1 b.1.1
         (two_layer d x y v w inside e a.1.0 (layer_missed inside l))
 
-    first_layers : (q : RunAt) (d : Delimiter) (xs vs : List Character) (inside : Forest Character) → p.run.delimiter ≡ d → HasSome xs
+    first_layers : (q : RunAt) (d : Delimiter) (xs vs : List Character) (inside : Forest Character) → p.run.delimiter
+        ≡ d → HasSome xs
         → HasSome vs → AreOf p xs → AreOf q vs → NoneMissed inside
         → AreMade q (layers s d xs vs inside)
     first_layers q d [] vs inside e i j a b m = absurd i
@@ -366,7 +416,8 @@ module _ (p : RunAt) where
     first_layers q d (x ∷ []) (v ∷ vs) inside e i j a b m = (one_layer d x v inside e a.0 m, tt, b.1)
     first_layers q d (x ∷ y ∷ xs) (v ∷ []) inside e i j a b m = (one_layer d x v inside e a.0 m, a.1, tt)
     first_layers q d (x ∷ y ∷ xs) (v ∷ w ∷ vs) inside e i j a b m =
-        more_layers q d xs vs (layers s d (x ∷ y ∷ []) (v ∷ w ∷ []) inside).whole e a.1.1 b.1.1 (two_layer d x y v w inside e a.1.0 m)
+        more_layers q d xs vs (layers s d (x ∷ y ∷ []) (v ∷ w ∷ []) inside).whole e a.1.1 b.1.1
+        (two_layer d x y v w inside e a.1.0 m)
 
 -- a closer pairs: fewer of its characters are left
 module _ (s : Setting) where
@@ -394,12 +445,14 @@ module _ (s : Setting) where
   pair_fine q vs f i a g =
       let p : RunAt = g.0.at in
       let made : Layers MaybeRun = layers s f.run.delimiter f.characters vs f.inside in
-      let l = first_layers p s q f.run.delimiter f.characters vs f.inside (ap (λ (r : Run). r.delimiter) g.0.same) g.0.some i g.0.all a g.2
+      let l = first_layers p s q f.run.delimiter f.characters vs f.inside (ap (λ (r : Run). r.delimiter) g.0.same)
+      g.0.some i g.0.all a g.2
       in
       let k = still_fine p f.run made.opening f.before g.0.same l.1 g.1 g.0.earlier in
       (l.2, layer_fine p made.whole (still_waiting f.run made.opening f.before) l.0 k.0 k.1)
 
-  searched_fine : (again : List Character → List (Read MaybeRun) → List (Read MaybeRun)) (closer : Run) (p : RunAt) (vs : List Character)
+  searched_fine : (again : List Character → List (Read MaybeRun) → List (Read MaybeRun)) (closer : Run) (p : RunAt)
+      (vs : List Character)
       (rs : List (Read MaybeRun)) (o : Option (FoundOpener MaybeRun))
       → ((left : List Character) (others : List (Read MaybeRun)) → length left < length vs → AreOf p left → Fine others
       → Fine (again left others)) → p.run ≡ closer
@@ -410,22 +463,26 @@ module _ (s : Setting) where
       (drop_earlier closer.delimiter (Some p) rs (none_found closer p e rs h m))
   searched_fine again closer p vs rs (Some f) go e a i h g m =
       let k = pair_fine p vs f i a g in
-      go (layers s f.run.delimiter f.characters vs f.inside).closing (after_layers f (layers s f.run.delimiter f.characters vs f.inside))
+      go (layers s f.run.delimiter f.characters vs f.inside).closing
+      (after_layers f (layers s f.run.delimiter f.characters vs f.inside))
       (fewer_left f.run.delimiter f.characters vs f.inside g.0.some i) k.0 k.1
 
-  closed_fine : (turns : ℕ) (closer : Run) (p : RunAt) (vs : List Character) (rs : List (Read MaybeRun)) → p.run ≡ closer → AreOf p vs
+  closed_fine : (turns : ℕ) (closer : Run) (p : RunAt) (vs : List Character) (rs : List (Read MaybeRun)) → p.run
+      ≡ closer → AreOf p vs
       → length vs ≤ turns → Fine rs → Fine (closed_by s turns closer vs rs)
   unfolding closed_by
   closed_fine zero closer p [] rs e a l h = h
   closed_fine (suc turns) closer p [] rs e a l h = h
   closed_fine zero closer p (v ∷ vs) rs e a l h = absurd (omega (arith, l))
   closed_fine (suc turns) closer p (v ∷ vs) rs e a l h =
-      searched_fine (λ left others. closed_by s turns closer left others) closer p (v ∷ vs) rs (nearest_opener closer rs nil)
+      searched_fine (λ left others. closed_by s turns closer left others) closer p (v ∷ vs) rs
+      (nearest_opener closer rs nil)
       (λ left others fewer b k. closed_fine turns closer p left others e b (omega (arith, fewer, l)) k) e a tt h
       (nearest_fine closer rs nil h tt tt)
       (misses-law closer rs nil)
 
-  run_fine : (closes : Bool) (p : RunAt) (vs : List Character) (rs : List (Read MaybeRun)) → p.run.can_close ≡ closes → AreOf p vs
+  run_fine : (closes : Bool) (p : RunAt) (vs : List Character) (rs : List (Read MaybeRun)) → p.run.can_close ≡ closes
+      → AreOf p vs
       → HasSome vs → Fine rs → Fine (run_read s closes p.run vs rs)
   run_fine true p vs rs c a i h = closed_fine (length vs) p.run p vs rs refl a (omega arith) h
   run_fine false p vs rs c a i h = left_fine p p.run vs rs refl a i h (all_earlier (Some p) (cannot_close p c) rs)
@@ -442,7 +499,8 @@ module _ (s : Setting) where
 
   -- a chain with its runs told is read
   module _ {A : Type 0} where
-    firsts_of : (p : RunAt) (n : ℕ) (chain : Forest (Label A)) → AreOf p (first_texts s.text n (with_runs s n (Some p) chain))
+    firsts_of : (p : RunAt) (n : ℕ) (chain : Forest (Label A))
+        → AreOf p (first_texts s.text n (with_runs s n (Some p) chain))
     firsts_of p zero chain = tt
     firsts_of p (suc n) nil = tt
     firsts_of p (suc n) (node a below after) = (refl, firsts_of p n after)
@@ -454,7 +512,8 @@ module _ (s : Setting) where
     run_of_length p (suc n) a below after h = (
       (
         refl,
-        subst (λ k. AreOf p (first_texts s.text n (with_runs s k (Some p) after))) (let e : n ≡ suc n - 1 = omega arith in e)
+        subst (λ k. AreOf p (first_texts s.text n (with_runs s k (Some p) after)))
+            (let e : n ≡ suc n - 1 = omega arith in e)
             (firsts_of p n after),
       ),
       tt,
@@ -462,7 +521,8 @@ module _ (s : Setting) where
 
     below_fine : (f : Forest (Label A)) → NoneMissed (retagged no_run f)
     below_fine nil = tt
-    below_fine (node a below after) = (pairs_none a.part.shape (retagged no_run after), below_fine below, below_fine after)
+    below_fine (node a below after)
+        = (pairs_none a.part.shape (retagged no_run after), below_fine below, below_fine after)
       where
         pairs_none : (shape : Shape) (f : Forest Character) → NonePairsLater (run_if_text shape None) f
         pairs_none shape f = text_pairs_later shape None f (no_later f)
@@ -489,63 +549,78 @@ module _ (s : Setting) where
     reads_fine more before nil rs h = h
     reads_fine (suc more) before (node a below after) rs h = reads_fine more before after rs h
     reads_fine zero before (node a below after) rs h =
-        tree_fine (λ r skip others. reads_from s skip (with_runs s (further r) r after) others) a.part.range.start a below after rs
+        tree_fine (λ r skip others. reads_from s skip (with_runs s (further r) r after) others) a.part.range.start a
+        below after rs
         (run_of s.text a.part)
-        (some-long a.part.shape (delimiter_of (slice_index s.text a.part.range.start))) (λ r others k. reads_fine (further r) r after others
+        (some-long a.part.shape (delimiter_of (slice_index s.text a.part.range.start)))
+        (λ r others k. reads_fine (further r) r after others
         k) h
 
     pub runs-missed : (chain : Forest (Label A)) → NoneMissed (runs_paired s (with_runs s 0 None chain))
     unfolding runs_paired
-    runs-missed chain = trees_fine (reads_from s 0 (with_runs s 0 None chain) []) nil (reads_fine 0 None chain [] tt) tt tt
+    runs-missed chain = trees_fine (reads_from s 0 (with_runs s 0 None chain) []) nil (reads_fine 0 None chain [] tt) tt
+        tt
 
 -- quotes leave runs as they are
 turned_run : (shape : Shape) (d : Option Delimiter) (single double later last : Bool)
     → run_of_shape (turn_by (kind_of_shape shape) shape single double later last).made d ≡ run_of_shape shape d
-turned_run backslash_break d single double later last = turn-made (λ shape. run_of_shape shape d ≡ None) (λ c. refl) kind.Break
+turned_run backslash_break d single double later last = turn-made (λ shape. run_of_shape shape d ≡ None) (λ c. refl)
+    kind.Break
     backslash_break single double later last refl
 turned_run (unresolved (body.MaybeSmartQuote quote opens closes)) d single double later last =
     let shape : Shape = unresolved (body.MaybeSmartQuote quote opens closes) in
-    turn-made (λ shape. run_of_shape shape d ≡ None) (λ c. refl) (kind_of_shape shape) shape single double later last refl
+    turn-made (λ shape. run_of_shape shape d ≡ None) (λ c. refl) (kind_of_shape shape) shape single double later last
+    refl
 turned_run other d single double later last = refl
 
 module _ {A : Type 0} (s : Setting) where
-  told_end : (more : ℕ) (before : MaybeRun) (chain : Forest (Label A)) → is_end (with_runs s more before chain) ≡ is_end chain
+  told_end : (more : ℕ) (before : MaybeRun) (chain : Forest (Label A)) → is_end (with_runs s more before chain)
+      ≡ is_end chain
   told_end more before nil = refl
   told_end zero before (node a below after) = refl
   told_end (suc more) before (node a below after) = refl
 
-  told_later : (more : ℕ) (before : MaybeRun) (chain : Forest (Label A)) → is_closed_later (with_runs s more before chain)
+  told_later : (more : ℕ) (before : MaybeRun) (chain : Forest (Label A))
+      → is_closed_later (with_runs s more before chain)
       ≡ is_closed_later chain
   told_later more before nil = refl
   told_later zero before (node a below after) =
-      let here : MaybeRun = run_at a.part.range.start (run_of s.text a.part) in ap (closes_later (kind_of_shape a.part.shape))
+      let here : MaybeRun = run_at a.part.range.start (run_of s.text a.part) in ap
+      (closes_later (kind_of_shape a.part.shape))
       (told_later (further here) here after)
-  told_later (suc more) before (node a below after) = ap (closes_later (kind_of_shape a.part.shape)) (told_later more before after)
+  told_later (suc more) before (node a below after) = ap (closes_later (kind_of_shape a.part.shape))
+      (told_later more before after)
 
   quotes_node : (single double : Bool) (r : MaybeRun) (more : ℕ) (a : Label A) (below after : Forest (Label A))
       → ((i j : Bool) → quotes_after i j (with_runs s more r after) ≡ with_runs s more r (quotes_after i j after))
       → quotes_after single double (with_run s r more a below after)
-      ≡ with_run s r more (shaped (first_turn a after single double).made a) below (quotes_after (first_turn a after single double).single
+      ≡ with_run s r more (shaped (first_turn a after single double).made a) below
+      (quotes_after (first_turn a after single double).single
       (first_turn a after single double).double after)
   quotes_node single double r more a below after h =
       ap (λ (t : QuoteTurn). node (shaped t.made (retag (λ _. r) a)) (retagged no_run below)
       (quotes_after t.single t.double (with_runs s more r after)))
       (ap (λ l. turn_by (kind_of_shape a.part.shape) a.part.shape single double l (is_end (with_runs s more r after)))
       (told_later more r after)
-      ∙ ap (λ e. turn_by (kind_of_shape a.part.shape) a.part.shape single double (is_closed_later after) e) (told_end more r after))
-      ∙ ap (λ (f : Forest Character). node (retag (λ _. r) (shaped (first_turn a after single double).made a)) (retagged no_run below) f)
+      ∙ ap (λ e. turn_by (kind_of_shape a.part.shape) a.part.shape single double (is_closed_later after) e)
+      (told_end more r after))
+      ∙ ap (λ (f : Forest Character). node (retag (λ _. r) (shaped (first_turn a after single double).made a))
+      (retagged no_run below) f)
       (h (first_turn a after single double).single (first_turn a after single double).double)
 
-  untagged_node : (r : MaybeRun) (more : ℕ) (a : Label A) (below after : Forest (Label A)) → without_tags (with_runs s more r after)
+  untagged_node : (r : MaybeRun) (more : ℕ) (a : Label A) (below after : Forest (Label A))
+      → without_tags (with_runs s more r after)
       ≡ without_tags after
       → without_tags (with_run s r more a below after) ≡ without_tags (node a below after)
   untagged_node r more a below after h =
       let here : Plain = retag (λ _. tt) a in
-      ap (λ (f : Forest Plain). node here f (without_tags (with_runs s more r after))) (relabelled-relabelled (retag no_run) (retag (λ _. tt))
+      ap (λ (f : Forest Plain). node here f (without_tags (with_runs s more r after)))
+      (relabelled-relabelled (retag no_run) (retag (λ _. tt))
       below) ∙ ap (λ (f : Forest Plain). node here (without_tags below) f) h
 
   pub quotes_told : (more : ℕ) (before : MaybeRun) (chain : Forest (Label A)) (single double : Bool)
-      → quotes_after single double (with_runs s more before chain) ≡ with_runs s more before (quotes_after single double chain)
+      → quotes_after single double (with_runs s more before chain)
+      ≡ with_runs s more before (quotes_after single double chain)
   quotes_told more before nil single double = refl
   quotes_told (suc more) before (node a below after) single double = quotes_node single double before more a below after
       (λ i j. quotes_told more before after i j)
@@ -553,18 +628,22 @@ module _ {A : Type 0} (s : Setting) where
       let here : MaybeRun = run_at a.part.range.start (run_of s.text a.part) in
       let t : QuoteTurn = first_turn a after single double in
       quotes_node single double here (further here) a below after (λ i j. quotes_told (further here) here after i j)
-      ∙ ap (λ (o : Option Run). with_run s (run_at a.part.range.start o) (further (run_at a.part.range.start o)) (shaped t.made a) below
+      ∙ ap (λ (o : Option Run). with_run s (run_at a.part.range.start o) (further (run_at a.part.range.start o))
+      (shaped t.made a) below
       (quotes_after t.single t.double after))
-      (sym (turned_run a.part.shape (delimiter_of (slice_index s.text a.part.range.start)) single double (is_closed_later after)
+      (sym (turned_run a.part.shape (delimiter_of (slice_index s.text a.part.range.start)) single double
+      (is_closed_later after)
       (is_end after)))
 
 -- runs in the tags change nothing else
 told_untagged : {A : Type 0} (s : Setting) (more : ℕ) (before : MaybeRun) (chain : Forest (Label A))
     → without_tags (with_runs s more before chain) ≡ without_tags chain
 told_untagged s more before nil = refl
-told_untagged {A} s (suc more) before (node a below after) = untagged_node s before more a below after (told_untagged s more before after)
+told_untagged {A} s (suc more) before (node a below after) = untagged_node s before more a below after
+    (told_untagged s more before after)
 told_untagged {A} s zero before (node a below after) =
-    let here : MaybeRun = run_at a.part.range.start (run_of s.text a.part) in untagged_node s here (further here) a below after
+    let here : MaybeRun = run_at a.part.range.start (run_of s.text a.part) in untagged_node s here (further here) a
+    below after
     (told_untagged s (further here) here after)
 
 pub missed-law : {A : Type 0} → NoneMissedLaw A
@@ -573,5 +652,6 @@ missed-law {A} s chain =
     let told : Forest Character = with_runs s 0 None chain in (
       subst (λ f. NoneMissed (runs_paired s f)) (sym (quotes_told s 0 None chain false false))
           (runs-missed s (quotes_after false false chain)),
-      sym (tag-law (λ (r : MaybeRun). tt) s told) ∙ ap (paired s) (told_untagged s 0 None chain) ∙ tag-law (λ (a : A). tt) s chain,
+      sym (tag-law (λ (r : MaybeRun). tt) s told) ∙ ap (paired s) (told_untagged s 0 None chain)
+          ∙ tag-law (λ (a : A). tt) s chain,
     )

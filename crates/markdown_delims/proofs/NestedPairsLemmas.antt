@@ -13,8 +13,10 @@ use Rattle.markdown_delims.specs.declared.run.Run.{Run}
 use Rattle.markdown_delims.specs.Layers.{marks_of, layer_of_one, layer_of_two, spanned}
 use Rattle.markdown_delims.specs.MayPair.{may_pair}
 use Rattle.markdown_delims.specs.NestedPairs.{LieInOrder, NestOrLieApart, NestLaw}
-use Rattle.markdown_delims.specs.Pairing.{Read, done_read, waiting, texts_before, characters_done, read_trees, FoundOpener, nearest_opener, drop_read}
-use Rattle.markdown_delims.specs.Pairing.{Layers, layers, trees_done, still_waiting, last_first, opened_if, after_layers}
+use Rattle.markdown_delims.specs.Pairing.{Read, done_read, waiting, texts_before, characters_done, read_trees}
+use Rattle.markdown_delims.specs.Pairing.{FoundOpener, nearest_opener, drop_read}
+use Rattle.markdown_delims.specs.Pairing.{Layers, layers, trees_done, still_waiting, last_first, opened_if}
+use Rattle.markdown_delims.specs.Pairing.{after_layers}
 use Rattle.markdown_delims.specs.Pairing.{first_texts, runs_paired, paired}
 use Rattle.markdown_delims.specs.Quotes.{first_turn, quotes_after, with_quotes}
 use Rattle.markdown_delims.proofs.StepLawLemmas.{StaysTrue, found-if, later, reads-stay}
@@ -23,14 +25,16 @@ module _ {A : Type 0} where
   -- what lies in order lies between its bounds, and between wider ones
   spans : (i k : ℕ) (chain : Forest (Label A)) → LieInOrder i k chain → i ≤ k
   spans i k nil h = h
-  spans i k (node a below after) h = omega (arith, h.0, spans (start_of a) (end_of a) below h.1, spans (end_of a) k after h.2)
+  spans i k (node a below after) h = omega
+      (arith, h.0, spans (start_of a) (end_of a) below h.1, spans (end_of a) k after h.2)
 
   wider : (i j k l : ℕ) (chain : Forest (Label A)) → i ≤ j → k ≤ l → LieInOrder j k chain → LieInOrder i l chain
   wider i j k l nil b e h =
       let between : j ≤ k = h in
       let around : i ≤ l = omega (arith, b, e, between) in
       around
-  wider i j k l (node a below after) b e h = (omega (arith, b, h.0), h.1, wider (end_of a) (end_of a) k l after (omega arith) e h.2)
+  wider i j k l (node a below after) b e h
+      = (omega (arith, b, h.0), h.1, wider (end_of a) (end_of a) k l after (omega arith) e h.2)
 
   all_between : (i j k l : ℕ) (chain : Forest (Label A)) → i ≤ j → k ≤ l → LieInOrder j k chain
       → Each (λ (b : Label A). (i ≤ b.part.range.start) × (b.part.range.end ≤ l)) chain
@@ -43,7 +47,8 @@ module _ {A : Type 0} where
         all_between i (end_of a) k l after (omega (arith, b, h.0, below_spans)) e h.2,
       )
 
-  begin_behind : (i k : ℕ) (chain : Forest (Label A)) → LieInOrder i k chain → Each (λ (b : Label A). i ≤ b.part.range.start) chain
+  begin_behind : (i k : ℕ) (chain : Forest (Label A)) → LieInOrder i k chain
+      → Each (λ (b : Label A). i ≤ b.part.range.start) chain
   begin_behind i k chain h = firsts chain (all_between i i k k chain (omega arith) (omega arith) h)
     where
       firsts : (f : Forest (Label A)) → Each (λ (b : Label A). (i ≤ b.part.range.start) × (b.part.range.end ≤ k)) f
@@ -79,16 +84,20 @@ module _ {A : Type 0} where
   Lies k f g = (i : ℕ) → LieInOrder i k f → LieInOrder i k g
 
   -- after a tree, after characters, and after what was read
-  behind_tree : (k : ℕ) (a : Label A) (below f g : Forest (Label A)) → Lies k f g → Lies k (node a below f) (node a below g)
+  behind_tree : (k : ℕ) (a : Label A) (below f g : Forest (Label A)) → Lies k f g
+      → Lies k (node a below f) (node a below g)
   behind_tree k a below f g l i h = (h.0, h.1, l (end_of a) h.2)
 
-  behind_texts : (k : ℕ) (xs : List (Label A)) (f g : Forest (Label A)) → Lies k f g → Lies k (texts_before xs f) (texts_before xs g)
+  behind_texts : (k : ℕ) (xs : List (Label A)) (f g : Forest (Label A)) → Lies k f g
+      → Lies k (texts_before xs f) (texts_before xs g)
   behind_texts k [] f g l = l
   behind_texts k (x ∷ xs) f g l = behind_texts k xs (node x nil f) (node x nil g) (behind_tree k x nil f g l)
 
-  behind_read : (k : ℕ) (rs : List (Read A)) (f g : Forest (Label A)) → Lies k f g → Lies k (read_trees rs f) (read_trees rs g)
+  behind_read : (k : ℕ) (rs : List (Read A)) (f g : Forest (Label A)) → Lies k f g
+      → Lies k (read_trees rs f) (read_trees rs g)
   behind_read k [] f g l = l
-  behind_read k (done_read a below ∷ rs) f g l = behind_read k rs (node a below f) (node a below g) (behind_tree k a below f g l)
+  behind_read k (done_read a below ∷ rs) f g l = behind_read k rs (node a below f) (node a below g)
+      (behind_tree k a below f g l)
   behind_read k (waiting dropped run xs ∷ rs) f g l =
       behind_read k rs (texts_before xs f) (texts_before xs g) (behind_texts k xs f g l)
 
@@ -102,12 +111,14 @@ module _ {A : Type 0} where
   forward [] chain = chain
   forward (x ∷ xs) chain = node x nil (forward xs chain)
 
-  turned : (vs ys : List (Label A)) (chain : Forest (Label A)) → texts_before (last_first vs ys) chain ≡ texts_before ys (forward vs chain)
+  turned : (vs ys : List (Label A)) (chain : Forest (Label A)) → texts_before (last_first vs ys) chain
+      ≡ texts_before ys (forward vs chain)
   turned [] ys chain = refl
   turned (v ∷ vs) ys chain = turned vs (v ∷ ys) chain
 
   -- what is added to what was read precedes the chain
-  done_before : (xs : List (Label A)) (rs : List (Read A)) (chain : Forest (Label A)) → read_trees (characters_done xs rs) chain
+  done_before : (xs : List (Label A)) (rs : List (Read A)) (chain : Forest (Label A))
+      → read_trees (characters_done xs rs) chain
       ≡ read_trees rs (texts_before xs chain)
   done_before [] rs chain = refl
   done_before (x ∷ xs) rs chain = done_before xs rs (node x nil chain)
@@ -122,18 +133,21 @@ module _ {A : Type 0} where
   still_before run [] rs chain = refl
   still_before run (x ∷ xs) rs chain = refl
 
-  trees_before : (f : Forest (Label A)) (rs : List (Read A)) (chain : Forest (Label A)) → read_trees (trees_done f rs) chain
+  trees_before : (f : Forest (Label A)) (rs : List (Read A)) (chain : Forest (Label A))
+      → read_trees (trees_done f rs) chain
       ≡ read_trees rs (joined_chains f chain)
   trees_before nil rs chain = refl
   trees_before (node a below after) rs chain = trees_before after (done_read a below ∷ rs) chain
 
-  dropped_before : (d : Delimiter) (rs : List (Read A)) (chain : Forest (Label A)) → read_trees (map (drop_read d) rs) chain
+  dropped_before : (d : Delimiter) (rs : List (Read A)) (chain : Forest (Label A))
+      → read_trees (map (drop_read d) rs) chain
       ≡ read_trees rs chain
   dropped_before d [] chain = refl
   dropped_before d (done_read a below ∷ rs) chain = dropped_before d rs (node a below chain)
   dropped_before d (waiting dropped run xs ∷ rs) chain = dropped_before d rs (texts_before xs chain)
 
-  texts_joined : (xs : List (Label A)) (f g : Forest (Label A)) → texts_before xs (joined_chains f g) ≡ joined_chains (texts_before xs f) g
+  texts_joined : (xs : List (Label A)) (f g : Forest (Label A)) → texts_before xs (joined_chains f g)
+      ≡ joined_chains (texts_before xs f) g
   texts_joined [] f g = refl
   texts_joined (x ∷ xs) f g = texts_joined xs (node x nil f) g
 
@@ -142,12 +156,15 @@ module _ {A : Type 0} where
   FoundLies i k rest f = LieInOrder i k (read_trees f.before (texts_before f.characters (joined_chains f.inside rest)))
 
   nearest_lies : (i k : ℕ) (rest : Forest (Label A)) (closer : Run) (rs : List (Read A)) (inside : Forest (Label A))
-      → LieInOrder i k (read_trees rs (joined_chains inside rest)) → IfSome (nearest_opener closer rs inside) (FoundLies i k rest)
+      → LieInOrder i k (read_trees rs (joined_chains inside rest)) → IfSome (nearest_opener closer rs inside)
+      (FoundLies i k rest)
   nearest_lies i k rest closer [] inside h = tt
-  nearest_lies i k rest closer (done_read a below ∷ rs) inside h = nearest_lies i k rest closer rs (node a below inside) h
+  nearest_lies i k rest closer (done_read a below ∷ rs) inside h = nearest_lies i k rest closer rs (node a below inside)
+      h
   nearest_lies i k rest closer (waiting dropped run xs ∷ rs) inside h =
       found-if (FoundLies i k rest) (not dropped && may_pair run closer)
-      (record { inside = inside; run = run; characters = xs; before = rs }) (nearest_opener closer rs (texts_before xs inside)) h
+      (record { inside = inside; run = run; characters = xs; before = rs })
+      (nearest_opener closer rs (texts_before xs inside)) h
       (nearest_lies i k rest closer rs (texts_before xs inside)
       (subst (λ f. LieInOrder i k (read_trees rs f)) (texts_joined xs inside rest) h))
 
@@ -180,7 +197,8 @@ module _ {A : Type 0} where
     -- all layers of a pair
     abbrev LayersLie : ℕ → (xs vs : List (Label A)) → (inside rest : Forest (Label A)) → Layers A → Type 0
     LayersLie k xs vs inside rest made =
-        Lies k (texts_before xs (joined_chains inside (forward vs rest))) (texts_before made.opening (joined_chains made.whole (forward made.closing rest)))
+        Lies k (texts_before xs (joined_chains inside (forward vs rest)))
+        (texts_before made.opening (joined_chains made.whole (forward made.closing rest)))
 
     layers_lie : (d : Delimiter) (k : ℕ) (xs vs : List (Label A)) (inside rest : Forest (Label A))
         → LayersLie k xs vs inside rest (layers s d xs vs inside)
@@ -202,7 +220,8 @@ module _ {A : Type 0} where
     abbrev AllLie : (i k : ℕ) → List (Label A) → List (Read A) → Forest (Label A) → Type 0
     AllLie i k vs rs rest = LieInOrder i k (read_trees rs (forward vs rest))
 
-    pair_lies : (i k : ℕ) (vs : List (Label A)) (rest : Forest (Label A)) (f : FoundOpener A) → FoundLies i k (forward vs rest) f
+    pair_lies : (i k : ℕ) (vs : List (Label A)) (rest : Forest (Label A)) (f : FoundOpener A)
+        → FoundLies i k (forward vs rest) f
         → AllLie i k (layers s f.run.delimiter f.characters vs f.inside).closing
         (after_layers f (layers s f.run.delimiter f.characters vs f.inside)) rest
     pair_lies i k vs rest f h =
@@ -211,9 +230,11 @@ module _ {A : Type 0} where
         subst (LieInOrder i k) (sym (trees_before made.whole (still_waiting f.run made.opening f.before) after))
         (subst (LieInOrder i k) (sym (still_before f.run made.opening f.before (joined_chains made.whole after)))
         (behind_read k f.before (texts_before f.characters (joined_chains f.inside (forward vs rest)))
-        (texts_before made.opening (joined_chains made.whole after)) (layers_lie f.run.delimiter k f.characters vs f.inside rest) i h))
+        (texts_before made.opening (joined_chains made.whole after))
+        (layers_lie f.run.delimiter k f.characters vs f.inside rest) i h))
 
-    firsts_lie : (k n : ℕ) (chain : Forest (Label A)) → Lies k chain (forward (first_texts s.text n chain) (later n chain))
+    firsts_lie : (k n : ℕ) (chain : Forest (Label A))
+        → Lies k chain (forward (first_texts s.text n chain) (later n chain))
     firsts_lie k zero chain i h = h
     firsts_lie k (suc n) nil i h = h
     firsts_lie k (suc n) (node a below after) i h =
@@ -229,23 +250,31 @@ module _ {A : Type 0} where
       tree = λ a below after rs h. behind_read k rs (node a below after) (node (as_closed s.text a) below after)
           (closed_lies k (is_unresolved a.part.shape) a below after) i h;
       skip = λ a below after rs h. behind_read k rs (node a below after) after (without_first k a below after) i h;
-      texts = λ n chain rs h. behind_read k rs chain (forward (first_texts s.text n chain) (later n chain)) (firsts_lie k n chain) i h;
+      texts = λ n chain rs h. behind_read k rs chain (forward (first_texts s.text n chain) (later n chain))
+          (firsts_lie k n chain) i h;
       dropped = λ d vs rs rest h. subst (LieInOrder i k) (sym (dropped_before d rs (forward vs rest))) h;
-      left = λ closer vs rs rest h. subst (LieInOrder i k) (sym (opened_before closer.can_open closer (last_first vs []) rs rest))
+      left = λ closer vs rs rest h. subst (LieInOrder i k)
+          (sym (opened_before closer.can_open closer (last_first vs []) rs rest))
           (subst (λ f. LieInOrder i k (read_trees rs f)) (sym (turned vs [] rest)) h);
-      found = λ closer vs rs rest h. IfSome_then (nearest_opener closer rs nil) (nearest_lies i k (forward vs rest) closer rs nil h)
+      found = λ closer vs rs rest h. IfSome_then (nearest_opener closer rs nil)
+          (nearest_lies i k (forward vs rest) closer rs nil h)
           (λ f g. pair_lies i k vs rest f g);
     }
 
     quotes_lie : (single double : Bool) (i k : ℕ) (chain : Forest (Label A)) → LieInOrder i k chain
         → LieInOrder i k (quotes_after single double chain)
     quotes_lie single double i k nil h = h
-    quotes_lie single double i k (node a below after) h =
-        (h.0, h.1, quotes_lie (first_turn a after single double).single (first_turn a after single double).double (end_of a) k after h.2)
+    quotes_lie single double i k (node a below after) h = (
+      h.0,
+      h.1,
+      quotes_lie (first_turn a after single double).single (first_turn a after single double).double
+          (end_of a) k after h.2,
+    )
 
 pub nest-law : {A : Type 0} → NestLaw A
 unfolding paired runs_paired with_quotes
 nest-law s i k chain h =
     let lies : LieInOrder i k (paired s chain) =
-    reads-stay s (AllLie s i k) (lie_on s i k) 0 (quotes_after false false chain) [] (quotes_lie s false false i k chain h) in
+    reads-stay s (AllLie s i k) (lie_on s i k) 0 (quotes_after false false chain) []
+    (quotes_lie s false false i k chain h) in
     (lies, nest_or_apart i k (paired s chain) lies)

@@ -1,6 +1,7 @@
 -- Pairing a chain, and changing what is below each of its trees and the tags of its labels, may be done in either
 -- order, if the change of a chain in which nothing is open only changes what is below its trees and its tags.
-use Rattle.std.proofs.Common.{◌≡◌, ℕ, zero, suc, ◌+◌, ◌-◌, Bool, true, false, List, [], ◌∷◌, length, Option, Some, None, refl, ap, sym, ◌∙◌, map}
+use Rattle.std.proofs.Common.{◌≡◌, ℕ, zero, suc, ◌+◌, ◌-◌, Bool, true, false, List, [], ◌∷◌, length, Option, Some, None}
+use Rattle.std.proofs.Common.{refl, ap, sym, ◌∙◌, map}
 use Rattle.std.specs.Prelude.{IfSome, not, ◌&&◌, ◌||◌, slice_range}
 use Rattle.std.specs.List.{AllByRecursion}
 use Rattle.std.proofs.lemmas.List.{length-map}
@@ -13,14 +14,18 @@ use Rattle.markdown_delims.specs.declared.run.Delimiter.{Delimiter}
 use Rattle.markdown_delims.specs.declared.run.Run.{Run}
 use Rattle.markdown_delims.specs.Layers.{marks_of, layer_of_one, layer_of_two, spanned, run_of}
 use Rattle.markdown_delims.specs.MayPair.{drops, may_pair}
-use Rattle.markdown_delims.specs.Pairing.{Read, done_read, waiting, texts_before, characters_done, read_trees, FoundOpener, found_if, nearest_opener}
+use Rattle.markdown_delims.specs.Pairing.{Read, done_read, waiting, texts_before, characters_done, read_trees}
+use Rattle.markdown_delims.specs.Pairing.{FoundOpener, found_if, nearest_opener}
 use Rattle.markdown_delims.specs.Pairing.{drop_read, Layers, layers, trees_done, still_waiting, last_first, opened_if}
-use Rattle.markdown_delims.specs.Pairing.{left_over, after_layers, after_search, closed_by, run_read, first_texts, after_tree, reads_from}
+use Rattle.markdown_delims.specs.Pairing.{left_over, after_layers, after_search, closed_by, run_read, first_texts}
+use Rattle.markdown_delims.specs.Pairing.{after_tree, reads_from}
 use Rattle.markdown_delims.specs.Pairing.{runs_paired, paired}
 use Rattle.markdown_delims.specs.PairingFinds.{search_finds, closer_finds, run_finds, tree_finds, finds_from, finds_in}
-use Rattle.markdown_delims.specs.Quotes.{kind_of_shape, closes_later, is_closed_later, is_end, QuoteTurn, turn_by, first_turn, quotes_after}
+use Rattle.markdown_delims.specs.Quotes.{kind_of_shape, closes_later, is_closed_later, is_end, QuoteTurn, turn_by}
+use Rattle.markdown_delims.specs.Quotes.{first_turn, quotes_after}
 use Rattle.markdown_delims.specs.Quotes.{with_quotes}
-use Rattle.markdown_delims.proofs.KeepLemmas.{EachTree, EachRead, EachFound, Holds, nearest-keeps, found-keeps, firsts-keep, holds-on}
+use Rattle.markdown_delims.proofs.KeepLemmas.{EachTree, EachRead, EachFound, Holds, nearest-keeps, found-keeps}
+use Rattle.markdown_delims.proofs.KeepLemmas.{firsts-keep, holds-on}
 use Rattle.markdown_delims.proofs.KeepLemmas.{IsClosed, IsClosedTree, as_closed-closed, readable, makes-closed}
 use Rattle.markdown_delims.proofs.LayerLawLemmas.{two-closed}
 use Rattle.markdown_delims.proofs.StepLawLemmas.{run-stays}
@@ -50,7 +55,13 @@ module _ {A B : Type 0} (to : A → B) (within : Forest (Label A) → Forest (La
   deep_reads (waiting dropped run xs ∷ rs) = waiting dropped run (moved xs) ∷ deep_reads rs
 
   abbrev deep_opener : FoundOpener A → FoundOpener B
-  deep_opener f = record { inside = deep f.inside; run = f.run; characters = moved f.characters; before = deep_reads f.before }
+  deep_opener f = record {
+    inside = deep f.inside;
+    run = f.run;
+    characters = moved f.characters;
+    before = deep_reads
+        f.before;
+  }
 
   abbrev deep_found : Option (FoundOpener A) → Option (FoundOpener B)
   deep_found None = None
@@ -59,22 +70,28 @@ module _ {A B : Type 0} (to : A → B) (within : Forest (Label A) → Forest (La
   abbrev deep_layers : Layers A → Layers B
   deep_layers l = record { whole = deep l.whole; opening = moved l.opening; closing = moved l.closing }
 
-  module _ (s : Setting) (within_nil : within nil ≡ nil) (stays : (f : Forest (Label A)) → IsClosedChain f → within f ≡ deep f) where
-    texts_deep : (xs : List (Label A)) (chain : Forest (Label A)) → texts_before (moved xs) (deep chain) ≡ deep (texts_before xs chain)
+  module _ (s : Setting) (within_nil : within nil ≡ nil) (stays : (f : Forest (Label A)) → IsClosedChain f → within f
+      ≡ deep f) where
+    texts_deep : (xs : List (Label A)) (chain : Forest (Label A)) → texts_before (moved xs) (deep chain)
+        ≡ deep (texts_before xs chain)
     texts_deep [] chain = refl
-    texts_deep (x ∷ xs) chain = ap (λ (f : Forest (Label B)). texts_before (moved xs) (node (retag to x) f (deep chain))) (sym within_nil)
+    texts_deep (x ∷ xs) chain = ap
+        (λ (f : Forest (Label B)). texts_before (moved xs) (node (retag to x) f (deep chain))) (sym within_nil)
         ∙ texts_deep xs (node x nil chain)
 
-    trees_deep : (rs : List (Read A)) (after : Forest (Label A)) → read_trees (deep_reads rs) (deep after) ≡ deep (read_trees rs after)
+    trees_deep : (rs : List (Read A)) (after : Forest (Label A)) → read_trees (deep_reads rs) (deep after)
+        ≡ deep (read_trees rs after)
     trees_deep [] after = refl
     trees_deep (done_read a below ∷ rs) after = trees_deep rs (node a below after)
     trees_deep (waiting dropped run xs ∷ rs) after = ap (read_trees (deep_reads rs)) (texts_deep xs after)
         ∙ trees_deep rs (texts_before xs after)
 
-    done_deep : (xs : List (Label A)) (rs : List (Read A)) → characters_done (moved xs) (deep_reads rs) ≡ deep_reads (characters_done xs rs)
+    done_deep : (xs : List (Label A)) (rs : List (Read A)) → characters_done (moved xs) (deep_reads rs)
+        ≡ deep_reads (characters_done xs rs)
     done_deep [] rs = refl
     done_deep (x ∷ xs) rs =
-        ap (λ (f : Forest (Label B)). done_read (retag to x) f ∷ characters_done (moved xs) (deep_reads rs)) (sym within_nil)
+        ap (λ (f : Forest (Label B)). done_read (retag to x) f ∷ characters_done (moved xs) (deep_reads rs))
+        (sym within_nil)
         ∙ ap (λ (os : List (Read B)). done_read (retag to x) (within nil) ∷ os) (done_deep xs rs)
 
     found_deep : (b : Bool) (f : FoundOpener A) (o : Option (FoundOpener A)) → found_if b (deep_opener f) (deep_found o)
@@ -82,7 +99,8 @@ module _ {A B : Type 0} (to : A → B) (within : Forest (Label A) → Forest (La
     found_deep true f o = refl
     found_deep false f o = refl
 
-    nearest_deep : (closer : Run) (rs : List (Read A)) (inside : Forest (Label A)) → nearest_opener closer (deep_reads rs) (deep inside)
+    nearest_deep : (closer : Run) (rs : List (Read A)) (inside : Forest (Label A))
+        → nearest_opener closer (deep_reads rs) (deep inside)
         ≡ deep_found (nearest_opener closer rs inside)
     nearest_deep closer [] inside = refl
     nearest_deep closer (done_read a below ∷ rs) inside = nearest_deep closer rs (node a below inside)
@@ -92,10 +110,13 @@ module _ {A B : Type 0} (to : A → B) (within : Forest (Label A) → Forest (La
         (texts_deep xs inside) ∙ nearest_deep closer rs (texts_before xs inside))
         ∙ found_deep (not dropped && may_pair run closer) f (nearest_opener closer rs (texts_before xs inside))
 
-    dropped_deep : (d : Delimiter) (rs : List (Read A)) → map (drop_read d) (deep_reads rs) ≡ deep_reads (map (drop_read d) rs)
+    dropped_deep : (d : Delimiter) (rs : List (Read A)) → map (drop_read d) (deep_reads rs)
+        ≡ deep_reads (map (drop_read d) rs)
     dropped_deep d [] = refl
-    dropped_deep d (done_read a below ∷ rs) = ap (λ (os : List (Read B)). done_read (retag to a) (within below) ∷ os) (dropped_deep d rs)
-    dropped_deep d (waiting dropped run xs ∷ rs) = ap (λ (os : List (Read B)). waiting (dropped || drops d run.delimiter) run
+    dropped_deep d (done_read a below ∷ rs) = ap (λ (os : List (Read B)). done_read (retag to a) (within below) ∷ os)
+        (dropped_deep d rs)
+    dropped_deep d (waiting dropped run xs ∷ rs) = ap
+        (λ (os : List (Read B)). waiting (dropped || drops d run.delimiter) run
         (moved xs) ∷ os) (dropped_deep d rs)
 
     layers_deep : (d : Delimiter) (xs vs : List (Label A)) (inside : Forest (Label A)) → IsClosedChain inside
@@ -124,7 +145,8 @@ module _ {A B : Type 0} (to : A → B) (within : Forest (Label A) → Forest (La
         ∙ layers_deep d xs vs (node (spanned s.text (layer_of_two (marks_of s.rules.options) d) y w) inside nil)
         (two-closed (marks_of s.rules.options) d (slice_range s.text y.part.range.start w.part.range.end), tt)
 
-    done_trees_deep : (f : Forest (Label A)) (rs : List (Read A)) → trees_done (deep f) (deep_reads rs) ≡ deep_reads (trees_done f rs)
+    done_trees_deep : (f : Forest (Label A)) (rs : List (Read A)) → trees_done (deep f) (deep_reads rs)
+        ≡ deep_reads (trees_done f rs)
     done_trees_deep nil rs = refl
     done_trees_deep (node a below after) rs = done_trees_deep after (done_read a below ∷ rs)
 
@@ -137,18 +159,22 @@ module _ {A B : Type 0} (to : A → B) (within : Forest (Label A) → Forest (La
     turned_deep [] ys = refl
     turned_deep (x ∷ xs) ys = turned_deep xs (x ∷ ys)
 
-    opened_deep : (b : Bool) (run : Run) (xs : List (Label A)) (rs : List (Read A)) → opened_if b run (moved xs) (deep_reads rs)
+    opened_deep : (b : Bool) (run : Run) (xs : List (Label A)) (rs : List (Read A))
+        → opened_if b run (moved xs) (deep_reads rs)
         ≡ deep_reads (opened_if b run xs rs)
     opened_deep true run xs rs = refl
     opened_deep false run xs rs = done_deep xs rs
 
     left_deep : (run : Run) (vs : List (Label A)) (rs : List (Read A)) → left_over run (moved vs) (deep_reads rs)
         ≡ deep_reads (left_over run vs rs)
-    left_deep run vs rs = ap (λ (xs : List (Label B)). opened_if run.can_open run xs (deep_reads rs)) (turned_deep vs [])
+    left_deep run vs rs = ap (λ (xs : List (Label B)). opened_if run.can_open run xs (deep_reads rs))
+        (turned_deep vs [])
         ∙ opened_deep run.can_open run (last_first vs []) rs
 
-    abbrev IsDeep : (List (Label B) → List (Read B) → List (Read B)) → (List (Label A) → List (Read A) → List (Read A)) → Type 0
-    IsDeep again' again = (vs : List (Label A)) (rs : List (Read A)) → AreClosed vs → Good rs → again' (moved vs) (deep_reads rs)
+    abbrev IsDeep : (List (Label B) → List (Read B) → List (Read B)) → (List (Label A) → List (Read A) → List (Read A))
+        → Type 0
+    IsDeep again' again = (vs : List (Label A)) (rs : List (Read A)) → AreClosed vs → Good rs
+        → again' (moved vs) (deep_reads rs)
         ≡ deep_reads (again vs rs)
 
     -- a pair
@@ -166,7 +192,8 @@ module _ {A B : Type 0} (to : A → B) (within : Forest (Label A) → Forest (La
     searched_deep : (again' : List (Label B) → List (Read B) → List (Read B)) (again : List (Label A) → List (Read A)
         → List (Read A)) (closer : Run) (vs : List (Label A)) (rs : List (Read A))
         (o : Option (FoundOpener A)) → IsDeep again' again → AreClosed vs → IfSome o (EachFound IsClosed IsClosedTree)
-        → after_search s again' closer (moved vs) (deep_reads rs) (deep_found o) ≡ deep_reads (after_search s again closer vs rs o)
+        → after_search s again' closer (moved vs) (deep_reads rs) (deep_found o)
+        ≡ deep_reads (after_search s again closer vs rs o)
     searched_deep again' again closer vs rs None h k g =
         ap (left_over closer (moved vs)) (dropped_deep closer.delimiter rs)
         ∙ left_deep closer vs (map (drop_read closer.delimiter) rs)
@@ -174,39 +201,49 @@ module _ {A B : Type 0} (to : A → B) (within : Forest (Label A) → Forest (La
         let made : Layers A = layers s f.run.delimiter f.characters vs f.inside in
         let holds = found-keeps IsClosed IsClosedTree s (makes-closed s) vs nil f k tt g in
         let pair = pair_deep vs f g in
-        ap (λ (l : Layers B). again' l.closing (after_layers (deep_opener f) l)) pair.0 ∙ ap (again' (moved made.closing)) pair.1
+        ap (λ (l : Layers B). again' l.closing (after_layers (deep_opener f) l)) pair.0
+        ∙ ap (again' (moved made.closing)) pair.1
         ∙ h made.closing (after_layers f made) holds.0 holds.1
 
     -- the same number of searches find
     abbrev FindsSame : (List (Label B) → List (Read B) → ℕ) → (List (Label A) → List (Read A) → ℕ) → Type 0
-    FindsSame again' again = (vs : List (Label A)) (rs : List (Read A)) → AreClosed vs → Good rs → again' (moved vs) (deep_reads rs)
+    FindsSame again' again = (vs : List (Label A)) (rs : List (Read A)) → AreClosed vs → Good rs
+        → again' (moved vs) (deep_reads rs)
         ≡ again vs rs
 
-    searched_finds : (again' : List (Label B) → List (Read B) → ℕ) (again : List (Label A) → List (Read A) → ℕ) (vs : List (Label A))
-        (o : Option (FoundOpener A)) → FindsSame again' again → AreClosed vs → IfSome o (EachFound IsClosed IsClosedTree)
+    searched_finds : (again' : List (Label B) → List (Read B) → ℕ) (again : List (Label A) → List (Read A) → ℕ)
+        (vs : List (Label A))
+        (o : Option (FoundOpener A)) → FindsSame again' again → AreClosed vs
+        → IfSome o (EachFound IsClosed IsClosedTree)
         → search_finds s again' (moved vs) (deep_found o) ≡ search_finds s again vs o
     searched_finds again' again vs None h k g = refl
     searched_finds again' again vs (Some f) h k g =
         let made : Layers A = layers s f.run.delimiter f.characters vs f.inside in
         let holds = found-keeps IsClosed IsClosedTree s (makes-closed s) vs nil f k tt g in
         let pair = pair_deep vs f g in
-        ap suc (ap (λ (l : Layers B). again' l.closing (after_layers (deep_opener f) l)) pair.0 ∙ ap (again' (moved made.closing)) pair.1
+        ap suc (ap (λ (l : Layers B). again' l.closing (after_layers (deep_opener f) l)) pair.0
+        ∙ ap (again' (moved made.closing)) pair.1
         ∙ h made.closing (after_layers f made) holds.0 holds.1)
 
-    closer_finds_same : (turns : ℕ) (closer : Run) → FindsSame (λ vs rs. closer_finds s turns closer vs rs) (λ vs rs. closer_finds s turns
+    closer_finds_same : (turns : ℕ) (closer : Run) → FindsSame (λ vs rs. closer_finds s turns closer vs rs)
+        (λ vs rs. closer_finds s turns
         closer vs rs)
     unfolding closer_finds
     closer_finds_same zero closer [] rs h k = refl
     closer_finds_same (suc turns) closer [] rs h k = refl
     closer_finds_same zero closer (v ∷ vs) rs h k = refl
     closer_finds_same (suc turns) closer (v ∷ vs) rs h k =
-        ap (search_finds s (λ left others. closer_finds s turns closer left others) (moved (v ∷ vs))) (nearest_deep closer rs nil)
-        ∙ searched_finds (λ left others. closer_finds s turns closer left others) (λ left others. closer_finds s turns closer left others)
+        ap (search_finds s (λ left others. closer_finds s turns closer left others) (moved (v ∷ vs)))
+        (nearest_deep closer rs nil)
+        ∙ searched_finds (λ left others. closer_finds s turns closer left others)
+        (λ left others. closer_finds s turns closer left others)
         (v ∷ vs) (nearest_opener closer rs nil) (closer_finds_same turns closer) h
         (nearest-keeps IsClosed IsClosedTree s (makes-closed s) closer rs nil k tt)
 
-    run_finds_same : (b : Bool) (run : Run) → FindsSame (λ vs rs. run_finds s b run vs rs) (λ vs rs. run_finds s b run vs rs)
-    run_finds_same true run vs rs h k = ap (λ n. closer_finds s n run (moved vs) (deep_reads rs)) (length-map vs (retag to))
+    run_finds_same : (b : Bool) (run : Run) → FindsSame (λ vs rs. run_finds s b run vs rs)
+        (λ vs rs. run_finds s b run vs rs)
+    run_finds_same true run vs rs h k = ap (λ n. closer_finds s n run (moved vs) (deep_reads rs))
+        (length-map vs (retag to))
         ∙ closer_finds_same (length vs) run vs rs h k
     run_finds_same false run vs rs h k = refl
 
@@ -217,9 +254,11 @@ module _ {A B : Type 0} (to : A → B) (within : Forest (Label A) → Forest (La
     closed_deep (suc turns) closer [] rs h k = refl
     closed_deep zero closer (v ∷ vs) rs h k = left_deep closer (v ∷ vs) rs
     closed_deep (suc turns) closer (v ∷ vs) rs h k =
-        ap (after_search s (λ left others. closed_by s turns closer left others) closer (moved (v ∷ vs)) (deep_reads rs))
+        ap (after_search s (λ left others. closed_by s turns closer left others) closer (moved (v ∷ vs))
+        (deep_reads rs))
         (nearest_deep closer rs nil)
-        ∙ searched_deep (λ left others. closed_by s turns closer left others) (λ left others. closed_by s turns closer left others) closer
+        ∙ searched_deep (λ left others. closed_by s turns closer left others)
+        (λ left others. closed_by s turns closer left others) closer
         (v ∷ vs) rs (nearest_opener closer rs nil)
         (λ left others a b. closed_deep turns closer left others a b) h
         (nearest-keeps IsClosed IsClosedTree s (makes-closed s) closer rs nil k tt)
@@ -230,73 +269,90 @@ module _ {A B : Type 0} (to : A → B) (within : Forest (Label A) → Forest (La
         ∙ closed_deep (length vs) run vs rs h k
     run_deep false run vs rs h k = left_deep run vs rs
 
-    firsts_deep : (n : ℕ) (chain : Forest (Label A)) → first_texts s.text n (deep chain) ≡ moved (first_texts s.text n chain)
+    firsts_deep : (n : ℕ) (chain : Forest (Label A)) → first_texts s.text n (deep chain)
+        ≡ moved (first_texts s.text n chain)
     firsts_deep zero chain = refl
     firsts_deep (suc n) nil = refl
-    firsts_deep (suc n) (node a below after) = ap (λ (xs : List (Label B)). as_text s.text (retag to a) ∷ xs) (firsts_deep n after)
+    firsts_deep (suc n) (node a below after) = ap (λ (xs : List (Label B)). as_text s.text (retag to a) ∷ xs)
+        (firsts_deep n after)
 
     text_deep : (b : Bool) (a : Label A) → text_if b s.text (retag to a) ≡ retag to (text_if b s.text a)
     text_deep true a = refl
     text_deep false a = refl
 
     abbrev NextDeep : (ℕ → List (Read B) → List (Read B)) → (ℕ → List (Read A) → List (Read A)) → Type 0
-    NextDeep go_on' go_on = (skip : ℕ) (fs : List (Read A)) → Good fs → go_on' skip (deep_reads fs) ≡ deep_reads (go_on skip fs)
+    NextDeep go_on' go_on = (skip : ℕ) (fs : List (Read A)) → Good fs → go_on' skip (deep_reads fs)
+        ≡ deep_reads (go_on skip fs)
 
     tree_deep : (go_on' : ℕ → List (Read B) → List (Read B)) (go_on : ℕ → List (Read A)
-        → List (Read A)) (a : Label A) (below after : Forest (Label A)) (rs : List (Read A)) (o : Option Run) → NextDeep go_on' go_on
+        → List (Read A)) (a : Label A) (below after : Forest (Label A)) (rs : List (Read A)) (o : Option Run)
+        → NextDeep go_on' go_on
         → Good rs → after_tree s go_on' (retag to a) (within below) (deep after) (deep_reads rs) o
         ≡ deep_reads (after_tree s go_on a below after rs o)
     tree_deep go_on' go_on a below after rs None h k =
-        ap (λ (l : Label B). go_on' 0 (done_read l (within below) ∷ deep_reads rs)) (text_deep (is_unresolved a.part.shape) a)
+        ap (λ (l : Label B). go_on' 0 (done_read l (within below) ∷ deep_reads rs))
+        (text_deep (is_unresolved a.part.shape) a)
         ∙ h 0 (done_read (as_closed s.text a) below ∷ rs) (as_closed-closed s.text a, k)
     tree_deep go_on' go_on a below after rs (Some run) h k =
         let vs : List (Label A) = first_texts s.text run.length (node a below after) in
-        let closed : AreClosed vs = (firsts-keep IsClosed IsClosedTree s (makes-closed s) run.length (node a below after)
+        let closed : AreClosed vs
+        = (firsts-keep IsClosed IsClosedTree s (makes-closed s) run.length (node a below after)
         (readable s (node a below after))).0 in
         ap (λ (xs : List (Label B)). go_on' (run.length - 1) (run_read s run.can_close run xs (deep_reads rs)))
         (firsts_deep run.length (node a below after))
         ∙ ap (go_on' (run.length - 1)) (run_deep run.can_close run vs rs closed k)
         ∙ h (run.length - 1) (run_read s run.can_close run vs rs)
-        (run-stays s (Holds IsClosed IsClosedTree s (makes-closed s)) (holds-on IsClosed IsClosedTree s (makes-closed s)) run
+        (run-stays s (Holds IsClosed IsClosedTree s (makes-closed s))
+        (holds-on IsClosed IsClosedTree s (makes-closed s)) run
         vs rs nil (closed, k, tt)).1
 
-    reads_deep : (skip : ℕ) (chain : Forest (Label A)) (rs : List (Read A)) → Good rs → reads_from s skip (deep chain) (deep_reads rs)
+    reads_deep : (skip : ℕ) (chain : Forest (Label A)) (rs : List (Read A)) → Good rs
+        → reads_from s skip (deep chain) (deep_reads rs)
         ≡ deep_reads (reads_from s skip chain rs)
     unfolding reads_from
     reads_deep skip nil rs k = refl
     reads_deep (suc skip) (node a below after) rs k = reads_deep skip after rs k
     reads_deep zero (node a below after) rs k =
-        tree_deep (λ skip others. reads_from s skip (deep after) others) (λ skip others. reads_from s skip after others) a below after rs
+        tree_deep (λ skip others. reads_from s skip (deep after) others) (λ skip others. reads_from s skip after others)
+        a below after rs
         (run_of s.text a.part) (λ skip fs g. reads_deep skip after fs g) k
 
-    tree_finds_same : (go_on' : ℕ → List (Read B) → ℕ) (go_on : ℕ → List (Read A) → ℕ) (a : Label A) (below after : Forest (Label A))
+    tree_finds_same : (go_on' : ℕ → List (Read B) → ℕ) (go_on : ℕ → List (Read A) → ℕ) (a : Label A)
+        (below after : Forest (Label A))
         (rs : List (Read A)) (o : Option Run)
         → ((skip : ℕ) (fs : List (Read A)) → Good fs → go_on' skip (deep_reads fs) ≡ go_on skip fs) → Good rs
-        → tree_finds s go_on' (retag to a) (within below) (deep after) (deep_reads rs) o ≡ tree_finds s go_on a below after rs o
+        → tree_finds s go_on' (retag to a) (within below) (deep after) (deep_reads rs) o
+        ≡ tree_finds s go_on a below after rs o
     tree_finds_same go_on' go_on a below after rs None h k =
-        ap (λ (l : Label B). go_on' 0 (done_read l (within below) ∷ deep_reads rs)) (text_deep (is_unresolved a.part.shape) a)
+        ap (λ (l : Label B). go_on' 0 (done_read l (within below) ∷ deep_reads rs))
+        (text_deep (is_unresolved a.part.shape) a)
         ∙ h 0 (done_read (as_closed s.text a) below ∷ rs) (as_closed-closed s.text a, k)
     tree_finds_same go_on' go_on a below after rs (Some run) h k =
         let vs : List (Label A) = first_texts s.text run.length (node a below after) in
-        let closed : AreClosed vs = (firsts-keep IsClosed IsClosedTree s (makes-closed s) run.length (node a below after)
+        let closed : AreClosed vs
+        = (firsts-keep IsClosed IsClosedTree s (makes-closed s) run.length (node a below after)
         (readable s (node a below after))).0 in
         let read = run_deep run.can_close run vs rs closed k in
         let rest = h (run.length - 1) (run_read s run.can_close run vs rs)
-        (run-stays s (Holds IsClosed IsClosedTree s (makes-closed s)) (holds-on IsClosed IsClosedTree s (makes-closed s)) run
+        (run-stays s (Holds IsClosed IsClosedTree s (makes-closed s))
+        (holds-on IsClosed IsClosedTree s (makes-closed s)) run
         vs rs nil (closed, k, tt)).1 in
         ap (λ (xs : List (Label B)). run_finds s run.can_close run xs (deep_reads rs)
-        + go_on' (run.length - 1) (run_read s run.can_close run xs (deep_reads rs))) (firsts_deep run.length (node a below after))
+        + go_on' (run.length - 1) (run_read s run.can_close run xs (deep_reads rs)))
+        (firsts_deep run.length (node a below after))
         ∙ ap (λ n. n + go_on' (run.length - 1) (run_read s run.can_close run (moved vs) (deep_reads rs)))
         (run_finds_same run.can_close run vs rs closed k)
         ∙ ap (λ n. run_finds s run.can_close run vs rs + n) (ap (go_on' (run.length - 1)) read ∙ rest)
 
-    finds_same : (skip : ℕ) (chain : Forest (Label A)) (rs : List (Read A)) → Good rs → finds_from s skip (deep chain) (deep_reads rs)
+    finds_same : (skip : ℕ) (chain : Forest (Label A)) (rs : List (Read A)) → Good rs
+        → finds_from s skip (deep chain) (deep_reads rs)
         ≡ finds_from s skip chain rs
     unfolding finds_from
     finds_same skip nil rs k = refl
     finds_same (suc skip) (node a below after) rs k = finds_same skip after rs k
     finds_same zero (node a below after) rs k =
-        tree_finds_same (λ skip others. finds_from s skip (deep after) others) (λ skip others. finds_from s skip after others) a below after
+        tree_finds_same (λ skip others. finds_from s skip (deep after) others)
+        (λ skip others. finds_from s skip after others) a below after
         rs (run_of s.text a.part) (λ skip fs g. finds_same skip after fs g) k
 
     later_deep : (chain : Forest (Label A)) → is_closed_later (deep chain) ≡ is_closed_later chain
@@ -311,10 +367,14 @@ module _ {A B : Type 0} (to : A → B) (within : Forest (Label A) → Forest (La
         ≡ deep (quotes_after single double chain)
     quotes_deep single double nil = refl
     quotes_deep single double (node a below after) =
-        ap (λ (t : QuoteTurn). node (shaped t.made (retag to a)) (within below) (quotes_after t.single t.double (deep after)))
-        (ap (λ l. turn_by (kind_of_shape a.part.shape) a.part.shape single double l (is_end (deep after))) (later_deep after)
-        ∙ ap (λ e. turn_by (kind_of_shape a.part.shape) a.part.shape single double (is_closed_later after) e) (end_deep after))
-        ∙ ap (λ (f : Forest (Label B)). node (shaped (first_turn a after single double).made (retag to a)) (within below) f)
+        ap (λ (t : QuoteTurn). node (shaped t.made (retag to a)) (within below)
+        (quotes_after t.single t.double (deep after)))
+        (ap (λ l. turn_by (kind_of_shape a.part.shape) a.part.shape single double l (is_end (deep after)))
+        (later_deep after)
+        ∙ ap (λ e. turn_by (kind_of_shape a.part.shape) a.part.shape single double (is_closed_later after) e)
+        (end_deep after))
+        ∙ ap (λ (f : Forest (Label B)). node (shaped (first_turn a after single double).made (retag to a))
+        (within below) f)
         (quotes_deep (first_turn a after single double).single (first_turn a after single double).double after)
 
     -- in either order

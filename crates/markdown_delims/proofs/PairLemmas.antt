@@ -1,5 +1,6 @@
 -- One pair: the chain is cut before the closer, and the opener encloses what follows it.
-use Rattle.std.proofs.Common.{◌≡◌, ◌≤◌, ℕ, ◌+◌, ◌-◌, ◌<◌, Bool, true, false, List, [], ◌∷◌, Option, Some, None, length, refl, ap, sym, ◌∙◌}
+use Rattle.std.proofs.Common.{◌≡◌, ◌≤◌, ℕ, ◌+◌, ◌-◌, ◌<◌, Bool, true, false, List, [], ◌∷◌, Option, Some, None, length}
+use Rattle.std.proofs.Common.{refl, ap, sym, ◌∙◌}
 use Rattle.std.proofs.Common.{subst, arith}
 use Rattle.std.specs.Prelude.{not, ◌&&◌, ◌^◌}
 use Rattle.markdown_base.specs.declared.item.Item.{Item}
@@ -10,34 +11,41 @@ use Rattle.markdown_document.specs.Document.{Part, Label, part_of}
 use Rattle.markdown_delims.specs.declared.marks.Marks.{Marks}
 use Rattle.markdown_delims.specs.declared.run.Characters.{Characters}
 use Rattle.markdown_delims.specs.declared.run.Run.{Run}
-use Rattle.markdown_delims.specs.ChainStanding.{Chain, view, texts, left_texts, flat, AreFirst, AreLast, Reads, StandsAt, Finds}
+use Rattle.markdown_delims.specs.ChainStanding.{Chain, view, texts, left_texts, flat, AreFirst, AreLast, Reads}
+use Rattle.markdown_delims.specs.ChainStanding.{StandsAt, Finds}
 use Rattle.markdown_delims.specs.Enclosing.{Around, Encloses, EnclosesAll, inner_of}
 use Rattle.markdown_delims.specs.Layers.{marks_of}
 use Rattle.markdown_delims.specs.MayPair.{may_pair}
-use Rattle.markdown_delims.specs.Pairing.{Read, done_read, waiting, texts_before, FoundOpener, found_if, nearest_opener, Layers, layers}
+use Rattle.markdown_delims.specs.Pairing.{Read, done_read, waiting, texts_before, FoundOpener, found_if, nearest_opener}
+use Rattle.markdown_delims.specs.Pairing.{Layers, layers}
 use Rattle.markdown_delims.specs.Pairing.{trees_done, still_waiting, after_layers}
 use Rattle.markdown_delims.specs.Views.{View, Writes, Wrote, LeftHolds, next_number, LeftRises, Cut, AllTouched, top}
 use Rattle.markdown_delims.proofs.CutLemmas.{Rises-raise, Holds-write_before, step_left, Parted, parted}
 use Rattle.markdown_delims.proofs.WriteLemmas.{parts_written, kept_links, kept_both}
 
 -- the cut goes to the left over characters
-pub record CutSomewhere (own : ℕ → Bool) (k : View Part) (first : Option ℕ) (before after : Forest (Label ℕ)) (hi : ℕ) : Type 0 where
+pub record CutSomewhere (own : ℕ → Bool) (k : View Part) (first : Option ℕ) (before after : Forest (Label ℕ)) (hi : ℕ)
+    : Type 0 where
   pub link : Option ℕ
   pub cut : Cut own k first before link after hi
 
-pub over_texts : (own : ℕ → Bool) (k : View Part) (first : Option ℕ) (xs : List (Label ℕ)) (before : Forest (Label ℕ)) (l : Option ℕ)
+pub over_texts : (own : ℕ → Bool) (k : View Part) (first : Option ℕ) (xs : List (Label ℕ)) (before : Forest (Label ℕ))
+    (l : Option ℕ)
     (after : Forest (Label ℕ)) (hi : ℕ) → Cut own k first (left_texts xs before) l after hi
     → CutSomewhere own k first before (texts_before xs after) hi
 over_texts own k first [] before l after hi c = record { link = l; cut = c }
-over_texts own k first (x ∷ xs) before l after hi c = over_texts own k first xs before (Some x.tag) (node x nil after) hi
+over_texts own k first (x ∷ xs) before l after hi c = over_texts own k first xs before (Some x.tag) (node x nil after)
+    hi
     (step_left own k first x nil (left_texts xs before) l after hi c)
 
-pub touched_over : (touched : ℕ → Bool) (xs : List (Label ℕ)) (before after : Forest (Label ℕ)) → AllTouched touched (left_texts xs before)
+pub touched_over : (touched : ℕ → Bool) (xs : List (Label ℕ)) (before after : Forest (Label ℕ))
+    → AllTouched touched (left_texts xs before)
     → AllTouched touched after → AllTouched touched (texts_before xs after)
 touched_over touched [] before after h a = a
 touched_over touched (x ∷ xs) before after h a = touched_over touched xs before (node x nil after) h.1 (h.0, a)
 
-touched_before : (touched : ℕ → Bool) (xs : List (Label ℕ)) (before : Forest (Label ℕ)) → AllTouched touched (left_texts xs before)
+touched_before : (touched : ℕ → Bool) (xs : List (Label ℕ)) (before : Forest (Label ℕ))
+    → AllTouched touched (left_texts xs before)
     → AllTouched touched before
 touched_before touched [] before h = h
 touched_before touched (x ∷ xs) before h = touched_before touched xs before h.1
@@ -55,17 +63,21 @@ module _ (touched : ℕ → Bool) (k : View Part) (first : Option ℕ) (closer :
   here_or true g further h rest e = let same : g ≡ f = cc in subst (λ x. FoundAt touched k first x hi) same h
   here_or false g further h rest e = rest e
 
-  pub found_at : (rs : List (Read ℕ)) (l : Option ℕ) (inside : Forest (Label ℕ)) → Cut touched k first (flat rs) l inside hi
+  pub found_at : (rs : List (Read ℕ)) (l : Option ℕ) (inside : Forest (Label ℕ))
+      → Cut touched k first (flat rs) l inside hi
       → AllTouched touched (flat rs) → AllTouched touched inside → nearest_opener closer rs inside ≡ Some f
       → FoundAt touched k first f hi
   found_at [] l inside c h a e = cc
   found_at (done_read b below ∷ rs) l inside c h a e =
-      found_at rs (Some b.tag) (node b below inside) (step_left touched k first b below (flat rs) l inside hi c) h.1 (h.0, a) e
+      found_at rs (Some b.tag) (node b below inside) (step_left touched k first b below (flat rs) l inside hi c) h.1
+      (h.0, a) e
   found_at (waiting dropped run xs ∷ rs) l inside c h a e =
       here_or (not dropped && may_pair run closer) (record { inside = inside; run = run; characters = xs; before = rs })
-      (nearest_opener closer rs (texts_before xs inside)) (record { link = l; cut = c; left_touched = h; inside_touched = a })
+      (nearest_opener closer rs (texts_before xs inside))
+      (record { link = l; cut = c; left_touched = h; inside_touched = a })
       (let x = over_texts touched k first xs (flat rs) l inside hi c in
-      found_at rs x.link (texts_before xs inside) x.cut (touched_before touched xs (flat rs) h) (touched_over touched xs (flat rs) inside h a))
+      found_at rs x.link (texts_before xs inside) x.cut (touched_before touched xs (flat rs) h)
+      (touched_over touched xs (flat rs) inside h a))
       e
 
 -- the last node of a left list leads nowhere now
@@ -78,7 +90,8 @@ parted_top own k k' first (node a below before) last l right hi c e o w =
     parted own k k' first a below before l None right hi c (subst (λ i. own i ≡ true) same o)
     (subst (λ i. Writes k k' i (k.item i) (k.child i) None) same w)
 
-pub top_within : (k : View Part) (first : Option ℕ) (f : Forest (Label ℕ)) (last : ℕ) (l : Option ℕ) → LeftHolds k first f l
+pub top_within : (k : View Part) (first : Option ℕ) (f : Forest (Label ℕ)) (last : ℕ) (l : Option ℕ)
+    → LeftHolds k first f l
     → Some last ≡ top f → last < k.size
 top_within k first nil last l h e = cc
 top_within k first (node a below before) last l h e = let same : last ≡ a.tag = cc in omega (arith, h.0, same)
@@ -87,12 +100,14 @@ top_below : (own : ℕ → Bool) (f : Forest (Label ℕ)) (last hi : ℕ) → Le
 top_below own nil last hi h e = cc
 top_below own (node a below before) last hi h e = let same : last ≡ a.tag = cc in omega (arith, h.0.0, same)
 
-top_touched : (touched : ℕ → Bool) (f : Forest (Label ℕ)) (last : ℕ) → AllTouched touched f → Some last ≡ top f → touched last ≡ true
+top_touched : (touched : ℕ → Bool) (f : Forest (Label ℕ)) (last : ℕ) → AllTouched touched f → Some last ≡ top f
+    → touched last ≡ true
 top_touched touched nil last h e = cc
 top_touched touched (node a below before) last h e = let same : last ≡ a.tag = cc in rw same h.0
 
 -- the link after the last of an opener's characters
-pub last_link : (k : View Part) (first : Option ℕ) (o : Characters) (xs : List (Label ℕ)) (before : Forest (Label ℕ)) (l : Option ℕ)
+pub last_link : (k : View Part) (first : Option ℕ) (o : Characters) (xs : List (Label ℕ)) (before : Forest (Label ℕ))
+    (l : Option ℕ)
     → 0 < o.count → AreLast o xs → LeftHolds k first (left_texts xs before) l → l ≡ k.next (o.number + (o.count - 1))
 last_link k first o [] before l some are h = absurd (omega (arith, some, are.count))
 last_link k first o (x ∷ xs) before l some are h =
@@ -100,25 +115,30 @@ last_link k first o (x ∷ xs) before l some are h =
     sym h.3 ∙ ap k.next e
 
 -- the first number of a closer's characters
-pub texts_next : (c : Characters) (vs : List (Label ℕ)) (after : Forest (Label ℕ)) (hi : ℕ) → 0 < c.count → AreFirst c vs
+pub texts_next : (c : Characters) (vs : List (Label ℕ)) (after : Forest (Label ℕ)) (hi : ℕ) → 0 < c.count
+    → AreFirst c vs
     → next_number (texts vs after) hi ≡ c.number
 texts_next c [] after hi some are = absurd (omega (arith, some, are.count))
 texts_next c (v ∷ vs) after hi some are = are.from.0
 
 -- what a pair leaves
-flat_left : (run : Run) (xs : List (Label ℕ)) (rs : List (Read ℕ)) → flat (still_waiting run xs rs) ≡ left_texts xs (flat rs)
+flat_left : (run : Run) (xs : List (Label ℕ)) (rs : List (Read ℕ)) → flat (still_waiting run xs rs)
+    ≡ left_texts xs (flat rs)
 flat_left run [] rs = refl
 flat_left run (x ∷ xs) rs = refl
 
-flat_pair : (f : FoundOpener ℕ) (made : Layers ℕ) (whole : Label ℕ) (inside : Forest (Label ℕ)) → made.whole ≡ node whole inside nil
+flat_pair : (f : FoundOpener ℕ) (made : Layers ℕ) (whole : Label ℕ) (inside : Forest (Label ℕ)) → made.whole
+    ≡ node whole inside nil
     → flat (after_layers f made) ≡ node whole inside (left_texts made.opening (flat f.before))
 flat_pair f made whole inside e =
     ap (λ g. flat (trees_done g (still_waiting f.run made.opening f.before))) e
     ∙ ap (node whole inside) (flat_left f.run made.opening f.before)
 
 -- a closer after an opener that its search finds
-module _ (h : Chain) (s : Arena Item) (rs : List (Read ℕ)) (vs : List (Label ℕ)) (after : Forest (Label ℕ)) (found : FoundOpener ℕ)
-    (opener closer : Characters) (last : ℕ) (st : StandsAt h s rs (Some last) closer vs after) (finds : Finds rs opener closer found)
+module _ (h : Chain) (s : Arena Item) (rs : List (Read ℕ)) (vs : List (Label ℕ)) (after : Forest (Label ℕ))
+    (found : FoundOpener ℕ)
+    (opener closer : Characters) (last : ℕ) (st : StandsAt h s rs (Some last) closer vs after)
+    (finds : Finds rs opener closer found)
     (some_open : 0 < opener.count) (some_close : 0 < closer.count) where
   pub last_within : last < length s.nodes
   last_within = top_within (view h s) h.first (flat rs) last (Some closer.number) st.stands.cut.left st.stands.last_is
@@ -137,16 +157,21 @@ module _ (h : Chain) (s : Arena Item) (rs : List (Read ℕ)) (vs : List (Label �
     touched_last = top_touched h.touched (flat rs) last st.stands.left_touched st.stands.last_is
 
     parts : Writes (view h s) (view h t) last ((view h s).item last) ((view h s).child last) None
-    parts = parts_written (part_of h.setting.text h.tables) s.nodes t.nodes last (item_at s.nodes last) (child_of s.nodes last) None w.nodes
+    parts = parts_written (part_of h.setting.text h.tables) s.nodes t.nodes last (item_at s.nodes last)
+        (child_of s.nodes last) None w.nodes
 
     pub encloses : Encloses h around_opener t opener closer (inner_of opener t)
     unfolding around_opener
     encloses =
-        let first : next_number (texts vs after) h.bound ≡ closer.number = texts_next closer vs after h.bound some_close st.are in
-        let rises = Rises-raise h.touched 0 closer.number (texts vs after) h.bound (omega (arith, first)) st.stands.cut.rises_right in
-        let below : last < closer.number = subst (λ n. last < n) first (top_below h.touched (flat rs) last (next_number (texts vs after)
+        let first : next_number (texts vs after) h.bound ≡ closer.number = texts_next closer vs after h.bound some_close
+        st.are in
+        let rises = Rises-raise h.touched 0 closer.number (texts vs after) h.bound (omega (arith, first))
+        st.stands.cut.rises_right in
+        let below : last < closer.number = subst (λ n. last < n) first
+        (top_below h.touched (flat rs) last (next_number (texts vs after)
         h.bound) st.stands.cut.rises_left st.stands.last_is) in
-        let p = parted_top h.touched (view h s) (view h t) h.first (flat rs) last (Some closer.number) (texts vs after) h.bound
+        let p = parted_top h.touched (view h s) (view h t) h.first (flat rs) last (Some closer.number) (texts vs after)
+        h.bound
         st.stands.cut st.stands.last_is touched_last parts in
         let at = found_at h.touched (view h t) h.first closer.run found closer.number rs None nil
         (record {
@@ -155,15 +180,18 @@ module _ (h : Chain) (s : Arena Item) (rs : List (Read ℕ)) (vs : List (Label �
           rises_left = subst (λ n. LeftRises h.touched (flat rs) n) first st.stands.cut.rises_left;
           rises_right = omega arith;
         }) st.stands.left_touched tt finds.finds in
-        let link = last_link (view h t) h.first opener found.characters (flat found.before) at.link some_open finds.are at.cut.left in
+        let link = last_link (view h t) h.first opener found.characters (flat found.before) at.link some_open finds.are
+        at.cut.left in
         record {
           opener_are = finds.are;
           closer_are = st.are;
           hi = closer.number;
           low = omega arith;
-          cut = subst (λ l. Cut h.touched (view h t) h.first (left_texts found.characters (flat found.before)) l found.inside closer.number)
+          cut = subst (λ l. Cut h.touched (view h t) h.first (left_texts found.characters (flat found.before)) l
+              found.inside closer.number)
               link at.cut;
-          right = Holds-write_before h.touched (view h s) (view h t) last _ _ None parts touched_last (Some closer.number) closer.number
+          right = Holds-write_before h.touched (view h s) (view h t) last _ _ None parts touched_last
+              (Some closer.number) closer.number
               (texts vs after) h.bound below rises st.stands.cut.right;
           rises = rises;
           left_touched = at.left_touched;
@@ -174,7 +202,8 @@ module _ (h : Chain) (s : Arena Item) (rs : List (Read ℕ)) (vs : List (Label �
 
     pub pair_done : (m : Marks) (u : Arena Item) (root : ℕ) (rest : Option ℕ) → marks_of h.setting.rules.options ≡ m
         → EnclosesAll m opener closer t u root rest
-        → Reads h s u (after_layers found (layers h.setting found.run.delimiter found.characters vs found.inside)) (Some root) rest
+        → Reads h s u (after_layers found (layers h.setting found.run.delimiter found.characters vs found.inside))
+        (Some root) rest
         (texts (layers h.setting found.run.delimiter found.characters vs found.inside).closing after)
     unfolding around_opener
     pair_done m u root rest is all =

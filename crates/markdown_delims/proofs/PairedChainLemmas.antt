@@ -1,5 +1,6 @@
 -- A chain that was paired in place reads as its labels paired, and has no node more.
-use Rattle.std.proofs.Common.{◌≡◌, ℕ, ◌+◌, ◌≤◌, Bool, true, false, List, [], Some, length, refl, ap, sym, ◌∙◌, subst, arith}
+use Rattle.std.proofs.Common.{◌≡◌, ℕ, ◌+◌, ◌≤◌, Bool, true, false, List, [], Some, length, refl, ap, sym, ◌∙◌, subst}
+use Rattle.std.proofs.Common.{arith}
 use Rattle.std.proofs.Common.{inl, inr}
 use Rattle.std.specs.Prelude.{◌==◌, ◌||◌, ◌⊎◌, ◌^◌, slice_range}
 use Rattle.std.proofs.lemmas.Bool.{eqb-true}
@@ -22,7 +23,8 @@ use Rattle.markdown_document.specs.Totals.{total, same, weight_if, weight_at}
 use Rattle.markdown_document.proofs.FoundLemmas.{found}
 use Rattle.markdown_document.proofs.TablesLemmas.{same-refl}
 use Rattle.markdown_delims.specs.ChainForest.{RisesFrom}
-use Rattle.markdown_delims.specs.ChainReading.{is_among, NoneBelow, AreWhole, labels, IsSpelled, IsChainAt, IsPaired, runs_in}
+use Rattle.markdown_delims.specs.ChainReading.{is_among, NoneBelow, AreWhole, labels, IsSpelled, IsChainAt, IsPaired}
+use Rattle.markdown_delims.specs.ChainReading.{runs_in}
 use Rattle.markdown_delims.specs.PairedChain.{CanPair, PairsChain}
 use Rattle.markdown_delims.specs.Pairing.{runs_paired, paired}
 use Rattle.markdown_delims.specs.PairingFinds.{finds_from, finds_in}
@@ -54,9 +56,11 @@ root_some : (n : ℕ) (f : Forest ℕ) → is_among (roots f) n ≡ true → 1 �
 root_some n nil h = cc
 root_some n (node ix below after) h = here (λ k. root_some n after k) (ix == n) refl h
   where
-    here : (is_among (roots after) n ≡ true → 1 ≤ root_times n after) → (b : Bool) → (ix == n) ≡ b → (b || is_among (roots after) n) ≡ true
+    here : (is_among (roots after) n ≡ true → 1 ≤ root_times n after) → (b : Bool) → (ix == n) ≡ b
+        → (b || is_among (roots after) n) ≡ true
         → 1 ≤ root_times n (node ix below after)
-    here rest true e h = let is : n ≡ ix = sym (eqb-true ix n e) in let one : same n ix ≡ 1 = ap (same n) (sym is) ∙ same-refl n
+    here rest true e h = let is : n ≡ ix = sym (eqb-true ix n e) in let one : same n ix ≡ 1 = ap (same n) (sym is)
+        ∙ same-refl n
         in omega (arith, one)
     here rest false e h = omega (arith, rest h)
 
@@ -76,7 +80,8 @@ module _ (f : Forest ℕ) (once : (n : ℕ) → total (same n) f ≤ 1) where
 
   none_below : (g : Forest ℕ) → ((n : ℕ) → below_times n g ≤ below_times n f) → NoneBelow (is_among (roots f)) g
   none_below nil l = tt
-  none_below (node ix below after) l = (not_own below (λ n. omega (arith, l n)), none_below after (λ n. omega (arith, l n)))
+  none_below (node ix below after) l
+      = (not_own below (λ n. omega (arith, l n)), none_below after (λ n. omega (arith, l n)))
 
   pub apart : NoneBelow (is_among (roots f)) f
   apart = none_below f (λ n. omega arith)
@@ -85,8 +90,10 @@ module _ (f : Forest ℕ) (once : (n : ℕ) → total (same n) f ≤ 1) where
 abbrev pub trees : List (Node Item) → ℕ → Forest ℕ
 trees nodes first = forest_at (links_of nodes) (Some first)
 
-pub spelled_is : (text : List ℕ) (nodes : List (Node Item)) (first : ℕ) → CanPair text nodes first → IsSpelled nodes first (trees nodes first)
-spelled_is text nodes first c = record { spelled = c.spelled; rising = c.rising; apart = apart (trees nodes first) c.once }
+pub spelled_is : (text : List ℕ) (nodes : List (Node Item)) (first : ℕ) → CanPair text nodes first
+    → IsSpelled nodes first (trees nodes first)
+spelled_is text nodes first c = record
+    { spelled = c.spelled; rising = c.rising; apart = apart (trees nodes first) c.once }
 
 -- a chain whose quotes were read
 module _ (s : Setting) (tables : Tables) (old mid : Arena Item) (first : ℕ) (c : CanPair s.text old.nodes first)
@@ -94,10 +101,12 @@ module _ (s : Setting) (tables : Tables) (old mid : Arena Item) (first : ℕ) (c
   pub runs_are_few : runs_in s.text (labels s tables mid.nodes (trees old.nodes first))
       ≤ delimiters_of (relabelled (numbered old.nodes) (trees old.nodes first))
   unfolding with_quotes
-  runs_are_few = subst (λ g. runs_in s.text g ≤ delimiters_of (relabelled (numbered old.nodes) (trees old.nodes first))) (sym q.quotes)
+  runs_are_few = subst (λ g. runs_in s.text g ≤ delimiters_of (relabelled (numbered old.nodes) (trees old.nodes first)))
+      (sym q.quotes)
       (whole_quoted s tables old.nodes false false (trees old.nodes first) c.whole c.waits).1
 
-  pub chain_is : (count : ℕ) → count ≡ delimiters_of (relabelled (numbered old.nodes) (trees old.nodes first)) → length mid.nodes ≤ 2 ^ 63
+  pub chain_is : (count : ℕ) → count ≡ delimiters_of (relabelled (numbered old.nodes) (trees old.nodes first))
+      → length mid.nodes ≤ 2 ^ 63
       → IsChainAt s tables mid.nodes first count (trees old.nodes first)
   unfolding with_quotes
   chain_is count e few = record {
@@ -121,7 +130,8 @@ pub record IsResolved (s : Setting) (tables : Tables) (old new : Arena Item) (fi
   pub rising : RisesFrom 0 (roots forest)
   pub kept : Kept (is_among (roots f)) old new
 
-pub resolved : (s : Setting) (tables : Tables) (old mid new : Arena Item) (first : ℕ) (f : Forest ℕ) → IsQuoted s tables old mid first f
+pub resolved : (s : Setting) (tables : Tables) (old mid new : Arena Item) (first : ℕ) (f : Forest ℕ)
+    → IsQuoted s tables old mid first f
     → IsPaired s tables mid new first f → IsResolved s tables old new first f
 unfolding paired
 resolved s tables old mid new first f q p = record {
@@ -133,11 +143,14 @@ resolved s tables old mid new first f q p = record {
 }
 
 -- as many searches find in the labels as in the tree
-pub finds_are : (s : Setting) (tables : Tables) (old mid : Arena Item) (first : ℕ) → IsQuoted s tables old mid first (trees old.nodes first)
-    → finds_from s 0 (labels s tables mid.nodes (trees old.nodes first)) [] ≡ finds_in s (trees_from s.text tables old.nodes (Some first))
+pub finds_are : (s : Setting) (tables : Tables) (old mid : Arena Item) (first : ℕ)
+    → IsQuoted s tables old mid first (trees old.nodes first)
+    → finds_from s 0 (labels s tables mid.nodes (trees old.nodes first)) []
+    ≡ finds_in s (trees_from s.text tables old.nodes (Some first))
 unfolding finds_in
 finds_are s tables old mid first q =
-    ap (λ g. finds_from s 0 g []) q.quotes ∙ sym (tag-finds (λ n. tt) s (labels s tables old.nodes (trees old.nodes first)))
+    ap (λ g. finds_from s 0 g []) q.quotes
+    ∙ sym (tag-finds (λ n. tt) s (labels s tables old.nodes (trees old.nodes first)))
     ∙ ap (finds_in s) (untagged s tables old.nodes first)
 
 -- sums over numbers are sums over tags
@@ -157,16 +170,20 @@ tags_count count s = record {
 }
 
 -- weights
-weight_sum : (s : Setting) (nodes : List (Node Item)) (f : Forest ℕ) → sum_of weighs (labels s no_tables nodes f) ≡ total (weight_at nodes) f
+weight_sum : (s : Setting) (nodes : List (Node Item)) (f : Forest ℕ) → sum_of weighs (labels s no_tables nodes f)
+    ≡ total (weight_at nodes) f
 weight_sum s nodes nil = refl
 weight_sum s nodes (node ix below after) =
-    let here : weight_if (is_unresolved (shape_of no_tables (slice_range s.text (item_at nodes ix).start (item_at nodes ix).end)
+    let here : weight_if (is_unresolved
+    (shape_of no_tables (slice_range s.text (item_at nodes ix).start (item_at nodes ix).end)
     (item_at nodes ix).body)) ≡ weight_at nodes ix =
-    ap weight_if (open_agrees no_tables (slice_range s.text (item_at nodes ix).start (item_at nodes ix).end) (item_at nodes ix).body) in
+    ap weight_if (open_agrees no_tables (slice_range s.text (item_at nodes ix).start (item_at nodes ix).end)
+    (item_at nodes ix).body) in
     omega (arith, here, weight_sum s nodes below, weight_sum s nodes after)
 
 -- a number that does not occur in a chain is not one of its own
-outside_if : (n : ℕ) (f : Forest ℕ) (b : Bool) → is_among (roots f) n ≡ b → total (same n) f ≡ 0 → is_among (roots f) n ≡ false
+outside_if : (n : ℕ) (f : Forest ℕ) (b : Bool) → is_among (roots f) n ≡ b → total (same n) f ≡ 0 → is_among (roots f) n
+    ≡ false
 outside_if n f false e none = e
 outside_if n f true e none = absurd (omega (arith, root_some n f e, times_parted n f, none))
 
@@ -176,13 +193,15 @@ none_named (some_text n) i b e = subst (λ x. same_as n x ≤ i) (sym e.text) (o
 none_named (some_link n) i b e = subst (λ x. same_as n x ≤ i) (sym e.link) (omega arith)
 none_named (some_alignments n) i b e = subst (λ x. same_as n x ≤ i) (sym e.alignments) (omega arith)
 
-names_at : (old new : List (Node Item)) (n : Named) (ix : ℕ) → (item_at new ix ≡ item_at old ix) ⊎ IsMade (item_at new ix).body
+names_at : (old new : List (Node Item)) (n : Named) (ix : ℕ) → (item_at new ix ≡ item_at old ix) ⊎ IsMade
+    (item_at new ix).body
     → naming new n ix ≤ naming old n ix
 names_at old new n ix (inl e) = omega (arith, ap (λ (i : Item). times_named n i.body) e)
 names_at old new n ix (inr e) = none_named n (naming old n ix) (item_at new ix).body e
 
 names_less : (old new : List (Node Item)) (n : Named) (f : Forest ℕ)
-    → ((ix : ℕ) → (item_at new ix ≡ item_at old ix) ⊎ IsMade (item_at new ix).body) → total (naming new n) f ≤ total (naming old n) f
+    → ((ix : ℕ) → (item_at new ix ≡ item_at old ix) ⊎ IsMade (item_at new ix).body)
+    → total (naming new n) f ≤ total (naming old n) f
 names_less old new n nil h = omega arith
 names_less old new n (node ix below after) h =
     omega (arith, names_at old new n ix (h ix), names_less old new n below h, names_less old new n after h)
@@ -196,20 +215,25 @@ module _ (s : Setting) (old new : Arena Item) (first : ℕ) (c : CanPair s.text 
       tag_sum count s tables new.nodes p.forest,
       tag_sum count s tables old.nodes (trees old.nodes first),
       ap (sum_of (λ (a : Label ℕ). count a.tag)) p.resolves,
-      sum-paired s (λ (a : Label ℕ). count a.tag) (tags_count count s) (labels s tables old.nodes (trees old.nodes first)),
+      sum-paired s (λ (a : Label ℕ). count a.tag) (tags_count count s)
+          (labels s tables old.nodes (trees old.nodes first)),
     )
 
     forest_is : trees new.nodes first ≡ p.forest
-    forest_is = found (links_of new.nodes) (Some first) p.forest p.spelled (λ n. omega (arith, tag_less (same n), c.once n))
+    forest_is = found (links_of new.nodes) (Some first) p.forest p.spelled
+        (λ n. omega (arith, tag_less (same n), c.once n))
 
-    reads_so : trees_from s.text tables new.nodes (Some first) ≡ paired s (trees_from s.text tables old.nodes (Some first))
+    reads_so : trees_from s.text tables new.nodes (Some first)
+        ≡ paired s (trees_from s.text tables old.nodes (Some first))
     reads_so =
         sym (untagged s tables new.nodes first) ∙ ap (λ f. retagged (λ n. tt) (labels s tables new.nodes f)) forest_is
-        ∙ ap (retagged (λ n. tt)) p.resolves ∙ sym (tag-law (λ n. tt) s (labels s tables old.nodes (trees old.nodes first)))
+        ∙ ap (retagged (λ n. tt)) p.resolves
+        ∙ sym (tag-law (λ n. tt) s (labels s tables old.nodes (trees old.nodes first)))
         ∙ ap (paired s) (untagged s tables old.nodes first)
 
   -- all that is said of the chain
-  pub pairs_chain : ((tables : Tables) → IsResolved s tables old new first (trees old.nodes first)) → PairsChain s first old.nodes new.nodes
+  pub pairs_chain : ((tables : Tables) → IsResolved s tables old new first (trees old.nodes first))
+      → PairsChain s first old.nodes new.nodes
   pairs_chain resolves =
       let f : Forest ℕ = trees old.nodes first in
       let p = resolves no_tables in
@@ -230,8 +254,10 @@ module _ (s : Setting) (old new : Arena Item) (first : ℕ) (c : CanPair s.text 
             record {
               spelled = rw here q.spelled;
               each = rw here
-                  (items_placed s tables old.nodes own new.nodes q.kept.others q.kept.items (Some first) (Some first) f q.forest
-                  reaches.spelled (apart f c.once) blocks reaches.each q.spelled q.resolves (λ n. tag_less tables q (same n)));
+                  (items_placed s tables old.nodes own new.nodes q.kept.others q.kept.items (Some first) (Some first) f
+                  q.forest
+                  reaches.spelled (apart f c.once) blocks reaches.each q.spelled q.resolves
+                  (λ n. tag_less tables q (same n)));
             };
         before = still_before s old.nodes new.nodes first p.forest p.spelled
             (omega (
@@ -240,7 +266,12 @@ module _ (s : Setting) (old new : Arena Item) (first : ℕ) (c : CanPair s.text 
               ap (sum_of (moved old.nodes)) p.resolves,
               sum-paired s (moved old.nodes) (moved_count s old.nodes) (labels s no_tables old.nodes f),
             ));
-        named = λ n. rw is (omega (arith, names_less old.nodes new.nodes n p.forest p.kept.items, tag_less no_tables p (naming old.nodes n)));
+        named = λ n. rw is (omega (
+          arith,
+          names_less old.nodes new.nodes n p.forest p.kept.items,
+          tag_less no_tables p
+              (naming old.nodes n),
+        ));
         no_heavier = rw is
             (omega (
               arith,

@@ -1,10 +1,12 @@
 -- What becomes of small chains by the definitions.
-use Rattle.std.proofs.Common.{◌≡◌, ℕ, zero, suc, ◌+◌, Bool, true, false, List, [], ◌∷◌, ◌++◌, Option, Some, None, refl, map}
+use Rattle.std.proofs.Common.{◌≡◌, ℕ, zero, suc, ◌+◌, Bool, true, false, List, [], ◌∷◌, ◌++◌, Option, Some, None, refl}
+use Rattle.std.proofs.Common.{map}
 use Rattle.std.specs.Prelude.{codes, encode_utf8, slice_range, option_map}
 use Rattle.markdown_base.specs.Event.{TagView, EventView, text, strong, emphasis, strikethrough, superscript, subscript}
 use Rattle.markdown_base.specs.Forest.{Forest, nil, node, preorder}
 use Rattle.markdown_base.specs.declared.item.ItemBody.TheVariants as body
-use Rattle.markdown_document.specs.Document.{Shape, leaf, enclosed, plain, backslash_break, unresolved, Label, Plain, text_over}
+use Rattle.markdown_document.specs.Document.{Shape, leaf, enclosed, plain, backslash_break, unresolved, Label, Plain}
+use Rattle.markdown_document.specs.Document.{text_over}
 use Rattle.markdown_document.specs.Setting.{Setting, Rules}
 use Rattle.markdown_delims.specs.Pairing.{closed_by, reads_from, runs_paired, paired}
 use Rattle.markdown_delims.specs.PairingFinds.{closer_finds, finds_from, finds_in}
@@ -13,12 +15,16 @@ use Rattle.markdown_delims.specs.Quotes.{with_quotes}
 
 -- a label over bytes i up to j
 abbrev over : ℕ → ℕ → Shape → Plain
-over i j shape = record { tag = tt; part = record { shape = shape; range = record { start = i; end = j }; block = None } }
+over i j shape = record {
+  tag = tt;
+  part = record { shape = shape; range = record { start = i; end = j }; block = None };
+}
 
 -- a chain with a run, with a word, with a quote
 abbrev run : ℕ → ℕ → Bool → Bool → Forest Plain → Forest Plain
 run i zero o c rest = rest
-run i (suc n) o c rest = node (over i (i + 1) (unresolved (body.MaybeEmphasis (suc n) o c))) nil (run (suc i) n o c rest)
+run i (suc n) o c rest = node (over i (i + 1) (unresolved (body.MaybeEmphasis (suc n) o c))) nil
+    (run (suc i) n o c rest)
 
 abbrev word : List ℕ → ℕ → ℕ → Forest Plain → Forest Plain
 word source i n rest = node (over i (i + n) (text_over (slice_range source i (i + n)))) nil rest
@@ -63,7 +69,8 @@ row_1 rules = refl
 
 -- two layers around one text
 row_2 : (rules : Rules)
-    → shown (paired (under rules (codes "***a***") 0) (run 0 3 true false (word (codes "***a***") 3 1 (run 4 3 false true nil))))
+    → shown (paired (under rules (codes "***a***") 0)
+    (run 0 3 true false (word (codes "***a***") 3 1 (run 4 3 false true nil))))
     ≡ codes "[{a}]"
 unfolding paired runs_paired reads_from closed_by with_quotes
 row_2 rules = refl
@@ -71,14 +78,16 @@ row_2 rules = refl
 -- the rule of three
 row_3 : (rules : Rules)
     → shown (paired (under rules (codes "*foo**bar*") 0)
-    (run 0 1 true false (word (codes "*foo**bar*") 1 3 (run 4 2 true true (word (codes "*foo**bar*") 6 3 (run 9 1 false true nil))))))
+    (run 0 1 true false (word (codes "*foo**bar*") 1 3
+    (run 4 2 true true (word (codes "*foo**bar*") 6 3 (run 9 1 false true nil))))))
     ≡ codes "[foo**bar]"
 unfolding paired runs_paired reads_from closed_by with_quotes
 row_3 rules = refl
 
 -- the opener keeps what the closer does not take
 row_4 : (rules : Rules)
-    → shown (paired (under rules (codes "**a*") 0) (run 0 2 true false (word (codes "**a*") 2 1 (run 3 1 false true nil)))) ≡ codes "*[a]"
+    → shown (paired (under rules (codes "**a*") 0)
+    (run 0 2 true false (word (codes "**a*") 2 1 (run 3 1 false true nil)))) ≡ codes "*[a]"
 unfolding paired runs_paired reads_from closed_by with_quotes
 row_4 rules = refl
 
@@ -86,14 +95,16 @@ row_4 rules = refl
 row_5 : (rules : Rules)
     → shown (paired (under rules (codes "*a _b* c_") 0)
     (run 0 1 true false (word (codes "*a _b* c_") 1 2
-    (run 3 1 true false (word (codes "*a _b* c_") 4 1 (run 5 1 false true (word (codes "*a _b* c_") 6 2 (run 8 1 false true nil))))))))
+    (run 3 1 true false (word (codes "*a _b* c_") 4 1
+    (run 5 1 false true (word (codes "*a _b* c_") 6 2 (run 8 1 false true nil))))))))
     ≡ codes "[a _b] c_"
 unfolding paired runs_paired reads_from closed_by with_quotes
 row_5 rules = refl
 
 -- by twos, and then a one
 row_6 : (rules : Rules)
-    → shown (paired (under rules (codes "*****a*****") 0) (run 0 5 true false (word (codes "*****a*****") 5 1 (run 6 5 false true nil))))
+    → shown (paired (under rules (codes "*****a*****") 0)
+    (run 0 5 true false (word (codes "*****a*****") 5 1 (run 6 5 false true nil))))
     ≡ codes "[{{a}}]"
 unfolding paired runs_paired reads_from closed_by with_quotes
 row_6 rules = refl
@@ -101,7 +112,8 @@ row_6 rules = refl
 -- a closer with characters left searches again
 row_7 : (rules : Rules)
     → shown (paired (under rules (codes "*a **b***") 0)
-    (run 0 1 true false (word (codes "*a **b***") 1 2 (run 3 2 true false (word (codes "*a **b***") 5 1 (run 6 3 false true nil))))))
+    (run 0 1 true false (word (codes "*a **b***") 1 2
+    (run 3 2 true false (word (codes "*a **b***") 5 1 (run 6 3 false true nil))))))
     ≡ codes "[a {b}]"
 unfolding paired runs_paired reads_from closed_by with_quotes
 row_7 rules = refl
@@ -117,7 +129,8 @@ row_8 rules = refl
 -- a failed search by `^` drops no open `~`
 row_9 : (rules : Rules)
     → shown (paired (under rules (codes "~a b^ c~") 24584)
-    (run 0 1 true false (word (codes "~a b^ c~") 1 3 (run 4 1 false true (word (codes "~a b^ c~") 5 2 (run 7 1 false true nil))))))
+    (run 0 1 true false (word (codes "~a b^ c~") 1 3
+    (run 4 1 false true (word (codes "~a b^ c~") 5 2 (run 7 1 false true nil))))))
     ≡ codes "(a b^ c)"
 unfolding paired runs_paired reads_from closed_by with_quotes
 row_9 rules = refl
@@ -125,7 +138,8 @@ row_9 rules = refl
 -- a failed search by `~` drops runs of every length
 row_10 : (rules : Rules)
     → shown (paired (under rules (codes "~a~~b~") 16384)
-    (run 0 1 true false (word (codes "~a~~b~") 1 1 (run 2 2 false true (word (codes "~a~~b~") 4 1 (run 5 1 false true nil))))))
+    (run 0 1 true false (word (codes "~a~~b~") 1 1
+    (run 2 2 false true (word (codes "~a~~b~") 4 1 (run 5 1 false true nil))))))
     ≡ codes "~a~~b~"
 unfolding paired runs_paired reads_from closed_by with_quotes
 row_10 rules = refl
@@ -133,7 +147,8 @@ row_10 rules = refl
 -- a mark that is off is text over all of its range
 row_11 : (rules : Rules) → shown (paired (under rules (codes "~~a *b* c~~") 16384)
     (run 0 2 true false (word (codes "~~a *b* c~~") 2 2
-    (run 4 1 true false (word (codes "~~a *b* c~~") 5 1 (run 6 1 false true (word (codes "~~a *b* c~~") 7 2 (run 9 2 false true nil))))))))
+    (run 4 1 true false (word (codes "~~a *b* c~~") 5 1
+    (run 6 1 false true (word (codes "~~a *b* c~~") 7 2 (run 9 2 false true nil))))))))
     ≡ codes "~~a *b* c~~"
 unfolding paired runs_paired reads_from closed_by with_quotes
 row_11 rules = refl
@@ -141,13 +156,15 @@ row_11 rules = refl
 -- a mark that is on
 row_12 : (rules : Rules)
     → shown (paired (under rules (codes "hi ~~no~~") 8)
-    (word (codes "hi ~~no~~") 0 3 (run 3 2 true false (word (codes "hi ~~no~~") 5 2 (run 7 2 false true nil))))) ≡ codes "hi <no>"
+    (word (codes "hi ~~no~~") 0 3 (run 3 2 true false (word (codes "hi ~~no~~") 5 2 (run 7 2 false true nil)))))
+    ≡ codes "hi <no>"
 unfolding paired runs_paired reads_from closed_by with_quotes
 row_12 rules = refl
 
 -- subscript off, strikethrough on: one `~` is a strikethrough
 row_13 : (rules : Rules)
-    → shown (paired (under rules (codes "~a~") 8) (run 0 1 true false (word (codes "~a~") 1 1 (run 2 1 false true nil)))) ≡ codes "<a>"
+    → shown (paired (under rules (codes "~a~") 8)
+    (run 0 1 true false (word (codes "~a~") 1 1 (run 2 1 false true nil)))) ≡ codes "<a>"
 unfolding paired runs_paired reads_from closed_by with_quotes
 row_13 rules = refl
 
@@ -162,7 +179,8 @@ unfolding paired runs_paired reads_from closed_by with_quotes
 row_quotes rules = refl
 
 -- a `"` that finds none open is a left quote, also where it can only close
-row_closing_quote : (rules : Rules) → shown (paired (under rules (codes "a\"") 0) (word (codes "a\"") 0 1 (quote 1 34 false true nil)))
+row_closing_quote : (rules : Rules)
+    → shown (paired (under rules (codes "a\"") 0) (word (codes "a\"") 0 1 (quote 1 34 false true nil)))
     ≡ codes "a" ++ encode_utf8 8220 ++ []
 unfolding paired runs_paired reads_from closed_by with_quotes
 row_closing_quote rules = refl
@@ -170,7 +188,8 @@ row_closing_quote rules = refl
 -- a hard break by a backslash, at the end of a chain and before it
 row_last_break : (rules : Rules)
     → shown (paired (under rules (codes "*a*\\") 0)
-    (run 0 1 true false (word (codes "*a*\\") 1 1 (run 2 1 false true (node (over 3 4 backslash_break) nil nil))))) ≡ codes "[a]"
+    (run 0 1 true false (word (codes "*a*\\") 1 1 (run 2 1 false true (node (over 3 4 backslash_break) nil nil)))))
+    ≡ codes "[a]"
     ++ encode_utf8 92 ++ []
 unfolding paired runs_paired reads_from closed_by with_quotes
 row_last_break rules = refl
@@ -190,7 +209,8 @@ told_4 : (rules : Rules) → starts (with_runs (under rules (codes "**a*") 0) 0 
     (run 0 2 true false (word (codes "**a*") 2 1 (run 3 1 false true nil)))) ≡ Some 0 ∷ Some 0 ∷ None ∷ Some 3 ∷ []
 told_4 rules = refl
 
-kept_4 : (rules : Rules) → kept_starts (paired (under rules (codes "**a*") 0) (with_runs (under rules (codes "**a*") 0) 0 None
+kept_4 : (rules : Rules)
+    → kept_starts (paired (under rules (codes "**a*") 0) (with_runs (under rules (codes "**a*") 0) 0 None
     (run 0 2 true false (word (codes "**a*") 2 1 (run 3 1 false true nil))))) ≡ Some 0 ∷ None ∷ None ∷ []
 unfolding paired runs_paired reads_from closed_by with_quotes
 kept_4 rules = refl
@@ -199,13 +219,15 @@ kept_4 rules = refl
 kept_5 : (rules : Rules)
     → kept_starts (paired (under rules (codes "*a _b* c_") 0) (with_runs (under rules (codes "*a _b* c_") 0) 0 None
     (run 0 1 true false (word (codes "*a _b* c_") 1 2
-    (run 3 1 true false (word (codes "*a _b* c_") 4 1 (run 5 1 false true (word (codes "*a _b* c_") 6 2 (run 8 1 false true nil)))))))))
+    (run 3 1 true false (word (codes "*a _b* c_") 4 1
+    (run 5 1 false true (word (codes "*a _b* c_") 6 2 (run 8 1 false true nil)))))))))
     ≡ None ∷ None ∷ Some 3 ∷ None ∷ None ∷ Some 8 ∷ []
 unfolding paired runs_paired reads_from closed_by with_quotes
 kept_5 rules = refl
 
 -- one pair: `*a*`
-finds_pair : (rules : Rules) → finds_in (under rules (codes "*a*") 0) (run 0 1 true false (word (codes "*a*") 1 1 (run 2 1 false true nil)))
+finds_pair : (rules : Rules)
+    → finds_in (under rules (codes "*a*") 0) (run 0 1 true false (word (codes "*a*") 1 1 (run 2 1 false true nil)))
     ≡ 1
 unfolding finds_in finds_from closer_finds reads_from closed_by with_quotes
 finds_pair rules = refl
@@ -217,25 +239,29 @@ unfolding finds_in finds_from closer_finds reads_from closed_by with_quotes
 finds_layers rules = refl
 
 -- no closer: `*a`
-finds_none : (rules : Rules) → finds_in (under rules (codes "*a") 0) (run 0 1 true false (word (codes "*a") 1 1 nil)) ≡ 0
+finds_none : (rules : Rules) → finds_in (under rules (codes "*a") 0) (run 0 1 true false (word (codes "*a") 1 1 nil))
+    ≡ 0
 unfolding finds_in finds_from closer_finds reads_from closed_by with_quotes
 finds_none rules = refl
 
 -- two pairs: `*a* *b*`
 finds_pairs : (rules : Rules) → finds_in (under rules (codes "*a* *b*") 0)
     (run 0 1 true false (word (codes "*a* *b*") 1 1
-    (run 2 1 false true (word (codes "*a* *b*") 3 1 (run 4 1 true false (word (codes "*a* *b*") 5 1 (run 6 1 false true nil))))))) ≡ 2
+    (run 2 1 false true (word (codes "*a* *b*") 3 1
+    (run 4 1 true false (word (codes "*a* *b*") 5 1 (run 6 1 false true nil))))))) ≡ 2
 unfolding finds_in finds_from closer_finds reads_from closed_by with_quotes
 finds_pairs rules = refl
 
 -- a closer with characters left finds again: `*a **b***`
 finds_again : (rules : Rules) → finds_in (under rules (codes "*a **b***") 0)
-    (run 0 1 true false (word (codes "*a **b***") 1 2 (run 3 2 true false (word (codes "*a **b***") 5 1 (run 6 3 false true nil))))) ≡ 2
+    (run 0 1 true false (word (codes "*a **b***") 1 2
+    (run 3 2 true false (word (codes "*a **b***") 5 1 (run 6 3 false true nil))))) ≡ 2
 unfolding finds_in finds_from closer_finds reads_from closed_by with_quotes
 finds_again rules = refl
 
 -- one that finds no opener of its character: `*a_`
-finds_open : (rules : Rules) → finds_in (under rules (codes "*a_") 0) (run 0 1 true false (word (codes "*a_") 1 1 (run 2 1 false true nil)))
+finds_open : (rules : Rules)
+    → finds_in (under rules (codes "*a_") 0) (run 0 1 true false (word (codes "*a_") 1 1 (run 2 1 false true nil)))
     ≡ 0
 unfolding finds_in finds_from closer_finds reads_from closed_by with_quotes
 finds_open rules = refl

@@ -1,5 +1,6 @@
 -- A chain of an arena whose runs are whole, once its quotes are read: its labels tell of the same runs.
-use Rattle.std.proofs.Common.{◌≡◌, ℕ, zero, suc, ◌<◌, ◌≤◌, Bool, true, false, List, [], ◌∷◌, Option, Some, None, refl, ap, sym, ◌∙◌}
+use Rattle.std.proofs.Common.{◌≡◌, ℕ, zero, suc, ◌<◌, ◌≤◌, Bool, true, false, List, [], ◌∷◌, Option, Some, None, refl}
+use Rattle.std.proofs.Common.{ap, sym, ◌∙◌}
 use Rattle.std.proofs.Common.{subst, arith}
 use Rattle.std.specs.Prelude.{if◌then◌else◌, ◌==◌, ◌&&◌, IfSome, IsTrue, slice_index, slice_range, is_some}
 use Rattle.markdown_base.specs.declared.item.Item.{Item}
@@ -10,7 +11,8 @@ use Rattle.markdown_base.specs.BlockTree.{Numbered, numbered, item_at}
 use Rattle.markdown_base.specs.Forest.{Forest, nil, node, relabelled}
 use Rattle.markdown_base.specs.Item.{is_open}
 use Rattle.markdown_base.specs.WellFormed.{RunCharacter, run_character, is_delimiter, RunGoesOn}
-use Rattle.markdown_document.specs.Document.{Shape, leaf, enclosed, plain, backslash_break, unresolved, Label, shaped, is_unresolved}
+use Rattle.markdown_document.specs.Document.{Shape, leaf, enclosed, plain, backslash_break, unresolved, Label, shaped}
+use Rattle.markdown_document.specs.Document.{is_unresolved}
 use Rattle.markdown_document.specs.Document.{shape_of, block_of, part_of}
 use Rattle.markdown_document.specs.Setting.{Setting}
 use Rattle.markdown_document.specs.Tables.{Tables}
@@ -27,18 +29,21 @@ use Rattle.markdown_delims.specs.MayPair.{delimiter_of}
 use Rattle.markdown_delims.specs.PairedChain.{WaitsForPairing}
 use Rattle.markdown_delims.specs.Pairing.{Read, done_read, read_trees, trees_done, reads_from, runs_paired}
 use Rattle.markdown_delims.specs.PairingFinds.{finds_from}
-use Rattle.markdown_delims.specs.Quotes.{left_single, right_single, kind_of_shape, is_closed_later, is_end, QuoteTurn, single_turn}
+use Rattle.markdown_delims.specs.Quotes.{left_single, right_single, kind_of_shape, is_closed_later, is_end, QuoteTurn}
+use Rattle.markdown_delims.specs.Quotes.{single_turn}
 use Rattle.markdown_delims.specs.Quotes.{double_turn, turn_by, first_turn, quotes_after}
 use Rattle.markdown_delims.specs.RunReading.{StandsWhole, HasWholeRuns, counts_one, delimiters_of}
 use Rattle.markdown_delims.proofs.ReadLemmas.{reads_none, finds_none}
 
 -- what is open, and nothing else, reads as what is
-pub open_agrees : (tables : Tables) (source : List ℕ) (b : ItemBody) → is_unresolved (shape_of tables source b) ≡ is_open b
+pub open_agrees : (tables : Tables) (source : List ℕ) (b : ItemBody) → is_unresolved (shape_of tables source b)
+    ≡ is_open b
 open_agrees tables source (body.HardBreak true) = refl
 open_agrees tables source (body.HardBreak false) = refl
 open_agrees tables source other = refl
 
-pub closed_shape : (tables : Tables) (source : List ℕ) (b : ItemBody) → is_open b ≡ false → is_unresolved (shape_of tables source b) ≡ false
+pub closed_shape : (tables : Tables) (source : List ℕ) (b : ItemBody) → is_open b ≡ false
+    → is_unresolved (shape_of tables source b) ≡ false
 closed_shape tables source b e = open_agrees tables source b ∙ e
 
 -- a delimiter's byte is one of the four
@@ -51,7 +56,8 @@ delimiter_some i h =
     caret true e p q r = (Caret, rw (p, q, r, e) refl)
     caret false e p q r = absurd (let no : false ≡ true = rw (p, q, r, e) at h in cc)
 
-    tilde : (b : Bool) → (i == 126) ≡ b → (i == 42) ≡ false → (i == 95) ≡ false → (d : Delimiter) × (delimiter_of i ≡ Some d)
+    tilde : (b : Bool) → (i == 126) ≡ b → (i == 42) ≡ false → (i == 95) ≡ false → (d : Delimiter)
+        × (delimiter_of i ≡ Some d)
     tilde true e p q = (Tilde, rw (p, q, e) refl)
     tilde false e p q = caret (i == 94) refl p q e
 
@@ -97,7 +103,8 @@ module _ (tables : Tables) (source : List ℕ) where
   kept_made (body.MaybeEmphasis n x y) c single double later last e = refl
   kept_made other c single double later last e = cc
 
-  shown_count : (b : ItemBody) (c : RunCharacter) → run_character b ≡ Some c → 0 < c.count → ShowsCount (shape_of tables source b)
+  shown_count : (b : ItemBody) (c : RunCharacter) → run_character b ≡ Some c → 0 < c.count
+      → ShowsCount (shape_of tables source b)
   shown_count (body.MaybeEmphasis n x y) c e some =
       let same : record { count = n; can_open = x; can_close = y } ≡ c = cc in
       omega (arith, some, ap (λ (x : RunCharacter). x.count) same)
@@ -111,11 +118,13 @@ module _ (tables : Tables) (source : List ℕ) where
       absurd (omega (arith, ap (λ (x : RunCharacter). x.count) same, some))
   shown_run (body.MaybeEmphasis (suc n) x y) c d e some =
       let same : record { count = suc n; can_open = x; can_close = y } ≡ c = cc in
-      ap (λ (z : RunCharacter). Some (record { delimiter = d; length = z.count; can_open = z.can_open; can_close = z.can_close })) same
+      ap (λ (z : RunCharacter). Some
+      (record { delimiter = d; length = z.count; can_open = z.can_open; can_close = z.can_close })) same
   shown_run other c d e some = cc
 
   -- of what else waits for pairing nothing stays open
-  open_closed : (b : ItemBody) → waits_for_pairing b ≡ true → run_character b ≡ None → kind_of_shape (unresolved b) ≡ kind.Other
+  open_closed : (b : ItemBody) → waits_for_pairing b ≡ true → run_character b ≡ None → kind_of_shape (unresolved b)
+      ≡ kind.Other
       → is_open b ≡ false
   open_closed (body.MaybeEmphasis n x y) w r k = cc
   open_closed (body.MaybeSmartQuote quote x y) w r k = absurd (quote_kind (quote == 39) x y k)
@@ -139,11 +148,13 @@ left_closed : (b : Bool) → is_unresolved (if b then left_single else right_sin
 left_closed true = refl
 left_closed false = refl
 
-single_closed : (is_closing opens single double later : Bool) → is_unresolved (single_turn is_closing opens single double later).made ≡ false
+single_closed : (is_closing opens single double later : Bool)
+    → is_unresolved (single_turn is_closing opens single double later).made ≡ false
 single_closed true opens single double later = refl
 single_closed false opens single double later = left_closed (opens && later)
 
-double_closed : (is_closing opens single double : Bool) → is_unresolved (double_turn is_closing opens single double).made ≡ false
+double_closed : (is_closing opens single double : Bool)
+    → is_unresolved (double_turn is_closing opens single double).made ≡ false
 double_closed true opens single double = refl
 double_closed false opens single double = refl
 
@@ -153,9 +164,12 @@ break_closed (unresolved other) e = cc
 break_closed other e = refl
 
 made_closed : (k : Kind) (shape : Shape) (single double later last : Bool) → k ≡ kind_of_shape shape
-    → (k ≡ kind.Other → is_unresolved shape ≡ false) → is_unresolved (turn_by k shape single double later last).made ≡ false
-made_closed (kind.Single opens closes) shape single double later last e h = single_closed (single && closes) opens single double later
-made_closed (kind.Double opens closes) shape single double later last e h = double_closed (double && closes) opens single double
+    → (k ≡ kind.Other → is_unresolved shape ≡ false) → is_unresolved (turn_by k shape single double later last).made
+    ≡ false
+made_closed (kind.Single opens closes) shape single double later last e h = single_closed (single && closes) opens
+    single double later
+made_closed (kind.Double opens closes) shape single double later last e h = double_closed (double && closes) opens
+    single double
 made_closed kind.Break shape single double later true e h = refl
 made_closed kind.Break shape single double later false e h = break_closed shape e
 made_closed kind.Other shape single double later last e h = h refl
@@ -182,11 +196,13 @@ module _ (s : Setting) (tables : Tables) (nodes : List (Node Item)) where
   whole_at : (ix : ℕ) (below after : Forest ℕ) (c : RunCharacter) → run_character (item_at nodes ix).body ≡ Some c
       → HasWholeRuns s.text (numbers (node ix below after))
       → StandsWhole s.text (numbered nodes ix) (numbers below) (numbers after) c
-  whole_at ix below after c e w = subst (λ o. IfSome o (StandsWhole s.text (numbered nodes ix) (numbers below) (numbers after))) e w.0
+  whole_at ix below after c e w = subst
+      (λ o. IfSome o (StandsWhole s.text (numbered nodes ix) (numbers below) (numbers after))) e w.0
 
   none_below : (ix : ℕ) (below after : Forest ℕ) (c : RunCharacter) → run_character (item_at nodes ix).body ≡ Some c
       → HasWholeRuns s.text (numbers (node ix below after)) → labels s tables nodes below ≡ nil
-  none_below ix below after c e w = ap (labels s tables nodes) (empty (numbered nodes) below (whole_at ix below after c e w).childless)
+  none_below ix below after c e w = ap (labels s tables nodes)
+      (empty (numbered nodes) below (whole_at ix below after c e w).childless)
 
   -- and those that follow it
   begins_run : (n : ℕ) (opens closes single double : Bool) (ix : ℕ) (below after : Forest ℕ)
@@ -196,14 +212,16 @@ module _ (s : Setting) (tables : Tables) (nodes : List (Node Item)) where
   begins_run zero opens closes single double ix below after e w = tt
   begins_run (suc zero) opens closes single double ix below after e w =
       (refl, none_below ix below after _ e w, block_of_run (item_at nodes ix).body _ e, tt)
-  begins_run (suc (suc n)) opens closes single double ix below nil e w = absurd (whole_at ix below nil _ e w).stands.goes_on
+  begins_run (suc (suc n)) opens closes single double ix below nil e w = absurd
+      (whole_at ix below nil _ e w).stands.goes_on
   begins_run (suc (suc n)) opens closes single double ix below (node j inside after) e w =
       let g = (whole_at ix below (node j inside after) _ e w).stands.goes_on in
       let t = turn single double ix (node j inside after) in (
         refl,
         none_below ix below (node j inside after) _ e w,
         block_of_run (item_at nodes ix).body _ e,
-        subst (λ i. BeginsRun i (suc n) (quotes_after t.single t.double (labels s tables nodes (node j inside after)))) g.number
+        subst (λ i. BeginsRun i (suc n) (quotes_after t.single t.double (labels s tables nodes (node j inside after))))
+            g.number
             (begins_run (suc n) opens closes t.single t.double j inside after g.body w.1),
       )
 
@@ -212,23 +230,28 @@ module _ (s : Setting) (tables : Tables) (nodes : List (Node Item)) where
     counts : ShowsCount (turn single double ix after).made
     whole : IsWhole (run_of s.text (shaped (turn single double ix after).made (label ix)).part)
         (shaped (turn single double ix after).made (label ix)) (labels s tables nodes below)
-        (quotes_after (turn single double ix after).single (turn single double ix after).double (labels s tables nodes after))
+        (quotes_after (turn single double ix after).single (turn single double ix after).double
+        (labels s tables nodes after))
     counted : one_if (is_some (run_of s.text (shaped (turn single double ix after).made (label ix)).part))
         ≤ counts_one (run_character (item_at nodes ix).body)
 
-  tree_whole : (single double : Bool) (ix : ℕ) (below after : Forest ℕ) → HasWholeRuns s.text (numbers (node ix below after))
-      → WaitsForPairing (numbers (node ix below after)) → (o : Option RunCharacter) → run_character (item_at nodes ix).body ≡ o
+  tree_whole : (single double : Bool) (ix : ℕ) (below after : Forest ℕ)
+      → HasWholeRuns s.text (numbers (node ix below after))
+      → WaitsForPairing (numbers (node ix below after)) → (o : Option RunCharacter)
+      → run_character (item_at nodes ix).body ≡ o
       → TreeWhole single double ix below after
   tree_whole single double ix below after w waits None e =
       let t = turn single double ix after in
       let source : List ℕ = slice_range s.text (item_at nodes ix).start (item_at nodes ix).end in
-      let closed : is_unresolved t.made ≡ false = made_closed (kind_of_shape (label ix).part.shape) (label ix).part.shape single double
+      let closed : is_unresolved t.made ≡ false = made_closed (kind_of_shape (label ix).part.shape)
+      (label ix).part.shape single double
       (is_closed_later (labels s tables nodes after)) (is_end (labels s tables nodes after)) refl
       (other_closed tables source (item_at nodes ix).body waits.0 e) in
       let none : run_of s.text (shaped t.made (label ix)).part ≡ None = run_of_closed t.made _ closed in
       record {
         counts = closed_count t.made closed;
-        whole = subst (λ o. IsWhole o (shaped t.made (label ix)) (labels s tables nodes below) (quotes_after t.single t.double
+        whole = subst (λ o. IsWhole o (shaped t.made (label ix)) (labels s tables nodes below)
+            (quotes_after t.single t.double
             (labels s tables nodes after))) (sym none) closed;
         counted = omega (arith, ap (λ o. one_if (is_some o)) none);
       }
@@ -246,14 +269,16 @@ module _ (s : Setting) (tables : Tables) (nodes : List (Node Item)) where
       ∙ ap (run_of_shape (label ix).part.shape) d.1 ∙ shown_run tables source (item_at nodes ix).body c d.0 e some in
       record {
         counts = subst ShowsCount (sym made) (shown_count tables source (item_at nodes ix).body c e some);
-        whole = subst (λ o. IsWhole o (shaped t.made (label ix)) (labels s tables nodes below) (quotes_after t.single t.double
+        whole = subst (λ o. IsWhole o (shaped t.made (label ix)) (labels s tables nodes below)
+            (quotes_after t.single t.double
             (labels s tables nodes after))) (sym is)
             (begins_run c.count c.can_open c.can_close single double ix below after e w);
         counted = omega (arith, one_at_most (is_some (run_of s.text (shaped t.made (label ix)).part)), ap counts_one e);
       }
 
   -- all trees
-  pub whole_quoted : (single double : Bool) (f : Forest ℕ) → HasWholeRuns s.text (numbers f) → WaitsForPairing (numbers f)
+  pub whole_quoted : (single double : Bool) (f : Forest ℕ) → HasWholeRuns s.text (numbers f)
+      → WaitsForPairing (numbers f)
       → AreWhole s.text (quotes_after single double (labels s tables nodes f))
       × (runs_in s.text (quotes_after single double (labels s tables nodes f)) ≤ delimiters_of (numbers f))
   whole_quoted single double nil w waits = (tt, omega arith)
@@ -284,7 +309,8 @@ module _ (s : Setting) where
       by_run : (o : Option Run) → run_of s.text a.part ≡ o
           → (reads_from s 0 after (done_read a below ∷ rs) ≡ trees_done after (done_read a below ∷ rs))
           × (finds_from s 0 after (done_read a below ∷ rs) ≡ 0)
-          → (reads_from s 0 (node a below after) rs ≡ trees_done (node a below after) rs) × (finds_from s 0 (node a below after) rs ≡ 0)
+          → (reads_from s 0 (node a below after) rs ≡ trees_done (node a below after) rs)
+          × (finds_from s 0 (node a below after) rs ≡ 0)
       by_run None is rest =
           let closed : is_unresolved a.part.shape ≡ false = subst (λ o. IsWhole o a below after) is w.1 in
           (reads_none s a below after rs is closed ∙ rest.0, finds_none s a below after rs is closed ∙ rest.1)

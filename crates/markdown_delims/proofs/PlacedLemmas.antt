@@ -1,6 +1,7 @@
 -- A chain that is paired in place keeps its place: its items are placed as they were, at every depth, and what preceded
 -- it still does.
-use Rattle.std.proofs.Common.{◌≡◌, ℕ, zero, suc, ◌+◌, ◌-◌, ◌≤◌, Bool, true, false, List, Option, Some, None, refl, ap, sym, ◌∙◌, subst, arith}
+use Rattle.std.proofs.Common.{◌≡◌, ℕ, zero, suc, ◌+◌, ◌-◌, ◌≤◌, Bool, true, false, List, Option, Some, None, refl, ap}
+use Rattle.std.proofs.Common.{sym, ◌∙◌, subst, arith}
 use Rattle.std.proofs.Common.{inl, inr}
 use Rattle.std.specs.Prelude.{IfSome, ◌⊎◌, if◌then◌else◌, slice_range}
 use Rattle.std.specs.Option.{option_map}
@@ -65,12 +66,14 @@ module _ (s : Setting) (tables : Tables) (old : List (Node Item)) (own : ℕ →
     pub next_apart : IfSome (sibling_of old ix) (λ n. own n ≡ false)
     pub placed : IsPlaced s.text tables old ix
 
-  next_own : (l : Option ℕ) (f : Forest ℕ) → Spells (links_of old) l f → Each (λ n. own n ≡ false) f → IfSome l (λ n. own n ≡ false)
+  next_own : (l : Option ℕ) (f : Forest ℕ) → Spells (links_of old) l f → Each (λ n. own n ≡ false) f
+      → IfSome l (λ n. own n ≡ false)
   next_own None f k h = tt
   next_own (Some ix) nil k h = cc
   next_own (Some ix) (node j below after) k h = let e : j ≡ ix = cc in subst (λ n. own n ≡ false) e h.0
 
-  deep_right : (l : Option ℕ) (f : Forest ℕ) → Spells (links_of old) l f → Each (λ n. own n ≡ false) f → Each (IsPlaced s.text tables old) f
+  deep_right : (l : Option ℕ) (f : Forest ℕ) → Spells (links_of old) l f → Each (λ n. own n ≡ false) f
+      → Each (IsPlaced s.text tables old) f
       → AreRight s.text IsDeep (labels s tables old f)
   deep_right l nil k h p = tt
   deep_right l (node ix below after) k h p = (
@@ -82,7 +85,8 @@ module _ (s : Setting) (tables : Tables) (old : List (Node Item)) (own : ℕ →
   -- a chain without blocks whose items are placed is in order
   chain_ordered : (i n : ℕ) (l : Option ℕ) (f : Forest ℕ) → Spells (links_of old) l f → NoneBelow own f
       → Each (IsPlaced s.text tables old) f → HasNoBlock (relabelled (numbered old) f)
-      → IfSome (first_root f) (λ ix. (i ≤ (item_at old ix).start) × (n ≤ ix)) → InOrder s.text IsDeep i n (labels s tables old f)
+      → IfSome (first_root f) (λ ix. (i ≤ (item_at old ix).start) × (n ≤ ix))
+      → InOrder s.text IsDeep i n (labels s tables old f)
   chain_ordered i n l nil k a p b x = tt
   chain_ordered i n l (node ix below after) k a p b x = (
     x.0,
@@ -92,11 +96,13 @@ module _ (s : Setting) (tables : Tables) (old : List (Node Item)) (own : ℕ →
     chain_ordered (item_at old ix).end (suc ix) (sibling_of old ix) after k.3 a.1 p.2 b.1 (next after k.3 b.1),
   )
     where
-      next : (after : Forest ℕ) → Spells (links_of old) (sibling_of old ix) after → HasNoBlock (relabelled (numbered old) after)
+      next : (after : Forest ℕ) → Spells (links_of old) (sibling_of old ix) after
+          → HasNoBlock (relabelled (numbered old) after)
           → IfSome (first_root after) (λ j. ((item_at old ix).end ≤ (item_at old j).start) × (suc ix ≤ j))
       next nil k b' = tt
       next (node j inside rest) k b' =
-          let before = subst (λ o. ComesBefore (numbered old ix) (option_map (numbered old) o)) k.0 p.0.keeps.in_order b.0 b'.0 in
+          let before = subst (λ o. ComesBefore (numbered old ix) (option_map (numbered old) o)) k.0 p.0.keeps.in_order
+          b.0 b'.0 in
           (before.ends, omega (arith, before.numbers))
 
   -- what an item names is there, and comes from the source where the item is
@@ -106,7 +112,13 @@ module _ (s : Setting) (tables : Tables) (old : List (Node Item)) (own : ℕ →
 
   made_names : (item : Item) → IsMade item.body → NamesThere item
   made_names item e = record {
-    named = record { text = rw e.text tt; link = rw e.link tt; alignments = rw e.alignments tt; attributes = rw e.attributes tt };
+    named = record {
+      text = rw e.text tt;
+      link = rw e.link tt;
+      alignments = rw e.alignments tt;
+      attributes = rw
+          e.attributes tt;
+    };
     slices = slices-unnamed s.text tables (origin_start s.text item.start) item.end item.body e.text e.link;
   }
 
@@ -126,7 +138,8 @@ module _ (s : Setting) (tables : Tables) (old : List (Node Item)) (own : ℕ →
     deep_placed ix d =
         let here = others ix d.apart in
         let item : item_at old ix ≡ item_at new ix = sym here.item in
-        let next : next_at old ix ≡ next_at new ix = same_next (sibling_of old ix) d.next_apart ∙ ap (option_map (numbered new)) (sym here.next)
+        let next : next_at old ix ≡ next_at new ix = same_next (sibling_of old ix) d.next_apart
+        ∙ ap (option_map (numbered new)) (sym here.next)
         in
         record {
           lies = subst (LiesIn s.text) item d.placed.lies;
@@ -138,14 +151,16 @@ module _ (s : Setting) (tables : Tables) (old : List (Node Item)) (own : ℕ →
               KeepsItemRules s.text a (child_of old ix) (next_at old ix)) item d.placed.keeps));
         }
       where
-        same_next : (l : Option ℕ) → IfSome l (λ n. own n ≡ false) → option_map (numbered old) l ≡ option_map (numbered new) l
+        same_next : (l : Option ℕ) → IfSome l (λ n. own n ≡ false) → option_map (numbered old) l
+            ≡ option_map (numbered new) l
         same_next None h = refl
         same_next (Some n) h = ap (λ (i : Item). Some (record { number = n; item = i })) (sym (others n h).item)
 
     abbrev label_now : ℕ → Label ℕ
     label_now ix = record { tag = ix; part = part_of s.text tables (item_at new ix) }
 
-    right_placed : (l : Option ℕ) (f : Forest ℕ) → Spells (links_of new) l f → AreRight s.text IsDeep (labels s tables new f)
+    right_placed : (l : Option ℕ) (f : Forest ℕ) → Spells (links_of new) l f
+        → AreRight s.text IsDeep (labels s tables new f)
         → Each (IsPlaced s.text tables old) f → Each (IsPlaced s.text tables new) f
     right_placed l nil k h p = tt
     right_placed l (node ix below after) k h p = (
@@ -169,7 +184,8 @@ module _ (s : Setting) (tables : Tables) (old : List (Node Item)) (own : ℕ →
               named = names.named;
               slices = names.slices;
               keeps = keeps-closed s.text (numbered new ix) (child_of new ix) (next_at new ix)
-                  (sym (open_agrees tables (slice_range s.text (item_at new ix).start (item_at new ix).end) (item_at new ix).body) ∙ r.0)
+                  (sym (open_agrees tables (slice_range s.text (item_at new ix).start (item_at new ix).end)
+                  (item_at new ix).body) ∙ r.0)
                   (before after (sibling_of new ix) k.3 r.2);
             }
 
@@ -198,7 +214,8 @@ if_block true n = n
 if_block false n = 0
 
 abbrev pub moved : List (Node Item) → Label ℕ → ℕ
-moved nodes a = ((item_at nodes a.tag).start - a.part.range.start) + if_block (is_block (item_at nodes a.tag).body) (none_of a.part.block)
+moved nodes a = ((item_at nodes a.tag).start - a.part.range.start) + if_block (is_block (item_at nodes a.tag).body)
+    (none_of a.part.block)
 
 pub moved_count : (s : Setting) (nodes : List (Node Item)) → CountsNoMore s (moved nodes)
 moved_count s nodes = record {
@@ -232,7 +249,8 @@ block_was true true x h e = cc
 block_was true false x h e = absurd (omega (arith, h))
 
 -- so the first item of a chain that is paired still follows what it followed
-pub still_before : (s : Setting) (old new : List (Node Item)) (first : ℕ) (g : Forest ℕ) → Spells (links_of new) (Some first) g
+pub still_before : (s : Setting) (old new : List (Node Item)) (first : ℕ) (g : Forest ℕ)
+    → Spells (links_of new) (Some first) g
     → sum_of (moved old) (labels s no_tables new g) ≤ 0
     → (a : Numbered) → ComesBefore a (Some (numbered old first)) → ComesBefore a (Some (numbered new first))
 still_before s old new first nil t none a h = cc
@@ -242,9 +260,11 @@ still_before s old new first (node ix below after) t none a h =
     let zero : ((item_at old ix).start - (item_at new ix).start) + if_block (is_block (item_at old ix).body)
     (none_of (block_of (item_at new ix).body)) ≡ 0 = omega (arith, none) in
     let was : is_block (item_at old ix).body ≡ false =
-    block_was (is_block (item_at old ix).body) (is_block (item_at new ix).body) (item_at new ix).body (omega (arith, zero))
+    block_was (is_block (item_at old ix).body) (is_block (item_at new ix).body) (item_at new ix).body
+    (omega (arith, zero))
     (subst (λ n. is_block (item_at new n).body ≡ false) e other) in
     let stood = h inline (subst (λ n. is_block (item_at old n).body ≡ false) (sym e) was) in
-    let start : (item_at old first).start ≤ (item_at new first).start = subst (λ n. (item_at old n).start ≤ (item_at new n).start) (sym e)
+    let start : (item_at old first).start ≤ (item_at new first).start = subst
+    (λ n. (item_at old n).start ≤ (item_at new n).start) (sym e)
     (omega (arith, zero)) in
     record { ends = omega (arith, stood.ends); numbers = stood.numbers }

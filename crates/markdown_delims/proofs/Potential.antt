@@ -10,8 +10,10 @@ use Rattle.markdown_delims.specs.declared.run.Characters.{Characters}
 use Rattle.markdown_delims.specs.declared.bounds.CharacterBounds.{CharacterBounds}
 use Rattle.markdown_delims.specs.declared.bounds.LowerBounds.{LowerBounds}
 use Rattle.markdown_delims.specs.MayPair.{can_do_both}
-use Rattle.markdown_delims.specs.Bounds.{BoundCharacter, BoundStack, character_bound_for, bound_at, bound_for, character_raised_for}
-use Rattle.markdown_delims.specs.Bounds.{raised_at, raised_for, character_lowered, lowered, character_above, above_bounds}
+use Rattle.markdown_delims.specs.Bounds.{BoundCharacter, BoundStack, character_bound_for, bound_at, bound_for}
+use Rattle.markdown_delims.specs.Bounds.{character_raised_for}
+use Rattle.markdown_delims.specs.Bounds.{raised_at, raised_for, character_lowered, lowered, character_above}
+use Rattle.markdown_delims.specs.Bounds.{above_bounds}
 
 -- a run that is pushed is above each bound of a character
 character_above-push : (d : Delimiter) (stack : List Characters) (b : CharacterBounds) → BoundCharacter d stack b
@@ -26,15 +28,18 @@ character_above-push d stack b h =
     one_more : (n a : ℕ) → a ≤ n → (n + 1) - a ≡ (n - a) + 1
     one_more n a h = omega arith
 
-    four : (n c z o w : ℕ) → c ≤ n → z ≤ n → o ≤ n → w ≤ n → ((n + 1) - c) + ((n + 1) - z) + ((n + 1) - o) + ((n + 1) - w)
+    four : (n c z o w : ℕ) → c ≤ n → z ≤ n → o ≤ n → w ≤ n → ((n + 1) - c) + ((n + 1) - z) + ((n + 1) - o) +
+        ((n + 1) - w)
         ≡ ((n - c) + (n - z) + (n - o) + (n - w)) + 4
     four n c z o w h1 h2 h3 h4 = omega (arith, one_more n c h1, one_more n z h2, one_more n o h3, one_more n w h4)
 
 -- a push adds one to each of the ten
-pub above_bounds-push : (stack : List Characters) (b : LowerBounds) → BoundStack stack b → above_bounds (length stack + 1) b
+pub above_bounds-push : (stack : List Characters) (b : LowerBounds) → BoundStack stack b
+    → above_bounds (length stack + 1) b
     ≡ above_bounds (length stack) b + 10
 above_bounds-push stack b h =
-    let s : character_above (length stack + 1) b.star ≡ character_above (length stack) b.star + 4 = character_above-push Star stack b.star
+    let s : character_above (length stack + 1) b.star ≡ character_above (length stack) b.star + 4 = character_above-push
+    Star stack b.star
     h.star in
     let u : character_above (length stack + 1) b.underscore ≡ character_above (length stack) b.underscore
     + 4 = character_above-push Underscore stack b.underscore h.underscore in
@@ -50,7 +55,8 @@ above_bounds-push stack b h =
 cut_above : (n m a : ℕ) → n ≤ m → n - min a n ≤ m - a
 cut_above n m a h = omega arith
 
-character_above-cut : (n m : ℕ) (b : CharacterBounds) → n ≤ m → character_above n (character_lowered n b) ≤ character_above m b
+character_above-cut : (n m : ℕ) (b : CharacterBounds) → n ≤ m → character_above n (character_lowered n b) ≤
+    character_above m b
 character_above-cut n m b h =
     add-le-add (add-le-add (add-le-add (cut_above n m b.cannot_open h) (cut_above n m b.remainder_zero h))
     (cut_above n m b.remainder_one h)) (cut_above n m b.remainder_two h)
@@ -61,7 +67,8 @@ above_bounds-cut n m b h = add-le-add (add-le-add (add-le-add (character_above-c
 
 -- raising the bounds that were read pays for all that was examined
 raised_above : (bo t0 t1 t2 : Bool) (n c z o w : ℕ) → (t0 ≡ false → t1 ≡ false → t2 ≡ true) →
-    ((n - (if bo then c else n)) + (n - (if t0 then n else z)) + (n - (if t1 then n else o)) + (n - (if t2 then n else w)))
+    ((n - (if bo then c else n)) + (n - (if t0 then n else z)) + (n - (if t1 then n else o)) +
+    (n - (if t2 then n else w)))
     + (n - (if bo then (if t0 then z else if t1 then o else w) else min (if t0 then z else if t1 then o else w) c))
     ≤ (n - c) + (n - z) + (n - o) + (n - w)
 raised_above true true true true n c z o w h = omega arith
@@ -81,10 +88,12 @@ raised_above false false true false n c z o w h = omega arith
 raised_above false false false true n c z o w h = omega arith
 raised_above false false false false n c z o w h = let e : false ≡ true = h refl refl in cc
 
-character_above-raised : (closer : Run) (n : ℕ) (b : CharacterBounds) → character_above n (character_raised_for closer n b)
+character_above-raised : (closer : Run) (n : ℕ) (b : CharacterBounds)
+    → character_above n (character_raised_for closer n b)
     + (n - character_bound_for closer b) ≤ character_above n b
 character_above-raised closer n b =
-    raised_above (can_do_both closer) (closer.length % 3 == 0) (closer.length % 3 == 1) (closer.length % 3 == 2) n b.cannot_open b.remainder_zero
+    raised_above (can_do_both closer) (closer.length % 3 == 0) (closer.length % 3 == 1) (closer.length % 3 == 2) n
+    b.cannot_open b.remainder_zero
     b.remainder_one b.remainder_two
     (λ f g.
     let ne0 : closer.length % 3 ≡ 0 → ⊥ = eqb-false (closer.length % 3) 0 f in
@@ -107,8 +116,10 @@ above_at_each : (d : Delimiter) (closer : Run) (n : ℕ) (b : LowerBounds) → a
     + (n - bound_at d closer b) ≤ above_bounds n b
 above_at_each Star closer n b = star_raised _ _ _ _ _ _ (character_above-raised closer n b.star)
 above_at_each Underscore closer n b = underscore_raised _ _ _ _ _ _ (character_above-raised closer n b.underscore)
-above_at_each Tilde closer n b = tilde_raised (character_above n b.star + character_above n b.underscore) n b.tilde (n - b.caret)
-above_at_each Caret closer n b = caret_raised (character_above n b.star + character_above n b.underscore + (n - b.tilde)) n b.caret
+above_at_each Tilde closer n b = tilde_raised (character_above n b.star + character_above n b.underscore) n b.tilde
+    (n - b.caret)
+above_at_each Caret closer n b = caret_raised
+    (character_above n b.star + character_above n b.underscore + (n - b.tilde)) n b.caret
 
 pub above_bounds-raised : (closer : Run) (n : ℕ) (b : LowerBounds) → above_bounds n (raised_for closer n b)
     + (n - bound_for closer b) ≤ above_bounds n b

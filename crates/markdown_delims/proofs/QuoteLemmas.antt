@@ -1,5 +1,6 @@
 -- Quotes are read tree by tree: a remembered one is overwritten in place.
-use Rattle.std.proofs.Common.{◌≡◌, ℕ, suc, ◌<◌, Bool, true, false, List, Option, Some, None, length, refl, ap, sym, ◌∙◌, subst, arith, inl, inr}
+use Rattle.std.proofs.Common.{◌≡◌, ℕ, suc, ◌<◌, Bool, true, false, List, Option, Some, None, length, refl, ap, sym, ◌∙◌}
+use Rattle.std.proofs.Common.{subst, arith, inl, inr}
 use Rattle.std.specs.Prelude.{◌⊎◌, ◌||◌, ◌&&◌, ◌==◌, if◌then◌else◌, IfSome, is_some}
 use Rattle.std.proofs.lemmas.Bool.{eqb-true, eqb-false, eq-eqb}
 use Rattle.markdown_base.specs.Bytes.{backslash}
@@ -14,11 +15,14 @@ use Rattle.markdown_document.specs.Tables.{Tables}
 use Rattle.markdown_delims.specs.declared.quotes.Kind.{Kind}
 use Rattle.markdown_delims.specs.declared.quotes.Kind.TheVariants as kind
 use Rattle.markdown_delims.specs.ChainStanding.{Chain, view, read_back}
-use Rattle.markdown_delims.specs.Quotes.{synthesized, left_single, right_single, left_double, right_double, kind_of_shape}
+use Rattle.markdown_delims.specs.Quotes.{synthesized, left_single, right_single, left_double, right_double}
+use Rattle.markdown_delims.specs.Quotes.{kind_of_shape}
 use Rattle.markdown_delims.specs.Quotes.{closes_later, is_closed_later, is_end, turn_by, quotes_after}
 use Rattle.markdown_delims.specs.Quoting.{IsRoot, left_quoted, remembered_as, quoted_from, QuotesStand, QuotesOn}
-use Rattle.markdown_delims.specs.Views.{View, Writes, WroteBody, Holds, LeftHolds, next_number, LeftRises, IsMade, Kept, AllTouched}
-use Rattle.markdown_delims.proofs.CutLemmas.{Rises-raise, Holds-inside_before, Holds-write_before, LeftHolds-write_behind, step_right}
+use Rattle.markdown_delims.specs.Views.{View, Writes, WroteBody, Holds, LeftHolds, next_number, LeftRises, IsMade, Kept}
+use Rattle.markdown_delims.specs.Views.{AllTouched}
+use Rattle.markdown_delims.proofs.CutLemmas.{Rises-raise, Holds-inside_before, Holds-write_before}
+use Rattle.markdown_delims.proofs.CutLemmas.{LeftHolds-write_behind, step_right}
 use Rattle.markdown_delims.proofs.SettleLemmas.{written_over}
 use Rattle.markdown_delims.proofs.WriteLemmas.{parts_written, body_part, kept_none, kept_made}
 
@@ -28,80 +32,100 @@ root_below own ix nil hi r i = absurd i
 root_below own ix (node a below before) hi r (inl e) = omega (arith, e.0, r.0.0)
 root_below own ix (node a below before) hi r (inr i) = omega (arith, root_below own ix before a.tag r.1 i, r.0.0)
 
-root_within : (k : View Part) (first : Option ℕ) (ix : ℕ) (f : Forest (Label ℕ)) (l : Option ℕ) → LeftHolds k first f l → IsRoot ix f
+root_within : (k : View Part) (first : Option ℕ) (ix : ℕ) (f : Forest (Label ℕ)) (l : Option ℕ) → LeftHolds k first f l
+    → IsRoot ix f
     → ix < k.size
 root_within k first ix nil l h i = absurd i
 root_within k first ix (node a below before) l h (inl e) = omega (arith, e.0, h.0)
 root_within k first ix (node a below before) l h (inr i) = root_within k first ix before (Some a.tag) h.4 i
 
-root_touched : (touched : ℕ → Bool) (ix : ℕ) (f : Forest (Label ℕ)) → AllTouched touched f → IsRoot ix f → touched ix ≡ true
+root_touched : (touched : ℕ → Bool) (ix : ℕ) (f : Forest (Label ℕ)) → AllTouched touched f → IsRoot ix f → touched ix
+    ≡ true
 root_touched touched ix nil h i = absurd i
 root_touched touched ix (node a below before) h (inl e) = subst (λ x. touched x ≡ true) e.0 h.0
 root_touched touched ix (node a below before) h (inr i) = root_touched touched ix before h.1 i
 
-root_block : (k : View Part) (first : Option ℕ) (ix : ℕ) (f : Forest (Label ℕ)) (l : Option ℕ) → LeftHolds k first f l → IsRoot ix f
+root_block : (k : View Part) (first : Option ℕ) (ix : ℕ) (f : Forest (Label ℕ)) (l : Option ℕ) → LeftHolds k first f l
+    → IsRoot ix f
     → (k.item ix).block ≡ None
 root_block k first ix nil l h i = absurd i
 root_block k first ix (node a below before) l h (inl e) = ap (λ (p : Part). p.block) (ap k.item (sym e.0) ∙ h.1) ∙ e.1
 root_block k first ix (node a below before) l h (inr i) = root_block k first ix before (Some a.tag) h.4 i
 
-other_root : (ix : ℕ) (a : Label ℕ) (before : Forest (Label ℕ)) → (a.tag ≡ ix → ⊥) → ((a.tag ≡ ix) × (a.part.block ≡ None)) ⊎ IsRoot ix before
+other_root : (ix : ℕ) (a : Label ℕ) (before : Forest (Label ℕ)) → (a.tag ≡ ix → ⊥)
+    → ((a.tag ≡ ix) × (a.part.block ≡ None)) ⊎ IsRoot ix before
     → IsRoot ix before
 other_root ix a before d (inl e) = absurd (d e.0)
 other_root ix a before d (inr i) = i
 
 -- a write of the body of one of them
 module _ (own : ℕ → Bool) (k k' : View Part) (first : Option ℕ) (ix : ℕ) (o : own ix ≡ true)
-    (w : Writes k k' ix (record { shape = left_single; range = (k.item ix).range; block = (k.item ix).block }) (k.child ix) (k.next ix)) where
-  left_written_if : (b : Bool) (a : Label ℕ) (below before : Forest (Label ℕ)) (l : Option ℕ) (hi : ℕ) → (a.tag == ix) ≡ b
+    (w : Writes k k' ix (record { shape = left_single; range = (k.item ix).range; block = (k.item ix).block })
+    (k.child ix) (k.next ix)) where
+  left_written_if : (b : Bool) (a : Label ℕ) (below before : Forest (Label ℕ)) (l : Option ℕ) (hi : ℕ) → (a.tag == ix)
+      ≡ b
       → (IsRoot ix before → LeftRises own before a.tag → LeftHolds k first before (Some a.tag)
       → LeftHolds k' first (left_quoted ix before) (Some a.tag))
-      → IsRoot ix (node a below before) → LeftRises own (node a below before) hi → LeftHolds k first (node a below before) l
-      → LeftHolds k' first (if b then node (shaped left_single a) below before else node a below (left_quoted ix before)) l
+      → IsRoot ix (node a below before) → LeftRises own (node a below before) hi
+      → LeftHolds k first (node a below before) l
+      → LeftHolds k' first (if b then node (shaped left_single a) below before else node a below
+      (left_quoted ix before)) l
   left_written_if true a below before l hi e rest i r h =
       let same : a.tag ≡ ix = eqb-true a.tag ix e in
-      let inside : Holds k' (k.child a.tag) below = Holds-inside_before own k k' ix _ (k.child ix) (k.next ix) w o (k.child a.tag)
+      let inside : Holds k' (k.child a.tag) below = Holds-inside_before own k k' ix _ (k.child ix) (k.next ix) w o
+      (k.child a.tag)
       (suc a.tag) below hi (omega arith) r.0 h.2 in (
         rw w.size h.0,
-        ap k'.item same ∙ w.item ∙ ap (λ (j : Part). let p : Part = record { shape = left_single; range = j.range; block = j.block } in p) (ap k.item (sym same)
+        ap k'.item same ∙ w.item
+            ∙ ap (λ (j : Part). let p : Part = record { shape = left_single; range = j.range; block = j.block } in p)
+            (ap k.item (sym same)
             ∙ h.1),
         subst (λ m. Holds k' m below) (sym (ap k'.child same ∙ w.child ∙ ap k.child (sym same))) inside,
         ap k'.next same ∙ w.next ∙ ap k.next (sym same) ∙ h.3,
-        LeftHolds-write_behind own k k' ix _ (k.child ix) (k.next ix) w o first before (Some a.tag) a.tag (omega arith) r.1 h.4,
+        LeftHolds-write_behind own k k' ix _ (k.child ix) (k.next ix) w o first before (Some a.tag) a.tag (omega arith)
+            r.1 h.4,
       )
   left_written_if false a below before l hi e rest i r h =
       let differ : a.tag ≡ ix → ⊥ = eqb-false a.tag ix e in
       let j : IsRoot ix before = other_root ix a before differ i in
       let low : ix < a.tag = root_below own ix before a.tag r.1 j in
       let same = w.others a.tag differ in
-      let inside : Holds k' (k.child a.tag) below = Holds-inside_before own k k' ix _ (k.child ix) (k.next ix) w o (k.child a.tag)
+      let inside : Holds k' (k.child a.tag) below = Holds-inside_before own k k' ix _ (k.child ix) (k.next ix) w o
+      (k.child a.tag)
       (suc a.tag) below hi (omega arith) r.0 h.2 in
       (rw w.size h.0, same.item ∙ h.1, rw same.child inside, same.next ∙ h.3, rest j r.1 h.4)
 
-  pub left_written : (f : Forest (Label ℕ)) (l : Option ℕ) (hi : ℕ) → IsRoot ix f → LeftRises own f hi → LeftHolds k first f l
+  pub left_written : (f : Forest (Label ℕ)) (l : Option ℕ) (hi : ℕ) → IsRoot ix f → LeftRises own f hi
+      → LeftHolds k first f l
       → LeftHolds k' first (left_quoted ix f) l
   left_written nil l hi i r h = absurd i
   left_written (node a below before) l hi i r h =
-      left_written_if (a.tag == ix) a below before l hi refl (λ j q g. left_written before (Some a.tag) a.tag j q g) i r h
+      left_written_if (a.tag == ix) a below before l hi refl (λ j q g. left_written before (Some a.tag) a.tag j q g) i r
+      h
 
 -- the numbers stay
 left_rises_if : (own : ℕ → Bool) (b : Bool) (ix : ℕ) (a : Label ℕ) (below before : Forest (Label ℕ)) (hi : ℕ)
-    → (LeftRises own before a.tag → LeftRises own (left_quoted ix before) a.tag) → LeftRises own (node a below before) hi
+    → (LeftRises own before a.tag → LeftRises own (left_quoted ix before) a.tag)
+    → LeftRises own (node a below before) hi
     → LeftRises own (if b then node (shaped left_single a) below before else node a below (left_quoted ix before)) hi
 left_rises_if own true ix a below before hi rest r = r
 left_rises_if own false ix a below before hi rest r = (r.0, rest r.1)
 
-left_rises : (own : ℕ → Bool) (ix : ℕ) (f : Forest (Label ℕ)) (hi : ℕ) → LeftRises own f hi → LeftRises own (left_quoted ix f) hi
+left_rises : (own : ℕ → Bool) (ix : ℕ) (f : Forest (Label ℕ)) (hi : ℕ) → LeftRises own f hi
+    → LeftRises own (left_quoted ix f) hi
 left_rises own ix nil hi r = r
-left_rises own ix (node a below before) hi r = left_rises_if own (a.tag == ix) ix a below before hi (left_rises own ix before a.tag) r
+left_rises own ix (node a below before) hi r = left_rises_if own (a.tag == ix) ix a below before hi
+    (left_rises own ix before a.tag) r
 
 left_touched_if : (b : Bool) (touched : ℕ → Bool) (ix : ℕ) (a : Label ℕ) (below before : Forest (Label ℕ))
-    → (AllTouched touched before → AllTouched touched (left_quoted ix before)) → AllTouched touched (node a below before)
+    → (AllTouched touched before → AllTouched touched (left_quoted ix before))
+    → AllTouched touched (node a below before)
     → AllTouched touched (if b then node (shaped left_single a) below before else node a below (left_quoted ix before))
 left_touched_if true touched ix a below before rest h = h
 left_touched_if false touched ix a below before rest h = (h.0, rest h.1)
 
-left_all_touched : (touched : ℕ → Bool) (ix : ℕ) (f : Forest (Label ℕ)) → AllTouched touched f → AllTouched touched (left_quoted ix f)
+left_all_touched : (touched : ℕ → Bool) (ix : ℕ) (f : Forest (Label ℕ)) → AllTouched touched f
+    → AllTouched touched (left_quoted ix f)
 left_all_touched touched ix nil h = h
 left_all_touched touched ix (node a below before) h = left_touched_if (a.tag == ix) touched ix a below before
     (left_all_touched touched ix before) h
@@ -112,7 +136,8 @@ still_root None a below before h = tt
 still_root (Some x) a below before h = inr h
 
 -- what was remembered precedes a tree that is read
-remembered_over : (single : Option ℕ) (later : Bool) (a : Label ℕ) (below before : Forest (Label ℕ)) → IfSome single (λ x. x < a.tag)
+remembered_over : (single : Option ℕ) (later : Bool) (a : Label ℕ) (below before : Forest (Label ℕ))
+    → IfSome single (λ x. x < a.tag)
     → remembered_as single later (node a below before) ≡ node a below (remembered_as single later before)
 remembered_over None later a below before h = refl
 remembered_over (Some x) false a below before h = refl
@@ -134,7 +159,8 @@ left_quoted-here a below before = ap (λ b. if b then node (shaped left_single a
 module _ (begun : Forest (Label ℕ)) (a : Label ℕ) (below after : Forest (Label ℕ)) where
   abbrev pub turned : Option ℕ → Bool → Kind → Forest (Label ℕ)
   turned single double k =
-      read_back (node (shaped (turn_by k a.part.shape (is_some single) double (is_closed_later after) (is_end after)).made a) below
+      read_back (node (shaped
+      (turn_by k a.part.shape (is_some single) double (is_closed_later after) (is_end after)).made a) below
       (remembered_as single (closes_later k (is_closed_later after)) begun))
       (quotes_after (turn_by k a.part.shape (is_some single) double (is_closed_later after) (is_end after)).single
       (turn_by k a.part.shape (is_some single) double (is_closed_later after) (is_end after)).double after)
@@ -156,7 +182,8 @@ module _ (begun : Forest (Label ℕ)) (a : Label ℕ) (below after : Forest (Lab
   turn_other single double low = stays single double a.part.shape low
 
   pub turn_break : (single : Option ℕ) (double : Bool) → IfSome single (λ x. x < a.tag) → is_end after ≡ true
-      → quoted_from single double (node (shaped (synthesized backslash) a) below begun) after ≡ turned single double kind.Break
+      → quoted_from single double (node (shaped (synthesized backslash) a) below begun) after
+      ≡ turned single double kind.Break
   turn_break single double low e =
       stays single double (synthesized backslash) low
       ∙ ap (λ l. read_back (node (shaped (if l then synthesized backslash else a.part.shape) a) below
@@ -172,10 +199,12 @@ module _ (begun : Forest (Label ℕ)) (a : Label ℕ) (below after : Forest (Lab
       begun)) (quotes_after (is_some single) double after)) (sym e)
 
   pub turn_double_closes : (single : Option ℕ) (opens : Bool) → IfSome single (λ x. x < a.tag)
-      → quoted_from single false (node (shaped right_double a) below begun) after ≡ turned single true (kind.Double opens true)
+      → quoted_from single false (node (shaped right_double a) below begun) after
+      ≡ turned single true (kind.Double opens true)
   turn_double_closes single opens low = stays single false right_double low
 
-  pub turn_double_opens : (single : Option ℕ) (double opens closes : Bool) → IfSome single (λ x. x < a.tag) → (double && closes) ≡ false
+  pub turn_double_opens : (single : Option ℕ) (double opens closes : Bool) → IfSome single (λ x. x < a.tag)
+      → (double && closes) ≡ false
       → quoted_from single (opens || double) (node (shaped left_double a) below begun) after
       ≡ turned single double (kind.Double opens closes)
   turn_double_opens single double opens false low e = let f : (double && false) ≡ false = e
@@ -183,17 +212,22 @@ module _ (begun : Forest (Label ℕ)) (a : Label ℕ) (below after : Forest (Lab
   turn_double_opens single false opens true low e = stays single (opens || false) left_double low
   turn_double_opens single true opens true low e = cc
 
-  opens_if : (double later : Bool) → read_back (if later then left_quoted a.tag (node (shaped right_single a) below begun)
+  opens_if : (double later : Bool)
+      → read_back (if later then left_quoted a.tag (node (shaped right_single a) below begun)
       else node (shaped right_single a) below begun) (quotes_after true double after)
-      ≡ read_back (node (shaped (if true && later then left_single else right_single) a) below begun) (quotes_after true double after)
-  opens_if double true = ap (λ f. read_back f (quotes_after true double after)) (left_quoted-here (shaped right_single a) below begun)
+      ≡ read_back (node (shaped (if true && later then left_single else right_single) a) below begun)
+      (quotes_after true double after)
+  opens_if double true = ap (λ f. read_back f (quotes_after true double after))
+      (left_quoted-here (shaped right_single a) below begun)
   opens_if double false = refl
 
-  pub turn_none_opens : (double closes : Bool) → quoted_from (Some a.tag) double (node (shaped right_single a) below begun) after
+  pub turn_none_opens : (double closes : Bool)
+      → quoted_from (Some a.tag) double (node (shaped right_single a) below begun) after
       ≡ turned None double (kind.Single true closes)
   turn_none_opens double closes = opens_if double (is_closed_later after)
 
-  pub turn_none_stays : (double closes : Bool) → quoted_from None double (node (shaped right_single a) below begun) after
+  pub turn_none_stays : (double closes : Bool) → quoted_from None double (node (shaped right_single a) below begun)
+      after
       ≡ turned None double (kind.Single false closes)
   turn_none_stays double closes = refl
 
@@ -202,21 +236,25 @@ module _ (begun : Forest (Label ℕ)) (a : Label ℕ) (below after : Forest (Lab
       ≡ turned (Some x) double (kind.Single opens true)
   turn_some_closes x double opens = refl
 
-  pub turn_some_opens : (x : ℕ) (double : Bool) → quoted_from (Some a.tag) double (node (shaped right_single a) below begun) after
+  pub turn_some_opens : (x : ℕ) (double : Bool)
+      → quoted_from (Some a.tag) double (node (shaped right_single a) below begun) after
       ≡ turned (Some x) double (kind.Single true false)
   turn_some_opens x double = opens_if double (is_closed_later after)
 
-  pub turn_some_stays : (x : ℕ) (double : Bool) → x < a.tag → quoted_from (Some x) double (node (shaped right_single a) below begun)
+  pub turn_some_stays : (x : ℕ) (double : Bool) → x < a.tag
+      → quoted_from (Some x) double (node (shaped right_single a) below begun)
       after ≡ turned (Some x) double (kind.Single false false)
   turn_some_stays x double low = stays (Some x) double right_single low
 
-low_if : (own : ℕ → Bool) (single : Option ℕ) (f : Forest (Label ℕ)) (hi : ℕ) → LeftRises own f hi → IfSome single (λ x. IsRoot x f)
+low_if : (own : ℕ → Bool) (single : Option ℕ) (f : Forest (Label ℕ)) (hi : ℕ) → LeftRises own f hi
+    → IfSome single (λ x. IsRoot x f)
     → IfSome single (λ x. x < hi)
 low_if own None f hi r i = tt
 low_if own (Some x) f hi r i = root_below own x f hi r i
 
 -- what is read as a quote or as a break is no block
-pub quote_block : (tables : Tables) (source : List ℕ) (b : ItemBody) → (kind_of_shape (shape_of tables source b) ≡ kind.Other → ⊥)
+pub quote_block : (tables : Tables) (source : List ℕ) (b : ItemBody)
+    → (kind_of_shape (shape_of tables source b) ≡ kind.Other → ⊥)
     → block_of b ≡ None
 quote_block tables source (body.MaybeSmartQuote quote opens closes) h = refl
 quote_block tables source (body.HardBreak x) h = refl
@@ -226,10 +264,18 @@ quote_block tables source other h = absurd (h refl)
 
 -- a Text of one character is made by pairing
 made_character : (c : ℕ) → IsMade (body.SynthesizeChar c)
-made_character c = record { text = refl; link = refl; alignments = refl; attributes = refl; closed = refl; inline = refl }
+made_character c = record {
+  text = refl;
+  link = refl;
+  alignments = refl;
+  attributes = refl;
+  closed = refl;
+  inline = refl;
+}
 
 -- a tree at the link to the rest
-module _ (h : Chain) (s : Arena Item) (begun : Forest (Label ℕ)) (single : Option ℕ) (ix : ℕ) (a : Label ℕ) (below after : Forest (Label ℕ))
+module _ (h : Chain) (s : Arena Item) (begun : Forest (Label ℕ)) (single : Option ℕ) (ix : ℕ) (a : Label ℕ)
+    (below after : Forest (Label ℕ))
     (st : QuotesStand h s begun single (Some ix) (node a below after)) where
   pub number_is : ix ≡ a.tag
   number_is = let here : Some ix ≡ Some a.tag = st.cut.right.0 in cc
@@ -240,16 +286,19 @@ module _ (h : Chain) (s : Arena Item) (begun : Forest (Label ℕ)) (single : Opt
   pub no_block : (k : Kind) → k ≡ kind_of_shape a.part.shape → (k ≡ kind.Other → ⊥) → a.part.block ≡ None
   no_block k e other =
       sym (ap (λ (p : Part). p.block) st.cut.right.2)
-      ∙ quote_block h.tables _ (item_at s.nodes a.tag).body (λ f. other (e ∙ ap (λ (p : Part). kind_of_shape p.shape) (sym st.cut.right.2) ∙ f))
+      ∙ quote_block h.tables _ (item_at s.nodes a.tag).body
+      (λ f. other (e ∙ ap (λ (p : Part). kind_of_shape p.shape) (sym st.cut.right.2) ∙ f))
 
   -- it becomes a character
   pub put_here : (t : Arena Item) (c : ℕ) → a.part.block ≡ None → WroteBody s t ix (body.SynthesizeChar c)
       → QuotesStand h t (node (shaped (synthesized c) a) below begun) single (sibling_of s.nodes ix) after
   put_here t c none w0 =
       let w = subst (λ i. WroteBody s t i (body.SynthesizeChar c)) number_is w0 in
-      let part = body_part h.setting.text h.tables (item_at s.nodes a.tag) a (body.SynthesizeChar c) (synthesized c) st.cut.right.2 refl
+      let part = body_part h.setting.text h.tables (item_at s.nodes a.tag) a (body.SynthesizeChar c) (synthesized c)
+      st.cut.right.2 refl
       (sym none) in
-      let written = subst (λ p. Writes (view h s) (view h t) a.tag p (child_of s.nodes a.tag) (sibling_of s.nodes a.tag)) part
+      let written = subst (λ p. Writes (view h s) (view h t) a.tag p (child_of s.nodes a.tag)
+      (sibling_of s.nodes a.tag)) part
       (parts_written (part_of h.setting.text h.tables) s.nodes t.nodes a.tag _ _ _ w.nodes) in
       record {
         cut = rw number_is (written_over h.touched (view h s) (view h t) h.first begun (Some ix) a below after h.bound
@@ -260,12 +309,14 @@ module _ (h : Chain) (s : Arena Item) (begun : Forest (Label ℕ)) (single : Opt
       }
 
   put_kept : (t : Arena Item) (c : ℕ) → WroteBody s t ix (body.SynthesizeChar c) → Kept h.touched s t
-  put_kept t c w = kept_made h.touched s s t ix _ _ _ (kept_none h.touched s) (rw number_is st.rest_touched.0) w (made_character c)
+  put_kept t c w = kept_made h.touched s s t ix _ _ _ (kept_none h.touched s) (rw number_is st.rest_touched.0) w
+      (made_character c)
 
   pub put_on : (t : Arena Item) (c : ℕ) (k : Kind) (double : Bool) (single' : Option ℕ) (double' : Bool)
       → WroteBody s t ix (body.SynthesizeChar c) → k ≡ kind_of_shape a.part.shape → (k ≡ kind.Other → ⊥)
       → IfSome single' (λ x. IsRoot x (node (shaped (synthesized c) a) below begun))
-      → quoted_from single' double' (node (shaped (synthesized c) a) below begun) after ≡ turned begun a below after single double k
+      → quoted_from single' double' (node (shaped (synthesized c) a) below begun) after
+      ≡ turned begun a below after single double k
       → QuotesOn h s t begun (node a below after) single double single' double' (sibling_of s.nodes ix) after
   put_on t c k double single' double' w e other i q =
       let p = put_here t c (no_block k e other) w in
@@ -277,7 +328,8 @@ module _ (h : Chain) (s : Arena Item) (begun : Forest (Label ℕ)) (single : Opt
       }
 
   -- it stays
-  pub stay_on : (k : Kind) (double : Bool) → k ≡ kind_of_shape a.part.shape → quoted_from single double (node a below begun) after
+  pub stay_on : (k : Kind) (double : Bool) → k ≡ kind_of_shape a.part.shape
+      → quoted_from single double (node a below begun) after
       ≡ turned begun a below after single double k
       → QuotesOn h s s begun (node a below after) single double single double (sibling_of s.nodes ix) after
   stay_on k double e q =
@@ -297,7 +349,8 @@ module _ (h : Chain) (s : Arena Item) (begun : Forest (Label ℕ)) (single : Opt
   pub still_there : (c : ℕ) → IfSome single (λ x. IsRoot x (node (shaped (synthesized c) a) below begun))
   still_there c = still_root single (shaped (synthesized c) a) below begun st.remembered
 
-  pub here_root : (c : ℕ) → a.part.block ≡ None → IfSome (Some ix) (λ x. IsRoot x (node (shaped (synthesized c) a) below begun))
+  pub here_root : (c : ℕ) → a.part.block ≡ None
+      → IfSome (Some ix) (λ x. IsRoot x (node (shaped (synthesized c) a) below begun))
   here_root c none = inl (sym number_is, none)
 
 -- the remembered one becomes a left quote
@@ -316,9 +369,11 @@ put_left h s t read left l rest st w =
     (parts_written (part_of h.setting.text h.tables) s.nodes t.nodes left _ _ _ w.nodes) in
     record {
       cut = record {
-        left = left_written h.touched (view h s) (view h t) h.first left own written read l (next_number rest h.bound) st.remembered
+        left = left_written h.touched (view h s) (view h t) h.first left own written read l (next_number rest h.bound)
+            st.remembered
             st.cut.rises_left st.cut.left;
-        right = Holds-write_before h.touched (view h s) (view h t) left _ _ _ written own l (suc left) rest h.bound (omega arith)
+        right = Holds-write_before h.touched (view h s) (view h t) left _ _ _ written own l (suc left) rest h.bound
+            (omega arith)
             (Rises-raise h.touched 0 (suc left) rest h.bound low st.cut.rises_right) st.cut.right;
         rises_left = left_rises h.touched left read (next_number rest h.bound) st.cut.rises_left;
         rises_right = st.cut.rises_right;
@@ -329,9 +384,11 @@ put_left h s t read left l rest st w =
     }
 
 -- and a tree after it a right one
-pub close_on : (h : Chain) (s t u : Arena Item) (begun : Forest (Label ℕ)) (left ix : ℕ) (a : Label ℕ) (below after : Forest (Label ℕ))
+pub close_on : (h : Chain) (s t u : Arena Item) (begun : Forest (Label ℕ)) (left ix : ℕ) (a : Label ℕ)
+    (below after : Forest (Label ℕ))
     (double opens : Bool)
-    → QuotesStand h s begun (Some left) (Some ix) (node a below after) → kind.Single opens true ≡ kind_of_shape a.part.shape
+    → QuotesStand h s begun (Some left) (Some ix) (node a below after) → kind.Single opens true
+    ≡ kind_of_shape a.part.shape
     → WroteBody s t left (body.SynthesizeChar 8216) → WroteBody t u ix (body.SynthesizeChar 8217)
     → QuotesOn h s u begun (node a below after) (Some left) double None double (sibling_of s.nodes ix) after
 close_on h s t u begun left ix a below after double opens st e v w =
@@ -340,14 +397,18 @@ close_on h s t u begun left ix a below after double opens st e v w =
     let q = put_here h t (left_quoted left begun) None ix a below after p u 8217 none w in
     let is = number_is h s begun (Some left) ix a below after st in
     let low : left < a.tag = root_below h.touched left begun a.tag st.cut.rises_left st.remembered in
-    let on : sibling_of t.nodes ix ≡ sibling_of s.nodes ix = (v.nodes.others ix (λ x. omega (arith, is, x, low))).next in
-    let k = kept_made h.touched s s t left _ _ _ (kept_none h.touched s) (root_touched h.touched left begun st.left_touched st.remembered) v
+    let on : sibling_of t.nodes ix ≡ sibling_of s.nodes ix = (v.nodes.others ix (λ x. omega (arith, is, x, low))).next
+    in
+    let k = kept_made h.touched s s t left _ _ _ (kept_none h.touched s)
+    (root_touched h.touched left begun st.left_touched st.remembered) v
     (made_character 8216) in
     record {
       read = node (shaped right_single a) below (left_quoted left begun);
-      stands = subst (λ l. QuotesStand h u (node (shaped right_single a) below (left_quoted left begun)) None l after) on q;
+      stands = subst (λ l. QuotesStand h u (node (shaped right_single a) below (left_quoted left begun)) None l after)
+          on q;
       kept = kept_made h.touched s t u ix _ _ _ k (rw is st.rest_touched.0) w (made_character 8217);
-      same = turn_some_closes begun a below after left double opens ∙ turned_whole begun a below after (Some left) double
+      same = turn_some_closes begun a below after left double opens ∙ turned_whole begun a below after (Some left)
+          double
           (kind.Single opens true) e;
     }
 
@@ -355,7 +416,8 @@ close_on h s t u begun left ix a below after double opens st e v w =
 pub can_here : (h : Chain) (s : Arena Item) (begun rest : Forest (Label ℕ)) (single : Option ℕ) (ix : ℕ)
     → QuotesStand h s begun single (Some ix) rest → ix < length s.nodes
 can_here h s begun nil single ix st = let no : Some ix ≡ None = st.cut.right in cc
-can_here h s begun (node a below after) single ix st = let here : Some ix ≡ Some a.tag = st.cut.right.0 in let e : ix ≡ a.tag = cc
+can_here h s begun (node a below after) single ix st = let here : Some ix ≡ Some a.tag = st.cut.right.0 in let e : ix
+    ≡ a.tag = cc
     in omega (arith, st.cut.right.1, e)
 
 pub can_left : (h : Chain) (s : Arena Item) (begun rest : Forest (Label ℕ)) (left : ℕ) (l : Option ℕ)

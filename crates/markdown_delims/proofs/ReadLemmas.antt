@@ -1,5 +1,6 @@
 -- A whole run is read at its first character, and another tree by itself.
-use Rattle.std.proofs.Common.{◌≡◌, ℕ, zero, suc, ◌+◌, ◌-◌, ◌<◌, ◌≤◌, Bool, false, List, ◌∷◌, Option, Some, None, length, refl, ap}
+use Rattle.std.proofs.Common.{◌≡◌, ℕ, zero, suc, ◌+◌, ◌-◌, ◌<◌, ◌≤◌, Bool, false, List, ◌∷◌, Option, Some, None, length}
+use Rattle.std.proofs.Common.{refl, ap}
 use Rattle.std.proofs.Common.{sym, ◌∙◌, subst, arith}
 use Rattle.std.specs.Prelude.{is_some}
 use Rattle.markdown_base.specs.declared.item.Item.{Item}
@@ -9,7 +10,8 @@ use Rattle.markdown_base.specs.Arena.{Arena, sibling_of}
 use Rattle.markdown_base.specs.BlockTree.{item_at}
 use Rattle.markdown_base.specs.Forest.{Forest, nil, node}
 use Rattle.markdown_document.specs.Counts.{comparisons_per_delimiter}
-use Rattle.markdown_document.specs.Document.{Shape, leaf, enclosed, plain, backslash_break, unresolved, Part, Label, is_unresolved, shape_of}
+use Rattle.markdown_document.specs.Document.{Shape, leaf, enclosed, plain, backslash_break, unresolved, Part, Label}
+use Rattle.markdown_document.specs.Document.{is_unresolved, shape_of}
 use Rattle.markdown_document.specs.Document.{part_of}
 use Rattle.markdown_document.specs.Setting.{Setting}
 use Rattle.markdown_document.specs.Tables.{Tables}
@@ -17,7 +19,8 @@ use Rattle.markdown_document.specs.Waiting.{text_if, as_closed}
 use Rattle.markdown_delims.specs.declared.marks.Marks.{Marks}
 use Rattle.markdown_delims.specs.declared.run.Delimiter.{Delimiter}
 use Rattle.markdown_delims.specs.declared.run.Run.{Run}
-use Rattle.markdown_delims.specs.ChainReading.{HasCount, ShowsCount, trees_after, BeginsRun, IsWhole, AreWhole, one_if, runs_in, Settles}
+use Rattle.markdown_delims.specs.ChainReading.{HasCount, ShowsCount, trees_after, BeginsRun, IsWhole, AreWhole, one_if}
+use Rattle.markdown_delims.specs.ChainReading.{runs_in, Settles}
 use Rattle.markdown_delims.specs.ChainReading.{StandsWhole, ReadFurther, CanReadTree}
 use Rattle.markdown_delims.specs.ChainStanding.{Chain, view, flat, RunRead}
 use Rattle.markdown_delims.specs.Layers.{run_by, run_of_shape, run_of}
@@ -29,7 +32,8 @@ use Rattle.markdown_delims.proofs.CutLemmas.{Rises-lower, step_right}
 use Rattle.markdown_delims.proofs.WriteLemmas.{kept_none, kept_both}
 
 -- a run has a character
-some_by : (n : ℕ) (opens closes : Bool) (d : Option Delimiter) (run : Run) → run_by n opens closes d ≡ Some run → 0 < run.length
+some_by : (n : ℕ) (opens closes : Bool) (d : Option Delimiter) (run : Run) → run_by n opens closes d ≡ Some run
+    → 0 < run.length
 some_by n opens closes None run e = cc
 some_by zero opens closes (Some d) run e = cc
 some_by (suc n) opens closes (Some d) run e =
@@ -50,8 +54,10 @@ has_count tables source (body.MaybeEmphasis n opens closes) h = h
 has_count tables source other h = tt
 
 -- what the code reads is what the chain shows
-pub shown_run : (text source : List ℕ) (tables : Tables) (item i : Item) (o : Option Run) → source ≡ text → item ≡ i → HasCount i.body
-    → ((tables : Tables) → HasCount item.body → o ≡ run_of text (part_of text tables item)) → run_of source (part_of source tables i) ≡ o
+pub shown_run : (text source : List ℕ) (tables : Tables) (item i : Item) (o : Option Run) → source ≡ text → item ≡ i
+    → HasCount i.body
+    → ((tables : Tables) → HasCount item.body → o ≡ run_of text (part_of text tables item))
+    → run_of source (part_of source tables i) ≡ o
 shown_run text source tables item i o e f h is =
     ap (λ t. run_of t (part_of t tables i)) e ∙ ap (λ x. run_of text (part_of text tables x)) (sym f)
     ∙ sym (is tables (subst (λ (x : Item). HasCount x.body) (sym f) h))
@@ -72,24 +78,28 @@ skip_finds s (suc n) nil rs = refl
 skip_finds s (suc n) (node a below after) rs = skip_finds s n after rs
 
 -- what is whole, counted or in order remains so without the first trees
-whole_after : (text : List ℕ) (n : ℕ) (chain : Forest (Label ℕ)) → AreWhole text chain → AreWhole text (trees_after n chain)
+whole_after : (text : List ℕ) (n : ℕ) (chain : Forest (Label ℕ)) → AreWhole text chain
+    → AreWhole text (trees_after n chain)
 whole_after text zero chain w = w
 whole_after text (suc n) nil w = w
 whole_after text (suc n) (node a below after) w = whole_after text n after w.2
 
-fewer_after : (text : List ℕ) (n : ℕ) (chain : Forest (Label ℕ)) → runs_in text (trees_after n chain) ≤ runs_in text chain
+fewer_after : (text : List ℕ) (n : ℕ) (chain : Forest (Label ℕ)) → runs_in text (trees_after n chain) ≤ runs_in text
+    chain
 fewer_after text zero chain = omega arith
 fewer_after text (suc n) nil = omega arith
 fewer_after text (suc n) (node a below after) = omega (arith, fewer_after text n after)
 
-rises_after : (own : ℕ → Bool) (lo n : ℕ) (chain : Forest (Label ℕ)) (hi : ℕ) → Rises own lo chain hi → Rises own lo (trees_after n chain) hi
+rises_after : (own : ℕ → Bool) (lo n : ℕ) (chain : Forest (Label ℕ)) (hi : ℕ) → Rises own lo chain hi
+    → Rises own lo (trees_after n chain) hi
 rises_after own lo zero chain hi r = r
 rises_after own lo (suc n) nil hi r = r
 rises_after own lo (suc n) (node a below after) hi r =
     rises_after own lo n after hi (Rises-lower own (suc a.tag) lo after hi (omega (arith, r.0)) r.2)
 
 -- the trees after the first of a run
-after_first : (n : ℕ) (a : Label ℕ) (below after : Forest (Label ℕ)) → 0 < n → trees_after n (node a below after) ≡ trees_after (n - 1) after
+after_first : (n : ℕ) (a : Label ℕ) (below after : Forest (Label ℕ)) → 0 < n → trees_after n (node a below after)
+    ≡ trees_after (n - 1) after
 after_first zero a below after some = absurd (omega arith)
 after_first (suc n) a below after some = ap (λ m. trees_after m after) (let e : n ≡ suc n - 1 = omega arith in e)
 
@@ -125,7 +135,8 @@ module _ (s : Setting) (a : Label ℕ) (below after : Forest (Label ℕ)) (rs : 
     reads_some =
         ap (after_tree s (λ skip others. reads_from s skip after others) a below after rs) e
         ∙ skip_run s (run.length - 1) after (run_read s run.can_close run vs rs)
-        ∙ ap (λ f. reads_from s 0 f (run_read s run.can_close run vs rs)) (sym (after_first run.length a below after some))
+        ∙ ap (λ f. reads_from s 0 f (run_read s run.can_close run vs rs))
+        (sym (after_first run.length a below after some))
 
     finds_some : finds_from s 0 (node a below after) rs ≡ run_finds s run.can_close run vs rs
         + finds_from s 0 (trees_after run.length (node a below after)) (run_read s run.can_close run vs rs)
@@ -134,7 +145,8 @@ module _ (s : Setting) (a : Label ℕ) (below after : Forest (Label ℕ)) (rs : 
         ap (tree_finds s (λ skip others. finds_from s skip after others) a below after rs) e
         ∙ ap (λ n. run_finds s run.can_close run vs rs + n)
         (skip_finds s (run.length - 1) after (run_read s run.can_close run vs rs)
-        ∙ ap (λ f. finds_from s 0 f (run_read s run.can_close run vs rs)) (sym (after_first run.length a below after some)))
+        ∙ ap (λ f. finds_from s 0 f (run_read s run.can_close run vs rs))
+        (sym (after_first run.length a below after some)))
 
 -- the first tree of the rest, at the link to it
 module _ (h : Chain) (s : Arena Item) (rs : List (Read ℕ)) (last : Option ℕ) (ix : ℕ) (o : Openers) where
@@ -153,13 +165,16 @@ module _ (h : Chain) (s : Arena Item) (rs : List (Read ℕ)) (last : Option ℕ)
       let link : Some ix ≡ Some a.tag = st.stands.cut.right.0 in
       let e : a.tag ≡ ix = cc in (e, ap (view h s).item (sym e) ∙ st.stands.cut.right.2)
 
-  pub head_count : (chain : Forest (Label ℕ)) → StandsWhole h s rs last (Some ix) chain o → HasCount (item_at s.nodes ix).body
+  pub head_count : (chain : Forest (Label ℕ)) → StandsWhole h s rs last (Some ix) chain o
+      → HasCount (item_at s.nodes ix).body
   head_count nil st = let no : Some ix ≡ None = st.stands.cut.right in cc
   head_count (node a below after) st =
-      has_count h.tables _ (item_at s.nodes ix).body (subst (λ (p : Part). ShowsCount p.shape) (sym (head_part a below after st).1)
+      has_count h.tables _ (item_at s.nodes ix).body
+      (subst (λ (p : Part). ShowsCount p.shape) (sym (head_part a below after st).1)
       st.whole.0)
 
-  pub read_none : (chain : Forest (Label ℕ)) → StandsWhole h s rs last (Some ix) chain o → run_of h.setting.text here ≡ None
+  pub read_none : (chain : Forest (Label ℕ)) → StandsWhole h s rs last (Some ix) chain o → run_of h.setting.text here
+      ≡ None
       → ReadFurther h s s rs chain o o (Some ix) (sibling_of s.nodes ix) (suc ix)
   read_none nil st e = let no : Some ix ≡ None = st.stands.cut.right in cc
   read_none (node a below after) st e =
@@ -202,7 +217,8 @@ module _ (h : Chain) (s : Arena Item) (rs : List (Read ℕ)) (last : Option ℕ)
     pub fewer : suc (runs_in h.setting.text (trees_after run.length chain)) ≤ runs_in h.setting.text chain
     pub rises : Rises h.touched (suc ix) (trees_after run.length chain) h.bound
 
-  pub run_here : (run : Run) (chain : Forest (Label ℕ)) → StandsWhole h s rs last (Some ix) chain o → run_of h.setting.text here ≡ Some run
+  pub run_here : (run : Run) (chain : Forest (Label ℕ)) → StandsWhole h s rs last (Some ix) chain o
+      → run_of h.setting.text here ≡ Some run
       → RunHere run chain
   run_here run nil st e = let no : Some ix ≡ None = st.stands.cut.right in cc
   run_here run (node a below after) st e =
@@ -211,24 +227,28 @@ module _ (h : Chain) (s : Arena Item) (rs : List (Read ℕ)) (last : Option ℕ)
       let many : 0 < run.length = some h.setting a below after rs run is in
       let rest = after_first run.length a below after many in
       record {
-        begins = subst (λ n. BeginsRun n run.length (node a below after)) p.0 (subst (λ o. IsWhole o a below after) is st.whole.1);
+        begins = subst (λ n. BeginsRun n run.length (node a below after)) p.0
+            (subst (λ o. IsWhole o a below after) is st.whole.1);
         some = many;
         same = reads_some h.setting a below after rs run is;
         finds = finds_some h.setting a below after rs run is;
-        whole = subst (λ f. AreWhole h.setting.text f) (sym rest) (whole_after h.setting.text (run.length - 1) after st.whole.2);
+        whole = subst (λ f. AreWhole h.setting.text f) (sym rest)
+            (whole_after h.setting.text (run.length - 1) after st.whole.2);
         fewer = omega (
           arith,
           ap (runs_in h.setting.text) rest,
           fewer_after h.setting.text (run.length - 1) after,
           ap (λ o. one_if (is_some o)) is,
         );
-        rises = subst (λ f. Rises h.touched (suc ix) f h.bound) (sym rest) (rises_after h.touched (suc ix) (run.length - 1) after h.bound
+        rises = subst (λ f. Rises h.touched (suc ix) f h.bound) (sym rest)
+            (rises_after h.touched (suc ix) (run.length - 1) after h.bound
             (subst (λ n. Rises h.touched (suc n) after h.bound) p.0 st.stands.cut.rises_right.2));
       }
 
   pub read_some : (run : Run) (chain : Forest (Label ℕ)) (new : Openers) (last' l : Option ℕ) (t u : Arena Item)
       → StandsWhole h s rs last (Some ix) chain o → RunHere run chain
-      → Settles (record { run = run; number = ix; count = run.length }) s t → new.potential ≤ o.potential + comparisons_per_delimiter
+      → Settles (record { run = run; number = ix; count = run.length }) s t
+      → new.potential ≤ o.potential + comparisons_per_delimiter
       → RunRead h t u run (first_texts h.setting.text run.length chain) rs o new last' l (trees_after run.length chain)
       → ReadFurther h s u rs chain o new last' l (suc ix)
   read_some run chain new last' l t u st r settles paid on =
@@ -244,7 +264,8 @@ module _ (h : Chain) (s : Arena Item) (rs : List (Read ℕ)) (last : Option ℕ)
       }
 
 -- the run that is met in a chain that can be read
-pub met_here : (m : Marks) (text : List ℕ) (ix : ℕ) (last : Option ℕ) (s : Arena Item) (o : Openers) (p : CanReadTree m text ix last s o)
+pub met_here : (m : Marks) (text : List ℕ) (ix : ℕ) (last : Option ℕ) (s : Arena Item) (o : Openers)
+    (p : CanReadTree m text ix last s o)
     (item : Item) (run : Run) → item ≡ item_at s.nodes ix
     → ((tables : Tables) → HasCount item.body → Some run ≡ run_of text (part_of text tables item))
     → RunHere p.chain s p.rs last ix o run p.rest

@@ -1,5 +1,6 @@
 -- The result of a search down a stack, step by step.
-use Rattle.std.proofs.Common.{◌≡◌, ℕ, zero, suc, ◌+◌, ◌<◌, ◌≤◌, min, Bool, true, false, List, [], ◌∷◌, ◌++◌, length, take, get_or, Some}
+use Rattle.std.proofs.Common.{◌≡◌, ℕ, zero, suc, ◌+◌, ◌<◌, ◌≤◌, min, Bool, true, false, List, [], ◌∷◌, ◌++◌, length}
+use Rattle.std.proofs.Common.{take, get_or, Some}
 use Rattle.std.proofs.Common.{None, inl, inr, refl, ap, sym, ◌∙◌, subst, arith, ltb, map, add-one}
 use Rattle.std.specs.Prelude.{not, ◌&&◌, ◌||◌, if◌then◌else◌}
 use Rattle.std.proofs.lemmas.List.{take_more, length-take-le, get_or-take}
@@ -27,14 +28,17 @@ open_runs_from-push t i (x ∷ cs) c rs =
 pub open_runs-push : (t : LowerBounds) (cs : List Characters) (c : Characters)
     → open_runs t (cs ++ c ∷ []) ≡ open_run t (length cs) c ∷ open_runs t cs
 unfolding open_runs
-open_runs-push t cs c = open_runs_from-push t 0 cs c [] ∙ ap (λ j. open_run t j c ∷ open_runs_from t 0 cs []) (omega arith)
+open_runs-push t cs c = open_runs_from-push t 0 cs c [] ∙ ap (λ j. open_run t j c ∷ open_runs_from t 0 cs [])
+    (omega arith)
 
 -- a run that is pushed is not dropped
-pub open_runs-pushed : (t : LowerBounds) (cs : List Characters) (c : Characters) → drop_bound c.run.delimiter t ≤ length cs
+pub open_runs-pushed : (t : LowerBounds) (cs : List Characters) (c : Characters)
+    → drop_bound c.run.delimiter t ≤ length cs
     → open_runs t (cs ++ c ∷ []) ≡ record { dropped = false; opener = c } ∷ open_runs t cs
 open_runs-pushed t cs c h =
     open_runs-push t cs c
-    ∙ ap (λ b. record { dropped = b; opener = c } ∷ open_runs t cs) (le-ltb (length cs) (drop_bound c.run.delimiter t) h)
+    ∙ ap (λ b. record { dropped = b; opener = c } ∷ open_runs t cs)
+    (le-ltb (length cs) (drop_bound c.run.delimiter t) h)
 
 -- bounds that drop alike below the stack's top give the same runs
 open_runs_from-same : (t u : LowerBounds) (n i : ℕ) (cs : List Characters) (rs : List OpenRun)
@@ -43,7 +47,8 @@ open_runs_from-same : (t u : LowerBounds) (n i : ℕ) (cs : List Characters) (rs
 open_runs_from-same t u n i [] rs f h = refl
 open_runs_from-same t u n i (c ∷ cs) rs f h =
     open_runs_from-same t u n (suc i) cs (open_run u i c ∷ rs) f (omega arith)
-    ∙ ap (λ b. open_runs_from t (suc i) cs (record { dropped = b; opener = c } ∷ rs)) (f c.run.delimiter i (omega arith))
+    ∙ ap (λ b. open_runs_from t (suc i) cs (record { dropped = b; opener = c } ∷ rs))
+    (f c.run.delimiter i (omega arith))
 
 lowered_drops : (t : LowerBounds) (n : ℕ) (d : Delimiter) → drop_bound d (lowered n t) ≡ min (drop_bound d t) n
 lowered_drops t n Star = omega arith
@@ -58,19 +63,23 @@ min_test t n i h =
       | inr above ↦ le-ltb i (min t n) (omega arith) ∙ sym (le-ltb i t above)
     ]
 
-pub open_runs-lowered : (t : LowerBounds) (n : ℕ) (cs : List Characters) → length cs ≤ n → open_runs (lowered n t) cs ≡ open_runs t cs
+pub open_runs-lowered : (t : LowerBounds) (n : ℕ) (cs : List Characters) → length cs ≤ n → open_runs (lowered n t) cs
+    ≡ open_runs t cs
 unfolding open_runs
 open_runs-lowered t n cs h =
-    open_runs_from-same t (lowered n t) n 0 cs [] (λ d j l. ap (ltb j) (lowered_drops t n d) ∙ min_test (drop_bound d t) n j l)
+    open_runs_from-same t (lowered n t) n 0 cs [] (λ d j l. ap (ltb j) (lowered_drops t n d)
+    ∙ min_test (drop_bound d t) n j l)
     (omega arith)
 
 -- bounds below which the runs of more characters are dropped
 open_runs_from-dropped : (e : Delimiter) (t u : LowerBounds) (n i : ℕ) (cs : List Characters) (rs : List OpenRun)
-    → ((d : Delimiter) (j : ℕ) → j < n → ltb j (drop_bound d u) ≡ (ltb j (drop_bound d t) || drops e d)) → i + length cs ≤ n
+    → ((d : Delimiter) (j : ℕ) → j < n → ltb j (drop_bound d u) ≡ (ltb j (drop_bound d t) || drops e d))
+    → i + length cs ≤ n
     → open_runs_from u i cs (map (drop_run e) rs) ≡ map (drop_run e) (open_runs_from t i cs rs)
 open_runs_from-dropped e t u n i [] rs f h = refl
 open_runs_from-dropped e t u n i (c ∷ cs) rs f h =
-    ap (λ b. open_runs_from u (suc i) cs (record { dropped = b; opener = c } ∷ map (drop_run e) rs)) (f c.run.delimiter i (omega arith))
+    ap (λ b. open_runs_from u (suc i) cs (record { dropped = b; opener = c } ∷ map (drop_run e) rs))
+    (f c.run.delimiter i (omega arith))
     ∙ open_runs_from-dropped e t u n (suc i) cs (open_run t i c ∷ rs) f (omega arith)
 
 or_false : (b : Bool) → b ≡ (b || false)
@@ -128,7 +137,8 @@ drop_bound_le Tilde closer b = omega arith
 drop_bound_le Caret closer b = omega arith
 
 -- at or above the closer's bound a run that may pair is taken
-pub may_take-holds : (closer : Run) (b : LowerBounds) (i : ℕ) (c : Characters) → bound_for closer b ≤ i → may_pair c.run closer ≡ true
+pub may_take-holds : (closer : Run) (b : LowerBounds) (i : ℕ) (c : Characters) → bound_for closer b ≤ i
+    → may_pair c.run closer ≡ true
     → may_take closer (open_run b i c) ≡ true
 may_take-holds closer b i c l h =
     let w : drop_bound closer.delimiter b ≤ bound_for closer b = drop_bound_le closer.delimiter closer b in
@@ -141,13 +151,15 @@ drops_at : (closer : Run) (t : LowerBounds) (i : ℕ) (c : Characters) → i < d
     → may_take closer (open_run t i c) ≡ false
 drops_at closer t i c l =
     elim (cases_Bool (may_pair c.run closer)) [
-      | inl pairs ↦ ap (λ q. not q && may_pair c.run closer) (ap (λ d. ltb i (drop_bound d t)) (same_from_pair closer c pairs)
+      | inl pairs ↦ ap (λ q. not q && may_pair c.run closer)
+          (ap (λ d. ltb i (drop_bound d t)) (same_from_pair closer c pairs)
           ∙ lt-ltb i (drop_bound closer.delimiter t) l)
       | inr fails ↦ may_take-fails closer t i c fails
     ]
 
 -- one step down the stack, past a run that is not taken
-pub nearest-passed : (closer : Run) (t : LowerBounds) (stack : List Characters) (i : ℕ) (x : Characters) → i < length stack
+pub nearest-passed : (closer : Run) (t : LowerBounds) (stack : List Characters) (i : ℕ) (x : Characters)
+    → i < length stack
     → may_take closer (open_run t i (get_or stack i x)) ≡ false → nearest_run closer (open_runs t (take (i + 1) stack))
     ≡ nearest_run closer (open_runs t (take i stack))
 nearest-passed closer t stack i x l h =
@@ -155,7 +167,8 @@ nearest-passed closer t stack i x l h =
     rw (take_more stack i x l, open_runs-push t (take i stack) (get_or stack i x), e, h) refl
 
 -- and at one that is taken
-pub nearest-taken : (closer : Run) (t : LowerBounds) (stack : List Characters) (i : ℕ) (x : Characters) → i < length stack
+pub nearest-taken : (closer : Run) (t : LowerBounds) (stack : List Characters) (i : ℕ) (x : Characters)
+    → i < length stack
     → may_take closer (open_run t i (get_or stack i x)) ≡ true → nearest_run closer (open_runs t (take (i + 1) stack))
     ≡ Some (record { opener = get_or stack i x; before = open_runs t (take i stack) })
 nearest-taken closer t stack i x l h =
@@ -170,7 +183,8 @@ none_upto closer t stack zero h f = refl
 none_upto closer t [] (suc n) h f = refl
 none_upto closer t (c ∷ cs) (suc n) h f =
     subst (λ m. nearest_run closer (open_runs t (take m (c ∷ cs))) ≡ None) (add-one n)
-    (nearest-passed closer t (c ∷ cs) n c (omega arith) (f n c (omega arith)) ∙ none_upto closer t (c ∷ cs) n (omega arith)
+    (nearest-passed closer t (c ∷ cs) n c (omega arith) (f n c (omega arith))
+    ∙ none_upto closer t (c ∷ cs) n (omega arith)
     (λ i x l. f i x (omega arith)))
 
 -- below its bound a closer finds none
@@ -184,9 +198,12 @@ nearest-below closer stack b h =
       | inr pairing ↦
           may_take-fails closer b i (get_or stack i x)
           (let w : bound_for closer b ≤ length stack = bound_at-within closer.delimiter closer stack b h in
-          let e : length (take (bound_for closer b) stack) ≡ bound_for closer b = length-take-le (bound_for closer b) stack w in
-          let g : get_or (take (bound_for closer b) stack) i x ≡ get_or stack i x = get_or-take (bound_for closer b) stack i x l in
-          subst (λ c. may_pair c.run closer ≡ false) g (below_bound_fails closer.delimiter closer stack b refl pairing h i x (omega arith)))
+          let e : length (take (bound_for closer b) stack) ≡ bound_for closer b = length-take-le (bound_for closer b)
+          stack w in
+          let g : get_or (take (bound_for closer b) stack) i x ≡ get_or stack i x = get_or-take (bound_for closer b)
+          stack i x l in
+          subst (λ c. may_pair c.run closer ≡ false) g
+          (below_bound_fails closer.delimiter closer stack b refl pairing h i x (omega arith)))
     ])
   where
     last_two : (d : Delimiter) → is_tilde_or_caret d ≡ true → {i : ℕ} → i < bound_at d closer b → i < drop_bound d b
@@ -196,10 +213,12 @@ nearest-below closer stack b h =
     last_two Caret q l = l
 
 -- a failed search changes the runs as the dropping says
-pub open_runs-raised : (closer : Run) (stack : List Characters) (b : LowerBounds) → open_runs (raised_for closer (length stack) b) stack
+pub open_runs-raised : (closer : Run) (stack : List Characters) (b : LowerBounds)
+    → open_runs (raised_for closer (length stack) b) stack
     ≡ dropped_by closer (open_runs b stack)
 unfolding open_runs
-open_runs-raised closer stack b = open_runs_from-dropped closer.delimiter b (raised_for closer (length stack) b) (length stack) 0 stack []
+open_runs-raised closer stack b = open_runs_from-dropped closer.delimiter b (raised_for closer (length stack) b)
+    (length stack) 0 stack []
     (raised closer.delimiter) (omega arith)
   where
     raised : (e d : Delimiter) (j : ℕ) → j < length stack → ltb j (drop_bound d (raised_at e closer (length stack) b))

@@ -1,5 +1,6 @@
 -- The characters of a run become texts, from the first on.
-use Rattle.std.proofs.Common.{◌≡◌, ◌≤◌, ℕ, zero, suc, ◌+◌, ◌<◌, Bool, true, List, [], ◌∷◌, Option, Some, length, refl, ap, sym, ◌∙◌, subst}
+use Rattle.std.proofs.Common.{◌≡◌, ◌≤◌, ℕ, zero, suc, ◌+◌, ◌<◌, Bool, true, List, [], ◌∷◌, Option, Some, length, refl}
+use Rattle.std.proofs.Common.{ap, sym, ◌∙◌, subst}
 use Rattle.std.proofs.Common.{arith}
 use Rattle.std.specs.Prelude.{false, ◌^◌}
 use Rattle.markdown_base.specs.declared.item.Item.{Item}
@@ -19,22 +20,27 @@ use Rattle.markdown_delims.proofs.PairLemmas.{over_texts, touched_over}
 use Rattle.markdown_delims.proofs.WriteLemmas.{parts_written, body_part, kept_none, kept_made}
 
 -- another part at the first node of the rest, over which the cut goes
-pub written_over : (own : ℕ → Bool) (k k' : View Part) (first : Option ℕ) (before : Forest (Label ℕ)) (l : Option ℕ) (a : Label ℕ)
+pub written_over : (own : ℕ → Bool) (k k' : View Part) (first : Option ℕ) (before : Forest (Label ℕ)) (l : Option ℕ)
+    (a : Label ℕ)
     (below after : Forest (Label ℕ)) (hi : ℕ) (p : Part)
-    → Cut own k first before l (node a below after) hi → own a.tag ≡ true → Writes k k' a.tag p (k.child a.tag) (k.next a.tag)
+    → Cut own k first before l (node a below after) hi → own a.tag ≡ true
+    → Writes k k' a.tag p (k.child a.tag) (k.next a.tag)
     → Cut own k' first (node (record { tag = a.tag; part = p }) below before) (k.next a.tag) after hi
 written_over own k k' first before l a below after hi p c o w =
     record {
-      left = enclosing own k k' first before (record { tag = a.tag; part = p }) (k.child a.tag) (k.next a.tag) below (next_number after hi) o
+      left = enclosing own k k' first before (record { tag = a.tag; part = p }) (k.child a.tag) (k.next a.tag) below
+          (next_number after hi) o
           c.right.1 (subst (λ m. LeftHolds k first before m) c.right.0 c.left) c.rises_left c.right.3 c.rises_right.1 w;
-      right = Holds-write_before own k k' a.tag p (k.child a.tag) (k.next a.tag) w o (k.next a.tag) (suc a.tag) after hi (omega arith)
+      right = Holds-write_before own k k' a.tag p (k.child a.tag) (k.next a.tag) w o (k.next a.tag) (suc a.tag) after hi
+          (omega arith)
           c.rises_right.2 c.right.4;
       rises_left = (c.rises_right.1, c.rises_left);
       rises_right = Rises-lower own (suc a.tag) 0 after hi (omega arith) c.rises_right.2;
     }
 
 -- the first i characters are texts, the last one first, and others are left
-pub record SettlingAt (h : Chain) (s t : Arena Item) (rs : List (Read ℕ)) (number n i : ℕ) (chain : Forest (Label ℕ)) : Type 0 where
+pub record SettlingAt (h : Chain) (s t : Arena Item) (rs : List (Read ℕ)) (number n i : ℕ) (chain : Forest (Label ℕ))
+    : Type 0 where
   pub xs : List (Label ℕ)
   pub left : ℕ
   pub rest : Forest (Label ℕ)
@@ -48,7 +54,8 @@ pub record SettlingAt (h : Chain) (s t : Arena Item) (rs : List (Read ℕ)) (num
   pub rest_touched : AllTouched h.touched rest
   pub kept : Kept h.touched s t
 
-pub settling_begin : (h : Chain) (s : Arena Item) (rs : List (Read ℕ)) (number n : ℕ) (last : Option ℕ) (chain : Forest (Label ℕ))
+pub settling_begin : (h : Chain) (s : Arena Item) (rs : List (Read ℕ)) (number n : ℕ) (last : Option ℕ)
+    (chain : Forest (Label ℕ))
     → Stands h s rs last (Some number) chain → BeginsRun number n chain → SettlingAt h s s rs number n 0 chain
 settling_begin h s rs number n last chain st b = record {
   xs = [];
@@ -67,7 +74,8 @@ settling_begin h s rs number n last chain st b = record {
 
 module _ (h : Chain) (s t : Arena Item) (rs : List (Read ℕ)) (number n i : ℕ) (chain : Forest (Label ℕ)) where
   -- the next of them is a node of the arena
-  within_if : (xs : List (Label ℕ)) (left : ℕ) (rest : Forest (Label ℕ)) (l : Option ℕ) → 0 < left → BeginsRun (number + i) left rest
+  within_if : (xs : List (Label ℕ)) (left : ℕ) (rest : Forest (Label ℕ)) (l : Option ℕ) → 0 < left
+      → BeginsRun (number + i) left rest
       → Cut h.touched (view h t) h.first (left_texts xs (flat rs)) l rest h.bound → number + i < length t.nodes
   within_if xs zero rest l some b c = absurd (omega arith)
   within_if xs (suc left) nil l some b c = absurd b
@@ -77,18 +85,21 @@ module _ (h : Chain) (s t : Arena Item) (rs : List (Read ℕ)) (number n i : ℕ
   settling_within l a = within_if a.xs a.left a.rest a.link (omega (arith, a.left_is, l)) a.begins a.cut
 
   -- one more
-  more_if : (u : Arena Item) (xs : List (Label ℕ)) (left : ℕ) (rest : Forest (Label ℕ)) (l : Option ℕ) → 0 < left → left + i ≡ n
+  more_if : (u : Arena Item) (xs : List (Label ℕ)) (left : ℕ) (rest : Forest (Label ℕ)) (l : Option ℕ) → 0 < left
+      → left + i ≡ n
       → BeginsRun (number + i) left rest
       → last_first xs (first_texts h.setting.text left rest) ≡ first_texts h.setting.text n chain
       → trees_after left rest ≡ trees_after n chain
-      → Cut h.touched (view h t) h.first (left_texts xs (flat rs)) l rest h.bound → AllTouched h.touched (left_texts xs (flat rs))
+      → Cut h.touched (view h t) h.first (left_texts xs (flat rs)) l rest h.bound
+      → AllTouched h.touched (left_texts xs (flat rs))
       → AllTouched h.touched rest → Kept h.touched s t → WroteBody t u (number + i) (body.Text false)
       → SettlingAt h s u rs number n (suc i) chain
   more_if u xs zero rest l some e b x y c p q k w = absurd (omega arith)
   more_if u xs (suc left) nil l some e b x y c p q k w = absurd b
   more_if u xs (suc left) (node a below after) l some e b x y c p q k w0 =
       let w = subst (λ ix. WroteBody t u ix (body.Text false)) (sym b.0) w0 in
-      let c1 = subst (λ f. Cut h.touched (view h t) h.first (left_texts xs (flat rs)) l (node a f after) h.bound) b.1 c in
+      let c1 = subst (λ f. Cut h.touched (view h t) h.first (left_texts xs (flat rs)) l (node a f after) h.bound) b.1 c
+      in
       let text : IsMade (body.Text false) = record {
         text = refl;
         link = refl;
@@ -99,7 +110,8 @@ module _ (h : Chain) (s t : Arena Item) (rs : List (Read ℕ)) (number n i : ℕ
       } in
       let part = body_part h.setting.text h.tables (item_at t.nodes a.tag) a (body.Text false) _ c.right.2
       (ap (λ (p : Part). (as_text h.setting.text (record { tag = a.tag; part = p })).part.shape) c.right.2) (sym b.2) in
-      let written = subst (λ p. Writes (view h t) (view h u) a.tag p (child_of t.nodes a.tag) (sibling_of t.nodes a.tag)) part
+      let written = subst (λ p. Writes (view h t) (view h u) a.tag p (child_of t.nodes a.tag)
+      (sibling_of t.nodes a.tag)) part
       (parts_written (part_of h.setting.text h.tables) t.nodes u.nodes a.tag _ _ _ w.nodes) in
       record {
         xs = as_text h.setting.text a ∷ xs;
@@ -117,10 +129,12 @@ module _ (h : Chain) (s t : Arena Item) (rs : List (Read ℕ)) (number n i : ℕ
         kept = kept_made h.touched s t u a.tag _ _ _ k q.0 w text;
       }
 
-  pub settling_more : (u : Arena Item) → i < n → SettlingAt h s t rs number n i chain → WroteBody t u (number + i) (body.Text false)
+  pub settling_more : (u : Arena Item) → i < n → SettlingAt h s t rs number n i chain
+      → WroteBody t u (number + i) (body.Text false)
       → SettlingAt h s u rs number n (suc i) chain
   settling_more u l a w =
-      more_if u a.xs a.left a.rest a.link (omega (arith, a.left_is, l)) a.left_is a.begins a.texts_are a.rest_is a.cut a.left_touched
+      more_if u a.xs a.left a.rest a.link (omega (arith, a.left_is, l)) a.left_is a.begins a.texts_are a.rest_is a.cut
+      a.left_touched
       a.rest_touched a.kept w
 
 -- the texts have consecutive numbers
@@ -131,7 +145,8 @@ firsts_from source number (suc n) nil b = absurd b
 firsts_from source number (suc n) (node a below after) b =
     let r = firsts_from source (suc number) n after b.3 in ((b.0, b.2, r.0), omega (arith, r.1))
 
-texts_back : (xs ys : List (Label ℕ)) (rest : Forest (Label ℕ)) → texts (last_first xs ys) rest ≡ texts_before xs (texts ys rest)
+texts_back : (xs ys : List (Label ℕ)) (rest : Forest (Label ℕ)) → texts (last_first xs ys) rest
+    ≡ texts_before xs (texts ys rest)
 texts_back [] ys rest = refl
 texts_back (x ∷ xs) ys rest = texts_back xs (x ∷ ys) rest
 
@@ -139,24 +154,29 @@ texts_back (x ∷ xs) ys rest = texts_back xs (x ∷ ys) rest
 pub settling_done : (h : Chain) (s t : Arena Item) (rs : List (Read ℕ)) (met : Characters) (i : ℕ) (last : Option ℕ)
     (chain : Forest (Label ℕ)) → 0 < met.count → i ≡ met.count → Stands h s rs last (Some met.number) chain
     → BeginsRun met.number met.count chain → SettlingAt h s t rs met.number met.count i chain
-    → StandsAt h t rs last met (first_texts h.setting.text met.count chain) (trees_after met.count chain) × Kept h.touched s t
+    → StandsAt h t rs last met (first_texts h.setting.text met.count chain) (trees_after met.count chain)
+    × Kept h.touched s t
 settling_done h s t rs met i last chain some e st b a =
     let none : a.left ≡ 0 = omega (arith, a.left_is, e) in
     let vs : List (Label ℕ) = first_texts h.setting.text met.count chain in
     let f = firsts_from h.setting.text met.number met.count chain b in
-    let back : last_first a.xs [] ≡ vs = ap (λ n. last_first a.xs (first_texts h.setting.text n a.rest)) (sym none) ∙ a.texts_are in
+    let back : last_first a.xs [] ≡ vs = ap (λ n. last_first a.xs (first_texts h.setting.text n a.rest)) (sym none)
+    ∙ a.texts_are in
     let rest : a.rest ≡ trees_after met.count chain = ap (λ n. trees_after n a.rest) (sym none) ∙ a.rest_is in
     let all : texts_before a.xs a.rest ≡ texts vs (trees_after met.count chain) =
     sym (texts_back a.xs [] a.rest) ∙ ap (λ ys. texts ys a.rest) back ∙ ap (texts vs) rest in
     let r = over_texts h.touched (view h t) h.first a.xs (flat rs) a.link a.rest h.bound a.cut in
     let cut = subst (λ f. Cut h.touched (view h t) h.first (flat rs) r.link f h.bound) all r.cut in
-    let link = texts_link (view h t) r.link met.number vs (trees_after met.count chain) (omega (arith, f.1, some)) f.0 cut.right in (
+    let link = texts_link (view h t) r.link met.number vs (trees_after met.count chain) (omega (arith, f.1, some)) f.0
+    cut.right in (
       record {
         stands = record {
-          cut = subst (λ l. Cut h.touched (view h t) h.first (flat rs) l (texts vs (trees_after met.count chain)) h.bound) link cut;
+          cut = subst (λ l. Cut h.touched (view h t) h.first (flat rs) l (texts vs (trees_after met.count chain))
+              h.bound) link cut;
           last_is = st.last_is;
           left_touched = st.left_touched;
-          rest_touched = subst (λ f. AllTouched h.touched f) all (touched_over h.touched a.xs (flat rs) a.rest a.left_touched a.rest_touched);
+          rest_touched = subst (λ f. AllTouched h.touched f) all
+              (touched_over h.touched a.xs (flat rs) a.rest a.left_touched a.rest_touched);
           few = subst (λ n. n ≤ 2 ^ 63) (sym a.kept.size) st.few;
         };
         are = record { from = f.0; count = f.1 };

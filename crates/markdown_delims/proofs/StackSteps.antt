@@ -1,5 +1,6 @@
 -- A push, a search that finds and one that does not, of the stack and its bounds.
-use Rattle.std.proofs.Common.{◌≡◌, ℕ, ◌+◌, ◌-◌, ◌<◌, ◌≤◌, true, false, List, [], ◌∷◌, ◌++◌, length, take, get_or, Some, None, refl, ap}
+use Rattle.std.proofs.Common.{◌≡◌, ℕ, ◌+◌, ◌-◌, ◌<◌, ◌≤◌, true, false, List, [], ◌∷◌, ◌++◌, length, take, get_or, Some}
+use Rattle.std.proofs.Common.{None, refl, ap}
 use Rattle.std.proofs.Common.{sym, ◌∙◌, subst, arith}
 use Rattle.std.proofs.lemmas.List.{length-take-le, length_push}
 use Rattle.std.proofs.lemmas.List.Elements.{All-take}
@@ -13,13 +14,16 @@ use Rattle.markdown_delims.specs.Bounds.{bound_for, raised_for, lowered, above_b
 use Rattle.markdown_delims.specs.OpenRuns.{open_runs, openers_of, potential_of, IsSound}
 use Rattle.markdown_delims.proofs.BoundLaws.{BoundStack-cut, BoundStack-raised, bound_at-within, drop_bound-within}
 use Rattle.markdown_delims.proofs.Potential.{above_bounds-push, above_bounds-cut, above_bounds-raised}
-use Rattle.markdown_delims.proofs.Searches.{open_runs-pushed, open_runs-lowered, nearest-passed, nearest-taken, nearest-below}
+use Rattle.markdown_delims.proofs.Searches.{open_runs-pushed, open_runs-lowered, nearest-passed, nearest-taken}
+use Rattle.markdown_delims.proofs.Searches.{nearest-below}
 use Rattle.markdown_delims.proofs.Searches.{may_take-fails, may_take-holds}
 
 module _ (stack : List Characters) (examined : ℕ) (b : LowerBounds) (sound : IsSound stack examined b) where
-  potential-push : (c : Characters) → potential_of (stack ++ c ∷ []) examined b ≡ potential_of stack examined b + comparisons_per_delimiter
+  potential-push : (c : Characters) → potential_of (stack ++ c ∷ []) examined b
+      ≡ potential_of stack examined b + comparisons_per_delimiter
   potential-push c =
-      rw length_push (let e : above_bounds (length stack + 1) b ≡ above_bounds (length stack) b + 10 = above_bounds-push stack b sound.bound
+      rw length_push (let e : above_bounds (length stack + 1) b ≡ above_bounds (length stack) b + 10 = above_bounds-push
+      stack b sound.bound
       in one_more _ _ _ _ e)
     where
       one_more : (x n a c : ℕ) → a ≡ c + 10 → x + (n + 1) + a ≡ (x + n + c) + comparisons_per_delimiter
@@ -44,7 +48,8 @@ module _ (stack : List Characters) (examined : ℕ) (b : LowerBounds) (sound : I
       paid : (a c i n x y : ℕ) → a ≤ c → y + i ≡ x + n → y + i + a ≤ x + n + c
       paid a c i n x y h e = omega arith
 
-  pub IsSound-cut : (i after : ℕ) → i ≤ length stack → after + i ≡ examined + length stack → IsSound (take i stack) after (lowered i b)
+  pub IsSound-cut : (i after : ℕ) → i ≤ length stack → after + i ≡ examined + length stack
+      → IsSound (take i stack) after (lowered i b)
   IsSound-cut i after h e =
       record {
         bound = BoundStack-cut stack b i h sound.bound;
@@ -66,7 +71,8 @@ module _ (stack : List Characters) (examined : ℕ) (b : LowerBounds) (sound : I
       paid a c l n x y h w e = omega arith
 
   pub IsSound-raised : (closer : Run) (after : ℕ) → after + bound_for closer b ≡ examined + length stack
-      → ((k : ℕ) (x : Characters) → bound_for closer b ≤ k → k < length stack → may_pair (get_or stack k x).run closer ≡ false)
+      → ((k : ℕ) (x : Characters) → bound_for closer b ≤ k → k < length stack → may_pair (get_or stack k x).run closer
+      ≡ false)
       → IsSound stack after (raised_for closer (length stack) b)
   IsSound-raised closer after e f =
       record {
@@ -79,19 +85,23 @@ module _ (stack : List Characters) (examined : ℕ) (b : LowerBounds) (sound : I
       below x y z p q = omega arith
 
   -- the search from here on is the whole search
-  pub found_at : (closer : Run) (i : ℕ) (opener : Characters) → bound_for closer b ≤ i → i < length stack → opener ≡ get_or stack i opener
+  pub found_at : (closer : Run) (i : ℕ) (opener : Characters) → bound_for closer b ≤ i → i < length stack → opener
+      ≡ get_or stack i opener
       → may_pair opener.run closer ≡ true
       → nearest_run closer (open_runs b (take (i + 1) stack)) ≡ nearest_run closer (open_runs b stack)
-      → nearest_run closer (open_runs b stack) ≡ Some (record { opener = opener; before = open_runs (lowered i b) (take i stack) })
+      → nearest_run closer (open_runs b stack)
+      ≡ Some (record { opener = opener; before = open_runs (lowered i b) (take i stack) })
   found_at closer i opener l h read pairs same =
-      let p : may_pair (get_or stack i opener).run closer ≡ true = subst (λ c. may_pair c.run closer ≡ true) read pairs in
+      let p : may_pair (get_or stack i opener).run closer ≡ true = subst (λ c. may_pair c.run closer ≡ true) read pairs
+      in
       let t : length (take i stack) ≤ i = omega (arith, length-take-le i stack (omega arith)) in
       sym same
       ∙ nearest-taken closer b stack i opener h (may_take-holds closer b i (get_or stack i opener) l p)
       ∙ ap (λ o. Some (record { opener = o; before = open_runs b (take i stack) })) (sym read)
       ∙ ap (λ rs. Some (record { opener = opener; before = rs })) (sym (open_runs-lowered b i (take i stack) t))
 
-  pub passed_at : (closer : Run) (i : ℕ) (x : Characters) → i < length stack → may_pair (get_or stack i x).run closer ≡ false
+  pub passed_at : (closer : Run) (i : ℕ) (x : Characters) → i < length stack → may_pair (get_or stack i x).run closer
+      ≡ false
       → nearest_run closer (open_runs b (take (i + 1) stack)) ≡ nearest_run closer (open_runs b stack)
       → nearest_run closer (open_runs b (take i stack)) ≡ nearest_run closer (open_runs b stack)
   passed_at closer i x h fails same =

@@ -1,5 +1,6 @@
 -- What each step in reading a chain keeps, reading the chain keeps.
-use Rattle.std.proofs.Common.{◌≡◌, ℕ, zero, suc, ◌-◌, Bool, true, false, List, [], ◌∷◌, map, length, Option, Some, None, refl, subst, arith}
+use Rattle.std.proofs.Common.{◌≡◌, ℕ, zero, suc, ◌-◌, Bool, true, false, List, [], ◌∷◌, map, length, Option, Some, None}
+use Rattle.std.proofs.Common.{refl, subst, arith}
 use Rattle.std.specs.Prelude.{⊤, IfSome}
 use Rattle.std.proofs.lemmas.Option.{IfSome_then}
 use Rattle.markdown_base.specs.Forest.{Forest, nil, node}
@@ -9,7 +10,8 @@ use Rattle.markdown_document.specs.Waiting.{as_closed}
 use Rattle.markdown_delims.specs.declared.run.Delimiter.{Delimiter}
 use Rattle.markdown_delims.specs.declared.run.Run.{Run}
 use Rattle.markdown_delims.specs.Layers.{run_of}
-use Rattle.markdown_delims.specs.Pairing.{Read, done_read, FoundOpener, found_if, nearest_opener, drop_read, layers, left_over, after_layers}
+use Rattle.markdown_delims.specs.Pairing.{Read, done_read, FoundOpener, found_if, nearest_opener, drop_read, layers}
+use Rattle.markdown_delims.specs.Pairing.{left_over, after_layers}
 use Rattle.markdown_delims.specs.Pairing.{after_search, closed_by, run_read, first_texts, after_tree, reads_from}
 
 -- a chain without its first trees
@@ -21,11 +23,14 @@ later (suc n) (node a below after) = later n after
 -- i holds for the characters of a closer, for what was read before them and for the trees that are still to be read:
 -- this stays true when a tree or the characters of a run are read or passed over, when open runs are dropped, when
 -- characters are left open or as text, and when they pair with a run that was found
-pub record StaysTrue {A : Type 0} (s : Setting) (i : List (Label A) → List (Read A) → Forest (Label A) → Type 0) : Type 0 where
+pub record StaysTrue {A : Type 0} (s : Setting) (i : List (Label A) → List (Read A) → Forest (Label A) → Type 0) : Type
+    0 where
   pub tree : (a : Label A) (below after : Forest (Label A)) (rs : List (Read A)) → i [] rs (node a below after)
       → i [] (done_read (as_closed s.text a) below ∷ rs) after
-  pub skip : (a : Label A) (below after : Forest (Label A)) (rs : List (Read A)) → i [] rs (node a below after) → i [] rs after
-  pub texts : (n : ℕ) (chain : Forest (Label A)) (rs : List (Read A)) → i [] rs chain → i (first_texts s.text n chain) rs (later n chain)
+  pub skip : (a : Label A) (below after : Forest (Label A)) (rs : List (Read A)) → i [] rs (node a below after)
+      → i [] rs after
+  pub texts : (n : ℕ) (chain : Forest (Label A)) (rs : List (Read A)) → i [] rs chain
+      → i (first_texts s.text n chain) rs (later n chain)
   pub dropped : (d : Delimiter) (vs : List (Label A)) (rs : List (Read A)) (rest : Forest (Label A)) → i vs rs rest
       → i vs (map (drop_read d) rs) rest
   pub left : (closer : Run) (vs : List (Label A)) (rs : List (Read A)) (rest : Forest (Label A)) → i vs rs rest
@@ -35,7 +40,8 @@ pub record StaysTrue {A : Type 0} (s : Setting) (i : List (Label A) → List (Re
       (after_layers f (layers s f.run.delimiter f.characters vs f.inside)) rest)
 
 -- of a run that may be found
-pub found-if : {A : Type 0} (p : FoundOpener A → Type 0) (b : Bool) (f : FoundOpener A) (o : Option (FoundOpener A)) → p f → IfSome o p
+pub found-if : {A : Type 0} (p : FoundOpener A → Type 0) (b : Bool) (f : FoundOpener A) (o : Option (FoundOpener A))
+    → p f → IfSome o p
     → IfSome (found_if b f o) p
 found-if p true f o h k = h
 found-if p false f o h k = k
@@ -46,25 +52,31 @@ pub record StaysTrueOf {A : Type 0} (s : Setting) (g : Run → List (Label A) �
     (i : List (Label A) → List (Read A) → Forest (Label A) → Type 0) : Type 0 where
   pub tree : (a : Label A) (below after : Forest (Label A)) (rs : List (Read A)) → run_of s.text a.part ≡ None
       → i [] rs (node a below after) → i [] (done_read (as_closed s.text a) below ∷ rs) after
-  pub run : (run : Run) (a : Label A) (below after : Forest (Label A)) (rs : List (Read A)) → run_of s.text a.part ≡ Some run
+  pub run : (run : Run) (a : Label A) (below after : Forest (Label A)) (rs : List (Read A)) → run_of s.text a.part
+      ≡ Some run
       → i [] rs (node a below after)
       → g run (first_texts s.text run.length (node a below after))
       × i (first_texts s.text run.length (node a below after)) rs (later (run.length - 1) after)
   pub dropped : (d : Delimiter) (vs : List (Label A)) (rs : List (Read A)) (rest : Forest (Label A)) → i vs rs rest
       → i vs (map (drop_read d) rs) rest
-  pub left : (closer : Run) (vs : List (Label A)) (rs : List (Read A)) (rest : Forest (Label A)) → g closer vs → i vs rs rest
+  pub left : (closer : Run) (vs : List (Label A)) (rs : List (Read A)) (rest : Forest (Label A)) → g closer vs
+      → i vs rs rest
       → i [] (left_over closer vs rs) rest
-  pub found : (closer : Run) (vs : List (Label A)) (rs : List (Read A)) (rest : Forest (Label A)) → closer.can_close ≡ true
+  pub found : (closer : Run) (vs : List (Label A)) (rs : List (Read A)) (rest : Forest (Label A)) → closer.can_close
+      ≡ true
       → g closer vs → i vs rs rest
       → IfSome (nearest_opener closer rs nil) (λ f. g closer (layers s f.run.delimiter f.characters vs f.inside).closing
       × i (layers s f.run.delimiter f.characters vs f.inside).closing
       (after_layers f (layers s f.run.delimiter f.characters vs f.inside)) rest)
 
-module _ {A : Type 0} (s : Setting) (g : Run → List (Label A) → Type 0) (i : List (Label A) → List (Read A) → Forest (Label A) → Type 0)
+module _ {A : Type 0} (s : Setting) (g : Run → List (Label A) → Type 0)
+    (i : List (Label A) → List (Read A) → Forest (Label A) → Type 0)
     (stays : StaysTrueOf s g i) where
-  searched_stays : (again : List (Label A) → List (Read A) → List (Read A)) (closer : Run) (vs : List (Label A)) (rs : List (Read A))
+  searched_stays : (again : List (Label A) → List (Read A) → List (Read A)) (closer : Run) (vs : List (Label A))
+      (rs : List (Read A))
       (rest : Forest (Label A)) (o : Option (FoundOpener A))
-      → ((left : List (Label A)) (others : List (Read A)) → g closer left → i left others rest → i [] (again left others) rest)
+      → ((left : List (Label A)) (others : List (Read A)) → g closer left → i left others rest
+      → i [] (again left others) rest)
       → g closer vs → i vs rs rest
       → IfSome o (λ f. g closer (layers s f.run.delimiter f.characters vs f.inside).closing
       × i (layers s f.run.delimiter f.characters vs f.inside).closing
@@ -73,34 +85,42 @@ module _ {A : Type 0} (s : Setting) (g : Run → List (Label A) → Type 0) (i :
   searched_stays again closer vs rs rest None h q k f = stays.left closer vs
       (map (drop_read closer.delimiter) rs) rest q (stays.dropped closer.delimiter vs rs rest k)
   searched_stays again closer vs rs rest (Some f) h q k found =
-      h (layers s f.run.delimiter f.characters vs f.inside).closing (after_layers f (layers s f.run.delimiter f.characters vs f.inside))
+      h (layers s f.run.delimiter f.characters vs f.inside).closing
+      (after_layers f (layers s f.run.delimiter f.characters vs f.inside))
       found.0 found.1
 
-  closed_stays : (turns : ℕ) (closer : Run) (vs : List (Label A)) (rs : List (Read A)) (rest : Forest (Label A)) → closer.can_close ≡ true
+  closed_stays : (turns : ℕ) (closer : Run) (vs : List (Label A)) (rs : List (Read A)) (rest : Forest (Label A))
+      → closer.can_close ≡ true
       → g closer vs → i vs rs rest → i [] (closed_by s turns closer vs rs) rest
   unfolding closed_by
   closed_stays zero closer [] rs rest c q h = h
   closed_stays (suc turns) closer [] rs rest c q h = h
   closed_stays zero closer (v ∷ vs) rs rest c q h = stays.left closer (v ∷ vs) rs rest q h
   closed_stays (suc turns) closer (v ∷ vs) rs rest c q h =
-      searched_stays (λ left others. closed_by s turns closer left others) closer (v ∷ vs) rs rest (nearest_opener closer rs nil)
+      searched_stays (λ left others. closed_by s turns closer left others) closer (v ∷ vs) rs rest
+      (nearest_opener closer rs nil)
       (λ left others p k. closed_stays turns closer left others rest c p k) q h
       (stays.found closer (v ∷ vs) rs rest c q h)
 
-  read_stays : (closes : Bool) (run : Run) (vs : List (Label A)) (rs : List (Read A)) (rest : Forest (Label A)) → run.can_close ≡ closes
+  read_stays : (closes : Bool) (run : Run) (vs : List (Label A)) (rs : List (Read A)) (rest : Forest (Label A))
+      → run.can_close ≡ closes
       → g run vs → i vs rs rest → i [] (run_read s closes run vs rs) rest
   read_stays true run vs rs rest c q h = closed_stays (length vs) run vs rs rest c q h
   read_stays false run vs rs rest c q h = stays.left run vs rs rest q h
 
-  pub run-stays-of : (run : Run) (vs : List (Label A)) (rs : List (Read A)) (rest : Forest (Label A)) → g run vs → i vs rs rest
+  pub run-stays-of : (run : Run) (vs : List (Label A)) (rs : List (Read A)) (rest : Forest (Label A)) → g run vs
+      → i vs rs rest
       → i [] (run_read s run.can_close run vs rs) rest
   run-stays-of run vs rs rest q h = read_stays run.can_close run vs rs rest refl q h
 
-  tree_stays : (go_on : ℕ → List (Read A) → List (Read A)) (a : Label A) (below after : Forest (Label A)) (rs : List (Read A))
+  tree_stays : (go_on : ℕ → List (Read A) → List (Read A)) (a : Label A) (below after : Forest (Label A))
+      (rs : List (Read A))
       (o : Option Run) → run_of s.text a.part ≡ o
-      → ((skip : ℕ) (others : List (Read A)) → i [] others (later skip after) → i [] (go_on skip others) nil) → i [] rs (node a below after)
+      → ((skip : ℕ) (others : List (Read A)) → i [] others (later skip after) → i [] (go_on skip others) nil)
+      → i [] rs (node a below after)
       → i [] (after_tree s go_on a below after rs o) nil
-  tree_stays go_on a below after rs None e h k = h 0 (done_read (as_closed s.text a) below ∷ rs) (stays.tree a below after rs e k)
+  tree_stays go_on a below after rs None e h k = h 0 (done_read (as_closed s.text a) below ∷ rs)
+      (stays.tree a below after rs e k)
   tree_stays go_on a below after rs (Some run) e h k =
       let r = stays.run run a below after rs e k in
       h (run.length - 1) (run_read s run.can_close run (first_texts s.text run.length (node a below after)) rs)
@@ -117,13 +137,16 @@ module _ {A : Type 0} (s : Setting) (g : Run → List (Label A) → Type 0) (i :
       (λ skip others k. reads-stay-of skip after others k) h
 
 -- where nothing is known of runs
-module _ {A : Type 0} (s : Setting) (i : List (Label A) → List (Read A) → Forest (Label A) → Type 0) (stays : StaysTrue s i) where
+module _ {A : Type 0} (s : Setting) (i : List (Label A) → List (Read A) → Forest (Label A) → Type 0)
+    (stays : StaysTrue s i) where
   -- of a run of n the first character is read here
-  texts_stay : (n : ℕ) (a : Label A) (below after : Forest (Label A)) (rs : List (Read A)) → i [] rs (node a below after)
+  texts_stay : (n : ℕ) (a : Label A) (below after : Forest (Label A)) (rs : List (Read A))
+      → i [] rs (node a below after)
       → i (first_texts s.text n (node a below after)) rs (later (n - 1) after)
   texts_stay zero a below after rs h = stays.skip a below after rs h
   texts_stay (suc n) a below after rs h =
-      subst (λ k. i (first_texts s.text (suc n) (node a below after)) rs (later k after)) (let e : n ≡ suc n - 1 = omega arith in e)
+      subst (λ k. i (first_texts s.text (suc n) (node a below after)) rs (later k after))
+      (let e : n ≡ suc n - 1 = omega arith in e)
       (stays.texts (suc n) (node a below after) rs h)
 
   abbrev Any : Run → List (Label A) → Type 0
@@ -135,7 +158,8 @@ module _ {A : Type 0} (s : Setting) (i : List (Label A) → List (Read A) → Fo
     run = λ run a below after rs e h. (tt, texts_stay run.length a below after rs h);
     dropped = λ d vs rs rest h. stays.dropped d vs rs rest h;
     left = λ closer vs rs rest q h. stays.left closer vs rs rest h;
-    found = λ closer vs rs rest c q h. IfSome_then (nearest_opener closer rs nil) (stays.found closer vs rs rest h) (λ f k. (tt, k));
+    found = λ closer vs rs rest c q h. IfSome_then (nearest_opener closer rs nil) (stays.found closer vs rs rest h)
+        (λ f k. (tt, k));
   }
 
   pub run-stays : (run : Run) (vs : List (Label A)) (rs : List (Read A)) (rest : Forest (Label A)) → i vs rs rest

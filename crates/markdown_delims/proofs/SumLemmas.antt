@@ -11,7 +11,8 @@ use Rattle.markdown_delims.specs.declared.run.Run.{Run}
 use Rattle.markdown_delims.specs.Layers.{marks_of, layer_of_one, layer_of_two, spanned}
 use Rattle.markdown_delims.specs.MayPair.{may_pair}
 use Rattle.markdown_document.specs.Waiting.{text_if}
-use Rattle.markdown_delims.specs.Pairing.{Read, done_read, waiting, texts_before, characters_done, read_trees, FoundOpener, nearest_opener, drop_read}
+use Rattle.markdown_delims.specs.Pairing.{Read, done_read, waiting, texts_before, characters_done, read_trees}
+use Rattle.markdown_delims.specs.Pairing.{FoundOpener, nearest_opener, drop_read}
 use Rattle.markdown_delims.specs.Pairing.{Layers, layers, trees_done, still_waiting, last_first, opened_if, left_over}
 use Rattle.markdown_delims.specs.Pairing.{after_layers, first_texts, reads_from, runs_paired, paired}
 use Rattle.markdown_delims.specs.Quotes.{first_turn, quotes_after, with_quotes}
@@ -31,7 +32,8 @@ pub record CountsNoMore {A : Type 0} (s : Setting) (g : Label A → ℕ) : Type 
   pub text : (a : Label A) → g (as_text s.text a) ≤ g a
   pub one : (d : Delimiter) (x v : Label A) → g (spanned s.text (layer_of_one (marks_of s.rules.options) d) x v) ≤ g x
   pub two : (d : Delimiter) (x v : Label A) → g (spanned s.text (layer_of_two (marks_of s.rules.options) d) x v) ≤ g x
-  pub quote : (a : Label A) (after : Forest (Label A)) (single double : Bool) → g (shaped (first_turn a after single double).made a) ≤ g a
+  pub quote : (a : Label A) (after : Forest (Label A)) (single double : Bool)
+      → g (shaped (first_turn a after single double).made a) ≤ g a
 
 module _ {A : Type 0} (s : Setting) (g : Label A → ℕ) (no_more : CountsNoMore s g) where
   abbrev sum_read : List (Read A) → ℕ
@@ -39,14 +41,17 @@ module _ {A : Type 0} (s : Setting) (g : Label A → ℕ) (no_more : CountsNoMor
   sum_read (done_read a below ∷ rs) = g a + (sum_of g below + sum_read rs)
   sum_read (waiting dropped run xs ∷ rs) = sum_all g xs + sum_read rs
 
-  sum_texts : (xs : List (Label A)) (chain : Forest (Label A)) → sum_of g (texts_before xs chain) ≡ sum_all g xs + sum_of g chain
+  sum_texts : (xs : List (Label A)) (chain : Forest (Label A)) → sum_of g (texts_before xs chain)
+      ≡ sum_all g xs + sum_of g chain
   sum_texts [] chain = omega arith
   sum_texts (x ∷ xs) chain = omega (arith, sum_texts xs (node x nil chain))
 
-  sum_trees : (rs : List (Read A)) (after : Forest (Label A)) → sum_of g (read_trees rs after) ≡ sum_read rs + sum_of g after
+  sum_trees : (rs : List (Read A)) (after : Forest (Label A)) → sum_of g (read_trees rs after)
+      ≡ sum_read rs + sum_of g after
   sum_trees [] after = omega arith
   sum_trees (done_read a below ∷ rs) after = omega (arith, sum_trees rs (node a below after))
-  sum_trees (waiting dropped run xs ∷ rs) after = omega (arith, sum_trees rs (texts_before xs after), sum_texts xs after)
+  sum_trees (waiting dropped run xs ∷ rs) after = omega
+      (arith, sum_trees rs (texts_before xs after), sum_texts xs after)
 
   sum_done : (xs : List (Label A)) (rs : List (Read A)) → sum_read (characters_done xs rs) ≡ sum_all g xs + sum_read rs
   sum_done [] rs = omega arith
@@ -56,12 +61,15 @@ module _ {A : Type 0} (s : Setting) (g : Label A → ℕ) (no_more : CountsNoMor
   abbrev Splits : ℕ → FoundOpener A → Type 0
   Splits n f = sum_of g f.inside + (sum_all g f.characters + sum_read f.before) ≡ n
 
-  sum_nearest : (closer : Run) (rs : List (Read A)) (inside : Forest (Label A)) (n : ℕ) → sum_read rs + sum_of g inside ≡ n
+  sum_nearest : (closer : Run) (rs : List (Read A)) (inside : Forest (Label A)) (n : ℕ) → sum_read rs + sum_of g inside
+      ≡ n
       → IfSome (nearest_opener closer rs inside) (Splits n)
   sum_nearest closer [] inside n e = tt
-  sum_nearest closer (done_read a below ∷ rs) inside n e = sum_nearest closer rs (node a below inside) n (omega (arith, e))
+  sum_nearest closer (done_read a below ∷ rs) inside n e = sum_nearest closer rs (node a below inside) n
+      (omega (arith, e))
   sum_nearest closer (waiting dropped run xs ∷ rs) inside n e =
-      found-if (Splits n) (not dropped && may_pair run closer) (record { inside = inside; run = run; characters = xs; before = rs })
+      found-if (Splits n) (not dropped && may_pair run closer)
+      (record { inside = inside; run = run; characters = xs; before = rs })
       (nearest_opener closer rs (texts_before xs inside)) (omega (arith, e))
       (sum_nearest closer rs (texts_before xs inside) n (omega (arith, e, sum_texts xs inside)))
 
@@ -87,7 +95,8 @@ module _ {A : Type 0} (s : Setting) (g : Label A → ℕ) (no_more : CountsNoMor
   sum_trees_done nil rs = omega arith
   sum_trees_done (node a below after) rs = omega (arith, sum_trees_done after (done_read a below ∷ rs))
 
-  sum_still : (run : Run) (xs : List (Label A)) (rs : List (Read A)) → sum_read (still_waiting run xs rs) ≡ sum_all g xs + sum_read rs
+  sum_still : (run : Run) (xs : List (Label A)) (rs : List (Read A)) → sum_read (still_waiting run xs rs)
+      ≡ sum_all g xs + sum_read rs
   sum_still run [] rs = omega arith
   sum_still run (x ∷ xs) rs = refl
 
@@ -95,15 +104,18 @@ module _ {A : Type 0} (s : Setting) (g : Label A → ℕ) (no_more : CountsNoMor
   sum_turned [] ys = omega arith
   sum_turned (x ∷ xs) ys = omega (arith, sum_turned xs (x ∷ ys))
 
-  sum_opened : (b : Bool) (run : Run) (xs : List (Label A)) (rs : List (Read A)) → sum_read (opened_if b run xs rs) ≡ sum_all g xs
+  sum_opened : (b : Bool) (run : Run) (xs : List (Label A)) (rs : List (Read A)) → sum_read (opened_if b run xs rs)
+      ≡ sum_all g xs
       + sum_read rs
   sum_opened true run xs rs = refl
   sum_opened false run xs rs = sum_done xs rs
 
-  sum_left : (run : Run) (vs : List (Label A)) (rs : List (Read A)) → sum_read (left_over run vs rs) ≡ sum_all g vs + sum_read rs
+  sum_left : (run : Run) (vs : List (Label A)) (rs : List (Read A)) → sum_read (left_over run vs rs)
+      ≡ sum_all g vs + sum_read rs
   sum_left run vs rs = omega (arith, sum_opened run.can_open run (last_first vs []) rs, sum_turned vs [])
 
-  sum_firsts : (n : ℕ) (chain : Forest (Label A)) → sum_all g (first_texts s.text n chain) + sum_of g (later n chain) ≤ sum_of g chain
+  sum_firsts : (n : ℕ) (chain : Forest (Label A)) → sum_all g (first_texts s.text n chain) + sum_of g (later n chain) ≤
+      sum_of g chain
   sum_firsts zero chain = omega arith
   sum_firsts (suc n) nil = omega arith
   sum_firsts (suc n) (node a below after) = omega (arith, sum_firsts n after, no_more.text a)
@@ -122,7 +134,8 @@ module _ {A : Type 0} (s : Setting) (g : Label A → ℕ) (no_more : CountsNoMor
         h,
         sum_trees_done l.whole (still_waiting f.run l.opening f.before),
         sum_still f.run l.opening f.before,
-        sum_layers f.run.delimiter f.characters vs f.inside (sum_of g f.inside + (sum_all g f.characters + sum_all g vs)) (omega arith),
+        sum_layers f.run.delimiter f.characters vs f.inside
+            (sum_of g f.inside + (sum_all g f.characters + sum_all g vs)) (omega arith),
       )
 
   -- a closer's characters, what was read and what is still to be read count n at most
@@ -141,7 +154,8 @@ module _ {A : Type 0} (s : Setting) (g : Label A → ℕ) (no_more : CountsNoMor
         (λ f k. omega (arith, h, sum_pair vs f (sum_read rs) k));
   }
 
-  sum_quotes : (single double : Bool) (chain : Forest (Label A)) → sum_of g (quotes_after single double chain) ≤ sum_of g chain
+  sum_quotes : (single double : Bool) (chain : Forest (Label A)) → sum_of g (quotes_after single double chain) ≤ sum_of
+      g chain
   sum_quotes single double nil = omega arith
   sum_quotes single double (node a below after) =
       omega (

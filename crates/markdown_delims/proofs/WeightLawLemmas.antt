@@ -39,4 +39,10 @@ weight_sum nil = refl
 weight_sum (node a below after) = omega (arith, weight_sum below, weight_sum after)
 
 pub weight-law : {A : Type 0} → PairingWeightLaw A
-weight-law s chain = omega (arith, weight_sum (paired s chain), weight_sum chain, sum-paired s weighs (weights-count s) chain)
+weight-law s chain = omega (
+  arith,
+  weight_sum (paired s chain),
+  weight_sum chain,
+  sum-paired s weighs (weights-count s)
+      chain,
+)

@@ -1,5 +1,6 @@
 -- What a change of one node is to the view of an arena.
-use Rattle.std.proofs.Common.{◌≡◌, ℕ, zero, suc, ◌<◌, Bool, true, false, List, [], ◌∷◌, Option, length, refl, ap, sym, ◌∙◌, subst, arith}
+use Rattle.std.proofs.Common.{◌≡◌, ℕ, zero, suc, ◌<◌, Bool, true, false, List, [], ◌∷◌, Option, length, refl, ap, sym}
+use Rattle.std.proofs.Common.{◌∙◌, subst, arith}
 use Rattle.std.proofs.Common.{inl, inr}
 use Rattle.std.specs.Prelude.{◌⊎◌, ◌==◌, slice_range}
 use Rattle.std.proofs.lemmas.Bool.{eqb-true, eqb-false}
@@ -27,7 +28,8 @@ same_at_other (suc ix) (suc j) change (n ∷ nodes) d =
 
 -- what the node that is changed becomes
 pub record ChangedTo (nodes changed : List (Node Item)) (ix : ℕ) (change : Node Item → Node Item) : Type 0 where
-  pub item : item_at changed ix ≡ (change (record { item = item_at nodes ix; child = child_of nodes ix; next = sibling_of nodes ix })).item
+  pub item : item_at changed ix
+      ≡ (change (record { item = item_at nodes ix; child = child_of nodes ix; next = sibling_of nodes ix })).item
   pub child : child_of changed ix
       ≡ (change (record { item = item_at nodes ix; child = child_of nodes ix; next = sibling_of nodes ix })).child
   pub next : sibling_of changed ix
@@ -59,7 +61,8 @@ changed_writes ix change nodes l =
     }
 
 -- two writes at one node
-pub writes_twice : (k k' k'' : View Item) (ix : ℕ) (i j : Item) (c d n m : Option ℕ) → Writes k k' ix i c n → Writes k' k'' ix j d m
+pub writes_twice : (k k' k'' : View Item) (ix : ℕ) (i j : Item) (c d n m : Option ℕ) → Writes k k' ix i c n
+    → Writes k' k'' ix j d m
     → Writes k k'' ix j d m
 writes_twice k k' k'' ix i j c d n m v w =
     record {
@@ -83,7 +86,8 @@ pub wrote_once : (s t : Arena Item) (ix : ℕ) (change : Node Item → Node Item
     (change (record { item = item_at s.nodes ix; child = child_of s.nodes ix; next = sibling_of s.nodes ix })).next
 wrote_once s t ix change l e = rw e (record { spine = refl; cursor = refl; nodes = changed_writes ix change s.nodes l })
 
-pub wrote_twice : (s t u : Arena Item) (ix : ℕ) (i j : Item) (c d n m : Option ℕ) → Wrote s t ix i c n → Wrote t u ix j d m
+pub wrote_twice : (s t u : Arena Item) (ix : ℕ) (i j : Item) (c d n m : Option ℕ) → Wrote s t ix i c n
+    → Wrote t u ix j d m
     → Wrote s u ix j d m
 wrote_twice s t u ix i j c d n m v w =
     record {
@@ -94,7 +98,8 @@ wrote_twice s t u ix i j c d n m v w =
     }
 
 -- the same write, its parts named otherwise
-pub wrote_as : (s t : Arena Item) (ix : ℕ) (i j : Item) (c d n m : Option ℕ) → Wrote s t ix i c n → i ≡ j → c ≡ d → n ≡ m
+pub wrote_as : (s t : Arena Item) (ix : ℕ) (i j : Item) (c d n m : Option ℕ) → Wrote s t ix i c n → i ≡ j → c ≡ d → n
+    ≡ m
     → Wrote s t ix j d m
 wrote_as s t ix i j c d n m w e f g = rw (← e, ← f, ← g) w
 
@@ -107,7 +112,8 @@ parts_written part nodes new ix i c n w =
       item = ap part w.item;
       child = w.child;
       next = w.next;
-      others = λ j d. let same = w.others j d in record { item = ap part same.item; child = same.child; next = same.next };
+      others = λ j d. let same = w.others j d in record
+          { item = ap part same.item; child = same.child; next = same.next };
     }
 
 -- another body with a shape and the same block, in the view of labels
@@ -129,11 +135,13 @@ stays_both x y z (inr m) k = inr m
 stays_both x y z (inl e) (inl f) = inl (e ∙ f)
 stays_both x y z (inl e) (inr m) = inr (subst (λ (i : Item). IsMade i.body) (sym e) m)
 
-item_written : (nodes new : List (Node Item)) (ix : ℕ) (i : Item) (c n : Option ℕ) → Writes (view_of nodes) (view_of new) ix i c n
+item_written : (nodes new : List (Node Item)) (ix : ℕ) (i : Item) (c n : Option ℕ)
+    → Writes (view_of nodes) (view_of new) ix i c n
     → StaysOr i (item_at nodes ix) → (j : ℕ) (b : Bool) → (j == ix) ≡ b → StaysOr (item_at new j) (item_at nodes j)
 item_written nodes new ix i c n w m j true e =
     let is : j ≡ ix = eqb-true j ix e in
-    subst (λ x. StaysOr (item_at new x) (item_at nodes x)) (sym is) (subst (λ x. StaysOr x (item_at nodes ix)) (sym w.item) m)
+    subst (λ x. StaysOr (item_at new x) (item_at nodes x)) (sym is)
+    (subst (λ x. StaysOr x (item_at nodes ix)) (sym w.item) m)
 item_written nodes new ix i c n w m j false e = inl (w.others j (eqb-false j ix e)).item
 
 -- writes of nodes that may be written, one after another
@@ -155,11 +163,17 @@ kept_both touched s t u k m =
       others = λ j e.
           let after = m.others j e in
           let before = k.others j e in
-          record { item = after.item ∙ before.item; child = after.child ∙ before.child; next = after.next ∙ before.next };
+          record {
+            item = after.item ∙ before.item;
+            child = after.child ∙ before.child;
+            next = after.next
+                ∙ before.next;
+          };
       items = λ j. stays_both (item_at s.nodes j) (item_at t.nodes j) (item_at u.nodes j) (m.items j) (k.items j);
     }
 
-kept_once : (touched : ℕ → Bool) (s t : Arena Item) (ix : ℕ) (i : Item) (c n : Option ℕ) → touched ix ≡ true → Wrote s t ix i c n
+kept_once : (touched : ℕ → Bool) (s t : Arena Item) (ix : ℕ) (i : Item) (c n : Option ℕ) → touched ix ≡ true
+    → Wrote s t ix i c n
     → StaysOr i (item_at s.nodes ix) → Kept touched s t
 kept_once touched s t ix i c n p w m =
     record {
@@ -170,7 +184,8 @@ kept_once touched s t ix i c n p w m =
       items = λ j. item_written s.nodes t.nodes ix i c n w.nodes m j (j == ix) refl;
     }
 
-pub kept_made : (touched : ℕ → Bool) (s t u : Arena Item) (ix : ℕ) (i : Item) (c n : Option ℕ) → Kept touched s t → touched ix ≡ true
+pub kept_made : (touched : ℕ → Bool) (s t u : Arena Item) (ix : ℕ) (i : Item) (c n : Option ℕ) → Kept touched s t
+    → touched ix ≡ true
     → Wrote t u ix i c n → IsMade i.body → Kept touched s u
 kept_made touched s t u ix i c n k p w m = kept_both touched s t u k (kept_once touched t u ix i c n p w (inr m))
 

@@ -1,5 +1,6 @@
 -- A forest that is spelled, and in which no number occurs twice, is the one that is found.
-use Rattle.std.proofs.Common.{◌≡◌, ℕ, zero, suc, ◌+◌, ◌<◌, ◌≤◌, Bool, true, false, ◌||◌, eqb, List, [], ◌∷◌, ◌++◌, length, Option, ◌⊎◌, inl}
+use Rattle.std.proofs.Common.{◌≡◌, ℕ, zero, suc, ◌+◌, ◌<◌, ◌≤◌, Bool, true, false, ◌||◌, eqb, List, [], ◌∷◌, ◌++◌}
+use Rattle.std.proofs.Common.{length, Option, ◌⊎◌, inl}
 use Rattle.std.proofs.Common.{inr, ⊎_elim, refl, sym, ap, subst, arith}
 use Rattle.std.specs.Prelude.{nat_eq}
 use Rattle.std.specs.List.{AllByRecursion, IsDistinct, list_any}
@@ -25,7 +26,13 @@ listed-append count (x ∷ xs) ys = omega (arith, listed-append count xs ys)
 pub total-preorder : (count : ℕ → ℕ) (f : Forest ℕ) → total count f ≡ listed count (preorder f)
 total-preorder count nil = refl
 total-preorder count (node ix below after) =
-    omega (arith, listed-append count (preorder below) (preorder after), total-preorder count below, total-preorder count after)
+    omega (
+      arith,
+      listed-append count (preorder below) (preorder after),
+      total-preorder count below,
+      total-preorder
+          count after,
+    )
 
 same-other : (n m : ℕ) → (n ≡ m → ⊥) → same n m ≡ 0
 same-other zero zero h = absurd (h refl)
@@ -43,7 +50,8 @@ unfolding IsDistinct
 listed_once n [] d = omega arith
 listed_once n (x ∷ xs) d =
     ⊎_elim
-    (λ e. let none = none_listed x xs d.0 in let one = same-refl x in let first : listed (same x) (x ∷ xs) ≤ 1 = omega arith
+    (λ e. let none = none_listed x xs d.0 in let one = same-refl x in let first : listed (same x) (x ∷ xs) ≤ 1 = omega
+    arith
     in subst (λ (m : ℕ). listed (same m) (x ∷ xs) ≤ 1) (sym e) first)
     (λ other. omega (arith, same-other n x other, listed_once n xs d.1))
     (cases_eq n x)
@@ -71,7 +79,8 @@ either true b h = inl refl
 either false b h = inr h
 
 -- what the links lead to is a node
-spelled_within : (k : Links) (l : Option ℕ) (f : Forest ℕ) → Spells k l f → (q : ℕ) → list_any (eqb q) (preorder f) ≡ true → q < k.size
+spelled_within : (k : Links) (l : Option ℕ) (f : Forest ℕ) → Spells k l f → (q : ℕ) → list_any (eqb q) (preorder f)
+    ≡ true → q < k.size
 spelled_within k l nil s q h = cc h
 spelled_within k l (node ix below after) s q h =
     ⊎_elim
@@ -88,10 +97,12 @@ height_small nil = omega arith
 height_small (node ix below after) = simp length-append (omega (arith, height_small below, height_small after))
 
 -- so there are no more of them than nodes
-pub few : (k : Links) (l : Option ℕ) (f : Forest ℕ) → Spells k l f → ((n : ℕ) → total (same n) f ≤ 1) → length (preorder f) ≤ k.size
+pub few : (k : Links) (l : Option ℕ) (f : Forest ℕ) → Spells k l f → ((n : ℕ) → total (same n) f ≤ 1)
+    → length (preorder f) ≤ k.size
 few k l f s once =
     let d = distinct_listed (preorder f) (λ n. let a = once n in let b = total-preorder (same n) f in omega arith) in
     length-le_from_distinct_below (preorder f) k.size d (spelled_within k l f s)
 
-pub found : (k : Links) (l : Option ℕ) (f : Forest ℕ) → Spells k l f → ((n : ℕ) → total (same n) f ≤ 1) → forest_at k l ≡ f
+pub found : (k : Links) (l : Option ℕ) (f : Forest ℕ) → Spells k l f → ((n : ℕ) → total (same n) f ≤ 1) → forest_at k l
+    ≡ f
 found k l f s once = forest_at-fits k l f s (omega (arith, few k l f s once, height_small f))

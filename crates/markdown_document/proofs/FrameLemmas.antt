@@ -32,16 +32,23 @@ pub record Stays (tables tables' : Tables) (nodes nodes' : List (Node Item)) (n 
 shape-same : (tables tables' : Tables) (source : List ℕ) (body : ItemBody)
     → ((m : Named) → 0 < times_named m body → IsSameEntry tables tables' m) → tables'.headings ≡ tables.headings
     → shape_of tables' source body ≡ shape_of tables source body
-shape-same tables tables' source (body.SynthesizeText ix) h e = rw ((h (some_text ix.0) (omega (arith, same-refl ix.0))).0) refl
-shape-same tables tables' source (body.OwnedInlineHtml ix) h e = rw ((h (some_text ix.0) (omega (arith, same-refl ix.0))).0) refl
+shape-same tables tables' source (body.SynthesizeText ix) h e = rw
+    ((h (some_text ix.0) (omega (arith, same-refl ix.0))).0) refl
+shape-same tables tables' source (body.OwnedInlineHtml ix) h e = rw
+    ((h (some_text ix.0) (omega (arith, same-refl ix.0))).0) refl
 shape-same tables tables' source (body.Code ix) h e = let same = h (some_text ix.0) (omega (arith, same-refl ix.0))
     in rw (same.0, same.1) refl
-shape-same tables tables' source (body.Math ix display) h e = let same = h (some_text ix.0) (omega (arith, same-refl ix.0))
+shape-same tables tables' source (body.Math ix display) h e = let same = h (some_text ix.0)
+    (omega (arith, same-refl ix.0))
     in rw (same.0, same.1) refl
-shape-same tables tables' source (body.FootnoteReference ix) h e = rw ((h (some_text ix.0) (omega (arith, same-refl ix.0))).0) refl
-shape-same tables tables' source (body.FencedCodeBlock ix) h e = rw ((h (some_text ix.0) (omega (arith, same-refl ix.0))).0) refl
-shape-same tables tables' source (body.FootnoteDefinition ix) h e = rw ((h (some_text ix.0) (omega (arith, same-refl ix.0))).0) refl
-shape-same tables tables' source (body.Table ix) h e = rw (h (some_alignments ix.0) (omega (arith, same-refl ix.0))) refl
+shape-same tables tables' source (body.FootnoteReference ix) h e = rw
+    ((h (some_text ix.0) (omega (arith, same-refl ix.0))).0) refl
+shape-same tables tables' source (body.FencedCodeBlock ix) h e = rw
+    ((h (some_text ix.0) (omega (arith, same-refl ix.0))).0) refl
+shape-same tables tables' source (body.FootnoteDefinition ix) h e = rw
+    ((h (some_text ix.0) (omega (arith, same-refl ix.0))).0) refl
+shape-same tables tables' source (body.Table ix) h e = rw (h (some_alignments ix.0) (omega (arith, same-refl ix.0)))
+    refl
 shape-same tables tables' source (body.Link ix) h e = rw ((h (some_link ix.0) (omega (arith, same-refl ix.0))).0) refl
 shape-same tables tables' source (body.Image ix) h e = rw ((h (some_link ix.0) (omega (arith, same-refl ix.0))).0) refl
 shape-same tables tables' source (body.Heading level named) h e = rw e refl
@@ -51,17 +58,22 @@ shape-same tables tables' source other h e = refl
 pub slices-same : (source : List ℕ) (tables tables' : Tables) (start end : ℕ) (b : ItemBody)
     → ((m : Named) → 0 < times_named m b → IsSameEntry tables tables' m) → HasSlices source tables start end b
     → HasSlices source tables' start end b
-slices-same source tables tables' start end (body.Code ix) h p = let same = h (some_text ix.0) (omega (arith, same-refl ix.0))
+slices-same source tables tables' start end (body.Code ix) h p = let same = h (some_text ix.0)
+    (omega (arith, same-refl ix.0))
     in rw (same.0, same.1) p
-slices-same source tables tables' start end (body.Math ix display) h p = let same = h (some_text ix.0) (omega (arith, same-refl ix.0))
+slices-same source tables tables' start end (body.Math ix display) h p = let same = h (some_text ix.0)
+    (omega (arith, same-refl ix.0))
     in rw (same.0, same.1) p
-slices-same source tables tables' start end (body.Link ix) h p = let same = h (some_link ix.0) (omega (arith, same-refl ix.0))
+slices-same source tables tables' start end (body.Link ix) h p = let same = h (some_link ix.0)
+    (omega (arith, same-refl ix.0))
     in rw (same.0, same.1) p
-slices-same source tables tables' start end (body.Image ix) h p = let same = h (some_link ix.0) (omega (arith, same-refl ix.0))
+slices-same source tables tables' start end (body.Image ix) h p = let same = h (some_link ix.0)
+    (omega (arith, same-refl ix.0))
     in rw (same.0, same.1) p
 slices-same source tables tables' start end other h p = tt
 
-pub label-same : (source : List ℕ) (tables tables' : Tables) (nodes nodes' : List (Node Item)) (n : ℕ) → Stays tables tables' nodes nodes' n
+pub label-same : (source : List ℕ) (tables tables' : Tables) (nodes nodes' : List (Node Item)) (n : ℕ)
+    → Stays tables tables' nodes nodes' n
     → label_at source tables' nodes' n ≡ label_at source tables nodes n
 label-same source tables tables' nodes nodes' n h =
     rw h.at.item (ap (λ shape. let a : Plain = record {
@@ -73,11 +85,13 @@ label-same source tables tables' nodes nodes' n h =
             block_of (item_at nodes n).body;
       };
     } in a)
-    (shape-same tables tables' (slice_range source (item_at nodes n).start (item_at nodes n).end) (item_at nodes n).body h.entries
+    (shape-same tables tables' (slice_range source (item_at nodes n).start (item_at nodes n).end) (item_at nodes n).body
+    h.entries
     h.headings))
 
 -- where all nodes of a forest stay, with the entries that they name
-pub stay_throughout : (tables tables' : Tables) (nodes nodes' : List (Node Item)) (f : Forest ℕ) → tables'.headings ≡ tables.headings
+pub stay_throughout : (tables tables' : Tables) (nodes nodes' : List (Node Item)) (f : Forest ℕ) → tables'.headings
+    ≡ tables.headings
     → ((n : ℕ) → 0 < total (same n) f → IsSameAt nodes nodes' n) → ((n : Named) → 0 < total (naming nodes n) f
     → IsSameEntry tables tables' n) → Each (Stays tables tables' nodes nodes') f
 stay_throughout tables tables' nodes nodes' nil e h t = tt
@@ -92,7 +106,8 @@ stay_throughout tables tables' nodes nodes' (node ix below after) e h t = (
 )
 
 -- the links lead through it as before
-spells_same : (tables tables' : Tables) (nodes nodes' : List (Node Item)) (l : Option ℕ) (f : Forest ℕ) → length nodes ≤ length nodes'
+spells_same : (tables tables' : Tables) (nodes nodes' : List (Node Item)) (l : Option ℕ) (f : Forest ℕ)
+    → length nodes ≤ length nodes'
     → Spells (links_of nodes) l f
     → Each (Stays tables tables' nodes nodes') f → Spells (links_of nodes') l f
 spells_same tables tables' nodes nodes' l nil z s h = s
@@ -104,24 +119,35 @@ spells_same tables tables' nodes nodes' l (node ix below after) z s h = (
 )
 
 -- what a link leads to is the same item
-following_same : (tables tables' : Tables) (nodes nodes' : List (Node Item)) (l : Option ℕ) (f : Forest ℕ) → Spells (links_of nodes) l f
+following_same : (tables tables' : Tables) (nodes nodes' : List (Node Item)) (l : Option ℕ) (f : Forest ℕ)
+    → Spells (links_of nodes) l f
     → Each (Stays tables tables' nodes nodes') f
     → option_map (numbered nodes') l ≡ option_map (numbered nodes) l
 following_same tables tables' nodes nodes' l nil s h = rw s refl
 following_same tables tables' nodes nodes' l (node ix below after) s h = rw (s.0, h.0.at.item) refl
 
 -- its items are placed as before
-placed_same : (source : List ℕ) (tables tables' : Tables) (nodes nodes' : List (Node Item)) (l : Option ℕ) (f : Forest ℕ)
+placed_same : (source : List ℕ) (tables tables' : Tables) (nodes nodes' : List (Node Item)) (l : Option ℕ)
+    (f : Forest ℕ)
     → Spells (links_of nodes) l f → IsNoShorter tables tables'
-    → Each (Stays tables tables' nodes nodes') f → Each (IsPlaced source tables nodes) f → Each (IsPlaced source tables' nodes') f
+    → Each (Stays tables tables' nodes nodes') f → Each (IsPlaced source tables nodes) f
+    → Each (IsPlaced source tables' nodes') f
 placed_same source tables tables' nodes nodes' l nil s z h p = tt
 placed_same source tables tables' nodes nodes' l (node ix below after) s z h p = (
   record {
     lies = rw h.0.at.item p.0.lies;
     named = rw h.0.at.item (entries-longer tables tables' (item_at nodes ix).body z p.0.named);
-    slices = rw h.0.at.item (slices-same source tables tables' (origin_start source (item_at nodes ix).start) (item_at nodes ix).end (item_at nodes ix).body
+    slices = rw h.0.at.item
+        (slices-same source tables tables' (origin_start source (item_at nodes ix).start) (item_at nodes ix).end
+        (item_at nodes ix).body
         h.0.entries p.0.slices);
-    keeps = rw (h.0.at.next, h.0.at.child, h.0.at.item, following_same tables tables' nodes nodes' (sibling_of nodes ix) after s.3 h.2)
+    keeps = rw (
+      h.0.at.next,
+      h.0.at.child,
+      h.0.at.item,
+      following_same tables tables' nodes nodes' (sibling_of nodes ix)
+          after s.3 h.2,
+    )
         p.0.keeps;
   },
   placed_same source tables tables' nodes nodes' (child_of nodes ix) below s.2 z h.1 p.1,
@@ -144,37 +170,58 @@ naming_same : (tables tables' : Tables) (nodes nodes' : List (Node Item)) (n : N
     → Each (Stays tables tables' nodes nodes') f → total (naming nodes' n) f ≡ total (naming nodes n) f
 naming_same tables tables' nodes nodes' n nil h = refl
 naming_same tables tables' nodes nodes' n (node ix below after) h =
-    rw (h.0.at.item, naming_same tables tables' nodes nodes' n below h.1, naming_same tables tables' nodes nodes' n after h.2) refl
+    rw (
+      h.0.at.item,
+      naming_same tables tables' nodes nodes' n below h.1,
+      naming_same tables tables' nodes nodes' n
+          after h.2,
+    ) refl
 
-weight_same : (tables tables' : Tables) (nodes nodes' : List (Node Item)) (f : Forest ℕ) → Each (Stays tables tables' nodes nodes') f
+weight_same : (tables tables' : Tables) (nodes nodes' : List (Node Item)) (f : Forest ℕ)
+    → Each (Stays tables tables' nodes nodes') f
     → total (weight_at nodes') f ≡ total (weight_at nodes) f
 weight_same tables tables' nodes nodes' nil h = refl
 weight_same tables tables' nodes nodes' (node ix below after) h =
-    rw (h.0.at.item, weight_same tables tables' nodes nodes' below h.1, weight_same tables tables' nodes nodes' after h.2) refl
+    rw (
+      h.0.at.item,
+      weight_same tables tables' nodes nodes' below h.1,
+      weight_same tables tables' nodes nodes' after
+          h.2,
+    ) refl
 
 -- all that is said of a link that leads to nodes and entries that stay
-pub record Framed (source : List ℕ) (tables tables' : Tables) (nodes nodes' : List (Node Item)) (l : Option ℕ) : Type 0 where
-  pub forest : forest_at (links_of nodes') l ≡ forest_at (links_of nodes) l
-  pub reaches : Reaches (links_of nodes') (IsPlaced source tables' nodes') l
-  pub trees : trees_from source tables' nodes' l ≡ trees_from source tables nodes l
-  pub naming : (n : Named) → total (naming nodes' n) (forest_at (links_of nodes') l) ≡ total (naming nodes n) (forest_at (links_of nodes) l)
-  pub weight : total (weight_at nodes') (forest_at (links_of nodes') l) ≡ total (weight_at nodes) (forest_at (links_of nodes) l)
+pub record Framed (source : List ℕ) (tables tables' : Tables) (nodes nodes' : List (Node Item)) (l : Option ℕ) : Type 0
+  where
+    pub forest : forest_at (links_of nodes') l ≡ forest_at (links_of nodes) l
+    pub reaches : Reaches (links_of nodes') (IsPlaced source tables' nodes') l
+    pub trees : trees_from source tables' nodes' l ≡ trees_from source tables nodes l
+    pub naming : (n : Named) → total (naming nodes' n) (forest_at (links_of nodes') l)
+        ≡ total (naming nodes n) (forest_at (links_of nodes) l)
+    pub weight : total (weight_at nodes') (forest_at (links_of nodes') l)
+        ≡ total (weight_at nodes) (forest_at (links_of nodes) l)
 
 height_at : (k : Links) (l : Option ℕ) → height (forest_at k l) ≤ k.size
 unfolding forest_at
 height_at k l = height-followed k.size k l
 
-pub framed : (source : List ℕ) (tables tables' : Tables) (nodes nodes' : List (Node Item)) (l : Option ℕ) → length nodes ≤ length nodes'
+pub framed : (source : List ℕ) (tables tables' : Tables) (nodes nodes' : List (Node Item)) (l : Option ℕ)
+    → length nodes ≤ length nodes'
     → IsNoShorter tables tables'
-    → Reaches (links_of nodes) (IsPlaced source tables nodes) l → Each (Stays tables tables' nodes nodes') (forest_at (links_of nodes) l)
+    → Reaches (links_of nodes) (IsPlaced source tables nodes) l → Each (Stays tables tables' nodes nodes')
+    (forest_at (links_of nodes) l)
     → Framed source tables tables' nodes nodes' l
 framed source tables tables' nodes nodes' l z y r h =
     let f = forest_at (links_of nodes) l in
     let s : Spells (links_of nodes') l f = spells_same tables tables' nodes nodes' l f z r.spelled h in
-    let e : forest_at (links_of nodes') l ≡ f = forest_at-fits (links_of nodes') l f s (omega (arith, height_at (links_of nodes) l, z)) in
+    let e : forest_at (links_of nodes') l ≡ f = forest_at-fits (links_of nodes') l f s
+    (omega (arith, height_at (links_of nodes) l, z)) in
     record {
       forest = e;
-      reaches = record { spelled = rw e s; each = rw e (placed_same source tables tables' nodes nodes' l f r.spelled y h r.each) };
+      reaches = record {
+        spelled = rw e s;
+        each = rw e
+            (placed_same source tables tables' nodes nodes' l f r.spelled y h r.each);
+      };
       trees = rw e (relabelled_same source tables tables' nodes nodes' f h);
       naming = λ n. rw e (naming_same tables tables' nodes nodes' n f h);
       weight = rw e (weight_same tables tables' nodes nodes' f h);

@@ -23,7 +23,8 @@ markup-closed source body.MaybeImage h = absurd (cc h)
 markup-closed source other h = tt
 
 -- so it keeps the rules wherever it precedes what follows it
-pub keeps-closed : (text : List ℕ) (a : Numbered) (child : Option ℕ) (next : Option Numbered) → is_open a.item.body ≡ false
+pub keeps-closed : (text : List ℕ) (a : Numbered) (child : Option ℕ) (next : Option Numbered) → is_open a.item.body
+    ≡ false
     → ComesBefore a next → KeepsItemRules text a child next
 keeps-closed text a child next h before = record {
   in_order = before;

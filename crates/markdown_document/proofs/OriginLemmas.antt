@@ -20,7 +20,8 @@ use Rattle.markdown_document.specs.NamedEntries.{link_origins_at}
 pub slice_wider : (text : List ℕ) (start end start' end' : ℕ) (bytes : List ℕ) → start' ≤ start → end ≤ end'
     → IsSliceWithin text start end bytes → IsSliceWithin text start' end' bytes
 slice_wider text start end start' end' bytes low high h =
-    ∥∥₁_map h (λ (p : (range : Range ℕ) × (start ≤ range.start) × (range.end ≤ end) × (bytes ≡ slice_range text range.start range.end)). (
+    ∥∥₁_map h (λ (p : (range : Range ℕ) × (start ≤ range.start) × (range.end ≤ end)
+    × (bytes ≡ slice_range text range.start range.end)). (
       p.0,
       omega (arith, low, p.1),
       omega (arith, high, p.2),
@@ -28,7 +29,8 @@ slice_wider text start end start' end' bytes low high h =
     ))
 
 -- so is a title, and so is what a link leads to
-pub title_wider : (source : List ℕ) (start end start' end' : ℕ) (link_type : LinkType) (origin : Origin) (title : List ℕ)
+pub title_wider : (source : List ℕ) (start end start' end' : ℕ) (link_type : LinkType) (origin : Origin)
+    (title : List ℕ)
     → start' ≤ start → end ≤ end' → IsTitleFrom source start end link_type origin title
     → IsTitleFrom source start' end' link_type origin title
 title_wider source start end start' end' kind.Inline origin title low high h = λ some.
@@ -48,7 +50,8 @@ title_wider source start end start' end' other origin title low high h = tt
 
 destination_wider : (source : List ℕ) (start end start' : ℕ) (origin : Origin) (bytes : List ℕ) → start' ≤ start
     → IsSlice source start end origin bytes → IsSlice source start' end origin bytes
-destination_wider source start end start' sliced bytes low h = slice_wider source start end start' end bytes low (omega arith) h
+destination_wider source start end start' sliced bytes low h = slice_wider source start end start' end bytes low
+    (omega arith) h
 destination_wider source start end start' other bytes low h = absurd h
 
 link_wider : (source : List ℕ) (start end start' : ℕ) (origins : LinkOrigins) (link : LinkView) → start' ≤ start
@@ -65,7 +68,8 @@ link_wider source start end start' origins link low h = record {
 -- and so is what an item refers to
 pub slices_wider : (source : List ℕ) (tables : Tables) (start end start' : ℕ) (b : ItemBody) → start' ≤ start
     → HasSlices source tables start end b → HasSlices source tables start' end b
-slices_wider source tables start end start' (body.Code ix) low h = λ is. slice_wider source start end start' end _ low (omega arith) (h is)
+slices_wider source tables start end start' (body.Code ix) low h = λ is. slice_wider source start end start' end _ low
+    (omega arith) (h is)
 slices_wider source tables start end start' (body.Math ix display) low h =
     λ is. slice_wider source start end start' end _ low (omega arith) (h is)
 slices_wider source tables start end start' (body.Link ix) low h =
@@ -82,10 +86,12 @@ origin_first source start = by (follows_pipe source start)
     by false = omega arith
 
 -- what comes from an item's range comes from where the item is
-pub slices_from_place : (source : List ℕ) (tables : Tables) (item : Item) → HasSlices source tables item.start item.end item.body
+pub slices_from_place : (source : List ℕ) (tables : Tables) (item : Item) → HasSlices source tables item.start item.end
+    item.body
     → ComesFromPlace source tables item
 slices_from_place source tables item h =
-    slices_wider source tables item.start item.end (origin_start source item.start) item.body (origin_first source item.start) h
+    slices_wider source tables item.start item.end (origin_start source item.start) item.body
+    (origin_first source item.start) h
 
 -- what comes from where an item is still does where the item is cut after a pipe
 pub slices_past_pipe : (source : List ℕ) (tables : Tables) (item : Item) (i : ℕ) → follows_pipe source i ≡ true

@@ -20,7 +20,13 @@ use Rattle.markdown_document.proofs.TablesLemmas.{same-refl, same-apart, named-a
 pub times-past : (k : Links) (l : Option ℕ) (f : Forest ℕ) (n : ℕ) → Spells k l f → k.size ≤ n → total (same n) f ≡ 0
 times-past k l nil n s z = refl
 times-past k l (node ix below after) n s z =
-    omega (arith, same-apart n ix (omega (arith, s.1, z)), times-past k (k.child ix) below n s.2 z, times-past k (k.next ix) after n s.3 z)
+    omega (
+      arith,
+      same-apart n ix (omega (arith, s.1, z)),
+      times-past k (k.child ix) below n s.2 z,
+      times-past k
+          (k.next ix) after n s.3 z,
+    )
 
 -- entries that are in no table are named nowhere
 pub named-past : (source : List ℕ) (tables : Tables) (nodes : List (Node Item)) (f : Forest ℕ) (n : Named)
@@ -37,7 +43,8 @@ named-past source tables nodes (node ix below after) n h z =
     )
 
 -- what refers to no text and no link has no slice
-pub slices-unnamed : (source : List ℕ) (tables : Tables) (start end : ℕ) (b : ItemBody) → text_named b ≡ None → link_named b ≡ None
+pub slices-unnamed : (source : List ℕ) (tables : Tables) (start end : ℕ) (b : ItemBody) → text_named b ≡ None
+    → link_named b ≡ None
     → HasSlices source tables start end b
 slices-unnamed source tables start end (body.Code ix) h e = cc h
 slices-unnamed source tables start end (body.Math ix display) h e = cc h
@@ -45,21 +52,28 @@ slices-unnamed source tables start end (body.Link ix) h e = cc e
 slices-unnamed source tables start end (body.Image ix) h e = cc e
 slices-unnamed source tables start end other h e = tt
 
-pub slices-none : (source : List ℕ) (tables : Tables) (start end : ℕ) (b : ItemBody) → ((n : Named) → times_named n b ≡ 0)
+pub slices-none : (source : List ℕ) (tables : Tables) (start end : ℕ) (b : ItemBody)
+    → ((n : Named) → times_named n b ≡ 0)
     → HasSlices source tables start end b
-slices-none source tables start end (body.Code ix) h = let none = h (some_text ix.0) in absurd (omega (arith, none, same-refl ix.0))
-slices-none source tables start end (body.Math ix display) h = let none = h (some_text ix.0) in absurd (omega (arith, none, same-refl ix.0))
-slices-none source tables start end (body.Link ix) h = let none = h (some_link ix.0) in absurd (omega (arith, none, same-refl ix.0))
-slices-none source tables start end (body.Image ix) h = let none = h (some_link ix.0) in absurd (omega (arith, none, same-refl ix.0))
+slices-none source tables start end (body.Code ix) h = let none = h (some_text ix.0) in absurd
+    (omega (arith, none, same-refl ix.0))
+slices-none source tables start end (body.Math ix display) h = let none = h (some_text ix.0) in absurd
+    (omega (arith, none, same-refl ix.0))
+slices-none source tables start end (body.Link ix) h = let none = h (some_link ix.0) in absurd
+    (omega (arith, none, same-refl ix.0))
+slices-none source tables start end (body.Image ix) h = let none = h (some_link ix.0) in absurd
+    (omega (arith, none, same-refl ix.0))
 slices-none source tables start end other h = tt
 
 -- an open item is not read before its chain is resolved
-pub shape-open : (tables : Tables) (source : List ℕ) (b : ItemBody) → is_open b ≡ true → shape_of tables source b ≡ unresolved b
+pub shape-open : (tables : Tables) (source : List ℕ) (b : ItemBody) → is_open b ≡ true → shape_of tables source b
+    ≡ unresolved b
 shape-open tables source body.Paragraph h = cc h
 shape-open tables source other h = cc h
 
 -- what is not read before its chain is resolved is open
-pub open-unresolved : (tables : Tables) (source : List ℕ) (b : ItemBody) → is_unresolved (shape_of tables source b) ≡ true
+pub open-unresolved : (tables : Tables) (source : List ℕ) (b : ItemBody) → is_unresolved (shape_of tables source b)
+    ≡ true
     → is_open b ≡ true
 open-unresolved tables source body.Paragraph h = cc h
 open-unresolved tables source (body.HardBreak true) h = cc h

@@ -1,5 +1,6 @@
 -- Entries of tables: those that are named are there, and stay where tables grow.
-use Rattle.std.proofs.Common.{◌≡◌, ℕ, zero, suc, ◌<◌, ◌≤◌, List, [], ◌∷◌, ◌++◌, length, Option, Some, None, refl, ◌∙◌, arith, append-nil}
+use Rattle.std.proofs.Common.{◌≡◌, ℕ, zero, suc, ◌<◌, ◌≤◌, List, [], ◌∷◌, ◌++◌, length, Option, Some, None, refl, ◌∙◌}
+use Rattle.std.proofs.Common.{arith, append-nil}
 use Rattle.std.proofs.Common.{append_assoc}
 use Rattle.std.specs.Prelude.{IfSome}
 use Rattle.std.proofs.lemmas.List.{length-append}
@@ -78,15 +79,19 @@ link_at-append [] more n l = absurd (omega (arith, l))
 link_at-append (c ∷ links) more zero l = refl
 link_at-append (c ∷ links) more (suc n) l = link_at-append links more n (omega (arith, l))
 
-link_origins_at-append : (links more : List LinkParts) (n : ℕ) → n < length links → link_origins_at (links ++ more) n ≡ link_origins_at links n
+link_origins_at-append : (links more : List LinkParts) (n : ℕ) → n < length links → link_origins_at (links ++ more) n
+    ≡ link_origins_at links n
 link_origins_at-append [] more n l = absurd (omega (arith, l))
 link_origins_at-append (c ∷ links) more zero l = refl
 link_origins_at-append (c ∷ links) more (suc n) l = link_origins_at-append links more n (omega (arith, l))
 
-appended_same : (tables : Tables) (cows : List CowStr) (links : List LinkParts) (n : Named) → number_of n < size_for tables n
+appended_same : (tables : Tables) (cows : List CowStr) (links : List LinkParts) (n : Named)
+    → number_of n < size_for tables n
     → IsSameEntry tables (record tables { cows = tables.cows ++ cows; links = tables.links ++ links }) n
-appended_same tables cows links (some_text n) l = (text_at-append tables.cows cows n l, origin_at-append tables.cows cows n l)
-appended_same tables cows links (some_link n) l = (link_at-append tables.links links n l, link_origins_at-append tables.links links n l)
+appended_same tables cows links (some_text n) l
+    = (text_at-append tables.cows cows n l, origin_at-append tables.cows cows n l)
+appended_same tables cows links (some_link n) l
+    = (link_at-append tables.links links n l, link_origins_at-append tables.links links n l)
 appended_same tables cows links (some_alignments n) l = refl
 
 appended_sizes : (tables : Tables) (cows : List CowStr) (links : List LinkParts) (n : Named)
@@ -117,7 +122,12 @@ pub grown-twice : (a b c : Tables) → HasGrown a b → HasGrown b c → HasGrow
 grown-twice a b c p q = record {
   more_cows = p.more_cows ++ q.more_cows;
   more_links = p.more_links ++ q.more_links;
-  grown = q.grown ∙ rw (p.grown, append_assoc a.cows p.more_cows q.more_cows, append_assoc a.links p.more_links q.more_links) refl;
+  grown = q.grown ∙ rw (
+    p.grown,
+    append_assoc a.cows p.more_cows q.more_cows,
+    append_assoc a.links p.more_links
+        q.more_links,
+  ) refl;
 }
 
 pub longer-trans : (a b c : Tables) → IsNoShorter a b → IsNoShorter b c → IsNoShorter a c
@@ -128,11 +138,13 @@ more_entries : (o : Option ℕ) (a b : ℕ) → a ≤ b → IfSome o (λ n. n < 
 more_entries None a b l h = h
 more_entries (Some n) a b l h = omega (arith, l, h)
 
-pub entries-longer : (tables tables' : Tables) (b : ItemBody) → IsNoShorter tables tables' → NamesEntries tables b → NamesEntries tables' b
+pub entries-longer : (tables tables' : Tables) (b : ItemBody) → IsNoShorter tables tables' → NamesEntries tables b
+    → NamesEntries tables' b
 entries-longer tables tables' b y h = record {
   text = more_entries (text_named b) (length tables.cows) (length tables'.cows) (y.sizes (some_text 0)) h.text;
   link = more_entries (link_named b) (length tables.links) (length tables'.links) (y.sizes (some_link 0)) h.link;
-  alignments = more_entries (alignments_named b) (length tables.alignments) (length tables'.alignments) (y.sizes (some_alignments 0))
+  alignments = more_entries (alignments_named b) (length tables.alignments) (length tables'.alignments)
+      (y.sizes (some_alignments 0))
       h.alignments;
   attributes = rw y.headings h.attributes;
 }

@@ -91,13 +91,15 @@ abbrev pub other_shape : Tables → List ℕ → ItemBody → Shape
 other_shape tables source (body.Text escaped) = text_over source
 other_shape tables source (body.SynthesizeText ix) = leaf (event.text (text_at tables.cows ix.0)) (made ∷ [])
 other_shape tables source (body.SynthesizeChar c) = leaf (event.text (encode_utf8 c)) (inlined ∷ [])
-other_shape tables source (body.Code ix) = leaf (event.code (text_at tables.cows ix.0)) (origin_at tables.cows ix.0 ∷ [])
+other_shape tables source (body.Code ix) = leaf (event.code (text_at tables.cows ix.0))
+    (origin_at tables.cows ix.0 ∷ [])
 other_shape tables source (body.Math ix display) = leaf (math display (text_at tables.cows ix.0))
     (origin_at tables.cows ix.0 ∷ [])
 other_shape tables source body.Html = leaf (event.html source) (sliced ∷ [])
 other_shape tables source body.InlineHtml = leaf (event.inline_html source) (sliced ∷ [])
 other_shape tables source (body.OwnedInlineHtml ix) = leaf (event.inline_html (text_at tables.cows ix.0)) (made ∷ [])
-other_shape tables source (body.FootnoteReference ix) = leaf (event.footnote_reference (text_at tables.cows ix.0)) (made ∷ [])
+other_shape tables source (body.FootnoteReference ix) = leaf (event.footnote_reference (text_at tables.cows ix.0))
+    (made ∷ [])
 other_shape tables source body.SoftBreak = leaf event.soft_break []
 other_shape tables source (body.HardBreak true) = backslash_break
 other_shape tables source (body.HardBreak false) = leaf event.hard_break []

@@ -27,7 +27,8 @@ joined_lines starts from i [] = []
 joined_lines starts from i (b ∷ bytes) =
     if nat_lt i from then joined_lines starts from (i + 1) bytes
     else let line = next_line starts i b in
-    (i, if is_some line then line_feed else b, is_some line) ∷ joined_lines starts (unwrap_or line (i + 1)) (i + 1) bytes
+    (i, if is_some line then line_feed else b, is_some line) ∷ joined_lines starts (unwrap_or line (i + 1)) (i + 1)
+    bytes
 
 -- the title before the first bare closing mark of these bytes; none if a bare open parenthesis comes before a `)`
 abbrev pub title_in : ℕ → Bool → List (ℕ × ℕ × Bool) → Option Title
@@ -47,4 +48,5 @@ closer_of b =
 -- the title that the mark at the byte offset i of a text opens, if there is one
 abbrev pub title_at : (ℕ → Option ℕ) → List ℕ → ℕ → Option Title
 title_at starts text i =
-    option_and_then (λ closer. title_in closer false (joined_lines starts (i + 1) 0 text)) (closer_of (slice_index text i))
+    option_and_then (λ closer. title_in closer false (joined_lines starts (i + 1) 0 text))
+    (closer_of (slice_index text i))

@@ -24,7 +24,16 @@ byte_same b = elim (cases_eq b 34) [
             | inl e ↦ rw e refl
             | inr form ↦ elim (cases_eq b 13) [
               | inl e ↦ rw e refl
-              | inr return ↦ rw (ne_eqb b 34 quote, ne_eqb b 92 slash, ne_eqb b 8 back, ne_eqb b 9 tab, ne_eqb b 10 line, ne_eqb b 12 form, ne_eqb b 13 return) refl
+              | inr return ↦ rw (
+                ne_eqb b 34 quote,
+                ne_eqb b 92 slash,
+                ne_eqb b 8 back,
+                ne_eqb b 9 tab,
+                ne_eqb b 10
+                    line,
+                ne_eqb b 12 form,
+                ne_eqb b 13 return,
+              ) refl
             ]
           ]
         ]
@@ -35,10 +44,12 @@ byte_same b = elim (cases_eq b 34) [
 
 bytes_same : (text : List ℕ) → flat_map string_byte text ≡ escape text
 bytes_same [] = refl
-bytes_same (b ∷ text) = ap (λ x. x ++ flat_map string_byte text) (byte_same b) ∙ ap (λ x. escape_byte b ++ x) (bytes_same text)
+bytes_same (b ∷ text) = ap (λ x. x ++ flat_map string_byte text) (byte_same b)
+    ∙ ap (λ x. escape_byte b ++ x) (bytes_same text)
 
 -- so the text reads back
 pub reads_back : (text rest : List ℕ) → content plain (drop 1 (string text) ++ rest) ≡ Some text
 reads_back text rest =
-    ap (content plain) (append_assoc (flat_map string_byte text) (34 ∷ []) rest ∙ ap (λ x. x ++ 34 ∷ rest) (bytes_same text))
+    ap (content plain) (append_assoc (flat_map string_byte text) (34 ∷ []) rest
+    ∙ ap (λ x. x ++ 34 ∷ rest) (bytes_same text))
     ∙ content-escape text rest

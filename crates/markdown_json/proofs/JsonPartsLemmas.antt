@@ -12,7 +12,8 @@ use Rattle.markdown_base.specs.declared.tag.CodeBlockKind.{CodeBlockKind}
 use Rattle.markdown_base.specs.declared.tag.CodeBlockKind.TheVariants as code_block
 use Rattle.markdown_out.specs.ByteLists.{AppendsPrefix}
 use Rattle.markdown_out.proofs.ByteListsLemmas.{append-more, prefix-after, prefix-first, joined-flat_map}
-use Rattle.markdown_json.specs.Json.{string, optional_value, array, after_comma, attribute_json, heading_json, level_json, tag_json, variant, event_json, line_json}
+use Rattle.markdown_json.specs.Json.{string, optional_value, array, after_comma, attribute_json, heading_json}
+use Rattle.markdown_json.specs.Json.{level_json, tag_json, variant, event_json, line_json}
 use Rattle.markdown_json.specs.JsonParts.{text_json, pair_json, heading_of, code_block_json, range_json}
 use Rattle.markdown_json.specs.JsonPieces.{piece_json, spelled}
 use Rattle.markdown_json.specs.declared.heading.Heading.{Heading}
@@ -33,7 +34,8 @@ pub spelled-flat_map : (pieces : List Piece) → flat_map piece_json pieces ≡ 
 spelled-flat_map pieces = sym (flat_map-map (λ part. part) piece_json pieces) ∙ joined-flat_map (map piece_json pieces)
 
 -- a value that may be missing is written as its view
-optional_same : {A B : Type 0} (f : B → List ℕ) (g : A → B) (o : Option A) → optional_value f (option_map g o) ≡ optional_value (λ x. f (g x)) o
+optional_same : {A B : Type 0} (f : B → List ℕ) (g : A → B) (o : Option A) → optional_value f (option_map g o)
+    ≡ optional_value (λ x. f (g x)) o
 optional_same f g None = refl
 optional_same f g (Some x) = refl
 
@@ -53,7 +55,8 @@ pub attribute_appended : (old named valued new : List ℕ) (a : CowStr × Option
     → valued ≡ named ++ (codes "," ++ optional_value text_json a.1) → new ≡ valued ++ codes "]"
     → new ≡ old ++ attribute_json (attribute_view a)
 attribute_appended old named valued new a name value end =
-    append-more old named new (codes "[" ++ text_json a.0) ((codes "," ++ optional_value text_json a.1) ++ codes "]") name
+    append-more old named new (codes "[" ++ text_json a.0) ((codes "," ++ optional_value text_json a.1) ++ codes "]")
+    name
     (append-more named valued new (codes "," ++ optional_value text_json a.1) (codes "]") value end)
     ∙ ap (λ x. old ++ x) (sym (attribute_parts a))
 
@@ -87,7 +90,8 @@ heading_appended s0 s1 s2 s3 s4 new h level id classes attributes end =
     ∙ ap (λ x. s0 ++ x) (sym (heading_parts h))
 
 -- a code block's tag has the JSON of its kind
-pub code_block_same : (kind : CodeBlockKind) → tag_json (code_block_view kind) ≡ variant (codes "CodeBlock") (code_block_json kind)
+pub code_block_same : (kind : CodeBlockKind) → tag_json (code_block_view kind)
+    ≡ variant (codes "CodeBlock") (code_block_json kind)
 code_block_same code_block.Indented = refl
 code_block_same (code_block.Fenced info) = refl
 

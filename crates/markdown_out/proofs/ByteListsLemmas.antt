@@ -137,7 +137,8 @@ fresh_behind-none bytes start before h = sym (ap (fresh_after_bytes before) (dro
 
 -- what follows the old text is what was appended
 pub fresh_behind-appended : (fresh before : Bool) (first last old out bytes : List ℕ) → first ≡ old → last ≡ out
-    → out ≡ old ++ bytes → fresh ≡ fresh_after_bytes before (drop (length first) last) → fresh ≡ fresh_after_bytes before bytes
+    → out ≡ old ++ bytes → fresh ≡ fresh_after_bytes before (drop (length first) last) → fresh
+    ≡ fresh_after_bytes before bytes
 fresh_behind-appended fresh before first last old out bytes f l e h =
     h ∙ (ap (λ x. fresh_after_bytes before (drop (length x) last)) f
     ∙ (ap (λ x. fresh_after_bytes before (drop (length old) x)) (l ∙ e)

@@ -133,7 +133,8 @@ module _ {A B : Type 0} (view : A → B) where
 module _ {S A : Type 0} (steps : S → Option A → S → Type 0) where
   -- an iterator that stays ended gives None and nothing else
   ended-nones : {B : Type 0} (view : A → B) (it : S) → StaysEnded steps it → (so_far : List (Option A)) (s t u : S)
-      (rs : List (Option A)) → Gave steps it so_far s → steps s None t → Gave steps t rs u → AreNone (map (option_map view) rs)
+      (rs : List (Option A)) → Gave steps it so_far s → steps s None t → Gave steps t rs u
+      → AreNone (map (option_map view) rs)
   ended-nones view it ends so_far s t u [] b p g = tt
   ended-nones view it ends so_far s t u (None ∷ rs) b p g =
       ended-nones view it ends (so_far ++ None ∷ []) t g.0 u rs (gave-more steps it s t so_far None b p) g.1 g.2
@@ -222,7 +223,8 @@ module _ {M S T P : Type 0} (through : P → P → P) (view : Result T Fault →
       by_kind (inl p) = p
       by_kind (inr q) = absurd (both q.1)
 
-  over-through : (m t : M) (xs : List (Result T Fault)) → (state m).over ≡ true → Yields calls m xs t → (state t).over ≡ true
+  over-through : (m t : M) (xs : List (Result T Fault)) → (state m).over ≡ true → Yields calls m xs t → (state t).over
+      ≡ true
   over-through m t [] o y = subst (λ k. (state k).over ≡ true) y o
   over-through m t (x ∷ xs) o y = over-through y.0 t xs (over-stays m y.0 (Some x) o y.1) y.2
 
@@ -234,14 +236,17 @@ module _ {M S T P : Type 0} (through : P → P → P) (view : Result T Fault →
       by true e = let o = keeps e in cc
       by false e = e
 
-  never-over-before : (m t : M) (r : Option (Result T Fault)) → calls m r t → (state t).over ≡ false → (state m).over ≡ false
+  never-over-before : (m t : M) (r : Option (Result T Fault)) → calls m r t → (state t).over ≡ false → (state m).over
+      ≡ false
   never-over-before m t r c n = not-over (state m) (state t) (λ o. over-stays m t r o c) n
 
-  never-over : (m t : M) (xs : List (Result T Fault)) → Yields calls m xs t → (state t).over ≡ false → (state m).over ≡ false
+  never-over : (m t : M) (xs : List (Result T Fault)) → Yields calls m xs t → (state t).over ≡ false → (state m).over
+      ≡ false
   never-over m t xs y n = not-over (state m) (state t) (λ o. over-through m t xs o y) n
 
   -- the items that a run gave
-  run-of : (m t : M) (xs : List (Result T Fault)) → (state m).over ≡ false → (state t).over ≡ false → Yields calls m xs t
+  run-of : (m t : M) (xs : List (Result T Fault)) → (state m).over ≡ false → (state t).over ≡ false
+      → Yields calls m xs t
       → IsRun (state m) (map (λ i. Some i) (map view xs)) (state t)
   run-of m t [] o n y = subst (λ k. IsRun (state m) [] (state k)) y (run-none (state m))
   run-of m t (x ∷ xs) o n y =
@@ -255,16 +260,19 @@ module _ {M S T P : Type 0} (through : P → P → P) (view : Result T Fault →
   answered m t given h run = ap (λ k. merge_answers through k (map answer run.answers)) (sym h)
       ∙ (ap (merge_answers through (state m).held) (sym (append-nil (map answer run.answers))) ∙ run.leaves [])
 
-  none-missing : {A : Type 0} (a b : List A) (r : List (Option A)) → map (λ x. Some x) a ≡ map (λ x. Some x) b ++ (None ∷ r) → ⊥
+  none-missing : {A : Type 0} (a b : List A) (r : List (Option A)) → map (λ x. Some x) a
+      ≡ map (λ x. Some x) b ++ (None ∷ r) → ⊥
   none-missing [] [] r e = cc
   none-missing [] (y ∷ b) r e = cc
   none-missing (x ∷ a) [] r e = cc
   none-missing (x ∷ a) (y ∷ b) r e = none-missing a b r (cons-tail e)
 
   run-ended : (m t u : M) (xs : List (Result T Fault)) → (state m).over ≡ false → (state u).over ≡ false
-      → Yields calls m xs t → calls t None u → IsRun (state m) (map (λ i. Some i) (map view xs) ++ (None ∷ [])) (state u)
+      → Yields calls m xs t → calls t None u → IsRun (state m) (map (λ i. Some i) (map view xs) ++ (None ∷ []))
+      (state u)
   run-ended m t u [] o n y c =
-      run-more (state m) (state u) (state u) None [] (passes m u None o n (subst (λ k. calls k None u) (sym y) c)) (run-none (state u))
+      run-more (state m) (state u) (state u) None [] (passes m u None o n (subst (λ k. calls k None u) (sym y) c))
+      (run-none (state u))
   run-ended m t u (x ∷ xs) o n y c =
       let next = never-over y.0 t xs y.2 (never-over-before t u None c n) in
       run-more (state m) (state y.0) (state u) (Some x) (map (λ i. Some i) (map view xs) ++ (None ∷ []))
@@ -288,29 +296,34 @@ module _ {M S T P : Type 0} (through : P → P → P) (view : Result T Fault →
 
         by_cut : IsCut run.answers ⊎ HasNoNone run.answers → IsMergeSoFar through view steps (state m).iter xs
         by_cut (inr n) =
-            let seen : map answer run.answers ≡ map (λ i. Some i) (map view n.all) = ap (map answer) n.is ∙ views-some view n.all in
+            let seen : map answer run.answers ≡ map (λ i. Some i) (map view n.all) = ap (map answer) n.is
+            ∙ views-some view n.all in
             let prefix = prefix-of (merged through (map view n.all)) its [] tail tt
             (append-nil (map (λ i. Some i) (merged through (map view n.all)))
             ∙ (sym (answers-last through [] (map view n.all)) ∙ (ap (merge_answers through []) (sym seen) ∙ all))) in
             record {
               so_far = n.all;
               left = (state t).iter;
-              read = yielded steps (state m).iter (state t).iter n.all (subst (λ rs. Gave steps (state m).iter rs (state t).iter) n.is
+              read = yielded steps (state m).iter (state t).iter n.all
+                  (subst (λ rs. Gave steps (state m).iter rs (state t).iter) n.is
                   run.read);
               missing = prefix.missing;
               merges = prefix.is;
             }
         by_cut (inl c) =
-            let e = ended steps (state m).iter (state t).iter c.before c.after (subst (λ rs. Gave steps (state m).iter rs (state t).iter)
+            let e = ended steps (state m).iter (state t).iter c.before c.after
+            (subst (λ rs. Gave steps (state m).iter rs (state t).iter)
             c.is run.read) in
             let later = map answer c.after in
             let seen : map answer run.answers ≡ map (λ i. Some i) (map view c.before) ++ (None ∷ later) =
             ap (map answer) c.is ∙ (map-append answer (map (λ x. Some x) c.before) (None ∷ c.after)
             ∙ ap (λ ys. ys ++ (None ∷ later)) (views-some view c.before)) in
-            let none = ended-nones steps view (state m).iter ends (map (λ x. Some x) c.before) e.last e.end (state t).iter c.after
+            let none = ended-nones steps view (state m).iter ends (map (λ x. Some x) c.before) e.last e.end
+            (state t).iter c.after
             e.before e.ends e.after in
             let prefix = prefix-stretch through (map view c.before) its later tail none
-            (sym (answers-stretch through [] (map view c.before) later) ∙ (ap (merge_answers through []) (sym seen) ∙ all)) in
+            (sym (answers-stretch through [] (map view c.before) later)
+            ∙ (ap (merge_answers through []) (sym seen) ∙ all)) in
             record {
               so_far = c.before;
               left = e.last;
@@ -332,26 +345,30 @@ module _ {M S T P : Type 0} (through : P → P → P) (view : Result T Fault →
         tail = merge_answers through (state u).held []
 
         all : merge_answers through [] (map answer run.answers) ≡ map (λ i. Some i) its ++ (None ∷ tail)
-        all = answered m u (map (λ i. Some i) its ++ (None ∷ [])) h run ∙ append_assoc (map (λ i. Some i) its) (None ∷ []) tail
+        all = answered m u (map (λ i. Some i) its ++ (None ∷ [])) h run
+            ∙ append_assoc (map (λ i. Some i) its) (None ∷ []) tail
 
         by_cut : IsCut run.answers ⊎ HasNoNone run.answers → IsMergeOfAll through view steps (state m).iter xs
         by_cut (inr n) = absurd (none-missing (merged through (map view n.all)) its tail
             (sym (answers-last through [] (map view n.all))
             ∙ (ap (merge_answers through []) (sym (ap (map answer) n.is ∙ views-some view n.all)) ∙ all)))
         by_cut (inl c) =
-            let e = ended steps (state m).iter (state u).iter c.before c.after (subst (λ rs. Gave steps (state m).iter rs (state u).iter)
+            let e = ended steps (state m).iter (state u).iter c.before c.after
+            (subst (λ rs. Gave steps (state m).iter rs (state u).iter)
             c.is run.read) in
             let later = map answer c.after in
             let seen : map answer run.answers ≡ map (λ i. Some i) (map view c.before) ++ (None ∷ later) =
             ap (map answer) c.is ∙ (map-append answer (map (λ x. Some x) c.before) (None ∷ c.after)
             ∙ ap (λ ys. ys ++ (None ∷ later)) (views-some view c.before)) in
-            let none = ended-nones steps view (state m).iter ends (map (λ x. Some x) c.before) e.last e.end (state u).iter c.after
+            let none = ended-nones steps view (state m).iter ends (map (λ x. Some x) c.before) e.last e.end
+            (state u).iter c.after
             e.before e.ends e.after in
             record {
               all = c.before;
               read = (e.end, (e.last, e.yields, e.ends));
               merges = given-stretch through (map view c.before) its later tail none
-                  (sym (answers-stretch through [] (map view c.before) later) ∙ (ap (merge_answers through []) (sym seen) ∙ all));
+                  (sym (answers-stretch through [] (map view c.before) later)
+                  ∙ (ap (merge_answers through []) (sym seen) ∙ all));
             }
 
     -- a new merge gives the merge

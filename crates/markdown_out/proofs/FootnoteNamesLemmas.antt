@@ -1,5 +1,6 @@
 -- Names at their places in an ordered map: what is found there, and what one more name makes of it.
-use Rattle.std.proofs.Common.{◌≡◌, ◌≤◌, ◌+◌, ◌++◌, ◌||◌, ◌&&◌, ◌==◌, ℕ, zero, suc, Bool, true, false, cond, not, List, [], ◌∷◌}
+use Rattle.std.proofs.Common.{◌≡◌, ◌≤◌, ◌+◌, ◌++◌, ◌||◌, ◌&&◌, ◌==◌, ℕ, zero, suc, Bool, true, false, cond, not, List}
+use Rattle.std.proofs.Common.{[], ◌∷◌}
 use Rattle.std.proofs.Common.{length, Option, Some, None, refl, sym, ap, subst, ◌∙◌, arith, nat_lt, nat_eq}
 use Rattle.std.specs.Prelude.{IsTrue, if◌then◌else◌}
 use Rattle.std.specs.Ordering.{is_eq, match_ordering}
@@ -97,9 +98,11 @@ insert_same k v [] f l = cc
 insert_same k v (e ∷ es) f l = by (name_cmp k e.0) (insert_same k v es) f l
   where
     by : (o : Ordering)
-        → (lookup (is_at (name_cmp k)) es ≡ Some v → length (insert_entry name_cmp es k v) ≡ length es → insert_entry name_cmp es k v ≡ es)
+        → (lookup (is_at (name_cmp k)) es ≡ Some v → length (insert_entry name_cmp es k v) ≡ length es
+        → insert_entry name_cmp es k v ≡ es)
         → cond (is_eq o) (Some e.1) (lookup (is_at (name_cmp k)) es) ≡ Some v
-        → length (match_ordering o ((k, v) ∷ e ∷ es) ((e.0, v) ∷ es) (e ∷ insert_entry name_cmp es k v)) ≡ length (e ∷ es)
+        → length (match_ordering o ((k, v) ∷ e ∷ es) ((e.0, v) ∷ es) (e ∷ insert_entry name_cmp es k v))
+        ≡ length (e ∷ es)
         → match_ordering o ((k, v) ∷ e ∷ es) ((e.0, v) ∷ es) (e ∷ insert_entry name_cmp es k v) ≡ e ∷ es
     by Less rest f l = absurd (omega (arith, l))
     by Equal rest f l = let q : e.1 ≡ v = cc (f) in ap (λ x. (e.0, x) ∷ es) (sym q)
@@ -258,7 +261,8 @@ pub length-names_in : (es : Entries) → length (names_in es) ≡ length es
 length-names_in es = length-first_names (length es) es
 
 -- a name that is known adds nothing, and a new one is added after all
-pub with_known : (name : List ℕ) (names : List (List ℕ)) → list_any (are_same_names name) names ≡ true → with_name name names ≡ names
+pub with_known : (name : List ℕ) (names : List (List ℕ)) → list_any (are_same_names name) names ≡ true
+    → with_name name names ≡ names
 with_known name names e = ap (λ b. if b then names else names ++ name ∷ []) e
 
 pub with_new : (name : List ℕ) (names : List (List ℕ)) → list_any (are_same_names name) names ≡ false

@@ -16,7 +16,8 @@ abbrev AreBoth : List ℕ → List ℕ → List ℕ → Type 0
 AreBoth first last whole = first ++ last ≡ whole
 
 reference_whole : (name number : List ℕ)
-    → AreBoth (joined (to_reference_number name)) (joined (number ∷ codes "</a></sup>" ∷ [])) (joined (reference_parts name number))
+    → AreBoth (joined (to_reference_number name)) (joined (number ∷ codes "</a></sup>" ∷ []))
+    (joined (reference_parts name number))
 reference_whole name number = simp append_assoc
 
 definition_whole : (fresh : Bool) (name number : List ℕ)
@@ -25,9 +26,11 @@ definition_whole : (fresh : Bool) (name number : List ℕ)
 definition_whole fresh name number = simp append_assoc
 
 -- a prefix of the second part, after the first
-prefix_of_last : (old mid new first last whole : List ℕ) → AreBoth first last whole → mid ≡ old ++ first → AppendsPrefix mid new last
+prefix_of_last : (old mid new first last whole : List ℕ) → AreBoth first last whole → mid ≡ old ++ first
+    → AppendsPrefix mid new last
     → AppendsPrefix old new whole
-prefix_of_last old mid new first last whole w e f = prefix-after old mid new first last whole [] e f (ap (λ x. first ++ x) (append-nil last)
+prefix_of_last old mid new first last whole w e f = prefix-after old mid new first last whole [] e f
+    (ap (λ x. first ++ x) (append-nil last)
     ∙ w)
 
 -- ---- a reference
@@ -40,7 +43,8 @@ reference_first old new name number f =
     (reference_whole name number)
 
 pub reference_last : (old mid new name number : List ℕ) → mid ≡ old ++ joined (to_reference_number name)
-    → AppendsPrefix mid new (joined (number ∷ codes "</a></sup>" ∷ [])) → AppendsPrefix old new (joined (reference_parts name number))
+    → AppendsPrefix mid new (joined (number ∷ codes "</a></sup>" ∷ []))
+    → AppendsPrefix old new (joined (reference_parts name number))
 reference_last old mid new name number e f =
     prefix_of_last old mid new (joined (to_reference_number name)) (joined (number ∷ codes "</a></sup>" ∷ []))
     (joined (reference_parts name number))
@@ -51,12 +55,14 @@ pub after_reference : (past : Past) (name : List ℕ) → past.open_image ≡ No
     → after_number past name (codes "</a></sup>") ≡ view_after past (footnote_reference name)
 after_reference past name none =
     let ends : fresh_after_bytes past.fresh (joined (footnote_number past name ∷ codes "</a></sup>" ∷ []))
-    ≡ fresh_after_bytes past.fresh (joined (reference_parts name (footnote_number past name))) = simp fresh_after_bytes-append in
+    ≡ fresh_after_bytes past.fresh (joined (reference_parts name (footnote_number past name))) = simp
+    fresh_after_bytes-append in
     rw (none, ends) refl
 
 -- ---- a definition
 
-pub definition_stands : (old mid new : List ℕ) (fresh : Bool) (name number : List ℕ) → mid ≡ old ++ joined (to_definition_number fresh name)
+pub definition_stands : (old mid new : List ℕ) (fresh : Bool) (name number : List ℕ) → mid
+    ≡ old ++ joined (to_definition_number fresh name)
     → new ≡ mid ++ joined (number ∷ codes "</sup>" ∷ []) → new ≡ old ++ joined (definition_parts fresh name number)
 definition_stands old mid new fresh name number e n =
     append-more old mid new (joined (to_definition_number fresh name)) (joined (number ∷ codes "</sup>" ∷ [])) e n
@@ -70,8 +76,10 @@ definition_first old new fresh name number f =
     (joined (number ∷ codes "</sup>" ∷ [])) f
     (definition_whole fresh name number)
 
-pub definition_last : (old mid new : List ℕ) (fresh : Bool) (name number : List ℕ) → mid ≡ old ++ joined (to_definition_number fresh name)
-    → AppendsPrefix mid new (joined (number ∷ codes "</sup>" ∷ [])) → AppendsPrefix old new (joined (definition_parts fresh name number))
+pub definition_last : (old mid new : List ℕ) (fresh : Bool) (name number : List ℕ) → mid
+    ≡ old ++ joined (to_definition_number fresh name)
+    → AppendsPrefix mid new (joined (number ∷ codes "</sup>" ∷ []))
+    → AppendsPrefix old new (joined (definition_parts fresh name number))
 definition_last old mid new fresh name number e f =
     prefix_of_last old mid new (joined (to_definition_number fresh name)) (joined (number ∷ codes "</sup>" ∷ []))
     (joined (definition_parts fresh name number)) (definition_whole fresh name number) e f
@@ -89,5 +97,6 @@ after_definition past name none =
 pub after_alt : (past : Past) (name : List ℕ) → after_number past name (codes "]") ≡ after_alt_reference past name
 after_alt past name =
     let ends : fresh_after_bytes past.fresh (joined (footnote_number past name ∷ codes "]" ∷ []))
-    ≡ fresh_after_bytes past.fresh (joined (alt_parts past (footnote_reference name))) = simp fresh_after_bytes-append in
+    ≡ fresh_after_bytes past.fresh (joined (alt_parts past (footnote_reference name))) = simp fresh_after_bytes-append
+    in
     rw ends refl

@@ -8,7 +8,8 @@ use Rattle.markdown_out.specs.declared.merge.held.Step.TheVariants as step
 use Rattle.markdown_out.specs.Merge.{Item, PlacedText, text_item, text_of_item, unless_empty, merge_answers}
 use Rattle.markdown_out.specs.HeldItems.{placed_view}
 use Rattle.markdown_out.specs.TakenAnswers.{answer_items, IsNoText, answer_count, again_count}
-use Rattle.markdown_out.proofs.MergeLemmas.{merged-alone, merged-one, merged-lone_text, merged-two_texts, merged-three_texts}
+use Rattle.markdown_out.proofs.MergeLemmas.{merged-alone, merged-one, merged-lone_text, merged-two_texts}
+use Rattle.markdown_out.proofs.MergeLemmas.{merged-three_texts}
 use Rattle.markdown_out.proofs.MergeLemmas.{merged-run_end, merged-run_last, answers-prefix, answers-alike}
 
 -- a function over an answer does not change its count
@@ -27,18 +28,24 @@ module _ {P : Type 0} (through : P → P → P) where
   after answer later = merge_answers through (answer_items answer) later
 
   -- an item that is no Text is given
-  pub gives-alone : (x : Item P) (answer : Option (Result (Event × P) Fault)) (later : List (Option (Item P))) → text_of_item x ≡ None
-      → merge_answers through (x ∷ []) (option_map placed_view answer ∷ later) ≡ Some x ∷ merge_answers through (answer_items answer) later
-  gives-alone x None later h = ap (λ items. map (λ i. Some i) items ++ merge_answers through [] later) (merged-one through x)
+  pub gives-alone : (x : Item P) (answer : Option (Result (Event × P) Fault)) (later : List (Option (Item P)))
+      → text_of_item x ≡ None
+      → merge_answers through (x ∷ []) (option_map placed_view answer ∷ later)
+      ≡ Some x ∷ merge_answers through (answer_items answer) later
+  gives-alone x None later h = ap (λ items. map (λ i. Some i) items ++ merge_answers through [] later)
+      (merged-one through x)
   gives-alone x (Some y) later h = answers-prefix through x [] (x ∷ []) (placed_view y) [] later
       (λ rest. merged-alone through x (placed_view y ∷ rest) h)
 
   -- a Text is given where no Text follows it
-  pub gives-lone_text : (t : PlacedText P) (answer : Option (Result (Event × P) Fault)) (later : List (Option (Item P))) → IsNoText answer
-      → merge_answers through (text_item t ∷ []) (option_map placed_view answer ∷ later) ≡ Some (text_item t) ∷ merge_answers through
+  pub gives-lone_text : (t : PlacedText P) (answer : Option (Result (Event × P) Fault)) (later : List (Option (Item P)))
+      → IsNoText answer
+      → merge_answers through (text_item t ∷ []) (option_map placed_view answer ∷ later)
+      ≡ Some (text_item t) ∷ merge_answers through
       (answer_items answer) later
   gives-lone_text t None later h = refl
-  gives-lone_text t (Some y) later h = answers-prefix through (text_item t) [] (text_item t ∷ []) (placed_view y) [] later
+  gives-lone_text t (Some y) later h = answers-prefix through (text_item t) [] (text_item t ∷ []) (placed_view y) []
+      later
       (λ rest. merged-lone_text through t (placed_view y) rest h)
 
   -- two Texts are joined
@@ -47,7 +54,8 @@ module _ {P : Type 0} (through : P → P → P) where
       ≡ merge_answers through (text_item (record { bytes = t.bytes ++ u.bytes; place = t.place }) ∷ text_item
       (record { bytes = []; place = u.place }) ∷ []) later
   joins-two t u later = answers-alike through (text_item t) (text_item u ∷ [])
-      (text_item (record { bytes = t.bytes ++ u.bytes; place = t.place })) (text_item (record { bytes = []; place = u.place }) ∷ []) []
+      (text_item (record { bytes = t.bytes ++ u.bytes; place = t.place }))
+      (text_item (record { bytes = []; place = u.place }) ∷ []) []
       later (λ more. merged-two_texts through t u more)
 
   -- one more Text is joined
@@ -56,15 +64,19 @@ module _ {P : Type 0} (through : P → P → P) where
       ≡ merge_answers through (text_item (record { bytes = t.bytes ++ u.bytes; place = t.place }) ∷ text_item
       (record { bytes = []; place = u.place }) ∷ []) later
   joins-more t l u later e = answers-alike through (text_item t) (text_item l ∷ text_item u ∷ [])
-      (text_item (record { bytes = t.bytes ++ u.bytes; place = t.place })) (text_item (record { bytes = []; place = u.place }) ∷ []) []
+      (text_item (record { bytes = t.bytes ++ u.bytes; place = t.place }))
+      (text_item (record { bytes = []; place = u.place }) ∷ []) []
       later (λ more. merged-three_texts through t l u more e)
 
   -- joined Texts are given at their end, where they are not empty
-  pub gives-run : (t l : PlacedText P) (answer : Option (Result (Event × P) Fault)) (later : List (Option (Item P))) → l.bytes ≡ []
+  pub gives-run : (t l : PlacedText P) (answer : Option (Result (Event × P) Fault)) (later : List (Option (Item P)))
+      → l.bytes ≡ []
       → IsNoText answer
       → merge_answers through (text_item t ∷ text_item l ∷ []) (option_map placed_view answer ∷ later)
-      ≡ map (λ i. Some i) (unless_empty t.bytes (through t.place l.place)) ++ merge_answers through (answer_items answer) later
-  gives-run t l None later e h = ap (λ items. map (λ i. Some i) items ++ merge_answers through [] later) (merged-run_last through t l e)
+      ≡ map (λ i. Some i) (unless_empty t.bytes (through t.place l.place)) ++ merge_answers through
+      (answer_items answer) later
+  gives-run t l None later e h = ap (λ items. map (λ i. Some i) items ++ merge_answers through [] later)
+      (merged-run_last through t l e)
   gives-run t l (Some y) later e h = answers-prefix through (text_item t) (text_item l ∷ [])
       (unless_empty t.bytes (through t.place l.place)) (placed_view y) [] later
       (λ rest. merged-run_end through t l (placed_view y) rest e h)

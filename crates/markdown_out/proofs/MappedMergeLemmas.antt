@@ -44,7 +44,8 @@ module _ {S A : Type 0} (steps : S → Option A → S → Type 0) where
             (
               after.0,
               record {
-                at = λ xs v q x w y folds next. absurd (no-item (map_source m) ends read.0 (map_source t) (map_source u) v w xs x read.1
+                at = λ xs v q x w y folds next. absurd
+                    (no-item (map_source m) ends read.0 (map_source t) (map_source u) v w xs x read.1
                     step.0 y next);
               },
             ),

@@ -1,9 +1,12 @@
 -- The laws of the merge: runs are maximal, so that no two merged Texts are neighbours.
-use Rattle.std.proofs.Common.{◌≡◌, ◌⊎◌, ℕ, List, [], ◌∷◌, ◌++◌, Ok, Err, Some, None, refl, sym, ap, subst, ◌∙◌, inl, inr}
+use Rattle.std.proofs.Common.{◌≡◌, ◌⊎◌, ℕ, List, [], ◌∷◌, ◌++◌, Ok, Err, Some, None, refl, sym, ap, subst, ◌∙◌, inl}
+use Rattle.std.proofs.Common.{inr}
 use Rattle.std.specs.List.{flat_map}
-use Rattle.markdown_base.specs.Event.{text, start, end, code, inline_math, display_math, html, inline_html, footnote_reference, soft_break}
+use Rattle.markdown_base.specs.Event.{text, start, end, code, inline_math, display_math, html, inline_html}
+use Rattle.markdown_base.specs.Event.{footnote_reference, soft_break}
 use Rattle.markdown_base.specs.Event.{hard_break, rule, task_list_marker}
-use Rattle.markdown_out.specs.Merge.{Item, PlacedText, text_item, text_of_item, Run, alone, texts, before_runs, runs, last_text}
+use Rattle.markdown_out.specs.Merge.{Item, PlacedText, text_item, text_of_item, Run, alone, texts, before_runs, runs}
+use Rattle.markdown_out.specs.Merge.{last_text}
 use Rattle.markdown_out.specs.Merge.{unless_empty, run_items, merged}
 use Rattle.markdown_out.specs.OutLaws.{AreApart, HasNoNeighbours}
 use Rattle.markdown_out.proofs.MergeLemmas.{merged-alone, merged-one, merged-lone_text}
@@ -38,20 +41,23 @@ AreMaximal (texts t us ∷ texts v vs ∷ rs) = ⊥
 AreMaximal (texts t us ∷ alone x ∷ rs) = AreMaximal (alone x ∷ rs)
 
 -- a longer run of Texts is maximal too
-maximal-longer : {P : Type 0} (t u : PlacedText P) (us : List (PlacedText P)) (rs : List (Run P)) → AreMaximal (texts u us ∷ rs)
+maximal-longer : {P : Type 0} (t u : PlacedText P) (us : List (PlacedText P)) (rs : List (Run P))
+    → AreMaximal (texts u us ∷ rs)
     → AreMaximal (texts t (u ∷ us) ∷ rs)
 maximal-longer t u us [] m = m
 maximal-longer t u us (alone x ∷ rs) m = m
 maximal-longer t u us (texts v vs ∷ rs) m = m
 
-maximal-text : {P : Type 0} (t : PlacedText P) (rs : List (Run P)) → AreMaximal rs → AreMaximal (before_runs (text_item t) (Some t) rs)
+maximal-text : {P : Type 0} (t : PlacedText P) (rs : List (Run P)) → AreMaximal rs
+    → AreMaximal (before_runs (text_item t) (Some t) rs)
 maximal-text t [] m = m
 maximal-text t (alone x ∷ rs) m = m
 maximal-text t (texts u us ∷ rs) m = maximal-longer t u us rs m
 
 maximal-more : {P : Type 0} (x : Item P) (rs : List (Run P)) → IsText x ⊎ (text_of_item x ≡ None) → AreMaximal rs
     → AreMaximal (before_runs x (text_of_item x) rs)
-maximal-more x rs (inl is) m = subst (λ y. AreMaximal (before_runs y (text_of_item y) rs)) (sym is.is) (maximal-text is.t rs m)
+maximal-more x rs (inl is) m = subst (λ y. AreMaximal (before_runs y (text_of_item y) rs)) (sym is.is)
+    (maximal-text is.t rs m)
 maximal-more x rs (inr none) m = subst (λ o. AreMaximal (before_runs x o rs)) (sym none) (none, m)
 
 -- the runs of a list are maximal
@@ -61,7 +67,8 @@ runs-maximal (x ∷ xs) = maximal-more x (runs xs) (text_or_none x) (runs-maxima
 
 module _ {P : Type 0} (through : P → P → P) where
   -- an item that is no Text before others
-  before-no_text : (x : Item P) (ys : List (Item P)) → text_of_item x ≡ None → HasNoNeighbours ys → HasNoNeighbours (x ∷ ys)
+  before-no_text : (x : Item P) (ys : List (Item P)) → text_of_item x ≡ None → HasNoNeighbours ys
+      → HasNoNeighbours (x ∷ ys)
   before-no_text x [] h n = tt
   before-no_text x (y ∷ ys) h n = (inl h, n)
 
@@ -79,10 +86,12 @@ module _ {P : Type 0} (through : P → P → P) where
   items-apart [] m = tt
   items-apart (alone x ∷ rs) m = before-no_text x (flat_map (run_items through) rs) m.0 (items-apart rs m.1)
   items-apart (texts t [] ∷ []) m = tt
-  items-apart (texts t (u ∷ us) ∷ []) m = run-last (flat_map (λ x. x.bytes) (t ∷ u ∷ us)) (through t.place (last_text u us).place)
+  items-apart (texts t (u ∷ us) ∷ []) m = run-last (flat_map (λ x. x.bytes) (t ∷ u ∷ us))
+      (through t.place (last_text u us).place)
   items-apart (texts t [] ∷ alone x ∷ rs) m = (inr m.0, items-apart (alone x ∷ rs) m)
   items-apart (texts t (u ∷ us) ∷ alone x ∷ rs) m =
-      run-before (flat_map (λ x. x.bytes) (t ∷ u ∷ us)) (through t.place (last_text u us).place) x (flat_map (run_items through) rs) m.0
+      run-before (flat_map (λ x. x.bytes) (t ∷ u ∷ us)) (through t.place (last_text u us).place) x
+      (flat_map (run_items through) rs) m.0
       (items-apart (alone x ∷ rs) m)
   items-apart (texts t us ∷ texts v vs ∷ rs) m = absurd m
 
@@ -96,7 +105,8 @@ module _ {P : Type 0} (through : P → P → P) where
   merged-of_apart (x ∷ []) n = merged-one through x
   merged-of_apart (x ∷ y ∷ ys) n = by_kind (text_or_none x) n.0 ∙ ap (λ zs. x ∷ zs) (merged-of_apart (y ∷ ys) n.1)
     where
-      by_kind : IsText x ⊎ (text_of_item x ≡ None) → AreApart x y → merged through (x ∷ y ∷ ys) ≡ x ∷ merged through (y ∷ ys)
+      by_kind : IsText x ⊎ (text_of_item x ≡ None) → AreApart x y → merged through (x ∷ y ∷ ys)
+          ≡ x ∷ merged through (y ∷ ys)
       by_kind (inr none) a = merged-alone through x (y ∷ ys) none
       by_kind (inl is) (inl none) = merged-alone through x (y ∷ ys) none
       by_kind (inl is) (inr none) = subst (λ z. merged through (z ∷ y ∷ ys) ≡ z ∷ merged through (y ∷ ys)) (sym is.is)

@@ -1,19 +1,24 @@
 -- Laws of the merge: what an item or a run at the front gives.
-use Rattle.std.proofs.Common.{◌≡◌, ℕ, List, [], ◌∷◌, ◌++◌, map, Ok, Err, Option, Some, None, refl, sym, ap, ◌∙◌, append_assoc, append-nil}
+use Rattle.std.proofs.Common.{◌≡◌, ℕ, List, [], ◌∷◌, ◌++◌, map, Ok, Err, Option, Some, None, refl, sym, ap, ◌∙◌}
+use Rattle.std.proofs.Common.{append_assoc, append-nil}
 use Rattle.std.specs.List.{flat_map}
 use Rattle.std.proofs.lemmas.List.{map-append}
-use Rattle.markdown_base.specs.Event.{text, start, end, code, inline_math, display_math, html, inline_html, footnote_reference, soft_break}
+use Rattle.markdown_base.specs.Event.{text, start, end, code, inline_math, display_math, html, inline_html}
+use Rattle.markdown_base.specs.Event.{footnote_reference, soft_break}
 use Rattle.markdown_base.specs.Event.{hard_break, rule, task_list_marker}
-use Rattle.markdown_out.specs.Merge.{Item, PlacedText, text_item, text_of_item, Run, alone, texts, before_runs, runs, last_text}
+use Rattle.markdown_out.specs.Merge.{Item, PlacedText, text_item, text_of_item, Run, alone, texts, before_runs, runs}
+use Rattle.markdown_out.specs.Merge.{last_text}
 use Rattle.markdown_out.specs.Merge.{unless_empty, run_items, merged, merge_answers}
 
 -- the runs of a list that begins with no Text
-pub runs-alone : {P : Type 0} (x : Item P) (xs : List (Item P)) → text_of_item x ≡ None → runs (x ∷ xs) ≡ alone x ∷ runs xs
+pub runs-alone : {P : Type 0} (x : Item P) (xs : List (Item P)) → text_of_item x ≡ None → runs (x ∷ xs)
+    ≡ alone x ∷ runs xs
 runs-alone x xs h = ap (λ t. before_runs x t (runs xs)) h
 
 module _ {P : Type 0} (through : P → P → P) where
   -- an item that is no Text stays, and what follows is merged by itself
-  pub merged-alone : (x : Item P) (xs : List (Item P)) → text_of_item x ≡ None → merged through (x ∷ xs) ≡ x ∷ merged through xs
+  pub merged-alone : (x : Item P) (xs : List (Item P)) → text_of_item x ≡ None → merged through (x ∷ xs)
+      ≡ x ∷ merged through xs
   merged-alone x xs h = ap (flat_map (run_items through)) (runs-alone x xs h)
 
   -- one item stays as it is
@@ -54,11 +59,14 @@ module _ {P : Type 0} (through : P → P → P) where
       none = record { bytes = []; place = u.place }
 
       with_two : List (Run P) → PlacedText P → PlacedText P → List (Item P)
-      with_two rs a b = flat_map (run_items through) (before_runs (text_item a) (Some a) (before_runs (text_item b) (Some b) rs))
+      with_two rs a b = flat_map (run_items through)
+          (before_runs (text_item a) (Some a) (before_runs (text_item b) (Some b) rs))
 
       by_runs : (rs : List (Run P)) → with_two rs t u ≡ with_two rs both none
-      by_runs [] = ap (λ bytes. unless_empty bytes (through t.place u.place) ++ []) (sym (append_assoc t.bytes u.bytes []))
-      by_runs (alone x ∷ rs) = ap (λ bytes. unless_empty bytes (through t.place u.place) ++ flat_map (run_items through) (alone x ∷ rs))
+      by_runs [] = ap (λ bytes. unless_empty bytes (through t.place u.place) ++ [])
+          (sym (append_assoc t.bytes u.bytes []))
+      by_runs (alone x ∷ rs) = ap (λ bytes. unless_empty bytes (through t.place u.place) ++ flat_map (run_items through)
+          (alone x ∷ rs))
           (sym (append_assoc t.bytes u.bytes []))
       by_runs (texts v vs ∷ rs) =
           ap (λ bytes. unless_empty bytes (through t.place (last_text v vs).place) ++ flat_map (run_items through) rs)
@@ -83,9 +91,11 @@ module _ {P : Type 0} (through : P → P → P) where
       by_runs : (rs : List (Run P))
           → flat_map (run_items through) (before_runs (text_item t) (Some t)
           (before_runs (text_item l) (Some l) (before_runs (text_item u) (Some u) rs)))
-          ≡ flat_map (run_items through) (before_runs (text_item both) (Some both) (before_runs (text_item none) (Some none) rs))
+          ≡ flat_map (run_items through)
+          (before_runs (text_item both) (Some both) (before_runs (text_item none) (Some none) rs))
       by_runs [] = ap (λ bytes. unless_empty bytes (through t.place u.place) ++ []) (joined [])
-      by_runs (alone x ∷ rs) = ap (λ bytes. unless_empty bytes (through t.place u.place) ++ flat_map (run_items through) (alone x ∷ rs))
+      by_runs (alone x ∷ rs) = ap (λ bytes. unless_empty bytes (through t.place u.place) ++ flat_map (run_items through)
+          (alone x ∷ rs))
           (joined [])
       by_runs (texts v vs ∷ rs) =
           ap (λ bytes. unless_empty bytes (through t.place (last_text v vs).place) ++ flat_map (run_items through) rs)
@@ -93,25 +103,31 @@ module _ {P : Type 0} (through : P → P → P) where
 
   -- two Texts, the last of them empty, where no Text follows
   pub merged-run_end : (t l : PlacedText P) (y : Item P) (ys : List (Item P)) → l.bytes ≡ [] → text_of_item y ≡ None
-      → merged through (text_item t ∷ text_item l ∷ y ∷ ys) ≡ unless_empty t.bytes (through t.place l.place) ++ merged through (y ∷ ys)
+      → merged through (text_item t ∷ text_item l ∷ y ∷ ys) ≡ unless_empty t.bytes (through t.place l.place) ++ merged
+      through (y ∷ ys)
   merged-run_end t l y ys e h =
-      ap (λ rs. flat_map (run_items through) (before_runs (text_item t) (Some t) (before_runs (text_item l) (Some l) rs)))
+      ap (λ rs. flat_map (run_items through)
+      (before_runs (text_item t) (Some t) (before_runs (text_item l) (Some l) rs)))
       (runs-alone y ys h)
       ∙ (ap (λ bytes. unless_empty bytes (through t.place l.place) ++ flat_map (run_items through) (alone y ∷ runs ys))
       (ap (λ bytes. t.bytes ++ (bytes ++ [])) e ∙ append-nil t.bytes)
-      ∙ ap (λ rs. unless_empty t.bytes (through t.place l.place) ++ flat_map (run_items through) rs) (sym (runs-alone y ys h)))
+      ∙ ap (λ rs. unless_empty t.bytes (through t.place l.place) ++ flat_map (run_items through) rs)
+      (sym (runs-alone y ys h)))
 
   -- the same where nothing follows
   pub merged-run_last : (t l : PlacedText P) → l.bytes ≡ [] → merged through (text_item t ∷ text_item l ∷ [])
       ≡ unless_empty t.bytes (through t.place l.place)
   merged-run_last t l e =
-      ap (λ bytes. unless_empty bytes (through t.place l.place) ++ []) (ap (λ bytes. t.bytes ++ (bytes ++ [])) e ∙ append-nil t.bytes)
+      ap (λ bytes. unless_empty bytes (through t.place l.place) ++ []) (ap (λ bytes. t.bytes ++ (bytes ++ [])) e
+      ∙ append-nil t.bytes)
       ∙ append-nil (unless_empty t.bytes (through t.place l.place))
 
   -- items at the front whose merge does not depend on what comes after the next item
-  pub answers-prefix : (x : Item P) (xs prefix : List (Item P)) (y : Item P) (ys : List (Item P)) (later : List (Option (Item P)))
+  pub answers-prefix : (x : Item P) (xs prefix : List (Item P)) (y : Item P) (ys : List (Item P))
+      (later : List (Option (Item P)))
       → ((rest : List (Item P)) → merged through (x ∷ xs ++ y ∷ rest) ≡ prefix ++ merged through (y ∷ rest))
-      → merge_answers through (x ∷ xs ++ y ∷ ys) later ≡ map (λ i. Some i) prefix ++ merge_answers through (y ∷ ys) later
+      → merge_answers through (x ∷ xs ++ y ∷ ys) later ≡ map (λ i. Some i) prefix ++ merge_answers through (y ∷ ys)
+      later
   answers-prefix x xs prefix y ys [] h =
       ap (map (λ i. Some i)) (h ys) ∙ map-append (λ i. Some i) prefix (merged through (y ∷ ys))
   answers-prefix x xs prefix y ys (Some z ∷ later) h =
@@ -119,11 +135,14 @@ module _ {P : Type 0} (through : P → P → P) where
       ∙ answers-prefix x xs prefix y (ys ++ z ∷ []) later h
   answers-prefix x xs prefix y ys (None ∷ later) h =
       ap (λ items. map (λ i. Some i) items ++ merge_answers through [] later) (h ys)
-      ∙ (ap (λ items. items ++ merge_answers through [] later) (map-append (λ i. Some i) prefix (merged through (y ∷ ys)))
-      ∙ append_assoc (map (λ i. Some i) prefix) (map (λ i. Some i) (merged through (y ∷ ys))) (merge_answers through [] later))
+      ∙ (ap (λ items. items ++ merge_answers through [] later)
+      (map-append (λ i. Some i) prefix (merged through (y ∷ ys)))
+      ∙ append_assoc (map (λ i. Some i) prefix) (map (λ i. Some i) (merged through (y ∷ ys)))
+      (merge_answers through [] later))
 
   -- items at the front that are merged alike, whatever comes after them
-  pub answers-alike : (x : Item P) (xs : List (Item P)) (y : Item P) (ys rest : List (Item P)) (later : List (Option (Item P)))
+  pub answers-alike : (x : Item P) (xs : List (Item P)) (y : Item P) (ys rest : List (Item P))
+      (later : List (Option (Item P)))
       → ((more : List (Item P)) → merged through (x ∷ xs ++ more) ≡ merged through (y ∷ ys ++ more))
       → merge_answers through (x ∷ xs ++ rest) later ≡ merge_answers through (y ∷ ys ++ rest) later
   answers-alike x xs y ys rest [] h = ap (map (λ i. Some i)) (h rest)

@@ -1,5 +1,6 @@
 -- Calls of an iterator one after another, and what a merge makes of their answers.
-use Rattle.std.proofs.Common.{◌≡◌, ◌+◌, ◌≤◌, List, [], ◌∷◌, ◌++◌, map, Result, Option, Some, None, refl, sym, ap, subst, ◌∙◌, append_assoc}
+use Rattle.std.proofs.Common.{◌≡◌, ◌+◌, ◌≤◌, List, [], ◌∷◌, ◌++◌, map, Result, Option, Some, None, refl, sym, ap, subst}
+use Rattle.std.proofs.Common.{◌∙◌, append_assoc}
 use Rattle.std.proofs.Common.{arith}
 use Rattle.std.specs.Option.{option_map}
 use Rattle.std.proofs.lemmas.List.{map-append}
@@ -16,17 +17,20 @@ use Rattle.markdown_out.specs.declared.merge.held.Step.{Step}
 
 module _ {S A : Type 0} (steps : S → Option A → S → Type 0) where
   -- calls after calls
-  pub gave-append : (s t u : S) (xs ys : List (Option A)) → Gave steps s xs t → Gave steps t ys u → Gave steps s (xs ++ ys) u
+  pub gave-append : (s t u : S) (xs ys : List (Option A)) → Gave steps s xs t → Gave steps t ys u
+      → Gave steps s (xs ++ ys) u
   gave-append s t u [] ys a b = subst (λ k. Gave steps k ys u) (sym a) b
   gave-append s t u (x ∷ xs) ys a b = (a.0, a.1, gave-append a.0 t u xs ys a.2 b)
 
   -- one more call
-  pub gave-more : (s t u : S) (xs : List (Option A)) (r : Option A) → Gave steps s xs t → steps t r u → Gave steps s (xs ++ r ∷ []) u
+  pub gave-more : (s t u : S) (xs : List (Option A)) (r : Option A) → Gave steps s xs t → steps t r u
+      → Gave steps s (xs ++ r ∷ []) u
   gave-more s t u xs r a p = gave-append s t u xs (r ∷ []) a (u, p, refl)
 
   module _ {can : S → Type 0} {rest : S → Count} where
     -- after a call an iterator can be merged still
-    pub can_merge-after : {s t : S} (r : Option A) → CanMerge steps can rest s → steps s r t → MakesProgress can rest s r t
+    pub can_merge-after : {s t : S} (r : Option A) → CanMerge steps can rest s → steps s r t
+        → MakesProgress can rest s r t
         → CanMerge steps can rest t
     can_merge-after {s} {t} None c p m = record {
       callable = (c.goes_on [] s t refl c.callable c.ends p).0;
@@ -46,17 +50,21 @@ module _ {S A : Type 0} (steps : S → Option A → S → Type 0) where
     fewer-after {s} {t} (Some x) c p m = omega (arith, (m.on c.ends).2)
 
 -- more answers, and those to come
-pub viewed-more : {T P : Type 0} (view : T → Item P) (xs : List (Option T)) (r : Option T) (later : List (Option (Item P)))
+pub viewed-more : {T P : Type 0} (view : T → Item P) (xs : List (Option T)) (r : Option T)
+    (later : List (Option (Item P)))
     → map (option_map view) (xs ++ r ∷ []) ++ later ≡ map (option_map view) xs ++ (option_map view r ∷ later)
-viewed-more view xs r later = ap (λ x. x ++ later) (map-append (option_map view) xs (r ∷ [])) ∙ append_assoc (map (option_map view) xs)
+viewed-more view xs r later = ap (λ x. x ++ later) (map-append (option_map view) xs (r ∷ []))
+    ∙ append_assoc (map (option_map view) xs)
     (option_map view r ∷ []) later
 
 module _ {S T P : Type 0} (through : P → P → P) (view : T → Item P) (steps : S → Option T → S → Type 0) where
   -- an answer is taken in
   pub merged-more : {items : List (Item P)} {s t u : S} (now : Held P) (step : Step P) (after : Held P) (r : Option T)
       (answer : Option (Result (Event × P) Fault))
-      → IsMerged through view steps items s [] (held_items now) t → steps t r u → option_map placed_view answer ≡ option_map view r
-      → TakesIn through (held_items now) answer step after → IsMerged through view steps items s (given_answers step) (held_items after) u
+      → IsMerged through view steps items s [] (held_items now) t → steps t r u → option_map placed_view answer
+      ≡ option_map view r
+      → TakesIn through (held_items now) answer step after → IsMerged through view steps items s (given_answers step)
+      (held_items after) u
   merged-more {items} {s} {t} {u} now step after r answer m p e takes = record {
     answers = m.answers ++ r ∷ [];
     read = gave-more steps s t u m.answers r m.read p;

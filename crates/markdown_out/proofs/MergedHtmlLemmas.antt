@@ -1,17 +1,22 @@
 -- Merging changes no byte of the HTML: the HTML of a list of events read forwards, and that of runs.
-use Rattle.std.proofs.Common.{◌≡◌, ◌<◌, ℕ, Bool, true, false, List, [], ◌∷◌, ◌++◌, map, Ok, Err, Option, Some, None, length, reverse, refl}
+use Rattle.std.proofs.Common.{◌≡◌, ◌<◌, ℕ, Bool, true, false, List, [], ◌∷◌, ◌++◌, map, Ok, Err, Option, Some, None}
+use Rattle.std.proofs.Common.{length, reverse, refl}
 use Rattle.std.proofs.Common.{sym, ap, subst, ◌∙◌, append_assoc, append-nil, arith}
 use mathlib.Core.List.{reverse_aux}
 use Rattle.std.specs.List.{flat_map, AllByRecursion}
 use Rattle.std.proofs.lemmas.List.Concat.{flat_map-append}
-use Rattle.markdown_base.specs.Event.{EventView, text, start, end, code, inline_math, display_math, html, inline_html, footnote_reference}
+use Rattle.markdown_base.specs.Event.{EventView, text, start, end, code, inline_math, display_math, html, inline_html}
+use Rattle.markdown_base.specs.Event.{footnote_reference}
 use Rattle.markdown_base.specs.Event.{soft_break, hard_break, rule, task_list_marker}
 use Rattle.markdown_out.specs.ByteLists.{fresh_after_bytes}
 use Rattle.markdown_out.specs.Escapes.{text_escaped, text_byte, attribute_escaped, attribute_byte}
-use Rattle.markdown_out.specs.LookBacks.{Past, OpenImageView, unless_inside, metadata_after, head_after, cell_column_after}
+use Rattle.markdown_out.specs.LookBacks.{Past, OpenImageView, unless_inside, metadata_after, head_after}
+use Rattle.markdown_out.specs.LookBacks.{cell_column_after}
 use Rattle.markdown_out.specs.LookBacks.{alignments_after, names_after, image_after, image_before}
-use Rattle.markdown_out.specs.EventHtml.{event_bytes, bytes_by_image, fresh_after, past_of, bytes_before, closing, html_of}
-use Rattle.markdown_out.specs.Merge.{PlacedText, text_item, Run, alone, texts, before_runs, runs, last_text, unless_empty, run_items}
+use Rattle.markdown_out.specs.EventHtml.{event_bytes, bytes_by_image, fresh_after, past_of, bytes_before, closing}
+use Rattle.markdown_out.specs.EventHtml.{html_of}
+use Rattle.markdown_out.specs.Merge.{PlacedText, text_item, Run, alone, texts, before_runs, runs, last_text}
+use Rattle.markdown_out.specs.Merge.{unless_empty, run_items}
 use Rattle.markdown_out.specs.OutLaws.{event_item, item_events, merged_events, IsNoEmptyText}
 use Rattle.markdown_out.specs.Places.{nowhere}
 use Rattle.markdown_out.proofs.ByteListsLemmas.{fresh_after_bytes-append}
@@ -44,9 +49,11 @@ pub bytes-forwards : (events before : List EventView) → bytes_before (reverse_
 bytes-forwards [] before = sym (append-nil (bytes_before before))
 bytes-forwards (e ∷ events) before =
     bytes-forwards events (e ∷ before)
-    ∙ append_assoc (bytes_before before) (event_bytes (past_of before) e) (bytes_from (past_after (past_of before) e) events)
+    ∙ append_assoc (bytes_before before) (event_bytes (past_of before) e)
+    (bytes_from (past_after (past_of before) e) events)
 
-pub past-forwards : (events before : List EventView) → past_of (reverse_aux events before) ≡ past_through (past_of before) events
+pub past-forwards : (events before : List EventView) → past_of (reverse_aux events before)
+    ≡ past_through (past_of before) events
 past-forwards [] before = refl
 past-forwards (e ∷ events) before = past-forwards events (e ∷ before)
 
@@ -66,12 +73,14 @@ written (Some i) m t = attribute_escaped t
 text-written : (past : Past) (t : List ℕ) → event_bytes past (text t) ≡ written past.open_image past.in_metadata t
 text-written past t = by_image past.open_image past.in_metadata
   where
-    by_image : (o : Option OpenImageView) (m : Bool) → bytes_by_image o (record past { in_metadata = m }) (text t) ≡ written o m t
+    by_image : (o : Option OpenImageView) (m : Bool) → bytes_by_image o (record past { in_metadata = m }) (text t)
+        ≡ written o m t
     by_image None true = refl
     by_image None false = refl
     by_image (Some i) m = refl
 
-written-append : (o : Option OpenImageView) (m : Bool) (t u : List ℕ) → written o m t ++ written o m u ≡ written o m (t ++ u)
+written-append : (o : Option OpenImageView) (m : Bool) (t u : List ℕ) → written o m t ++ written o m u
+    ≡ written o m (t ++ u)
 written-append None true t u = refl
 written-append None false t u = sym (flat_map-append text_byte t u)
 written-append (Some i) m t u = sym (flat_map-append attribute_byte t u)
@@ -92,7 +101,8 @@ fresh-text past (b ∷ bs) h = ap (fresh_after_bytes past.fresh) (text-written p
 
 -- what is told after a Text that is not empty
 told-text : (past : Past) (t : List ℕ) → 0 < length t
-    → past_after past (text t) ≡ record past { fresh = fresh_after_bytes past.fresh (written past.open_image past.in_metadata t) }
+    → past_after past (text t)
+    ≡ record past { fresh = fresh_after_bytes past.fresh (written past.open_image past.in_metadata t) }
 told-text past t h = past-text past t ∙ ap (λ f. record past { fresh = f }) (fresh-text past t h)
 
 -- events that write the same and tell the same
@@ -103,7 +113,8 @@ pub record IsSameHtml (past : Past) (xs ys : List EventView) : Type 0 where
 same-refl : (past : Past) (xs : List EventView) → IsSameHtml past xs xs
 same-refl past xs = record { bytes = refl; told = refl }
 
-same-trans : (past : Past) (xs ys zs : List EventView) → IsSameHtml past xs ys → IsSameHtml past ys zs → IsSameHtml past xs zs
+same-trans : (past : Past) (xs ys zs : List EventView) → IsSameHtml past xs ys → IsSameHtml past ys zs
+    → IsSameHtml past xs zs
 same-trans past xs ys zs a b = record { bytes = a.bytes ∙ b.bytes; told = a.told ∙ b.told }
 
 same-sym : (past : Past) (xs ys : List EventView) → IsSameHtml past xs ys → IsSameHtml past ys xs
@@ -117,8 +128,10 @@ same-cons past e xs ys a = record { bytes = ap (λ b. event_bytes past e ++ b) a
 same-two : (past : Past) (t u : List ℕ) (rest : List EventView) → 0 < length t → 0 < length u → 0 < length (t ++ u)
     → IsSameHtml past (text t ∷ text u ∷ rest) (text (t ++ u) ∷ rest)
 same-two past t u rest h k l = record {
-  bytes = sym (append_assoc (event_bytes past (text t)) (event_bytes mid (text u)) (bytes_from (past_after mid (text u)) rest))
-      ∙ (ap (λ b. b ++ bytes_from (past_after mid (text u)) rest) bytes ∙ ap (λ p. event_bytes past (text (t ++ u)) ++ bytes_from p rest)
+  bytes = sym (append_assoc (event_bytes past (text t)) (event_bytes mid (text u))
+      (bytes_from (past_after mid (text u)) rest))
+      ∙ (ap (λ b. b ++ bytes_from (past_after mid (text u)) rest) bytes
+      ∙ ap (λ p. event_bytes past (text (t ++ u)) ++ bytes_from p rest)
       told);
   told = ap (λ p. past_through p rest) told;
 }
@@ -143,7 +156,8 @@ same-two past t u rest h k l = record {
     told : past_after mid (text u) ≡ past_after past (text (t ++ u))
     told = ap (λ p. past_after p (text u)) (told-text past t h)
         ∙ (told-text (record past { fresh = fresh_after_bytes past.fresh (written o m t) }) u k
-        ∙ (ap (λ f. record past { fresh = f }) (sym (fresh_after_bytes-append past.fresh (written o m t) (written o m u))
+        ∙ (ap (λ f. record past { fresh = f })
+        (sym (fresh_after_bytes-append past.fresh (written o m t) (written o m u))
         ∙ ap (fresh_after_bytes past.fresh) (written-append o m t u))
         ∙ sym (told-text past (t ++ u) l)))
 
@@ -176,7 +190,8 @@ same-texts past t (u ∷ us) rest h a =
     let all = same-texts past (t ++ u.bytes) us rest (longer t u.bytes h) a.1 in
     let whole = subst (λ b. IsSameHtml past (text (t ++ u.bytes) ∷ more) (text b ∷ rest))
     (append_assoc t u.bytes (flat_map (λ x. x.bytes) us)) all in
-    same-trans past (text t ∷ text u.bytes ∷ more) (text (t ++ u.bytes) ∷ more) (text (t ++ (u.bytes ++ flat_map (λ x. x.bytes) us)) ∷ rest)
+    same-trans past (text t ∷ text u.bytes ∷ more) (text (t ++ u.bytes) ∷ more)
+    (text (t ++ (u.bytes ++ flat_map (λ x. x.bytes) us)) ∷ rest)
     both whole
 
 given-text : (bytes : List ℕ) (p : U) → 0 < length bytes → unless_empty bytes p ≡ Ok (text bytes, p) ∷ []
@@ -200,11 +215,14 @@ same-runs (texts t (u ∷ us) ∷ rs) past a =
     let given = flat_map item_events (flat_map (run_items nowhere) rs) in
     let one = same-cons past (text whole) given rest (same-runs rs (past_after past (text whole)) a.1) in
     let all = same-texts past t.bytes (u ∷ us) rest a.0.0 a.0.1 in
-    let item : unless_empty whole (nowhere t.place (last_text u us).place) ≡ Ok (text whole, nowhere t.place (last_text u us).place) ∷ [] =
-    given-text whole (nowhere t.place (last_text u us).place) (longer t.bytes (flat_map (λ x. x.bytes) (u ∷ us)) a.0.0) in
+    let item : unless_empty whole (nowhere t.place (last_text u us).place)
+    ≡ Ok (text whole, nowhere t.place (last_text u us).place) ∷ [] =
+    given-text whole (nowhere t.place (last_text u us).place) (longer t.bytes (flat_map (λ x. x.bytes) (u ∷ us)) a.0.0)
+    in
     subst (λ items. IsSameHtml past (flat_map item_events (items ++ flat_map (run_items nowhere) rs))
     (text t.bytes ∷ (map (λ x. text x.bytes) (u ∷ us) ++ rest))) (sym item)
-    (same-trans past (text whole ∷ given) (text whole ∷ rest) (text t.bytes ∷ (map (λ x. text x.bytes) (u ∷ us) ++ rest)) one
+    (same-trans past (text whole ∷ given) (text whole ∷ rest)
+    (text t.bytes ∷ (map (λ x. text x.bytes) (u ∷ us) ++ rest)) one
     (same-sym past (text t.bytes ∷ (map (λ x. text x.bytes) (u ∷ us) ++ rest)) (text whole ∷ rest) all))
 
 -- a Text before runs
@@ -238,10 +256,12 @@ runs_of_events (hard_break ∷ es) = ap (λ xs. hard_break ∷ xs) (runs_of_even
 runs_of_events (rule ∷ es) = ap (λ xs. rule ∷ xs) (runs_of_events es)
 runs_of_events (task_list_marker b ∷ es) = ap (λ xs. task_list_marker b ∷ xs) (runs_of_events es)
 
-pub full_runs : (events : List EventView) → AllByRecursion IsNoEmptyText events → AllByRecursion IsFullRun (runs (map event_item events))
+pub full_runs : (events : List EventView) → AllByRecursion IsNoEmptyText events
+    → AllByRecursion IsFullRun (runs (map event_item events))
 full_runs [] a = tt
 full_runs (text [] ∷ es) a = absurd a.0
-full_runs (text (b ∷ bs) ∷ es) a = full-text (record { bytes = b ∷ bs; place = tt }) (runs (map event_item es)) (omega arith)
+full_runs (text (b ∷ bs) ∷ es) a = full-text (record { bytes = b ∷ bs; place = tt }) (runs (map event_item es))
+    (omega arith)
     (full_runs es a.1)
 full_runs (start o ∷ es) a = (tt, full_runs es a.1)
 full_runs (end c ∷ es) a = (tt, full_runs es a.1)
@@ -257,7 +277,8 @@ full_runs (rule ∷ es) a = (tt, full_runs es a.1)
 full_runs (task_list_marker b ∷ es) a = (tt, full_runs es a.1)
 
 -- merging keeps the HTML where no Text is empty
-pub merged_html : (events : List EventView) → AllByRecursion IsNoEmptyText events → html_of (merged_events events) ≡ html_of events
+pub merged_html : (events : List EventView) → AllByRecursion IsNoEmptyText events → html_of (merged_events events)
+    ≡ html_of events
 merged_html events a =
     let rs = runs (map event_item events) in
     let same = subst (λ es. IsSameHtml (past_of []) (merged_events events) es) (runs_of_events events)

@@ -7,10 +7,12 @@ use Rattle.std.proofs.lemmas.List.{map-append}
 use Rattle.markdown_base.specs.Event.{EventView, event_view, text}
 use Rattle.markdown_base.specs.declared.event.Event.{Event}
 use Rattle.markdown_out.specs.HtmlCorrect.{items}
-use Rattle.markdown_out.specs.Merge.{Item, PlacedText, text_item, text_of_item, Run, alone, texts, before_runs, runs, last_text}
+use Rattle.markdown_out.specs.Merge.{Item, PlacedText, text_item, text_of_item, Run, alone, texts, before_runs, runs}
+use Rattle.markdown_out.specs.Merge.{last_text}
 use Rattle.markdown_out.specs.Merge.{unless_empty, run_items, merged}
 use Rattle.markdown_out.specs.MergeNext.{item_view}
-use Rattle.markdown_out.specs.OutLaws.{RangedEvent, event_item, item_events, item_ranged, merged_events, merged_ranged, ranged_item}
+use Rattle.markdown_out.specs.OutLaws.{RangedEvent, event_item, item_events, item_ranged, merged_events, merged_ranged}
+use Rattle.markdown_out.specs.OutLaws.{ranged_item}
 use Rattle.markdown_out.specs.Places.{nowhere, with_range, through_ranges}
 use Rattle.markdown_out.proofs.MergeLawsLemmas.{IsText, text_or_none}
 
@@ -34,7 +36,8 @@ module _ {P : Type 0} (through : P → P → P) where
   bare_runs rs = map unplaced_run rs
 
   -- a list is cut into the same runs
-  text-runs : (t : PlacedText P) (rs : List (Run P)) → before_runs (text_item (unplaced_text t)) (Some (unplaced_text t)) (bare_runs rs)
+  text-runs : (t : PlacedText P) (rs : List (Run P)) → before_runs (text_item (unplaced_text t))
+      (Some (unplaced_text t)) (bare_runs rs)
       ≡ bare_runs (before_runs (text_item t) (Some t) rs)
   text-runs t [] = refl
   text-runs t (alone x ∷ rs) = refl
@@ -49,16 +52,20 @@ module _ {P : Type 0} (through : P → P → P) where
   no_text (Err fault) none = refl
 
   more-runs : (x : Item P) (rs : List (Run P)) → IsText x ⊎ (text_of_item x ≡ None)
-      → before_runs (unplaced x) (text_of_item (unplaced x)) (bare_runs rs) ≡ bare_runs (before_runs x (text_of_item x) rs)
+      → before_runs (unplaced x) (text_of_item (unplaced x)) (bare_runs rs)
+      ≡ bare_runs (before_runs x (text_of_item x) rs)
   more-runs x rs (inl is) =
-      subst (λ y. before_runs (unplaced y) (text_of_item (unplaced y)) (bare_runs rs) ≡ bare_runs (before_runs y (text_of_item y) rs))
+      subst (λ y. before_runs (unplaced y) (text_of_item (unplaced y)) (bare_runs rs)
+      ≡ bare_runs (before_runs y (text_of_item y) rs))
       (sym is.is) (text-runs is.t rs)
   more-runs x rs (inr none) =
-      ap (λ o. before_runs (unplaced x) o (bare_runs rs)) (no_text x none) ∙ ap (λ o. bare_runs (before_runs x o rs)) (sym none)
+      ap (λ o. before_runs (unplaced x) o (bare_runs rs)) (no_text x none) ∙ ap (λ o. bare_runs (before_runs x o rs))
+      (sym none)
 
   same-runs : (xs : List (Item P)) → runs (bare_items xs) ≡ bare_runs (runs xs)
   same-runs [] = refl
-  same-runs (x ∷ xs) = ap (before_runs (unplaced x) (text_of_item (unplaced x))) (same-runs xs) ∙ more-runs x (runs xs) (text_or_none x)
+  same-runs (x ∷ xs) = ap (before_runs (unplaced x) (text_of_item (unplaced x))) (same-runs xs)
+      ∙ more-runs x (runs xs) (text_or_none x)
 
   -- and each gives the same
   same-bytes : (us : List (PlacedText P)) → flat_map (λ x. x.bytes) (map unplaced_text us) ≡ flat_map (λ x. x.bytes) us
@@ -76,7 +83,8 @@ module _ {P : Type 0} (through : P → P → P) where
       ap (λ bytes. unless_empty bytes tt) (same-bytes (t ∷ u ∷ us))
       ∙ unless-bare (flat_map (λ x. x.bytes) (t ∷ u ∷ us)) (through t.place (last_text u us).place)
 
-  all-items : (rs : List (Run P)) → flat_map (run_items nowhere) (bare_runs rs) ≡ bare_items (flat_map (run_items through) rs)
+  all-items : (rs : List (Run P)) → flat_map (run_items nowhere) (bare_runs rs)
+      ≡ bare_items (flat_map (run_items through) rs)
   all-items [] = refl
   all-items (r ∷ rs) =
       ap (λ xs. xs ++ flat_map (run_items nowhere) (bare_runs rs)) (same-items r)
@@ -88,12 +96,14 @@ module _ {P : Type 0} (through : P → P → P) where
   merged-bare xs = ap (flat_map (run_items nowhere)) (same-runs xs) ∙ all-items (runs xs)
 
 -- the events of items, without their ranges
-bare-events : (xs : List (Item (Range ℕ))) → flat_map item_events (map unplaced xs) ≡ map (λ (e : RangedEvent). e.0) (flat_map item_ranged xs)
+bare-events : (xs : List (Item (Range ℕ))) → flat_map item_events (map unplaced xs)
+    ≡ map (λ (e : RangedEvent). e.0) (flat_map item_ranged xs)
 bare-events [] = refl
 bare-events (Ok placed ∷ xs) = ap (λ es. placed.0 ∷ es) (bare-events xs)
 bare-events (Err fault ∷ xs) = bare-events xs
 
-bare-views : (es : List RangedEvent) → map event_item (map (λ (e : RangedEvent). e.0) es) ≡ map unplaced (map ranged_item es)
+bare-views : (es : List RangedEvent) → map event_item (map (λ (e : RangedEvent). e.0) es)
+    ≡ map unplaced (map ranged_item es)
 bare-views [] = refl
 bare-views (e ∷ es) = ap (λ xs. event_item e.0 ∷ xs) (bare-views es)
 
@@ -109,7 +119,8 @@ merged_ranged-events es =
 abbrev pub ranged_view : Event × Range ℕ → RangedEvent
 ranged_view e = (event_view e.0, e.1)
 
-pub views-ranged : (es : List (Event × Range ℕ)) → map (item_view with_range) (items es) ≡ map ranged_item (map ranged_view es)
+pub views-ranged : (es : List (Event × Range ℕ)) → map (item_view with_range) (items es)
+    ≡ map ranged_item (map ranged_view es)
 views-ranged [] = refl
 views-ranged (e ∷ es) = ap (λ xs. ranged_item (ranged_view e) ∷ xs) (views-ranged es)
 

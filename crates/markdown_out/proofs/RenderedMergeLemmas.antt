@@ -1,5 +1,6 @@
 -- What `push_html` makes of a merge: the HTML of the merge of the events.
-use Rattle.std.proofs.Common.{◌≡◌, ◌⊎◌, ℕ, true, false, List, [], ◌∷◌, ◌++◌, map, Ok, Err, Result, Option, Some, None, refl, sym, ap, subst}
+use Rattle.std.proofs.Common.{◌≡◌, ◌⊎◌, ℕ, true, false, List, [], ◌∷◌, ◌++◌, map, Ok, Err, Result, Option, Some, None}
+use Rattle.std.proofs.Common.{refl, sym, ap, subst}
 use Rattle.std.proofs.Common.{◌∙◌, append_assoc, append-nil, inl, inr}
 use Rattle.std.specs.Bool.{MatchBool}
 use Rattle.std.specs.List.{flat_map}
@@ -12,7 +13,8 @@ use Rattle.markdown_base.specs.declared.fault.Fault.{Fault}
 use Rattle.markdown_base.specs.declared.fault.Fault.TheVariants.{Memory}
 use Rattle.markdown_out.specs.EventHtml.{html_of, open_html}
 use Rattle.markdown_out.specs.HtmlCorrect.{items, GoesTooDeep, IsRendered, StopsAtError}
-use Rattle.markdown_out.specs.Merge.{Item, PlacedText, text_item, text_of_item, Run, alone, texts, before_runs, runs, last_text}
+use Rattle.markdown_out.specs.Merge.{Item, PlacedText, text_item, text_of_item, Run, alone, texts, before_runs, runs}
+use Rattle.markdown_out.specs.Merge.{last_text}
 use Rattle.markdown_out.specs.Merge.{unless_empty, run_items, merged}
 use Rattle.markdown_out.specs.MergeNext.{MergeState, PassesOn, item_view}
 use Rattle.markdown_out.specs.Places.{bare, nowhere}
@@ -50,7 +52,8 @@ source-text t (texts u us ∷ rs) = refl
 
 source-more : (x : Item U) (rs : List (Run U)) → IsText x ⊎ (text_of_item x ≡ None)
     → flat_map run_source (before_runs x (text_of_item x) rs) ≡ x ∷ flat_map run_source rs
-source-more x rs (inl is) = subst (λ y. flat_map run_source (before_runs y (text_of_item y) rs) ≡ y ∷ flat_map run_source rs) (sym is.is)
+source-more x rs (inl is) = subst (λ y. flat_map run_source (before_runs y (text_of_item y) rs)
+    ≡ y ∷ flat_map run_source rs) (sym is.is)
     (source-text is.t rs)
 source-more x rs (inr none) = ap (λ o. flat_map run_source (before_runs x o rs)) none
 
@@ -110,7 +113,8 @@ events-items (e ∷ es) = ap (λ ys. e ∷ ys) (events-items es)
 
 -- ---- the first error
 
-no_error-unless : (bytes : List ℕ) (p : U) (xs : List (Item U)) → HasNoError xs → HasNoError (unless_empty bytes p ++ xs)
+no_error-unless : (bytes : List ℕ) (p : U) (xs : List (Item U)) → HasNoError xs
+    → HasNoError (unless_empty bytes p ++ xs)
 no_error-unless [] p xs h = h
 no_error-unless (b ∷ bytes) p xs h = h
 
@@ -118,13 +122,15 @@ no_error-behind : (us : List (PlacedText U)) (xs : List (Item U)) → HasNoError
 no_error-behind [] xs h = h
 no_error-behind (u ∷ us) xs h = no_error-behind us xs h
 
-no_error-given : (rs : List (Run U)) → HasNoError (flat_map run_source rs) → HasNoError (flat_map (run_items nowhere) rs)
+no_error-given : (rs : List (Run U)) → HasNoError (flat_map run_source rs)
+    → HasNoError (flat_map (run_items nowhere) rs)
 no_error-given [] h = tt
 no_error-given (alone (Ok x) ∷ rs) h = no_error-given rs h
 no_error-given (alone (Err fault) ∷ rs) h = absurd h
 no_error-given (texts t [] ∷ rs) h = no_error-given rs h
 no_error-given (texts t (u ∷ us) ∷ rs) h =
-    no_error-unless (flat_map (λ x. x.bytes) (t ∷ u ∷ us)) (nowhere t.place (last_text u us).place) (flat_map (run_items nowhere) rs)
+    no_error-unless (flat_map (λ x. x.bytes) (t ∷ u ∷ us)) (nowhere t.place (last_text u us).place)
+    (flat_map (run_items nowhere) rs)
     (no_error-given rs (no_error-behind us (flat_map run_source rs) h))
 
 -- a merge of no error has none
@@ -148,7 +154,8 @@ runs-error : (xs : List (Item U)) (fault : Fault) (ys : List (Item U)) → runs 
     ++ alone (Err fault) ∷ runs ys
 runs-error [] fault ys = refl
 runs-error (x ∷ xs) fault ys =
-    ap (before_runs x (text_of_item x)) (runs-error xs fault ys) ∙ runs-before x (text_of_item x) (runs xs) (Err fault) (runs ys)
+    ap (before_runs x (text_of_item x)) (runs-error xs fault ys) ∙ runs-before x (text_of_item x) (runs xs) (Err fault)
+    (runs ys)
 
 merged-error : (xs : List (Item U)) (fault : Fault) (ys : List (Item U))
     → merged nowhere (xs ++ Err fault ∷ ys) ≡ merged nowhere xs ++ Err fault ∷ merged nowhere ys
@@ -198,7 +205,12 @@ error_cut (Ok e ∷ xs) = more (error_cut xs)
   where
     more : AreEvents xs ⊎ IsErrorCut xs → AreEvents (Ok e ∷ xs) ⊎ IsErrorCut (Ok e ∷ xs)
     more (inl a) = inl (events-more e xs a)
-    more (inr c) = inr (record { events = e ∷ c.events; fault = c.fault; after = c.after; is = ap (λ ys. Ok e ∷ ys) c.is })
+    more (inr c) = inr (record {
+      events = e ∷ c.events;
+      fault = c.fault;
+      after = c.after;
+      is = ap (λ ys. Ok e ∷ ys) c.is;
+    })
 
 -- items whose merge has this error after these events begin with events of that merge, and the error
 record IsStopped (xs : List Raw) (views : List EventView) (fault : Fault) : Type 0 where
@@ -219,21 +231,26 @@ stopped xs views fault rest e = by_cut (error_cut xs)
   where
     by_cut : AreEvents xs ⊎ IsErrorCut xs → IsStopped xs views fault
     by_cut (inl a) =
-        let none = no_error-merged (map event_item (map event_view a.events)) (no_error-views (map event_view a.events)) in
-        let seen : map view xs ≡ map event_item (map event_view a.events) = ap (map view) a.are ∙ views-items a.events in
-        absurd (error-among (map event_item views) fault rest (subst HasNoError (ap (merged nowhere) (sym seen) ∙ e) none))
+        let none = no_error-merged (map event_item (map event_view a.events)) (no_error-views (map event_view a.events))
+        in
+        let seen : map view xs ≡ map event_item (map event_view a.events) = ap (map view) a.are
+        ∙ views-items a.events in
+        absurd (error-among (map event_item views) fault rest
+        (subst HasNoError (ap (merged nowhere) (sym seen) ∙ e) none))
     by_cut (inr c) =
         let prefix = map event_item (map event_view c.events) in
         let seen : map view xs ≡ prefix ++ Err c.fault ∷ map view c.after =
         ap (map view) c.is ∙ (map-append view (items c.events) (Err c.fault ∷ c.after)
         ∙ ap (λ ys. ys ++ Err c.fault ∷ map view c.after) (views-items c.events)) in
-        let same = same-until-error (merged nowhere prefix) (map event_item views) c.fault fault (merged nowhere (map view c.after)) rest
+        let same = same-until-error (merged nowhere prefix) (map event_item views) c.fault fault
+        (merged nowhere (map view c.after)) rest
         (no_error-merged prefix (no_error-views (map event_view c.events))) (no_error-views views)
         (sym (merged-error prefix c.fault (map view c.after)) ∙ (ap (merged nowhere) (sym seen) ∙ e)) in
         record {
           events = c.events;
           after = c.after;
-          is = c.is ∙ (ap (λ f. items c.events ++ Err f ∷ c.after) same.1 ∙ sym (append_assoc (items c.events) (Err fault ∷ []) c.after));
+          is = c.is ∙ (ap (λ f. items c.events ++ Err f ∷ c.after) same.1
+              ∙ sym (append_assoc (items c.events) (Err fault ∷ []) c.after));
           merges = merges-events c.events views (ap (merged nowhere) (views-items c.events) ∙ same.0);
         }
 
@@ -260,7 +277,8 @@ prefix-events : (es : List Event) (views : List EventView) (missing : List (Item
     → merged_events (map event_view es) ≡ views ++ flat_map item_events missing
 prefix-events es views missing e =
     ap (flat_map item_events) e
-    ∙ (flat_map-append item_events (map event_item views) missing ∙ ap (λ vs. vs ++ flat_map item_events missing) (events-items views))
+    ∙ (flat_map-append item_events (map event_item views) missing ∙ ap (λ vs. vs ++ flat_map item_events missing)
+    (events-items views))
 
 begun-by : (xs : List Raw) (views : List EventView) (rest : List (Item U))
     → merged nowhere (map view xs) ≡ map event_item views ++ rest → IsBegun xs views
@@ -272,15 +290,18 @@ begun-by xs views rest e = by_cut (error_cut xs)
       after = [];
       is = a.are ∙ sym (append-nil (items a.events));
       missing = flat_map item_events rest;
-      prefix = prefix-events a.events views rest (ap (merged nowhere) (sym (ap (map view) a.are ∙ views-items a.events)) ∙ e);
+      prefix = prefix-events a.events views rest (ap (merged nowhere) (sym (ap (map view) a.are ∙ views-items a.events))
+          ∙ e);
     }
     by_cut (inr c) =
         let first = map event_item (map event_view c.events) in
         let seen : map view xs ≡ first ++ Err c.fault ∷ map view c.after =
         ap (map view) c.is ∙ (map-append view (items c.events) (Err c.fault ∷ c.after)
         ∙ ap (λ ys. ys ++ Err c.fault ∷ map view c.after) (views-items c.events)) in
-        let m = until_error (merged nowhere first) (map event_item views) c.fault (merged nowhere (map view c.after)) rest
-        (no_error-views views) (sym (merged-error first c.fault (map view c.after)) ∙ (ap (merged nowhere) (sym seen) ∙ e)) in
+        let m = until_error (merged nowhere first) (map event_item views) c.fault (merged nowhere (map view c.after))
+        rest
+        (no_error-views views) (sym (merged-error first c.fault (map view c.after))
+        ∙ (ap (merged nowhere) (sym seen) ∙ e)) in
         record {
           events = c.events;
           after = Err c.fault ∷ c.after;
@@ -302,7 +323,8 @@ module _ {S A : Type 0} (steps : S → Option A → S → Type 0) where
   yields-prefix s t (x ∷ xs) ys y =
       let f = yields-prefix y.0 t xs ys y.2 in record { mid = f.mid; first = (y.0, y.1, f.first); rest = f.rest }
 
-module _ {S M : Type 0} (steps : S → Option Raw → S → Type 0) (can : S → Type 0) (rest : S → Count) (state : M → MergeState S U) where
+module _ {S M : Type 0} (steps : S → Option Raw → S → Type 0) (can : S → Type 0) (rest : S → Count)
+    (state : M → MergeState S U) where
   abbrev calls : M → Option Raw → M → Type 0
   calls = merge_steps nowhere view steps can rest state
 
@@ -321,7 +343,8 @@ module _ {S M : Type 0} (steps : S → Option Raw → S → Type 0) (can : S →
       no_refusal : (e : Event) → Some (Ok e) ≡ Some (Err Memory) → ⊥
       no_refusal e h = cc
 
-      by : Passes m (Some (Ok e)) t ⊎ ((Some (Ok e) ≡ Some (Err Memory)) × ((state t).over ≡ true)) → (state t).over ≡ false
+      by : Passes m (Some (Ok e)) t ⊎ ((Some (Ok e) ≡ Some (Err Memory)) × ((state t).over ≡ true)) → (state t).over
+          ≡ false
       by (inl p) = p.goes_on
       by (inr q) = absurd (no_refusal e q.0)
 
@@ -335,7 +358,8 @@ module _ {S M : Type 0} (steps : S → Option Raw → S → Type 0) (can : S →
       by (inl p) = p.goes_on
       by (inr q) = absurd (no_refusal q.0)
 
-  events-go-on : (m t : M) (es : List Event) → (state m).over ≡ false → Yields calls m (items es) t → (state t).over ≡ false
+  events-go-on : (m t : M) (es : List Event) → (state m).over ≡ false → Yields calls m (items es) t → (state t).over
+      ≡ false
   events-go-on m t [] o y = subst (λ k. (state k).over ≡ false) y o
   events-go-on m t (e ∷ es) o y = events-go-on y.0 t es (ok-goes-on m y.0 e o y.1) y.2
 
@@ -347,7 +371,8 @@ module _ {S M : Type 0} (steps : S → Option Raw → S → Type 0) (can : S →
         let views = map event_view es in
         let t = r.read.1.0 in
         let n = none-goes-on t r.read.0 (events-go-on m t es begun.goes_on r.read.1.1) r.read.1.2 in
-        let g = (gives_the_merge nowhere view steps can rest state m ends begun).all (items es) t r.read.0 r.read.1.1 r.read.1.2 n in
+        let g = (gives_the_merge nowhere view steps can rest state m ends begun).all (items es) t r.read.0 r.read.1.1
+        r.read.1.2 n in
         let given : merged nowhere (map view g.all) ≡ map event_item views = g.merges ∙ views-items es in
         let no_error = subst HasNoError (runs_of_items (map view g.all))
         (no_error-runs (runs (map view g.all)) (subst HasNoError (sym given) (no_error-views views))) in
@@ -361,7 +386,8 @@ module _ {S M : Type 0} (steps : S → Option Raw → S → Type 0) (can : S →
 
     -- and so it is where the merge gives an error, of the iterator or its own
     pub stopped-merged : (fault : Fault) → StopsAtError calls m old new fault
-        → StopsAtErrorMerged steps (state m).iter old new fault ⊎ ((fault ≡ Memory) × IsRefusedMerged steps (state m).iter old new)
+        → StopsAtErrorMerged steps (state m).iter old new fault ⊎
+        ((fault ≡ Memory) × IsRefusedMerged steps (state m).iter old new)
     stopped-merged fault r = by (passes_or_refused f.mid f.rest.0 (Some (Err fault)) o f.rest.1)
       where
         es : List Event
@@ -376,16 +402,20 @@ module _ {S M : Type 0} (steps : S → Option Raw → S → Type 0) (can : S →
         same-fault : Some (error fault) ≡ Some (error Memory) → fault ≡ Memory
         same-fault h = cc
 
-        by : Passes f.mid (Some (Err fault)) f.rest.0 ⊎ ((Some (error fault) ≡ Some (error Memory)) × ((state f.rest.0).over ≡ true))
-            → StopsAtErrorMerged steps (state m).iter old new fault ⊎ ((fault ≡ Memory) × IsRefusedMerged steps (state m).iter old new)
+        by : Passes f.mid (Some (Err fault)) f.rest.0 ⊎ ((Some (error fault) ≡ Some (error Memory))
+            × ((state f.rest.0).over ≡ true))
+            → StopsAtErrorMerged steps (state m).iter old new fault ⊎
+            ((fault ≡ Memory) × IsRefusedMerged steps (state m).iter old new)
         by (inl p) =
             let last : (state r.left).over ≡ false = subst (λ k. (state k).over ≡ false) f.rest.2 p.goes_on in
-            let g = (gives_the_merge nowhere view steps can rest state m ends begun).so_far (items es ++ Err fault ∷ []) r.left r.read last
+            let g = (gives_the_merge nowhere view steps can rest state m ends begun).so_far (items es ++ Err fault ∷ [])
+            r.left r.read last
             in
             let seen : map view (items es ++ Err fault ∷ []) ≡ map event_item (map event_view es) ++ Err fault ∷ [] =
             map-append view (items es) (Err fault ∷ []) ∙ ap (λ ys. ys ++ Err fault ∷ []) (views-items es) in
             let s = stopped g.so_far (map event_view es) fault g.missing
-            (g.merges ∙ (ap (λ ys. ys ++ g.missing) seen ∙ append_assoc (map event_item (map event_view es)) (Err fault ∷ []) g.missing)) in
+            (g.merges ∙ (ap (λ ys. ys ++ g.missing) seen ∙ append_assoc (map event_item (map event_view es))
+            (Err fault ∷ []) g.missing)) in
             let y = yields-prefix steps (state m).iter g.left (items s.events ++ Err fault ∷ []) s.after
             (subst (λ xs. Yields steps (state m).iter xs g.left) s.is g.read) in
             inl (record {
@@ -409,7 +439,8 @@ module _ {S M : Type 0} (steps : S → Option Raw → S → Type 0) (can : S →
         let es = r.events in
         let o = events-go-on m r.left es begun.goes_on r.read in
         let g = (gives_the_merge nowhere view steps can rest state m ends begun).so_far (items es) r.left r.read o in
-        let b = begun-by g.so_far (map event_view es) g.missing (g.merges ∙ ap (λ ys. ys ++ g.missing) (views-items es)) in
+        let b = begun-by g.so_far (map event_view es) g.missing (g.merges ∙ ap (λ ys. ys ++ g.missing) (views-items es))
+        in
         let y = yields-prefix steps (state m).iter g.left (items b.events) b.after
         (subst (λ xs. Yields steps (state m).iter xs g.left) b.is g.read) in
         record {

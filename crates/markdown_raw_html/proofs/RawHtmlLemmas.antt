@@ -1,12 +1,14 @@
 -- The first occurrence of closing bytes.
-use Rattle.std.proofs.Common.{◌≡◌, ℕ, suc, zero, ◌+◌, ◌-◌, ◌<◌, ◌≤◌, List, [], ◌∷◌, Bool, true, false, cond, Option, Some, None, IfSome}
+use Rattle.std.proofs.Common.{◌≡◌, ℕ, suc, zero, ◌+◌, ◌-◌, ◌<◌, ◌≤◌, List, [], ◌∷◌, Bool, true, false, cond, Option}
+use Rattle.std.proofs.Common.{Some, None, IfSome}
 use Rattle.std.proofs.Common.{length, drop, get_or, codes, refl, arith, ◌∙◌, sym, ap, lit≤}
 use Rattle.std.proofs.lemmas.Bool.{cond_both, cond-true}
 use Rattle.std.proofs.lemmas.List.{drop-drop, length-drop, get_or-drop}
 use Rattle.std.specs.List.{slice_index}
 use Rattle.std.specs.Option.{option_map}
 use Rattle.markdown_scan.specs.Beginnings.{begins_with, begins_with_letter}
-use Rattle.markdown_raw_html.specs.RawHtml.{cdata_section, comment, declaration, end_from, processing_instruction, through_first}
+use Rattle.markdown_raw_html.specs.RawHtml.{cdata_section, comment, declaration, end_from, processing_instruction}
+use Rattle.markdown_raw_html.specs.RawHtml.{through_first}
 use Rattle.markdown_raw_html.specs.RawHtml.{through_first_after}
 use Rattle.markdown_scan.proofs.BeginsWithLemmas.{begins_with-fits, begins_with-reads}
 

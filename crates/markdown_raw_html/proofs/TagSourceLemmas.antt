@@ -1,6 +1,8 @@
 -- A tag in its source: how many bytes it has, and that it ends with `>` there.
-use Rattle.std.proofs.Common.{◌≡◌, ℕ, suc, zero, ◌+◌, ◌-◌, ◌<◌, ◌≤◌, ◌==◌, List, [], ◌∷◌, ◌++◌, Option, Some, None, IfSome, option_and_then}
-use Rattle.std.proofs.Common.{unwrap_or, length, drop, take, get_or, refl, arith, ◌∙◌, sym, ap, IsUtf8, IsCharBoundary, ◌⊎◌, inl, inr}
+use Rattle.std.proofs.Common.{◌≡◌, ℕ, suc, zero, ◌+◌, ◌-◌, ◌<◌, ◌≤◌, ◌==◌, List, [], ◌∷◌, ◌++◌, Option, Some, None}
+use Rattle.std.proofs.Common.{IfSome, option_and_then}
+use Rattle.std.proofs.Common.{unwrap_or, length, drop, take, get_or, refl, arith, ◌∙◌, sym, ap, IsUtf8, IsCharBoundary}
+use Rattle.std.proofs.Common.{◌⊎◌, inl, inr}
 use Rattle.std.proofs.lemmas.Bool.{cases_lt, cond_both, eqb-true}
 use Rattle.std.proofs.lemmas.List.{drop-drop, drop_all, drop_more, get_or-drop, length-drop, take_more}
 use Rattle.std.proofs.lemmas.Str.{IsCharBoundary-after_ascii}
@@ -12,7 +14,8 @@ use Rattle.markdown_raw_html.specs.TagText.{source_after, source_after_byte, tex
 use Rattle.markdown_scan.specs.LinePrefix.{prefix_after}
 use Rattle.markdown_raw_html.proofs.HtmlTagLemmas.{IsWithin-html_tag, source_after_shorter}
 use Rattle.markdown_raw_html.proofs.RawHtmlLemmas.{EndsWith, EndsWith-after}
-use Rattle.markdown_raw_html.proofs.TagTextLemmas.{Begins-first, source_after-more, source_after-nil, text_in-cons, text_in-source_after}
+use Rattle.markdown_raw_html.proofs.TagTextLemmas.{Begins-first, source_after-more, source_after-nil, text_in-cons}
+use Rattle.markdown_raw_html.proofs.TagTextLemmas.{text_in-source_after}
 
 -- a tag of n bytes, and what is left after it
 pub record IsTag (skipped : List ℕ → Option ℕ) (source rest : List ℕ) (n : ℕ) : Type 0 where

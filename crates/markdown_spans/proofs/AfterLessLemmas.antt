@@ -1,6 +1,8 @@
 -- A text from which prefixes of lines were removed is a text.
-use Rattle.std.proofs.Common.{◌≡◌, ℕ, suc, zero, ◌+◌, ◌-◌, ◌<◌, ◌≤◌, Bool, true, false, ◌&&◌, ◌==◌, List, [], ◌∷◌, ◌++◌, Option, Some, None}
-use Rattle.std.proofs.Common.{length, get_or, take, drop, arith, refl, ap, IsUtf8, IsCharBoundary, encode_utf8, inl, inr, subst}
+use Rattle.std.proofs.Common.{◌≡◌, ℕ, suc, zero, ◌+◌, ◌-◌, ◌<◌, ◌≤◌, Bool, true, false, ◌&&◌, ◌==◌, List, [], ◌∷◌, ◌++◌}
+use Rattle.std.proofs.Common.{Option, Some, None}
+use Rattle.std.proofs.Common.{length, get_or, take, drop, arith, refl, ap, IsUtf8, IsCharBoundary, encode_utf8, inl}
+use Rattle.std.proofs.Common.{inr, subst}
 use Rattle.std.specs.Prelude.{if◌then◌else◌, option_and_then}
 use Rattle.std.specs.Option.{option_map}
 use Rattle.std.specs.List.{list_all}
@@ -8,7 +10,8 @@ use Rattle.std.specs.Char.{is_ascii}
 use Rattle.std.proofs.Math.Utf8.{scalar, scalars, encodes}
 use Rattle.std.proofs.lemmas.Option.{same_Some}
 use Rattle.std.proofs.lemmas.Bool.Decides.{nat_tests, leb_tells}
-use Rattle.std.proofs.lemmas.Str.{encode_ascii, IsUtf8-take, IsUtf8-drop, IsUtf8-nil, IsCharBoundary-after_ascii, char_from_byte}
+use Rattle.std.proofs.lemmas.Str.{encode_ascii, IsUtf8-take, IsUtf8-drop, IsUtf8-nil, IsCharBoundary-after_ascii}
+use Rattle.std.proofs.lemmas.Str.{char_from_byte}
 use Rattle.std.proofs.lemmas.Str.{IsCharBoundary-start}
 use Rattle.markdown_scan.specs.LinePrefix.{ends_line}
 use Rattle.markdown_base.specs.Bytes.{line_feed, carriage_return}
@@ -66,16 +69,19 @@ after_low : (length_of : List ℕ → ℕ) (c : ℕ) (rest : List ℕ) → Skips
 after_low length_of c rest skips later s low = cases (ends_line c rest) refl
   where
     cases : (ends : Bool) → ends_line c rest ≡ ends → IsUtf8 (text_past (λ line. Some (length_of line)) 0 (c ∷ rest))
-    cases true e = rw e (rw (encode_ascii c low) at (text_after c (text_past (λ line. Some (length_of line)) (length_of rest) rest) s
+    cases true e = rw e (rw (encode_ascii c low) at
+        (text_after c (text_past (λ line. Some (length_of line)) (length_of rest) rest) s
         (later (length_of rest) (skips rest))))
     cases false e =
         let none : IsAsciiPrefix rest 0 = record { within = omega arith; ascii = refl } in
-        rw e (rw (encode_ascii c low) at (text_after c (text_past (λ line. Some (length_of line)) 0 rest) s (later 0 none)))
+        rw e (rw (encode_ascii c low) at
+        (text_after c (text_past (λ line. Some (length_of line)) 0 rest) s (later 0 none)))
 
 -- a character that is skipped
 skipped_character : (length_of : List ℕ → ℕ) (c n : ℕ) (rest : List ℕ)
     → ((n : ℕ) → IsAsciiPrefix rest n → IsUtf8 (text_past (λ line. Some (length_of line)) n rest))
-    → IsAsciiPrefix (encode_utf8 c ++ rest) (suc n) → IsUtf8 (text_past (λ line. Some (length_of line)) (suc n) (encode_utf8 c ++ rest))
+    → IsAsciiPrefix (encode_utf8 c ++ rest) (suc n)
+    → IsUtf8 (text_past (λ line. Some (length_of line)) (suc n) (encode_utf8 c ++ rest))
 skipped_character length_of c n rest later prefix =
     let some : 0 < length (encode_utf8 c ++ rest) = omega (arith, prefix.within) in
     let zero_in : 0 < suc n = omega arith in
@@ -97,7 +103,8 @@ past_is_text length_of skips (c ∷ cs) s zero prefix = elim (leb_tells 128 c) [
       (past_is_text length_of skips cs (both_of (scalar c) (scalars cs) s).1 0 none))
   | inr low ↦
       rw (encode_ascii c low.1) (after_low length_of c (encodes cs) skips
-      (λ n prefix. past_is_text length_of skips cs (both_of (scalar c) (scalars cs) s).1 n prefix) (both_of (scalar c) (scalars cs) s).0
+      (λ n prefix. past_is_text length_of skips cs (both_of (scalar c) (scalars cs) s).1 n prefix)
+      (both_of (scalar c) (scalars cs) s).0
       low.1)
 ]
 past_is_text length_of skips (c ∷ cs) s (suc n) prefix =
@@ -126,12 +133,14 @@ tag_text text (suc n) utf8 e =
     IsUtf8-take text (suc n) utf8 (rw end at (IsCharBoundary-after_ascii text n utf8 here low))
 
 -- a tag without its line prefixes is a text
-pub tag_is_text : (prefix : ContainerPrefix) (text : List ℕ) (start end : ℕ) (bytes : List ℕ) → IsUtf8 text → IsCharBoundary text start
+pub tag_is_text : (prefix : ContainerPrefix) (text : List ℕ) (start end : ℕ) (bytes : List ℕ) → IsUtf8 text
+    → IsCharBoundary text start
     → tag_at (λ rest. Some (length_by prefix rest)) text start ≡ Some (end, Some bytes) → IsUtf8 bytes
 tag_is_text prefix text start end bytes utf8 boundary e =
     cases (html_tag (text_in (λ rest. Some (length_by prefix rest)) (drop start text))) refl e
   where
-    part : (n : ℕ) (same : Bool) → (if same then None else Some (take n (text_in (λ rest. Some (length_by prefix rest)) (drop start text))))
+    part : (n : ℕ) (same : Bool)
+        → (if same then None else Some (take n (text_in (λ rest. Some (length_by prefix rest)) (drop start text))))
         ≡ Some bytes
         → take n (text_in (λ rest. Some (length_by prefix rest)) (drop start text)) ≡ bytes
     part n true h = cc
@@ -139,30 +148,36 @@ tag_is_text prefix text start end bytes utf8 boundary e =
 
     cases : (found : Option ℕ) → html_tag (text_in (λ rest. Some (length_by prefix rest)) (drop start text)) ≡ found
         → option_map (λ n. tag_of (λ rest. Some (length_by prefix rest)) start (drop start text)
-        (tag_lengths (λ rest. Some (length_by prefix rest)) (drop start text) n)) found ≡ Some (end, Some bytes) → IsUtf8 bytes
+        (tag_lengths (λ rest. Some (length_by prefix rest)) (drop start text) n)) found ≡ Some (end, Some bytes)
+        → IsUtf8 bytes
     cases None f h = cc
     cases (Some n) f h =
         let lengths : ℕ × ℕ = tag_lengths (λ rest. Some (length_by prefix rest)) (drop start text) n in
         let pair : tag_of (λ rest. Some (length_by prefix rest)) start (drop start text) lengths ≡ (end, Some bytes) =
         same_Some (tag_of (λ rest. Some (length_by prefix rest)) start (drop start text) lengths) (end, Some bytes) h in
         let is = part n (lengths.1 == lengths.0) (ap (λ (p : ℕ × Option (List ℕ)). p.1) pair) in
-        subst (λ (xs : List ℕ). IsUtf8 xs) is (tag_text (text_in (λ rest. Some (length_by prefix rest)) (drop start text)) n
-        (joined_is_text (length_by prefix) (length_by_is_ascii prefix) (drop start text) (IsUtf8-drop text start utf8 boundary)) f)
+        subst (λ (xs : List ℕ). IsUtf8 xs) is
+        (tag_text (text_in (λ rest. Some (length_by prefix rest)) (drop start text)) n
+        (joined_is_text (length_by prefix) (length_by_is_ascii prefix) (drop start text)
+        (IsUtf8-drop text start utf8 boundary)) f)
 
 -- raw HTML that is found where there is no autolink, and that contains no line prefix
 pub unbroken_html : (skipped : List ℕ → Option ℕ) (text : List ℕ) (start at : ℕ) → uri_autolink text at ≡ None
-    → is_unbroken (markup_at skipped text start at) ≡ true → option_and_then (λ tag. tag.1) (html_at skipped text start at) ≡ None
+    → is_unbroken (markup_at skipped text start at) ≡ true
+    → option_and_then (λ tag. tag.1) (html_at skipped text start at) ≡ None
 unfolding markup_at
 unbroken_html skipped text start at none h = cases (html_at skipped text start at) (rw none at h)
   where
-    cases : (found : Option (ℕ × Option (List ℕ))) → is_unbroken (option_map (λ tag. html_markup tag.0 tag.1) found) ≡ true
+    cases : (found : Option (ℕ × Option (List ℕ))) → is_unbroken (option_map (λ tag. html_markup tag.0 tag.1) found)
+        ≡ true
         → option_and_then (λ tag. tag.1) found ≡ None
     cases None h = refl
     cases (Some (end, None)) h = refl
     cases (Some (end, Some bytes)) h = cc
 
 -- what ends with `>` ends between two characters
-pub closed_boundary : (text : List ℕ) (end : ℕ) → IsUtf8 text → end ≤ length text → get_or text (end - 1) 0 ≡ 62 → IsCharBoundary text end
+pub closed_boundary : (text : List ℕ) (end : ℕ) → IsUtf8 text → end ≤ length text → get_or text (end - 1) 0 ≡ 62
+    → IsCharBoundary text end
 closed_boundary text zero utf8 within closed = IsCharBoundary-start text utf8
 closed_boundary text (suc n) utf8 within closed =
     let before : suc n - 1 ≡ n = omega arith in

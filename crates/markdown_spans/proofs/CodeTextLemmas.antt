@@ -1,12 +1,15 @@
 -- The text of a span, piece by piece.
-use Rattle.std.proofs.Common.{◌≡◌, ℕ, suc, zero, ◌+◌, ◌-◌, ◌<◌, ◌≤◌, Bool, true, false, not, ◌&&◌, ◌||◌, ◌==◌, List, [], ◌∷◌, ◌++◌, Option}
-use Rattle.std.proofs.Common.{Some, None, length, get_or, take, drop, append_assoc, arith, refl, sym, ap, ◌∙◌, IsUtf8, IsCharBoundary}
+use Rattle.std.proofs.Common.{◌≡◌, ℕ, suc, zero, ◌+◌, ◌-◌, ◌<◌, ◌≤◌, Bool, true, false, not, ◌&&◌, ◌||◌, ◌==◌, List, []}
+use Rattle.std.proofs.Common.{◌∷◌, ◌++◌, Option}
+use Rattle.std.proofs.Common.{Some, None, length, get_or, take, drop, append_assoc, arith, refl, sym, ap, ◌∙◌, IsUtf8}
+use Rattle.std.proofs.Common.{IsCharBoundary}
 use Rattle.std.proofs.Common.{subst, append-nil}
 use Rattle.std.specs.Prelude.{is_some}
 use Rattle.std.specs.List.{list_all}
 use Rattle.std.specs.Char.{is_ascii}
 use Rattle.std.proofs.lemmas.Bool.Decides.{nat_tests}
-use Rattle.std.proofs.lemmas.List.{get_or-take, length-drop, length-take-le, drop_more, take_more, drop-drop, take-append-drop, drop_all}
+use Rattle.std.proofs.lemmas.List.{get_or-take, length-drop, length-take-le, drop_more, take_more, drop-drop}
+use Rattle.std.proofs.lemmas.List.{take-append-drop, drop_all}
 use Rattle.std.proofs.lemmas.List.{take_all}
 use Rattle.std.proofs.Math.Seq.{take-append-add}
 use Rattle.std.proofs.lemmas.List.Folds.{list_all-append}
@@ -16,7 +19,8 @@ use Rattle.markdown_scan.specs.Beginnings.{begins_with}
 use Rattle.markdown_scan.specs.LineEnd.{line_ending, begins_line_feed}
 use Rattle.markdown_scan.proofs.BoundaryLemmas.{before_ascii_of_rest, after_ascii_of_rest}
 use Rattle.markdown_scan.proofs.BeginsWithLemmas.{begins_with-split}
-use Rattle.markdown_spans.specs.CodeText.{Piece, piece_at, begins_escaped_pipe, replaced_past, shown_ending, is_sliced, has_outer_spaces}
+use Rattle.markdown_spans.specs.CodeText.{Piece, piece_at, begins_escaped_pipe, replaced_past, shown_ending, is_sliced}
+use Rattle.markdown_spans.specs.CodeText.{has_outer_spaces}
 use Rattle.markdown_spans.specs.CodeText.{is_space, without_outer_spaces}
 use Rattle.markdown_spans.specs.PrefixView.{length_by}
 use Rattle.markdown_spans.specs.declared.span_text.SpanKind.{SpanKind}
@@ -24,13 +28,15 @@ use Rattle.markdown_spans.specs.declared.prefixes.ContainerPrefix.{ContainerPref
 use Rattle.markdown_spans.proofs.ContainerPrefixLemmas.{IsAsciiPrefix, length_by_is_ascii}
 
 -- ASCII bytes, and ASCII bytes after them
-pub prefix_joined : (bytes : List ℕ) (n m : ℕ) → IsAsciiPrefix bytes n → IsAsciiPrefix (drop n bytes) m → IsAsciiPrefix bytes (n + m)
+pub prefix_joined : (bytes : List ℕ) (n m : ℕ) → IsAsciiPrefix bytes n → IsAsciiPrefix (drop n bytes) m
+    → IsAsciiPrefix bytes (n + m)
 prefix_joined bytes n m first second = record {
   within = omega (arith, first.within, second.within, length-drop n bytes);
   ascii =
       let whole : take (n + m) bytes ≡ take n bytes ++ take m (drop n bytes) =
       ap (λ k. take (k + m) bytes) (sym (length-take-le n bytes first.within))
-      ∙ (ap (λ xs. take (length (take n bytes) + m) xs) (sym (take-append-drop n bytes)) ∙ take-append-add (take n bytes) (drop n bytes) m)
+      ∙ (ap (λ xs. take (length (take n bytes) + m) xs) (sym (take-append-drop n bytes))
+      ∙ take-append-add (take n bytes) (drop n bytes) m)
       in
       ap (list_all is_ascii) whole ∙ (list_all-append is_ascii (take n bytes) (take m (drop n bytes))
       ∙ rw (first.ascii, second.ascii) refl);
@@ -54,7 +60,8 @@ pub ending_is_ascii : (bytes : List ℕ) (n : ℕ) → line_ending bytes ≡ Som
 ending_is_ascii [] n e = cc
 ending_is_ascii (b ∷ rest) n e = cases (b == line_feed) (b == carriage_return) (begins_line_feed rest) refl refl refl e
   where
-    cases : (feed return both : Bool) → (b == line_feed) ≡ feed → (b == carriage_return) ≡ return → begins_line_feed rest ≡ both
+    cases : (feed return both : Bool) → (b == line_feed) ≡ feed → (b == carriage_return) ≡ return
+        → begins_line_feed rest ≡ both
         → line_ending (b ∷ rest) ≡ Some n → IsPiece (b ∷ rest) n
     cases true return both p q r e =
         let found : Some 1 ≡ Some n = rw p at e in
@@ -97,10 +104,12 @@ pub piece_is : (kind : SpanKind) (in_table : Bool) (prefix : ContainerPrefix) (b
     → piece_at kind in_table (length_by prefix) bytes ≡ Some p → IsChange in_table bytes p
 piece_is kind in_table prefix bytes p e = cases (line_ending bytes) (begins_escaped_pipe in_table bytes) refl refl e
   where
-    cases : (ending : Option ℕ) (escaped : Bool) → line_ending bytes ≡ ending → begins_escaped_pipe in_table bytes ≡ escaped
+    cases : (ending : Option ℕ) (escaped : Bool) → line_ending bytes ≡ ending → begins_escaped_pipe in_table bytes
+        ≡ escaped
         → piece_at kind in_table (length_by prefix) bytes ≡ Some p → IsChange in_table bytes p
     cases (Some n) escaped f g e =
-        let found : Piece = record { taken = n + length_by prefix (drop n bytes); shown = shown_ending kind (take n bytes) } in
+        let found : Piece = record
+        { taken = n + length_by prefix (drop n bytes); shown = shown_ending kind (take n bytes) } in
         let ending = ending_is_ascii bytes n f in
         let is : found ≡ p = same_Some found p (rw f at e) in
         subst (λ (q : Piece). IsChange in_table bytes q) is (record {
@@ -135,17 +144,20 @@ unfolding replaced_past
 replaced_byte piece b bytes e = rw e refl
 
 -- a piece
-replaced_piece : (piece : List ℕ → Option Piece) (bytes : List ℕ) (p : Piece) → piece bytes ≡ Some p → 0 < p.taken → p.taken ≤ length bytes
+replaced_piece : (piece : List ℕ → Option Piece) (bytes : List ℕ) (p : Piece) → piece bytes ≡ Some p → 0 < p.taken
+    → p.taken ≤ length bytes
     → replaced_past piece 0 bytes ≡ p.shown ++ replaced_past piece 0 (drop p.taken bytes)
 unfolding replaced_past
 replaced_piece piece [] p e some within = absurd (omega arith)
 replaced_piece piece (b ∷ bytes) p e some within =
     let more : suc (p.taken - 1) ≡ p.taken = omega arith in
     let rest : drop (p.taken - 1) bytes ≡ drop p.taken (b ∷ bytes) = ap (λ n. drop n (b ∷ bytes)) more in
-    rw e (ap (λ xs. p.shown ++ xs) (replaced_skips piece (p.taken - 1) bytes ∙ ap (λ xs. replaced_past piece 0 xs) rest))
+    rw e (ap (λ xs. p.shown ++ xs) (replaced_skips piece (p.taken - 1) bytes
+    ∙ ap (λ xs. replaced_past piece 0 xs) rest))
 
 -- the byte at a byte offset is kept
-pub replaced_at_byte : (piece : List ℕ → Option Piece) (text : List ℕ) (at : ℕ) → at < length text → piece (drop at text) ≡ None
+pub replaced_at_byte : (piece : List ℕ → Option Piece) (text : List ℕ) (at : ℕ) → at < length text
+    → piece (drop at text) ≡ None
     → replaced_past piece 0 text ≡ take at text ++ replaced_past piece 0 (drop at text)
     → replaced_past piece 0 text ≡ take (at + 1) text ++ replaced_past piece 0 (drop (at + 1) text)
 replaced_at_byte piece text at h none was =
@@ -157,7 +169,8 @@ replaced_at_byte piece text at h none was =
     ∙ ap (λ x. x ++ replaced_past piece 0 (drop (at + 1) text)) (sym (take_more text at 0 h)))))
 
 -- a piece is replaced at a byte offset
-pub replaced_at_piece : (piece : List ℕ → Option Piece) (text : List ℕ) (at : ℕ) (p : Piece) → piece (drop at text) ≡ Some p
+pub replaced_at_piece : (piece : List ℕ → Option Piece) (text : List ℕ) (at : ℕ) (p : Piece) → piece (drop at text)
+    ≡ Some p
     → 0 < p.taken → p.taken ≤ length (drop at text)
     → replaced_past piece 0 text ≡ take at text ++ replaced_past piece 0 (drop at text)
     → replaced_past piece 0 text ≡ take at text ++ (p.shown ++ replaced_past piece 0 (drop (at + p.taken) text))
@@ -167,7 +180,8 @@ replaced_at_piece piece text at p e some within was =
 
 -- a text with a change is no slice
 pub change_at : (in_table : Bool) (text : List ℕ) (at : ℕ) → at < length text
-    → (is_some (line_ending (drop at text)) || begins_escaped_pipe in_table (drop at text)) ≡ true → is_sliced in_table text ≡ false
+    → (is_some (line_ending (drop at text)) || begins_escaped_pipe in_table (drop at text)) ≡ true
+    → is_sliced in_table text ≡ false
 unfolding is_sliced
 change_at in_table [] at h e = absurd (omega arith)
 change_at in_table (b ∷ text) zero h e = rw e refl
@@ -180,9 +194,11 @@ change_at in_table (b ∷ text) (suc at) h e =
     and_false false = refl
 
 -- bytes that begin with no piece begin with no change
-pub no_change : (kind : SpanKind) (in_table : Bool) (prefix : List ℕ → ℕ) (bytes : List ℕ) → piece_at kind in_table prefix bytes ≡ None
+pub no_change : (kind : SpanKind) (in_table : Bool) (prefix : List ℕ → ℕ) (bytes : List ℕ)
+    → piece_at kind in_table prefix bytes ≡ None
     → (is_some (line_ending bytes) || begins_escaped_pipe in_table bytes) ≡ false
-no_change kind in_table prefix bytes none = cases (line_ending bytes) (begins_escaped_pipe in_table bytes) refl refl none
+no_change kind in_table prefix bytes none = cases (line_ending bytes) (begins_escaped_pipe in_table bytes) refl refl
+    none
   where
     cases : (ending : Option ℕ) (pipe : Bool) → line_ending bytes ≡ ending → begins_escaped_pipe in_table bytes ≡ pipe
         → piece_at kind in_table prefix bytes ≡ None
@@ -192,7 +208,8 @@ no_change kind in_table prefix bytes none = cases (line_ending bytes) (begins_es
     cases None false f g e = rw (f, g) refl
 
 -- they are a slice where what follows their first byte is
-sliced_past : (in_table : Bool) (b : ℕ) (bytes : List ℕ) → (is_some (line_ending (b ∷ bytes)) || begins_escaped_pipe in_table (b ∷ bytes))
+sliced_past : (in_table : Bool) (b : ℕ) (bytes : List ℕ)
+    → (is_some (line_ending (b ∷ bytes)) || begins_escaped_pipe in_table (b ∷ bytes))
     ≡ false
     → is_sliced in_table (b ∷ bytes) ≡ is_sliced in_table bytes
 unfolding is_sliced
@@ -205,7 +222,8 @@ sliced_on in_table text at h none =
     let here = drop_more text at 0 h in
     ap (is_sliced in_table) here ∙ sliced_past in_table (get_or text at 0) (drop (at + 1) text) (rw here at none)
 
-pub sliced_end : (in_table : Bool) (text : List ℕ) (at : ℕ) → length text ≤ at → is_sliced in_table (drop at text) ≡ true
+pub sliced_end : (in_table : Bool) (text : List ℕ) (at : ℕ) → length text ≤ at → is_sliced in_table (drop at text)
+    ≡ true
 unfolding is_sliced
 sliced_end in_table text at past = rw (drop_all at text past) refl
 
@@ -226,7 +244,8 @@ pub record IsCutAround (text : List ℕ) (at n : ℕ) : Type 0 where
   pub before : IsCharBoundary text at
   pub after : IsCharBoundary text (at + n)
 
-pub cut_around : (text : List ℕ) (at n : ℕ) → IsUtf8 text → at < length text → IsPiece (drop at text) n → IsCutAround text at n
+pub cut_around : (text : List ℕ) (at n : ℕ) → IsUtf8 text → at < length text → IsPiece (drop at text) n
+    → IsCutAround text at n
 cut_around text at n utf8 h piece =
     let rest = drop at text in
     let some : 0 < length rest = omega (arith, length-drop at text) in
@@ -242,7 +261,8 @@ cut_around text at n utf8 h piece =
 
 -- at the end of a text whose bytes are all kept
 pub replaced_ends : (piece : List ℕ → Option Piece) (text : List ℕ) (at : ℕ) → length text ≤ at
-    → replaced_past piece 0 text ≡ take at text ++ replaced_past piece 0 (drop at text) → replaced_past piece 0 text ≡ text
+    → replaced_past piece 0 text ≡ take at text ++ replaced_past piece 0 (drop at text) → replaced_past piece 0 text
+    ≡ text
 unfolding replaced_past
 replaced_ends piece text at past was =
     was ∙ rw (drop_all at text past, take_all at text past) (append-nil text)
@@ -267,7 +287,8 @@ spaced (b ∷ c ∷ bytes) e =
     record {
       two = omega arith;
       first = space_is b (first_of (is_space b) (is_space (get_or all (length all - 1) 0)) ends);
-      last = space_is (get_or all (length all - 1) 0) (and_second (is_space b) (is_space (get_or all (length all - 1) 0)) ends);
+      last = space_is (get_or all (length all - 1) 0)
+          (and_second (is_space b) (is_space (get_or all (length all - 1) 0)) ends);
     }
   where
     first_of : (a b : Bool) → (a && b) ≡ true → a ≡ true

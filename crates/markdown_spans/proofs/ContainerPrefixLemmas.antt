@@ -1,6 +1,8 @@
 -- What is taken of a line is spaces, tabs and `>` of its beginning.
-use Rattle.std.proofs.Common.{◌≡◌, ℕ, suc, ◌+◌, ◌-◌, ◌≤◌, ◌<◌, List, [], ◌∷◌, ◌++◌, Option, Some, None, Bool, true, false, ◌==◌, ◌||◌, ◌&&◌}
-use Rattle.std.proofs.Common.{length, take, drop, get_or, refl, sym, ◌∙◌, ap, arith, append_assoc, length-append, map, drop-cons}
+use Rattle.std.proofs.Common.{◌≡◌, ℕ, suc, ◌+◌, ◌-◌, ◌≤◌, ◌<◌, List, [], ◌∷◌, ◌++◌, Option, Some, None, Bool, true}
+use Rattle.std.proofs.Common.{false, ◌==◌, ◌||◌, ◌&&◌}
+use Rattle.std.proofs.Common.{length, take, drop, get_or, refl, sym, ◌∙◌, ap, arith, append_assoc, length-append, map}
+use Rattle.std.proofs.Common.{drop-cons}
 use Rattle.std.specs.Prelude.{nat_lt, nat_le, IfSome, nat_eq, slice_index}
 use Rattle.std.specs.List.{list_all, list_any}
 use Rattle.std.specs.Char.{is_ascii}
@@ -10,7 +12,8 @@ use Rattle.std.proofs.lemmas.List.Folds.{list_all-append}
 use Rattle.std.proofs.lemmas.Bool.Decides.{nat_tests}
 use Rattle.markdown_base.specs.declared.item.ItemBody.{ItemBody}
 use Rattle.markdown_base.specs.declared.item.ItemBody.TheVariants as body
-use Rattle.markdown_scan.specs.LineStart.{LineLeft, space_width, column_after, space_from, leading_space, is_line_over, begins_marker, past_one_byte}
+use Rattle.markdown_scan.specs.LineStart.{LineLeft, space_width, column_after, space_from, leading_space, is_line_over}
+use Rattle.markdown_scan.specs.LineStart.{begins_marker, past_one_byte}
 use Rattle.markdown_spans.specs.ContainerPrefix.{past_marker_next, past_indent, past_block, past_blocks, prefix_length}
 use Rattle.markdown_base.specs.Item.{is_table_cell}
 use Rattle.markdown_spans.specs.BlocksAbove.{blocks_above}
@@ -37,7 +40,8 @@ pub nothing_past : (line : List ℕ) → IsTakenPast line 0 line
 nothing_past line = record { before = []; whole = refl; count = refl; taken = refl }
 
 -- one byte more
-one_past : (line : List ℕ) (n b : ℕ) (rest : List ℕ) → is_taken b ≡ true → IsTakenPast line n (b ∷ rest) → IsTakenPast line (n + 1) rest
+one_past : (line : List ℕ) (n b : ℕ) (rest : List ℕ) → is_taken b ≡ true → IsTakenPast line n (b ∷ rest)
+    → IsTakenPast line (n + 1) rest
 one_past line n b rest taken past = record {
   before = past.before ++ b ∷ [];
   whole = past.whole ∙ sym (append_assoc past.before (b ∷ []) rest);
@@ -49,7 +53,8 @@ one_past line n b rest taken past = record {
 white_is_taken : (column b : ℕ) → (space_width column b == 0) ≡ false → is_taken b ≡ true
 white_is_taken column b e = cases (b == 32) (b == 9) refl refl e
   where
-    cases : (is_space is_tab : Bool) → (b == 32) ≡ is_space → (b == 9) ≡ is_tab → (space_width column b == 0) ≡ false → is_taken b ≡ true
+    cases : (is_space is_tab : Bool) → (b == 32) ≡ is_space → (b == 9) ≡ is_tab → (space_width column b == 0) ≡ false
+        → is_taken b ≡ true
     cases true t p q e = rw p refl
     cases false true p q e = rw (p, q) refl
     cases false false p q e = let none : (space_width column b == 0) ≡ true = rw (p, q) refl in cc
@@ -62,14 +67,16 @@ past_space_from line n scanned column (b ∷ bytes) past =
     cases (n == 0) (space_width column b == 0) (nat_lt n (space_width column b)) refl refl refl
     (λ taken. past_space_from line (n - space_width column b) (scanned + 1) (column_after column b) bytes taken)
   where
-    cases : (none plain part : Bool) → (n == 0) ≡ none → (space_width column b == 0) ≡ plain → nat_lt n (space_width column b) ≡ part
+    cases : (none plain part : Bool) → (n == 0) ≡ none → (space_width column b == 0) ≡ plain
+        → nat_lt n (space_width column b) ≡ part
         → (IsTakenPast line (scanned + 1) bytes
         → IsPast line (space_from (n - space_width column b) (scanned + 1) (column_after column b) bytes).after)
         → IsPast line (space_from n scanned column (b ∷ bytes)).after
     cases true plain part e f g later = rw e past
     cases false true part e f g later = rw (e, f) past
     cases false false true e f g later = rw (e, f, g) (one_past line scanned b bytes (white_is_taken column b f) past)
-    cases false false false e f g later = rw (e, f, g) (later (one_past line scanned b bytes (white_is_taken column b f) past))
+    cases false false false e f g later = rw (e, f, g)
+        (later (one_past line scanned b bytes (white_is_taken column b f) past))
 
 space_past : (line : List ℕ) (n : ℕ) (left : LineLeft) → IsPast line left → IsPast line (leading_space n left).after
 space_past line n left past = cases (nat_le n left.owed) refl
@@ -104,15 +111,19 @@ marker_past line left past = cases (begins_marker left) refl
         (byte_past line left.scanned left.bytes (second_of (left.owed == 0) (slice_index left.bytes 0 == 62) e) past))
 
 indent_past : (line : List ℕ) (n : ℕ) (left : LineLeft) → IsPast line left → IfPast line (past_indent n left)
-indent_past line n left past = cases (((leading_space n left).columns == n) || is_line_over (leading_space n left).after.bytes) refl
+indent_past line n left past = cases
+    (((leading_space n left).columns == n) || is_line_over (leading_space n left).after.bytes) refl
   where
-    cases : (found : Bool) → (((leading_space n left).columns == n) || is_line_over (leading_space n left).after.bytes) ≡ found
+    cases : (found : Bool) → (((leading_space n left).columns == n) || is_line_over (leading_space n left).after.bytes)
+        ≡ found
         → IfPast line (past_indent n left)
     cases true e = rw e (space_past line n left past)
     cases false e = rw e tt
 
-block_past : (gfm : Bool) (line : List ℕ) (block : ItemBody) (left : LineLeft) → IsPast line left → IfPast line (past_block gfm block left)
-block_past gfm line (body.BlockQuote kind) left past = marker_past line (leading_space 3 left).after (space_past line 3 left past)
+block_past : (gfm : Bool) (line : List ℕ) (block : ItemBody) (left : LineLeft) → IsPast line left
+    → IfPast line (past_block gfm block left)
+block_past gfm line (body.BlockQuote kind) left past = marker_past line (leading_space 3 left).after
+    (space_past line 3 left past)
 block_past gfm line (body.ListItem indent) left past = indent_past line indent left past
 block_past gfm line (body.DefinitionListDefinition indent) left past = indent_past line indent left past
 block_past true line (body.FootnoteDefinition name) left past = indent_past line 4 left past
@@ -122,7 +133,8 @@ pub blocks_past : (gfm : Bool) (line : List ℕ) (blocks : List ItemBody) (left 
     → IsPast line (past_blocks gfm blocks left)
 blocks_past gfm line [] left past = past
 blocks_past gfm line (block ∷ inner) left past =
-    cases (past_block gfm block left) (block_past gfm line block left past) (λ after h. blocks_past gfm line inner after h)
+    cases (past_block gfm block left) (block_past gfm line block left past)
+    (λ after h. blocks_past gfm line inner after h)
   where
     cases : (found : Option LineLeft) → IfPast line found → ((after : LineLeft) → IsPast line after
         → IsPast line (past_blocks gfm inner after))
@@ -166,9 +178,11 @@ prefix_of_past line n rest past = record {
 
 pub prefix_past : (gfm : Bool) (blocks : List ItemBody) (line : List ℕ)
     → IsPast line (past_blocks gfm blocks (record { scanned = 0; owed = 0; column = 0; bytes = line }))
-prefix_past gfm blocks line = blocks_past gfm line blocks (record { scanned = 0; owed = 0; column = 0; bytes = line }) (nothing_past line)
+prefix_past gfm blocks line = blocks_past gfm line blocks (record { scanned = 0; owed = 0; column = 0; bytes = line })
+    (nothing_past line)
 
-pub prefix_is_ascii : (gfm : Bool) (blocks : List ItemBody) (line : List ℕ) → IsAsciiPrefix line (prefix_length gfm blocks line)
+pub prefix_is_ascii : (gfm : Bool) (blocks : List ItemBody) (line : List ℕ)
+    → IsAsciiPrefix line (prefix_length gfm blocks line)
 prefix_is_ascii gfm blocks line =
     let left : LineLeft = past_blocks gfm blocks (record { scanned = 0; owed = 0; column = 0; bytes = line }) in
     prefix_of_past line left.scanned left.bytes (prefix_past gfm blocks line)
@@ -179,7 +193,8 @@ pub prefix_opens_none : (gfm : Bool) (blocks : List ItemBody) (line : List ℕ)
 prefix_opens_none gfm blocks line =
     let past = prefix_past gfm blocks line in
     let front : take (prefix_length gfm blocks line) line ≡ past.before =
-    ap (λ (n : ℕ). take n line) (sym past.count) ∙ ap (take (length past.before)) past.whole ∙ take-append_seam past.before _ in
+    ap (λ (n : ℕ). take n line) (sym past.count) ∙ ap (take (length past.before)) past.whole
+    ∙ take-append_seam past.before _ in
     rw front (none_opens past.before past.taken)
 
 pub length_by_is_ascii : (prefix : ContainerPrefix) (line : List ℕ) → IsAsciiPrefix line (length_by prefix line)
@@ -199,7 +214,8 @@ pub reading_ends : (gfm : Bool) (block : ℕ → ItemBody) (spine : List ℕ) (i
 reading_ends gfm block spine i line past = rw (drop_all i spine past) refl
 
 -- the innermost block determines whether a chain is in a table
-pub in_table_last : (block : ℕ → ItemBody) (outer : List ℕ) (ix : ℕ) → in_table (map block (outer ++ ix ∷ [])) ≡ is_table_cell (block ix)
+pub in_table_last : (block : ℕ → ItemBody) (outer : List ℕ) (ix : ℕ) → in_table (map block (outer ++ ix ∷ []))
+    ≡ is_table_cell (block ix)
 in_table_last block [] ix = refl
 in_table_last block (a ∷ []) ix = refl
 in_table_last block (a ∷ b ∷ outer) ix = in_table_last block (b ∷ outer) ix

@@ -1,5 +1,6 @@
 -- What a search for the end of a math span finds, whether it walks or reads what was learned.
-use Rattle.std.proofs.Common.{◌≡◌, ℕ, suc, ◌+◌, ◌<◌, ◌≤◌, Bool, List, [], ◌∷◌, ◌++◌, Option, Some, None, true, false, not, length, refl}
+use Rattle.std.proofs.Common.{◌≡◌, ℕ, suc, ◌+◌, ◌<◌, ◌≤◌, Bool, List, [], ◌∷◌, ◌++◌, Option, Some, None, true, false}
+use Rattle.std.proofs.Common.{not, length, refl}
 use Rattle.std.proofs.Common.{arith, subst, sym, ◌∙◌, ap, append_assoc, append-nil, length-append}
 use Rattle.std.specs.Prelude.{if◌then◌else◌, ◌==◌, is_some, option_to_list, IfSome}
 use Rattle.std.specs.Option.{option_map}
@@ -15,13 +16,15 @@ use Rattle.markdown_spans.specs.ChainWalk.{LooksAlong, WalksTo, one_of}
 use Rattle.markdown_spans.specs.Closers.{can_open, context_of, first_dollar, is_dollar, math_close, math_close_from}
 use Rattle.markdown_spans.specs.CloserSearches.{looked_for_dollar, looked_for_math}
 use Rattle.markdown_spans.specs.MathOpening.{closed_at, closed_by_first, dollar_at, marks_at, opener_at, searched_from}
-use Rattle.markdown_spans.specs.SpanClosers.{ClosesMath, HoldsFrom, Learned, RisesBy, StandsIn, failed_by_now, found_math, has_failed}
+use Rattle.markdown_spans.specs.SpanClosers.{ClosesMath, HoldsFrom, Learned, RisesBy, StandsIn, failed_by_now}
+use Rattle.markdown_spans.specs.SpanClosers.{found_math, has_failed}
 use Rattle.markdown_spans.specs.SpanClosers.{item_in}
 use Rattle.markdown_spans.specs.SpanMarks.{known_closers, first_with, known_after, known_closer, mark_at, marks_in}
 use Rattle.markdown_spans.proofs.ChainWalkLemmas.{begins_at, chain_at, marks_in-append, rises_on}
 use Rattle.markdown_spans.proofs.FindCodeLemmas.{here_of, holds_left}
 use Rattle.markdown_spans.proofs.LearnedLemmas.{KnownHere, mark_number}
-use Rattle.markdown_spans.proofs.MathOpeningLemmas.{OpenerIs, Searched, closes_by, dollar_mark, first_within, found_or_not, looked_within}
+use Rattle.markdown_spans.proofs.MathOpeningLemmas.{OpenerIs, Searched, closes_by, dollar_mark, first_within}
+use Rattle.markdown_spans.proofs.MathOpeningLemmas.{found_or_not, looked_within}
 use Rattle.markdown_spans.proofs.MathOpeningLemmas.{math_stands, opener_is, opener_mark, opener_number, searched}
 use Rattle.markdown_spans.proofs.SpanSearchLemmas.{breaks_for_dollar, nothing_left, first_is_dollar, walk_for_dollar}
 use Rattle.markdown_spans.specs.declared.math_opener.MathOpener.{MathOpener}
@@ -183,7 +186,8 @@ pub breaks_before : (nodes : List (Node Item)) (o : MathOpener) (low : ℕ) (aft
     opener_at nodes o.number ≡ Some o
     → ((low : ℕ) (chain : List Numbered) → LeadsThrough nodes low (searched_from nodes o) chain →
     LooksAlong Math (Some o.context) chain v v')
-    → LeadsThrough nodes low (sibling_of nodes o.number) after → RisesAtMost (looked_for_math item_in o.end o.context after) v v'
+    → LeadsThrough nodes low (sibling_of nodes o.number) after
+    → RisesAtMost (looked_for_math item_in o.end o.context after) v v'
 breaks_before nodes o low after v v' is along h =
     let s = searched nodes o low after (opener_is nodes o is) h in
     rw (looked_if nodes o after s (is_some (math_close item_in o.end o.context after)) refl)
@@ -195,14 +199,20 @@ pub breaks_after : (nodes : List (Node Item)) (o : MathOpener) (low : ℕ) (afte
     → close ≡ closed_at nodes o ix → is_some close ≡ false
     → ((low : ℕ) (chain : List Numbered) → LeadsThrough nodes low (searched_from nodes o) chain →
     WalksTo Math (Some o.context) nodes chain (Some ix) mid at_ix v v1)
-    → ((low : ℕ) (after : List Numbered) → LeadsThrough nodes low (sibling_of nodes ix) after → RisesAtMost (length after) v1 v')
-    → LeadsThrough nodes low (sibling_of nodes o.number) after → RisesAtMost (looked_for_math item_in o.end o.context after) v v'
+    → ((low : ℕ) (after : List Numbered) → LeadsThrough nodes low (sibling_of nodes ix) after
+    → RisesAtMost (length after) v1 v')
+    → LeadsThrough nodes low (sibling_of nodes o.number) after
+    → RisesAtMost (looked_for_math item_in o.end o.context after) v v'
 breaks_after nodes o low after ix close mid at_ix v v1 v' is e none walks most h =
     let s = searched nodes o low after (opener_is nodes o is) h in
     let w = walks s.low s.items s.leads in
     let first = (walk_for_dollar o.context nodes s.items (Some ix) mid at_ix v v1 w).finds in
     let g = stopped_at nodes ix o.context s.items mid at_ix v v1 w in
-    rw (looked_if nodes o after s false (found_some nodes o after s (Some ix) first ∙ (ap is_some (sym e) ∙ none)), ← g.sizes)
+    rw (
+      looked_if nodes o after s false (found_some nodes o after s (Some ix) first ∙ (ap is_some (sym e) ∙ none)),
+      ←
+          g.sizes,
+    )
     (rises_at_most_twice g.size (length g.after) v v1 v' (rises_by_most g.size g.size v v1 g.counts (omega arith))
     (most g.low g.after g.leads))
 

@@ -4,7 +4,8 @@ use Rattle.std.proofs.Common.{◌≡◌, ℕ, ◌+◌, ◌-◌, ◌≤◌, Bool,
 use Rattle.std.specs.Prelude.{if◌then◌else◌, is_some}
 use Rattle.markdown_base.specs.Forest.{Forest, nil, node, Each}
 use Rattle.markdown_document.specs.Above.{Above}
-use Rattle.markdown_document.specs.Document.{Tags, Shape, leaf, enclosed, plain, backslash_break, unresolved, Label, is_unresolved}
+use Rattle.markdown_document.specs.Document.{Tags, Shape, leaf, enclosed, plain, backslash_break, unresolved, Label}
+use Rattle.markdown_document.specs.Document.{is_unresolved}
 use Rattle.markdown_document.specs.Labels.{Begins, weight}
 use Rattle.markdown_document.specs.Counts.{counts_shape, delimiters_in}
 use Rattle.markdown_document.specs.Setting.{Setting}
@@ -12,7 +13,8 @@ use Rattle.markdown_document.specs.Totals.{weight_if}
 use Rattle.markdown_document.specs.Waiting.{is_quiet}
 use Rattle.markdown_spans.specs.AfterLess.{Markup, autolink, html_markup}
 use Rattle.markdown_document.specs.ChainRest.{begun_at, cut_shape, end_of, open_body, past, past_byte}
-use Rattle.markdown_spans.specs.Finds.{Find, SpanText, code_span, code_trees, find, is_escaped, markup, markup_trees, math_span, nothing}
+use Rattle.markdown_spans.specs.Finds.{Find, SpanText, code_span, code_trees, find, is_escaped, markup, markup_trees}
+use Rattle.markdown_spans.specs.Finds.{math_span, nothing}
 use Rattle.markdown_spans.specs.Finds.{read_tree, read_unless, trees_for}
 
 -- what is no more open, all through a forest
@@ -48,7 +50,8 @@ cut_counts n (unresolved b) = refl
 
 module _ {A : Type 0} where
   -- nothing that replaces a find is open
-  closed_code : (s : Setting) (e : Bool) (a : Label A) (t : SpanText) (closer : Label A) → AllClosed (code_trees s e a t closer)
+  closed_code : (s : Setting) (e : Bool) (a : Label A) (t : SpanText) (closer : Label A)
+      → AllClosed (code_trees s e a t closer)
   closed_code s false a t closer = (refl, tt, tt)
   closed_code s true a t closer = (refl, tt, (refl, tt, tt))
 
@@ -63,7 +66,8 @@ module _ {A : Type 0} where
   closed_trees s new a (markup m) = closed_markup s new a m
   closed_trees s new a nothing = (refl, tt, tt)
 
-  weight_code : (s : Setting) (e : Bool) (a : Label A) (t : SpanText) (closer : Label A) → weight (code_trees s e a t closer) ≤ 4
+  weight_code : (s : Setting) (e : Bool) (a : Label A) (t : SpanText) (closer : Label A)
+      → weight (code_trees s e a t closer) ≤ 4
   weight_code s false a t closer = omega arith
   weight_code s true a t closer = omega arith
 
@@ -79,9 +83,11 @@ module _ {A : Type 0} where
   weight_trees s new a nothing = omega arith
 
   -- what is read from a tree weighs at most what the tree does
-  unless_weight : (s : Setting) (tags : Tags A) (above : Above) (n : ℕ) (a : Label A) (below rest : Forest (Label A)) (quiet : Bool)
+  unless_weight : (s : Setting) (tags : Tags A) (above : Above) (n : ℕ) (a : Label A) (below rest : Forest (Label A))
+      (quiet : Bool)
       → is_quiet a.part.shape ≡ quiet
-      → weight (read_unless quiet s tags above n a below rest).trees ≤ weight_if (is_unresolved a.part.shape) + weight below
+      → weight (read_unless quiet s tags above n a below rest).trees ≤ weight_if (is_unresolved a.part.shape) + weight
+      below
   unless_weight s tags above n a below rest true e = omega arith
   unless_weight s tags above n a below rest false e =
       let found = weight_trees s (tags.fresh n) a (find s above a rest) in
@@ -112,7 +118,8 @@ module _ {A : Type 0} where
   past_weight (Some i) chain = past_byte_weight i chain
 
   -- what replaces a find gives an event first, and has no delimiter character
-  begins_code : (s : Setting) (e : Bool) (a : Label A) (t : SpanText) (closer : Label A) → Begins (code_trees s e a t closer)
+  begins_code : (s : Setting) (e : Bool) (a : Label A) (t : SpanText) (closer : Label A)
+      → Begins (code_trees s e a t closer)
   begins_code s false a t closer = tt
   begins_code s true a t closer = tt
 
@@ -127,7 +134,8 @@ module _ {A : Type 0} where
   begins_trees s new a (markup m) = begins_markup s new a m
   begins_trees s new a nothing = tt
 
-  delimiters_code : (s : Setting) (e : Bool) (a : Label A) (t : SpanText) (closer : Label A) → delimiters_in (code_trees s e a t closer) ≡ 0
+  delimiters_code : (s : Setting) (e : Bool) (a : Label A) (t : SpanText) (closer : Label A)
+      → delimiters_in (code_trees s e a t closer) ≡ 0
   delimiters_code s false a t closer = refl
   delimiters_code s true a t closer = refl
 
@@ -136,24 +144,29 @@ module _ {A : Type 0} where
   delimiters_markup s new a (html_markup end None) = refl
   delimiters_markup s new a (html_markup end (Some bytes)) = refl
 
-  delimiters_trees : (s : Setting) (new : A) (a : Label A) (found : Find A) → delimiters_in (trees_for s new a found) ≡ 0
+  delimiters_trees : (s : Setting) (new : A) (a : Label A) (found : Find A) → delimiters_in (trees_for s new a found)
+      ≡ 0
   delimiters_trees s new a (code_span t closer) = delimiters_code s (is_escaped (open_body a.part.shape)) a t closer
   delimiters_trees s new a (math_span display t end) = refl
   delimiters_trees s new a (markup m) = delimiters_markup s new a m
   delimiters_trees s new a nothing = refl
 
-  unless_delimiters : (s : Setting) (tags : Tags A) (above : Above) (n : ℕ) (a : Label A) (below rest : Forest (Label A)) (quiet : Bool)
+  unless_delimiters : (s : Setting) (tags : Tags A) (above : Above) (n : ℕ) (a : Label A)
+      (below rest : Forest (Label A)) (quiet : Bool)
       → delimiters_in (read_unless quiet s tags above n a below rest).trees ≤ counts_shape a.part.shape
   unless_delimiters s tags above n a below rest true = omega arith
-  unless_delimiters s tags above n a below rest false = omega (arith, delimiters_trees s (tags.fresh n) a (find s above a rest))
+  unless_delimiters s tags above n a below rest false = omega
+      (arith, delimiters_trees s (tags.fresh n) a (find s above a rest))
 
   -- a tree has no more of them when it is read, nor has what is left of a chain
-  pub read_delimiters : (s : Setting) (tags : Tags A) (above : Above) (n : ℕ) (a : Label A) (below rest : Forest (Label A))
+  pub read_delimiters : (s : Setting) (tags : Tags A) (above : Above) (n : ℕ) (a : Label A)
+      (below rest : Forest (Label A))
       → delimiters_in (read_tree s tags above n a below rest).trees ≤ counts_shape a.part.shape
   unfolding read_tree
   read_delimiters s tags above n a below rest = unless_delimiters s tags above n a below rest (is_quiet a.part.shape)
 
-  cut_delimiters : (i : ℕ) (a : Label A) (below after : Forest (Label A)) → delimiters_in (node (begun_at i a) below after)
+  cut_delimiters : (i : ℕ) (a : Label A) (below after : Forest (Label A))
+      → delimiters_in (node (begun_at i a) below after)
       ≡ delimiters_in (node a below after)
   cut_delimiters i a below after = rw (cut_counts (i - a.part.range.start) a.part.shape) refl
 
@@ -162,16 +175,19 @@ module _ {A : Type 0} where
   past_byte_delimiters i (node a below after) = by (nat_le (end_of a) i) (past_byte_delimiters i after)
     where
       by : (b : Bool) → delimiters_in (past_byte i after) ≤ delimiters_in after
-          → delimiters_in (if b then past_byte i after else node (begun_at i a) below after) ≤ delimiters_in (node a below after)
+          → delimiters_in (if b then past_byte i after else node (begun_at i a) below after) ≤ delimiters_in
+          (node a below after)
       by true h = omega arith
       by false h = omega (arith, cut_delimiters i a below after)
 
-  pub past_delimiters : (goes_on : Option ℕ) (chain : Forest (Label A)) → delimiters_in (past goes_on chain) ≤ delimiters_in chain
+  pub past_delimiters : (goes_on : Option ℕ) (chain : Forest (Label A))
+      → delimiters_in (past goes_on chain) ≤ delimiters_in chain
   past_delimiters None chain = omega arith
   past_delimiters (Some i) chain = past_byte_delimiters i chain
 
   -- what was read of a tree is quiet, and no block, where the tree is no block and what is below it is so
-  quiet_code : (s : Setting) (e : Bool) (a : Label A) (t : SpanText) (closer : Label A) → Each IsQuietLabel (code_trees s e a t closer)
+  quiet_code : (s : Setting) (e : Bool) (a : Label A) (t : SpanText) (closer : Label A)
+      → Each IsQuietLabel (code_trees s e a t closer)
   quiet_code s false a t closer = ((refl, refl), tt, tt)
   quiet_code s true a t closer = ((refl, refl), tt, ((refl, refl), tt, tt))
 
@@ -187,13 +203,17 @@ module _ {A : Type 0} where
   quiet_trees s new a (markup m) h = quiet_markup s new a m
   quiet_trees s new a nothing h = ((refl, h), tt, tt)
 
-  unless_quiet : (s : Setting) (tags : Tags A) (above : Above) (n : ℕ) (a : Label A) (below rest : Forest (Label A)) (quiet : Bool)
+  unless_quiet : (s : Setting) (tags : Tags A) (above : Above) (n : ℕ) (a : Label A) (below rest : Forest (Label A))
+      (quiet : Bool)
       → is_quiet a.part.shape ≡ quiet
-      → is_some a.part.block ≡ false → Each IsQuietLabel below → Each IsQuietLabel (read_unless quiet s tags above n a below rest).trees
+      → is_some a.part.block ≡ false → Each IsQuietLabel below
+      → Each IsQuietLabel (read_unless quiet s tags above n a below rest).trees
   unless_quiet s tags above n a below rest true e h inner = ((e, h), inner, tt)
   unless_quiet s tags above n a below rest false e h inner = quiet_trees s (tags.fresh n) a (find s above a rest) h
 
   pub read_quiet : (s : Setting) (tags : Tags A) (above : Above) (n : ℕ) (a : Label A) (below rest : Forest (Label A))
-      → is_some a.part.block ≡ false → Each IsQuietLabel below → Each IsQuietLabel (read_tree s tags above n a below rest).trees
+      → is_some a.part.block ≡ false → Each IsQuietLabel below
+      → Each IsQuietLabel (read_tree s tags above n a below rest).trees
   unfolding read_tree
-  read_quiet s tags above n a below rest h inner = unless_quiet s tags above n a below rest (is_quiet a.part.shape) refl h inner
+  read_quiet s tags above n a below rest h inner = unless_quiet s tags above n a below rest (is_quiet a.part.shape) refl
+      h inner

@@ -1,5 +1,6 @@
 -- What was learned of a chain, as a chain is read on.
-use Rattle.std.proofs.Common.{◌≡◌, ℕ, suc, ◌<◌, ◌≤◌, List, [], ◌∷◌, ◌++◌, Option, Some, None, true, false, refl, arith, subst, sym, ◌∙◌, ap}
+use Rattle.std.proofs.Common.{◌≡◌, ℕ, suc, ◌<◌, ◌≤◌, List, [], ◌∷◌, ◌++◌, Option, Some, None, true, false, refl, arith}
+use Rattle.std.proofs.Common.{subst, sym, ◌∙◌, ap}
 use Rattle.std.proofs.Common.{append_assoc}
 use Rattle.std.specs.Prelude.{option_to_list, ◌==◌}
 use Rattle.std.proofs.Common.{eq-eqb}
@@ -139,7 +140,8 @@ knows_next kind nodes a link after known h k = cases (mark_at kind a.number a.it
               ∙ sym (append_assoc k.passed (mine ∷ []) (known_closers (marks_in kind after))));
         }
 
-pub holds_next_of : (kind : SpanKind) (nodes : List (Node Item)) (a : Numbered) (link : Option ℕ) (after : List Numbered)
+pub holds_next_of : (kind : SpanKind) (nodes : List (Node Item)) (a : Numbered) (link : Option ℕ)
+    (after : List Numbered)
     (learned : Learned)
     → LeadsThrough nodes (suc a.number) link after → HoldsOf kind learned (a ∷ after) → HoldsOf kind learned after
 holds_next_of kind nodes a link after None h k = tt

@@ -1,5 +1,6 @@
 -- An opener of math in an arena, by the list of the items after it.
-use Rattle.std.proofs.Common.{◌≡◌, ℕ, suc, ◌+◌, ◌<◌, ◌≤◌, Bool, List, [], ◌∷◌, ◌++◌, Option, Some, None, true, false, ◌&&◌, not, length}
+use Rattle.std.proofs.Common.{◌≡◌, ℕ, suc, ◌+◌, ◌<◌, ◌≤◌, Bool, List, [], ◌∷◌, ◌++◌, Option, Some, None, true, false}
+use Rattle.std.proofs.Common.{◌&&◌, not, length}
 use Rattle.std.proofs.Common.{drop, refl, arith, subst, sym, ◌∙◌, ap}
 use Rattle.std.specs.Prelude.{if◌then◌else◌, ◌==◌, is_some, option_to_list, IfSome}
 use Rattle.std.specs.Option.{option_map}
@@ -14,7 +15,8 @@ use Rattle.markdown_spans.specs.Closers.{Dollar, MathClose, can_close, can_open,
 use Rattle.markdown_spans.specs.Closers.{display_close, dollar_next, first_dollar, inline_close, is_dollar}
 use Rattle.markdown_spans.specs.Closers.{is_dollar_of, math_close}
 use Rattle.markdown_spans.specs.CloserSearches.{looked_for_dollar, searched_for_math}
-use Rattle.markdown_spans.specs.MathOpening.{closed_by_first, display_closed, dollar_at, inline_closed, marks_at, opener_at, searched_from}
+use Rattle.markdown_spans.specs.MathOpening.{closed_by_first, display_closed, dollar_at, inline_closed, marks_at}
+use Rattle.markdown_spans.specs.MathOpening.{opener_at, searched_from}
 use Rattle.markdown_spans.specs.SpanClosers.{StandsIn, found_math, item_in}
 use Rattle.markdown_spans.specs.SpanMarks.{mark_at, marks_in}
 use Rattle.markdown_spans.proofs.ChainWalkLemmas.{chain_at}

@@ -1,5 +1,6 @@
 -- Slices of a text, and slices of those.
-use Rattle.std.proofs.Common.{◌≡◌, ℕ, zero, suc, ◌+◌, ◌-◌, ◌<◌, ◌≤◌, List, [], ◌∷◌, length, take, drop, refl, sym, ap, ◌∙◌, arith, ⊎_elim}
+use Rattle.std.proofs.Common.{◌≡◌, ℕ, zero, suc, ◌+◌, ◌-◌, ◌<◌, ◌≤◌, List, [], ◌∷◌, length, take, drop, refl, sym, ap}
+use Rattle.std.proofs.Common.{◌∙◌, arith, ⊎_elim}
 use Rattle.std.specs.Prelude.{min, slice_range}
 use Rattle.std.specs.declared.ops.Range.{Range}
 use Rattle.std.proofs.Math.Logic.{∥∥₁_map}
@@ -17,7 +18,8 @@ slice_between text start end bytes e = ∣ (record { start = start; end = end },
 pub slice_whole : (text : List ℕ) → IsSliceWithin text 0 (length text) text
 slice_whole text =
     let all : length text - 0 ≡ length text = omega arith in
-    slice_between text 0 (length text) text (sym (ap (λ n. take n text) all ∙ take_all (length text) text (omega arith)))
+    slice_between text 0 (length text) text
+    (sym (ap (λ n. take n text) all ∙ take_all (length text) text (omega arith)))
 
 first_of_none : (n : ℕ) → let none : List ℕ = [] in none ≡ take n none
 first_of_none zero = refl
@@ -28,13 +30,16 @@ drop_of_take : (i m : ℕ) (xs : List ℕ) → drop i (take m xs) ≡ take (m - 
 drop_of_take zero m xs = let e : m ≡ m - 0 = omega arith in ap (λ n. take n xs) e
 drop_of_take (suc i) zero xs = let e : 0 ≡ 0 - suc i = omega arith in ap (λ n. take n (drop (suc i) xs)) e
 drop_of_take (suc i) (suc m) [] = first_of_none (suc m - suc i)
-drop_of_take (suc i) (suc m) (x ∷ xs) = let e : m - i ≡ suc m - suc i = omega arith in drop_of_take i m xs ∙ ap (λ n. take n (drop i xs)) e
+drop_of_take (suc i) (suc m) (x ∷ xs) = let e : m - i ≡ suc m - suc i = omega arith in drop_of_take i m xs
+    ∙ ap (λ n. take n (drop i xs)) e
 
 take_of_take : (i m : ℕ) (xs : List ℕ) → take i (take m xs) ≡ take (min i m) xs
 take_of_take i m xs =
     ⊎_elim
-    (λ (l : i < m). let e : i ≡ min i m = omega (arith, l) in take-take i m xs (omega (arith, l)) ∙ ap (λ n. take n xs) e)
-    (λ (l : m ≤ i). let e : m ≡ min i m = omega (arith, l) in take_all i (take m xs) (omega (arith, l, length-take m xs))
+    (λ (l : i < m). let e : i ≡ min i m = omega (arith, l) in take-take i m xs (omega (arith, l))
+    ∙ ap (λ n. take n xs) e)
+    (λ (l : m ≤ i). let e : m ≡ min i m = omega (arith, l) in take_all i (take m xs)
+    (omega (arith, l, length-take m xs))
     ∙ ap (λ n. take n xs) e)
     (cases_lt i m)
 
@@ -43,7 +48,8 @@ slice_twice : (text : List ℕ) (a b c d : ℕ)
 slice_twice text a b c d =
     let n = min (d - c) (b - a - c) in
     let e : n ≡ (a + min d (b - a)) - (a + c) = omega arith in
-    ap (λ xs. take (d - c) xs) (drop_of_take c (b - a) (drop a text)) ∙ take_of_take (d - c) (b - a - c) (drop c (drop a text))
+    ap (λ xs. take (d - c) xs) (drop_of_take c (b - a) (drop a text))
+    ∙ take_of_take (d - c) (b - a - c) (drop c (drop a text))
     ∙ ap (λ xs. take n xs) (drop-drop c a text) ∙ ap (λ k. take k (drop (a + c) text)) e
 
 -- a slice of a slice of a text is a slice of the text
@@ -59,7 +65,8 @@ slice_of_slice text a b c d bytes h =
     ))
 
 -- and within the byte offsets of the first slice
-pub slice_inside : (text : List ℕ) (a b end : ℕ) (bytes : List ℕ) → a ≤ b → IsSliceWithin (slice_range text a b) 0 end bytes
+pub slice_inside : (text : List ℕ) (a b end : ℕ) (bytes : List ℕ) → a ≤ b → IsSliceWithin (slice_range text a b) 0 end
+    bytes
     → IsSliceWithin text a b bytes
 slice_inside text a b end bytes order h =
     ∥∥₁_map h (λ (p : (range : Range ℕ) × (0 ≤ range.start) × (range.end ≤ end)
@@ -74,6 +81,8 @@ pub sliced_inside : (text : List ℕ) (a b end : ℕ) (origin : Origin) (bytes :
     → IsSlicedOf (slice_range text a b) 0 end origin bytes → IsSlicedOf text a b origin bytes
 sliced_inside text a b end origin bytes order h = λ is. slice_inside text a b end bytes order (h is)
 
-pub sliced_wider : (text : List ℕ) (start end start' end' : ℕ) (origin : Origin) (bytes : List ℕ) → start' ≤ start → end ≤ end'
+pub sliced_wider : (text : List ℕ) (start end start' end' : ℕ) (origin : Origin) (bytes : List ℕ) → start' ≤ start
+    → end ≤ end'
     → IsSlicedOf text start end origin bytes → IsSlicedOf text start' end' origin bytes
-sliced_wider text start end start' end' origin bytes low high h = λ is. slice_wider text start end start' end' bytes low high (h is)
+sliced_wider text start end start' end' origin bytes low high h = λ is. slice_wider text start end start' end' bytes low
+    high (h is)

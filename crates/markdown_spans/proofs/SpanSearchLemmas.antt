@@ -1,5 +1,6 @@
 -- What a search for a mark says about the closers of spans, and about the items that are examined.
-use Rattle.std.proofs.Common.{◌≡◌, ℕ, suc, ◌+◌, ◌-◌, ◌^◌, ◌≤◌, min, Bool, List, [], ◌∷◌, ◌++◌, Option, Some, None, true, false, length}
+use Rattle.std.proofs.Common.{◌≡◌, ℕ, suc, ◌+◌, ◌-◌, ◌^◌, ◌≤◌, min, Bool, List, [], ◌∷◌, ◌++◌, Option, Some, None, true}
+use Rattle.std.proofs.Common.{false, length}
 use Rattle.std.proofs.Common.{refl, arith, sym, ◌∙◌, ap, append-nil}
 use Rattle.std.specs.Prelude.{option_to_list, if◌then◌else◌, is_some}
 use Rattle.std.specs.Option.{option_map}
@@ -151,14 +152,16 @@ pub breaks_for_code : (n : ℕ) (chain : List Numbered) (visits visits' : ℕ) �
     → RisesAtMost (looked_for_code item_in n chain) visits visits'
 breaks_for_code n chain visits visits' w =
     rw (w.parts, looked_past_code n w.passed w.rest w.none)
-    (rises_by_most (length w.passed) (length w.passed + looked_for_code item_in n w.rest) visits visits' w.counts (omega arith))
+    (rises_by_most (length w.passed) (length w.passed + looked_for_code item_in n w.rest) visits visits' w.counts
+    (omega arith))
 
 pub breaks_for_dollar : (context : ℕ) (chain : List Numbered) (visits visits' : ℕ) →
     LooksAlong Math (Some context) chain visits visits'
     → RisesAtMost (looked_for_dollar item_in context chain) visits visits'
 breaks_for_dollar context chain visits visits' w =
     rw (w.parts, looked_past_dollar context w.passed w.rest w.none)
-    (rises_by_most (length w.passed) (length w.passed + looked_for_dollar item_in context w.rest) visits visits' w.counts
+    (rises_by_most (length w.passed) (length w.passed + looked_for_dollar item_in context w.rest) visits visits'
+    w.counts
     (omega arith))
 
 -- where a walk fails, it has noted all marks of the chain

@@ -1,5 +1,6 @@
 -- The number of items that a search examines, by what it finds.
-use Rattle.std.proofs.Common.{◌≡◌, ℕ, suc, ◌+◌, ◌≤◌, Bool, true, false, List, [], ◌∷◌, ◌++◌, Some, None, length, drop, refl, arith, sym}
+use Rattle.std.proofs.Common.{◌≡◌, ℕ, suc, ◌+◌, ◌≤◌, Bool, true, false, List, [], ◌∷◌, ◌++◌, Some, None, length, drop}
+use Rattle.std.proofs.Common.{refl, arith, sym}
 use Rattle.std.proofs.Common.{◌∙◌, ap, length-append}
 use Rattle.std.specs.Prelude.{if◌then◌else◌, ◌==◌, is_some}
 use Rattle.markdown_base.specs.declared.item.Item.{Item}

@@ -67,7 +67,8 @@ math_found s above a after (Some m) =
 abbrev pub markup_found : {A : Type 0} → Setting → Above → Label A → (is_followed : Bool) → Find A
 markup_found s above a false = nothing
 markup_found s above a true = option_map_or markup
-    (markup_at (λ bytes. Some (prefix_below s above bytes)) (take above.block_end s.text) (start_of a) (end_of a)) nothing
+    (markup_at (λ bytes. Some (prefix_below s above bytes)) (take above.block_end s.text) (start_of a) (end_of a))
+    nothing
 
 -- what is found at an item with this body, from the chain after it
 abbrev pub find_by : {A : Type 0} → Setting → Above → ItemBody → Label A → Forest (Label A) → Find A
@@ -115,7 +116,8 @@ markup_trees s new a (autolink end uri) =
     node (label_over a.tag (enclosed (link (address uri))) (start_of a) end)
     (node (text_label s new (end_of a) (end - 1)) nil nil) nil
 markup_trees s new a (html_markup end None) =
-    node (label_over a.tag (leaf (inline_html (slice_range s.text (start_of a) end)) (sliced ∷ [])) (start_of a) end) nil nil
+    node (label_over a.tag (leaf (inline_html (slice_range s.text (start_of a) end)) (sliced ∷ [])) (start_of a) end)
+    nil nil
 markup_trees s new a (html_markup end (Some bytes)) =
     node (label_over a.tag (leaf (inline_html bytes) (made ∷ [])) (start_of a) end) nil nil
 

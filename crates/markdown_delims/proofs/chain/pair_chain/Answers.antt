@@ -17,7 +17,8 @@ use Rattle.markdown_delims.specs.PairedChain.{CanPair}
 use Rattle.markdown_delims.specs.PairingFinds.{finds_in}
 use Rattle.markdown_delims.specs.Quoting.{IsQuoted, QuotesChain, Counts}
 use Rattle.markdown_delims.specs.RunReading.{delimiters_of}
-use Rattle.markdown_delims.proofs.PairedChainLemmas.{trees, spelled_is, chain_is, IsResolved, resolved, finds_are, pairs_chain}
+use Rattle.markdown_delims.proofs.PairedChainLemmas.{trees, spelled_is, chain_is, IsResolved, resolved, finds_are}
+use Rattle.markdown_delims.proofs.PairedChainLemmas.{pairs_chain}
 use Rattle.markdown_document.specs.declared.work.Work.{Work}
 use Rattle.markdown_document.proofs.CountLemmas.{risen_at_least}
 use Rattle.markdown_delims.proofs.chain.pair_chain.Goals as goal
@@ -31,7 +32,8 @@ abbrev rules_by : Options → Rules
 rules_by options = record { options = options; definitions = []; is_footnote = λ name. false; asks = false }
 
 -- all else of the tree stays
-place_is : (old new : Arena Item) → new.spine ≡ old.spine → new.cursor ≡ old.cursor → new ≡ record old { nodes = new.nodes }
+place_is : (old new : Arena Item) → new.spine ≡ old.spine → new.cursor ≡ old.cursor → new
+    ≡ record old { nodes = new.nodes }
 place_is old new e f =
     ap (λ (x : List ℕ). let t : Arena Item = record new { spine = x } in t) e
     ∙ ap (λ (x : Option ℕ). let t : Arena Item = record { nodes = new.nodes; spine = old.spine; cursor = x } in t) f
@@ -60,7 +62,8 @@ module _ (s : Setting) (tables : Tables) (old mid : Arena Item) (first count : �
   chain_done : (m : Marks) (text : List ℕ) (new : Arena Item) → marks_of s.rules.options ≡ m → s.text ≡ text
       → PairsRuns m text mid new first count → IsResolved s tables old new first (trees old.nodes first)
   chain_done m text new is e pairs =
-      resolved s tables old mid new first (trees old.nodes first) quoted (pairs s tables (trees old.nodes first) is e chain_at)
+      resolved s tables old mid new first (trees old.nodes first) quoted
+      (pairs s tables (trees old.nodes first) is e chain_at)
 
   chain_found : (m : Marks) (text : List ℕ) (o n : Openers) → marks_of s.rules.options ≡ m → s.text ≡ text
       → CountsFinds m text mid.nodes first count o n
@@ -85,8 +88,10 @@ module _ (s : Setting) (tables : Tables) (old mid : Arena Item) (first count : �
 pub pair_runs-done-requires-clause-chain : goal.pair_runs-done-requires-clause-chain
 pair_runs-done-requires-clause-chain c =
     let s : Setting = setting_of c.args.source.text.now (rules_by c.args.source.options) in
-    let ch = chain_at s no_tables c.args.tree.now c.quote_chain-delimiters.new.tree c.args.first c.quote_chain-delimiters.result
-    c.requires.chain c.quote_chain-delimiters.ensures.quotes c.quote_chain-delimiters.ensures.count c.quote_chain-delimiters.ensures.few in
+    let ch = chain_at s no_tables c.args.tree.now c.quote_chain-delimiters.new.tree c.args.first
+    c.quote_chain-delimiters.result
+    c.requires.chain c.quote_chain-delimiters.ensures.quotes c.quote_chain-delimiters.ensures.count
+    c.quote_chain-delimiters.ensures.few in
     record {
       setting = s;
       marks_are = sym c.of_options.ensures;
@@ -97,7 +102,8 @@ pair_runs-done-requires-clause-chain c =
       room = omega (
         arith,
         ch.counted,
-        ap (λ t. runs_in t (labels s no_tables c.quote_chain-delimiters.new.tree.nodes (trees c.args.tree.now.nodes c.args.first)))
+        ap (λ t. runs_in t (labels s no_tables c.quote_chain-delimiters.new.tree.nodes
+            (trees c.args.tree.now.nodes c.args.first)))
             c.as_bytes.ensures.value,
         ap (λ o. o.examined) c.clear.ensures,
       );
@@ -109,8 +115,10 @@ returns-clause-pairs c =
     (λ pairs rules same.
     let s : Setting = setting_of c.args.source.text.now rules in
     pairs_chain s c.args.tree.now c.pair_runs-done.new.tree c.args.first c.requires.chain
-    (λ tables. chain_done s tables c.args.tree.now c.quote_chain-delimiters.new.tree c.args.first c.quote_chain-delimiters.result
-    c.requires.chain c.quote_chain-delimiters.ensures.quotes c.quote_chain-delimiters.ensures.count c.quote_chain-delimiters.ensures.few
+    (λ tables. chain_done s tables c.args.tree.now c.quote_chain-delimiters.new.tree c.args.first
+    c.quote_chain-delimiters.result
+    c.requires.chain c.quote_chain-delimiters.ensures.quotes c.quote_chain-delimiters.ensures.count
+    c.quote_chain-delimiters.ensures.few
     c.of_options.result c.as_bytes.result.now c.pair_runs-done.new.tree (ap marks_of same ∙ sym c.of_options.ensures)
     (sym c.as_bytes.ensures.value) pairs))
     c.pair_runs-done.ensures.pairs
@@ -120,9 +128,12 @@ returns-clause-place c =
     on_ok c.pair_runs-done.result
     (λ pairs.
     let s : Setting = setting_of c.args.source.text.now (rules_by c.args.source.options) in
-    let r = chain_done s no_tables c.args.tree.now c.quote_chain-delimiters.new.tree c.args.first c.quote_chain-delimiters.result
-    c.requires.chain c.quote_chain-delimiters.ensures.quotes c.quote_chain-delimiters.ensures.count c.quote_chain-delimiters.ensures.few
-    c.of_options.result c.as_bytes.result.now c.pair_runs-done.new.tree (sym c.of_options.ensures) (sym c.as_bytes.ensures.value) pairs in
+    let r = chain_done s no_tables c.args.tree.now c.quote_chain-delimiters.new.tree c.args.first
+    c.quote_chain-delimiters.result
+    c.requires.chain c.quote_chain-delimiters.ensures.quotes c.quote_chain-delimiters.ensures.count
+    c.quote_chain-delimiters.ensures.few
+    c.of_options.result c.as_bytes.result.now c.pair_runs-done.new.tree (sym c.of_options.ensures)
+    (sym c.as_bytes.ensures.value) pairs in
     place_is c.args.tree.now c.pair_runs-done.new.tree r.kept.spine r.kept.cursor)
     c.pair_runs-done.ensures.pairs
 
@@ -131,12 +142,16 @@ returns-clause-found c =
     on_ok c.pair_runs-done.result
     (λ found rules tables same.
     let s : Setting = setting_of c.args.source.text.now rules in
-    let all = chain_found s tables c.args.tree.now c.quote_chain-delimiters.new.tree c.args.first c.quote_chain-delimiters.result
-    c.requires.chain c.quote_chain-delimiters.ensures.quotes c.quote_chain-delimiters.ensures.count c.quote_chain-delimiters.ensures.few
-    c.of_options.result c.as_bytes.result.now c.clear.new.self c.pair_runs-done.new.openers (ap marks_of same ∙ sym c.of_options.ensures)
+    let all = chain_found s tables c.args.tree.now c.quote_chain-delimiters.new.tree c.args.first
+    c.quote_chain-delimiters.result
+    c.requires.chain c.quote_chain-delimiters.ensures.quotes c.quote_chain-delimiters.ensures.count
+    c.quote_chain-delimiters.ensures.few
+    c.of_options.result c.as_bytes.result.now c.clear.new.self c.pair_runs-done.new.openers
+    (ap marks_of same ∙ sym c.of_options.ensures)
     (sym c.as_bytes.ensures.value) found in
     let none : c.clear.new.self.examined ≡ 0 = ap (λ o. o.examined) c.clear.ensures in
-    let rises = risen_at_least c.examined.result (finds_in s (trees_from c.args.source.text.now tables c.args.tree.now.nodes (Some c.args.first)))
+    let rises = risen_at_least c.examined.result
+    (finds_in s (trees_from c.args.source.text.now tables c.args.tree.now.nodes (Some c.args.first)))
     c.args.work.now.examined (omega (arith, all, none, c.examined.ensures.value)) in
     rw c.count_pairing.ensures rises)
     c.pair_runs-done.ensures.found
@@ -144,8 +159,10 @@ returns-clause-found c =
 pub returns-clause-examined : goal.returns-clause-examined
 returns-clause-examined c =
     let s : Setting = setting_of c.args.source.text.now (rules_by c.args.source.options) in
-    let paid = chain_paid s no_tables c.args.tree.now c.quote_chain-delimiters.new.tree c.args.first c.quote_chain-delimiters.result
-    c.requires.chain c.quote_chain-delimiters.ensures.quotes c.quote_chain-delimiters.ensures.count c.quote_chain-delimiters.ensures.few
+    let paid = chain_paid s no_tables c.args.tree.now c.quote_chain-delimiters.new.tree c.args.first
+    c.quote_chain-delimiters.result
+    c.requires.chain c.quote_chain-delimiters.ensures.quotes c.quote_chain-delimiters.ensures.count
+    c.quote_chain-delimiters.ensures.few
     c.of_options.result c.as_bytes.result.now c.clear.new.self c.pair_runs-done.new.openers (sym c.of_options.ensures)
     (sym c.as_bytes.ensures.value) c.pair_runs-done.ensures.paid in
     let none : c.clear.new.self.potential ≡ 0 = ap (λ o. o.potential) c.clear.ensures in
@@ -161,6 +178,7 @@ returns-clause-counted c =
     rw (
       c.count_pairing.ensures,
       counted s no_tables c.args.tree.now c.quote_chain-delimiters.new.tree c.args.first
-          c.quote_chain-delimiters.result c.requires.chain c.quote_chain-delimiters.ensures.quotes c.quote_chain-delimiters.ensures.count
+          c.quote_chain-delimiters.result c.requires.chain c.quote_chain-delimiters.ensures.quotes
+          c.quote_chain-delimiters.ensures.count
           c.quote_chain-delimiters.ensures.few,
     ) refl

@@ -2,32 +2,41 @@
 use Rattle.std.proofs.Common.{◌+◌, ◌*◌, ◌^◌, ◌<◌, ap, subst, arith}
 use Rattle.markdown_document.specs.Counts.{comparisons_per_delimiter}
 use Rattle.markdown_delims.specs.ChainReading.{StandsWhole, labels, runs_in}
-use Rattle.markdown_delims.proofs.ChainLemmas.{RunsRead, none_paired, runs_chain, starts_reading, read_on, reads_more, pays, all_paid, can_go_on, all_read, all_found, goes_down}
+use Rattle.markdown_delims.proofs.ChainLemmas.{RunsRead, none_paired, runs_chain, starts_reading, read_on, reads_more}
+use Rattle.markdown_delims.proofs.ChainLemmas.{pays, all_paid, can_go_on, all_read, all_found, goes_down}
 use Rattle.markdown_delims.proofs.ReadLemmas.{head_within}
 use Rattle.markdown_delims.proofs.chain.pair_runs.Goals as goal
 
 pub trees-init : goal.trees-init
-trees-init c s tables f m t ch = starts_reading s tables c.args.tree.now c.args.first c.args.count f ch c.args.openers.now c.requires.emptied.runs
+trees-init c s tables f m t ch = starts_reading s tables c.args.tree.now c.args.first c.args.count f ch
+    c.args.openers.now c.requires.emptied.runs
 
 pub read_tree-requires : goal.read_tree-requires
 read_tree-requires c =
     let p = c.requires.chain in
-    let room : c.args.openers.now.examined + comparisons_per_delimiter * runs_in c.args.source.text.now (labels p.setting p.tables
+    let room : c.args.openers.now.examined + comparisons_per_delimiter * runs_in c.args.source.text.now
+    (labels p.setting p.tables
     c.args.tree.now.nodes p.forest) < 2 ^ 128 = p.room in
     record {
-      stands = can_go_on p.setting p.tables c.args.tree.now c.args.first c.args.count p.forest p.chain c.trees.tree c.args.openers.now c.trees.openers
+      stands = can_go_on p.setting p.tables c.args.tree.now c.args.first c.args.count p.forest p.chain c.trees.tree
+          c.args.openers.now c.trees.openers
           c.trees.last c.args.source.marks c.args.source.text.now c.in-Some.ix p.marks_are p.text_is
           (omega (arith, c.requires.emptied.potential, room))
-          (subst (λ l. RunsRead p.setting p.tables c.args.tree.now c.args.first c.args.count p.forest p.chain c.trees.tree c.args.openers.now
-          c.trees.openers c.trees.last l) c.in-Some.is (c.trees.invariant p.setting p.tables p.forest p.marks_are p.text_is p.chain));
+          (subst (λ l. RunsRead p.setting p.tables c.args.tree.now c.args.first c.args.count p.forest p.chain
+          c.trees.tree c.args.openers.now
+          c.trees.openers c.trees.last l) c.in-Some.is
+          (c.trees.invariant p.setting p.tables p.forest p.marks_are p.text_is p.chain));
     }
 
 pub trees-preserved : goal.trees-preserved
 trees-preserved c s tables f m t ch =
-    reads_more s tables c.args.tree.now c.args.first c.args.count f ch c.trees.tree c.args.openers.now c.trees.openers c.trees.last
-    c.args.source.marks c.args.source.text.now c.read_tree.new.tree c.read_tree.new.openers c.in_ok-read.read c.in_ok-read.next
+    reads_more s tables c.args.tree.now c.args.first c.args.count f ch c.trees.tree c.args.openers.now c.trees.openers
+    c.trees.last
+    c.args.source.marks c.args.source.text.now c.read_tree.new.tree c.read_tree.new.openers c.in_ok-read.read
+    c.in_ok-read.next
     c.in-Some.ix m t
-    (subst (λ l. RunsRead s tables c.args.tree.now c.args.first c.args.count f ch c.trees.tree c.args.openers.now c.trees.openers c.trees.last l)
+    (subst (λ l. RunsRead s tables c.args.tree.now c.args.first c.args.count f ch c.trees.tree c.args.openers.now
+    c.trees.openers c.trees.last l)
     c.in-Some.is (c.trees.invariant s tables f m t ch))
     c.in_ok-read.ensures.ok
 
@@ -35,10 +44,14 @@ pub trees-smaller : goal.trees-smaller
 trees-smaller c =
     let p = c.requires.chain in
     let h = runs_chain p.setting p.tables c.args.tree.now c.args.first c.args.count p.forest p.chain in
-    let a = subst (λ l. RunsRead p.setting p.tables c.args.tree.now c.args.first c.args.count p.forest p.chain c.trees.tree c.args.openers.now
-    c.trees.openers c.trees.last l) c.in-Some.is (c.trees.invariant p.setting p.tables p.forest p.marks_are p.text_is p.chain) in
-    let b = read_on p.setting p.tables c.args.tree.now c.args.first c.args.count p.forest p.chain c.trees.tree c.args.openers.now c.trees.openers
-    c.trees.last c.args.source.marks c.args.source.text.now c.read_tree.new.tree c.read_tree.new.openers c.in_ok-read.read
+    let a = subst (λ l. RunsRead p.setting p.tables c.args.tree.now c.args.first c.args.count p.forest p.chain
+    c.trees.tree c.args.openers.now
+    c.trees.openers c.trees.last l) c.in-Some.is
+    (c.trees.invariant p.setting p.tables p.forest p.marks_are p.text_is p.chain) in
+    let b = read_on p.setting p.tables c.args.tree.now c.args.first c.args.count p.forest p.chain c.trees.tree
+    c.args.openers.now c.trees.openers
+    c.trees.last c.args.source.marks c.args.source.text.now c.read_tree.new.tree c.read_tree.new.openers
+    c.in_ok-read.read
     c.in_ok-read.next c.in-Some.ix p.marks_are p.text_is a c.in_ok-read.ensures.ok in
     let w = head_within h c.trees.tree a.rs c.trees.last c.in-Some.ix c.trees.openers a.rest a.stands in
     rw c.in-Some.is
@@ -47,19 +60,24 @@ trees-smaller c =
 
 pub returns-clause-pairs : goal.returns-clause-pairs
 returns-clause-pairs c s tables f m t ch =
-    all_read s tables c.args.tree.now c.args.first c.args.count f ch c.trees.tree c.args.openers.now c.trees.openers c.trees.last
-    (subst (λ l. RunsRead s tables c.args.tree.now c.args.first c.args.count f ch c.trees.tree c.args.openers.now c.trees.openers c.trees.last l)
+    all_read s tables c.args.tree.now c.args.first c.args.count f ch c.trees.tree c.args.openers.now c.trees.openers
+    c.trees.last
+    (subst (λ l. RunsRead s tables c.args.tree.now c.args.first c.args.count f ch c.trees.tree c.args.openers.now
+    c.trees.openers c.trees.last l)
     c.in_default.is (c.trees.invariant s tables f m t ch))
 
 pub returns-clause-found : goal.returns-clause-found
 returns-clause-found c s tables f m t ch =
-    all_found s tables c.args.tree.now c.args.first c.args.count f ch c.trees.tree c.args.openers.now c.trees.openers c.trees.last
-    (subst (λ l. RunsRead s tables c.args.tree.now c.args.first c.args.count f ch c.trees.tree c.args.openers.now c.trees.openers c.trees.last l)
+    all_found s tables c.args.tree.now c.args.first c.args.count f ch c.trees.tree c.args.openers.now c.trees.openers
+    c.trees.last
+    (subst (λ l. RunsRead s tables c.args.tree.now c.args.first c.args.count f ch c.trees.tree c.args.openers.now
+    c.trees.openers c.trees.last l)
     c.in_default.is (c.trees.invariant s tables f m t ch))
 
 pub returns-clause-paid : goal.returns-clause-paid
 returns-clause-paid c s tables f m t ch =
-    let paid = all_paid s tables c.args.tree.now c.args.first c.args.count f ch c.trees.tree c.args.openers.now c.trees.openers c.trees.last _
+    let paid = all_paid s tables c.args.tree.now c.args.first c.args.count f ch c.trees.tree c.args.openers.now
+    c.trees.openers c.trees.last _
     (c.trees.invariant s tables f m t ch) in
     omega (arith, paid, ap (λ x. runs_in x (labels s tables c.args.tree.now.nodes f)) t)
 
@@ -68,18 +86,22 @@ pub returns-in_err-read-clause-paid : goal.returns-in_err-read-clause-paid
 returns-in_err-read-clause-paid c s tables f m t ch =
     let h = runs_chain s tables c.args.tree.now c.args.first c.args.count f ch in
     let a = c.trees.invariant s tables f m t ch in
-    let stands = subst (λ l. StandsWhole h c.trees.tree a.rs c.trees.last l a.rest c.trees.openers) c.in-Some.is a.stands in
-    let paid = all_paid s tables c.args.tree.now c.args.first c.args.count f ch c.trees.tree c.args.openers.now c.trees.openers c.trees.last _ a in
+    let stands = subst (λ l. StandsWhole h c.trees.tree a.rs c.trees.last l a.rest c.trees.openers) c.in-Some.is
+    a.stands in
+    let paid = all_paid s tables c.args.tree.now c.args.first c.args.count f ch c.trees.tree c.args.openers.now
+    c.trees.openers c.trees.last _ a in
     omega (
       arith,
       paid,
-      pays s tables c.args.tree.now c.args.first c.args.count f ch c.trees.tree c.args.openers.now c.trees.openers c.trees.last
+      pays s tables c.args.tree.now c.args.first c.args.count f ch c.trees.tree c.args.openers.now c.trees.openers
+          c.trees.last
           c.args.source.text.now c.in-Some.ix c.read_tree.new.openers t a.rs a.rest stands c.in_err-read.ensures.paid,
       ap (λ x. runs_in x (labels s tables c.args.tree.now.nodes f)) t,
     )
 
 pub returns-then-count-eq0-clause-pairs : goal.returns-then-count-eq0-clause-pairs
-returns-then-count-eq0-clause-pairs c s tables f m t ch = (none_paired s tables c.args.tree.now c.args.first c.args.count f ch
+returns-then-count-eq0-clause-pairs c s tables f m t ch
+    = (none_paired s tables c.args.tree.now c.args.first c.args.count f ch
     c.if-count-eq0.true).0
 
 pub returns-then-count-eq0-clause-found : goal.returns-then-count-eq0-clause-found

@@ -8,7 +8,11 @@ use Rattle.markdown_delims.proofs.close.keep.Goals as goal
 pub overflow_add-ix : goal.overflow_add-ix
 overflow_add-ix c =
     let p = c.requires.stands.2 in
-    omega (arith, last_within p.chain c.args.tree.now p.rs _ c.args.left p.vs p.after p.stands c.requires.some, p.stands.stands.few)
+    omega (
+      arith,
+      last_within p.chain c.args.tree.now p.rs _ c.args.left p.vs p.after p.stands c.requires.some,
+      p.stands.stands.few,
+    )
 
 pub next-next-requires : goal.next-next-requires
 next-next-requires c =
@@ -17,11 +21,16 @@ next-next-requires c =
 
 pub returns-in_ok-push-clause-ok : goal.returns-in_ok-push-clause-ok
 returns-in_ok-push-clause-ok c h rs last vs after st a =
-    characters_kept h c.args.tree.now rs last c.args.left vs after st c.requires.some _ _ _ refl c.next-next.ensures.value
-    (subst (λ runs. AreOpen runs (opened_if c.args.left.run.can_open c.args.left.run (last_first vs []) rs)) (sym (ap (λ o. o.runs) c.in_ok-push.ensures.ok))
-    (opened_open h c.args.tree.now rs last c.args.left vs after st c.requires.some c.args.openers.now.runs a c.if-left.true))
+    characters_kept h c.args.tree.now rs last c.args.left vs after st c.requires.some _ _ _ refl
+    c.next-next.ensures.value
+    (subst (λ runs. AreOpen runs (opened_if c.args.left.run.can_open c.args.left.run (last_first vs []) rs))
+    (sym (ap (λ o. o.runs) c.in_ok-push.ensures.ok))
+    (opened_open h c.args.tree.now rs last c.args.left vs after st c.requires.some c.args.openers.now.runs a
+    c.if-left.true))
 
 pub returns-else-left-clause-ok : goal.returns-else-left-clause-ok
 returns-else-left-clause-ok c h rs last vs after st a =
-    characters_kept h c.args.tree.now rs last c.args.left vs after st c.requires.some _ _ _ refl c.next-next.ensures.value
-    (opened_lone h c.args.tree.now rs last c.args.left vs after st c.requires.some c.args.openers.now.runs a c.if-left.false)
+    characters_kept h c.args.tree.now rs last c.args.left vs after st c.requires.some _ _ _ refl
+    c.next-next.ensures.value
+    (opened_lone h c.args.tree.now rs last c.args.left vs after st c.requires.some c.args.openers.now.runs a
+    c.if-left.false)

@@ -12,7 +12,8 @@ abbrev pub invariant-turns : goal.invariant-turns
 invariant-turns l =
     record {
       goes_on :
-          (h : Chain) (rs : List (Read ℕ)) (vs : List (Label ℕ)) (after : Forest (Label ℕ)) → marks_of h.setting.rules.options ≡ l.marks
+          (h : Chain) (rs : List (Read ℕ)) (vs : List (Label ℕ)) (after : Forest (Label ℕ))
+          → marks_of h.setting.rules.options ≡ l.marks
           → StandsAt h l.fn.tree rs l.fn.last l.fn.met vs after → AreOpen l.fn.openers.runs rs
           → ClosingAt h l.fn.met vs rs after l.fn.tree l.tree l.fn.openers l.openers l.closer l.before;
       some : 0 < l.closer.count;

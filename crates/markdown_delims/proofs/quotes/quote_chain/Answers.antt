@@ -1,5 +1,6 @@
 -- Tree by tree.
-use Rattle.std.proofs.Common.{◌≡◌, ◌+◌, ◌≤◌, Bool, true, false, Option, Some, None, ℕ, length, ap, subst, sym, ◌∙◌, refl, arith}
+use Rattle.std.proofs.Common.{◌≡◌, ◌+◌, ◌≤◌, Bool, true, false, Option, Some, None, ℕ, length, ap, subst, sym, ◌∙◌}
+use Rattle.std.proofs.Common.{refl, arith}
 use Rattle.std.specs.Prelude.{is_some, is_none, not}
 use Rattle.markdown_base.specs.declared.item.Item.{Item}
 use Rattle.markdown_base.specs.BlockTree.{no_item, item_at}
@@ -12,7 +13,8 @@ use Rattle.markdown_delims.specs.ChainReading.{IsSpelled}
 use Rattle.markdown_delims.specs.Quotes.{kind_of_shape}
 use Rattle.markdown_delims.specs.RunReading.{counts_one}
 use Rattle.markdown_delims.proofs.QuoteLemmas.{can_here}
-use Rattle.markdown_delims.proofs.QuoteChainLemmas.{QuotesSoFar, quotes_begin, quote_here, quotes_step, quotes_down, quotes_size, few_so_far}
+use Rattle.markdown_delims.proofs.QuoteChainLemmas.{QuotesSoFar, quotes_begin, quote_here, quotes_step, quotes_down}
+use Rattle.markdown_delims.proofs.QuoteChainLemmas.{quotes_size, few_so_far}
 use Rattle.markdown_delims.proofs.QuoteChainLemmas.{quotes_done, all_counted}
 use Rattle.markdown_delims.proofs.quotes.quote_chain.Goals as goal
 
@@ -25,14 +27,16 @@ trees-init c = record {
 pub next-next-requires : goal.next-next-requires
 next-next-requires c =
     let p = c.requires.chain in
-    let a = subst (λ l. QuotesSoFar p.setting no_tables c.args.tree.now c.args.first p.forest p.is c.trees.tree c.trees.opened
+    let a = subst (λ l. QuotesSoFar p.setting no_tables c.args.tree.now c.args.first p.forest p.is c.trees.tree
+    c.trees.opened
     c.trees.delimiters l) c.in-Some.is (c.trees.invariant.chain p.setting no_tables p.forest p.is) in
     can_here _ c.trees.tree a.on.read a.rest c.trees.opened.single c.in-Some.ix a.on.stands
 
 pub item-requires : goal.item-requires
 item-requires c =
     let p = c.requires.chain in
-    let a = subst (λ l. QuotesSoFar p.setting no_tables c.args.tree.now c.args.first p.forest p.is c.trees.tree c.trees.opened
+    let a = subst (λ l. QuotesSoFar p.setting no_tables c.args.tree.now c.args.first p.forest p.is c.trees.tree
+    c.trees.opened
     c.trees.delimiters l) c.in-Some.is (c.trees.invariant.chain p.setting no_tables p.forest p.is) in
     can_here _ c.trees.tree a.on.read a.rest c.trees.opened.single c.in-Some.ix a.on.stands
 
@@ -46,8 +50,10 @@ overflow_add-delimiters c =
     let a = c.trees.invariant.chain p.setting no_tables p.forest p.is in
     omega (
       arith,
-      few_so_far p.setting no_tables c.args.tree.now c.args.first p.forest p.is c.trees.tree c.trees.opened c.trees.delimiters c.trees.cur a,
-      quotes_size p.setting no_tables c.args.tree.now c.args.first p.forest p.is c.trees.tree c.trees.opened c.trees.delimiters c.trees.cur a,
+      few_so_far p.setting no_tables c.args.tree.now c.args.first p.forest p.is c.trees.tree c.trees.opened
+          c.trees.delimiters c.trees.cur a,
+      quotes_size p.setting no_tables c.args.tree.now c.args.first p.forest p.is c.trees.tree c.trees.opened
+          c.trees.delimiters c.trees.cur a,
       c.next-next.ensures.few,
       c.counts_one-delimiters.ensures,
       one_at_most (run_character c.item.result.now.body),
@@ -57,9 +63,11 @@ pub quote_tree-opened-requires : goal.quote_tree-opened-requires
 quote_tree-opened-requires c =
     let p = c.requires.chain in
     record {
-      stands = quote_here p.setting no_tables c.args.tree.now c.args.first p.forest p.is c.trees.tree c.trees.opened c.trees.delimiters
+      stands = quote_here p.setting no_tables c.args.tree.now c.args.first p.forest p.is c.trees.tree c.trees.opened
+          c.trees.delimiters
           c.in-Some.ix
-          (subst (λ l. QuotesSoFar p.setting no_tables c.args.tree.now c.args.first p.forest p.is c.trees.tree c.trees.opened
+          (subst (λ l. QuotesSoFar p.setting no_tables c.args.tree.now c.args.first p.forest p.is c.trees.tree
+          c.trees.opened
           c.trees.delimiters l) c.in-Some.is (c.trees.invariant.chain p.setting no_tables p.forest p.is));
     }
 
@@ -76,13 +84,17 @@ trees-preserved c =
     → QuotesSoFar s tables c.args.tree.now c.args.first f is c.quote_tree-opened.new.tree c.quote_tree-opened.result
     (c.trees.delimiters + c.counts_one-delimiters.result) c.next-next.result =
     λ s tables f is.
-    subst (λ l. QuotesSoFar s tables c.args.tree.now c.args.first f is c.quote_tree-opened.new.tree c.quote_tree-opened.result
+    subst (λ l. QuotesSoFar s tables c.args.tree.now c.args.first f is c.quote_tree-opened.new.tree
+    c.quote_tree-opened.result
     (c.trees.delimiters + c.counts_one-delimiters.result) l) (sym c.next-next.ensures.value)
     (quotes_step s tables c.args.tree.now c.args.first f is c.trees.tree c.trees.opened c.trees.delimiters c.in-Some.ix
-    (subst (λ l. QuotesSoFar s tables c.args.tree.now c.args.first f is c.trees.tree c.trees.opened c.trees.delimiters l)
+    (subst (λ l. QuotesSoFar s tables c.args.tree.now c.args.first f is c.trees.tree c.trees.opened c.trees.delimiters
+    l)
     c.in-Some.is (c.trees.invariant.chain s tables f is))
-    c.quote_tree-opened.new.tree c.quote_tree-opened.result c.kind_of.result c.is_none.result c.counts_one-delimiters.result
-    (λ tables source. c.kind_of.ensures tables source ∙ ap (λ (x : Item). kind_of_shape (shape_of tables source x.body)) i)
+    c.quote_tree-opened.new.tree c.quote_tree-opened.result c.kind_of.result c.is_none.result
+    c.counts_one-delimiters.result
+    (λ tables source. c.kind_of.ensures tables source ∙ ap (λ (x : Item). kind_of_shape (shape_of tables source x.body))
+    i)
     (flipped _ _ c.is_none.ensures ∙ ap is_none c.next-next.ensures.value)
     (c.counts_one-delimiters.ensures ∙ ap (λ (x : Item). counts_one (run_character x.body)) i)
     c.quote_tree-opened.ensures.quotes) in
@@ -92,9 +104,12 @@ trees-preserved c =
       few = λ e. omega (
         arith,
         c.next-next.ensures.few,
-        quotes_size p.setting no_tables c.args.tree.now c.args.first p.forest p.is c.quote_tree-opened.new.tree c.quote_tree-opened.result
-            (c.trees.delimiters + c.counts_one-delimiters.result) c.next-next.result (chain p.setting no_tables p.forest p.is),
-        quotes_size p.setting no_tables c.args.tree.now c.args.first p.forest p.is c.trees.tree c.trees.opened c.trees.delimiters c.trees.cur
+        quotes_size p.setting no_tables c.args.tree.now c.args.first p.forest p.is c.quote_tree-opened.new.tree
+            c.quote_tree-opened.result
+            (c.trees.delimiters + c.counts_one-delimiters.result) c.next-next.result
+            (chain p.setting no_tables p.forest p.is),
+        quotes_size p.setting no_tables c.args.tree.now c.args.first p.forest p.is c.trees.tree c.trees.opened
+            c.trees.delimiters c.trees.cur
             (c.trees.invariant.chain p.setting no_tables p.forest p.is),
       );
     }
@@ -102,14 +117,18 @@ trees-preserved c =
 pub trees-smaller : goal.trees-smaller
 trees-smaller c =
     let p = c.requires.chain in
-    let a = subst (λ l. QuotesSoFar p.setting no_tables c.args.tree.now c.args.first p.forest p.is c.trees.tree c.trees.opened
+    let a = subst (λ l. QuotesSoFar p.setting no_tables c.args.tree.now c.args.first p.forest p.is c.trees.tree
+    c.trees.opened
     c.trees.delimiters l) c.in-Some.is (c.trees.invariant.chain p.setting no_tables p.forest p.is) in
     let b = (trees-preserved c).chain p.setting no_tables p.forest p.is in
     let n : length c.quote_tree-opened.new.tree.nodes ≡ length c.trees.tree.nodes =
-    quotes_size p.setting no_tables c.args.tree.now c.args.first p.forest p.is c.quote_tree-opened.new.tree c.quote_tree-opened.result
+    quotes_size p.setting no_tables c.args.tree.now c.args.first p.forest p.is c.quote_tree-opened.new.tree
+    c.quote_tree-opened.result
     _ _ b
-    ∙ sym (quotes_size p.setting no_tables c.args.tree.now c.args.first p.forest p.is c.trees.tree c.trees.opened c.trees.delimiters _ a) in
-    rw (c.in-Some.is, n, c.next-next.ensures.value) (quotes_down p.setting no_tables c.args.tree.now c.args.first p.forest p.is c.trees.tree
+    ∙ sym (quotes_size p.setting no_tables c.args.tree.now c.args.first p.forest p.is c.trees.tree c.trees.opened
+    c.trees.delimiters _ a) in
+    rw (c.in-Some.is, n, c.next-next.ensures.value)
+    (quotes_down p.setting no_tables c.args.tree.now c.args.first p.forest p.is c.trees.tree
     c.trees.opened c.trees.delimiters c.in-Some.ix a)
 
 pub returns-clause-quotes : goal.returns-clause-quotes
@@ -120,7 +139,8 @@ returns-clause-quotes c s tables f is =
 pub returns-clause-count : goal.returns-clause-count
 returns-clause-count c f is =
     let p = c.requires.chain in
-    all_counted p.setting no_tables c.args.tree.now c.args.first f is c.trees.tree c.trees.opened c.trees.delimiters c.trees.cur
+    all_counted p.setting no_tables c.args.tree.now c.args.first f is c.trees.tree c.trees.opened c.trees.delimiters
+    c.trees.cur
     (c.trees.invariant.chain p.setting no_tables f is) c.in_default.is
 
 pub returns-clause-few : goal.returns-clause-few

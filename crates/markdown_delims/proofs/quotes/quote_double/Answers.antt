@@ -6,7 +6,8 @@ use Rattle.markdown_delims.specs.declared.quotes.Kind.TheVariants as kind
 use Rattle.markdown_delims.specs.Quotes.{left_double}
 use Rattle.markdown_document.specs.Document.{shaped}
 use Rattle.markdown_delims.specs.Quoting.{quoted_from}
-use Rattle.markdown_delims.proofs.QuoteLemmas.{turned, turn_double_closes, turn_double_opens, remembered_low, still_there, put_on, can_here}
+use Rattle.markdown_delims.proofs.QuoteLemmas.{turned, turn_double_closes, turn_double_opens, remembered_low}
+use Rattle.markdown_delims.proofs.QuoteLemmas.{still_there, put_on, can_here}
 use Rattle.markdown_delims.proofs.quotes.quote_double.Goals as goal
 
 pub returns-then-closes : goal.returns-then-closes
@@ -16,10 +17,12 @@ returns-then-closes c =
           put_on h c.args.tree.now begun single c.args.ix a below after st c.put_body.new.tree 8221
           (kind.Double c.args.opens c.args.closes) c.args.double single false c.put_body.ensures e (λ q. cc)
           (still_there h c.args.tree.now begun single c.args.ix a below after st 8221)
-          (turn_double_closes begun a below after single c.args.opens (remembered_low h c.args.tree.now begun single c.args.ix a below after
+          (turn_double_closes begun a below after single c.args.opens
+          (remembered_low h c.args.tree.now begun single c.args.ix a below after
           st)
           ∙ ap (λ d. turned begun a below after single d (kind.Double c.args.opens true)) (sym c.if-double.true)
-          ∙ ap (λ b. turned begun a below after single c.args.double (kind.Double c.args.opens b)) (sym c.if-closes.true));
+          ∙ ap (λ b. turned begun a below after single c.args.double (kind.Double c.args.opens b))
+          (sym c.if-closes.true));
     }
 
 not_both : (d c : Bool) → ((d ≡ true) × (c ≡ false)) ⊎ (d ≡ false) → (d && c) ≡ false
@@ -31,7 +34,8 @@ returns-then-opens c =
     record {
       quotes = λ single last h begun a below after st e n.
           put_on h c.args.tree.now begun single c.args.ix a below after st c.put_body-else-double.new.tree 8220
-          (kind.Double c.args.opens c.args.closes) c.args.double single c.args.opens c.put_body-else-double.ensures e (λ q. cc)
+          (kind.Double c.args.opens c.args.closes) c.args.double single c.args.opens c.put_body-else-double.ensures e
+          (λ q. cc)
           (still_there h c.args.tree.now begun single c.args.ix a below after st 8220)
           (ap (λ b. quoted_from single b (node (shaped left_double a) below begun) after) (c.if-opens.true
           ∙ sym (ap (λ b. b || c.args.double) c.if-opens.true))
@@ -45,7 +49,8 @@ returns-else-opens c =
     record {
       quotes = λ single last h begun a below after st e n.
           put_on h c.args.tree.now begun single c.args.ix a below after st c.put_body-else-double.new.tree 8220
-          (kind.Double c.args.opens c.args.closes) c.args.double single c.args.double c.put_body-else-double.ensures e (λ q. cc)
+          (kind.Double c.args.opens c.args.closes) c.args.double single c.args.double c.put_body-else-double.ensures e
+          (λ q. cc)
           (still_there h c.args.tree.now begun single c.args.ix a below after st 8220)
           (ap (λ b. quoted_from single b (node (shaped left_double a) below begun) after)
           (sym (ap (λ b. b || c.args.double) c.if-opens.false))
@@ -55,8 +60,10 @@ returns-else-opens c =
     }
 
 pub put_body-requires : goal.put_body-requires
-put_body-requires c = let p = c.requires.stands.1 in can_here p.chain c.args.tree.now p.begun p.rest c.requires.stands.0 c.args.ix p.stands
+put_body-requires c = let p = c.requires.stands.1 in can_here p.chain c.args.tree.now p.begun p.rest c.requires.stands.0
+    c.args.ix p.stands
 
 pub put_body-requires-else-double : goal.put_body-requires-else-double
-put_body-requires-else-double c = let p = c.requires.stands.1 in can_here p.chain c.args.tree.now p.begun p.rest c.requires.stands.0
+put_body-requires-else-double c = let p = c.requires.stands.1 in can_here p.chain c.args.tree.now p.begun p.rest
+    c.requires.stands.0
     c.args.ix p.stands

@@ -4,7 +4,8 @@ use Rattle.std.specs.Prelude.{IfErr, IfOk, Result}
 use Rattle.markdown_base.specs.BlockTree.{no_item}
 use Rattle.markdown_document.specs.Counts.{comparisons_per_delimiter}
 use Rattle.markdown_delims.specs.ChainReading.{runs_in}
-use Rattle.markdown_delims.proofs.ReadLemmas.{shown_run, head_within, head_count, read_none, run_here, read_some, met_here}
+use Rattle.markdown_delims.proofs.ReadLemmas.{shown_run, head_within, head_count, read_none, run_here, read_some}
+use Rattle.markdown_delims.proofs.ReadLemmas.{met_here}
 use Rattle.markdown_delims.proofs.read.read_tree.Goals as goal
 
 pub item-item-requires : goal.item-item-requires
@@ -15,7 +16,8 @@ item-item-requires c =
 pub settle_run-requires : goal.settle_run-requires
 settle_run-requires c =
     let p = c.requires.stands in
-    let r = met_here c.args.source.marks c.args.source.text.now c.args.ix c.args.last c.args.tree.now c.args.openers.now p
+    let r = met_here c.args.source.marks c.args.source.text.now c.args.ix c.args.last c.args.tree.now c.args.openers.now
+    p
     c.item-item.result.now c.in-Some.run' (c.item-item.ensures no_item) c.in-Some.ensures in
     record {
       stands = record {
@@ -38,15 +40,18 @@ read_run-requires-clause-some c =
 pub read_run-requires-clause-room : goal.read_run-requires-clause-room
 read_run-requires-clause-room c =
     let p = c.requires.stands in
-    let r = met_here c.args.source.marks c.args.source.text.now c.args.ix c.args.last c.args.tree.now c.args.openers.now p
+    let r = met_here c.args.source.marks c.args.source.text.now c.args.ix c.args.last c.args.tree.now c.args.openers.now
+    p
     c.item-item.result.now c.in-Some.run' (c.item-item.ensures no_item) c.in-Some.ensures in
-    let room : c.args.openers.now.potential + comparisons_per_delimiter * runs_in c.args.source.text.now p.rest < 2 ^ 128 = p.room in
+    let room : c.args.openers.now.potential + comparisons_per_delimiter * runs_in c.args.source.text.now p.rest < 2 ^
+    128 = p.room in
     omega (arith, r.fewer, room, ap (λ t. runs_in t p.rest) p.text_is)
 
 pub read_run-requires-clause-stands : goal.read_run-requires-clause-stands
 read_run-requires-clause-stands c =
     let p = c.requires.stands in
-    let r = met_here c.args.source.marks c.args.source.text.now c.args.ix c.args.last c.args.tree.now c.args.openers.now p
+    let r = met_here c.args.source.marks c.args.source.text.now c.args.ix c.args.last c.args.tree.now c.args.openers.now
+    p
     c.item-item.result.now c.in-Some.run' (c.item-item.ensures no_item) c.in-Some.ensures in
     record {
       chain = p.chain;
@@ -62,7 +67,8 @@ pub returns-in-None-clause-ok : goal.returns-in-None-clause-ok
 returns-in-None-clause-ok c h rs chain m t st =
     rw c.next.ensures.value
     (read_none h c.args.tree.now rs c.args.last c.args.ix c.args.openers.now chain st
-    (shown_run c.args.source.text.now h.setting.text h.tables c.item-item.result.now _ None t (c.item-item.ensures no_item)
+    (shown_run c.args.source.text.now h.setting.text h.tables c.item-item.result.now _ None t
+    (c.item-item.ensures no_item)
     (head_count h c.args.tree.now rs c.args.last c.args.ix c.args.openers.now chain st) c.in-None.ensures))
 
 if_ok : {A E : Type 0} (P Q : A → Type 0) (r : Result A E) → ((x : A) → P x → Q x) → IfOk r P → IfOk r Q
@@ -78,9 +84,11 @@ returns-in-Some-clause-ok c =
     if_ok _ _ c.read_run.result
     (λ x on h rs chain m t st.
     let r = run_here h c.args.tree.now rs c.args.last c.args.ix c.args.openers.now c.in-Some.run' chain st
-    (shown_run c.args.source.text.now h.setting.text h.tables c.item-item.result.now _ (Some c.in-Some.run') t (c.item-item.ensures no_item)
+    (shown_run c.args.source.text.now h.setting.text h.tables c.item-item.result.now _ (Some c.in-Some.run') t
+    (c.item-item.ensures no_item)
     (head_count h c.args.tree.now rs c.args.last c.args.ix c.args.openers.now chain st) c.in-Some.ensures) in
-    read_some h c.args.tree.now rs c.args.last c.args.ix c.args.openers.now c.in-Some.run' chain c.read_run.new.openers x.0 x.1
+    read_some h c.args.tree.now rs c.args.last c.args.ix c.args.openers.now c.in-Some.run' chain c.read_run.new.openers
+    x.0 x.1
     c.settle_run.new.tree c.read_run.new.tree st r c.settle_run.ensures c.read_run.ensures.paid
     (on h rs _ _ m (c.settle_run.ensures h rs c.args.last chain st.stands r.begins).0 st.are))
     c.read_run.ensures.ok
@@ -90,6 +98,7 @@ returns-in-Some-clause-paid c =
     if_err c.read_run.result
     (λ h rs chain t st.
     let r = run_here h c.args.tree.now rs c.args.last c.args.ix c.args.openers.now c.in-Some.run' chain st
-    (shown_run c.args.source.text.now h.setting.text h.tables c.item-item.result.now _ (Some c.in-Some.run') t (c.item-item.ensures no_item)
+    (shown_run c.args.source.text.now h.setting.text h.tables c.item-item.result.now _ (Some c.in-Some.run') t
+    (c.item-item.ensures no_item)
     (head_count h c.args.tree.now rs c.args.last c.args.ix c.args.openers.now chain st) c.in-Some.ensures) in
     omega (arith, r.fewer, c.read_run.ensures.paid, ap (λ x. runs_in x chain) t))

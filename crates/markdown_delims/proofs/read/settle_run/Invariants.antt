@@ -10,5 +10,6 @@ use Rattle.markdown_delims.proofs.read.settle_run.Given as goal
 
 abbrev pub invariant-settle : goal.invariant-settle
 invariant-settle l =
-    (h : Chain) (rs : List (Read ℕ)) (last : Option ℕ) (chain : Forest (Label ℕ)) → Stands h l.fn.tree rs last (Some l.met.number) chain
+    (h : Chain) (rs : List (Read ℕ)) (last : Option ℕ) (chain : Forest (Label ℕ))
+    → Stands h l.fn.tree rs last (Some l.met.number) chain
     → BeginsRun l.met.number l.met.count chain → SettlingAt h l.fn.tree l.tree rs l.met.number l.met.count l.i chain

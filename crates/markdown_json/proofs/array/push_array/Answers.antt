@@ -10,11 +10,13 @@ returns-in_err-push_field-clause-err g c =
 
 pub returns-in_err-push_others-clause-err : goal.returns-in_err-push_others-clause-err
 returns-in_err-push_others-clause-err g c =
-    let p = err_from_is_err_and c.from_residual-in_err-push_others.result c.from_residual-in_err-push_others.ensures.1 in
+    let p = err_from_is_err_and c.from_residual-in_err-push_others.result c.from_residual-in_err-push_others.ensures.1
+    in
     rw (p.1, c.in-Some.ensures.cases.0) (prefix-later _ _ _ _ _ c.in_ok-push_field.ensures.ok
     (prefix-earlier _ _ _ _ c.in_err-push_others.ensures.err))
 
 pub returns-clause-err : goal.returns-clause-err
 returns-clause-err g c =
-    rw (c.in-Some.ensures.cases.0) (on_err_weaker c.push_raw-2.result (λ f. prefix-later _ _ _ _ _ c.in_ok-push_field.ensures.ok
+    rw (c.in-Some.ensures.cases.0)
+    (on_err_weaker c.push_raw-2.result (λ f. prefix-later _ _ _ _ _ c.in_ok-push_field.ensures.ok
     (prefix-later _ _ _ _ _ c.in_ok-push_others.ensures.ok f)) c.push_raw-2.ensures.err)

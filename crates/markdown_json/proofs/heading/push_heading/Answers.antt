@@ -8,28 +8,47 @@ use Rattle.markdown_json.proofs.heading.push_heading.Goals as goal
 pub returns-in_err-push_field-clause-err : goal.returns-in_err-push_field-clause-err
 returns-in_err-push_field-clause-err c =
     let p = err_from_is_err_and c.from_residual.result c.from_residual.ensures.1 in
-    rw p.1 (subst (AppendsPrefix _ _) (sym (heading_parts c.args.heading.now)) (prefix-earlier _ _ _ _ c.in_err-push_field.ensures.err))
+    rw p.1 (subst (AppendsPrefix _ _) (sym (heading_parts c.args.heading.now))
+    (prefix-earlier _ _ _ _ c.in_err-push_field.ensures.err))
 
 pub returns-in_err-push_field-2-clause-err : goal.returns-in_err-push_field-2-clause-err
 returns-in_err-push_field-2-clause-err c =
-    let p = err_from_is_err_and c.from_residual-in_err-push_field-2.result c.from_residual-in_err-push_field-2.ensures.1 in
-    rw p.1 (subst (AppendsPrefix _ _) (sym (heading_parts c.args.heading.now)) (prefix-later _ _ _ _ _ c.in_ok-push_field.ensures.ok (prefix-earlier _ _ _ _ c.in_err-push_field-2.ensures.err)))
+    let p = err_from_is_err_and c.from_residual-in_err-push_field-2.result c.from_residual-in_err-push_field-2.ensures.1
+    in
+    rw p.1 (subst (AppendsPrefix _ _) (sym (heading_parts c.args.heading.now))
+    (prefix-later _ _ _ _ _ c.in_ok-push_field.ensures.ok
+    (prefix-earlier _ _ _ _ c.in_err-push_field-2.ensures.err)))
 
 pub returns-in_err-push_field-3-clause-err : goal.returns-in_err-push_field-3-clause-err
 returns-in_err-push_field-3-clause-err c =
-    let p = err_from_is_err_and c.from_residual-in_err-push_field-3.result c.from_residual-in_err-push_field-3.ensures.1 in
-    rw p.1 (subst (AppendsPrefix _ _) (sym (heading_parts c.args.heading.now)) (prefix-later _ _ _ _ _ c.in_ok-push_field.ensures.ok (prefix-later _ _ _ _ _ c.in_ok-push_field-2.ensures.ok (prefix-earlier _ _ _ _ c.in_err-push_field-3.ensures.err))))
+    let p = err_from_is_err_and c.from_residual-in_err-push_field-3.result c.from_residual-in_err-push_field-3.ensures.1
+    in
+    rw p.1 (subst (AppendsPrefix _ _) (sym (heading_parts c.args.heading.now))
+    (prefix-later _ _ _ _ _ c.in_ok-push_field.ensures.ok
+    (prefix-later _ _ _ _ _ c.in_ok-push_field-2.ensures.ok
+    (prefix-earlier _ _ _ _ c.in_err-push_field-3.ensures.err))))
 
 pub returns-in_err-push_field-4-clause-err : goal.returns-in_err-push_field-4-clause-err
 returns-in_err-push_field-4-clause-err c =
-    let p = err_from_is_err_and c.from_residual-in_err-push_field-4.result c.from_residual-in_err-push_field-4.ensures.1 in
-    rw p.1 (subst (AppendsPrefix _ _) (sym (heading_parts c.args.heading.now)) (prefix-later _ _ _ _ _ c.in_ok-push_field.ensures.ok (prefix-later _ _ _ _ _ c.in_ok-push_field-2.ensures.ok (prefix-later _ _ _ _ _ c.in_ok-push_field-3.ensures.ok (prefix-earlier _ _ _ _ c.in_err-push_field-4.ensures.err)))))
+    let p = err_from_is_err_and c.from_residual-in_err-push_field-4.result c.from_residual-in_err-push_field-4.ensures.1
+    in
+    rw p.1 (subst (AppendsPrefix _ _) (sym (heading_parts c.args.heading.now))
+    (prefix-later _ _ _ _ _ c.in_ok-push_field.ensures.ok
+    (prefix-later _ _ _ _ _ c.in_ok-push_field-2.ensures.ok
+    (prefix-later _ _ _ _ _ c.in_ok-push_field-3.ensures.ok
+    (prefix-earlier _ _ _ _ c.in_err-push_field-4.ensures.err)))))
 
 pub returns-clause-err : goal.returns-clause-err
 returns-clause-err c =
-    on_err_weaker c.push_raw.result (λ f. subst (AppendsPrefix _ _) (sym (heading_parts c.args.heading.now)) (prefix-later _ _ _ _ _ c.in_ok-push_field.ensures.ok (prefix-later _ _ _ _ _ c.in_ok-push_field-2.ensures.ok (prefix-later _ _ _ _ _ c.in_ok-push_field-3.ensures.ok (prefix-later _ _ _ _ _ c.in_ok-push_field-4.ensures.ok f))))) c.push_raw.ensures.err
+    on_err_weaker c.push_raw.result
+    (λ f. subst (AppendsPrefix _ _) (sym (heading_parts c.args.heading.now))
+    (prefix-later _ _ _ _ _ c.in_ok-push_field.ensures.ok
+    (prefix-later _ _ _ _ _ c.in_ok-push_field-2.ensures.ok
+    (prefix-later _ _ _ _ _ c.in_ok-push_field-3.ensures.ok
+    (prefix-later _ _ _ _ _ c.in_ok-push_field-4.ensures.ok f))))) c.push_raw.ensures.err
 
 pub returns-clause-ok : goal.returns-clause-ok
 returns-clause-ok c =
     on_ok_weaker c.push_raw.result (λ end. heading_appended _ _ _ _ _ _ c.args.heading.now c.in_ok-push_field.ensures.ok
-    c.in_ok-push_field-2.ensures.ok c.in_ok-push_field-3.ensures.ok c.in_ok-push_field-4.ensures.ok end) c.push_raw.ensures.ok
+    c.in_ok-push_field-2.ensures.ok c.in_ok-push_field-3.ensures.ok c.in_ok-push_field-4.ensures.ok end)
+    c.push_raw.ensures.ok

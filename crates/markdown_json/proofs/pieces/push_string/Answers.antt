@@ -10,8 +10,10 @@ returns-in_err-push_raw-clause-err c =
 
 pub returns-in_err-push_escaped-clause-err : goal.returns-in_err-push_escaped-clause-err
 returns-in_err-push_escaped-clause-err c =
-    let p = err_from_is_err_and c.from_residual-in_err-push_escaped.result c.from_residual-in_err-push_escaped.ensures.1 in
-    rw p.1 (prefix-later _ _ _ _ _ c.in_ok-push_raw.ensures.ok (prefix-earlier _ _ _ _ c.in_err-push_escaped.ensures.err))
+    let p = err_from_is_err_and c.from_residual-in_err-push_escaped.result c.from_residual-in_err-push_escaped.ensures.1
+    in
+    rw p.1 (prefix-later _ _ _ _ _ c.in_ok-push_raw.ensures.ok
+    (prefix-earlier _ _ _ _ c.in_err-push_escaped.ensures.err))
 
 pub returns-clause-err : goal.returns-clause-err
 returns-clause-err c =

@@ -11,7 +11,8 @@ returns-in_err-push_pieces-clause-err g c =
 pub returns-in_err-push_field-clause-err : goal.returns-in_err-push_field-clause-err
 returns-in_err-push_field-clause-err g c =
     let p = err_from_is_err_and c.from_residual-in_err-push_field.result c.from_residual-in_err-push_field.ensures.1 in
-    rw p.1 (prefix-later _ _ _ _ _ c.in_ok-push_pieces.ensures.ok (prefix-earlier _ _ _ _ c.in_err-push_field.ensures.err))
+    rw p.1 (prefix-later _ _ _ _ _ c.in_ok-push_pieces.ensures.ok
+    (prefix-earlier _ _ _ _ c.in_err-push_field.ensures.err))
 
 pub returns-clause-err : goal.returns-clause-err
 returns-clause-err g c =

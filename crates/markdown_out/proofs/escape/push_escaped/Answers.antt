@@ -71,7 +71,8 @@ text-preserved c =
             order = omega (arith, low, order);
             within = next.high;
             cut = c.text.invariant.cut;
-            copied = copied_up_to c.args.escape _ _ c.args.text.now c.text.from (c.text.at + 1) _ (omega (arith, order)) next
+            copied = copied_up_to c.args.escape _ _ c.args.text.now c.text.from (c.text.at + 1) _ (omega (arith, order))
+                next
                 (Copied-keep (escaped_byte c.args.escape) _ _ _ _ _ order here r c.text.invariant.copied);
           })
     ]

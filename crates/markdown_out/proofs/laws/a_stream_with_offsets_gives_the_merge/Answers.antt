@@ -6,5 +6,6 @@ use Rattle.markdown_out.proofs.laws.a_stream_with_offsets_gives_the_merge.Goals 
 
 pub returns : goal.returns
 returns g c ends new =
-    gives_the_merge through_ranges (item_view with_range) g.I.Iterator.next_gives g.I.Iterator.can_next g.I.Iterator.remaining offset_state
+    gives_the_merge through_ranges (item_view with_range) g.I.Iterator.next_gives g.I.Iterator.can_next
+    g.I.Iterator.remaining offset_state
     c.args.merge.now ends new

@@ -5,7 +5,8 @@ use Rattle.std.proofs.lemmas.Result.{err_from_is_err_and}
 use Rattle.markdown_base.specs.BlockTree.{item_at, no_item}
 use Rattle.markdown_base.specs.declared.item.Item.{Item}
 use Rattle.markdown_spans.specs.SpanMarks.{is_wanted, mark_at}
-use Rattle.markdown_spans.proofs.ChainWalkLemmas.{chain_at, walk_begins, walk_breaks, walk_ends, walk_finds, walk_goes_on}
+use Rattle.markdown_spans.proofs.ChainWalkLemmas.{chain_at, walk_begins, walk_breaks, walk_ends, walk_finds}
+use Rattle.markdown_spans.proofs.ChainWalkLemmas.{walk_goes_on}
 use Rattle.markdown_spans.proofs.span_marks.walk_to.Goals as goal
 
 pub walk-init : goal.walk-init

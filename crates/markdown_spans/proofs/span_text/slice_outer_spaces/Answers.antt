@@ -11,7 +11,8 @@ range-requires-clause-start_boundary c =
     let is : has_outer_spaces c.args.text.now ≡ true = rw c.as_bytes.ensures.value at (sym c.has_outer_spaces.ensures
     ∙ c.if-has_outer_spaces.true) in
     let spaces = spaced c.args.text.now is in
-    λ _. IsCharBoundary-after_ascii c.args.text.now 0 c.utf8.text (omega (arith, spaces.two)) (omega (arith, spaces.first))
+    λ _. IsCharBoundary-after_ascii c.args.text.now 0 c.utf8.text (omega (arith, spaces.two))
+    (omega (arith, spaces.first))
 
 pub returns-then-has_outer_spaces-clause-part : goal.returns-then-has_outer_spaces-clause-part
 returns-then-has_outer_spaces-clause-part c =

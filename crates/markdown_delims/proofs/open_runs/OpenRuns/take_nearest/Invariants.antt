@@ -19,7 +19,8 @@ invariant-loop-i l =
           (k : ℕ) (x : Characters) → l.i ≤ k → k < length l.initial.self-inside.stack.items.items
           → may_pair (get_or l.initial.self-inside.stack.items.items k x).run l.closer ≡ false;
       same_search :
-          nearest_run l.closer (open_runs l.initial.self-inside.bounds (take l.i l.initial.self-inside.stack.items.items))
+          nearest_run l.closer (open_runs l.initial.self-inside.bounds
+          (take l.i l.initial.self-inside.stack.items.items))
           ≡ nearest_run l.closer (open_runs l.initial.self-inside.bounds l.initial.self-inside.stack.items.items);
     }
 

@@ -17,7 +17,8 @@ returns-in_err-push_reference-clause-err c =
 pub returns-clause-told : goal.returns-clause-told
 returns-clause-told c =
     subst (λ (p : Past). OnOk c.put_number.result (view c.put_number.new.self ≡ p))
-    (after_reference (view c.args.self.now) (text_of c.args.name) (ap (option_map image_view) c.requires)) c.put_number.ensures.told
+    (after_reference (view c.args.self.now) (text_of c.args.name) (ap (option_map image_view) c.requires))
+    c.put_number.ensures.told
 
 pub returns-clause-err : goal.returns-clause-err
 returns-clause-err c =

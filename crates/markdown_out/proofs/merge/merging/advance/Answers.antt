@@ -14,11 +14,13 @@ returns-in-Give-clause-passes g c =
     let view = item_view g.T.MergeItem.parts in
     let steps = g.I.Iterator.next_gives in
     let after = c.in_ok-step.next in
-    let more = merged-more through view steps c.reading.held c.in_ok-step.step after c.next.result c.parted-answer.result
+    let more = merged-more through view steps c.reading.held c.in_ok-step.step after c.next.result
+    c.parted-answer.result
     c.reading.invariant.merged c.next.ensures.steps c.parted-answer.ensures.view c.in_ok-step.ensures.takes in
     let given : given_answers c.in_ok-step.step ≡ option_map view c.rebuilt.result ∷ [] =
     ap given_answers c.in-Give.is ∙ ap (λ x. x ∷ []) (sym c.rebuilt.ensures.view) in
-    subst (λ given. IsMerged through view steps (held_items c.args.held) c.args.iter.now given (held_items after) c.next.new.self) given
+    subst (λ given. IsMerged through view steps (held_items c.args.held) c.args.iter.now given (held_items after)
+    c.next.new.self) given
     more
 
 pub reading-preserved : goal.reading-preserved
@@ -28,11 +30,13 @@ reading-preserved g c =
     let steps = g.I.Iterator.next_gives in
     let after = c.in_ok-step.next in
     let can = c.reading.invariant.can_merge in
-    let more = merged-more through view steps c.reading.held c.in_ok-step.step after c.next.result c.parted-answer.result
+    let more = merged-more through view steps c.reading.held c.in_ok-step.step after c.next.result
+    c.parted-answer.result
     c.reading.invariant.merged c.next.ensures.steps c.parted-answer.ensures.view c.in_ok-step.ensures.takes in
     let given : given_answers c.in_ok-step.step ≡ [] = ap given_answers c.in-Again.is in
     record {
-      merged = subst (λ given. IsMerged through view steps (held_items c.args.held) c.args.iter.now given (held_items after)
+      merged = subst (λ given. IsMerged through view steps (held_items c.args.held) c.args.iter.now given
+          (held_items after)
           c.next.new.self) given more;
       can_merge = can_merge-after steps c.next.result can c.next.ensures.steps c.next.ensures.goes;
       fewer = omega (
@@ -51,18 +55,22 @@ reading-smaller g c =
     let rest = g.I.Iterator.remaining in
     let takes = c.in_ok-step.ensures.takes in
     let again : again_count c.in_ok-step.step ≡ 1 = ap again_count c.in-Again.is in
-    let fewer = fewer-after steps c.next.result c.reading.invariant.can_merge c.next.ensures.steps c.next.ensures.goes in
-    let smaller : 2 * size (rest c.next.new.self) + held_count c.in_ok-step.next < 2 * size (rest c.reading.iter) + held_count c.reading.held
+    let fewer = fewer-after steps c.next.result c.reading.invariant.can_merge c.next.ensures.steps c.next.ensures.goes
+    in
+    let smaller : 2 * size (rest c.next.new.self) + held_count c.in_ok-step.next < 2 * size (rest c.reading.iter) +
+    held_count c.reading.held
     = omega (arith, again, takes.needs, takes.holds, takes.counts, c.parted-answer.ensures.count, fewer) in
     smaller
 
 pub returns-in-Give-clause-again : goal.returns-in-Give-clause-again
 returns-in-Give-clause-again g c =
-    can_merge-after g.I.Iterator.next_gives c.next.result c.reading.invariant.can_merge c.next.ensures.steps c.next.ensures.goes
+    can_merge-after g.I.Iterator.next_gives c.next.result c.reading.invariant.can_merge c.next.ensures.steps
+    c.next.ensures.goes
 
 pub returns-in_err-step-clause-again : goal.returns-in_err-step-clause-again
 returns-in_err-step-clause-again g c =
-    can_merge-after g.I.Iterator.next_gives c.next.result c.reading.invariant.can_merge c.next.ensures.steps c.next.ensures.goes
+    can_merge-after g.I.Iterator.next_gives c.next.result c.reading.invariant.can_merge c.next.ensures.steps
+    c.next.ensures.goes
 
 pub returns-in-Give-clause-less : goal.returns-in-Give-clause-less
 returns-in-Give-clause-less g c =

@@ -15,10 +15,13 @@ returns-then-not-take_block-clause-value c =
     let prefix = c.args.self.now in
     let nodes = prefix.tree.now.nodes in
     let item : c.item.result.now ≡ item_at nodes (get_or prefix.tree.now.spine c.above.ix-index 0) =
-    c.item.ensures no_item ∙ ap (λ (spine : List ℕ). item_at nodes (get_or spine c.above.ix-index 0)) c.walk_spine-ix-items.ensures in
-    let stops = reading_stops prefix.gfm_footnotes (λ ix. (item_at nodes ix).body) prefix.tree.now.spine c.above.ix-index
+    c.item.ensures no_item ∙ ap (λ (spine : List ℕ). item_at nodes (get_or spine c.above.ix-index 0))
+    c.walk_spine-ix-items.ensures in
+    let stops = reading_stops prefix.gfm_footnotes (λ ix. (item_at nodes ix).body) prefix.tree.now.spine
+    c.above.ix-index
     (line_left c.above.line) (omega (arith, ap length c.walk_spine-ix-items.ensures))
-    (c.if-not-take_block.ensures ∙ ap (λ (read : Item). past_block prefix.gfm_footnotes read.body (line_left c.above.line)) item) in
+    (c.if-not-take_block.ensures
+    ∙ ap (λ (read : Item). past_block prefix.gfm_footnotes read.body (line_left c.above.line)) item) in
     c.bytes_scanned-scanned.ensures ∙ ap (λ (left : LineLeft). left.scanned) (sym (c.above.invariant ∙ stops))
 
 pub returns-clause-value : goal.returns-clause-value

@@ -8,6 +8,8 @@ use Rattle.markdown_spans.proofs.prefixes.ContainerPrefix.length_of.Given as goa
 
 abbrev pub invariant-above : goal.invariant-above
 invariant-above l =
-    past_blocks l.self.gfm_footnotes (blocks_above l.self.tree.now) (record { scanned = 0; owed = 0; column = 0; bytes = l.rest })
-    ≡ past_blocks l.self.gfm_footnotes (map (λ ix. (item_at l.self.tree.now.nodes ix).body) (drop l.ix-index l.self.tree.now.spine))
+    past_blocks l.self.gfm_footnotes (blocks_above l.self.tree.now)
+    (record { scanned = 0; owed = 0; column = 0; bytes = l.rest })
+    ≡ past_blocks l.self.gfm_footnotes
+    (map (λ ix. (item_at l.self.tree.now.nodes ix).body) (drop l.ix-index l.self.tree.now.spine))
     (line_left l.line)

@@ -6,7 +6,8 @@ use Rattle.markdown_base.specs.declared.item.Item.{Item}
 use Rattle.markdown_spans.specs.SpanMarks.{mark_at}
 use Rattle.markdown_spans.specs.declared.span_text.SpanKind.TheVariants.{Code}
 use Rattle.markdown_spans.proofs.ChainWalkLemmas.{chain_at}
-use Rattle.markdown_spans.proofs.FindCodeLemmas.{code_within, fails_walking, finds_known, holds_left, learned_from, looks_at_escaped}
+use Rattle.markdown_spans.proofs.FindCodeLemmas.{code_within, fails_walking, finds_known, holds_left, learned_from}
+use Rattle.markdown_spans.proofs.FindCodeLemmas.{looks_at_escaped}
 use Rattle.markdown_spans.proofs.FindCodeLemmas.{looks_at_known, looks_without_mark, nothing_from}
 use Rattle.markdown_spans.proofs.LearnedLemmas.{holds_next}
 use Rattle.markdown_spans.proofs.span_closers.SpanClosers.find_code_closer.Goals as goal

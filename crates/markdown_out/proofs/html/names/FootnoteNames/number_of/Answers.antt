@@ -6,7 +6,8 @@ use Rattle.std.specs.List.{list_any, position_or_len}
 use Rattle.markdown_base.specs.CowText.{text_of}
 use Rattle.markdown_out.specs.FootnoteNames.{name_cmp, names_in}
 use Rattle.markdown_out.specs.LookBacks.{are_same_names}
-use Rattle.markdown_out.proofs.FootnoteNamesLemmas.{known_name, new_place, names_in-inserted, IsNumbered-inserted, insert_same, with_known}
+use Rattle.markdown_out.proofs.FootnoteNamesLemmas.{known_name, new_place, names_in-inserted, IsNumbered-inserted}
+use Rattle.markdown_out.proofs.FootnoteNamesLemmas.{insert_same, with_known}
 use Rattle.markdown_out.proofs.FootnoteNamesLemmas.{with_new}
 use Rattle.markdown_out.proofs.html.names.FootnoteNames.number_of.Goals as goal
 use Rattle.markdown_out.proofs.html.names.FootnoteNames.number_of.Goals.{in-Occupied, in-Vacant}
@@ -23,15 +24,20 @@ invariant_of-self-2 c =
     elim c.match-branch-2.branch [
       | in-Occupied w ↦
           let found : get name_cmp c.self.inside.places c.args.name ≡ Some w.into_mut.result.now = search rules in
-          let made : c.match-branch-2.self-inside.places.entries ≡ insert_entry name_cmp es c.args.name w.into_mut.result.now = search rules
+          let made : c.match-branch-2.self-inside.places.entries
+          ≡ insert_entry name_cmp es c.args.name w.into_mut.result.now = search rules
           in
-          let size : length c.match-branch-2.self-inside.places.entries ≡ length es = first_of (search rules, grind (arith, common_steps))
+          let size : length c.match-branch-2.self-inside.places.entries
+          ≡ length es = first_of (search rules, grind (arith, common_steps))
           in
-          rw (made ∙ insert_same c.args.name w.into_mut.result.now es found (sym (ap length made) ∙ size)) c.self.invariant
+          rw (made ∙ insert_same c.args.name w.into_mut.result.now es found (sym (ap length made) ∙ size))
+          c.self.invariant
       | in-Vacant w ↦
           let absent : get name_cmp c.self.inside.places c.args.name ≡ None = search rules in
-          let made : c.match-branch-2.self-inside.places.entries ≡ insert_entry name_cmp es c.args.name c.len-count.result = search rules in
-          let updates : Updates name_cmp c.self.inside.places c.match-branch-2.self-inside.places c.args.name (Some c.len-count.result) =
+          let made : c.match-branch-2.self-inside.places.entries
+          ≡ insert_entry name_cmp es c.args.name c.len-count.result = search rules in
+          let updates : Updates name_cmp c.self.inside.places c.match-branch-2.self-inside.places c.args.name
+          (Some c.len-count.result) =
           search rules in
           let at = c.len-count.ensures.len in
           IsNumbered-inserted c.args.name es c.match-branch-2.self-inside.places.entries c.self.invariant absent
@@ -61,16 +67,20 @@ returns-clause-known c =
     elim c.match-branch-2.branch [
       | in-Occupied w ↦
           let found : get name_cmp c.self.inside.places c.args.name ≡ Some w.into_mut.result.now = search rules in
-          let made : c.match-branch-2.self-inside.places.entries ≡ insert_entry name_cmp es c.args.name w.into_mut.result.now = search rules
+          let made : c.match-branch-2.self-inside.places.entries
+          ≡ insert_entry name_cmp es c.args.name w.into_mut.result.now = search rules
           in
-          let size : length c.match-branch-2.self-inside.places.entries ≡ length es = first_of (search rules, grind (arith, common_steps))
+          let size : length c.match-branch-2.self-inside.places.entries
+          ≡ length es = first_of (search rules, grind (arith, common_steps))
           in
           let k = known_name c.args.name es w.into_mut.result.now c.self.invariant found in
-          rw w.result-is (ap names_in (made ∙ insert_same c.args.name w.into_mut.result.now es found (sym (ap length made) ∙ size))
+          rw w.result-is (ap names_in
+          (made ∙ insert_same c.args.name w.into_mut.result.now es found (sym (ap length made) ∙ size))
           ∙ (c.self.view_is ∙ sym (with_known name c.args.self.now (sym (ap (list_any t) c.self.view_is) ∙ k.known))))
       | in-Vacant w ↦
           let absent : get name_cmp c.self.inside.places c.args.name ≡ None = search rules in
-          let made : c.match-branch-2.self-inside.places.entries ≡ insert_entry name_cmp es c.args.name c.len-count.result = search rules in
+          let made : c.match-branch-2.self-inside.places.entries
+          ≡ insert_entry name_cmp es c.args.name c.len-count.result = search rules in
           let k = new_place c.args.name es c.self.invariant absent in
           rw w.result-is (ap names_in (made ∙ ap (insert_entry name_cmp es c.args.name) c.len-count.ensures.len)
           ∙ (names_in-inserted c.args.name es c.self.invariant absent ∙ (ap (λ names. names ++ name ∷ []) c.self.view_is
