@@ -6,15 +6,15 @@ use Rattle.std.specs.Option.{option_and_then, option_map}
 use Rattle.markdown_base.specs.Arena.{sibling_of}
 use Rattle.markdown_base.specs.ArenaForest.{links_of, forest_at}
 use Rattle.markdown_base.specs.BlockTree.{item_at}
-use Rattle.markdown_base.specs.Forest.{Forest, nil, node}
+use Rattle.markdown_base.specs.Forest.{first_root, Forest, nil, node}
 use Rattle.markdown_base.specs.declared.item.Item.{Item}
 use Rattle.markdown_base.specs.declared.item.ItemBody.{ItemBody}
 use Rattle.markdown_base.specs.declared.item.ItemBody.TheVariants as body
 use Rattle.markdown_base.specs.declared.node.Node.{Node}
-use Rattle.markdown_document.specs.ChainRest.{start_of, end_of, open_body}
+use Rattle.markdown_document.specs.ChainRest.{as_item, start_of, end_of, open_body}
 use Rattle.markdown_document.specs.Document.{Label, Part, part_of, shape_of}
 use Rattle.markdown_document.specs.Tables.{Tables}
-use Rattle.markdown_brackets.specs.BracketDecision.{closer_ends_at, first_item, second_item, start_of_first_past}
+use Rattle.markdown_brackets.specs.BracketDecision.{closer_ends_at, past_second, start_of_first_past}
 use Rattle.markdown_brackets.specs.ChainAhead.{begins_with_closer, first_start, numbers_past, reaches_closer, starts_from}
 use Rattle.markdown_brackets.specs.ChainHeld.{Holds, numbers_of}
 use Rattle.markdown_brackets.specs.Reference.{FoundLabel, Form, reference, collapsed, shortcut, form_at, form_by_label, is_closer, is_opener}
@@ -106,14 +106,14 @@ module _ (source : List ℕ) (tables : Tables) (nodes : List (Node Item)) where
   first_stands : (at : ℕ) (kind : ItemBody → Bool)
       → ((a : Label ℕ) → ReadsAs a → kind (item_at nodes a.tag).body ≡ kind (open_body a.part.shape))
       → (l : Option ℕ) (f : Forest (Label ℕ)) → Holds source tables nodes l f
-      → stands_at at kind (option_map (item_at nodes) l) ≡ stands_at at kind (first_item f)
+      → stands_at at kind (option_map (item_at nodes) l) ≡ stands_at at kind (option_map as_item (first_root f))
   first_stands at kind same l nil h = rw h refl
   first_stands at kind same l (node a below after) h = rw (h.0, same_start a h.2, same a h.2) refl
 
   second_stands : (at : ℕ) (kind : ItemBody → Bool)
       → ((a : Label ℕ) → ReadsAs a → kind (item_at nodes a.tag).body ≡ kind (open_body a.part.shape))
       → (l : Option ℕ) (f : Forest (Label ℕ)) → Holds source tables nodes l f
-      → stands_at at kind (option_map (item_at nodes) (option_and_then (sibling_of nodes) l)) ≡ stands_at at kind (second_item f)
+      → stands_at at kind (option_map (item_at nodes) (option_and_then (sibling_of nodes) l)) ≡ stands_at at kind (option_map as_item (first_root (past_second f)))
   second_stands at kind same l nil h = rw h refl
   second_stands at kind same l (node a below after) h = rw h.0 (first_stands at kind same (sibling_of nodes a.tag) after h.4)
 
@@ -121,7 +121,7 @@ module _ (source : List ℕ) (tables : Tables) (nodes : List (Node Item)) where
       (l : Option ℕ) (f : Forest (Label ℕ)) → Holds source tables nodes l f
       → form_at style skipped in_table text at (option_map (item_at nodes) l)
       (option_map (item_at nodes) (option_and_then (sibling_of nodes) l))
-      ≡ form_at style skipped in_table text at (first_item f) (second_item f)
+      ≡ form_at style skipped in_table text at (option_map as_item (first_root f)) (option_map as_item (first_root (past_second f)))
   form_ahead_is style skipped in_table text at l f h =
       rw (
         first_stands at is_opener same_opener l f h,

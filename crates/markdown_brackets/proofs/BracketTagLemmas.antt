@@ -2,23 +2,24 @@
 -- list with other tags is its effect on the list, with those tags.
 use Rattle.std.proofs.Common.{◌≡◌, ℕ, Bool, true, false, ◌&&◌, ◌==◌, List, [], ◌∷◌, Option, Some, None, refl, ap, ◌∙◌, nat_le}
 use Rattle.std.proofs.Math.Path.{fun_ext}
-use Rattle.std.specs.Prelude.{if◌then◌else◌, nat_lt}
-use Rattle.std.specs.Option.{option_map, option_and_then}
+use Rattle.std.specs.Prelude.{if◌then◌else◌, nat_lt, unwrap_or, ◌+◌}
+use Rattle.std.specs.Option.{option_map, option_and_then, option_or}
 use Rattle.markdown_base.specs.Event.{LinkView}
-use Rattle.markdown_base.specs.Forest.{Forest, nil, node}
+use Rattle.markdown_base.specs.Forest.{Forest, first_root, nil, node}
 use Rattle.markdown_base.specs.declared.item.ItemBody.{ItemBody}
 use Rattle.markdown_base.specs.declared.item.ItemBody.TheVariants as body
 use Rattle.markdown_base.specs.declared.tag.LinkType.{LinkType}
+use Rattle.markdown_base.specs.declared.tag.LinkType.TheVariants as kind
+use Rattle.markdown_base.specs.declared.item.Item.{Item}
 use Rattle.markdown_document.specs.Document.{Label, as_text}
 use Rattle.markdown_document.specs.Labels.{retag, retagged}
-use Rattle.markdown_document.specs.ChainRest.{begun_at, past_byte, start_of, end_of, open_body}
-use Rattle.markdown_brackets.specs.BracketDecision.{Around, Becomes, Closing, Decision, Progress, Wikilink, Written, a_footnote, a_link}
-use Rattle.markdown_brackets.specs.BracketDecision.{a_text, a_wikilink, after_look_up, block_text, shown_children, closer_ends_at, decided}
-use Rattle.markdown_brackets.specs.BracketDecision.{decided_before, first_item, footnote_label, footnote_tried, footnote_used, form_of}
-use Rattle.markdown_brackets.specs.BracketDecision.{if_some, inline_link, is_next, lines, link_reference, look_up_tried, no_link, one_decided}
-use Rattle.markdown_brackets.specs.BracketDecision.{opener_tried, past_second, question_at, reference_written, second_item, spent_by}
-use Rattle.markdown_brackets.specs.BracketDecision.{start_of_first_past, target_tried, to_be, tried, wikilink_by, wikilink_in}
-use Rattle.markdown_brackets.specs.BracketDecision.{wikilink_opener, wikilink_or_one, wikilink_tried, written, tail_or, label_of_opener}
+use Rattle.markdown_document.specs.ChainRest.{as_item, begun_at, past_byte, start_of, end_of, open_body}
+use Rattle.markdown_brackets.specs.BracketDecision.{Around, Becomes, Closing, Decision, Written, LinkReference, Progress, Wikilink, a_footnote}
+use Rattle.markdown_brackets.specs.BracketDecision.{a_link, a_text, a_wikilink, block_text, bracket_found, carried_out, closer_ends_at, decided}
+use Rattle.markdown_brackets.specs.BracketDecision.{footnote_label, form_of, found, full, if_some, inline_link, label_of_opener, left_for_one}
+use Rattle.markdown_brackets.specs.BracketDecision.{lines, link_reference, looked_up, own_written, past_second, question_at, reference_written}
+use Rattle.markdown_brackets.specs.BracketDecision.{second_end, shown_children, start_of_first_past, to_be, wikilink, wikilink_by, wikilink_found}
+use Rattle.markdown_brackets.specs.BracketDecision.{wikilink_in, written}
 use Rattle.markdown_base.specs.EnabledOptions.{wikilinks_on}
 use Rattle.markdown_brackets.specs.BracketOptions.{footnote_style}
 use Rattle.markdown_brackets.specs.BracketTags.{ReaderFollows, BracketTagLaw, retag_entry, retag_left, retag_progress}
@@ -30,8 +31,8 @@ use Rattle.markdown_brackets.specs.LeftList.{opens_bracket, opens_wikilink, seco
 use Rattle.markdown_brackets.specs.LeftList.{without_bracket, without_wikilink}
 use Rattle.markdown_brackets.specs.LinkTail.{LinkTail, link_tail}
 use Rattle.markdown_brackets.specs.Lookup.{LookedUp, look_up}
-use Rattle.markdown_brackets.specs.ReadChain.{Reader, closing_of, opened, read, read_as, read_chain, read_past}
-use Rattle.markdown_brackets.specs.Reference.{FoundLabel, Form, form_at, is_closer, is_opener}
+use Rattle.markdown_brackets.specs.ReadChain.{Reader, closing_of, is_next, opened, read, read_as, read_chain, read_past}
+use Rattle.markdown_brackets.specs.Reference.{FoundLabel, Form, collapsed, form_at, is_closer, is_opener, reference, shortcut}
 use Rattle.markdown_brackets.specs.Wikilink.{Shows, WikilinkBody, has_pothole, shows_from, shows_name, shows_nothing, wikilink_body}
 
 abbrev shown_as : {A : Type 0} → WikilinkBody → Forest (Label A) → Wikilink A
@@ -53,6 +54,12 @@ module _ {A B : Type 0} (f : A → B) where
   retag_becomes (a_link o target end next) = a_link (retag_split o) target end next
   retag_becomes (a_footnote o name) = a_footnote (retag_split o) name
   retag_becomes (a_wikilink o found end) = a_wikilink (retag_split o) (retag_wikilink found) end
+
+  abbrev pub retag_found : Written A → Written B
+  retag_found (inline_link o t) = inline_link (retag_split o) t
+  retag_found (link_reference o r) = link_reference (retag_split o) r
+  retag_found (footnote_label o name) = footnote_label (retag_split o) name
+  retag_found (wikilink o v end) = wikilink (retag_split o) (retag_wikilink v) end
 
   abbrev pub retag_decision : Decision A → Decision B
   retag_decision d = record { becomes = retag_becomes d.becomes; progress = retag_progress f d.progress }
@@ -129,13 +136,13 @@ module _ {A B : Type 0} (f : A → B) where
   inside_retag o = onto_retag o.after nil
 
   -- the chain after a `]` is read by its parts
-  pub first_retag : (rest : Forest (Label A)) → first_item (retagged f rest) ≡ first_item rest
+  pub first_retag : (rest : Forest (Label A)) → option_map as_item (first_root (retagged f rest)) ≡ option_map as_item (first_root rest)
   first_retag nil = refl
   first_retag (node a below after) = refl
 
-  pub second_item_retag : (rest : Forest (Label A)) → second_item (retagged f rest) ≡ second_item rest
-  second_item_retag nil = refl
-  second_item_retag (node a below after) = first_retag after
+  pub past_second_retag : (trees : Forest (Label A)) → past_second (retagged f trees) ≡ retagged f (past_second trees)
+  past_second_retag nil = refl
+  past_second_retag (node a below after) = refl
 
   pub is_next_retag : (test : ItemBody → Bool) (rest : Forest (Label A)) → is_next test (retagged f rest) ≡ is_next test rest
   is_next_retag test nil = refl
@@ -162,89 +169,86 @@ module _ {A B : Type 0} (f : A → B) where
 
   module _ (w : Around) where
     -- what is written at an opener and its `]`
-    pub form_retag : (c : Closing A) → form_of w (retag_closing c) ≡ form_of w c
+    form_retag : (c : Closing A) → form_of w (retag_closing c) ≡ form_of w c
     form_retag c =
-        ap (λ next. form_at (footnote_style w.setting.rules.options) (lines w) w.above.in_table (block_text w) (end_of c.label) next
-        (second_item (retagged f c.rest))) (first_retag c.rest)
-        ∙ ap (form_at (footnote_style w.setting.rules.options) (lines w) w.above.in_table (block_text w) (end_of c.label)
-        (first_item c.rest)) (second_item_retag c.rest)
+        let by : Option Item → Option Item → Form = form_at (footnote_style w.setting.rules.options) (lines w) w.above.in_table (block_text w)
+        (end_of c.label) in
+        let second = λ (chain : Forest (Label B)). option_map as_item (first_root chain) in
+        ap (λ next. by next (second (past_second (retagged f c.rest)))) (first_retag c.rest)
+        ∙ (ap (λ chain. by (option_map as_item (first_root c.rest)) (second chain)) (past_second_retag c.rest)
+        ∙ ap (by (option_map as_item (first_root c.rest))) (first_retag (past_second c.rest)))
 
-    closes_retag : (c : Closing A) (own : Option FoundLabel) (form : Form)
-        → reference_written c.could_be_reference (end_of c.label) (λ i. closer_ends_at i (retagged f c.rest)) own form
-        ≡ reference_written c.could_be_reference (end_of c.label) (λ i. closer_ends_at i c.rest) own form
-    closes_retag c own form =
-        ap (λ (closes : ℕ → Bool). reference_written c.could_be_reference (end_of c.label) closes own form)
-        (fun_ext (λ i. ends_at_retag i c.rest))
+    own_retag : (o : Split A) (link_type : LinkType) (end next : ℕ) (own : Option FoundLabel)
+        → option_and_then (own_written w (retag_split o) link_type end next) own
+        ≡ option_map retag_found (option_and_then (own_written w o link_type end next) own)
+    own_retag o link_type end next None = refl
+    own_retag o link_type end next (Some l) = by l.is_footnote
+        (is_reference (footnote_style w.setting.rules.options) (w.setting.rules.is_footnote l.name))
+      where
+        link : LinkReference
+        link = record { link_type = link_type; label = l.name; end = end; next = next; spends = [] }
 
-    pub written_retag : (c : Closing A) (o : Split A) → written w (retag_closing c) (retag_split o) ≡ written w c o
+        by : (is_footnote is : Bool)
+            → (if is_footnote then if is then Some (footnote_label (retag_split o) l.name) else None
+            else Some (link_reference (retag_split o) link))
+            ≡ option_map retag_found (if is_footnote then if is then Some (footnote_label o l.name) else None
+            else Some (link_reference o link))
+        by true true = refl
+        by true false = refl
+        by false is = refl
+
+    reference_retag : (o : Split A) (end : ℕ) (closes : ℕ → Bool) (own : Option FoundLabel) (form : Form)
+        → reference_written w (retag_split o) end closes own form ≡ option_map retag_found (reference_written w o end closes own form)
+    reference_retag o end closes own (reference label to) = by (closes to)
+      where
+        by : (b : Bool) → (if b then Some (link_reference (retag_split o) (full label to)) else None)
+            ≡ option_map retag_found (if b then Some (link_reference o (full label to)) else None)
+        by true = refl
+        by false = refl
+    reference_retag o end closes own collapsed = own_retag o kind.Collapsed end (end + 2) own
+    reference_retag o end closes own shortcut = own_retag o kind.Shortcut end end own
+
+    tail_retag : (o : Split A) (t : Option LinkTail) (other : Option (Written A))
+        → option_or (option_map (inline_link (retag_split o)) t) (option_map retag_found other)
+        ≡ option_map retag_found (option_or (option_map (inline_link o) t) other)
+    tail_retag o None other = refl
+    tail_retag o (Some t) other = refl
+
+    written_retag : (c : Closing A) (o : Split A) → written w (retag_closing c) (retag_split o) ≡ option_map retag_found (written w c o)
     written_retag c o =
         let end : ℕ = end_of c.label in
+        let own : Option FoundLabel = label_of_opener w c o in
         let tail : (ℕ → Option ℕ) → Option LinkTail = λ starts. link_tail (lines w) starts (block_text w) end in
-        let other : Form → Written = λ form. reference_written c.could_be_reference end (λ i. closer_ends_at i (retagged f c.rest))
-        (label_of_opener w c o) form in
-        ap (λ (starts : ℕ → Option ℕ). tail_or (other (form_of w (retag_closing c))) (tail starts)) (fun_ext (start_retag c.rest))
-        ∙ ap (λ (form : Form). tail_or (other form) (tail (start_of_first_past c.rest))) (form_retag c)
-        ∙ ap (λ (x : Written). tail_or x (tail (start_of_first_past c.rest))) (closes_retag c (label_of_opener w c o) (form_of w c))
+        let all : (ℕ → Option ℕ) → Option (Written B) → Option (Written B) =
+        λ starts other. option_or (option_map (inline_link (retag_split o)) (tail starts)) other in
+        let refers : (ℕ → Bool) → Form → Option (Written B) = λ closes form. reference_written w (retag_split o) end closes own form in
+        let closes : ℕ → Bool = λ i. closer_ends_at i c.rest in
+        ap (λ (starts : ℕ → Option ℕ). all starts (refers (λ i. closer_ends_at i (retagged f c.rest)) (form_of w (retag_closing c))))
+        (fun_ext (start_retag c.rest))
+        ∙ (ap (λ (closes : ℕ → Bool). all (start_of_first_past c.rest) (refers closes (form_of w (retag_closing c))))
+        (fun_ext (λ i. ends_at_retag i c.rest))
+        ∙ (ap (λ form. all (start_of_first_past c.rest) (refers closes form)) (form_retag c)
+        ∙ (ap (all (start_of_first_past c.rest)) (reference_retag o end closes own (form_of w c))
+        ∙ tail_retag o (tail (start_of_first_past c.rest)) (reference_written w o end closes own (form_of w c)))))
 
-    -- what that comes to
-    target_retag : (o : Split A) (end next : ℕ) (target : Option LinkView) (p : Progress A)
-        → target_tried (retag_split o) end next target (retag_progress f p) ≡ retag_decision (target_tried o end next target p)
-    target_retag o end next None p = refl
-    target_retag o end next (Some target) p = refl
-
-    look_up_retag : (o : Split A) (link_type : LinkType) (label : List ℕ) (end next : ℕ) (p : Progress A)
-        → look_up_tried w (retag_split o) link_type label end next (retag_progress f p)
-        ≡ retag_decision (look_up_tried w o link_type label end next p)
-    look_up_retag o link_type label end next p =
-        let found : LookedUp = look_up w.setting.rules.definitions w.setting.rules.asks p.known.limit p.known.answers
-        (question_at o link_type label end) in
-        target_retag o end next found.target (after_look_up found p)
-
-    used_retag : (is_defined : Bool) (o : Split A) (name : List ℕ) (p : Progress A)
-        → to_be (a_footnote (retag_split o) name) (footnote_used is_defined name (retag_progress f p))
-        ≡ retag_decision (to_be (a_footnote o name) (footnote_used is_defined name p))
-    used_retag true o name p = refl
-    used_retag false o name p = refl
-
-    footnote_retag : (o : Split A) (name : List ℕ) (p : Progress A) → footnote_tried w (retag_split o) name (retag_progress f p)
-        ≡ retag_decision (footnote_tried w o name p)
-    footnote_retag o name p = by (is_reference (footnote_style w.setting.rules.options) (w.setting.rules.is_footnote name))
+    -- what was found is carried out
+    carried_retag : (x : Option (Written A)) (p : Progress A)
+        → carried_out w (option_map retag_found x) (retag_progress f p) ≡ retag_decision (carried_out w x p)
+    carried_retag None p = refl
+    carried_retag (Some (inline_link o t)) p = refl
+    carried_retag (Some (link_reference o r)) p =
+        let rules = w.setting.rules in
+        by (look_up rules.definitions rules.asks p.known.limit p.known.answers (question_at o r))
       where
-        by : (b : Bool) → (if b then to_be (a_footnote (retag_split o) name) (footnote_used (w.setting.rules.is_footnote name) name
-            (retag_progress f p)) else to_be a_text (retag_progress f p))
-            ≡ retag_decision (if b then to_be (a_footnote o name) (footnote_used (w.setting.rules.is_footnote name) name p)
-            else to_be a_text p)
-        by true = used_retag (w.setting.rules.is_footnote name) o name p
-        by false = refl
+        target : (t : Option LinkView) → unwrap_or (option_map (λ t. a_link (retag_split o) t r.end r.next) t) a_text
+            ≡ retag_becomes (unwrap_or (option_map (λ t. a_link o t r.end r.next) t) a_text)
+        target None = refl
+        target (Some t) = refl
 
-    pub tried_retag : (o : Split A) (x : Written) (p : Progress A) → tried w (retag_split o) x (retag_progress f p)
-        ≡ retag_decision (tried w o x p)
-    tried_retag o no_link p = refl
-    tried_retag o (inline_link t) p = refl
-    tried_retag o (link_reference link_type label end next) p = look_up_retag o link_type label end next
-        (record p { spent = spent_by link_type end p.spent })
-    tried_retag o (footnote_label name) p = footnote_retag o name p
-
-    -- one `]`
-    pub opener_retag : (c : Closing A) (o : Option (Split A)) (p : Progress A)
-        → opener_tried w (retag_closing c) (option_map retag_split o) (retag_progress f p) ≡ retag_decision (opener_tried w c o p)
-    opener_retag c None p = refl
-    opener_retag c (Some o) p = by (is_live o.mark.bracket)
-      where
-        by : (b : Bool) → (if b then tried w (retag_split o) (written w (retag_closing c) (retag_split o)) (retag_progress f p)
-            else to_be a_text (retag_progress f p))
-            ≡ retag_decision (if b then tried w o (written w c o) p else to_be a_text p)
-        by true = ap (λ x. tried w (retag_split o) x (retag_progress f p)) (written_retag c o) ∙ tried_retag o (written w c o) p
-        by false = refl
-
-    pub one_retag : (c : Closing A) (p : Progress A) → one_decided w (retag_closing c) (retag_progress f p)
-        ≡ retag_decision (one_decided w c p)
-    one_retag c p =
-        ap (λ o. opener_tried w (retag_closing c) o (record (retag_progress f p) { left = bracket_taken (retag_left f p.left) }))
-        (nearest_retag opens_bracket p.left)
-        ∙ ap (λ l. opener_tried w (retag_closing c) (option_map retag_split (nearest opens_bracket p.left))
-        (record (retag_progress f p) { left = l })) (change_retag opens_bracket without_bracket p.left)
-        ∙ opener_retag c (nearest opens_bracket p.left) (record p { left = bracket_taken p.left })
+        by : (result : LookedUp) → looked_up (retag_split o) r result (retag_progress f p) ≡ retag_decision (looked_up o r result p)
+        by result = ap (λ becomes. to_be becomes (retag_progress f (looked_up o r result p).progress)) (target result.target)
+    carried_retag (Some (footnote_label o name)) p = refl
+    carried_retag (Some (wikilink o v end)) p = refl
 
     -- a wikilink
     if_some_retag : (trees : Forest (Label A)) → if_some (retagged f trees) ≡ option_map (retagged f) (if_some trees)
@@ -275,64 +279,104 @@ module _ {A B : Type 0} (f : A → B) where
     wikilink_in_retag (node first below after) end = body_retag first (node first below after) end
         (wikilink_body w.setting.text w.above.block_end (start_of first) end)
 
-    pub past_second_retag : (trees : Forest (Label A)) → past_second (retagged f trees) ≡ retagged f (past_second trees)
-    past_second_retag nil = refl
-    past_second_retag (node a below after) = refl
+    -- what is found at a `]`, step by step
+    either_retag : (x y : Option (Written A)) → option_or (option_map retag_found x) (option_map retag_found y)
+        ≡ option_map retag_found (option_or x y)
+    either_retag None y = refl
+    either_retag (Some x) y = refl
 
-    found_retag : (b : Bool) (o : Split A) (end : ℕ)
-        → (if b then wikilink_in w (past_second (inside (retag_split o))) end else None)
-        ≡ option_map retag_wikilink (if b then wikilink_in w (past_second (inside o)) end else None)
-    found_retag false o end = refl
-    found_retag true o end =
-        ap (λ trees. wikilink_in w (past_second trees) end) (inside_retag o)
-        ∙ ap (λ trees. wikilink_in w trees end) (past_second_retag (inside o))
-        ∙ wikilink_in_retag (past_second (inside o)) end
+    opener_retag : (g : Split B → Option (Written B)) (h : Split A → Option (Written A))
+        → ((o : Split A) → g (retag_split o) ≡ option_map retag_found (h o)) → (o : Option (Split A))
+        → option_and_then g (option_map retag_split o) ≡ option_map retag_found (option_and_then h o)
+    opener_retag g h same None = refl
+    opener_retag g h same (Some o) = same o
 
-    or_one_retag : (c : Closing A) (end : ℕ) (o : Split A) (found : Option (Wikilink A)) (p : Progress A)
-        → wikilink_or_one w (retag_closing c) end (retag_split o) (option_map retag_wikilink found) (retag_progress f p)
-        ≡ retag_decision (wikilink_or_one w c end o found p)
-    or_one_retag c end o None p =
-        ap (λ l. one_decided w (retag_closing c) (record (retag_progress f p) { left = l })) (change_retag opens_wikilink without_wikilink
-        p.left)
-        ∙ one_retag c (record p { left = wikilink_taken p.left })
-    or_one_retag c end o (Some found) p =
-        let becomes : Becomes B = a_wikilink (retag_split o) (retag_wikilink found) end in
-        ap (λ l. to_be becomes (record (retag_progress f p) { left = wikilink_taken l })) (change_retag opens_bracket without_bracket
-        p.left)
-        ∙ ap (λ l. to_be becomes (record (retag_progress f p) { left = l })) (change_retag opens_wikilink without_wikilink
-        (bracket_taken p.left))
-
-    wikilink_retag : (c : Closing A) (end : ℕ) (o : Option (Split A)) (p : Progress A)
-        → wikilink_tried w (retag_closing c) end (option_map retag_split o) (retag_progress f p)
-        ≡ retag_decision (wikilink_tried w c end o p)
-    wikilink_retag c end None p = one_retag c p
-    wikilink_retag c end (Some o) p =
-        ap (λ found. wikilink_or_one w (retag_closing c) end (retag_split o) found (retag_progress f p))
-        (found_retag (is_live o.mark.wikilink) o (start_of c.label))
-        ∙ or_one_retag c end o (if is_live o.mark.wikilink then wikilink_in w (past_second (inside o)) (start_of c.label) else None) p
-
-    pub wikilink_opener_retag : (left : List (Entry A)) → wikilink_opener (retag_left f left)
-        ≡ option_map retag_split (wikilink_opener left)
-    wikilink_opener_retag left =
-        ap (nearest opens_wikilink) (change_retag opens_bracket without_bracket left) ∙ nearest_retag opens_wikilink (bracket_taken left)
-
-    before_retag : (c : Closing A) (rest : Forest (Label A)) (p : Progress A)
-        → decided_before w (retag_closing c) (retagged f rest) (retag_progress f p) ≡ retag_decision (decided_before w c rest p)
-    before_retag c nil p = one_retag c p
-    before_retag c (node a below after) p = by (wikilinks_on w.setting.rules.options && is_closer (open_body a.part.shape))
+    bracket_retag : (c : Closing A) (o : Split A) → bracket_found w (retag_closing c) (retag_split o)
+        ≡ option_map retag_found (bracket_found w c o)
+    bracket_retag c o = by (is_live o.mark.bracket)
       where
-        by : (b : Bool) → (if b then wikilink_tried w (retag_closing c) (end_of a) (wikilink_opener (retag_left f p.left))
-            (retag_progress f p) else one_decided w (retag_closing c) (retag_progress f p))
-            ≡ retag_decision (if b then wikilink_tried w c (end_of a) (wikilink_opener p.left) p else one_decided w c p)
+        by : (b : Bool) → (if b then written w (retag_closing c) (retag_split o) else None)
+            ≡ option_map retag_found (if b then written w c o else None)
+        by true = written_retag c o
+        by false = refl
+
+    as_wikilink_retag : (o : Split A) (end : ℕ) (v : Option (Wikilink A))
+        → option_map (λ v. wikilink (retag_split o) v end) (option_map retag_wikilink v)
+        ≡ option_map retag_found (option_map (λ v. wikilink o v end) v)
+    as_wikilink_retag o end None = refl
+    as_wikilink_retag o end (Some v) = refl
+
+    wikilink_retag : (c : Closing A) (end : ℕ) (o : Split A) → wikilink_found w (retag_closing c) end (retag_split o)
+        ≡ option_map retag_found (wikilink_found w c end o)
+    wikilink_retag c end o = by (is_live o.mark.wikilink)
+      where
+        start : ℕ
+        start = start_of c.label
+
+        by : (b : Bool) → (if b then option_map (λ v. wikilink (retag_split o) v end)
+            (wikilink_in w (past_second (inside (retag_split o))) start) else None)
+            ≡ option_map retag_found (if b then option_map (λ v. wikilink o v end) (wikilink_in w (past_second (inside o)) start) else None)
+        by false = refl
         by true =
-            ap (λ o. wikilink_tried w (retag_closing c) (end_of a) o (retag_progress f p)) (wikilink_opener_retag p.left)
-            ∙ wikilink_retag c (end_of a) (wikilink_opener p.left) p
-        by false = one_retag c p
+            ap (λ trees. option_map (λ v. wikilink (retag_split o) v end) (wikilink_in w (past_second trees) start)) (inside_retag o)
+            ∙ (ap (λ trees. option_map (λ v. wikilink (retag_split o) v end) (wikilink_in w trees start)) (past_second_retag (inside o))
+            ∙ (ap (option_map (λ v. wikilink (retag_split o) v end)) (wikilink_in_retag (past_second (inside o)) start)
+            ∙ as_wikilink_retag o end (wikilink_in w (past_second (inside o)) start)))
+
+    second_retag_end : (rest : Forest (Label A)) → second_end w (retagged f rest) ≡ second_end w rest
+    second_retag_end nil = refl
+    second_retag_end (node a below after) = refl
+
+    one_left_retag : (second : Option ℕ) (left : List (Entry A)) → left_for_one second (retag_left f left)
+        ≡ retag_left f (left_for_one second left)
+    one_left_retag None left = refl
+    one_left_retag (Some end) left = change_retag opens_wikilink without_wikilink left
+
+    one_found_retag : (c : Closing A) (second : Option ℕ) (left : List (Entry A))
+        → option_and_then (bracket_found w (retag_closing c)) (nearest opens_bracket (left_for_one second (retag_left f left)))
+        ≡ option_map retag_found (option_and_then (bracket_found w c) (nearest opens_bracket (left_for_one second left)))
+    one_found_retag c second left =
+        let find : Option (Split B) → Option (Written B) = option_and_then (bracket_found w (retag_closing c)) in
+        ap (λ left. find (nearest opens_bracket left)) (one_left_retag second left)
+        ∙ (ap find (nearest_retag opens_bracket (left_for_one second left))
+        ∙ opener_retag (bracket_found w (retag_closing c)) (bracket_found w c) (bracket_retag c)
+        (nearest opens_bracket (left_for_one second left)))
+
+    two_found_retag : (c : Closing A) (end : ℕ) (left : List (Entry A))
+        → option_and_then (wikilink_found w (retag_closing c) end) (nearest opens_wikilink (bracket_taken (retag_left f left)))
+        ≡ option_map retag_found (option_and_then (wikilink_found w c end) (nearest opens_wikilink (bracket_taken left)))
+    two_found_retag c end left =
+        let find : Option (Split B) → Option (Written B) = option_and_then (wikilink_found w (retag_closing c) end) in
+        ap (λ left. find (nearest opens_wikilink left)) (change_retag opens_bracket without_bracket left)
+        ∙ (ap find (nearest_retag opens_wikilink (bracket_taken left))
+        ∙ opener_retag (wikilink_found w (retag_closing c) end) (wikilink_found w c end) (wikilink_retag c end)
+        (nearest opens_wikilink (bracket_taken left)))
+
+    found_retag : (c : Closing A) (second : Option ℕ) (left : List (Entry A))
+        → found w (retag_closing c) second (retag_left f left) ≡ option_map retag_found (found w c second left)
+    found_retag c None left = one_found_retag c None left
+    found_retag c (Some end) left =
+        let one : Option (Written B) =
+        option_and_then (bracket_found w (retag_closing c)) (nearest opens_bracket (left_for_one (Some end) (retag_left f left))) in
+        let two : Option (Written A) = option_and_then (wikilink_found w c end) (nearest opens_wikilink (bracket_taken left)) in
+        ap (λ two. option_or two one) (two_found_retag c end left)
+        ∙ (ap (option_or (option_map retag_found two)) (one_found_retag c (Some end) left)
+        ∙ either_retag two (option_and_then (bracket_found w c) (nearest opens_bracket (wikilink_taken left))))
 
     -- what a `]` becomes
     pub decided_retag : (c : Closing A) (p : Progress A) → decided w (retag_closing c) (retag_progress f p) ≡ retag_decision (decided w c p)
     unfolding decided
-    decided_retag c p = before_retag c c.rest p
+    decided_retag c p =
+        let second = second_end w c.rest in
+        let by : Option ℕ → Decision B = λ second. carried_out w (found w (retag_closing c) second (retag_left f p.left))
+        (record (retag_progress f p) { left = bracket_taken (left_for_one second (retag_left f p.left)) }) in
+        let now : Progress A = record p { left = bracket_taken (left_for_one second p.left) } in
+        ap by (second_retag_end c.rest)
+        ∙ (ap (λ x. carried_out w x (record (retag_progress f p) { left = bracket_taken (left_for_one second (retag_left f p.left)) }))
+        (found_retag c second p.left)
+        ∙ (ap (λ left. carried_out w (option_map retag_found (found w c second p.left)) (record (retag_progress f p) { left = left }))
+        (ap bracket_taken (one_left_retag second p.left) ∙ change_retag opens_bracket without_bracket (left_for_one second p.left))
+        ∙ carried_retag (found w c second p.left) now))
 
     pub footnote_onto_retag : (c : Closing A) (is_image : Bool) (opener : Label A) (name : List ℕ) (left : List (Entry A))
         → footnote_onto w (retag_closing c) is_image (retag f opener) name (retag_left f left)

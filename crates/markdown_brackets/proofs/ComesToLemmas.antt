@@ -1,6 +1,6 @@
 -- What is tried for an opener comes to what was found.
 use Rattle.std.proofs.Common.{◌≡◌, ℕ, ◌++◌, Bool, true, false, List, [], ◌∷◌, Option, Some, None, is_some, refl, sym, ◌∙◌, ap, subst, append-nil}
-use Rattle.std.specs.Option.{option_map}
+use Rattle.std.specs.Option.{option_map, option_or}
 use Rattle.std.proofs.Common.{arith}
 use Rattle.std.proofs.lemmas.Bool.Decides.{nat_tests}
 use Rattle.std.specs.Prelude.{IfSome, ◌==◌, ◌||◌, if◌then◌else◌, unwrap_or}
@@ -23,9 +23,9 @@ use Rattle.markdown_defs.specs.Definitions.{Labelled}
 use Rattle.markdown_defs.specs.Folding.{is_match}
 use Rattle.markdown_defs.specs.Footnotes.{footnote_at}
 use Rattle.markdown_defs.specs.FootnoteCounts as footnotes
-use Rattle.markdown_brackets.specs.BracketDecision.{footnote_used, to_be, Around, Becomes, Progress, Try, a_text, a_link, a_footnote}
-use Rattle.markdown_brackets.specs.BracketDecision.{Written, after_look_up, inline_link, inline_target, question_at, spent_by, tail_or, target_tried, tried}
-use Rattle.markdown_brackets.specs.BracketDecision.{link_reference, footnote_label}
+use Rattle.markdown_brackets.specs.BracketDecision.{Around, Becomes, Written, LinkReference, Progress, a_text, a_link, a_footnote, carried_out}
+use Rattle.markdown_brackets.specs.BracketDecision.{footnote_label, footnote_written, inline_link, inline_target, link_reference, looked_up}
+use Rattle.markdown_brackets.specs.BracketDecision.{question_at, to_be, uses_once_more}
 use Rattle.markdown_brackets.specs.BracketOptions.{footnote_style}
 use Rattle.markdown_brackets.specs.DecisionView.{IsBecome, knowing}
 use Rattle.markdown_brackets.specs.FootnoteUse.{is_reference}
@@ -34,7 +34,7 @@ use Rattle.markdown_brackets.specs.LinkTail as scanned
 use Rattle.markdown_brackets.specs.LinkTailView.{IsTail, ReadsTail}
 use Rattle.markdown_brackets.specs.Lookup.{LookedUp, answered, asked, defined_or_asked, finds_nothing, look_up, unknown}
 use Rattle.markdown_brackets.specs.LookupView.{LooksUp}
-use Rattle.markdown_brackets.specs.StandsAt.{IsOwn, Spends, ComesTo, around_by}
+use Rattle.markdown_brackets.specs.StandsAt.{Spends, ComesTo, around_by, reference_to}
 use Rattle.markdown_brackets.specs.SpentEnds.{is_spent}
 use Rattle.markdown_brackets.specs.TargetOrigins.{IsLookedUp, IsTargetFrom}
 use Rattle.markdown_brackets.specs.declared.closing_bracket.ClosedBracket.{ClosedBracket}
@@ -46,12 +46,6 @@ use Rattle.markdown_brackets.specs.declared.look_up.LabelLookup.{LabelLookup}
 use Rattle.markdown_brackets.specs.declared.look_up.Target.{Target}
 use Rattle.markdown_brackets.specs.declared.spent_ends.SpentEnds.{SpentEnds}
 use Rattle.markdown_brackets.proofs.FootnoteUseLemmas.{uses_grow, uses_stay}
-
--- the ends that were spent before stay so
-spent_grows : (link_type : LinkType) (end : ℕ) (spent : List ℕ) → spent_by link_type end spent ≡ spent_by link_type end [] ++ spent
-spent_grows kind.Inline end spent = refl
-spent_grows kind.Reference end spent = refl
-spent_grows other end spent = refl
 
 -- a link that was looked up is no inline link
 unknown_looked_up : (link_type : LinkType) → IsLookedUp link_type → IsLookedUp (unknown link_type)
@@ -100,9 +94,9 @@ none_from source start end target h = by target.link_type h
 
 -- where nobody is asked and no end is used up
 pub comes_quietly : {C : Type 0} (step : C → Question → Option Answer → C → Type 0) (w : Around) (old : LabelLookup C) (spent : SpentEnds)
-    (try : Try ℕ) (becomes : Becomes ℕ) (found : ClosedBracket) → ((p : Progress ℕ) → try p ≡ to_be becomes p) → IsBecome w becomes found
-    → ComesTo step w try old old spent spent found
-comes_quietly step w old spent try becomes found tries is = record {
+    (x : Option (Written ℕ)) (becomes : Becomes ℕ) (found : ClosedBracket) → ((p : Progress ℕ) → carried_out w x p ≡ to_be becomes p)
+    → IsBecome w becomes found → ComesTo step w x old old spent spent found
+comes_quietly step w old spent x becomes found carried is = record {
   answers = [];
   questions = [];
   asked = refl;
@@ -110,33 +104,38 @@ comes_quietly step w old spent try becomes found tries is = record {
   more = [];
   comes = λ p later.
       let now : Progress ℕ = knowing old.limit later (uses_of old.tables.footdefs) p in
-      tries now
+      carried now
       ∙ ap (λ (asked : List Question). to_be becomes (record now { asked = asked })) (sym (append-nil p.asked));
   spends = λ end. refl;
   is = is;
 }
 
+-- where nothing is found
+pub comes_to_text : {C : Type 0} (step : C → Question → Option Answer → C → Type 0) (w : Around) (old : LabelLookup C) (spent : SpentEnds)
+    → ComesTo step w None old old spent spent Text
+comes_to_text step w old spent = comes_quietly step w old spent None a_text Text (λ p. refl) tt
+
 -- an inline link
 pub comes_to_tail : {C : Type 0} (step : C → Question → Option Answer → C → Type 0) (w : Around) (old : LabelLookup C) (spent : SpentEnds)
-    (o : Split ℕ) (other : Written) (t : Option scanned.LinkTail) (tail : LinkTail) (found : ClosedBracket)
+    (o : Split ℕ) (other : Option (Written ℕ)) (t : Option scanned.LinkTail) (tail : LinkTail) (found : ClosedBracket)
     → ReadsTail w.above.in_table t (Some tail)
     → ((t : scanned.LinkTail) → IsTail w.above.in_table t tail → IsBecome w (a_link o (inline_target w t) t.ends t.ends) found)
-    → ComesTo step w (tried w o (tail_or other t)) old old spent spent found
+    → ComesTo step w (option_or (option_map (inline_link o) t) other) old old spent spent found
 comes_to_tail step w old spent o other None tail found reads is = absurd reads
-comes_to_tail step w old spent o other (Some t) tail found reads is = comes_quietly step w old spent (tried w o (inline_link t))
+comes_to_tail step w old spent o other (Some t) tail found reads is = comes_quietly step w old spent (Some (inline_link o t))
     (a_link o (inline_target w t) t.ends t.ends) found (λ p. refl) (is t reads)
 
--- by another name of what is written
-pub tried_as : {C : Type 0} {step : C → Question → Option Answer → C → Type 0} {w : Around} {old new : LabelLookup C}
-    {spent spent' : SpentEnds} {found : ClosedBracket} {x y : Written} (o : Split ℕ) → x ≡ y → ComesTo step w (tried w o x) old new spent spent' found
-    → ComesTo step w (tried w o y) old new spent spent' found
-tried_as {step = step} {w = w} {old = old} {new = new} {spent = spent} {spent' = spent'} {found = found} o e h =
-    subst (λ x. ComesTo step w (tried w o x) old new spent spent' found) e h
+-- by another name of what was found
+pub found_as : {C : Type 0} {step : C → Question → Option Answer → C → Type 0} {w : Around} {old new : LabelLookup C}
+    {spent spent' : SpentEnds} {found : ClosedBracket} {x y : Option (Written ℕ)} → x ≡ y → ComesTo step w x old new spent spent' found
+    → ComesTo step w y old new spent spent' found
+found_as {step = step} {w = w} {old = old} {new = new} {spent = spent} {spent' = spent'} {found = found} e h =
+    subst (λ x. ComesTo step w x old new spent spent' found) e h
 
--- a full reference uses up the end of its label, and another one uses up none
-pub spends_end : (link_type : LinkType) (end : ℕ) (spent spent' : SpentEnds) → link_type ≡ kind.Reference
-    → ((other : ℕ) → is_spent spent' other ≡ ((end == other) || is_spent spent other)) → Spends link_type end spent spent'
-spends_end link_type end spent spent' e put other = rw e (put other ∙ by (end == other) (other == end) (same_test end other))
+-- a full reference uses up the end of its label
+pub spends_end : (end : ℕ) (spent spent' : SpentEnds)
+    → ((other : ℕ) → is_spent spent' other ≡ ((end == other) || is_spent spent other)) → Spends (end ∷ []) spent spent'
+spends_end end spent spent' put other = put other ∙ by (end == other) (other == end) (same_test end other)
   where
     same_test : (a b : ℕ) → (a == b) ≡ (b == a)
     same_test a b = grind (arith, nat_tests)
@@ -147,11 +146,6 @@ spends_end link_type end spent spent' e put other = rw e (put other ∙ by (end 
     by true false e = cc
     by false true e = cc
 
-pub spends_none : (link_type : LinkType) (end : ℕ) (spent : SpentEnds) → IsOwn link_type → Spends link_type end spent spent
-spends_none kind.Collapsed end spent own other = refl
-spends_none kind.Shortcut end spent own other = refl
-spends_none other_type end spent own other = absurd own
-
 module _ {C : Type 0} (step : C → Question → Option Answer → C → Type 0) (place : ChainPlace) (skipped : List ℕ → ℕ)
     (bodies : List ItemBody) (old new : LabelLookup C) (o : Split ℕ) where
   abbrev w : Around
@@ -161,40 +155,33 @@ module _ {C : Type 0} (step : C → Question → Option Answer → C → Type 0)
   abbrev pub link_or_text : (end next : ℕ) → Option LinkView → Becomes ℕ
   link_or_text end next target = unwrap_or (option_map (λ t. a_link o t end next) target) a_text
 
-  pub comes_to_reference : (about : BrokenLink) (next : ℕ) (spent spent' : SpentEnds) (target : Option LinkView) (found : ClosedBracket)
-      → about.span.start ≡ start_of o.opener → new.tables ≡ old.tables → Spends about.link_type about.span.end spent spent'
+  pub comes_to_reference : (about : BrokenLink) (next : ℕ) (spends : List ℕ) (spent spent' : SpentEnds) (target : Option LinkView)
+      (found : ClosedBracket)
+      → about.span.start ≡ start_of o.opener → new.tables ≡ old.tables → Spends spends spent spent'
       → IsLookedUp about.link_type → LooksUp step old new (question_of about) target
       → (IsNoInline target → IsBecome w (link_or_text about.span.end next target) found)
-      → ComesTo step w (tried w o (link_reference about.link_type (text_of about.reference) about.span.end next)) old new spent spent' found
-  comes_to_reference about next spent spent' target found start same spends kind asks is = record {
+      → ComesTo step w (Some (link_reference o (reference_to about next spends))) old new spent spent' found
+  comes_to_reference about next spends spent spent' target found start same spent_so kind asks is = record {
     answers = looks.answers;
     questions = looks.questions;
     asked = looks.asked;
-    becomes = link_or_text end next target;
-    more = spent_by link_type end [];
+    becomes = link_or_text about.span.end next target;
+    more = spends;
     comes = λ p later.
-        let uses = uses_of old.tables.footdefs in
-        let before : Progress ℕ = record (knowing old.limit (looks.answers ++ later) uses p) { spent = spent_by link_type end p.spent } in
-        ap (λ (f : LookedUp). target_tried o end next f.target (after_look_up f before)) (looks.finds later)
-        ∙ rw (same, ← spent_grows link_type end p.spent) refl;
-    spends = spends;
+        let before : Progress ℕ = knowing old.limit (looks.answers ++ later) (uses_of old.tables.footdefs) p in
+        ap (λ (l : LookedUp). looked_up o r l before) (looks.finds later) ∙ rw same refl;
+    spends = spent_so;
     is = is (subst (λ (f : LookedUp). IsNoInline f.target) (looks.finds [])
-        (none_inline old.tables.refdefs (is_some old.callback) old.limit (looks.answers ++ []) (question_at o link_type label end) kind));
+        (none_inline old.tables.refdefs (is_some old.callback) old.limit (looks.answers ++ []) (question_at o r) kind));
   }
     where
-      link_type : LinkType
-      link_type = about.link_type
+      r : LinkReference
+      r = reference_to about next spends
 
-      end : ℕ
-      end = about.span.end
-
-      label : List ℕ
-      label = text_of about.reference
-
-      looks : LooksUp step old new (question_at o link_type label end) target
+      looks : LooksUp step old new (question_at o r) target
       looks =
           subst (λ n. let q : Question =
-          record { span = record { start = n; end = end }; link_type = link_type; reference = label } in LooksUp step old new q target)
+          record { span = record { start = n; end = r.end }; link_type = r.link_type; reference = r.label } in LooksUp step old new q target)
           start asks
 
   -- a footnote label
@@ -207,16 +194,16 @@ module _ {C : Type 0} (step : C → Question → Option Answer → C → Type 0)
 
     -- a use is counted, or nothing has changed
     knows_uses : (d : Bool) → is_some (footnote_at old.tables.footdefs name) ≡ d → (p : Progress ℕ) (later : Answers)
-        → footnote_used d name (knowing old.limit later (uses_of old.tables.footdefs) p)
+        → knowing old.limit later (if d then uses_once_more name (uses_of old.tables.footdefs) else uses_of old.tables.footdefs) p
         ≡ knowing new.limit later (uses_of new.tables.footdefs) p
     knows_uses true e p later = rw (limit, uses_grow old.tables.footdefs new.tables.footdefs name counted e) refl
     knows_uses false e p later = rw (limit, uses_stay old.tables.footdefs new.tables.footdefs name counted e) refl
 
-    comes_by : (becomes : Becomes ℕ) (found : ClosedBracket)
-        → ((p : Progress ℕ) (later : Answers) → tried w o (footnote_label name) (knowing old.limit later (uses_of old.tables.footdefs) p)
+    comes_by : (x : Option (Written ℕ)) (becomes : Becomes ℕ) (found : ClosedBracket)
+        → ((p : Progress ℕ) (later : Answers) → carried_out w x (knowing old.limit later (uses_of old.tables.footdefs) p)
         ≡ to_be becomes (knowing new.limit later (uses_of new.tables.footdefs) p))
-        → IsBecome w becomes found → ComesTo step w (tried w o (footnote_label name)) old new spent spent found
-    comes_by becomes found tries is = record {
+        → IsBecome w becomes found → ComesTo step w x old new spent spent found
+    comes_by x becomes found carried is = record {
       answers = [];
       questions = [];
       asked = sym callback;
@@ -224,26 +211,21 @@ module _ {C : Type 0} (step : C → Question → Option Answer → C → Type 0)
       more = [];
       comes = λ p later.
           let now : Progress ℕ = knowing new.limit later (uses_of new.tables.footdefs) p in
-          tries p later
+          carried p later
           ∙ ap (λ (asked : List Question). to_be becomes (record now { asked = asked })) (sym (append-nil p.asked));
       spends = λ end. refl;
       is = is;
     }
 
     pub comes_to_footnote : is_one ≡ true → (found : ClosedBracket) → IsBecome w (a_footnote o name) found
-        → ComesTo step w (tried w o (footnote_label name)) old new spent spent found
-    comes_to_footnote one found is = comes_by (a_footnote o name) found
-        (λ p later. rw one (ap (to_be (a_footnote o name)) (knows_uses (is_some (footnote_at old.tables.footdefs name)) refl p later))) is
+        → ComesTo step w (footnote_written w o name) old new spent spent found
+    comes_to_footnote one found is = found_as (rw one refl) (comes_by (Some (footnote_label o name)) (a_footnote o name) found
+        (λ p later. ap (to_be (a_footnote o name)) (knows_uses (is_some (footnote_at old.tables.footdefs name)) refl p later)) is)
 
-    pub comes_to_no_footnote : is_one ≡ false → ComesTo step w (tried w o (footnote_label name)) old new spent spent Text
-    comes_to_no_footnote none = comes_by a_text Text
-        (λ p later.
-        rw (
-          none,
-          limit,
-          uses_stay old.tables.footdefs new.tables.footdefs name counted
-              (none_defined (footnote_style place.options) (is_some (footnote_at old.tables.footdefs name)) none),
-        ) refl) tt
+    pub comes_to_no_footnote : is_one ≡ false → ComesTo step w (footnote_written w o name) old new spent spent Text
+    comes_to_no_footnote none = found_as (rw none refl) (comes_by None a_text Text
+        (λ p later. ap (to_be a_text) (knows_uses false
+        (none_defined (footnote_style place.options) (is_some (footnote_at old.tables.footdefs name)) none) p later)) tt)
       where
         none_defined : (how : FootnoteStyle) (d : Bool) → is_reference how d ≡ false → d ≡ false
         none_defined style.Off d e = e

@@ -1,5 +1,6 @@
 -- The decision at a `]` is the wikilink that was found, or what its opener comes to.
 use Rattle.std.proofs.Common.{◌≡◌, ℕ, ◌++◌, Bool, List, [], ◌∷◌, Option, Some, None, refl, sym, ◌∙◌, ap, subst, append-nil}
+use Rattle.std.specs.Option.{option_and_then}
 use Rattle.std.specs.Prelude.{IfSome, MatchOption}
 use Rattle.markdown_base.specs.Arena.{sibling_of}
 use Rattle.markdown_base.specs.BlockTree.{item_at}
@@ -8,7 +9,7 @@ use Rattle.markdown_base.specs.declared.item.Item.{Item}
 use Rattle.markdown_base.specs.declared.node.Node.{Node}
 use Rattle.markdown_document.specs.ChainRest.{end_of}
 use Rattle.markdown_document.specs.Setting.{Known, uses_of}
-use Rattle.markdown_brackets.specs.BracketDecision.{Around, Closing, Decision, Progress, a_wikilink, opener_tried, to_be}
+use Rattle.markdown_brackets.specs.BracketDecision.{Around, Closing, Decision, Progress, a_wikilink, bracket_found, to_be}
 use Rattle.markdown_brackets.specs.Decides.{Decides, StandsBefore}
 use Rattle.markdown_brackets.specs.DecisionView.{knowing, opener_of}
 use Rattle.markdown_brackets.specs.Finish.{SplitsAs}
@@ -47,21 +48,21 @@ module _ {C : Type 0} (step : C → Question → Option Answer → C → Type 0)
       asked = refl;
       becomes = a_wikilink t.opener t.wikilink t.end;
       is = t.is;
-      left_then = wikilink_taken (bracket_taken left);
+      left_then = bracket_taken (wikilink_taken left);
       splits = t.splits;
       more = [];
       decides = λ p later.
           let now : Progress ℕ = knowing lookup.limit later (uses_of lookup.tables.footdefs) p in
           t.decides now
           ∙ ap (λ (asked : List Question). to_be (a_wikilink t.opener t.wikilink t.end)
-          (record now { left = wikilink_taken (bracket_taken left); asked = asked })) (sym (append-nil p.asked));
+          (record now { left = bracket_taken (wikilink_taken left); asked = asked })) (sym (append-nil p.asked));
       spends = λ end. refl;
-      brackets_are = left_of taken old new m ∙ (ap rest_of old_is ∙ (rest_brackets left ∙ sym (brackets_stay (bracket_taken left))));
+      brackets_are = left_of taken old new m ∙ (ap rest_of (old_is ∙ sym (brackets_stay left)) ∙ rest_brackets (wikilink_taken left));
       wikilinks_are = t.held_is;
     }
 
     pub decides_one : (lookup' : LabelLookup C) (spent' : SpentEnds) (t : TakesNone w c left held)
-        → ComesTo step w (opener_tried w c (nearest opens_bracket t.left_then)) lookup lookup' spent spent' found
+        → ComesTo step w (option_and_then (bracket_found w c) (nearest opens_bracket t.left_then)) lookup lookup' spent spent' found
         → Decides step w c left lookup.limit lookup'.limit (uses_of lookup.tables.footdefs) (uses_of lookup'.tables.footdefs) spent spent'
         lookup.callback lookup'.callback new held found
     decides_one lookup' spent' t h = record {

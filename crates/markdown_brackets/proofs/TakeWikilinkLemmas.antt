@@ -13,14 +13,15 @@ use Rattle.markdown_document.specs.ChainRest.{start_of, end_of, joined_chains, o
 use Rattle.markdown_document.specs.Document.{Label}
 use Rattle.markdown_document.specs.Totals.{same}
 use Rattle.markdown_document.proofs.TablesLemmas.{same-refl}
-use Rattle.markdown_brackets.specs.BracketDecision.{Around, Closing, Progress, Wikilink, decided, decided_before, one_decided, past_second}
-use Rattle.markdown_brackets.specs.BracketDecision.{wikilink_in, wikilink_opener, wikilink_or_one, wikilink_tried}
+use Rattle.markdown_brackets.specs.BracketDecision.{Around, Closing, Decision, Written, Progress, Wikilink, bracket_found, carried_out, decided}
+use Rattle.markdown_brackets.specs.BracketDecision.{found, left_for_one, past_second, second_end, wikilink, wikilink_found, wikilink_in}
+use Rattle.std.specs.Option.{option_and_then, option_map, option_or}
 use Rattle.markdown_base.specs.EnabledOptions.{wikilinks_on}
 use Rattle.markdown_brackets.specs.ChainHeld.{Holds, numbers_of, times_of}
 use Rattle.markdown_brackets.specs.Decides.{StandsBefore}
 use Rattle.markdown_brackets.specs.DecisionView.{opener_of}
 use Rattle.markdown_brackets.specs.Finish.{IsSplit}
-use Rattle.markdown_brackets.specs.LeftList.{Entry, Split, inside, is_live, nearest, opens_bracket, opens_wikilink, without_bracket}
+use Rattle.markdown_brackets.specs.LeftList.{Entry, Split, done, inside, is_live, nearest, opens_bracket, opens_wikilink, waits, without_bracket}
 use Rattle.markdown_brackets.specs.LeftList.{without_wikilink, bracket_taken, wikilink_taken, trees_onto}
 use Rattle.markdown_brackets.specs.HeldOpeners.{brackets_of, wikilinks_of}
 use Rattle.markdown_brackets.specs.Openers.{Waiting}
@@ -59,6 +60,19 @@ rest_brackets left = by (nearest opens_bracket left) (top_bracket left)
     by : (o : Option (Split ℕ)) → TopBracket left o → rest_of (brackets_of left) ≡ brackets_of (bracket_taken left)
     by None h = ap rest_of h.0 ∙ sym h.1
     by (Some o) h = ap rest_of h
+
+-- openers are taken off in any order
+taken_both : (left : List (Entry ℕ)) → wikilink_taken (bracket_taken left) ≡ bracket_taken (wikilink_taken left)
+taken_both [] = refl
+taken_both (done a below ∷ left) = ap (λ (l : List (Entry ℕ)). done a below ∷ l) (taken_both left)
+taken_both (waits m a ∷ left) = by (opens_bracket m) (opens_wikilink m) refl refl (taken_both left)
+  where
+    by : (b d : Bool) → opens_bracket m ≡ b → opens_wikilink m ≡ d → wikilink_taken (bracket_taken left) ≡ bracket_taken (wikilink_taken left)
+        → wikilink_taken (bracket_taken (waits m a ∷ left)) ≡ bracket_taken (wikilink_taken (waits m a ∷ left))
+    by true true e f h = rw (e, f, e) refl
+    by true false e f h = rw (e, f, e) refl
+    by false true e f h = rw (e, f, e) refl
+    by false false e f h = rw (e, f, e) (ap (λ (l : List (Entry ℕ)). waits m a ∷ l) h)
 
 module _ (nodes : List (Node Item)) (closer : ℕ) (left : List (Entry ℕ)) (c : Closing ℕ) (s : StandsBefore nodes closer left c) where
   abbrev behind_left : Forest (Label ℕ)
@@ -127,25 +141,31 @@ module _ (nodes : List (Node Item)) (closer : ℕ) (left : List (Entry ℕ)) (c 
         }
 
   module _ (w : Around) where
-    -- where no wikilink is tried
-    pub none_by_off : (held : List Waiting) → held ≡ wikilinks_of left → wikilinks_on w.setting.rules.options ≡ false
-        → TakesNone w c left held
+    -- the decision, with the end of a second `]`
+    abbrev decided_by : Option ℕ → Progress ℕ → Decision ℕ
+    decided_by second p = carried_out w (found w c second p.left) (record p { left = bracket_taken (left_for_one second p.left) })
+
+    decided_is : (second : Option ℕ) → second_end w c.rest ≡ second → (p : Progress ℕ) → decided w c p ≡ decided_by second p
     unfolding decided
-    none_by_off held h off = record {
+    decided_is second e p = ap (λ second. decided_by second p) e
+
+    -- where no wikilink is tried
+    none_tried : (held : List Waiting) → held ≡ wikilinks_of left → second_end w c.rest ≡ None → TakesNone w c left held
+    none_tried held h e = record {
       left_then = left;
       held_is = h;
       brackets = refl;
       trees = λ later. refl;
-      decides = λ p. decides
-          (record p { left = left });
+      decides = λ p. decided_is None e (record p { left = left });
     }
-      where
-        by : (rest : Forest (Label ℕ)) (p : Progress ℕ) → decided_before w c rest p ≡ one_decided w c p
-        by nil p = refl
-        by (node a below after) p = rw off refl
 
-        decides : (p : Progress ℕ) → decided w c p ≡ one_decided w c p
-        decides p = by c.rest p
+    pub none_by_off : (held : List Waiting) → held ≡ wikilinks_of left → wikilinks_on w.setting.rules.options ≡ false
+        → TakesNone w c left held
+    none_by_off held h off = none_tried held h (by c.rest)
+      where
+        by : (rest : Forest (Label ℕ)) → second_end w rest ≡ None
+        by nil = refl
+        by (node a below after) = rw off refl
 
     and_false : (b : Bool) → (b && false) ≡ false
     and_false true = refl
@@ -153,29 +173,17 @@ module _ (nodes : List (Node Item)) (closer : ℕ) (left : List (Entry ℕ)) (c 
 
     pub none_by_next : (held : List Waiting) → held ≡ wikilinks_of left
         → MatchOption (sibling_of nodes closer) (Unit {0}) (λ next. is_closer (item_at nodes next).body ≡ false) → TakesNone w c left held
-    unfolding decided
-    none_by_next held h next = record {
-      left_then = left;
-      held_is = h;
-      brackets = refl;
-      trees = λ later. refl;
-      decides = λ p. decides
-          (record p { left = left });
-    }
+    none_by_next held h next = none_tried held h (by c.rest (sibling_of nodes closer) rest_found.holds next)
       where
         by : (rest : Forest (Label ℕ)) (l : Option ℕ) → Holds s.source s.tables nodes l rest
-            → MatchOption l (Unit {0}) (λ next. is_closer (item_at nodes next).body ≡ false)
-            → (p : Progress ℕ) → decided_before w c rest p ≡ one_decided w c p
-        by nil l h m p = refl
-        by (node a below after) None h m p = let e = h.0 in cc
-        by (node a below after) (Some next) h m p =
+            → MatchOption l (Unit {0}) (λ next. is_closer (item_at nodes next).body ≡ false) → second_end w rest ≡ None
+        by nil l h m = refl
+        by (node a below after) None h m = let e = h.0 in cc
+        by (node a below after) (Some next) h m =
             let e : next ≡ a.tag = let q = h.0 in cc in
             let none : is_closer (open_body a.part.shape) ≡ false =
             sym (same_closer s.source s.tables nodes a h.2) ∙ subst (λ n. is_closer (item_at nodes n).body ≡ false) e m in
             rw (none, and_false (wikilinks_on w.setting.rules.options)) refl
-
-        decides : (p : Progress ℕ) → decided w c p ≡ one_decided w c p
-        decides p = by c.rest (sibling_of nodes closer) rest_found.holds next p
 
     -- where a wikilink is tried
     module _ (next : ℕ) (is_next : sibling_of nodes closer ≡ Some next) (closes : is_closer (item_at nodes next).body ≡ true)
@@ -183,12 +191,14 @@ module _ (nodes : List (Node Item)) (closer : ℕ) (left : List (Entry ℕ)) (c 
       abbrev end : ℕ
       end = (item_at nodes next).end
 
-      tried_two : (p : Progress ℕ) → decided w c p ≡ wikilink_tried w c end (wikilink_opener p.left) p
-      unfolding decided
-      tried_two p = by c.rest (sibling_of nodes closer) rest_found.holds is_next
+      abbrev wikilink_opener : Option (Split ℕ)
+      wikilink_opener = nearest opens_wikilink (bracket_taken left)
+
+      second_is : second_end w c.rest ≡ Some end
+      second_is = by c.rest (sibling_of nodes closer) rest_found.holds is_next
         where
           by : (rest : Forest (Label ℕ)) (l : Option ℕ) → Holds s.source s.tables nodes l rest → l ≡ Some next
-              → decided_before w c rest p ≡ wikilink_tried w c end (wikilink_opener p.left) p
+              → second_end w rest ≡ Some end
           by nil l h e = let q : l ≡ None = h in cc
           by (node a below after) l h e =
               let n : next ≡ a.tag = let q = h.0 in cc in
@@ -196,6 +206,16 @@ module _ (nodes : List (Node Item)) (closer : ℕ) (left : List (Entry ℕ)) (c 
               sym (same_closer s.source s.tables nodes a h.2) ∙ subst (λ n. is_closer (item_at nodes n).body ≡ true) n closes in
               let ends : (item_at nodes next).end ≡ end_of a = ap (λ n. (item_at nodes n).end) n ∙ same_end s.source s.tables nodes a h.2 in
               rw (on, is, ends) refl
+
+      -- the decision, by the wikilink that is found
+      decided_as : (x : Option (Written ℕ)) → option_and_then (wikilink_found w c end) wikilink_opener ≡ x → (p : Progress ℕ)
+          → decided w c (record p { left = left })
+          ≡ carried_out w (option_or x (option_and_then (bracket_found w c) (nearest opens_bracket (wikilink_taken left))))
+          (record p { left = bracket_taken (wikilink_taken left) })
+      decided_as x e p =
+          let now : Progress ℕ = record p { left = bracket_taken (wikilink_taken left) } in
+          let one : Option (Written ℕ) = option_and_then (bracket_found w c) (nearest opens_bracket (wikilink_taken left)) in
+          decided_is (Some end) second_is (record p { left = left }) ∙ ap (λ x. carried_out w (option_or x one) now) e
 
       module _ (taken : Option (Opener × Bool)) (old new : List Waiting) (old_is : old ≡ wikilinks_of left)
           (m : MatchOption taken ((old ≡ []) × (new ≡ [])) (λ t. old ≡ record { opener = t.0; is_live = t.1 } ∷ new)) where
@@ -207,7 +227,7 @@ module _ (nodes : List (Node Item)) (closer : ℕ) (left : List (Entry ℕ)) (c 
             by None m = m.1 ∙ sym (ap rest_of m.0)
             by (Some t) m = sym (ap rest_of m)
 
-        tries_two : (o : Option (Split ℕ)) → wikilink_opener left ≡ o → TriesWikilink nodes closer taken c o
+        tries_two : (o : Option (Split ℕ)) → wikilink_opener ≡ o → TriesWikilink nodes closer taken c o
         tries_two o e = by taken m o (subst (TopWikilink (bracket_taken left)) e (top_wikilink (bracket_taken left)))
             (subst (λ o. IfSome o (SplitsAt (bracket_taken left))) e (splits_at opens_wikilink (bracket_taken left)))
           where
@@ -230,45 +250,46 @@ module _ (nodes : List (Node Item)) (closer : ℕ) (left : List (Entry ℕ)) (c 
 
         pub takes : (r : Option ClosedBracket) → ((o : Option (Split ℕ)) → TriesWikilink nodes closer taken c o → FindsWikilink w end c o r)
             → TakesWikilink w c left new r
-        takes r finds = by (wikilink_opener left) refl (finds (wikilink_opener left) (tries_two (wikilink_opener left) refl))
+        takes r finds = by wikilink_opener refl (finds wikilink_opener (tries_two wikilink_opener refl))
           where
-            by : (o : Option (Split ℕ)) → wikilink_opener left ≡ o → FindsWikilink w end c o r → TakesWikilink w c left new r
-            by None q h =
-                subst (λ r. TakesWikilink w c left new r) (sym h)
-                (record {
-                  left_then = left;
-                  held_is = new_is ∙ none_waits q;
-                  brackets = refl;
-                  trees = λ later. refl;
-                  decides = λ p. tried_two (record p { left = left }) ∙ ap (λ o. wikilink_tried w c end o (record p { left = left })) q;
-                })
-              where
-                none_waits : wikilink_opener left ≡ None → rest_of (wikilinks_of left) ≡ wikilinks_of left
-                none_waits q =
-                    let top : TopWikilink (bracket_taken left) None = subst (TopWikilink (bracket_taken left)) q
-                    (top_wikilink (bracket_taken left)) in
-                    let none : wikilinks_of left ≡ [] = sym (wikilinks_stay left) ∙ top.0 in
-                    ap rest_of none ∙ sym none
+            takes_none : option_and_then (wikilink_found w c end) wikilink_opener ≡ None → TakesNone w c left new
+            takes_none e = record {
+              left_then = wikilink_taken left;
+              held_is = new_is ∙ rest_wikilinks left;
+              brackets = brackets_stay left;
+              trees = trees_stay opens_wikilink without_wikilink left;
+              decides = decided_as None e;
+            }
+
+            by : (o : Option (Split ℕ)) → wikilink_opener ≡ o → FindsWikilink w end c o r → TakesWikilink w c left new r
+            by None q h = subst (λ r. TakesWikilink w c left new r) (sym h) (takes_none (ap (option_and_then (wikilink_found w c end)) q))
             by (Some o) q h = inner (if is_live o.mark.wikilink then wikilink_in w (past_second (inside o)) (start_of c.label) else None)
                 refl r h
               where
-                splits : IsSplit (wikilink_taken (bracket_taken left)) o
-                splits = subst (λ o. IfSome o (IsSplit (wikilink_taken (bracket_taken left)))) q
-                    (taken_splits opens_wikilink without_wikilink (bracket_taken left))
+                splits : IsSplit (bracket_taken (wikilink_taken left)) o
+                splits = subst (λ l. IsSplit l o) (taken_both left)
+                    (subst (λ o. IfSome o (IsSplit (wikilink_taken (bracket_taken left)))) q
+                    (taken_splits opens_wikilink without_wikilink (bracket_taken left)))
+
+                found_is : (live : Bool) (v : Option (Wikilink ℕ))
+                    → (if live then option_map (λ v. wikilink o v end) v else None)
+                    ≡ option_map (λ v. wikilink o v end) (if live then v else None)
+                found_is true v = refl
+                found_is false v = refl
+
+                all_is : (x : Option (Wikilink ℕ))
+                    → (if is_live o.mark.wikilink then wikilink_in w (past_second (inside o)) (start_of c.label) else None) ≡ x
+                    → option_and_then (wikilink_found w c end) wikilink_opener ≡ option_map (λ v. wikilink o v end) x
+                all_is x e =
+                    ap (option_and_then (wikilink_found w c end)) q
+                    ∙ (found_is (is_live o.mark.wikilink) (wikilink_in w (past_second (inside o)) (start_of c.label))
+                    ∙ ap (option_map (λ v. wikilink o v end)) e)
 
                 inner : (x : Option (Wikilink ℕ))
                     → (if is_live o.mark.wikilink then wikilink_in w (past_second (inside o)) (start_of c.label) else None) ≡ x
                     → (r : Option ClosedBracket) → IsWikilink w (opener_of o) end (past_second (inside o)) x r
                     → TakesWikilink w c left new r
-                inner None e None h = record {
-                  left_then = wikilink_taken left;
-                  held_is = new_is ∙ rest_wikilinks left;
-                  brackets = brackets_stay left;
-                  trees = trees_stay opens_wikilink without_wikilink left;
-                  decides = λ p. tried_two (record p { left = left })
-                      ∙ (ap (λ o. wikilink_tried w c end o (record p { left = left })) q
-                      ∙ ap (λ x. wikilink_or_one w c end o x (record p { left = left })) e);
-                }
+                inner None e None h = takes_none (all_is None e)
                 inner None e (Some x) h = absurd h
                 inner (Some v) e None h = absurd h
                 inner (Some v) e (Some Text) h = absurd h
@@ -278,10 +299,8 @@ module _ (nodes : List (Node Item)) (closer : ℕ) (left : List (Entry ℕ)) (c 
                   opener = o;
                   wikilink = v;
                   end = end;
-                  held_is = new_is ∙ (ap rest_of (sym (wikilinks_stay left)) ∙ rest_wikilinks (bracket_taken left));
+                  held_is = new_is ∙ (rest_wikilinks left ∙ sym (wikilinks_stay (wikilink_taken left)));
                   splits = splits;
-                  decides = λ p. tried_two (record p { left = left })
-                      ∙ (ap (λ o. wikilink_tried w c end o (record p { left = left })) q
-                      ∙ ap (λ x. wikilink_or_one w c end o x (record p { left = left })) e);
+                  decides = decided_as (Some (wikilink o v end)) (all_is (Some v) e);
                   is = h;
                 }

@@ -8,7 +8,7 @@ use Rattle.markdown_document.specs.Document.{Label, as_text}
 use Rattle.markdown_document.specs.Setting.{Known}
 use Rattle.markdown_document.specs.ChainRest.{begun_at, end_of, open_body}
 use Rattle.markdown_base.specs.EnabledOptions.{wikilinks_on}
-use Rattle.markdown_brackets.specs.BracketDecision.{Around, Closing, Progress, Step, is_next}
+use Rattle.markdown_brackets.specs.BracketDecision.{Around, Closing, Progress, Step}
 use Rattle.markdown_brackets.specs.ClosingBracket.{closed}
 use Rattle.markdown_brackets.specs.LeftList.{waits, live, gone}
 use Rattle.markdown_brackets.specs.Reference.{is_opener}
@@ -16,6 +16,11 @@ use Rattle.markdown_brackets.specs.Reference.{is_opener}
 -- the progress before anything is read
 abbrev pub begun : {A : Type 0} → Known → Progress A
 begun known = record { left = []; goes_on = None; spent = []; asked = []; known = known; made = 0 }
+
+-- the first item of a chain is of this kind
+abbrev pub is_next : {A : Type 0} → (ItemBody → Bool) → Forest (Label A) → Bool
+is_next test nil = false
+is_next test (node a below after) = test (open_body a.part.shape)
 
 -- a `[` or `![` is read: if wikilinks are enabled, one directly before a `[` item opens a wikilink too
 abbrev pub opened : {A : Type 0} → Around → (is_image : Bool) → Label A → Forest (Label A) → Step A

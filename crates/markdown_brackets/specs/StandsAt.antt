@@ -1,5 +1,5 @@
 -- A `]` in an arena, with the opener that is tried for it.
-use Rattle.std.specs.Prelude.{◌≡◌, ℕ, ◌<◌, ◌≤◌, ◌&&◌, ◌||◌, ◌++◌, ◌==◌, not, Bool, List, [], Option, Some, None}
+use Rattle.std.specs.Prelude.{◌≡◌, ℕ, ◌<◌, ◌≤◌, ◌&&◌, ◌||◌, ◌++◌, ◌==◌, not, Bool, List, Option, Some, None}
 use Rattle.std.specs.Prelude.{is_some, if◌then◌else◌}
 use Rattle.std.specs.Option.{option_and_then, option_map}
 use Rattle.markdown_base.specs.Arena.{sibling_of}
@@ -8,7 +8,6 @@ use Rattle.markdown_base.specs.BlockTree.{item_at}
 use Rattle.markdown_base.specs.Questions.{Question, Answer, Answers}
 use Rattle.markdown_base.specs.declared.item.Item.{Item}
 use Rattle.markdown_base.specs.declared.item.ItemBody.{ItemBody}
-use Rattle.markdown_base.specs.declared.tag.LinkType.{LinkType}
 use Rattle.markdown_base.specs.declared.tag.LinkType.TheVariants as kind
 use Rattle.markdown_base.specs.declared.node.Node.{Node}
 use Rattle.markdown_document.specs.ChainRest.{start_of, end_of}
@@ -16,8 +15,10 @@ use Rattle.markdown_document.specs.Tables.{Tables}
 use Rattle.markdown_document.specs.ChainRest.{joined_chains}
 use Rattle.markdown_document.specs.Document.{Label}
 use Rattle.markdown_base.specs.Forest.{Forest, nil, node, first_root}
-use Rattle.markdown_brackets.specs.BracketDecision.{Around, Becomes, Closing, Progress, Try, Wikilink, a_wikilink}
-use Rattle.markdown_brackets.specs.BracketDecision.{decided, one_decided, past_second, spent_by, to_be, wikilink_in}
+use Rattle.markdown_brackets.specs.BracketDecision.{Around, Becomes, Closing, Written, LinkReference, Progress, Wikilink}
+use Rattle.markdown_brackets.specs.BracketDecision.{a_wikilink, bracket_found, carried_out, decided, past_second, to_be}
+use Rattle.markdown_brackets.specs.BracketDecision.{wikilink_in}
+use Rattle.markdown_base.specs.CowText.{text_of}
 use Rattle.markdown_brackets.specs.Reference.{could_be_reference}
 use Rattle.markdown_brackets.specs.Wikilink.{WikilinkBody, has_pothole, Shows, shows_name, shows_nothing, shows_from}
 use Rattle.markdown_brackets.specs.Wikilink.{wikilink_body}
@@ -26,6 +27,7 @@ use Rattle.markdown_brackets.specs.declared.closing_bracket.ClosedBracket.TheVar
 use Rattle.markdown_brackets.specs.ChainHeld.{Holds, numbers_of, times_of, link_to}
 use Rattle.markdown_brackets.specs.DecisionView.{IsBecome, IsShownAfterPipe, around_at, first_shown, knowing, opener_of, shown_of}
 use Rattle.markdown_brackets.specs.LeftList.{Split, inside, is_live, Entry, trees_onto, bracket_taken, wikilink_taken}
+use Rattle.markdown_brackets.specs.LeftList.{nearest, opens_bracket}
 use Rattle.markdown_brackets.specs.ReadChain.{among}
 use Rattle.markdown_brackets.specs.SpentEnds.{is_spent}
 use Rattle.markdown_brackets.specs.declared.closer.Closer.{Closer}
@@ -61,44 +63,48 @@ pub record IsFull (nodes : List (Node Item)) (opener : Opener) (about : BrokenLi
   pub kind_is : about.link_type ≡ kind.Reference
   pub starts : about.span.start ≡ (item_at nodes opener.node).start
 
--- the reference is one whose label is that from the opener to the `]`
-abbrev pub IsOwn : LinkType → Type 0
-IsOwn kind.Collapsed = Unit {0}
-IsOwn kind.Shortcut = Unit {0}
-IsOwn other = ⊥
+-- the `]` that end at these byte offsets are used up
+abbrev pub Spends : List ℕ → (spent spent' : SpentEnds) → Type 0
+Spends ends spent spent' = (end : ℕ) → is_spent spent' end ≡ (among end ends || is_spent spent end)
 
--- the ends of `]` that are used up, after a reference whose label ends at a byte offset was looked up
-abbrev pub Spends : LinkType → (end : ℕ) → SpentEnds → SpentEnds → Type 0
-Spends link_type end spent spent' =
-    (other : ℕ) → is_spent spent' other ≡ (among other (spent_by link_type end []) || is_spent spent other)
+-- the reference whose label is asked about
+abbrev pub reference_to : BrokenLink → (next : ℕ) → (spends : List ℕ) → LinkReference
+reference_to about next spends = record {
+  link_type = about.link_type;
+  label = text_of about.reference;
+  end = about.span.end;
+  next = next;
+  spends = spends;
+}
 
 -- what the brackets of a chain at this place depend on, by what labels are looked up in
 abbrev pub around_by : {C : Type 0} → ChainPlace → (List ℕ → ℕ) → List ItemBody → LabelLookup C → Around
 around_by place skipped bodies lookup =
     around_at place skipped bodies lookup.tables.refdefs lookup.tables.footdefs (is_some lookup.callback)
 
--- the result of a step of the decision: the callback answered these questions, at most one, and the result is what the
--- rules say whatever answers follow, which are left
-pub record ComesTo {C : Type 0} (step : C → Question → Option Answer → C → Type 0) (w : Around) (try : Try ℕ)
-    (old new : LabelLookup C) (spent spent' : SpentEnds) (found : ClosedBracket) : Type 0 where
+-- the result of carrying out what was found: the callback answered these questions, at most one, and the result is what
+-- the rules say whatever answers follow, which are left
+pub record ComesTo {C : Type 0} (step : C → Question → Option Answer → C → Type 0) (w : Around)
+    (find : Option (Written ℕ)) (old new : LabelLookup C) (spent spent' : SpentEnds) (found : ClosedBracket) : Type 0 where
   pub answers : Answers
   pub questions : List Question
   pub asked : Asks step old.callback questions answers new.callback
   pub becomes : Becomes ℕ
   pub more : List ℕ
   pub comes : (p : Progress ℕ) (later : Answers)
-      → try (knowing old.limit (answers ++ later) (uses_of old.tables.footdefs) p)
+      → carried_out w find (knowing old.limit (answers ++ later) (uses_of old.tables.footdefs) p)
       ≡ to_be becomes (record (knowing new.limit later (uses_of new.tables.footdefs) p)
       { spent = more ++ p.spent; asked = p.asked ++ questions })
-  pub spends : (end : ℕ) → is_spent spent' end ≡ (among end more || is_spent spent end)
+  pub spends : Spends more spent spent'
   pub is : IsBecome w becomes found
 
--- a try of an opener at a `]` comes to what the rules say, where that opener is the one of a split
+-- what is found from an opener at a `]` is carried out as the rules say, where that opener is the one of a split
 abbrev pub Tries : {C R : Type 0} → (C → Question → Option Answer → C → Type 0) → Closer R → Opener
-    → (old new : LabelLookup C) → (spent spent' : SpentEnds) → (Around → Split ℕ → Try ℕ) → ClosedBracket → Type 0
-Tries step at opener old new spent spent' try found = (skipped : List ℕ → ℕ) (bodies : List ItemBody) (o : Split ℕ)
+    → (old new : LabelLookup C) → (spent spent' : SpentEnds) → (Around → Split ℕ → Option (Written ℕ))
+    → ClosedBracket → Type 0
+Tries step at opener old new spent spent' find found = (skipped : List ℕ → ℕ) (bodies : List ItemBody) (o : Split ℕ)
     → opener ≡ opener_of o → (item_at at.tree.now.nodes opener.node).start ≡ start_of o.opener
-    → ComesTo step (around_by at.place.now skipped bodies old) (try (around_by at.place.now skipped bodies old) o) old
+    → ComesTo step (around_by at.place.now skipped bodies old) (find (around_by at.place.now skipped bodies old) o) old
     new spent spent' found
 
 -- the opener that was taken off a stack is this one of the left list, and has its range
@@ -212,14 +218,16 @@ FindsWikilink w end c (Some o) found =
     IsWikilink w (opener_of o) end (past_second (inside o))
     (if is_live o.mark.wikilink then wikilink_in w (past_second (inside o)) (start_of c.label) else None) found
 
--- no wikilink is found: a single `]` is decided, with a left list without the opener that was tried
+-- no wikilink is found: what is found from the nearest bracket opener is carried out, with a left list without the
+-- opener that was tried
 pub record TakesNone (w : Around) (c : Closing ℕ) (left : List (Entry ℕ)) (held : List Waiting) : Type 0 where
   pub left_then : List (Entry ℕ)
   pub held_is : held ≡ wikilinks_of left_then
   pub brackets : brackets_of left_then ≡ brackets_of left
   pub trees : (later : Forest (Label ℕ)) → trees_onto left_then later ≡ trees_onto left later
   pub decides : (p : Progress ℕ) → decided w c (record p { left = left })
-      ≡ one_decided w c (record p { left = left_then })
+      ≡ carried_out w (option_and_then (bracket_found w c) (nearest opens_bracket left_then))
+      (record p { left = bracket_taken left_then })
 
 -- a wikilink is found
 pub record TakesOne (w : Around) (c : Closing ℕ) (left : List (Entry ℕ)) (held : List Waiting) (found : ClosedBracket)
@@ -227,10 +235,10 @@ pub record TakesOne (w : Around) (c : Closing ℕ) (left : List (Entry ℕ)) (he
   pub opener : Split ℕ
   pub wikilink : Wikilink ℕ
   pub end : ℕ
-  pub held_is : held ≡ wikilinks_of (wikilink_taken (bracket_taken left))
-  pub splits : IsSplit (wikilink_taken (bracket_taken left)) opener
+  pub held_is : held ≡ wikilinks_of (bracket_taken (wikilink_taken left))
+  pub splits : IsSplit (bracket_taken (wikilink_taken left)) opener
   pub decides : (p : Progress ℕ) → decided w c (record p { left = left })
-      ≡ to_be (a_wikilink opener wikilink end) (record p { left = wikilink_taken (bracket_taken left) })
+      ≡ to_be (a_wikilink opener wikilink end) (record p { left = bracket_taken (wikilink_taken left) })
   pub is : IsBecome w (a_wikilink opener wikilink end) found
 
 -- a wikilink is found, or none

@@ -1,15 +1,16 @@
 -- What is read at a `]` of an arena, as contracts describe it.
-use Rattle.std.specs.Prelude.{ℕ, Bool, List, Option, take}
-use Rattle.std.specs.Option.{option_and_then, option_map}
+use Rattle.std.specs.Prelude.{ℕ, Bool, List, Option, None, if◌then◌else◌, take}
+use Rattle.std.specs.Option.{option_and_then, option_map, option_or}
 use Rattle.markdown_base.specs.Arena.{sibling_of}
 use Rattle.markdown_base.specs.BlockTree.{item_at}
 use Rattle.markdown_base.specs.CowText.{text_of}
 use Rattle.markdown_base.specs.declared.item.Item.{Item}
 use Rattle.markdown_base.specs.declared.tag.LinkType.TheVariants as kind
 use Rattle.markdown_base.specs.declared.node.Node.{Node}
-use Rattle.markdown_brackets.specs.BracketDecision.{Written, reference_written, tail_or}
+use Rattle.markdown_brackets.specs.BracketDecision.{Around, Written, inline_link, reference_written}
 use Rattle.markdown_brackets.specs.BracketOptions.{footnote_style}
 use Rattle.markdown_brackets.specs.ChainAhead.{reaches_closer, starts_from}
+use Rattle.markdown_brackets.specs.LeftList.{Split}
 use Rattle.markdown_brackets.specs.LinkTail as tail
 use Rattle.markdown_brackets.specs.LinkTail.{link_tail}
 use Rattle.markdown_brackets.specs.Reference.{FoundLabel, Form, form_at, own_label}
@@ -44,12 +45,13 @@ module _ (nodes : List (Node Item)) (place : ChainPlace) (skipped : List ℕ →
       own_label (footnote_style place.options) skipped place.in_table (take place.block_end place.text.now) start
       (item_at nodes closer).end
 
-  -- the reference there
-  abbrev pub reference_at : (could_be : Bool) → (start : ℕ) → Written
-  reference_at could_be start =
-      reference_written could_be (item_at nodes closer).end (λ i. reaches_closer nodes i (sibling_of nodes closer))
-      (own_label_at start) form_ahead
+  -- the reference there, from an opener on
+  abbrev pub reference_at : Around → Split ℕ → (could_be : Bool) → (start : ℕ) → Option (Written ℕ)
+  reference_at w o could_be start =
+      reference_written w o (item_at nodes closer).end (λ i. reaches_closer nodes i (sibling_of nodes closer))
+      (if could_be then own_label_at start else None) form_ahead
 
   -- the inline link there, or else the reference
-  abbrev pub written_at : (could_be : Bool) → (start : ℕ) → Written
-  written_at could_be start = tail_or (reference_at could_be start) tail_ahead
+  abbrev pub written_at : Around → Split ℕ → (could_be : Bool) → (start : ℕ) → Option (Written ℕ)
+  written_at w o could_be start =
+      option_or (option_map (inline_link o) tail_ahead) (reference_at w o could_be start)

@@ -1,25 +1,25 @@
 //! What is tried for the opener of a closing bracket: an inline link, a full reference, a collapsed or shortcut
 //! reference, and a footnote reference.
-ghost use Rattle.std.specs.Prelude.{◌≡◌, ◌-◌, ℕ, List, Option, IfErr, IfOk, IfSome, OnErr};
+ghost use Rattle.std.specs.Prelude.{◌≡◌, ◌-◌, ℕ, List, Option, Some, None, IfErr, IfOk, IfSome, OnErr};
 ghost use Rattle.std.specs.Prelude.{if◌then◌else◌};
+ghost use Rattle.std.specs.Option.{option_and_then};
 ghost use Rattle.markdown_base.specs.Arena.{sibling_of};
 ghost use Rattle.markdown_base.specs.BlockTree.{item_at};
 ghost use Rattle.markdown_base.specs.CowText.{text_of};
 ghost use Rattle.markdown_base.specs.declared.fault.Fault.{Fault};
 ghost use Rattle.markdown_base.specs.declared.item.ItemBody.{ItemBody};
-ghost use Rattle.markdown_base.specs.declared.tag.LinkType.TheVariants as kind;
 ghost use Rattle.markdown_document.specs.ChainRest.{start_of};
-ghost use Rattle.markdown_brackets.specs.BracketDecision.{Around, Closing, a_link, footnote_label};
-ghost use Rattle.markdown_brackets.specs.BracketDecision.{inline_target, link_reference, no_link};
-ghost use Rattle.markdown_brackets.specs.BracketDecision.{opener_tried, own_written, tried};
+ghost use Rattle.markdown_brackets.specs.BracketDecision.{Around, Closing, a_link, bracket_found};
+ghost use Rattle.markdown_brackets.specs.BracketDecision.{footnote_written, full, inline_target};
+ghost use Rattle.markdown_brackets.specs.BracketDecision.{link_reference, own_written};
 ghost use Rattle.markdown_brackets.specs.ChainAhead.{reaches_closer};
 ghost use Rattle.markdown_brackets.specs.Decides.{CanTry};
 ghost use Rattle.markdown_brackets.specs.DecisionView.{CountsUses, GoesOnBehind, IsBecome, opener_of};
 ghost use Rattle.markdown_brackets.specs.LeftList.{Split};
 ghost use Rattle.markdown_brackets.specs.LinkTail as scanned;
 ghost use Rattle.markdown_brackets.specs.LinkTailView.{IsTail};
-ghost use Rattle.markdown_brackets.specs.StandsAt.{CanTryInside, ComesTo, IsFull, IsOwn, Spends};
-ghost use Rattle.markdown_brackets.specs.StandsAt.{Tries, TriesOpener, around_by, could_be_at};
+ghost use Rattle.markdown_brackets.specs.StandsAt.{CanTryInside, ComesTo, IsFull, Spends};
+ghost use Rattle.markdown_brackets.specs.StandsAt.{Tries, TriesOpener, around_by, could_be_at, reference_to};
 ghost use Rattle.markdown_brackets.specs.TargetOrigins.{IsLookedUp};
 ghost use Rattle.markdown_brackets.specs.WrittenView.{IsTailFrom, own_label_at, reference_at, written_at};
 ghost use Rattle.markdown_brackets.specs.declared.spent_ends.SpentEnds.{SpentEnds};
@@ -73,11 +73,10 @@ fn find_reference<'a, R, F: BrokenLinkCallback<'a>>(
     requires asks { IfSome lookup.old.callback F.can_ask }
     requires kind { IsLookedUp about.link_type }
     requires starts { about.span.start ≡ (item_at at.now.tree.now.nodes opener.node).start }
-    ensures comes { IfOk result (λ found. (spent spent' : SpentEnds)
-        → Spends about.entry.link_type about.entry.span.end spent spent'
+    ensures comes { IfOk result (λ found. (spends : List ℕ) (spent spent' : SpentEnds)
+        → Spends spends spent spent'
         → Tries F.answers at.now opener lookup.old lookup.new spent spent'
-        (λ w o. tried w o (link_reference about.entry.link_type (text_of about.entry.reference)
-        about.entry.span.end next)) found) }
+        (λ w o. Some (link_reference o (reference_to about.entry next spends))) found) }
     ensures again { IfSome lookup.new.callback F.can_ask }
     ensures tables { lookup.new.tables ≡ lookup.old.tables }
     ensures refused { IfErr result (λ fault. fault ≡ Fault.Memory) }
@@ -105,7 +104,7 @@ fn find_footnote<'a, R, F: BrokenLinkCallback<'a>>(
 ) -> Result<ClosedBracket<'a>, Fault>
     ensures comes { IfOk result (λ found. (spent : SpentEnds)
         → Tries F.answers at.now opener lookup.old lookup.new spent spent
-        (λ w o. tried w o (footnote_label (text_of name.entry))) found) }
+        (λ w o. footnote_written w o (text_of name.entry)) found) }
     ensures uses { CountsUses lookup.old.tables lookup.new.tables }
     ensures callback { lookup.new.callback ≡ lookup.old.callback }
     ensures refused { IfErr result (λ fault. fault ≡ Fault.Memory) }
@@ -132,10 +131,10 @@ fn try_full<'a, R, F: BrokenLinkCallback<'a>>(
     requires asks { IfSome lookup.old.callback F.can_ask }
     ensures comes { IfOk result (λ found.
         Tries F.answers at.now opener lookup.old lookup.new spent.old spent.new
-        (λ w o. tried w o (if reaches_closer at.now.tree.now.nodes about.entry.span.end
+        (λ w o. if reaches_closer at.now.tree.now.nodes about.entry.span.end
         (sibling_of at.now.tree.now.nodes at.now.node)
-        then link_reference kind.Reference (text_of about.entry.reference) about.entry.span.end
-        about.entry.span.end else no_link)) found) }
+        then Some (link_reference o (full (text_of about.entry.reference) about.entry.span.end))
+        else None) found) }
     ensures again { IfSome lookup.new.callback F.can_ask }
     ensures tables { lookup.new.tables ≡ lookup.old.tables }
     ensures refused { IfErr result (λ fault. fault ≡ Fault.Memory) }
@@ -160,13 +159,14 @@ fn try_own<'a, R: LineRule, F: BrokenLinkCallback<'a>>(
     lookup: &mut LabelLookup<'a, F>,
 ) -> Result<ClosedBracket<'a>, Fault>
     requires ready { CanTryInside at.now.tree.now.nodes at.now.place.now at.now.node opener.node }
-    requires kind { IsOwn link_type }
+    requires kind { IsLookedUp link_type }
     requires asks { IfSome lookup.old.callback F.can_ask }
     ensures comes { IfOk result (λ found. (spent : SpentEnds)
         → Tries F.answers at.now opener lookup.old lookup.new spent spent
-        (λ w o. tried w o (own_written link_type (item_at at.now.tree.now.nodes at.now.node).end
-        next (own_label_at at.now.tree.now.nodes at.now.place.now (R.skipped at.now.rule.now)
-        at.now.node ((item_at at.now.tree.now.nodes opener.node).end - 1)))) found) }
+        (λ w o. option_and_then (own_written w o link_type
+        (item_at at.now.tree.now.nodes at.now.node).end next)
+        (own_label_at at.now.tree.now.nodes at.now.place.now (R.skipped at.now.rule.now)
+        at.now.node ((item_at at.now.tree.now.nodes opener.node).end - 1))) found) }
     ensures uses { CountsUses lookup.old.tables lookup.new.tables }
     ensures again { IfSome lookup.new.callback F.can_ask }
     ensures refused { IfErr result (λ fault. fault ≡ Fault.Memory) }
@@ -200,10 +200,10 @@ fn try_reference<'a, R: LineRule, F: BrokenLinkCallback<'a>>(
     requires asks { IfSome lookup.old.callback F.can_ask }
     ensures comes { IfOk result (λ found.
         Tries F.answers at.now opener lookup.old lookup.new spent.old spent.new
-        (λ w o. tried w o (reference_at at.now.tree.now.nodes at.now.place.now
-        (R.skipped at.now.rule.now) at.now.node
+        (λ w o. reference_at at.now.tree.now.nodes at.now.place.now
+        (R.skipped at.now.rule.now) at.now.node w o
         (could_be_at at.now.tree.now.nodes at.now.node spent.old)
-        ((item_at at.now.tree.now.nodes opener.node).end - 1))) found) }
+        ((item_at at.now.tree.now.nodes opener.node).end - 1)) found) }
     ensures uses { CountsUses lookup.old.tables lookup.new.tables }
     ensures again { IfSome lookup.new.callback F.can_ask }
     ensures refused { IfErr result (λ fault. fault ≡ Fault.Memory) }
@@ -240,10 +240,10 @@ fn try_live<'a, R: LineRule, F: BrokenLinkCallback<'a>>(
     requires asks { IfSome lookup.old.callback F.can_ask }
     ensures comes { IfOk result (λ found.
         Tries F.answers at.now opener lookup.old lookup.new spent.old spent.new
-        (λ w o. tried w o (written_at at.now.tree.now.nodes at.now.place.now
-        (R.skipped at.now.rule.now) at.now.node
+        (λ w o. written_at at.now.tree.now.nodes at.now.place.now
+        (R.skipped at.now.rule.now) at.now.node w o
         (could_be_at at.now.tree.now.nodes at.now.node spent.old)
-        ((item_at at.now.tree.now.nodes opener.node).end - 1))) found) }
+        ((item_at at.now.tree.now.nodes opener.node).end - 1)) found) }
     ensures uses { CountsUses lookup.old.tables lookup.new.tables }
     ensures again { IfSome lookup.new.callback F.can_ask }
     ensures refused { IfErr result (λ fault. fault ≡ Fault.Memory) }
@@ -275,8 +275,8 @@ pub(crate) fn try_opener<'a, R: LineRule, F: BrokenLinkCallback<'a>>(
         → TriesOpener at.now.tree.now.nodes at.now.node
         (could_be_at at.now.tree.now.nodes at.now.node spent.old) taken c o
         → ComesTo F.answers (around_by at.now.place.now skipped bodies lookup.old)
-        (opener_tried (around_by at.now.place.now skipped bodies lookup.old) c o) lookup.old
-        lookup.new spent.old spent.new found) }
+        (option_and_then (bracket_found (around_by at.now.place.now skipped bodies lookup.old) c)
+        o) lookup.old lookup.new spent.old spent.new found) }
     ensures uses { CountsUses lookup.old.tables lookup.new.tables }
     ensures again { IfSome lookup.new.callback F.can_ask }
     ensures refused { IfErr result (λ fault. fault ≡ Fault.Memory) }

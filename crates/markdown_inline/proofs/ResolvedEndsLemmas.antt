@@ -1,11 +1,11 @@
 -- The numbers of the shapes of a resolved chain, in the order in which its trees end, where those of the chain itself
 -- have none: then only what look-ups made has some, and a property of them and of the limit that each look-up keeps is
 -- kept.
-use Rattle.std.proofs.Common.{◌≡◌, ℕ, ◌+◌, ◌-◌, ◌≤◌, Bool, true, false, ◌&&◌, List, [], ◌∷◌, Option, Some, None, refl, sym, subst, ap, ◌∙◌}
+use Rattle.std.proofs.Common.{◌≡◌, ℕ, ◌+◌, ◌-◌, ◌≤◌, Bool, true, false, List, [], ◌∷◌, Option, Some, None, refl, sym, subst, ap, ◌∙◌}
 use Rattle.std.proofs.Common.{append-nil, append_assoc, ◌++◌, arith, nat_le}
 use Rattle.std.proofs.lemmas.Bool.{cond_both}
 use Rattle.std.proofs.lemmas.Bool.Decides.{nat_tests}
-use Rattle.std.specs.Prelude.{◌==◌, IfSome, MatchOption, if◌then◌else◌, slice_range}
+use Rattle.std.specs.Prelude.{◌==◌, IfSome, MatchOption, if◌then◌else◌, slice_range, unwrap_or}
 use Rattle.std.specs.Option.{option_map}
 use Rattle.markdown_base.specs.Event.{LinkView, link, image, text, code, inline_html, footnote_reference}
 use Rattle.markdown_base.specs.Forest.{Forest, nil, node, Each}
@@ -13,7 +13,6 @@ use Rattle.markdown_base.specs.Questions.{Answers, Question, Answer}
 use Rattle.markdown_base.specs.declared.block_parts.LinkDef.{LinkDef}
 use Rattle.markdown_base.specs.declared.item.ItemBody.{ItemBody}
 use Rattle.markdown_base.specs.declared.item.ItemBody.TheVariants as body
-use Rattle.markdown_base.specs.declared.tag.LinkType.{LinkType}
 use Rattle.markdown_defs.specs.Definitions as definitions
 use Rattle.markdown_defs.specs.Definitions.{Labelled}
 use Rattle.markdown_document.specs.Above.{Above}
@@ -25,23 +24,17 @@ use Rattle.markdown_spans.specs.AfterLess.{Markup, autolink, html_markup}
 use Rattle.markdown_spans.specs.Finds.{Find, SpanText, address, code_span, code_trees, find, is_escaped, markup, markup_trees, math_span}
 use Rattle.markdown_spans.specs.Finds.{nothing, read_tree, read_unless, trees_for}
 use Rattle.markdown_delims.specs.Pairing.{paired}
-use Rattle.markdown_brackets.specs.BracketDecision.{Around, a_wikilink, Closing, Progress, Wikilink, Written, after_look_up, a_footnote}
-use Rattle.markdown_brackets.specs.BracketDecision.{a_link, a_text, decided, decided_before, footnote_label, footnote_tried, footnote_used}
-use Rattle.markdown_brackets.specs.BracketDecision.{inline_link, inline_target, link_reference, look_up_tried, no_link, one_decided}
-use Rattle.markdown_brackets.specs.BracketDecision.{opener_tried, past_second, question_at, spent_by, target_tried, to_be, tried}
-use Rattle.markdown_brackets.specs.BracketDecision.{wikilink_in, wikilink_opener, wikilink_or_one, wikilink_tried, written}
-use Rattle.markdown_base.specs.EnabledOptions.{wikilinks_on}
-use Rattle.markdown_brackets.specs.BracketOptions.{footnote_style}
+use Rattle.markdown_brackets.specs.BracketDecision.{Around, Closing, Written, LinkReference, Progress, Wikilink, a_footnote, a_link, a_text}
+use Rattle.markdown_brackets.specs.BracketDecision.{a_wikilink, carried_out, decided, found, inline_target, left_for_one, looked_up, past_second}
+use Rattle.markdown_brackets.specs.BracketDecision.{question_at, second_end, wikilink_in}
 use Rattle.markdown_brackets.specs.ClosingBracket.{closed, footnote_onto, put, put_decided, wikilink_target}
-use Rattle.markdown_brackets.specs.FootnoteUse.{is_reference}
 use Rattle.markdown_brackets.specs.LeftList.{Entry, Mark, Split, before_footnote, before_link, before_wikilink, behind, bracket_taken}
-use Rattle.markdown_brackets.specs.LeftList.{change_nearest, disabled_mark, done, inside, is_live, nearest, on_marks, opens_bracket}
-use Rattle.markdown_brackets.specs.LeftList.{opens_wikilink, second_folded, trees_onto, waits, wikilink_taken, without_bracket}
+use Rattle.markdown_brackets.specs.LeftList.{change_nearest, disabled_mark, done, inside, nearest, on_marks, opens_bracket}
+use Rattle.markdown_brackets.specs.LeftList.{opens_wikilink, second_folded, trees_onto, waits, without_bracket}
 use Rattle.markdown_brackets.specs.LeftList.{without_wikilink, all_done}
 use Rattle.markdown_brackets.specs.Lookup.{LookedUp, answered, defined_or_asked, finds_nothing, look_up, size_of}
 use Rattle.markdown_brackets.specs.ReadChain.{begun, closing_of, read, read_as, read_chain, read_past}
-use Rattle.markdown_brackets.specs.Reference.{is_closer}
-use Rattle.markdown_brackets.proofs.ClosingBracketLemmas.{some_of}
+use Rattle.markdown_brackets.proofs.ClosingBracketLemmas.{Stays, all_stays, either, found_cases, some_of}
 use Rattle.markdown_brackets.proofs.NoLinkLemmas.{wikilink_keeps}
 use Rattle.markdown_inline.specs.LookUps.{is_looked_up}
 use Rattle.markdown_inline.specs.ResolvedShapes.{IsMadeEvent}
@@ -335,130 +328,75 @@ module _ {A : Type 0} (own : Shape → List ℕ) (holds : List ℕ → (limit : 
         (within_trans (ends_left (footnote_onto w c o.mark.is_image o.opener name left) []) (ends_left left []) (ends_left p.left [])
         (footnote_within o.mark.is_image o.opener name left) before) h
 
-    -- whether its use is counted does not matter
-    used_holds : (is_defined : Bool) (o : Split A) (name : List ℕ) (p : Progress A) → IsPart p.left o → Holds p
-        → Holds (put w c (a_footnote o name) (footnote_used is_defined name p))
-    used_holds true o name p part h = footnote_holds o name p part h
-    used_holds false o name p part h = footnote_holds o name p part h
-
-    footnote_try : (o : Split A) (name : List ℕ) (p : Progress A) → IsPart p.left o → Holds p
-        → Holds (put_decided w c (footnote_tried w o name p))
-    footnote_try o name p part h = by (is_reference (footnote_style w.setting.rules.options) (w.setting.rules.is_footnote name))
-      where
-        by : (b : Bool)
-            → Holds (put_decided w c (if b then to_be (a_footnote o name) (footnote_used (w.setting.rules.is_footnote name) name p)
-            else to_be a_text p))
-        by true = used_holds (w.setting.rules.is_footnote name) o name p part h
-        by false = as_text_holds p h
-
-    -- a look-up
-    target_try : (o : Split A) (end next limit : ℕ) (target : Option LinkView) (p : Progress A)
-        → MatchOption target (p.known.limit ≡ limit) (λ v. (1 ≤ limit) × (p.known.limit ≡ limit - size_of v))
-        → IsPart p.left o → holds (ends_left p.left []) limit → Holds (put_decided w c (target_tried o end next target p))
-    target_try o end next limit None p e part h = as_text_holds p (subst (λ l. holds (ends_left p.left []) l) (sym e) h)
-    target_try o end next limit (Some v) p e part h = link_found o v end next limit p e.0 e.1 part h
-
-    look_up_try : (o : Split A) (link_type : LinkType) (label : List ℕ) (end next : ℕ) (p : Progress A) → IsPart p.left o → Holds p
-        → Holds (put_decided w c (look_up_tried w o link_type label end next p))
-    look_up_try o link_type label end next p part h =
-        let found : LookedUp = look_up w.setting.rules.definitions w.setting.rules.asks p.known.limit p.known.answers
-        (question_at o link_type label end) in
-        target_try o end next p.known.limit found.target (after_look_up found p)
-        (takes_from w.setting.rules.definitions w.setting.rules.asks p.known.limit p.known.answers (question_at o link_type label end)) part
-        h
-
-    -- what is written at an opener, and the opener of a `]`
-    written_try : (o : Split A) (x : Written) (p : Progress A) → IsPart p.left o → Holds p → Holds (put_decided w c (tried w o x p))
-    written_try o no_link p part h = as_text_holds p h
-    written_try o (inline_link t) p part h = link_holds o (inline_target w t) t.ends t.ends p refl part h
-    written_try o (link_reference link_type label end next) p part h =
-        look_up_try o link_type label end next (record p { spent = spent_by link_type end p.spent }) part h
-    written_try o (footnote_label name) p part h = footnote_try o name p part h
-
-    opener_try : (o : Option (Split A)) (p : Progress A) → IfSome o (IsPart p.left) → Holds p
-        → Holds (put_decided w c (opener_tried w c o p))
-    opener_try None p part h = as_text_holds p h
-    opener_try (Some o) p part h = by (is_live o.mark.bracket)
-      where
-        by : (b : Bool) → Holds (put_decided w c (if b then tried w o (written w c o) p else to_be a_text p))
-        by true = written_try o (written w c o) p part h
-        by false = as_text_holds p h
-
     -- a left list without some flags
     unmarked : (p : Progress A) (left : List (Entry A)) → ((t : List ℕ) → ends_left left t ≡ ends_left p.left t) → Holds p
         → Holds (record p { left = left })
     unmarked p left e h = subst (λ (l : List ℕ). holds l p.known.limit) (sym (e [])) h
 
-    part_if : (left other : List (Entry A)) (o : Option (Split A)) → ((t : List ℕ) → ends_left other t ≡ ends_left left t)
-        → IfSome o (IsPart left) → IfSome o (IsPart other)
-    part_if left other None e h = tt
-    part_if left other (Some o) e h = part_of left other o e h
+    -- a left list with the same numbers
+    abbrev Same : List (Entry A) → List (Entry A) → Type 0
+    Same left other = (t : List ℕ) → ends_left other t ≡ ends_left left t
 
-    -- one `]`, and two
-    one_try : (p : Progress A) → Holds p → Holds (put_decided w c (one_decided w c p))
-    one_try p h =
-        let same : (t : List ℕ) → ends_left (bracket_taken p.left) t ≡ ends_left p.left t = λ t. change opens_bracket without_bracket p.left
-        t in
-        opener_try (nearest opens_bracket p.left) (record p { left = bracket_taken p.left })
-        (part_if p.left (bracket_taken p.left) (nearest opens_bracket p.left) same (part_nearest opens_bracket p.left))
-        (unmarked p (bracket_taken p.left) same h)
+    stays : (left : List (Entry A)) → Stays (Same left)
+    stays left = record {
+      bracket = λ other e t. change opens_bracket without_bracket other t ∙ e t;
+      wikilink = λ other e t. change opens_wikilink without_wikilink other t ∙ e t;
+    }
 
-    two_try : (end : ℕ) (left : List (Entry A)) (o : Option (Split A)) (p : Progress A) → nearest opens_wikilink left ≡ o
-        → ((t : List ℕ) → ends_left left t ≡ ends_left p.left t) → Holds p
-        → Holds (put_decided w c (wikilink_tried w c end o p))
-    two_try end left None p found same h = one_try p h
-    two_try end left (Some o) p found same h = by (is_live o.mark.wikilink)
+    -- its nearest opener is one of the left list
+    part_same : (test : Mark → Bool) (left other : List (Entry A)) (o : Split A) → Same left other → nearest test other ≡ Some o
+        → IsPart left o
+    part_same test left other o same e =
+        part_of other left o (λ t. sym (same t)) (some_of (nearest test other) o (IsPart other) e (part_nearest test other))
+
+    -- what a wikilink shows is a part of what is inside its brackets
+    wikilink_within : (o : Split A) (v : Wikilink A) → wikilink_in w (past_second (inside o)) (start_of c.label) ≡ Some v
+        → IsWithin (ends v.children []) (ends_left o.after [])
+    wikilink_within o v is =
+        some_of (wikilink_in w (past_second (inside o)) (start_of c.label)) v (λ v. IsPartOf v.children) is
+        (wikilink_keeps w IsPartOf
+        (λ a x y t. none_before _ t (ends_left o.after t) (text_none own keeps.numbers (slice_range w.setting.text x y))
+        (drop_left o.after t t (within_same t)))
+        (λ i f k t. within_trans (ends (past_byte i f) t) (ends f t) (ends_left o.after t) (from_byte i f t) (k t))
+        (past_second (inside o)) (start_of c.label)
+        (λ t. within_trans (ends (past_second (inside o)) t) (ends (inside o) t) (ends_left o.after t) (of_second (inside o) t)
+        (inside_within o t))) []
       where
-        part : IsPart left o
-        part = some_of (nearest opens_wikilink left) o (IsPart left) found (part_nearest opens_wikilink left)
+        IsPartOf : Forest (Label A) → Type 0
+        IsPartOf f = (t : List ℕ) → IsWithin (ends f t) (ends_left o.after t)
 
-        text_shown : (a : Label A) (x y : ℕ) → (t : List ℕ) → IsWithin (own (leaf (text (slice_range w.setting.text x y)) (sliced ∷ []))
-            ++ t) (ends_left o.after t)
-        text_shown a x y t = none_before _ t (ends_left o.after t) (text_none own keeps.numbers (slice_range w.setting.text x y))
-            (drop_left o.after t t (within_same t))
-
-        shown : IfSome (wikilink_in w (past_second (inside o)) (start_of c.label)) (λ v. (t : List ℕ)
-            → IsWithin (ends v.children t) (ends_left o.after t))
-        shown =
-            wikilink_keeps w (λ f. (t : List ℕ) → IsWithin (ends f t) (ends_left o.after t)) text_shown
-            (λ i f k t. within_trans (ends (past_byte i f) t) (ends f t) (ends_left o.after t) (from_byte i f t) (k t))
-            (past_second (inside o)) (start_of c.label)
-            (λ t. within_trans (ends (past_second (inside o)) t) (ends (inside o) t) (ends_left o.after t) (of_second (inside o) t)
-            (inside_within o t))
-
-        wikilink_taken_holds : Holds (record p { left = wikilink_taken p.left })
-        wikilink_taken_holds = unmarked p (wikilink_taken p.left) (λ t. change opens_wikilink without_wikilink p.left t) h
-
-        both_taken : (t : List ℕ) → ends_left (wikilink_taken (bracket_taken p.left)) t ≡ ends_left p.left t
-        both_taken t = change opens_wikilink without_wikilink (bracket_taken p.left) t ∙ change opens_bracket without_bracket p.left t
-
-        or_one : (v : Option (Wikilink A)) → IfSome v (λ v. (t : List ℕ) → IsWithin (ends v.children t) (ends_left o.after t))
-            → Holds (put_decided w c (wikilink_or_one w c end o v p))
-        or_one None i = one_try (record p { left = wikilink_taken p.left }) wikilink_taken_holds
-        or_one (Some v) i =
-            wikilink_holds o v end (record p { left = wikilink_taken (bracket_taken p.left) }) (i [])
-            (part_of left (wikilink_taken (bracket_taken p.left)) o (λ t. both_taken t ∙ sym (same t)) part)
-            (unmarked p (wikilink_taken (bracket_taken p.left)) both_taken h)
-
-        by : (b : Bool)
-            → Holds (put_decided w c (wikilink_or_one w c end o (if b then wikilink_in w (past_second (inside o)) (start_of c.label)
-            else None) p))
-        by true = or_one (wikilink_in w (past_second (inside o)) (start_of c.label)) shown
-        by false = one_try (record p { left = wikilink_taken p.left }) wikilink_taken_holds
-
-    before_try : (rest : Forest (Label A)) (p : Progress A) → Holds p → Holds (put_decided w c (decided_before w c rest p))
-    before_try nil p h = one_try p h
-    before_try (node a below later) p h = by (wikilinks_on w.setting.rules.options && is_closer (open_body a.part.shape))
-      where
-        by : (b : Bool) → Holds (put_decided w c (if b then wikilink_tried w c (end_of a) (wikilink_opener p.left) p
-            else one_decided w c p))
-        by true = two_try (end_of a) (bracket_taken p.left) (wikilink_opener p.left) p refl (λ t. change opens_bracket without_bracket
-            p.left t) h
-        by false = one_try p h
+    -- what is looked up
+    target_try : (o : Split A) (r : LinkReference) (limit : ℕ) (target : Option LinkView) (p : Progress A)
+        → MatchOption target (p.known.limit ≡ limit) (λ v. (1 ≤ limit) × (p.known.limit ≡ limit - size_of v))
+        → IsPart p.left o → holds (ends_left p.left []) limit
+        → Holds (put w c (unwrap_or (option_map (λ t. a_link o t r.end r.next) target) a_text) p)
+    target_try o r limit None p e part h = as_text_holds p (subst (λ l. holds (ends_left p.left []) l) (sym e) h)
+    target_try o r limit (Some v) p e part h = link_found o v r.end r.next limit p e.0 e.1 part h
 
     closed_holds : (p : Progress A) → Holds p → Holds (closed w c p)
     unfolding closed decided
-    closed_holds p h = before_try c.rest p h
+    closed_holds p h =
+        let second = second_end w c.rest in
+        let left : List (Entry A) = bracket_taken (left_for_one second p.left) in
+        let now : Progress A = record p { left = left } in
+        let same : Same p.left left = all_stays w c (Same p.left) (stays p.left) second p.left (λ t. refl) in
+        let h' : Holds now = unmarked p left same h in
+        let Kept : Option (Written A) → Type 0 = λ x. Holds (put_decided w c (carried_out w x now)) in
+        let there = λ (o : Split A) (part : IsPart p.left o). part_of p.left left o same part in
+        let rules = w.setting.rules in
+        either Kept (found w c second p.left) (as_text_holds now h')
+        (found_cases w c (Same p.left) (stays p.left) (λ x. Kept (Some x)) second
+        (λ other o s e live.
+        let part = there o (part_same opens_bracket p.left other o s e) in record {
+          inline = λ t is. link_holds o (inline_target w t) t.ends t.ends now refl part h';
+          refers = λ r way.
+              let result = look_up rules.definitions rules.asks p.known.limit p.known.answers (question_at o r) in
+              target_try o r p.known.limit result.target (looked_up o r result now).progress
+              (takes_from rules.definitions rules.asks p.known.limit p.known.answers (question_at o r)) part h';
+          footnote = λ name. footnote_holds o name now part h';
+        })
+        (λ other o v end s e live is k.
+        wikilink_holds o v end now (wikilink_within o v is) (there o (part_same opens_wikilink p.left other o s e)) h') p.left (λ t. refl))
 
   -- the trees that replace a find have no numbers
   code_none : (s : Setting) (escaped : Bool) (a : Label A) (t : SpanText) (closer : Label A) → HasNone (code_trees s escaped a t closer)

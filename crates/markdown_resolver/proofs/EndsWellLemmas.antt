@@ -1,42 +1,38 @@
 -- What a `]` becomes ends well, case by case: after the `)` of a tail, where the `]` of a label that follows ends,
 -- after the `]` itself, or, for a wikilink, where the next `]` ends; and what a wikilink shows starts and ends between
 -- characters.
-use Rattle.std.proofs.Common.{◌≡◌, ℕ, ◌+◌, ◌-◌, ◌<◌, ◌≤◌, Bool, true, false, ◌&&◌, List, [], ◌∷◌, Option, Some, None, IsUtf8, ◌==◌, length}
+use Rattle.std.proofs.Common.{◌≡◌, ◌⊎◌, ⊎_elim, ℕ, ◌+◌, ◌-◌, ◌<◌, ◌≤◌, Bool, true, false, ◌&&◌, List, [], ◌∷◌, Option, Some, None, IsUtf8, ◌==◌, length}
 use Rattle.std.proofs.Common.{drop, get_or, refl, sym, ap, ◌∙◌, subst, arith}
-use Rattle.std.specs.Prelude.{IfSome, if◌then◌else◌, ⊤}
+use Rattle.std.specs.Prelude.{IfSome, if◌then◌else◌, unwrap_or}
+use Rattle.std.specs.Option.{option_map}
 use Rattle.std.specs.Str.{IsCharBoundary}
 use Rattle.std.proofs.lemmas.List.{get_or-take, length-take}
 use Rattle.markdown_base.specs.Arena.{sibling_of}
 use Rattle.markdown_base.specs.ArenaForest.{links_of, forest_at}
 use Rattle.markdown_base.specs.BlockTree.{item_at}
 use Rattle.markdown_base.specs.Event.{LinkView}
-use Rattle.markdown_base.specs.Forest.{Forest, nil, node, relabelled, roots}
+use Rattle.markdown_base.specs.Forest.{Forest, first_root, nil, node, relabelled, roots}
 use Rattle.markdown_base.specs.declared.item.Item.{Item}
 use Rattle.markdown_base.specs.declared.node.Node.{Node}
 use Rattle.markdown_base.specs.Questions.{Question, Answer, Answers}
 use Rattle.markdown_base.specs.declared.block_parts.LinkDef.{LinkDef}
 use Rattle.markdown_base.specs.declared.tag.LinkType.{LinkType}
 use Rattle.markdown_base.specs.declared.tag.LinkType.TheVariants as kind
-use Rattle.markdown_brackets.specs.BracketDecision.{Around, Becomes, a_footnote, a_text, Closing, Decision, Progress, Wikilink, Written}
-use Rattle.markdown_brackets.specs.BracketDecision.{after_look_up, block_text, closer_ends_at, decided}
-use Rattle.markdown_brackets.specs.BracketDecision.{decided_before, first_item, footnote_label, footnote_tried, footnote_used, form_of}
-use Rattle.markdown_brackets.specs.BracketDecision.{inline_link, label_of_opener, lines, link_reference, look_up_tried}
-use Rattle.markdown_brackets.specs.BracketDecision.{no_link, one_decided, opener_tried, own_written, past_second, question_at}
-use Rattle.markdown_brackets.specs.BracketDecision.{reference_written, second_item, spent_by, start_of_first_past, tail_or}
-use Rattle.markdown_brackets.specs.BracketDecision.{target_tried, to_be, tried, wikilink_in, wikilink_opener, wikilink_or_one}
-use Rattle.markdown_brackets.specs.BracketDecision.{wikilink_tried, written}
+use Rattle.markdown_brackets.specs.BracketDecision.{Around, Becomes, Closing, Decision, Written, LinkReference, Progress, Wikilink, a_link, a_text}
+use Rattle.markdown_brackets.specs.BracketDecision.{block_text, carried_out, closer_ends_at, decided, form_of, found, left_for_one, lines}
+use Rattle.markdown_brackets.specs.BracketDecision.{past_second, question_at, second_end, start_of_first_past, wikilink_in}
+use Rattle.markdown_brackets.proofs.ClosingBracketLemmas.{IsFull, IsOwn, either, found_cases}
 use Rattle.markdown_base.specs.EnabledOptions.{wikilinks_on}
 use Rattle.markdown_brackets.specs.BracketOptions.{footnote_style}
-use Rattle.markdown_brackets.specs.FootnoteUse.{is_reference}
-use Rattle.markdown_brackets.specs.LeftList.{Entry, Split, bracket_taken, inside, is_live, nearest, opens_bracket, opens_wikilink}
-use Rattle.markdown_brackets.specs.LeftList.{trees_onto, wikilink_taken, without_bracket}
+use Rattle.markdown_brackets.specs.LeftList.{Entry, Split, bracket_taken, inside, opens_bracket, opens_wikilink}
+use Rattle.markdown_brackets.specs.LeftList.{trees_onto, without_bracket, without_wikilink}
 use Rattle.markdown_brackets.specs.LinkTail.{LinkTail, link_tail}
 use Rattle.markdown_brackets.specs.Lookup.{LookedUp, answered, asked, defined_or_asked, finds_nothing, look_up, unknown}
 use Rattle.markdown_brackets.specs.Reference.{FoundLabel, Form, collapsed, form_at, form_by_label, is_closer, is_opener, bracket_label}
 use Rattle.markdown_brackets.specs.Reference.{reference, shortcut, stands_at}
 use Rattle.markdown_brackets.specs.declared.footnote.FootnoteStyle.{FootnoteStyle}
 use Rattle.markdown_brackets.proofs.OpenerHeldLemmas.{trees_stay}
-use Rattle.markdown_document.specs.ChainRest.{end_of, open_body, start_of}
+use Rattle.markdown_document.specs.ChainRest.{as_item, end_of, open_body, start_of}
 use Rattle.markdown_document.specs.Document.{Label}
 use Rattle.markdown_document.specs.LinkOrigins.{destination_origin}
 use Rattle.markdown_document.specs.Origins.{made}
@@ -99,14 +95,8 @@ named_later source nil end end' name le h = h
 named_later source (node a below after) end end' name le h = slice_wider source (start_of a) end (start_of a) end' name (omega arith) le h
 
 -- what is written ends like this
-EndsSo : List ℕ → Closing ℕ → (end next : ℕ) → Type 0
+abbrev EndsSo : List ℕ → Closing ℕ → (end next : ℕ) → Type 0
 EndsSo source c end next = CanGoOn source c next × IsCharBoundary source end × (end_of c.label ≤ end) × (end ≤ next)
-
-WrittenWell : List ℕ → Closing ℕ → Written → Type 0
-WrittenWell source c no_link = ⊤
-WrittenWell source c (inline_link t) = CanGoOn source c t.ends
-WrittenWell source c (link_reference link_type label end next) = EndsSo source c end next × (destination_origin link_type ≡ made)
-WrittenWell source c (footnote_label name) = ⊤
 
 -- the link that a look-up finds is of the label's type, or of the one whose label a callback knew
 unknown_made : (link_type : LinkType) → destination_origin link_type ≡ made → destination_origin (unknown link_type) ≡ made
@@ -149,143 +139,68 @@ looked_up_made defined asks limit answers q e = by_limit (limit == 0)
 
 module _ (source : List ℕ) (w : Around) (c : Closing ℕ) (may : MayGoOn source w c) where
   ends_so : (i : ℕ) → CanGoOn source c i → EndsSo source c i i
-  unfolding EndsSo
   ends_so i on = (on, on.between, on.behind, omega arith)
 
-  own_well : (link_type : LinkType) (next : ℕ) (own : Option FoundLabel) → EndsSo source c (end_of c.label) next
-      → destination_origin link_type ≡ made
-      → WrittenWell source c (own_written link_type (end_of c.label) next own)
-  unfolding WrittenWell
-  own_well link_type next None h k = tt
-  own_well link_type next (Some l) h k = by l.is_footnote
+  -- a reference ends so, and its type is neither that of an autolink nor that of a wikilink
+  reference_so : (r : LinkReference) → IsFull w c r ⊎ IsOwn w c r
+      → EndsSo source c r.end r.next × (destination_origin r.link_type ≡ made)
+  reference_so r way = ⊎_elim
+      (λ (h : IsFull w c r). (
+        subst (EndsSo source c r.end) (sym (ap (λ (r : LinkReference). r.next) h.is)) (ends_so r.end (may.labelled r.end h.closes)),
+        ap (λ (r : LinkReference). destination_origin r.link_type) h.is,
+      ))
+      (λ (h : IsOwn w c r). subst (λ end. EndsSo source c end r.next × (destination_origin r.link_type ≡ made)) (sym h.end)
+      (⊎_elim
+      (λ (f : (r.link_type ≡ kind.Collapsed) × (r.next ≡ end_of c.label + 2) × (form_of w c ≡ collapsed)). (
+        subst (EndsSo source c (end_of c.label)) (sym f.1) (may.emptied f.2, may.here.between, omega arith, omega arith),
+        ap destination_origin f.0,
+      ))
+      (λ (f : (r.link_type ≡ kind.Shortcut) × (r.next ≡ end_of c.label)). (
+        subst (EndsSo source c (end_of c.label)) (sym f.1) (ends_so (end_of c.label) may.here),
+        ap destination_origin f.0,
+      )) h.form)) way
+
+  target_well : (o : Split ℕ) (r : LinkReference) (target : Option LinkView) → EndsSo source c r.end r.next → IsNoSlice target
+      → EndsWell source c (unwrap_or (option_map (λ t. a_link o t r.end r.next) target) a_text)
+  unfolding IsNoSlice
+  target_well o r None h k = tt
+  target_well o r (Some target) h k = (h.0, h.1, h.2, h.3, k)
+
+  -- the second `]` is the first item after the first one
+  second_on : (rest : Forest (Label ℕ)) (end : ℕ) → c.rest ≡ rest → second_end w rest ≡ Some end → CanGoOn source c end
+  second_on nil end e s = cc
+  second_on (node a below after) end e s = by (wikilinks_on w.setting.rules.options && is_closer (open_body a.part.shape)) s
     where
-      by : (is_footnote : Bool) → WrittenWell source c (if is_footnote then footnote_label l.name
-          else link_reference link_type l.name (end_of c.label) next)
-      by true = tt
-      by false = (h, k)
-
-  own_if : (could_be : Bool) (link_type : LinkType) (next : ℕ) (own : Option FoundLabel) → EndsSo source c (end_of c.label) next
-      → destination_origin link_type ≡ made
-      → WrittenWell source c (if could_be then own_written link_type (end_of c.label) next own else no_link)
-  unfolding WrittenWell
-  own_if true link_type next own h k = own_well link_type next own h k
-  own_if false link_type next own h k = tt
-
-  reference_well : (could_be : Bool) (own : Option FoundLabel) (form : Form) → form_of w c ≡ form
-      → WrittenWell source c (reference_written could_be (end_of c.label) (λ i. closer_ends_at i c.rest) own form)
-  unfolding WrittenWell EndsSo
-  reference_well could_be own (reference label to) e = by (closer_ends_at to c.rest) refl
-    where
-      by : (closes : Bool) → closer_ends_at to c.rest ≡ closes → WrittenWell source c (if closes then link_reference kind.Reference label to to
-          else no_link)
-      by true h = (ends_so to (may.labelled to h), refl)
-      by false h = tt
-  reference_well could_be own collapsed e = own_if could_be kind.Collapsed (end_of c.label + 2) own
-      (may.emptied e, may.here.between, omega arith, omega arith) refl
-  reference_well could_be own shortcut e = own_if could_be kind.Shortcut (end_of c.label) own (ends_so (end_of c.label) may.here) refl
-
-  tail_well : (other : Written) (found : Option LinkTail) → link_tail (lines w) (start_of_first_past c.rest) (block_text w) (end_of c.label)
-      ≡ found
-      → WrittenWell source c other → WrittenWell source c (tail_or other found)
-  unfolding WrittenWell
-  tail_well other None e h = h
-  tail_well other (Some t) e h = may.closed t e
-
-  written_well : (o : Split ℕ) → WrittenWell source c (written w c o)
-  written_well o =
-      tail_well (reference_written c.could_be_reference (end_of c.label) (λ i. closer_ends_at i c.rest) (label_of_opener w c o)
-      (form_of w c))
-      (link_tail (lines w) (start_of_first_past c.rest) (block_text w) (end_of c.label)) refl
-      (reference_well c.could_be_reference (label_of_opener w c o) (form_of w c) refl)
-
-  footnote_well : (o : Split ℕ) (name : List ℕ) (p : Progress ℕ) → EndsWell source c (footnote_tried w o name p).becomes
-  footnote_well o name p = by (is_reference (footnote_style w.setting.rules.options) (w.setting.rules.is_footnote name))
-    where
-      by : (is : Bool) → EndsWell source c (if is then to_be (a_footnote o name) (footnote_used (w.setting.rules.is_footnote name) name p)
-          else to_be a_text p).becomes
-      by true = may.here
-      by false = tt
-
-  target_well : (o : Split ℕ) (end next : ℕ) (target : Option LinkView) (p : Progress ℕ) → EndsSo source c end next → IsNoSlice target
-      → EndsWell source c (target_tried o end next target p).becomes
-  unfolding EndsSo IsNoSlice
-  target_well o end next None p h k = tt
-  target_well o end next (Some target) p h k = (h.0, h.1, h.2, h.3, k)
-
-  look_up_well : (o : Split ℕ) (link_type : LinkType) (label : List ℕ) (end next : ℕ) (p : Progress ℕ) → EndsSo source c end next
-      → destination_origin link_type ≡ made
-      → EndsWell source c (look_up_tried w o link_type label end next p).becomes
-  look_up_well o link_type label end next p h k =
-      let q = question_at o link_type label end in
-      let found : LookedUp = look_up w.setting.rules.definitions w.setting.rules.asks p.known.limit p.known.answers q in
-      target_well o end next found.target (after_look_up found p) h
-      (looked_up_made w.setting.rules.definitions w.setting.rules.asks p.known.limit p.known.answers q k)
-
-  tried_well : (o : Split ℕ) (x : Written) (p : Progress ℕ) → WrittenWell source c x → EndsWell source c (tried w o x p).becomes
-  unfolding WrittenWell EndsSo
-  tried_well o no_link p h = tt
-  tried_well o (inline_link t) p h = let so = ends_so t.ends h in (so.0, so.1, so.2, so.3, refl)
-  tried_well o (link_reference link_type label end next) p h = look_up_well o link_type label end next
-      (record p { spent = spent_by link_type end p.spent }) h.0 h.1
-  tried_well o (footnote_label name) p h = footnote_well o name p
-
-  opener_well : (found : Option (Split ℕ)) (p : Progress ℕ) → EndsWell source c (opener_tried w c found p).becomes
-  opener_well None p = tt
-  opener_well (Some o) p = by (is_live o.mark.bracket)
-    where
-      by : (live : Bool) → EndsWell source c (if live then tried w o (written w c o) p else to_be a_text p).becomes
-      by true = tried_well o (written w c o) p (written_well o)
-      by false = tt
-
-  one_well : (p : Progress ℕ) → EndsWell source c (one_decided w c p).becomes
-  one_well p = opener_well (nearest opens_bracket p.left) (record p { left = bracket_taken p.left })
-
-  -- what a wikilink shows and its name
-  abbrev Shows : Split ℕ → Wikilink ℕ → Type 0
-  Shows o v = ShowsWell source (past_second (inside o)) v.children × IsNamedIn source (past_second (inside o)) (end_of c.label) v.name
-
-  wikilink_well : (end : ℕ) (left : List (Entry ℕ)) (found : Option (Split ℕ)) (p : Progress ℕ) → CanGoOn source c end
-      → AllLie source (trees_onto left nil)
-      → nearest opens_wikilink left ≡ found → EndsWell source c (wikilink_tried w c end found p).becomes
-  wikilink_well end left None p on lies e = one_well p
-  wikilink_well end left (Some o) p on lies e = by_flag (is_live o.mark.wikilink)
-    where
-      by : (v : Option (Wikilink ℕ)) → IfSome v (Shows o)
-          → EndsWell source c (wikilink_or_one w c end o v p).becomes
-      by None h = one_well (record p { left = wikilink_taken p.left })
-      by (Some v) h = (on, h.0, named_later source (past_second (inside o)) (end_of c.label) end v.name on.behind h.1)
-
-      shown : (v : Option (Wikilink ℕ)) → wikilink_in w (past_second (inside o)) (start_of c.label) ≡ v
-          → IfSome v (Shows o)
-      shown None same = tt
-      shown (Some v) same = (
-        may.shows (past_second (inside o)) v (inside_lies source opens_wikilink left o lies e) same,
-        may.names
-            (past_second (inside o)) v same,
-      )
-
-      by_flag : (live : Bool) → EndsWell source c
-          (wikilink_or_one w c end o (if live then wikilink_in w (past_second (inside o)) (start_of c.label) else None) p).becomes
-      by_flag true = by (wikilink_in w (past_second (inside o)) (start_of c.label))
-          (shown (wikilink_in w (past_second (inside o)) (start_of c.label)) refl)
-      by_flag false = by None tt
-
-  before_well : (rest : Forest (Label ℕ)) (p : Progress ℕ) → AllLie source (trees_onto p.left nil) → c.rest ≡ rest
-      → EndsWell source c (decided_before w c rest p).becomes
-  before_well nil p lies e = one_well p
-  before_well (node a below after) p lies e = by (wikilinks_on w.setting.rules.options && is_closer (open_body a.part.shape))
-    where
-      taken : AllLie source (trees_onto (bracket_taken p.left) nil)
-      taken = subst (AllLie source) (sym (trees_stay opens_bracket without_bracket p.left nil)) lies
-
-      by : (two : Bool) → EndsWell source c (if two then wikilink_tried w c (end_of a) (wikilink_opener p.left) p
-          else one_decided w c p).becomes
-      by true = wikilink_well (end_of a) (bracket_taken p.left) (wikilink_opener p.left) p (may.doubled a below after e) taken refl
-      by false = one_well p
+      by : (b : Bool) → (if b then Some (end_of a) else None) ≡ Some end → CanGoOn source c end
+      by true s = let same : end_of a ≡ end = cc in subst (CanGoOn source c) same (may.doubled a below after e)
+      by false s = cc
 
   decided_well : (p : Progress ℕ) → AllLie source (trees_onto p.left nil) → EndsWell source c (decided w c p).becomes
   unfolding decided
-  decided_well p lies = before_well c.rest p lies refl
+  decided_well p lies =
+      let second = second_end w c.rest in
+      let now : Progress ℕ = record p { left = bracket_taken (left_for_one second p.left) } in
+      let Well : Option (Written ℕ) → Type 0 = λ x. EndsWell source c (carried_out w x now).becomes in
+      let rules = w.setting.rules in
+      either Well (found w c second p.left) tt
+      (found_cases w c (λ left. AllLie source (trees_onto left nil)) (record {
+        bracket = λ left h. subst (AllLie source) (sym (trees_stay opens_bracket without_bracket left nil)) h;
+        wikilink = λ left h. subst (AllLie source) (sym (trees_stay opens_wikilink without_wikilink left nil)) h;
+      }) (λ x. Well (Some x)) second
+      (λ left o h e live. record {
+        inline = λ t is. let so = ends_so t.ends (may.closed t is) in (so.0, so.1, so.2, so.3, refl);
+        refers = λ r way.
+            let so = reference_so r way in
+            target_well o r (look_up rules.definitions rules.asks p.known.limit p.known.answers (question_at o r)).target so.0
+            (looked_up_made rules.definitions rules.asks p.known.limit p.known.answers (question_at o r) so.1);
+        footnote = λ name. may.here;
+      })
+      (λ left o v end h e live is s.
+      let on = second_on c.rest end refl s in (
+        on,
+        may.shows (past_second (inside o)) v (inside_lies source opens_wikilink left o h e) is,
+        named_later source (past_second (inside o)) (end_of c.label) end v.name on.behind (may.names (past_second (inside o)) v is),
+      )) p.left lies)
 
 -- the chain after a `]` can continue at each of these byte offsets
 may_go_on : (source : List ℕ) (tables : Tables) (nodes : List (Node Item)) (w : Around) (c : Closing ℕ) (f : Forest ℕ)
@@ -308,8 +223,9 @@ may_go_on source tables nodes w c f k starts ordered text utf8 = record {
       (ends_there source tables nodes i f (subst (λ (rest : Forest (Label ℕ)). closer_ends_at i rest ≡ true) k.rest_is h));
   emptied = λ e.
       let stands = collapsed_stands (footnote_style w.setting.rules.options) (lines w) w.above.in_table (block_text w) (end_of c.label)
-      (first_item c.rest) (second_item c.rest) e in
-      let closes = subst (λ (rest : Forest (Label ℕ)). stands_at (end_of c.label + 1) is_closer (second_item rest) ≡ true) k.rest_is stands
+      (option_map as_item (first_root c.rest)) (option_map as_item (first_root (past_second c.rest))) e in
+      let closes = subst (λ (rest : Forest (Label ℕ)). stands_at (end_of c.label + 1) is_closer (option_map as_item (first_root (past_second rest))) ≡ true) k.rest_is
+      stands
       in
       let there = second_ends source tables nodes (end_of c.label + 1) f closes k.placed in
       let place : end_of c.label + 1 + 1 ≡ end_of c.label + 2 = omega arith in

@@ -11,16 +11,17 @@ use Rattle.std.proofs.lemmas.List.{get_or-drop, get_or-replicate, get_or-take, l
 use Rattle.std.proofs.lemmas.Str.{IsCharBoundary-after_ascii}
 use Rattle.markdown_base.specs.ArenaRules.{next_at}
 use Rattle.markdown_base.specs.BlockTree.{Numbered, numbered, item_at}
-use Rattle.markdown_base.specs.Forest.{Forest, nil, node, Each, relabelled, roots}
+use Rattle.std.specs.Option.{option_map}
+use Rattle.markdown_base.specs.Forest.{Forest, nil, node, Each, first_root, relabelled, roots}
 use Rattle.markdown_base.specs.Item.{is_open}
 use Rattle.markdown_base.specs.WellFormed.{RunCharacter, StandsInRun, StandsOverMarkup, run_character}
 use Rattle.markdown_base.specs.declared.item.Item.{Item}
 use Rattle.markdown_base.specs.declared.item.ItemBody.{ItemBody}
 use Rattle.markdown_base.specs.declared.item.ItemBody.TheVariants as body
 use Rattle.markdown_base.specs.declared.node.Node.{Node}
-use Rattle.markdown_brackets.specs.BracketDecision.{Closing, closer_ends_at, second_item}
+use Rattle.markdown_brackets.specs.BracketDecision.{Closing, closer_ends_at, past_second}
 use Rattle.markdown_brackets.specs.Reference.{is_closer, stands_at}
-use Rattle.markdown_document.specs.ChainRest.{end_of, open_body}
+use Rattle.markdown_document.specs.ChainRest.{as_item, end_of, open_body}
 use Rattle.markdown_document.specs.Document.{Shape, backslash_break, enclosed, is_unresolved, leaf, plain, shape_of, unresolved}
 use Rattle.markdown_document.specs.PlacedNodes.{IsPlaced}
 use Rattle.markdown_document.specs.Tables.{Tables}
@@ -201,7 +202,8 @@ module _ (source : List ℕ) (tables : Tables) (nodes : List (Node Item)) where
       by false false here same h later = cc h
 
   -- the second item, where it is a `]` that starts at a byte
-  pub second_ends : (p : ℕ) (f : Forest ℕ) → stands_at p is_closer (second_item (relabelled (numbered_label source tables nodes) f)) ≡ true
+  pub second_ends : (p : ℕ) (f : Forest ℕ) → stands_at p is_closer
+      (option_map as_item (first_root (past_second (relabelled (numbered_label source tables nodes) f)))) ≡ true
       → Each (IsPlaced source tables nodes) f
       → EndsThere nodes (p + 1) f
   second_ends p nil h placed = cc h

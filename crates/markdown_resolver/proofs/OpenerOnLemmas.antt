@@ -18,8 +18,8 @@ use Rattle.markdown_base.specs.WellFormed.{MarkupIsThere, StandsOverMarkup}
 use Rattle.markdown_base.specs.declared.item.Item.{Item}
 use Rattle.markdown_base.specs.declared.item.ItemBody.{ItemBody}
 use Rattle.markdown_base.specs.declared.node.Node.{Node}
-use Rattle.markdown_brackets.specs.BracketDecision.{is_next}
 use Rattle.markdown_base.specs.EnabledOptions.{wikilinks_on}
+use Rattle.markdown_brackets.specs.ReadChain.{is_next}
 use Rattle.markdown_brackets.specs.LeftList.{Entry, Mark, gone, live, trees_onto, waits, all_done}
 use Rattle.markdown_brackets.specs.HeldOpeners.{held_as, wikilinks_of}
 use Rattle.markdown_brackets.specs.Openers as waiting

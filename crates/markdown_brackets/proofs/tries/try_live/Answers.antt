@@ -1,15 +1,13 @@
 -- Nothing is read past the block's end; otherwise there is a tail, or a reference.
-use Rattle.std.proofs.Common.{◌-◌, ◌<◌, ◌≤◌, sym, refl, subst, arith}
+use Rattle.std.proofs.Common.{◌-◌, ◌<◌, ◌≤◌, sym, subst, arith}
 use Rattle.std.specs.Prelude.{IfSome}
 use Rattle.markdown_base.specs.BlockTree.{item_at, no_item}
 use Rattle.markdown_base.specs.declared.item.Item.{Item}
 use Rattle.markdown_document.specs.ChainRest.{start_of}
-use Rattle.markdown_brackets.specs.BracketDecision.{a_text, no_link, tried}
 use Rattle.markdown_brackets.specs.LinkTailView.{ReadsTail}
 use Rattle.markdown_brackets.specs.StandsAt.{could_be_at, around_by}
 use Rattle.markdown_brackets.specs.WrittenView.{IsTailFrom, reference_at, tail_ahead}
-use Rattle.markdown_brackets.specs.declared.closing_bracket.ClosedBracket.TheVariants.{Text}
-use Rattle.markdown_brackets.proofs.ComesToLemmas.{comes_quietly, comes_to_tail, tried_as}
+use Rattle.markdown_brackets.proofs.ComesToLemmas.{comes_to_tail, comes_to_text, found_as}
 use Rattle.markdown_brackets.proofs.TailTitleLemmas.{tail_wider}
 use Rattle.markdown_brackets.proofs.WrittenLemmas.{nothing_past_block, ok_map, other_written}
 use Rattle.markdown_brackets.proofs.tries.try_live.Goals as goal
@@ -21,9 +19,9 @@ returns-then-item-at-clause-comes g c skipped bodies o opener start =
     let w = around_by at.place.now skipped bodies c.args.lookup.now in
     let past : at.place.now.block_end < (item_at nodes at.node).end =
     subst (λ (i : Item). at.place.now.block_end < i.end) (c.item.ensures no_item) c.if-item-at.true in
-    tried_as o (sym (nothing_past_block nodes at.place.now (g.R.LineRule.skipped at.rule.now) at.node
+    found_as (sym (nothing_past_block nodes at.place.now (g.R.LineRule.skipped at.rule.now) at.node w o
     (could_be_at nodes at.node c.args.spent.now) ((item_at nodes c.args.opener.node).end - 1) past))
-    (comes_quietly g.F.BrokenLinkCallback.answers w c.args.lookup.now c.args.spent.now (tried w o no_link) a_text Text (λ p. refl) tt)
+    (comes_to_text g.F.BrokenLinkCallback.answers w c.args.lookup.now c.args.spent.now)
 
 pub returns-in-Some-clause-comes : goal.returns-in-Some-clause-comes
 returns-in-Some-clause-comes g c skipped bodies o opener start =
@@ -35,7 +33,7 @@ returns-in-Some-clause-comes g c skipped bodies o opener start =
     let low : start_of o.opener ≤ (item_at nodes at.node).end =
     subst (λ n. n ≤ (item_at nodes at.node).end) start (omega (arith, c.requires.ready.opens, c.requires.ready.reads.order)) in
     comes_to_tail g.F.BrokenLinkCallback.answers w c.args.lookup.now c.args.spent.now o
-    (reference_at nodes place rule at.node (could_be_at nodes at.node c.args.spent.now) ((item_at nodes c.args.opener.node).end - 1))
+    (reference_at nodes place rule at.node w o (could_be_at nodes at.node c.args.spent.now) ((item_at nodes c.args.opener.node).end - 1))
     (tail_ahead nodes place rule at.node) c.in-Some.tail c.inline_link.result
     (subst (ReadsTail place.in_table (tail_ahead nodes place rule at.node)) c.in-Some.is c.in_ok-tail.ensures.value)
     (λ t is. c.inline_link.ensures w o t opener is (tail_wider place.text.now (item_at nodes at.node).end (start_of o.opener) c.in-Some.tail
@@ -48,8 +46,9 @@ returns-in-None-clause-comes g c =
     let place = at.place.now in
     let rule = g.R.LineRule.skipped at.rule.now in
     ok_map c.try_reference.result _ _ c.try_reference.ensures.comes (λ found comes skipped bodies o opener start.
-    tried_as o (other_written place.in_table
-    (reference_at nodes place rule at.node (could_be_at nodes at.node c.args.spent.now) ((item_at nodes c.args.opener.node).end - 1))
+    let w = around_by place skipped bodies c.args.lookup.now in
+    found_as (other_written place.in_table o
+    (reference_at nodes place rule at.node w o (could_be_at nodes at.node c.args.spent.now) ((item_at nodes c.args.opener.node).end - 1))
     (tail_ahead nodes place rule at.node)
     (subst (ReadsTail place.in_table (tail_ahead nodes place rule at.node)) c.in-None.is c.in_ok-tail.ensures.value))
     (comes skipped bodies o opener start))
