@@ -168,12 +168,12 @@ module _ (source : List ℕ) (w : Around) (c : Closing ℕ) (may : MayGoOn sourc
 
   -- the second `]` is the first item after the first one
   second_on : (rest : Forest (Label ℕ)) (end : ℕ) → c.rest ≡ rest → second_end w rest ≡ Some end → CanGoOn source c end
-  second_on nil end e s = cc
+  second_on nil end e s = absurd (cc s)
   second_on (node a below after) end e s = by (wikilinks_on w.setting.rules.options && is_closer (open_body a.part.shape)) s
     where
       by : (b : Bool) → (if b then Some (end_of a) else None) ≡ Some end → CanGoOn source c end
       by true s = let same : end_of a ≡ end = cc in subst (CanGoOn source c) same (may.doubled a below after e)
-      by false s = cc
+      by false s = absurd (cc s)
 
   decided_well : (p : Progress ℕ) → AllLie source (trees_onto p.left nil) → EndsWell source c (decided w c p).becomes
   unfolding decided
