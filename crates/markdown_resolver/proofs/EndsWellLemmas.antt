@@ -27,8 +27,8 @@ use Rattle.markdown_brackets.specs.BracketOptions.{footnote_style}
 use Rattle.markdown_brackets.specs.LeftList.{Entry, Split, bracket_taken, inside, opens_bracket, opens_wikilink}
 use Rattle.markdown_brackets.specs.LeftList.{trees_onto, without_bracket, without_wikilink}
 use Rattle.markdown_brackets.specs.LinkTail.{LinkTail, link_tail}
-use Rattle.markdown_brackets.specs.Lookup.{LookedUp, answered, asked, defined_or_asked, finds_nothing, look_up, unknown}
-use Rattle.markdown_brackets.specs.Reference.{FoundLabel, Form, collapsed, form_at, form_by_label, is_closer, is_opener, bracket_label}
+use Rattle.markdown_brackets.specs.Lookup.{answered, asked, defined_or_asked, finds_nothing, look_up, unknown}
+use Rattle.markdown_brackets.specs.Reference.{FoundLabel, collapsed, form_at, form_by_label, is_closer, is_opener, bracket_label}
 use Rattle.markdown_brackets.specs.Reference.{reference, shortcut, stands_at}
 use Rattle.markdown_brackets.specs.declared.footnote.FootnoteStyle.{FootnoteStyle}
 use Rattle.markdown_brackets.proofs.OpenerHeldLemmas.{trees_stay}
