@@ -36,7 +36,7 @@ pub use Rattle.markdown_inline.specs.QuestionLaws.{DocumentCountLaw, DocumentEnd
 pub use Rattle.markdown_inline.specs.ReadingLaw.{ReadingLaw}
 pub use Rattle.markdown_inline.specs.WholeRun.{viewed, IsWhole, AsksApartAndOnce, AsksOnce, IsWholeRun, IsWholeFromStart}
 -- counts of work
-pub use Rattle.markdown_inline.specs.Counts.{no_work}
+pub use Rattle.markdown_inline.specs.ParserLeft.{no_work}
 pub use Rattle.markdown_inline.specs.CountsLaw.{Calls, AreBelowGreatest, CountsLaw, RisesPlainly}
 pub use Rattle.markdown_document.specs.Counts.{ChainCounts, WorkRises, risen, RisesAtMost, RisesAtLeast}
 pub use Rattle.markdown_document.specs.declared.work.Work.{Work}

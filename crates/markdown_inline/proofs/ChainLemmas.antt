@@ -10,11 +10,9 @@ use Rattle.markdown_base.specs.ArenaForest.{Links, links_of, forest_at}
 use Rattle.markdown_base.specs.ArenaWalk.{AllReach}
 use Rattle.markdown_base.specs.BlockTree.{item_at}
 use Rattle.markdown_base.specs.Questions.{Question, Answer, Answers}
-use Rattle.markdown_inline.specs.Counts.{no_chain, counts_ahead}
-use Rattle.markdown_inline.proofs.CountLemmas.{begins-none}
-use Rattle.markdown_document.specs.Above.{above_at, no_blocks}
+use Rattle.markdown_document.specs.Above.{Above, above_at, no_blocks}
 use Rattle.markdown_document.specs.Setting.{Known, Setting}
-use Rattle.markdown_inline.specs.Elements.{Element, question, Reading, nothing_read, then_reads}
+use Rattle.markdown_inline.specs.Elements.{Element, question, Reading, Passage, nothing_read, then_reads}
 use Rattle.markdown_base.specs.Event.{start, end, tag_end, hard_break}
 use Rattle.markdown_base.specs.Forest.{Forest, nil, node}
 use Rattle.markdown_base.specs.Item.{is_open}
@@ -23,7 +21,6 @@ use Rattle.markdown_base.specs.declared.item.ItemBody.{ItemBody}
 use Rattle.markdown_base.specs.declared.node.Node.{Node}
 use Rattle.markdown_base.proofs.ArenaForestLemmas.{opens}
 use Rattle.markdown_document.specs.Stages.{Stage, known_at, chain_at, times_in}
-use Rattle.markdown_resolver.specs.ChainCounts.{chain_counts}
 use Rattle.markdown_resolver.specs.Chains.{AreAbove, ResolvesFrom, CanResolve, StopsIn}
 use Rattle.markdown_inline.specs.Moves.{BeginsWithEvent}
 use Rattle.markdown_inline.specs.Reading.{reading_opened, settled_reading, then_resolved, chain_reading, reading}
@@ -46,7 +43,7 @@ use Rattle.markdown_document.proofs.PlaceLemmas.{times-past, named-past, shape-o
 use Rattle.markdown_inline.specs.WalkTotals.{climbed, left_total, steps_of}
 use Rattle.markdown_inline.specs.Standing.{SpineLies, Stands}
 use Rattle.markdown_inline.proofs.LeftFrameLemmas.{AboveFramed, above_framed}
-use Rattle.markdown_inline.proofs.ReadingLemmas.{reading-settled, opened-open}
+use Rattle.markdown_inline.proofs.ReadingLemmas.{SameElements, reading-settled, opened-open}
 use Rattle.markdown_document.proofs.TablesLemmas.{same-refl}
 use Rattle.markdown_resolver.proofs.ResolvingLemmas.{resolved-settled, resolved-begins, IsKept-from_IsSettled}
 
@@ -92,23 +89,19 @@ opened-begins plain range inside after whole known h = absurd h
 opened-begins backslash_break range inside after whole known h = record { first = (hard_break, range, []); rest = after known; is = refl }
 opened-begins (unresolved b) range inside after whole known h = absurd h
 
-reading-begins : (f : Forest Plain) (s : Setting) (after : Reading) (known : Known) → Begins f
-    → BeginsWithEvent (settled_reading (all_paired s f) after known)
-reading-begins nil s after known h = absurd h
-reading-begins (node a below later) s after known h = opened-begins a.part.shape a.part.range _ _ _ known h
+reading-begins : (f : Forest Plain) (s : Setting) (above : Above) (after : Reading) (known : Known) → Begins f
+    → BeginsWithEvent (reading s plain_tags above f after known)
+reading-begins nil s above after known h = absurd h
+reading-begins (node a below later) s above after known h = opened-begins a.part.shape a.part.range _ _ _ known h
 
 -- from one state to another a chain was resolved
 pub record ChainMoves (s : Setting) (tables tables' : Tables) (nodes nodes' : List (Node Item)) (first : ℕ) (spine : List ℕ)
     (before now : Answers → Known) (questions : List Question) (answers : Answers) : Type 0 where
   pub stands : Stands s.text tables' nodes' (Some first) spine
-  pub left : (later : Answers) → left_of s tables nodes (Some first) spine (before (answers ++ later))
-      ≡ map question questions ++ left_of s tables' nodes' (Some first) spine (now later)
+  pub left : (later : Answers) → (left_of s tables nodes (Some first) spine (before (answers ++ later))).elements
+      ≡ map question questions ++ (left_of s tables' nodes' (Some first) spine (now later)).elements
   pub begins : (known : Known) → BeginsWithEvent (left_of s tables' nodes' (Some first) spine known)
   pub falls : steps_of nodes' (Some first) spine < steps_of nodes (Some first) spine
-  -- its counts were ahead, and none are afterwards
-  pub was_ahead : counts_ahead s tables nodes (Some first) spine ≡ chain_counts s plain_tags (above_at s.text nodes spine)
-      (trees_from s.text tables nodes (Some first))
-  pub none_ahead : counts_ahead s tables' nodes' (Some first) spine ≡ no_chain
 
 -- numbers above are those of nodes, and entries that are referred to there are in the tables
 above_within : (k : Links) (p : ℕ → Type 0) (spine : List ℕ) (n : ℕ) → AllReach k p spine → 0 < climbed (same n) (same n) k spine
@@ -176,24 +169,29 @@ unfolding left_total
 are_above source tables nodes first spine w = nodes_above source (links_of nodes) nodes (IsPlaced source tables nodes) (Some first) spine
     refl w.walk.above w.spine_lies w.once
 
--- the counts that are ahead of a chain's first open item are those of the chain
-pub chain_ahead : (s : Setting) (tables : Tables) (nodes : List (Node Item)) (first : ℕ) (spine : List ℕ)
+-- what is left before a chain, where its first item is open
+pub chain_left : (s : Setting) (tables : Tables) (nodes : List (Node Item)) (first : ℕ) (spine : List ℕ) (known : Known)
     → Stands s.text tables nodes (Some first) spine → is_open (item_at nodes first).body ≡ true
-    → counts_ahead s tables nodes (Some first) spine ≡ chain_counts s plain_tags (above_at s.text nodes spine)
-    (trees_from s.text tables nodes (Some first))
-unfolding left_total counts_ahead
-chain_ahead s tables nodes first spine w e =
+    → left_of s tables nodes (Some first) spine known ≡ chain_reading s plain_tags (above_at s.text nodes spine)
+    (trees_from s.text tables nodes (Some first)) (after_chain s (no_blocks s.text) tables nodes spine nothing_read) known
+unfolding left_of
+chain_left s tables nodes first spine known w e =
     let o = opens (links_of nodes) (IsPlaced s.text tables nodes) first w.walk.here in
     let open_shape = shape-open tables (slice_range s.text (item_at nodes first).start (item_at nodes first).end) (item_at nodes first).body
     e in
-    rw (o.here, open_shape) refl
+    let blocks = above_at s.text nodes spine in
+    let after = after_chain s (no_blocks s.text) tables nodes spine nothing_read in
+    let whole : reading s plain_tags blocks (trees_from s.text tables nodes (Some first)) after
+    ≡ chain_reading s plain_tags blocks (trees_from s.text tables nodes (Some first)) after =
+    rw o.here (opened-open (label_at s.text tables nodes first).part.shape _ _ _ _ (ap is_unresolved open_shape)) in
+    ap (λ (x : Reading). x known) whole
 
 pub moves_chain : {C : Type 0} (step : C → Question → Option Answer → C → Type 0) (s : Setting) (first : ℕ) (spine : List ℕ)
     (old new : Stage C)
     → Stands s.text old.tables old.nodes (Some first) spine → is_open (item_at old.nodes first).body ≡ true
     → (r : ResolvesFrom step s.text (resolved s plain_tags (above_at s.text old.nodes spine)) (Some first) old new)
     → ChainMoves s old.tables new.tables old.nodes new.nodes first spine (known_at old) (known_at new) r.questions r.answers
-unfolding left_of left_total counts_ahead
+unfolding left_of left_total
 moves_chain step s first spine old new w e r =
     let o = opens (links_of old.nodes) (IsPlaced s.text old.tables old.nodes) first w.walk.here in
     let open_shape = shape-open old.tables (slice_range s.text (item_at old.nodes first).start (item_at old.nodes first).end)
@@ -211,10 +209,8 @@ moves_chain step s first spine old new w e r =
     (trees_from s.text old.tables old.nodes (child_of old.nodes first))
     (trees_from s.text old.tables old.nodes (sibling_of old.nodes first)) (known_at old (r.answers ++ []))
     (ap is_unresolved open_shape)) in
-    let before : reading s plain_tags blocks chain after ≡ chain_reading s plain_tags blocks chain after =
-    rw o.here (opened-open (label_at s.text old.tables old.nodes first).part.shape _ _ _ _ (ap is_unresolved open_shape)) in
-    let now : reading s plain_tags (above_at s.text new.nodes spine) made (after_chain s (no_blocks s.text) new.tables new.nodes spine nothing_read)
-    ≡ settled_reading (all_paired s made) after =
+    let after' = after_chain s (no_blocks s.text) new.tables new.nodes spine nothing_read in
+    let now : SameElements (reading s plain_tags (above_at s.text new.nodes spine) made after') (settled_reading (all_paired s made) after) =
     rw (above.blocks (no_blocks s.text), above.around (no_blocks s.text) nothing_read) (reading-settled s blocks made after settled) in
     let n = opens (links_of new.nodes) (IsPlaced s.text new.tables new.nodes) first r.changes.reaches in
     let item = item_at new.nodes first in
@@ -237,47 +233,30 @@ moves_chain step s first spine old new w e r =
         above_kept = above.kept;
         spine_lies = above.lies;
       };
-      left = λ later. ap (λ (x : Reading). x (known_at old (r.answers ++ later))) before
-          ∙ rw (r.resolves later) (ap (λ (x : Reading). map question r.questions ++ x (known_at new later)) (sym now));
-      begins = λ known. rw now (reading-begins made s after known begins);
+      left = λ later.
+          let known = known_at old (r.answers ++ later) in
+          ap (λ (x : Passage). x.elements) (chain_left s old.tables old.nodes first spine known w e)
+          ∙ rw (r.resolves later) (ap (λ (es : List Element). map question r.questions ++ es) (sym (now (known_at new later))));
+      begins = λ known. reading-begins made s (above_at s.text new.nodes spine) after' known begins;
       falls = rw (above.steps, closed, e) (let x = r.changes.no_heavier in omega arith);
-      was_ahead = chain_ahead s old.tables old.nodes first spine w e;
-      none_ahead = begins-none s _ made _ begins;
     }
-
--- what is left before a chain, where its first item is open
-before_chain : (s : Setting) (tables : Tables) (nodes : List (Node Item)) (first : ℕ) (spine : List ℕ) (known : Known)
-    → Stands s.text tables nodes (Some first) spine → is_open (item_at nodes first).body ≡ true
-    → left_of s tables nodes (Some first) spine known ≡ then_resolved s plain_tags (resolved s plain_tags (above_at s.text nodes spine)
-    (trees_from s.text tables nodes (Some first)) known) (after_chain s (no_blocks s.text) tables nodes spine nothing_read)
-unfolding left_of
-before_chain s tables nodes first spine known w e =
-    let o = opens (links_of nodes) (IsPlaced s.text tables nodes) first w.walk.here in
-    let open_shape = shape-open tables (slice_range s.text (item_at nodes first).start (item_at nodes first).end) (item_at nodes first).body
-    e in
-    let blocks = above_at s.text nodes spine in
-    let after = after_chain s (no_blocks s.text) tables nodes spine nothing_read in
-    let whole : reading s plain_tags blocks (trees_from s.text tables nodes (Some first)) after
-    ≡ chain_reading s plain_tags blocks (trees_from s.text tables nodes (Some first)) after =
-    rw o.here (opened-open (label_at s.text tables nodes first).part.shape _ _ _ _ (ap is_unresolved open_shape)) in
-    ap (λ (x : Reading). x known) whole
 
 more_questions : (s : Setting) (r : Outcome (Unit {0})) (after : Reading) (questions others : List Question)
     → r.questions ≡ questions ++ others
-    → (es : List Element) × (then_resolved s plain_tags r after ≡ map question questions ++ es)
+    → (es : List Element) × (then_resolved s r after ≡ map question questions ++ es)
 more_questions s r after questions others e =
-    (map question others ++ settled_reading (all_paired s r.forest) after r.known, rw e (simp (map-append, append_assoc)))
+    (map question others ++ (settled_reading (all_paired s r.forest) after r.known).elements, rw e (simp (map-append, append_assoc)))
 
 -- where memory is refused on the way, what was left begins with the questions asked
 pub stops_chain : {C : Type 0} (step : C → Question → Option Answer → C → Type 0) (s : Setting) (first : ℕ) (spine : List ℕ) (old : Stage C)
     (d : Option C) (work work' : Work)
     → Stands s.text old.tables old.nodes (Some first) spine → is_open (item_at old.nodes first).body ≡ true
     → (r : StopsIn step s (above_at s.text old.nodes spine) first old d work work')
-    → (later : Answers) → (others : List Element) × (left_of s old.tables old.nodes (Some first) spine (known_at old (r.answers ++ later))
-    ≡ map question r.questions ++ others)
+    → (later : Answers) → (others : List Element)
+    × ((left_of s old.tables old.nodes (Some first) spine (known_at old (r.answers ++ later))).elements ≡ map question r.questions ++ others)
 stops_chain step s first spine old d work work' w e r later =
     let b = r.begins later in
     let known = known_at old (r.answers ++ later) in
-    rw (before_chain s old.tables old.nodes first spine known w e)
+    rw (chain_left s old.tables old.nodes first spine known w e)
     (more_questions s (resolved s plain_tags (above_at s.text old.nodes spine) (chain_at s.text old (Some first)) known)
     (after_chain s (no_blocks s.text) old.tables old.nodes spine nothing_read) r.questions b.0 b.1)

@@ -3,11 +3,12 @@
 use Rattle.std.proofs.Common.{◌≡◌, ℕ, zero, suc, ◌+◌, ◌*◌, ◌^◌, ◌<◌, ◌≤◌, Bool, true, false, List, [], ◌∷◌, ◌++◌, length}
 use Rattle.std.proofs.Common.{Option, Some, None, Result, Ok, Err, refl, ap, subst, arith}
 use Rattle.std.specs.Prelude.{IfSome, slice_range}
+use Rattle.std.specs.declared.ops.Range.{Range}
 use Rattle.markdown_base.specs.Arena.{sibling_of}
 use Rattle.markdown_base.specs.ArenaForest.{forest_at, links_of}
 use Rattle.markdown_base.specs.BlockTree.{item_at}
 use Rattle.markdown_base.specs.Forest.{Forest, nil, node, relabelled, roots}
-use Rattle.markdown_base.specs.Item.{is_open}
+use Rattle.markdown_base.specs.Item.{is_open, range_of}
 use Rattle.markdown_base.specs.Questions.{Question, Answer, Answers}
 use Rattle.markdown_base.specs.declared.fault.Fault.{Fault}
 use Rattle.markdown_base.specs.declared.item.Item.{Item}
@@ -30,12 +31,12 @@ use Rattle.markdown_document.proofs.PlaceLemmas.{open-unresolved, shape-open, so
 use Rattle.markdown_resolver.specs.ChainCounts.{chain_counts}
 use Rattle.markdown_resolver.specs.PassOne.{pass_one}
 use Rattle.markdown_resolver.proofs.PassOneLemmas.{pass_one-weight}
-use Rattle.markdown_inline.specs.Counts.{Counting, before_event, counts_ahead, counts_around, first_counts, no_chain, no_work, unless_ended}
 use Rattle.markdown_inline.specs.CountsLaw.{AreBelowGreatest, Calls, CountsLaw, RisesPlainly}
-use Rattle.markdown_inline.specs.Elements.{Placed}
+use Rattle.markdown_inline.specs.Elements.{Placed, Passage, Reading, nothing_read}
 use Rattle.markdown_inline.specs.NextGives.{NextGives, IsEventOf, IsPlacedOf}
-use Rattle.markdown_inline.specs.ParserLeft.{parser_counts, parser_known, parser_setting, parser_steps, parser_work}
-use Rattle.markdown_inline.specs.Walk.{end_of_body}
+use Rattle.markdown_inline.specs.ParserLeft.{no_work, parser_counts, parser_known, parser_setting, parser_steps, parser_work}
+use Rattle.markdown_inline.specs.Reading.{chain_reading, reading, reading_opened}
+use Rattle.markdown_inline.specs.Walk.{after_chain, end_of_body, ended, left_of}
 use Rattle.markdown_inline.specs.WalkTotals.{climbed, left_total, weight_to_come}
 use Rattle.markdown_inline.specs.declared.walk.Parser.{Parser}
 
@@ -84,26 +85,27 @@ chain-few s tags above chain known = record {
 }
 
 -- and so are those before the first event of a forest
-before-few : (shape : Shape) (inside chain : Counting) (known : Known) (most : ℕ) → AreFew (inside known) most
-    → AreFew (chain known) most → AreFew (before_event shape inside chain known) most
-before-few (leaf e origins) inside chain known most i c = few-none most
-before-few (enclosed tag) inside chain known most i c = few-none most
-before-few plain inside chain known most i c = i
-before-few backslash_break inside chain known most i c = few-none most
-before-few (unresolved b) inside chain known most i c = c
+opened-few : (shape : Shape) (range : Range ℕ) (inside : Reading → Reading) (after whole : Reading) (known : Known) (most : ℕ)
+    → AreFew (inside after known).counts most → AreFew (whole known).counts most
+    → AreFew (reading_opened shape range inside after whole known).counts most
+opened-few (leaf e origins) range inside after whole known most i c = few-none most
+opened-few (enclosed tag) range inside after whole known most i c = few-none most
+opened-few plain range inside after whole known most i c = i
+opened-few backslash_break range inside after whole known most i c = few-none most
+opened-few (unresolved b) range inside after whole known most i c = c
 
-first-few : (s : Setting) (above : Above) (f : Forest Plain) (after : Counting) (known : Known) (most : ℕ)
-    → AreFew (after known) most → AreFew (first_counts s plain_tags above f after known) (weight f + most)
-first-few s above nil after known most h = few-more (after known) most (0 + most) (omega arith) h
-first-few s above (node a below later) after known most h =
-    let rest : Counting = first_counts s plain_tags above later after in
-    let inside : Counting = first_counts s plain_tags (inside_label a above) below rest in
-    let chain : Counting = chain_counts s plain_tags above (node a below later) in
+reading-few : (s : Setting) (above : Above) (f : Forest Plain) (after : Reading) (known : Known) (most : ℕ)
+    → AreFew (after known).counts most → AreFew (reading s plain_tags above f after known).counts (weight f + most)
+reading-few s above nil after known most h = few-more (after known).counts most (0 + most) (omega arith) h
+reading-few s above (node a below later) after known most h =
+    let rest : Reading = reading s plain_tags above later after in
+    let inside : Reading → Reading = λ inner. reading s plain_tags (inside_label a above) below inner in
+    let chain : Reading = chain_reading s plain_tags above (node a below later) after in
     let all = weight (node a below later) + most in
-    before-few a.part.shape inside chain known all
-    (few-more (inside known) (weight below + (weight later + most)) all (omega arith)
-    (first-few s (inside_label a above) below rest known (weight later + most) (first-few s above later after known most h)))
-    (few-more (chain known) (weight (node a below later)) all (omega arith) (chain-few s plain_tags above (node a below later) known))
+    opened-few a.part.shape a.part.range inside rest chain known all
+    (few-more (inside rest known).counts (weight below + (weight later + most)) all (omega arith)
+    (reading-few s (inside_label a above) below rest known (weight later + most) (reading-few s above later after known most h)))
+    (few-more (chain known).counts (weight (node a below later)) all (omega arith) (chain-few s plain_tags above (node a below later) known))
 
 -- an item waits where it is open
 open-same : (tables : Tables) (source : List ℕ) (b : ItemBody) → is_unresolved (shape_of tables source b) ≡ is_open b
@@ -131,47 +133,48 @@ weight-placed source tables nodes (node ix below after) =
       weight-placed source tables nodes after,
     )
 
-unless-few : (e : Option TagEnd) (after : Counting) (known : Known) (most : ℕ) → AreFew (after known) most
-    → AreFew (unless_ended e after known) most
-unless-few None after known most h = h
-unless-few (Some e) after known most h = few-none most
+ended-few : (e : Option TagEnd) (range : Range ℕ) (after : Reading) (known : Known) (most : ℕ) → AreFew (after known).counts most
+    → AreFew (ended e range after known).counts most
+ended-few None range after known most h = h
+ended-few (Some e) range after known most h = few-none most
 
-around-few : (s : Setting) (above : Above) (tables : Tables) (nodes : List (Node Item)) (spine : List ℕ) (after : Counting)
-    (known : Known) (most : ℕ) → AreFew (after known) most
-    → AreFew (counts_around s above tables nodes spine after known)
+after-few : (s : Setting) (above : Above) (tables : Tables) (nodes : List (Node Item)) (spine : List ℕ) (after : Reading)
+    (known : Known) (most : ℕ) → AreFew (after known).counts most
+    → AreFew (after_chain s above tables nodes spine after known).counts
     (climbed (λ ix. 1) (weight_at nodes) (links_of nodes) spine + most)
-around-few s above tables nodes [] after known most h = few-more (after known) most (0 + most) (omega arith) h
-around-few s above tables nodes (ix ∷ deeper) after known most h =
+after-few s above tables nodes [] after known most h = few-more (after known).counts most (0 + most) (omega arith) h
+after-few s above tables nodes (ix ∷ deeper) after known most h =
     let trees = trees_from s.text tables nodes (sibling_of nodes ix) in
-    let here : Counting = first_counts s plain_tags above trees after in
-    let ends = end_of_body (item_at nodes ix).body in
+    let here : Reading = reading s plain_tags above trees after in
+    let item = item_at nodes ix in
+    let behind : Reading = ended (end_of_body item.body) (range_of item) here in
     let same = weight-placed s.text tables nodes (forest_at (links_of nodes) (sibling_of nodes ix)) in
-    let whole : Counting = counts_around s (inside_item (item_at nodes ix) above) tables nodes deeper (unless_ended ends here) in
-    few-more (whole known) (climbed (λ ix. 1) (weight_at nodes) (links_of nodes) deeper + (weight trees + most))
+    let whole : Passage = after_chain s (inside_item item above) tables nodes deeper behind known in
+    few-more whole.counts (climbed (λ ix. 1) (weight_at nodes) (links_of nodes) deeper + (weight trees + most))
     (climbed (λ ix. 1) (weight_at nodes) (links_of nodes) (ix ∷ deeper) + most) (omega (arith, same))
-    (around-few s (inside_item (item_at nodes ix) above) tables nodes deeper (unless_ended ends here) known (weight trees + most)
-    (unless-few ends here known (weight trees + most) (first-few s above trees after known most h)))
+    (after-few s (inside_item item above) tables nodes deeper behind known (weight trees + most)
+    (ended-few (end_of_body item.body) (range_of item) here known (weight trees + most) (reading-few s above trees after known most h)))
 
 -- the counts of a walk are few, by the weight of what is left of it
-ahead-few : (s : Setting) (tables : Tables) (nodes : List (Node Item)) (l : Option ℕ) (spine : List ℕ) (known : Known)
-    → AreFew (counts_ahead s tables nodes l spine known) (weight_to_come nodes l spine)
-unfolding counts_ahead left_total
-ahead-few s tables nodes l spine known =
+left-few : (s : Setting) (tables : Tables) (nodes : List (Node Item)) (l : Option ℕ) (spine : List ℕ) (known : Known)
+    → AreFew (left_of s tables nodes l spine known).counts (weight_to_come nodes l spine)
+unfolding left_of left_total
+left-few s tables nodes l spine known =
     let trees = trees_from s.text tables nodes l in
-    let after : Counting = counts_around s (no_blocks s.text) tables nodes spine no_chain in
+    let after : Reading = after_chain s (no_blocks s.text) tables nodes spine nothing_read in
     let blocks = above_at s.text nodes spine in
-    let whole : Counting = first_counts s plain_tags blocks trees after in
+    let whole : Passage = reading s plain_tags blocks trees after known in
     let behind = climbed (λ ix. 1) (weight_at nodes) (links_of nodes) spine in
     let same = weight-placed s.text tables nodes (forest_at (links_of nodes) l) in
-    few-more (whole known) (weight trees + (behind + 0)) (total (weight_at nodes) (forest_at (links_of nodes) l) + behind)
+    few-more whole.counts (weight trees + (behind + 0)) (total (weight_at nodes) (forest_at (links_of nodes) l) + behind)
     (omega (arith, same))
-    (first-few s blocks trees after known (behind + 0)
-    (around-few s (no_blocks s.text) tables nodes spine no_chain known 0 (few-none 0)))
+    (reading-few s blocks trees after known (behind + 0)
+    (after-few s (no_blocks s.text) tables nodes spine nothing_read known 0 (few-none 0)))
 
 parser-few : {F : Type 0} (p : Parser F) (answers : Answers) → AreFew (parser_counts p answers) (parser_steps p)
 parser-few p answers =
     few-more (parser_counts p answers) (weight_to_come p.tree.nodes p.tree.cursor p.tree.spine) (parser_steps p) (omega arith)
-    (ahead-few (parser_setting p) (tables_of p.resolver.lookup.tables) p.tree.nodes p.tree.cursor p.tree.spine (parser_known p answers))
+    (left-few (parser_setting p) (tables_of p.resolver.lookup.tables) p.tree.nodes p.tree.cursor p.tree.spine (parser_known p answers))
 
 -- counts, with what the steps to come may still add to them, are small
 record Fits (work : Work) (left : ℕ) : Type 0 where

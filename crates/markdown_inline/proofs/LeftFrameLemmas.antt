@@ -8,7 +8,6 @@ use Rattle.markdown_base.specs.declared.item.Item.{Item}
 use Rattle.markdown_base.specs.declared.node.Node.{Node}
 use Rattle.markdown_document.specs.PlacedNodes.{IsSameAt, IsPlaced}
 use Rattle.markdown_inline.specs.Walk.{after_chain, left_of}
-use Rattle.markdown_inline.specs.Counts.{Counting, no_chain, counts_around, counts_ahead}
 use Rattle.markdown_document.specs.Above.{Above, no_blocks, inside_all}
 use Rattle.markdown_document.specs.Setting.{Setting}
 use Rattle.markdown_document.specs.Totals.{same, weight_at}
@@ -30,8 +29,6 @@ pub record AboveFramed (s : Setting) (tables tables' : Tables) (nodes nodes' : L
   pub steps : climbed (λ ix. 1) (weight_at nodes') (links_of nodes') spine ≡ climbed (λ ix. 1) (weight_at nodes) (links_of nodes) spine
   pub around : (above : Above) (after : Reading) → after_chain s above tables' nodes' spine after ≡ after_chain s above tables nodes spine after
   pub blocks : (above : Above) → inside_all nodes' spine above ≡ inside_all nodes spine above
-  pub ahead : (above : Above) (after : Counting) → counts_around s above tables' nodes' spine after
-      ≡ counts_around s above tables nodes spine after
 
 pub above_framed : (s : Setting) (tables tables' : Tables) (nodes nodes' : List (Node Item)) (spine : List ℕ) → length nodes ≤ length nodes'
     → IsNoShorter tables tables'
@@ -49,7 +46,6 @@ above_framed s tables tables' nodes nodes' [] z y r k lies h t = record {
   steps = refl;
   around = λ above after. refl;
   blocks = λ above. refl;
-  ahead = λ above after. refl;
 }
 above_framed s tables tables' nodes nodes' (ix ∷ deeper) z y r k lies h t =
     let at : IsSameAt nodes nodes' ix = h ix (omega (arith, same-refl ix)) in
@@ -67,7 +63,6 @@ above_framed s tables tables' nodes nodes' (ix ∷ deeper) z y r k lies h t =
       steps = rw (at.next, here.weight, others.steps) refl;
       around = λ above after. rw (at.next, at.item, here.trees) (others.around _ _);
       blocks = λ above. rw at.item (others.blocks _);
-      ahead = λ above after. rw (at.next, at.item, here.trees) (others.ahead _ _);
     }
 
 -- what is left of a walk, where all that it leads to stays
@@ -75,13 +70,12 @@ pub record LeftFramed (s : Setting) (tables tables' : Tables) (nodes nodes' : Li
   where
     pub stands : Stands s.text tables' nodes' l spine
     pub left : left_of s tables' nodes' l spine ≡ left_of s tables nodes l spine
-    pub ahead : counts_ahead s tables' nodes' l spine ≡ counts_ahead s tables nodes l spine
 
 pub left_framed : (s : Setting) (tables tables' : Tables) (nodes nodes' : List (Node Item)) (l : Option ℕ) (spine : List ℕ)
     → length nodes ≤ length nodes' → IsNoShorter tables tables'
     → Stands s.text tables nodes l spine → ((n : ℕ) → 0 < times_left (links_of nodes) l spine n → IsSameAt nodes nodes' n)
     → ((n : Named) → 0 < named_left nodes l spine n → IsSameEntry tables tables' n) → LeftFramed s tables tables' nodes nodes' l spine
-unfolding left_total left_of counts_ahead
+unfolding left_total left_of
 left_framed s tables tables' nodes nodes' l spine z y w h t =
     let stay = stay_throughout tables tables' nodes nodes' (forest_at (links_of nodes) l) y.headings (λ n x. h n (omega (arith, x)))
     (λ n x. t n (omega (arith, x))) in
@@ -98,5 +92,4 @@ left_framed s tables tables' nodes nodes' l spine z y w h t =
         spine_lies = above.lies;
       };
       left = rw (here.trees, above.blocks (no_blocks s.text), above.around (no_blocks s.text) nothing_read) refl;
-      ahead = rw (here.trees, above.blocks (no_blocks s.text), above.ahead (no_blocks s.text) no_chain) refl;
     }

@@ -1,6 +1,6 @@
 -- The steps of a parser, and what they give of what was left.
 use Rattle.std.proofs.Common.{◌≡◌, ℕ, Bool, ap, ◌<◌, List, [], ◌∷◌, ◌++◌, Option, Some, None, Result, Ok, Err, ◌⊎◌, inl, inr, refl}
-use Rattle.std.proofs.Common.{sym, subst, ◌∙◌, arith, append_assoc}
+use Rattle.std.proofs.Common.{map, sym, subst, ◌∙◌, arith, append_assoc}
 use Rattle.std.specs.Prelude.{is_some, MatchResult}
 use Rattle.std.specs.Borrow.{Bor}
 use Rattle.std.specs.declared.ops.Range.{Range}
@@ -16,38 +16,46 @@ use Rattle.markdown_base.specs.declared.item.Item.{Item}
 use Rattle.markdown_defs.specs.Allocations.{Allocated}
 use Rattle.markdown_defs.specs.Footnotes.{footnote_at}
 use Rattle.std.proofs.Math.Path.{fun_ext}
-use Rattle.markdown_document.specs.Counts.{ChainCounts, no_counts}
+use Rattle.markdown_document.specs.Counts.{no_counts}
 use Rattle.markdown_document.specs.Document.{plain_tags}
 use Rattle.markdown_document.specs.declared.work.Work.{Work}
 use Rattle.markdown_document.specs.Places.{trees_from}
 use Rattle.markdown_document.specs.Stages.{stage, known_at, above_cursor}
 use Rattle.markdown_resolver.specs.ChainCounts.{chain_counts}
-use Rattle.markdown_inline.specs.Counts.{Counting}
 use Rattle.markdown_resolver.specs.Chains.{AreAbove, ResolvesChain, CanResolve, StopsIn}
-use Rattle.markdown_inline.specs.Elements.{Placed, Element}
+use Rattle.markdown_inline.specs.Elements.{Placed, Element, Passage, event, question}
 use Rattle.markdown_inline.specs.Moves.{Leads, Keeps, Gave, GaveEvent, WentOn, Ended, Failed, BeginsWithEvent, HasGone}
 use Rattle.markdown_inline.specs.Moves.{Began, RefusedAt, Took, WentPast, shape_in}
 use Rattle.markdown_inline.specs.NextGives.{NextGives, IsEventOf, IsPlacedOf, GivesItem}
 use Rattle.markdown_inline.specs.ParserLeft.{parser_known, parser_counts, parser_work, parser_callback, parser_steps, parser_setting}
-use Rattle.markdown_inline.specs.ParserLeft.{elements, parser_text, IsOver}
+use Rattle.markdown_inline.specs.ParserLeft.{elements, parser_left, parser_text, IsOver}
 use Rattle.markdown_document.specs.Setting.{Setting, rules_from, setting_of}
 use Rattle.markdown_document.specs.Tables.{tables_of}
-use Rattle.markdown_inline.specs.Walk.{left_of, tree_left}
-use Rattle.markdown_inline.specs.WalkSteps.{HasEnded, TreeStands, Went, Gives, PassedBeginning, OpensWith, IsRefused}
+use Rattle.markdown_inline.specs.Walk.{left_of}
+use Rattle.markdown_inline.specs.WalkSteps.{HasEnded, TreeStands, Went, Gives, PassedBeginning, OpensWith, IsRefused, events_first}
 use Rattle.markdown_inline.specs.WalkSteps.{IsBeforeChain, way_at}
 use Rattle.markdown_inline.specs.declared.bodies.Way.{Way}
 use Rattle.markdown_inline.specs.declared.walk.Parser.{Parser}
 use Rattle.markdown_document.proofs.CallbackLemmas.{Asks-append, Asks-some}
-use Rattle.markdown_inline.proofs.ChainLemmas.{ChainMoves, are_above, chain_ahead, moves_chain, can_resolve, stops_chain, is_unread}
+use Rattle.markdown_inline.proofs.ChainLemmas.{ChainMoves, are_above, chain_left, moves_chain, can_resolve, stops_chain, is_unread}
 use Rattle.markdown_inline.proofs.CountLemmas.{part-chain, part-none, rises-none, rises-chain}
-use Rattle.markdown_inline.proofs.WalkStepsLemmas.{counts_ended, left_of_ended, steps_ended, steps_at_cursor}
+use Rattle.markdown_inline.proofs.WalkStepsLemmas.{left_of_ended, steps_ended, steps_at_cursor}
 use Rattle.markdown_resolver.specs.Unread.{IsUnread}
 
--- the elements that are left, by a parser's parts
-pub elements-parts : {F : Type 0} (p : Parser F) (answers : Answers)
-    → elements p answers ≡ tree_left (parser_setting p) (tables_of p.resolver.lookup.tables) p.tree (parser_known p answers)
+-- the elements that are left, by what is left
+pub elements-left : {F : Type 0} (p : Parser F) (answers : Answers) → elements p answers ≡ (parser_left p answers).elements
 unfolding elements
-elements-parts p answers = refl
+elements-left p answers = refl
+
+-- the elements that were left, where events were given
+first-elements : (given : List Placed) (rest : Passage) → (events_first given rest).elements ≡ map event given ++ rest.elements
+first-elements [] rest = refl
+first-elements (e ∷ given) rest = ap (λ (es : List Element). event e ∷ es) (first-elements given rest)
+
+gave-elements : {F : Type 0} (s t : Parser F) (given : List Placed) → Gave s t given → (later : Answers)
+    → elements s later ≡ map event given ++ elements t later
+unfolding elements
+gave-elements s t given g later = ap (λ (x : Passage). x.elements) (g.left later) ∙ first-elements given (parser_left t later)
 
 -- what a parser holds but for its tree and its tables
 pub record SameBut {F : Type 0} (s t : Parser F) : Type 0 where
@@ -62,12 +70,9 @@ pub gave_step : {F : Type 0} (s t : Parser F) (given : List Placed) → SameBut 
     → Went s.resolver.text.now s.tree t.tree s.resolver.lookup.tables t.resolver.lookup.tables given → Gave s t given
 gave_step s t given k w = record {
   callback = sym k.callback;
-  ahead = λ answers.
-      rw (k.text, k.options, k.callback, k.limit, w.tables)
-      (rw w.tables at (w.ahead (rules_from s.resolver.options s.resolver.lookup.tables (is_some s.resolver.lookup.callback)) (parser_known s answers)));
   work = k.work;
   left = λ later.
-      rw (elements-parts s later, elements-parts t later, k.text, k.options, k.callback, k.limit, w.tables)
+      rw (k.text, k.options, k.callback, k.limit, w.tables)
       (rw w.tables at (w.left (rules_from s.resolver.options s.resolver.lookup.tables (is_some s.resolver.lookup.callback)) (parser_known s later)));
 }
 
@@ -141,7 +146,7 @@ leads_on step c d e x y z given p q =
 
 leads_gave : {F : Type 0} (step : F → Question → Option Answer → F → Type 0) (s t : Parser F) (given : List Placed) → Gave s t given
     → Leads step (parser_callback s) (parser_callback t) (elements s) (elements t) given
-leads_gave step s t given g = record { answers = []; questions = []; asked = g.callback; left = λ later. g.left later }
+leads_gave step s t given g = record { answers = []; questions = []; asked = g.callback; left = gave-elements s t given g }
 
 pub moved_skip : {F : Type 0} (step : F → Question → Option Answer → F → Type 0) (s t : Parser F) → SameBut s t
     → Went s.resolver.text.now s.tree t.tree s.resolver.lookup.tables t.resolver.lookup.tables [] → WentOn step s t × (parser_steps t < parser_steps s)
@@ -151,8 +156,8 @@ moved_skip step s t k w =
       record {
         leads = leads_gave step s t [] g;
         asked = inl g;
-        counts = λ later work r. rw (g.ahead later, ← g.work) r;
-        part = λ later work r. rw (g.ahead later, ← g.work) r;
+        counts = λ later work r. rw (ap (λ (x : Passage). x.counts) (g.left later), ← g.work) r;
+        part = λ later work r. rw (ap (λ (x : Passage). x.counts) (g.left later), ← g.work) r;
       },
       w.falls,
     )
@@ -212,6 +217,24 @@ setting_kept s t x o some tables names =
       asks = is_some s.resolver.lookup.callback;
     }) in g) same)
 
+-- what is left before a chain, with the cursor at its first open item
+left_before : {F : Type 0} (s : Parser F) (first : ℕ) → IsBeforeChain s.tree first → (answers : Answers)
+    → parser_left s answers ≡ left_of (parser_setting s) (tables_of s.resolver.lookup.tables) s.tree.nodes (Some first) s.tree.spine
+    (parser_known s answers)
+left_before s first b answers =
+    ap (λ (l : Option ℕ). left_of (parser_setting s) (tables_of s.resolver.lookup.tables) s.tree.nodes l s.tree.spine
+    (parser_known s answers)) b.cursor
+
+-- the counts then are those of the chain
+counts_before : {F : Type 0} (s : Parser F) (first : ℕ)
+    → TreeStands s.resolver.text.now (tables_of s.resolver.lookup.tables) s.tree → IsBeforeChain s.tree first → (answers : Answers)
+    → parser_counts s answers ≡ chain_counts (parser_setting s) plain_tags (above_cursor s.resolver.text.now s.tree)
+    (trees_from s.resolver.text.now (tables_of s.resolver.lookup.tables) s.tree.nodes (Some first)) (parser_known s answers)
+counts_before s first w b answers =
+    ap (λ (x : Passage). x.counts) (left_before s first b answers
+    ∙ chain_left (parser_setting s) (tables_of s.resolver.lookup.tables) s.tree.nodes first s.tree.spine (parser_known s answers)
+    (rw b.cursor at w) b.is_open)
+
 -- a chain that is resolved: its questions, and then an event
 pub moved_chain : {F : Type 0} (step : F → Question → Option Answer → F → Type 0) (s t : Parser F) (first : ℕ)
     → t.resolver.text ≡ s.resolver.text → t.resolver.options ≡ s.resolver.options
@@ -220,33 +243,32 @@ pub moved_chain : {F : Type 0} (step : F → Question → Option Answer → F �
     s.resolver.lookup.callback t.resolver.lookup.callback
     s.resolver.work t.resolver.work
     → WentOn step s t × (parser_steps t < parser_steps s)
+unfolding elements
 moved_chain step s t first x o w b q =
     let m = chain_moves step (parser_setting s) s.tree t.tree s.resolver.lookup.tables t.resolver.lookup.tables first s.resolver.lookup.limit t.resolver.lookup.limit
     s.resolver.lookup.callback t.resolver.lookup.callback s.resolver.work t.resolver.work w b q in
     let some : is_some s.resolver.lookup.callback ≡ is_some t.resolver.lookup.callback = Asks-some step s.resolver.lookup.callback t.resolver.lookup.callback
     q.chain.questions q.chain.answers q.chain.asked in
-    let now : (later : Answers) → elements t later ≡ left_of (parser_setting s) (tables_of t.resolver.lookup.tables) t.tree.nodes (Some first)
-    s.tree.spine (parser_known t later) =
-    λ later. elements-parts t later ∙ rw (setting_kept s t x o some q.tables q.footnotes, q.tree, b.cursor) refl in
-    let counted : Answers → ChainCounts = λ later. chain_counts (parser_setting s) plain_tags (above_cursor s.resolver.text.now s.tree)
-    (trees_from s.resolver.text.now (tables_of s.resolver.lookup.tables) s.tree.nodes (Some first)) (parser_known s (q.chain.answers ++ later)) in
-    let before : (later : Answers) → parser_counts s (q.chain.answers ++ later) ≡ counted later =
-    λ later. rw b.cursor (ap (λ (c : Counting). c (parser_known s (q.chain.answers ++ later))) m.was_ahead) in
+    let now : (later : Answers) → parser_left t later ≡ left_of (parser_setting s) (tables_of t.resolver.lookup.tables) t.tree.nodes
+    (Some first) s.tree.spine (parser_known t later) =
+    λ later. rw (setting_kept s t x o some q.tables q.footnotes, q.tree, b.cursor) refl in
+    let before = λ (later : Answers). counts_before s first w b (q.chain.answers ++ later) in
     let after : (later : Answers) → parser_counts t later ≡ no_counts =
-    λ later. rw (setting_kept s t x o some q.tables q.footnotes, q.tree, b.cursor) (ap (λ (c : Counting). c (parser_known t later))
-    m.none_ahead) in (
+    λ later. ap (λ (x : Passage). x.counts) (now later ∙ (m.begins (parser_known t later)).is) in (
       record {
         leads = record {
           answers = q.chain.answers;
           questions = q.chain.questions;
           asked = q.chain.asked;
-          left = λ later. rw (elements-parts s (q.chain.answers ++ later), b.cursor, now later) (m.left later);
+          left = λ later.
+              ap (λ (x : Passage). x.elements) (left_before s first b (q.chain.answers ++ later)) ∙ m.left later
+              ∙ ap (λ (x : Passage). map question q.chain.questions ++ x.elements) (sym (now later));
         };
-        asked = inr (λ answers. rw (now answers) (m.begins _));
+        asked = inr (λ answers. subst BeginsWithEvent (sym (now answers)) (m.begins (parser_known t answers)));
         counts = λ later work r.
-            rw (before later) (rises-chain (counted later) (parser_work s) (parser_work t) work (q.counted later) (rw (after later) at r));
+            rw (before later) (rises-chain _ (parser_work s) (parser_work t) work (q.counted later) (rw (after later) at r));
         part = λ later work r.
-            rw (before later) (part-chain (counted later) (parser_work s) (parser_work t) work (q.counted later) (rw (after later) at r));
+            rw (before later) (part-chain _ (parser_work s) (parser_work t) work (q.counted later) (rw (after later) at r));
       },
       rw (q.tree, b.cursor) m.falls,
     )
@@ -254,8 +276,8 @@ moved_chain step s t first x o w b q =
 -- a walk that has ended is over
 pub over_ended : {F : Type 0} (t : Parser F) → HasEnded t.tree → IsOver t
 over_ended t e = record {
-  left = λ answers. elements-parts t answers ∙ left_of_ended (parser_setting t) (tables_of t.resolver.lookup.tables) t.tree e
-      (parser_known t answers);
+  left = λ answers. elements-left t answers ∙ ap (λ (x : Passage). x.elements)
+      (left_of_ended (parser_setting t) (tables_of t.resolver.lookup.tables) t.tree e (parser_known t answers));
   steps = steps_ended t.tree e;
 }
 
@@ -265,8 +287,8 @@ moved_done s t e same c d = record {
   was = over_ended s e;
   is = over_ended t (rw same e);
   callback = sym c;
-  ahead = λ answers. ap (λ (c : Counting). c (parser_known s answers)) (counts_ended (parser_setting s) (tables_of s.resolver.lookup.tables) s.tree
-      e);
+  ahead = λ answers. ap (λ (x : Passage). x.counts)
+      (left_of_ended (parser_setting s) (tables_of s.resolver.lookup.tables) s.tree e (parser_known s answers));
   work = d;
 }
 
@@ -296,17 +318,10 @@ moved_stopped step s t first w b r e = record {
   questions = r.questions;
   answers = r.answers;
   asked = r.asked;
-  begins = λ later. rw (elements-parts s (r.answers ++ later), b.cursor)
+  begins = λ later. rw (elements-left s (r.answers ++ later), b.cursor)
       (stops_chain step (parser_setting s) first s.tree.spine (stage s.tree s.resolver.lookup.tables s.resolver.lookup.limit s.resolver.lookup.callback)
       t.resolver.lookup.callback s.resolver.work t.resolver.work (rw b.cursor at w) b.is_open r later);
-  counts = λ later.
-      let known = parser_known s (r.answers ++ later) in
-      let ahead : parser_counts s (r.answers ++ later) ≡ chain_counts (parser_setting s) plain_tags
-      (above_cursor s.resolver.text.now s.tree)
-      (trees_from s.resolver.text.now (tables_of s.resolver.lookup.tables) s.tree.nodes (Some first)) known =
-      rw b.cursor (ap (λ (c : Counting). c known)
-      (chain_ahead (parser_setting s) (tables_of s.resolver.lookup.tables) s.tree.nodes first s.tree.spine (rw b.cursor at w) b.is_open)) in
-      rw ahead (r.counts later);
+  counts = λ later. rw (counts_before s first w b (r.answers ++ later)) (r.counts later);
 }
 
 -- where a walk is over no step is made
@@ -318,7 +333,7 @@ gone_nowhere step s = record {
   went = record {
     leads = record { answers = []; questions = []; asked = refl; left = λ later. refl };
     asked =
-        inl (record { callback = refl; left = λ later. refl; ahead = λ answers. refl; work = refl });
+        inl (record { callback = refl; left = λ later. refl; work = refl });
     counts = λ later work r. r;
     part = λ later work r. r;
   };
@@ -331,15 +346,14 @@ keeps_more : {F : Type 0} (r s t : Parser F) → Keeps r s → Keeps s t → Kee
 keeps_more r s t a b = record { text = b.text ∙ a.text; definitions = b.definitions ∙ a.definitions }
 
 -- quiet, and then quiet; else an event comes next
-asked_more : {F : Type 0} (r s t : Parser F) → Gave r s [] ⊎ ((answers : Answers) → BeginsWithEvent (elements s answers))
-    → Gave s t [] ⊎ ((answers : Answers) → BeginsWithEvent (elements t answers))
-    → Gave r t [] ⊎ ((answers : Answers) → BeginsWithEvent (elements t answers))
+asked_more : {F : Type 0} (r s t : Parser F) → Gave r s [] ⊎ ((answers : Answers) → BeginsWithEvent (parser_left s answers))
+    → Gave s t [] ⊎ ((answers : Answers) → BeginsWithEvent (parser_left t answers))
+    → Gave r t [] ⊎ ((answers : Answers) → BeginsWithEvent (parser_left t answers))
 asked_more r s t a (inr b) = inr b
 asked_more r s t (inl a) (inl b) = inl (record {
   callback = a.callback ∙ b.callback;
   left = λ later. a.left later
       ∙ b.left later;
-  ahead = λ answers. a.ahead answers ∙ b.ahead answers;
   work = b.work ∙ a.work;
 })
 asked_more r s t (inr a) (inl b) = inr (λ answers. rw (← b.left answers) (a answers))
@@ -366,9 +380,9 @@ gone_on step r s t g w k l = record {
 
 -- nothing is asked where nothing comes
 none_quiet : {F : Type 0} (s t : Parser F) → ((answers : Answers) → elements t answers ≡ [])
-    → Gave s t [] ⊎ ((answers : Answers) → BeginsWithEvent (elements t answers)) → Gave s t []
+    → Gave s t [] ⊎ ((answers : Answers) → BeginsWithEvent (parser_left t answers)) → Gave s t []
 none_quiet s t n (inl a) = a
-none_quiet s t n (inr b) = absurd (cc (n [], (b []).is))
+none_quiet s t n (inr b) = absurd (cc (n [], elements-left t [], ap (λ (x : Passage). x.elements) (b []).is))
 
 -- what `advance` gives
 abbrev pub Advances : {F : Type 0} → (F → Question → Option Answer → F → Type 0) → Parser F → Option (Result (Event × Range ℕ) Fault)
@@ -383,11 +397,11 @@ advances_none step is_of s t u g e k =
     let keeps = keeps_more s t u g.keeps k in
     record {
       gives = record {
-        none_left = λ answers. q.left answers ∙ e.was.left answers;
+        none_left = λ answers. gave-elements s t [] q answers ∙ e.was.left answers;
         callback = sym (q.callback ∙ e.callback);
         over = e.is;
-        counts = λ answers. rises-none (parser_counts s answers) (parser_work s) (parser_work u) (q.ahead answers ∙ e.ahead answers) (e.work
-            ∙ q.work);
+        counts = λ answers. rises-none (parser_counts s answers) (parser_work s) (parser_work u)
+            (ap (λ (x : Passage). x.counts) (q.left answers) ∙ e.ahead answers) (e.work ∙ q.work);
       };
       text = keeps.text;
       definitions = keeps.definitions;
@@ -437,8 +451,8 @@ advances_event step s t u e range g w k f =
         left = l.left;
         counts = λ later.
             rw (append_assoc g.went.leads.answers [] later)
-            (g.went.counts later (parser_work u) (rises-none (parser_counts t later) (parser_work t) (parser_work u) (w.gave.ahead later)
-            w.gave.work));
+            (g.went.counts later (parser_work u) (rises-none (parser_counts t later) (parser_work t) (parser_work u)
+            (ap (λ (x : Passage). x.counts) (w.gave.left later)) w.gave.work));
       };
       text = keeps.text;
       definitions = keeps.definitions;

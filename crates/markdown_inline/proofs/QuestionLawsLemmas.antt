@@ -21,7 +21,7 @@ use Rattle.markdown_document.specs.Document.{Label, Plain, Shape, backslash_brea
 use Rattle.markdown_document.specs.Document.{plain, plain_tags, shape_of, unresolved}
 use Rattle.markdown_document.specs.Setting.{Known, Rules, Setting, setting_of}
 use Rattle.markdown_document.specs.Tables.{Tables}
-use Rattle.markdown_inline.specs.Elements.{Reading, nothing_read, questions_of, then_reads}
+use Rattle.markdown_inline.specs.Elements.{Element, Reading, nothing_read, questions_of, then_reads}
 use Rattle.markdown_inline.specs.QuestionLaws.{AsksApart, closers_of, document_reading}
 use Rattle.markdown_inline.specs.Reading.{chain_reading, reading_opened, reading, settled_reading}
 use Rattle.markdown_inline.proofs.RunLemmas.{questions_of-questions}
@@ -32,8 +32,8 @@ use Rattle.markdown_resolver.proofs.ChainQuestionsLemmas.{document_in_line, reso
 
 -- a reading asks at most this many questions, and none at a limit of 0
 record Few (most : ℕ) (r : Reading) : Type 0 where
-  once : (known : Known) → length (questions_of (r known)) ≤ most
-  silent : (known : Known) → known.limit ≡ 0 → questions_of (r known) ≡ []
+  once : (known : Known) → length (questions_of (r known).elements) ≤ most
+  silent : (known : Known) → known.limit ≡ 0 → questions_of (r known).elements ≡ []
 
 more_few : (n m : ℕ) (r : Reading) → n ≤ m → Few n r → Few m r
 more_few n m r l h = record { once = λ known. omega (arith, h.once known, l); silent = h.silent }
@@ -102,15 +102,16 @@ module _ (s : Setting) where
         let r : Outcome (Unit {0}) = resolved s plain_tags above chain known in
         let here = (resolved_asks s plain_tags above chain known).once in
         let later = (settled_few (all_paired s r.forest) most after h).once r.known in
-        let all = ap length (questions_of-questions r.questions (settled_reading (all_paired s r.forest) after r.known)) in
-        let sum = length-append r.questions (questions_of (settled_reading (all_paired s r.forest) after r.known)) in
+        let others : List Element = (settled_reading (all_paired s r.forest) after r.known).elements in
+        let all = ap length (questions_of-questions r.questions others) in
+        let sum = length-append r.questions (questions_of others) in
         omega (arith, here, later, all, sum, roots_few chain);
     silent = λ known z.
         let r : Outcome (Unit {0}) = resolved s plain_tags above chain known in
         let here = (resolved_asks s plain_tags above chain known).silent z in
         let zero = resolved_stays_zero s plain_tags above chain known z in
         let later = (settled_few (all_paired s r.forest) most after h).silent r.known zero in
-        questions_of-questions r.questions (settled_reading (all_paired s r.forest) after r.known) ∙ rw (here, later) refl;
+        questions_of-questions r.questions (settled_reading (all_paired s r.forest) after r.known).elements ∙ rw (here, later) refl;
   }
 
   reading_few : (f : Forest Plain) (above : Above) (most : ℕ) (after : Reading) → Few most after

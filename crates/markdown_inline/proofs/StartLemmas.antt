@@ -52,7 +52,7 @@ use Rattle.markdown_inline.specs.Standing.{Stands}
 use Rattle.markdown_inline.specs.declared.walk.Parser.{Parser}
 use Rattle.markdown_document.specs.Tables.{Tables, tables_of, tables_at_start}
 use Rattle.markdown_document.proofs.PlaceLemmas.{named-past, open-unresolved}
-use Rattle.markdown_inline.proofs.ParserLemmas.{elements-parts}
+use Rattle.markdown_inline.proofs.ParserLemmas.{elements-left}
 
 -- the texts that are referred to
 listed-cons : (n : ℕ) (o : Option ℕ) (xs : List ℕ) → listed (same n) (cons_option o xs) ≡ same_as n o + listed (same n) xs
@@ -330,7 +330,7 @@ pub starts_left : {F : Type 0} (blocks : Blocks) (p : Parser F) (answers : Answe
     → elements p answers ≡ reading_of blocks (is_some p.resolver.lookup.callback) answers
 unfolding left_of
 starts_left blocks p answers text options held tree same reset limit =
-    elements-parts p answers
+    elements-left p answers
     ∙ rw (
       reset,
       same,

@@ -1,6 +1,6 @@
 -- A tree reads as its events, the questions for it, and then what comes after it, with what is known then: so does a
 -- chain, and a whole document.
-use Rattle.std.proofs.Common.{◌≡◌, ℕ, Bool, List, [], ◌∷◌, ◌++◌, map, refl, sym, subst, ap, ◌∙◌, append_assoc, append-nil}
+use Rattle.std.proofs.Common.{◌≡◌, ℕ, Bool, false, List, [], ◌∷◌, ◌++◌, map, refl, sym, subst, ap, ◌∙◌, append_assoc, append-nil}
 use Rattle.std.specs.declared.ops.Range.{Range}
 use Rattle.markdown_base.specs.Event.{start, end, tag_end, hard_break}
 use Rattle.markdown_base.specs.Forest.{Forest, nil, node}
@@ -10,7 +10,7 @@ use Rattle.markdown_blocks.specs.declared.blocks.Blocks.{Blocks}
 use Rattle.markdown_delims.specs.Pairing.{NothingOpen}
 use Rattle.markdown_document.specs.Above.{Above, inside_label, no_blocks}
 use Rattle.markdown_document.specs.ChainRest.{joined_chains}
-use Rattle.markdown_document.specs.Document.{Shape, leaf, enclosed, plain, backslash_break, unresolved, Plain}
+use Rattle.markdown_document.specs.Document.{Shape, leaf, enclosed, plain, backslash_break, unresolved, is_unresolved, Plain}
 use Rattle.markdown_document.specs.Document.{document, plain_tags}
 use Rattle.markdown_document.specs.Setting.{Known, Setting, setting_of}
 use Rattle.markdown_document.specs.Tables.{tables_at_start}
@@ -20,16 +20,15 @@ use Rattle.markdown_inline.specs.Reading.{chain_reading, reading_opened, reading
 use Rattle.markdown_inline.specs.ResolvedDocument.{Resolution, Resolving, resolved_blocks, resolved_chain, resolved_document}
 use Rattle.markdown_inline.specs.ResolvedDocument.{resolved_tree}
 use Rattle.markdown_inline.specs.TreeReading.{SplitLaw, TreeLaw, events_in, tree_events}
-use Rattle.markdown_inline.proofs.ReadingLemmas.{opened-settled}
 use Rattle.markdown_inline.proofs.RunLemmas.{events_of-questions, questions_of-questions}
 use Rattle.markdown_resolver.specs.PassOne.{Outcome}
 use Rattle.markdown_resolver.specs.Resolved.{all_paired, resolved}
 
 -- what is read before what follows: these events and these questions, and then what follows with what is known then
 record Reads (reads : Reading → Reading) (known : Known) (es : List Placed) (qs : List Question) (later : Known) : Type 0 where
-  events : (after : Reading) → events_of (reads after known) ≡ es ++ events_of (after later)
-  questions : (after : Reading) → questions_of (reads after known) ≡ qs ++ questions_of (after later)
-  goes_on : (after : Reading) → reads after known ≡ reads nothing_read known ++ after later
+  events : (after : Reading) → events_of (reads after known).elements ≡ es ++ events_of (after later).elements
+  questions : (after : Reading) → questions_of (reads after known).elements ≡ qs ++ questions_of (after later).elements
+  goes_on : (after : Reading) → (reads after known).elements ≡ (reads nothing_read known).elements ++ (after later).elements
 
 reads_nothing : (known : Known) → Reads (λ after. after) known [] [] known
 reads_nothing known = record { events = λ after. refl; questions = λ after. refl; goes_on = λ after. refl }
@@ -49,12 +48,12 @@ both_read : (below after : Reading → Reading) (known middle later : Known) (es
     → Reads (λ rest. below (after rest)) known (es ++ fs) (qs ++ ps) later
 both_read below after known middle later es fs qs ps b a = record {
   events = λ rest. b.events (after rest) ∙ ap (λ (l : List Placed). es ++ l) (a.events rest)
-      ∙ sym (append_assoc es fs (events_of (rest later)));
+      ∙ sym (append_assoc es fs (events_of (rest later).elements));
   questions = λ rest. b.questions (after rest) ∙ ap (λ (l : List Question). qs ++ l) (a.questions rest)
-      ∙ sym (append_assoc qs ps (questions_of (rest later)));
-  goes_on = λ rest. b.goes_on (after rest) ∙ ap (λ (l : List Element). below nothing_read known ++ l) (a.goes_on rest)
-      ∙ sym (append_assoc (below nothing_read known) (after nothing_read middle) (rest later))
-      ∙ ap (λ (l : List Element). l ++ rest later) (sym (b.goes_on (after nothing_read)));
+      ∙ sym (append_assoc qs ps (questions_of (rest later).elements));
+  goes_on = λ rest. b.goes_on (after rest) ∙ ap (λ (l : List Element). (below nothing_read known).elements ++ l) (a.goes_on rest)
+      ∙ sym (append_assoc (below nothing_read known).elements (after nothing_read middle).elements (rest later).elements)
+      ∙ ap (λ (l : List Element). l ++ (rest later).elements) (sym (b.goes_on (after nothing_read)));
 }
 
 -- a tree that encloses what is below it
@@ -83,6 +82,13 @@ settled_reads (node a below later) known =
     settled_by a.part.shape a.part.range (λ inner. settled_reading below inner) (λ after. settled_reading later after) known
     (events_in below) (events_in later) (settled_reads below known) (settled_reads later known)
 
+-- a tree that is not open, before the same
+closed_after : (shape : Shape) (range : Range ℕ) (inside : Reading → Reading) (after after' whole whole' : Reading)
+    → is_unresolved shape ≡ false → after ≡ after'
+    → reading_opened shape range inside after whole ≡ reading_opened shape range inside after' whole'
+closed_after (unresolved b) range inside after after' whole whole' h a = cc h
+closed_after other range inside after after' whole whole' h a = rw a refl
+
 -- what is made of a part of a document is what is read of it
 abbrev ReadsAs : (reads : Reading → Reading) → Known → Resolution (Unit {0}) → Type 0
 ReadsAs reads known r = Reads reads known (events_in r.trees) r.questions r.known
@@ -96,11 +102,11 @@ module _ (s : Setting) where
       let f : Forest Plain = all_paired s r.forest in
       let h = settled_reads f r.known in
       record {
-        events = λ after. events_of-questions r.questions (settled_reading f after r.known) ∙ h.events after;
-        questions = λ after. questions_of-questions r.questions (settled_reading f after r.known)
+        events = λ after. events_of-questions r.questions (settled_reading f after r.known).elements ∙ h.events after;
+        questions = λ after. questions_of-questions r.questions (settled_reading f after r.known).elements
             ∙ ap (λ (l : List Question). r.questions ++ l) (h.questions after);
         goes_on = λ after. ap (λ (l : List Element). map question r.questions ++ l) (h.goes_on after)
-            ∙ sym (append_assoc (map question r.questions) (settled_reading f nothing_read r.known) (after r.known));
+            ∙ sym (append_assoc (map question r.questions) (settled_reading f nothing_read r.known).elements (after r.known).elements);
       }
 
   -- a tree, by its shape
@@ -159,11 +165,11 @@ module _ (s : Setting) where
       → reading s plain_tags above (joined_chains first others) after ≡ reading s plain_tags above first (reading s plain_tags above others after)
   parts_read above nil others after h = refl
   parts_read above (node a below later) others after h =
-      opened-settled a.part.shape a.part.range (λ inner. reading s plain_tags (inside_label a above) below inner)
-      (λ inner. reading s plain_tags (inside_label a above) below inner) (reading s plain_tags above (joined_chains later others) after)
+      closed_after a.part.shape a.part.range (λ inner. reading s plain_tags (inside_label a above) below inner)
+      (reading s plain_tags above (joined_chains later others) after)
       (reading s plain_tags above later (reading s plain_tags above others after))
       (chain_reading s plain_tags above (node a below (joined_chains later others)) after)
-      (chain_reading s plain_tags above (node a below later) (reading s plain_tags above others after)) h.0 (λ inner. refl)
+      (chain_reading s plain_tags above (node a below later) (reading s plain_tags above others after)) h.0
       (parts_read above later others after h.1)
 
 pub tree-law : TreeLaw
@@ -173,7 +179,7 @@ tree-law s above f known after =
 
 pub split-law : SplitLaw
 split-law s above first others known after h =
-    ap (λ (r : Reading). r known) (parts_read s above first others after h)
+    ap (λ (r : Reading). (r known).elements) (parts_read s above first others after h)
     ∙ (document_reads s above first known).goes_on (reading s plain_tags above others after)
 
 -- of a block result

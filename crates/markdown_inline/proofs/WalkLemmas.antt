@@ -1,15 +1,13 @@
 -- What is left of a walk, before and after a move over, into or out of a node.
 use Rattle.markdown_base.specs.declared.item.ItemBody.TheVariants as body
-use Rattle.std.proofs.Common.{◌≡◌, ℕ, ◌+◌, ◌<◌, ◌≤◌, Bool, true, false, List, [], ◌∷◌, ◌++◌, map, Option, Some, None, refl, arith, ap}
+use Rattle.std.proofs.Common.{◌≡◌, ℕ, ◌+◌, ◌<◌, ◌≤◌, Bool, true, false, List, [], ◌∷◌, ◌++◌, Option, Some, None, refl, arith, ap}
 use Rattle.std.specs.Prelude.{slice_range}
 use Rattle.markdown_base.specs.Arena.{child_of, sibling_of}
 use Rattle.markdown_base.specs.ArenaForest.{Links, links_of, forest_at}
 use Rattle.markdown_base.specs.ArenaWalk.{Reaches, AllReach}
 use Rattle.markdown_base.specs.BlockTree.{item_at}
-use Rattle.markdown_inline.specs.Elements.{Placed, Reading, event, nothing_read, then_reads}
-use Rattle.markdown_inline.specs.Counts.{Counting, no_chain, counts_around, counts_ahead, first_counts, unless_ended}
-use Rattle.markdown_inline.specs.WalkSteps.{LeavesAhead, event_of_shape}
-use Rattle.markdown_inline.proofs.CountLemmas.{counts_around-snoc, event-none}
+use Rattle.markdown_inline.specs.Elements.{Placed, Reading, nothing_read, then_reads}
+use Rattle.markdown_inline.specs.WalkSteps.{events_first, event_of_shape}
 use Rattle.markdown_document.specs.Above.{Above, no_blocks, inside_item, inside_all, above_at}
 use Rattle.markdown_document.specs.Setting.{Known, Setting}
 use Rattle.std.specs.declared.ops.Range.{Range}
@@ -38,8 +36,7 @@ use Rattle.markdown_document.proofs.PlaceLemmas.{some_weight}
 pub record Moves (s : Setting) (tables : Tables) (nodes : List (Node Item)) (l : Option ℕ) (spine : List ℕ) (m : Option ℕ) (deeper : List ℕ)
     (given : List Placed) : Type 0 where
   pub stands : Stands s.text tables nodes m deeper
-  pub left : (known : Known) → left_of s tables nodes l spine known ≡ map event given ++ left_of s tables nodes m deeper known
-  pub ahead : (known : Known) → LeavesAhead given (counts_ahead s tables nodes l spine known) (counts_ahead s tables nodes m deeper known)
+  pub left : (known : Known) → left_of s tables nodes l spine known ≡ events_first given (left_of s tables nodes m deeper known)
   pub falls : steps_of nodes m deeper < steps_of nodes l spine
 
 one_once : (waits : Bool) → one_if waits ≤ 1
@@ -138,7 +135,7 @@ reads-event (unresolved b) range inside after whole e origins h = cc h
 pub moves_on : (s : Setting) (tables : Tables) (nodes : List (Node Item)) (ix : ℕ) (spine : List ℕ) (e : EventView) (origins : List Origin)
     → Stands s.text tables nodes (Some ix) spine → event_of_shape (label_at s.text tables nodes ix).part.shape ≡ Some (e, origins)
     → Moves s tables nodes (Some ix) spine (sibling_of nodes ix) spine ((e, range_of (item_at nodes ix), origins) ∷ [])
-unfolding left_of left_total counts_ahead
+unfolding left_of left_total
 moves_on s tables nodes ix spine e origins w h =
     let o = opens (links_of nodes) (IsPlaced s.text tables nodes) ix w.walk.here in
     let two = some_weight (is_open (item_at nodes ix).body) in
@@ -153,7 +150,6 @@ moves_on s tables nodes ix spine e origins w h =
       };
       left = λ known. rw o.here (ap (λ (r : Reading). r known) (reads-event (label_at s.text tables nodes ix).part.shape _ _ _ _ e origins
           h));
-      ahead = λ known. rw o.here (ap (λ (c : Counting). c known) (event-none (label_at s.text tables nodes ix).part.shape _ _ e origins h));
       falls = let waits = waits_once nodes (sibling_of nodes ix) in rw o.here (omega arith);
     }
 
@@ -177,7 +173,7 @@ moves_past_in source tables nodes ix spine n w =
 pub moves_in : (s : Setting) (tables : Tables) (nodes : List (Node Item)) (ix : ℕ) (spine : List ℕ) (tag : TagView)
     → Stands s.text tables nodes (Some ix) spine → (label_at s.text tables nodes ix).part.shape ≡ enclosed tag
     → Moves s tables nodes (Some ix) spine (child_of nodes ix) (spine ++ ix ∷ []) ((start tag, range_of (item_at nodes ix), []) ∷ [])
-unfolding left_of left_total counts_ahead
+unfolding left_of left_total
 moves_in s tables nodes ix spine tag w h =
     let o = opens (links_of nodes) (IsPlaced s.text tables nodes) ix w.walk.here in
     let kept = rw o.here at w.here_kept in
@@ -205,7 +201,6 @@ moves_in s tables nodes ix spine tag w h =
         c,
         h,
       ) refl;
-      ahead = λ known. rw (o.here, h) refl;
       falls = let waits = waits_once nodes (child_of nodes ix)
           in rw (o.here, climbed-snoc (λ ix. 1) (weight_at nodes) (links_of nodes) spine ix) (omega arith);
     }
@@ -214,7 +209,7 @@ moves_in s tables nodes ix spine tag w h =
 pub moves_in_plain : (s : Setting) (tables : Tables) (nodes : List (Node Item)) (ix : ℕ) (spine : List ℕ)
     → Stands s.text tables nodes (Some ix) spine → (label_at s.text tables nodes ix).part.shape ≡ plain
     → Moves s tables nodes (Some ix) spine (child_of nodes ix) (spine ++ ix ∷ []) []
-unfolding left_of left_total counts_ahead
+unfolding left_of left_total
 moves_in_plain s tables nodes ix spine w h =
     let o = opens (links_of nodes) (IsPlaced s.text tables nodes) ix w.walk.here in
     let kept = rw o.here at w.here_kept in
@@ -242,14 +237,6 @@ moves_in_plain s tables nodes ix spine w h =
         c,
         h,
       ) refl;
-      ahead = λ known. rw (
-        o.here,
-        counts_around-snoc s (no_blocks s.text) tables nodes spine ix no_chain,
-        inside_all-snoc nodes spine ix
-            (no_blocks s.text),
-        c,
-        h,
-      ) refl;
       falls = let waits = waits_once nodes (child_of nodes ix)
           in rw (o.here, climbed-snoc (λ ix. 1) (weight_at nodes) (links_of nodes) spine ix) (omega arith);
     }
@@ -258,11 +245,10 @@ moves_in_plain s tables nodes ix spine w h =
 pub moves_out : (s : Setting) (tables : Tables) (nodes : List (Node Item)) (ix : ℕ) (spine : List ℕ) (given : List Placed)
     → Stands s.text tables nodes None (spine ++ ix ∷ [])
     → ((after : Reading) (known : Known) → ended (end_of_body (item_at nodes ix).body) (range_of (item_at nodes ix)) after known
-    ≡ map event given ++ after known)
-    → ((after : Counting) (known : Known) → LeavesAhead given (unless_ended (end_of_body (item_at nodes ix).body) after known) (after known))
+    ≡ events_first given (after known))
     → Moves s tables nodes None (spine ++ ix ∷ []) (sibling_of nodes ix) spine given
-unfolding left_of left_total counts_ahead
-moves_out s tables nodes ix spine given w h a =
+unfolding left_of left_total
+moves_out s tables nodes ix spine given w h =
     record {
       stands = record {
         walk = record {
@@ -279,15 +265,13 @@ moves_out s tables nodes ix spine given w h a =
       left = λ known. rw (forest_at-none (links_of nodes), around-snoc s (no_blocks s.text) tables nodes spine ix nothing_read)
           (h (reading s plain_tags (above_at s.text nodes spine) (trees_from s.text tables nodes (sibling_of nodes ix))
           (after_chain s (no_blocks s.text) tables nodes spine nothing_read)) known);
-      ahead = λ known. rw (forest_at-none (links_of nodes), counts_around-snoc s (no_blocks s.text) tables nodes spine ix no_chain)
-          (a (first_counts s plain_tags (above_at s.text nodes spine) (trees_from s.text tables nodes (sibling_of nodes ix))
-          (counts_around s (no_blocks s.text) tables nodes spine no_chain)) known);
       falls = let waits = waits_once nodes (sibling_of nodes ix)
           in rw (forest_at-none (links_of nodes), climbed-snoc (λ ix. 1) (weight_at nodes) (links_of nodes) spine ix) (omega arith);
     }
 
 -- at the end nothing is left
-pub left_of-end : (s : Setting) (tables : Tables) (nodes : List (Node Item)) (known : Known) → left_of s tables nodes None [] known ≡ []
+pub left_of-end : (s : Setting) (tables : Tables) (nodes : List (Node Item)) (known : Known)
+    → left_of s tables nodes None [] known ≡ nothing_read known
 unfolding left_of
 left_of-end s tables nodes known = rw (forest_at-none (links_of nodes)) refl
 

@@ -1,12 +1,12 @@
 -- The moves of a walk, over the tree and the tables of a program.
-use Rattle.std.proofs.Common.{◌≡◌, ℕ, ◌+◌, ◌<◌, ◌≤◌, false, List, [], ◌∷◌, ◌++◌, map, Option, Some, None, length, refl, arith}
+use Rattle.std.proofs.Common.{◌≡◌, ℕ, ◌+◌, ◌<◌, ◌≤◌, false, List, [], ◌∷◌, ◌++◌, Option, Some, None, length, refl, arith}
 use Rattle.std.specs.Prelude.{slice_range}
 use Rattle.std.proofs.Common.{sym, subst, ◌∙◌}
 use Rattle.markdown_inline.specs.declared.bodies.Way.TheVariants as way
 use Rattle.markdown_base.specs.Arena.{Arena, child_of, sibling_of}
 use Rattle.markdown_base.specs.ArenaForest.{links_of}
 use Rattle.markdown_base.specs.BlockTree.{item_at}
-use Rattle.markdown_inline.specs.Elements.{Placed, Reading, event}
+use Rattle.markdown_inline.specs.Elements.{Placed, Reading, nothing_read}
 use Rattle.markdown_document.specs.Setting.{Rules, Setting, Known, setting_of}
 use Rattle.markdown_base.specs.Event.{EventView, TagView, start, end}
 use Rattle.markdown_base.specs.Item.{range_of}
@@ -15,8 +15,6 @@ use Rattle.markdown_base.specs.declared.node.Node.{Node}
 use Rattle.markdown_base.specs.declared.tag.TagEnd.{TagEnd}
 use Rattle.markdown_base.proofs.ArenaForestLemmas.{opens}
 use Rattle.markdown_defs.specs.Allocations.{Allocated}
-use Rattle.markdown_inline.specs.Counts.{Counting, no_chain, counts_ahead, tree_counts, unless_ended}
-use Rattle.markdown_inline.proofs.CountLemmas.{counts-end}
 use Rattle.markdown_inline.specs.Walk.{ended, left_of, end_of_body, tree_left}
 use Rattle.markdown_document.specs.Totals.{same}
 use Rattle.markdown_document.specs.NamedEntries.{naming, Named}
@@ -27,7 +25,7 @@ use Rattle.markdown_document.specs.Document.{Origin, Shape, leaf, enclosed, plai
 use Rattle.markdown_document.specs.Document.{shape_of}
 use Rattle.markdown_document.specs.Tables.{Tables, tables_of}
 use Rattle.markdown_inline.specs.WalkSteps.{TreeStands, HasEnded, Went, PassedBeginning, CanBegin, IsRefused, TakesOnly}
-use Rattle.markdown_inline.specs.WalkSteps.{beginning, way_at, way_at_shape, LeavesAhead, event_of_shape}
+use Rattle.markdown_inline.specs.WalkSteps.{beginning, way_at, way_at_shape, events_first, event_of_shape}
 use Rattle.markdown_inline.proofs.TakingLemmas.{leaf_shape, some_leaf, some_tag, plain_shape, way-shape, takes_nothing}
 use Rattle.markdown_inline.proofs.LeftFrameLemmas.{left_framed}
 use Rattle.markdown_inline.proofs.WalkLemmas.{Moves, moves_on, moves_past, moves_in, moves_past_in, moves_in_plain, moves_out, left_of-end}
@@ -48,13 +46,11 @@ taken_after : (source : List ℕ) (nodes : List (Node Item)) (ix : ℕ) (held he
     → Stands source (tables_of held) nodes m deeper
     → Stands source (tables_of held') nodes m deeper × (left_of (setting_of source rules) (tables_of held') nodes m deeper
     ≡ left_of (setting_of source rules) (tables_of held) nodes m deeper)
-    × (counts_ahead (setting_of source rules) (tables_of held') nodes m deeper ≡ counts_ahead (setting_of source rules) (tables_of held)
-    nodes m deeper)
 taken_after source nodes ix held held' m deeper rules t past w =
     let f = left_framed (setting_of source rules) (tables_of held) (tables_of held') nodes nodes m deeper (omega arith) t.longer w
     (λ n l. record { child = refl; next = refl; item = refl })
     (λ n l. t.others n (let x = past n in omega arith)) in
-    (f.stands, f.left, f.ahead)
+    (f.stands, f.left)
 
 went : (source : List ℕ) (s t : Arena Item) (held held' : Allocated) (ix : ℕ) (m : Option ℕ) (deeper : List ℕ) (given : List Placed)
     → s.cursor ≡ Some ix → t ≡ record s { cursor = m; spine = deeper } → TakesOnly (item_at s.nodes ix).body held held'
@@ -64,8 +60,6 @@ went : (source : List ℕ) (s t : Arena Item) (held held' : Allocated) (ix : ℕ
 went source s t held held' ix m deeper given a c k past mv =
     rw (c, a) (record {
       stands = (taken_after source s.nodes ix held held' m deeper any_rules k past (mv any_rules).stands).0;
-      ahead = λ rules known. rw (taken_after source s.nodes ix held held' m deeper rules k past (mv rules).stands).2
-          ((mv rules).ahead known);
       tables = k.tables;
       left = λ rules known. rw (taken_after source s.nodes ix held held' m deeper rules k past (mv rules).stands).1 ((mv rules).left known);
       falls = (mv any_rules).falls;
@@ -186,18 +180,15 @@ passed_plain source s t held ix item w a h goes c =
 went_out : (source : List ℕ) (s t : Arena Item) (held : Allocated) (ix : ℕ) (up : List ℕ) (given : List Placed)
     → TreeStands source (tables_of held) s → s.cursor ≡ None → s.spine ≡ up ++ ix ∷ []
     → ((after : Reading) (known : Known) → ended (end_of_body (item_at s.nodes ix).body) (range_of (item_at s.nodes ix)) after known
-    ≡ map event given ++ after known)
-    → ((after : Counting) (known : Known) → LeavesAhead given (unless_ended (end_of_body (item_at s.nodes ix).body) after known) (after known))
+    ≡ events_first given (after known))
     → t ≡ record s { spine = up; cursor = sibling_of s.nodes ix } → Went source s t held held given
-went_out source s t held ix up given w a sp cl ahead c =
+went_out source s t held ix up given w a sp cl c =
     let st = stands_at source (tables_of held) s None (up ++ ix ∷ []) a sp w in
-    let mv = λ (rules : Rules). moves_out (setting_of source rules) (tables_of held) s.nodes ix up given st cl ahead in
+    let mv = λ (rules : Rules). moves_out (setting_of source rules) (tables_of held) s.nodes ix up given st cl in
     rw (c, a, sp) (record {
       stands = (mv any_rules).stands;
       tables = refl;
       left = λ rules known. (mv rules).left known;
-      ahead =
-          λ rules known. (mv rules).ahead known;
       falls = (mv any_rules).falls;
     })
 
@@ -207,8 +198,7 @@ pub went_out_end : (source : List ℕ) (s t : Arena Item) (held : Allocated) (ix
     → item ≡ item_at s.nodes ix → end_of_body item.body ≡ Some e → t ≡ record s { spine = up; cursor = sibling_of s.nodes ix }
     → Went source s t held held ((end e, range_of item, []) ∷ [])
 went_out_end source s t held ix item up e w a sp h cl c =
-    rw h (went_out source s t held ix up ((end e, range_of (item_at s.nodes ix), []) ∷ []) w a sp (λ after known. rw (rw h at cl) refl)
-    (λ after known. rw (rw h at cl) refl) c)
+    rw h (went_out source s t held ix up ((end e, range_of (item_at s.nodes ix), []) ∷ []) w a sp (λ after known. rw (rw h at cl) refl) c)
 
 -- out of a node that gives no End
 pub went_out_plain : (source : List ℕ) (s t : Arena Item) (held : Allocated) (ix : ℕ) (item : Item) (up : List ℕ)
@@ -216,17 +206,15 @@ pub went_out_plain : (source : List ℕ) (s t : Arena Item) (held : Allocated) (
     → item ≡ item_at s.nodes ix → end_of_body item.body ≡ None → t ≡ record s { spine = up; cursor = sibling_of s.nodes ix }
     → Went source s t held held []
 went_out_plain source s t held ix item up w a sp h cl c =
-    went_out source s t held ix up [] w a sp (λ after known. rw (rw h at cl) refl) (λ after known. rw (rw h at cl) refl) c
+    went_out source s t held ix up [] w a sp (λ after known. rw (rw h at cl) refl) c
 
 -- a walk that is over has nothing left, and stays over
-pub left_of_ended : (s : Setting) (tables : Tables) (t : Arena Item) → HasEnded t → (known : Known) → tree_left s tables t known ≡ []
+pub left_of_ended : (s : Setting) (tables : Tables) (t : Arena Item) → HasEnded t → (known : Known)
+    → tree_left s tables t known ≡ nothing_read known
 left_of_ended s tables t e known = rw (e.cursor, e.spine) (left_of-end s tables t.nodes known)
 
 pub stands_ended : (source : List ℕ) (tables : Tables) (t : Arena Item) → HasEnded t → TreeStands source tables t
 stands_ended source tables t e = rw (e.cursor, e.spine) (stands-end source tables t.nodes)
-
-pub counts_ended : (s : Setting) (tables : Tables) (t : Arena Item) → HasEnded t → tree_counts s tables t ≡ no_chain
-counts_ended s tables t e = rw (e.cursor, e.spine) (counts-end s tables t.nodes)
 
 pub steps_ended : (t : Arena Item) → HasEnded t → tree_steps t ≡ 0
 steps_ended t e = rw (e.cursor, e.spine) (steps-end t.nodes)

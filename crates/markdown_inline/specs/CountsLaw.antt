@@ -6,10 +6,9 @@ use Rattle.markdown_base.specs.declared.event.Event.{Event}
 use Rattle.markdown_base.specs.declared.fault.Fault.{Fault}
 use Rattle.markdown_document.specs.Counts.{risen}
 use Rattle.markdown_document.specs.declared.work.Work.{Work}
-use Rattle.markdown_inline.specs.Counts.{no_work}
 use Rattle.markdown_inline.specs.Elements.{Placed}
 use Rattle.markdown_inline.specs.NextGives.{NextGives, IsEventOf, IsPlacedOf}
-use Rattle.markdown_inline.specs.ParserLeft.{parser_steps, parser_work}
+use Rattle.markdown_inline.specs.ParserLeft.{no_work, parser_steps, parser_work}
 use Rattle.markdown_inline.specs.declared.walk.Parser.{Parser}
 
 -- a sequence of calls of `next` leads from one parser to another, and returns these items and errors, or None; after

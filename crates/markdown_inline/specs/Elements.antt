@@ -1,8 +1,10 @@
--- The elements of a document's reading: events with their ranges, and the questions between them.
+-- What is read of a document: events with their ranges, the questions between them, and the counts of the chain that is
+-- resolved before the first event.
 use Rattle.std.specs.Prelude.{ℕ, List, [], ◌∷◌}
 use Rattle.std.specs.declared.ops.Range.{Range}
 use Rattle.markdown_base.specs.Event.{EventView}
 use Rattle.markdown_base.specs.Questions.{Question}
+use Rattle.markdown_document.specs.Counts.{ChainCounts, no_counts}
 use Rattle.markdown_document.specs.Document.{Origin}
 use Rattle.markdown_document.specs.Setting.{Known}
 
@@ -15,17 +17,26 @@ pub data Element : Type 0 where
   question : Question → Element
   event : Placed → Element
 
+-- what is read: elements, and the counts of the chain that is resolved before the first event, if one is
+pub record Passage : Type 0 where
+  pub elements : List Element
+  pub counts : ChainCounts
+
+-- one event, before which no chain is resolved, and then the rest
+abbrev pub event_first : Placed → (rest : Passage) → Passage
+event_first e rest = record { elements = event e ∷ rest.elements; counts = no_counts }
+
 -- a reading, from what is known before it
 abbrev pub Reading : Type 0
-Reading = Known → List Element
+Reading = Known → Passage
 
 -- the empty reading
 abbrev pub nothing_read : Reading
-nothing_read known = []
+nothing_read known = record { elements = []; counts = no_counts }
 
 -- one event, and then another reading
 abbrev pub then_reads : Placed → Reading → Reading
-then_reads e after known = event e ∷ after known
+then_reads e after known = event_first e (after known)
 
 -- the events of a reading
 abbrev pub events_of : List Element → List Placed

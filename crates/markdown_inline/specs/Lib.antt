@@ -21,7 +21,6 @@ pub mod WholeRun
 -- the representation: a walk over an arena
 pub mod Walk
 pub mod WalkTotals
-pub mod Counts
 pub mod Standing
 pub mod OneForest
 -- the terms of private contracts

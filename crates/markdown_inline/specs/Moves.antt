@@ -8,13 +8,13 @@ use Rattle.std.specs.declared.ops.Range.{Range}
 use Rattle.markdown_base.specs.Questions.{Question, Answer, Answers}
 use Rattle.markdown_base.specs.declared.event.Event.{Event}
 use Rattle.markdown_defs.specs.Callback.{Asks}
-use Rattle.markdown_inline.specs.Elements.{Placed, Element, question, event}
+use Rattle.markdown_inline.specs.Elements.{Placed, Element, Passage, event_first, question, event}
 use Rattle.markdown_document.specs.declared.work.Work.{Work}
 use Rattle.markdown_document.specs.Counts.{no_counts, WorkRises}
 use Rattle.markdown_resolver.specs.ChainCounts.{RisesInPart}
 use Rattle.markdown_inline.specs.NextGives.{IsPlacedOf}
 use Rattle.markdown_inline.specs.ParserLeft.{parser_text, parser_callback, parser_steps, parser_definitions}
-use Rattle.markdown_inline.specs.ParserLeft.{parser_work, parser_counts, elements, IsOver}
+use Rattle.markdown_inline.specs.ParserLeft.{parser_work, parser_counts, parser_left, elements, IsOver}
 use Rattle.markdown_inline.specs.declared.walk.Parser.{Parser}
 use Rattle.markdown_base.specs.Item.{range_of}
 use Rattle.markdown_base.specs.declared.fault.Fault.{Fault}
@@ -23,15 +23,15 @@ use Rattle.markdown_base.specs.declared.item.Item.{Item}
 use Rattle.markdown_defs.specs.Allocations.{Allocated}
 use Rattle.markdown_document.specs.Document.{Shape, shape_of}
 use Rattle.markdown_document.specs.Tables.{tables_of}
-use Rattle.markdown_inline.specs.WalkSteps.{CanBegin, OpensWith, TakesOnly, TreeStands, way_at, LeavesAhead}
+use Rattle.markdown_inline.specs.WalkSteps.{CanBegin, OpensWith, TakesOnly, TreeStands, way_at, events_first}
 use Rattle.markdown_inline.specs.declared.bodies.Way.{Way}
 use Rattle.markdown_inline.specs.declared.walk.Stop.{Stop}
 
--- the list begins with an event
-pub record BeginsWithEvent (es : List Element) : Type 0 where
+-- an event is read first
+pub record BeginsWithEvent (p : Passage) : Type 0 where
   pub first : Placed
-  pub rest : List Element
-  pub is : es ≡ event first ∷ rest
+  pub rest : Passage
+  pub is : p ≡ event_first first rest
 
 -- calls of the callback led from state c to d, and from x to y: for these answers, x is the questions, then the events
 -- given, and then y
@@ -50,14 +50,13 @@ pub record Keeps {F : Type 0} (s t : Parser F) : Type 0 where
 -- from s to t nothing was asked, and these events were given
 pub record Gave {F : Type 0} (s t : Parser F) (given : List Placed) : Type 0 where
   pub callback : parser_callback s ≡ parser_callback t
-  pub left : (later : Answers) → elements s later ≡ map event given ++ elements t later
-  pub ahead : (answers : Answers) → LeavesAhead given (parser_counts s answers) (parser_counts t answers)
+  pub left : (later : Answers) → parser_left s later ≡ events_first given (parser_left t later)
   pub work : parser_work t ≡ parser_work s
 
 -- from s to t the walk went on and gave nothing; where it asked, an event comes next
 pub record WentOn {F : Type 0} (step : F → Question → Option Answer → F → Type 0) (s t : Parser F) : Type 0 where
   pub leads : Leads step (parser_callback s) (parser_callback t) (elements s) (elements t) []
-  pub asked : Gave s t [] ⊎ ((answers : Answers) → BeginsWithEvent (elements t answers))
+  pub asked : Gave s t [] ⊎ ((answers : Answers) → BeginsWithEvent (parser_left t answers))
   -- the counts have risen so that what rises from t on also rises from s on, for the answers that were given
   pub counts : (later : Answers) (work : Work) → WorkRises (parser_counts t later) (parser_work t) work
       → WorkRises (parser_counts s (leads.answers ++ later)) (parser_work s) work

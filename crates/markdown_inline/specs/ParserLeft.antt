@@ -14,8 +14,7 @@ use Rattle.markdown_blocks.specs.declared.blocks.Blocks.{Blocks}
 use Rattle.markdown_document.specs.Above.{no_blocks}
 use Rattle.markdown_document.specs.Document.{plain_tags, document}
 use Rattle.markdown_document.specs.Counts.{ChainCounts}
-use Rattle.markdown_inline.specs.Counts.{tree_counts}
-use Rattle.markdown_inline.specs.Elements.{Element, nothing_read}
+use Rattle.markdown_inline.specs.Elements.{Element, Passage, nothing_read}
 use Rattle.markdown_inline.specs.Reading.{reading}
 use Rattle.markdown_document.specs.Setting.{Rules, Setting, Known, rules_from, setting_of, uses_of}
 use Rattle.markdown_document.specs.Tables.{tables_of, tables_at_start}
@@ -49,9 +48,9 @@ rules_of blocks asks = record {
 -- the reading of a block result, for these answers, with or without a callback
 abbrev pub reading_of : Blocks → Bool → Answers → List Element
 reading_of blocks asks answers =
-    reading (setting_of (text_of_blocks blocks) (rules_of blocks asks)) plain_tags (no_blocks (text_of_blocks blocks))
+    (reading (setting_of (text_of_blocks blocks) (rules_of blocks asks)) plain_tags (no_blocks (text_of_blocks blocks))
     (document (text_of_blocks blocks) (tables_at_start (block_parts blocks)) (block_tree blocks).nodes) nothing_read
-    (known_at_start (text_of_blocks blocks) answers)
+    (known_at_start (text_of_blocks blocks) answers)).elements
 
 -- the text that a parser reads
 abbrev pub parser_text : {F : Type 0} → Parser F → List ℕ
@@ -68,6 +67,10 @@ parser_callback p = p.resolver.lookup.callback
 -- the counts of the work that it has done
 abbrev pub parser_work : {F : Type 0} → Parser F → Work
 parser_work p = p.resolver.work
+
+-- the counts before any chain is resolved
+abbrev pub no_work : Work
+no_work = record { delimiters = 0; examined = 0; items = 0; code_visits = 0; math_visits = 0 }
 
 -- the arena that it walks over
 abbrev pub parser_tree : {F : Type 0} → Parser F → Arena Item
@@ -86,13 +89,17 @@ parser_known p answers = record {
   uses = uses_of p.resolver.lookup.tables.footdefs;
 }
 
--- the counts of the chain that it resolves before its next event, for these answers; none where it resolves no chain
-abbrev pub parser_counts : {F : Type 0} → Parser F → Answers → ChainCounts
-parser_counts p answers = tree_counts (parser_setting p) (tables_of p.resolver.lookup.tables) p.tree (parser_known p answers)
+-- what is left of it, for these answers
+abbrev pub parser_left : {F : Type 0} → Parser F → Answers → Passage
+parser_left p answers = tree_left (parser_setting p) (tables_of p.resolver.lookup.tables) p.tree (parser_known p answers)
 
 -- the elements that are left of it
 unfoldable pub elements : {F : Type 0} → Parser F → Answers → List Element
-elements p answers = tree_left (parser_setting p) (tables_of p.resolver.lookup.tables) p.tree (parser_known p answers)
+elements p answers = (parser_left p answers).elements
+
+-- the counts of the chain that it resolves before its next event, if it resolves one
+abbrev pub parser_counts : {F : Type 0} → Parser F → Answers → ChainCounts
+parser_counts p answers = (parser_left p answers).counts
 
 -- all of the reading of a block result is left, for every list of answers
 abbrev pub ReadsBlocks : {F : Type 0} → Blocks → Parser F → Type 0

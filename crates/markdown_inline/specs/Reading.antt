@@ -6,6 +6,7 @@ use Rattle.markdown_base.specs.Event.{start, end, tag_end, hard_break}
 use Rattle.markdown_base.specs.Forest.{Forest, nil, node}
 use Rattle.markdown_document.specs.Document.{Tags, Shape, leaf, enclosed, plain, backslash_break, unresolved, Label}
 use Rattle.markdown_inline.specs.Elements.{Element, question, Reading, then_reads}
+use Rattle.markdown_resolver.specs.ChainCounts.{chain_counts}
 use Rattle.markdown_resolver.specs.PassOne.{Outcome}
 use Rattle.markdown_resolver.specs.Resolved.{resolved, all_paired}
 use Rattle.markdown_document.specs.Above.{Above, inside_label}
@@ -30,12 +31,15 @@ settled_reading (node a below later) after =
 
 -- the questions of a chain, then the reading of the forest that it is resolved to, and then what comes after it, with
 -- what is known then
-abbrev pub then_resolved : {A : Type 0} → Setting → Tags A → Outcome A → Reading → List Element
-then_resolved s tags r after = map question r.questions ++ settled_reading (all_paired s r.forest) after r.known
+abbrev pub then_resolved : {A : Type 0} → Setting → Outcome A → Reading → List Element
+then_resolved s r after = map question r.questions ++ (settled_reading (all_paired s r.forest) after r.known).elements
 
--- the reading of a chain from its first open item on, and of what comes after it
+-- the reading of a chain from its first open item on, with its counts, and of what comes after it
 abbrev pub chain_reading : {A : Type 0} → Setting → Tags A → Above → Forest (Label A) → Reading → Reading
-chain_reading s tags above chain after known = then_resolved s tags (resolved s tags above chain known) after
+chain_reading s tags above chain after known = record {
+  elements = then_resolved s (resolved s tags above chain known) after;
+  counts = chain_counts s tags above chain known;
+}
 
 -- the reading of a forest, below the blocks that are open above it, and of what comes after it: a chain is resolved
 -- from its first open item on

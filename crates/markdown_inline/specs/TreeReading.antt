@@ -33,15 +33,15 @@ events_in (node a below after) = tree_events a.part.shape a.part.range (events_i
 -- the events of a document are those of its resolved tree, and its questions are those of resolving the tree; then what
 -- comes after it is read, with what is known then
 pub record ReadsTree (s : Setting) (above : Above) (f : Forest Plain) (known : Known) (after : Reading) : Type 0 where
-  pub events : events_of (reading s plain_tags above f after known)
+  pub events : events_of (reading s plain_tags above f after known).elements
       ≡ events_in (resolved_document s plain_tags above f known).trees
-      ++ events_of (after (resolved_document s plain_tags above f known).known)
-  pub questions : questions_of (reading s plain_tags above f after known)
+      ++ events_of (after (resolved_document s plain_tags above f known).known).elements
+  pub questions : questions_of (reading s plain_tags above f after known).elements
       ≡ (resolved_document s plain_tags above f known).questions
-      ++ questions_of (after (resolved_document s plain_tags above f known).known)
-  pub goes_on : reading s plain_tags above f after known
-      ≡ reading s plain_tags above f nothing_read known
-      ++ after (resolved_document s plain_tags above f known).known
+      ++ questions_of (after (resolved_document s plain_tags above f known).known).elements
+  pub goes_on : (reading s plain_tags above f after known).elements
+      ≡ (reading s plain_tags above f nothing_read known).elements
+      ++ (after (resolved_document s plain_tags above f known).known).elements
 
 -- this is true of each document
 abbrev pub TreeLaw : Type 0
@@ -53,9 +53,9 @@ TreeLaw = (s : Setting) (above : Above) (f : Forest Plain) (known : Known) (afte
 abbrev pub SplitLaw : Type 0
 SplitLaw = (s : Setting) (above : Above) (first others : Forest Plain) (known : Known) (after : Reading)
     → NothingOpen first
-    → reading s plain_tags above (joined_chains first others) after known
-    ≡ reading s plain_tags above first nothing_read known
-    ++ reading s plain_tags above others after (resolved_document s plain_tags above first known).known
+    → (reading s plain_tags above (joined_chains first others) after known).elements
+    ≡ (reading s plain_tags above first nothing_read known).elements
+    ++ (reading s plain_tags above others after (resolved_document s plain_tags above first known).known).elements
 
 -- the event is neither a Start nor an End
 abbrev pub IsLone : EventView → Type 0

@@ -2,7 +2,7 @@
 use Rattle.markdown_base.specs.declared.event.Event.TheVariants as events
 use Rattle.markdown_inline.specs.declared.bodies.Way.TheVariants as way
 use Rattle.markdown_inline.specs.declared.step.Step.TheVariants as step
-use Rattle.std.specs.Prelude.{◌≡◌, ℕ, ◌<◌, true, List, [], ◌∷◌, ◌++◌, map, Option, Some, None, slice_range}
+use Rattle.std.specs.Prelude.{◌≡◌, ℕ, ◌<◌, true, List, [], ◌∷◌, Option, Some, None, slice_range}
 use Rattle.std.specs.declared.ops.Range.{Range}
 use Rattle.markdown_base.specs.Arena.{Arena}
 use Rattle.markdown_base.specs.BlockTree.{item_at}
@@ -16,17 +16,15 @@ use Rattle.markdown_defs.specs.Allocations.{Allocated}
 use Rattle.markdown_document.specs.Document.{Origin, Shape, leaf, enclosed, plain, backslash_break, unresolved}
 use Rattle.markdown_document.specs.Document.{shape_of}
 use Rattle.markdown_document.specs.PlacedNodes.{ComesFromPlace}
-use Rattle.markdown_inline.specs.Elements.{Placed, event}
+use Rattle.markdown_inline.specs.Elements.{Placed, Passage, event_first}
 use Rattle.markdown_document.specs.Setting.{Rules, Known, setting_of}
 use Rattle.markdown_inline.specs.Slices.{slice_start, texts_of, AreFrom, StartIsFrom}
 use Rattle.markdown_inline.specs.Standing.{Stands}
 use Rattle.markdown_document.specs.NamedEntries.{times_named, Named, NamesEntries, IsSameEntry, IsNoShorter}
 use Rattle.markdown_document.specs.Tables.{Tables, tables_of, no_tables}
-use Rattle.markdown_inline.specs.Counts.{tree_counts}
 use Rattle.markdown_inline.specs.Walk.{end_of_body, tree_left}
 use Rattle.markdown_inline.specs.declared.bodies.Way.{Way}
 use Rattle.markdown_inline.specs.declared.step.Step.{Step}
-use Rattle.markdown_document.specs.Counts.{ChainCounts, no_counts}
 use Rattle.markdown_inline.specs.WalkTotals.{tree_steps}
 
 -- the event that a tree of this shape begins with, with the origins of its texts
@@ -81,21 +79,18 @@ pub record HasEnded (arena : Arena Item) : Type 0 where
   pub cursor : arena.cursor ≡ None
   pub spine : arena.spine ≡ []
 
--- a move without events leaves the counts of the chain ahead; before a move with an event, no chain was ahead
-abbrev pub LeavesAhead : List Placed → (before after : ChainCounts) → Type 0
-LeavesAhead [] before after = before ≡ after
-LeavesAhead (e ∷ given) before after = before ≡ no_counts
+-- these events, and then the rest
+abbrev pub events_first : List Placed → (rest : Passage) → Passage
+events_first [] rest = rest
+events_first (e ∷ given) rest = event_first e (events_first given rest)
 
 -- a step from s to t gave these events, whatever the rules by which chains are resolved
 pub record Went (source : List ℕ) (s t : Arena Item) (held held' : Allocated) (given : List Placed) : Type 0 where
   pub stands : TreeStands source (tables_of held') t
   pub tables : held' ≡ record held { cows = held'.cows; links = held'.links; alignments = held'.alignments }
   pub left : (rules : Rules) (known : Known) → tree_left (setting_of source rules) (tables_of held) s known
-      ≡ map event given ++ tree_left (setting_of source rules) (tables_of held') t known
+      ≡ events_first given (tree_left (setting_of source rules) (tables_of held') t known)
   pub falls : tree_steps t < tree_steps s
-  pub ahead : (rules : Rules) (known : Known)
-      → LeavesAhead given (tree_counts (setting_of source rules) (tables_of held) s known)
-      (tree_counts (setting_of source rules) (tables_of held') t known)
 
 -- a step gave this event with this range
 pub record Gives (source : List ℕ) (s t : Arena Item) (held held' : Allocated) (e : Event) (range : Range ℕ) : Type 0

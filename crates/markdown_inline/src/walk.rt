@@ -317,8 +317,7 @@ impl<'input, F> fmt::Debug for OffsetIter<'input, F> {
 impl<'input> Parser<'input, DefaultBrokenLinkCallback> {
     ghost use Rattle.std.specs.Prelude.{◌≡◌, IfOk, IfErr};
     ghost use Rattle.markdown_base.specs.EnabledOptions.{no_options};
-    ghost use Rattle.markdown_inline.specs.Counts.{no_work};
-    ghost use Rattle.markdown_inline.specs.ParserLeft.{ReadsText, parser_text, parser_callback, parser_work};
+    ghost use Rattle.markdown_inline.specs.ParserLeft.{ReadsText, no_work, parser_text, parser_callback, parser_work};
 
     /// Returns a parser of a text, with no extension enabled. The only error is `Fault::Memory`.
     pub fn new(alloc: Global, text: &'input str) -> Result<Self, Fault>
@@ -346,9 +345,8 @@ impl<'input> Parser<'input, DefaultBrokenLinkCallback> {
 impl<'input, F: BrokenLinkCallback<'input>> Parser<'input, F> {
     ghost use Rattle.std.specs.Prelude.{◌≡◌, IfOk, IfErr, IfSome};
     ghost use Rattle.markdown_blocks.specs.Blocks.{text_of_blocks};
-    ghost use Rattle.markdown_inline.specs.Counts.{no_work};
     ghost use Rattle.markdown_inline.specs.CountsLaw.{CountsLaw, RisesPlainly};
-    ghost use Rattle.markdown_inline.specs.ParserLeft.{ReadsText, ReadsBlocks, parser_text, parser_callback};
+    ghost use Rattle.markdown_inline.specs.ParserLeft.{ReadsText, ReadsBlocks, no_work, parser_text, parser_callback};
     ghost use Rattle.markdown_inline.specs.ParserLeft.{block_definitions, parser_definitions, parser_work, offset_parser};
 
     /// Returns a parser of a text, which calls `callback`, where there is one, for each link label without a reference
