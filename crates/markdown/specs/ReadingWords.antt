@@ -34,7 +34,8 @@ pub use Rattle.markdown_inline.specs.NoLinkInLinkEvents.{NoLinkInLink, NoLinkInL
 pub use Rattle.markdown_inline.specs.LimitLaw.{ExpandsBelow, LimitLaw, LookUpLaw}
 pub use Rattle.markdown_inline.specs.QuestionLaws.{DocumentCountLaw, DocumentEndsLaw}
 pub use Rattle.markdown_inline.specs.ReadingLaw.{ReadingLaw}
-pub use Rattle.markdown_inline.specs.WholeRun.{viewed, IsWhole, AsksApartAndOnce, AsksOnce, IsWholeRun, IsWholeFromStart}
+pub use Rattle.markdown_inline.specs.WholeRun.{viewed, IsWhole, AsksApartAndOnce, AsksOnce, IsWholeRun}
+pub use Rattle.markdown_inline.specs.WholeRun.{IsWholeFromStart}
 -- counts of work
 pub use Rattle.markdown_inline.specs.ParserLeft.{no_work}
 pub use Rattle.markdown_inline.specs.CountsLaw.{Calls, AreBelowGreatest, CountsLaw, RisesPlainly}

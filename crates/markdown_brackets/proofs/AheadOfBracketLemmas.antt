@@ -1,5 +1,6 @@
 -- What follows a `]` in an arena, by its links, is what the definition says about the chain that it reads as.
-use Rattle.std.proofs.Common.{◌≡◌, ℕ, ◌+◌, ◌-◌, ◌<◌, Bool, true, false, ◌&&◌, ◌==◌, List, Option, Some, None, refl, sym, ◌∙◌, ap, subst}
+use Rattle.std.proofs.Common.{◌≡◌, ℕ, ◌+◌, ◌-◌, ◌<◌, Bool, true, false, ◌&&◌, ◌==◌, List, Option, Some, None, refl, sym}
+use Rattle.std.proofs.Common.{◌∙◌, ap, subst}
 use Rattle.std.proofs.Common.{arith, drop, nat_lt}
 use Rattle.std.specs.Prelude.{if◌then◌else◌}
 use Rattle.std.specs.Option.{option_and_then, option_map}
@@ -15,21 +16,25 @@ use Rattle.markdown_document.specs.ChainRest.{as_item, start_of, end_of, open_bo
 use Rattle.markdown_document.specs.Document.{Label, Part, part_of, shape_of}
 use Rattle.markdown_document.specs.Tables.{Tables}
 use Rattle.markdown_brackets.specs.BracketDecision.{closer_ends_at, past_second, start_of_first_past}
-use Rattle.markdown_brackets.specs.ChainAhead.{begins_with_closer, first_start, numbers_past, reaches_closer, starts_from}
+use Rattle.markdown_brackets.specs.ChainAhead.{begins_with_closer, first_start, numbers_past, reaches_closer}
+use Rattle.markdown_brackets.specs.ChainAhead.{starts_from}
 use Rattle.markdown_brackets.specs.ChainHeld.{Holds, numbers_of}
-use Rattle.markdown_brackets.specs.Reference.{FoundLabel, Form, reference, collapsed, shortcut, form_at, form_by_label, is_closer, is_opener}
+use Rattle.markdown_brackets.specs.Reference.{FoundLabel, Form, reference, collapsed, shortcut, form_at, form_by_label}
+use Rattle.markdown_brackets.specs.Reference.{is_closer, is_opener}
 use Rattle.markdown_brackets.specs.Reference.{bracket_label, stands_at}
 use Rattle.markdown_brackets.specs.declared.footnote.FootnoteStyle.{FootnoteStyle}
 use Rattle.markdown_brackets.proofs.ChainAheadLemmas.{below_is, not_below_is, is_below, is_not_below}
 
 -- a bracket reads as an open one, and nothing else does
-closer_reads : (tables : Tables) (source : List ℕ) (b : ItemBody) → is_closer (open_body (shape_of tables source b)) ≡ is_closer b
+closer_reads : (tables : Tables) (source : List ℕ) (b : ItemBody) → is_closer (open_body (shape_of tables source b))
+    ≡ is_closer b
 closer_reads tables source body.Paragraph = refl
 closer_reads tables source (body.HardBreak true) = refl
 closer_reads tables source (body.HardBreak false) = refl
 closer_reads tables source other = refl
 
-opener_reads : (tables : Tables) (source : List ℕ) (b : ItemBody) → is_opener (open_body (shape_of tables source b)) ≡ is_opener b
+opener_reads : (tables : Tables) (source : List ℕ) (b : ItemBody) → is_opener (open_body (shape_of tables source b))
+    ≡ is_opener b
 opener_reads tables source body.Paragraph = refl
 opener_reads tables source (body.HardBreak true) = refl
 opener_reads tables source (body.HardBreak false) = refl
@@ -46,7 +51,8 @@ module _ (source : List ℕ) (tables : Tables) (nodes : List (Node Item)) where
   pub same_end : (a : Label ℕ) → ReadsAs a → (item_at nodes a.tag).end ≡ end_of a
   same_end a h = ap (λ (p : Part). p.range.end) h
 
-  pub same_closer : (a : Label ℕ) → ReadsAs a → is_closer (item_at nodes a.tag).body ≡ is_closer (open_body a.part.shape)
+  pub same_closer : (a : Label ℕ) → ReadsAs a → is_closer (item_at nodes a.tag).body
+      ≡ is_closer (open_body a.part.shape)
   same_closer a h =
       sym (closer_reads tables _ (item_at nodes a.tag).body) ∙ ap (λ (p : Part). is_closer (open_body p.shape)) h
 
@@ -62,7 +68,8 @@ module _ (source : List ℕ) (tables : Tables) (nodes : List (Node Item)) where
       rw (same_end a h.2) (by (nat_lt i (end_of a)) (start_ahead i (sibling_of nodes a.tag) after h.4))
     where
       by : (b : Bool) → first_start nodes (numbers_past nodes i (numbers_of after)) ≡ start_of_first_past after i
-          → first_start nodes (if b then node a.tag (numbers_of below) (numbers_of after) else numbers_past nodes i (numbers_of after))
+          → first_start nodes (if b then node a.tag (numbers_of below) (numbers_of after) else numbers_past nodes i
+          (numbers_of after))
           ≡ (if b then Some (start_of a) else start_of_first_past after i)
       by true more = ap Some (same_start a h.2)
       by false more = more
@@ -84,11 +91,13 @@ module _ (source : List ℕ) (tables : Tables) (nodes : List (Node Item)) where
           else numbers_past nodes (i - 1) (numbers_of after))
           ≡ (if d then closer_ends_at i after else is_closer (open_body a.part.shape) && (end_of a == i))
 
-      here : is_closer (item_at nodes a.tag).body && ((item_at nodes a.tag).end == i) ≡ is_closer (open_body a.part.shape)
+      here : is_closer (item_at nodes a.tag).body && ((item_at nodes a.tag).end == i)
+          ≡ is_closer (open_body a.part.shape)
           && (end_of a == i)
       here = rw (same_closer a h.2, same_end a h.2) refl
 
-      by : (d : Bool) → nat_lt (end_of a) i ≡ d → begins_with_closer nodes i (numbers_past nodes (i - 1) (numbers_of after))
+      by : (d : Bool) → nat_lt (end_of a) i ≡ d
+          → begins_with_closer nodes i (numbers_past nodes (i - 1) (numbers_of after))
           ≡ closer_ends_at i after
           → Goal (nat_lt (i - 1) (end_of a)) d
       by true e more =
@@ -113,15 +122,18 @@ module _ (source : List ℕ) (tables : Tables) (nodes : List (Node Item)) where
   second_stands : (at : ℕ) (kind : ItemBody → Bool)
       → ((a : Label ℕ) → ReadsAs a → kind (item_at nodes a.tag).body ≡ kind (open_body a.part.shape))
       → (l : Option ℕ) (f : Forest (Label ℕ)) → Holds source tables nodes l f
-      → stands_at at kind (option_map (item_at nodes) (option_and_then (sibling_of nodes) l)) ≡ stands_at at kind (option_map as_item (first_root (past_second f)))
+      → stands_at at kind (option_map (item_at nodes) (option_and_then (sibling_of nodes) l))
+      ≡ stands_at at kind (option_map as_item (first_root (past_second f)))
   second_stands at kind same l nil h = rw h refl
-  second_stands at kind same l (node a below after) h = rw h.0 (first_stands at kind same (sibling_of nodes a.tag) after h.4)
+  second_stands at kind same l (node a below after) h = rw h.0
+      (first_stands at kind same (sibling_of nodes a.tag) after h.4)
 
   pub form_ahead_is : (style : FootnoteStyle) (skipped : List ℕ → Option ℕ) (in_table : Bool) (text : List ℕ) (at : ℕ)
       (l : Option ℕ) (f : Forest (Label ℕ)) → Holds source tables nodes l f
       → form_at style skipped in_table text at (option_map (item_at nodes) l)
       (option_map (item_at nodes) (option_and_then (sibling_of nodes) l))
-      ≡ form_at style skipped in_table text at (option_map as_item (first_root f)) (option_map as_item (first_root (past_second f)))
+      ≡ form_at style skipped in_table text at (option_map as_item (first_root f))
+      (option_map as_item (first_root (past_second f)))
   form_ahead_is style skipped in_table text at l f h =
       rw (
         first_stands at is_opener same_opener l f h,

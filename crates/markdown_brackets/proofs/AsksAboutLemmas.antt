@@ -11,8 +11,10 @@ use Rattle.markdown_document.specs.ChainRest.{as_item, end_of}
 use Rattle.markdown_defs.specs.Definitions as definitions
 use Rattle.markdown_defs.specs.Definitions.{Labelled}
 use Rattle.markdown_base.specs.declared.block_parts.LinkDef.{LinkDef}
-use Rattle.markdown_brackets.specs.BracketDecision.{Around, Becomes, Closing, Decision, Written, LinkReference, Progress, a_footnote, a_link}
-use Rattle.markdown_brackets.specs.BracketDecision.{a_text, a_wikilink, block_text, carried_out, decided, form_of, found, left_for_one, lines}
+use Rattle.markdown_brackets.specs.BracketDecision.{Around, Becomes, Closing, Decision, Written, LinkReference}
+use Rattle.markdown_brackets.specs.BracketDecision.{Progress, a_footnote, a_link}
+use Rattle.markdown_brackets.specs.BracketDecision.{a_text, a_wikilink, block_text, carried_out, decided, form_of}
+use Rattle.markdown_brackets.specs.BracketDecision.{found, left_for_one, lines}
 use Rattle.markdown_brackets.specs.BracketDecision.{link_reference, past_second, question_at, second_end}
 use Rattle.markdown_brackets.specs.BracketOptions.{footnote_style}
 use Rattle.markdown_brackets.specs.ClosingBracket.{closed, put}
@@ -39,7 +41,8 @@ look_up_asks defined asks limit answers q = by (limit == 0)
     one (None ∷ answers) = refl
     one (Some a ∷ answers) = refl
 
-    if_asks : (b : Bool) → AtMostOneTo q.span.end (cond b (asked limit answers q) (finds_nothing limit answers [])).questions
+    if_asks : (b : Bool) → AtMostOneTo q.span.end
+        (cond b (asked limit answers q) (finds_nothing limit answers [])).questions
     if_asks true = one answers
     if_asks false = tt
 
@@ -48,7 +51,8 @@ look_up_asks defined asks limit answers q = by (limit == 0)
     or_asked None = if_asks asks
 
     by : (b : Bool)
-        → let found : LookedUp = defined_or_asked asks limit answers q (definitions.find_definition q.reference defined) in
+        → let found : LookedUp = defined_or_asked asks limit answers q (definitions.find_definition q.reference defined)
+        in
         AtMostOneTo q.span.end (cond b (finds_nothing limit answers []) found).questions
     by true = tt
     by false = or_asked (definitions.find_definition q.reference defined)
@@ -101,7 +105,8 @@ module _ {A : Type 0} (w : Around) (c : Closing A) where
       → Asks (told_by p) (told_by (carried_out w (Some (link_reference o r)) p).progress)
   looked_told o r p ways =
       let q : Question = question_at o r in
-      let at : ℕ → LookedUp = λ (limit : ℕ). look_up w.setting.rules.definitions w.setting.rules.asks limit p.known.answers q in
+      let at : ℕ → LookedUp = λ (limit : ℕ). look_up w.setting.rules.definitions w.setting.rules.asks limit
+      p.known.answers q in
       let found : LookedUp = at p.known.limit in
       let most : AtMostOneTo r.end found.questions =
       look_up_asks w.setting.rules.definitions w.setting.rules.asks p.known.limit p.known.answers q in
@@ -134,7 +139,8 @@ module _ {A : Type 0} (w : Around) (c : Closing A) where
       let now : Progress A = record p { left = bracket_taken (left_for_one second p.left) } in
       let Told : Option (Written A) → Type 0 = λ x. Asks (told_by p) (told_by (carried_out w x now).progress) in
       either Told (found w c second p.left) (asks_none (told_by p))
-      (found_cases w c (λ left. Unit {0}) (record { bracket = λ left h. tt; wikilink = λ left h. tt }) (λ x. Told (Some x)) second
+      (found_cases w c (λ left. Unit {0}) (record { bracket = λ left h. tt; wikilink = λ left h. tt })
+      (λ x. Told (Some x)) second
       (λ left o h e live. record {
         inline = λ t is. asks_none (told_by p);
         refers = λ r way. looked_told o r now way;
@@ -157,7 +163,8 @@ module _ {A : Type 0} (w : Around) (c : Closing A) where
   -- the label that follows begins where the `]` ends
   pub full_label : (label : List ℕ) (end : ℕ) → form_of w c ≡ reference label end
       → IsLabelFrom (lines w) (block_text w) (end_of c.label) end
-  full_label label end e = by (stands_at from is_opener next && stands_at (from + 1) is_closer after) (stands_at from (λ b. true) next) e
+  full_label label end e = by (stands_at from is_opener next && stands_at (from + 1) is_closer after)
+      (stands_at from (λ b. true) next) e
     where
       from : ℕ
       from = end_of c.label
@@ -169,14 +176,16 @@ module _ {A : Type 0} (w : Around) (c : Closing A) where
       after = option_map as_item (first_root (past_second c.rest))
 
       found : Option FoundLabel
-      found = bracket_label (footnote_style w.setting.rules.options) (lines w) w.above.in_table (drop from (block_text w))
+      found = bracket_label (footnote_style w.setting.rules.options) (lines w) w.above.in_table
+          (drop from (block_text w))
 
       by_label : (o : Option FoundLabel) → found ≡ o → form_by_label from o ≡ reference label end
           → IsLabelFrom (lines w) (block_text w) from end
       by_label None f e = absurd (cc e)
       by_label (Some l) f e = plain l.is_footnote refl e
         where
-          plain : (b : Bool) → l.is_footnote ≡ b → (if b then shortcut else reference l.name (from + l.length)) ≡ reference label end
+          plain : (b : Bool) → l.is_footnote ≡ b → (if b then shortcut else reference l.name (from + l.length))
+              ≡ reference label end
               → IsLabelFrom (lines w) (block_text w) from end
           plain true b e = absurd (cc e)
           plain false b e =

@@ -1,5 +1,6 @@
 -- What becomes of small chains of brackets, by the definitions.
-use Rattle.std.proofs.Common.{◌≡◌, ℕ, ◌+◌, ◌-◌, Bool, true, false, ◌==◌, List, [], ◌∷◌, ◌++◌, Option, Some, None, length, nat_lt, refl}
+use Rattle.std.proofs.Common.{◌≡◌, ℕ, ◌+◌, ◌-◌, Bool, true, false, ◌==◌, List, [], ◌∷◌, ◌++◌, Option, Some, None}
+use Rattle.std.proofs.Common.{length, nat_lt, refl}
 use Rattle.std.specs.Prelude.{codes, bytes_eq, map}
 use Rattle.markdown_base.specs.Event.{TagView, EventView, text, link, image, footnote_reference}
 use Rattle.markdown_base.specs.Forest.{Forest, nil, node}
@@ -31,13 +32,16 @@ items_from i j bang true (b ∷ bytes) = items_from i (j + 1) false false bytes
 items_from i j bang false (b ∷ bytes) =
     elim (b == 91) [
       | true ↦ elim bang [
-        | true ↦ item_text i (j - 1) (record { start = j - 1; end = j + 1; body = body.MaybeImage } ∷ items_from (j + 1) (j + 1) false false
+        | true ↦ item_text i (j - 1) (record { start = j - 1; end = j + 1; body = body.MaybeImage } ∷ items_from (j + 1)
+            (j + 1) false false
             bytes)
-        | false ↦ item_text i j (record { start = j; end = j + 1; body = body.MaybeLinkOpen } ∷ items_from (j + 1) (j + 1) false false
+        | false ↦ item_text i j
+            (record { start = j; end = j + 1; body = body.MaybeLinkOpen } ∷ items_from (j + 1) (j + 1) false false
             bytes)
       ]
       | false ↦ elim (b == 93) [
-        | true ↦ item_text i j (record { start = j; end = j + 1; body = body.MaybeLinkClose true } ∷ items_from (j + 1) (j + 1) false false
+        | true ↦ item_text i j (record { start = j; end = j + 1; body = body.MaybeLinkClose true } ∷ items_from (j + 1)
+            (j + 1) false false
             bytes)
         | false ↦ elim (b == 92) [
           | true ↦ item_text i j (items_from (j + 1) (j + 1) false true bytes)
@@ -83,7 +87,12 @@ abbrev around : ℕ → Bool → List ℕ → Around
 around options asks source = record {
   setting = record {
     text = source;
-    rules = record { options = record { 0 = options }; definitions = []; is_footnote = bytes_eq (codes "a"); asks = asks };
+    rules = record {
+      options = record { 0 = options };
+      definitions = [];
+      is_footnote = bytes_eq (codes "a");
+      asks = asks;
+    };
   };
   above = record { block_end = length source; in_table = false; bodies = [] };
   skipped = λ rest. 0;
@@ -115,7 +124,8 @@ abbrev Shows : (options : ℕ) → List (List ℕ × List ℕ) → Type 0
 Shows options rows = map (λ row. read_with options row.0) rows ≡ map (λ row. row.1) rows
 
 abbrev HasRanges : (options : ℕ) → List (List ℕ × List (ℕ × ℕ)) → Type 0
-HasRanges options rows = map (λ row. ranges (forest_of (progress options false 100 [] row.0))) rows ≡ map (λ row. row.1) rows
+HasRanges options rows = map (λ row. ranges (forest_of (progress options false 100 [] row.0))) rows
+    ≡ map (λ row. row.1) rows
 
 abbrev Asks : List (List ℕ × ℕ) → Type 0
 Asks rows = map (λ row. length (progress 0 true 100 [] row.0).asked) rows ≡ map (λ row. row.1) rows
@@ -161,7 +171,8 @@ unfolding read_chain closed decided
 footnote_ranges = refl
 
 -- uses are counted
-used_twice : (progress 4 false 100 [] (codes "[^a] [^a]")).known.uses ≡ uses_once_more (codes "a") (uses_once_more (codes "a") (λ name. 0))
+used_twice : (progress 4 false 100 [] (codes "[^a] [^a]")).known.uses
+    ≡ uses_once_more (codes "a") (uses_once_more (codes "a") (λ name. 0))
 unfolding read_chain closed decided
 used_twice = refl
 
@@ -199,12 +210,14 @@ unfolding read_chain closed decided
 questions = refl
 
 -- an escaped bracket opens no label: both are shortcuts
-escaped_bracket : shown (forest_of (progress 0 true 100 (answer (codes "u") [] ∷ None ∷ []) (codes "[a]\\[b]"))) ≡ codes "{u:a}[b]"
+escaped_bracket : shown (forest_of (progress 0 true 100 (answer (codes "u") [] ∷ None ∷ []) (codes "[a]\\[b]")))
+    ≡ codes "{u:a}[b]"
 unfolding read_chain closed decided
 escaped_bracket = refl
 
 -- without footnotes the label is a link's
-no_footnotes : shown (forest_of (progress 0 true 100 (answer (codes "yolo") [] ∷ []) (codes "a [^a]"))) ≡ codes "a {yolo:^a}"
+no_footnotes : shown (forest_of (progress 0 true 100 (answer (codes "yolo") [] ∷ []) (codes "a [^a]")))
+    ≡ codes "a {yolo:^a}"
 unfolding read_chain closed decided
 no_footnotes = refl
 

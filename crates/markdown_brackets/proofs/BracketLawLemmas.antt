@@ -1,5 +1,6 @@
 -- With one answer for each question, what a bracket makes of a chain is the same whatever answers follow.
-use Rattle.std.proofs.Common.{◌≡◌, ℕ, ◌+◌, ◌≤◌, ◌++◌, subst, Bool, true, false, [], Option, Some, None, cond, length, refl, sym}
+use Rattle.std.proofs.Common.{◌≡◌, ℕ, ◌+◌, ◌≤◌, ◌++◌, subst, Bool, true, false, [], Option, Some, None, cond, length}
+use Rattle.std.proofs.Common.{refl, sym}
 use Rattle.std.proofs.Common.{◌∙◌, ap, arith, nat_le}
 use Rattle.std.proofs.lemmas.List.{length-append}
 use Rattle.markdown_base.specs.Forest.{Forest, nil, node}
@@ -9,8 +10,10 @@ use Rattle.markdown_base.specs.declared.item.ItemBody.TheVariants as body
 use Rattle.markdown_document.specs.Document.{Label}
 use Rattle.markdown_document.specs.ChainRest.{begun_at, end_of, open_body}
 use Rattle.markdown_brackets.specs.BracketLaws.{with_later, HandsOn, ClosesInOne}
-use Rattle.markdown_brackets.specs.BracketDecision.{Around, Becomes, Closing, Decision, Written, LinkReference, Progress, a_footnote, a_link}
-use Rattle.markdown_brackets.specs.BracketDecision.{a_text, a_wikilink, carried_out, decided, footnote_label, found, inline_link, left_for_one}
+use Rattle.markdown_brackets.specs.BracketDecision.{Around, Becomes, Closing, Decision, Written, LinkReference}
+use Rattle.markdown_brackets.specs.BracketDecision.{Progress, a_footnote, a_link}
+use Rattle.markdown_brackets.specs.BracketDecision.{a_text, a_wikilink, carried_out, decided, footnote_label, found}
+use Rattle.markdown_brackets.specs.BracketDecision.{inline_link, left_for_one}
 use Rattle.markdown_brackets.specs.BracketDecision.{link_reference, looked_up, question_at, second_end, wikilink}
 use Rattle.markdown_brackets.specs.ClosingBracket.{closed, put, put_decided}
 use Rattle.markdown_brackets.specs.LeftList.{Split, bracket_taken}
@@ -49,7 +52,8 @@ module _ {A : Type 0} (w : Around) (c : Closing A) where
   put_knows (a_footnote o name) p = (refl, refl)
   put_knows (a_wikilink o v end) p = (refl, refl)
 
-  put_later : (b : Becomes A) (p : Progress A) (later : Answers) → put w c b (with_later later p) ≡ with_later later (put w c b p)
+  put_later : (b : Becomes A) (p : Progress A) (later : Answers) → put w c b (with_later later p)
+      ≡ with_later later (put w c b p)
   put_later a_text p later = refl
   put_later (a_link o target end next) p later = refl
   put_later (a_footnote o name) p later = refl
@@ -63,7 +67,8 @@ module _ {A : Type 0} (w : Around) (c : Closing A) where
       let q : Question = question_at o r in
       let alone : LookedUp = found_by p.known.limit p.known.answers q in
       let d : Decision A = looked_up o r alone p in
-      let here : (later : Answers) → LooksOn p.known.answers later alone (found_by p.known.limit (p.known.answers ++ later) q) =
+      let here : (later : Answers)
+      → LooksOn p.known.answers later alone (found_by p.known.limit (p.known.answers ++ later) q) =
       λ later. looks_on w.setting.rules.definitions w.setting.rules.asks p.known.limit q p.known.answers later in
       let asked : length (put_decided w c d).asked ≡ length p.asked + length alone.questions =
       ap length (put_knows d.becomes d.progress).0 ∙ length-append p.asked alone.questions in
@@ -100,7 +105,8 @@ pub closed_law : {A : Type 0} (w : Around) (c : Closing A) (p : Progress A) → 
 unfolding closed decided
 closed_law w c p =
     let second = second_end w c.rest in
-    let r = carried_law w c (found w c second p.left) (record p { left = bracket_taken (left_for_one second p.left) }) in
+    let r = carried_law w c (found w c second p.left) (record p { left = bracket_taken (left_for_one second p.left) })
+    in
     record {
       once = r.once;
       silent = r.silent;
@@ -108,7 +114,8 @@ closed_law w c p =
     }
 
 -- one step after another
-both : {A : Type 0} (f g : Progress A → Progress A) (p : Progress A) → HandsOn f p → HandsOn g (f p) → HandsOn (λ q. g (f q)) p
+both : {A : Type 0} (f g : Progress A → Progress A) (p : Progress A) → HandsOn f p → HandsOn g (f p)
+    → HandsOn (λ q. g (f q)) p
 both f g p h k = record {
   asks = omega (arith, h.asks, k.asks);
   takes = omega (arith, h.asks, k.asks, h.takes, k.takes);
@@ -117,10 +124,13 @@ both f g p h k = record {
       ∙ k.hands_on later (omega (arith, enough, h.asks, h.takes));
 }
 
-module _ {A : Type 0} (w : Around) (others : Reader A) (rule : (a : Label A) (below rest : Forest (Label A)) (p : Progress A)
+module _ {A : Type 0} (w : Around) (others : Reader A)
+    (rule : (a : Label A) (below rest : Forest (Label A)) (p : Progress A)
     → HandsOn (others a below rest) p) where
-  read_as_law : (b : ItemBody) (a : Label A) (below rest : Forest (Label A)) (p : Progress A) → HandsOn (read_as w others b a below rest) p
-  read_as_law body.MaybeLinkOpen a below rest p = (asks_none (opened w false a rest) p refl refl (λ later. refl)).hands_on
+  read_as_law : (b : ItemBody) (a : Label A) (below rest : Forest (Label A)) (p : Progress A)
+      → HandsOn (read_as w others b a below rest) p
+  read_as_law body.MaybeLinkOpen a below rest p
+      = (asks_none (opened w false a rest) p refl refl (λ later. refl)).hands_on
   read_as_law body.MaybeImage a below rest p = (asks_none (opened w true a rest) p refl refl (λ later. refl)).hands_on
   read_as_law (body.MaybeLinkClose could) a below rest p =
       let r = (closed_law w (closing_of could a rest p) p).hands_on in
@@ -132,10 +142,12 @@ module _ {A : Type 0} (w : Around) (others : Reader A) (rule : (a : Label A) (be
   read_past_law None a below rest p = read_as_law (open_body a.part.shape) a below rest p
   read_past_law (Some i) a below rest p = by (nat_le (end_of a) i)
     where
-      by : (b : Bool) → HandsOn (λ p. cond b p (read w others (begun_at i a) below rest (record p { goes_on = None }))) p
+      by : (b : Bool) → HandsOn (λ p. cond b p (read w others (begun_at i a) below rest (record p { goes_on = None })))
+          p
       by true = (asks_none (λ p. p) p refl refl (λ later. refl)).hands_on
       by false =
-          let r = read_as_law (open_body (begun_at i a).part.shape) (begun_at i a) below rest (record p { goes_on = None }) in
+          let r = read_as_law (open_body (begun_at i a).part.shape) (begun_at i a) below rest
+          (record p { goes_on = None }) in
           record { asks = r.asks; takes = r.takes; hands_on = r.hands_on }
 
   pub chain_law : (chain : Forest (Label A)) (p : Progress A) → HandsOn (read_chain w others chain) p

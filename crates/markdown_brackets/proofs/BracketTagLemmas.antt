@@ -1,6 +1,7 @@
 -- Brackets do not depend on tags: what a `]` becomes is decided by the parts of labels only, and its effect on a left
 -- list with other tags is its effect on the list, with those tags.
-use Rattle.std.proofs.Common.{◌≡◌, ℕ, Bool, true, false, ◌&&◌, ◌==◌, List, [], ◌∷◌, Option, Some, None, refl, ap, ◌∙◌, nat_le}
+use Rattle.std.proofs.Common.{◌≡◌, ℕ, Bool, true, false, ◌&&◌, ◌==◌, List, [], ◌∷◌, Option, Some, None, refl, ap, ◌∙◌}
+use Rattle.std.proofs.Common.{nat_le}
 use Rattle.std.proofs.Math.Path.{fun_ext}
 use Rattle.std.specs.Prelude.{if◌then◌else◌, nat_lt, unwrap_or, ◌+◌}
 use Rattle.std.specs.Option.{option_map, option_and_then, option_or}
@@ -14,26 +15,36 @@ use Rattle.markdown_base.specs.declared.item.Item.{Item}
 use Rattle.markdown_document.specs.Document.{Label, as_text}
 use Rattle.markdown_document.specs.Labels.{retag, retagged}
 use Rattle.markdown_document.specs.ChainRest.{as_item, begun_at, past_byte, start_of, end_of, open_body}
-use Rattle.markdown_brackets.specs.BracketDecision.{Around, Becomes, Closing, Decision, Written, LinkReference, Progress, Wikilink, a_footnote}
-use Rattle.markdown_brackets.specs.BracketDecision.{a_link, a_text, a_wikilink, block_text, bracket_found, carried_out, closer_ends_at, decided}
-use Rattle.markdown_brackets.specs.BracketDecision.{footnote_label, form_of, found, full, if_some, inline_link, label_of_opener, left_for_one}
-use Rattle.markdown_brackets.specs.BracketDecision.{lines, link_reference, looked_up, own_written, past_second, question_at, reference_written}
-use Rattle.markdown_brackets.specs.BracketDecision.{second_end, shown_children, start_of_first_past, to_be, wikilink, wikilink_by, wikilink_found}
+use Rattle.markdown_brackets.specs.BracketDecision.{Around, Becomes, Closing, Decision, Written, LinkReference}
+use Rattle.markdown_brackets.specs.BracketDecision.{Progress, Wikilink, a_footnote}
+use Rattle.markdown_brackets.specs.BracketDecision.{a_link, a_text, a_wikilink, block_text, bracket_found, carried_out}
+use Rattle.markdown_brackets.specs.BracketDecision.{closer_ends_at, decided}
+use Rattle.markdown_brackets.specs.BracketDecision.{footnote_label, form_of, found, full, if_some, inline_link}
+use Rattle.markdown_brackets.specs.BracketDecision.{label_of_opener, left_for_one}
+use Rattle.markdown_brackets.specs.BracketDecision.{lines, link_reference, looked_up, own_written, past_second}
+use Rattle.markdown_brackets.specs.BracketDecision.{question_at, reference_written}
+use Rattle.markdown_brackets.specs.BracketDecision.{second_end, shown_children, start_of_first_past, to_be, wikilink}
+use Rattle.markdown_brackets.specs.BracketDecision.{wikilink_by, wikilink_found}
 use Rattle.markdown_brackets.specs.BracketDecision.{wikilink_in, written}
 use Rattle.markdown_base.specs.EnabledOptions.{wikilinks_on}
 use Rattle.markdown_brackets.specs.BracketOptions.{footnote_style}
 use Rattle.markdown_brackets.specs.BracketTags.{ReaderFollows, BracketTagLaw, retag_entry, retag_left, retag_progress}
 use Rattle.markdown_brackets.specs.ClosingBracket.{closed, footnote_onto, linked, put, put_decided, wikilink_target}
 use Rattle.markdown_brackets.specs.FootnoteUse.{is_reference}
-use Rattle.markdown_brackets.specs.LeftList.{Entry, Mark, Split, before_footnote, before_link, before_wikilink, behind, bracket_taken}
-use Rattle.markdown_brackets.specs.LeftList.{change_nearest, disabled_mark, done, gone, inside, is_live, live, nearest, on_mark, on_marks}
-use Rattle.markdown_brackets.specs.LeftList.{opens_bracket, opens_wikilink, second_folded, trees_onto, waits, wikilink_taken}
+use Rattle.markdown_brackets.specs.LeftList.{Entry, Mark, Split, before_footnote, before_link, before_wikilink, behind}
+use Rattle.markdown_brackets.specs.LeftList.{bracket_taken}
+use Rattle.markdown_brackets.specs.LeftList.{change_nearest, disabled_mark, done, gone, inside, is_live, live, nearest}
+use Rattle.markdown_brackets.specs.LeftList.{on_mark, on_marks}
+use Rattle.markdown_brackets.specs.LeftList.{opens_bracket, opens_wikilink, second_folded, trees_onto, waits}
+use Rattle.markdown_brackets.specs.LeftList.{wikilink_taken}
 use Rattle.markdown_brackets.specs.LeftList.{without_bracket, without_wikilink}
 use Rattle.markdown_brackets.specs.LinkTail.{LinkTail, link_tail}
 use Rattle.markdown_brackets.specs.Lookup.{LookedUp, look_up}
 use Rattle.markdown_brackets.specs.ReadChain.{Reader, closing_of, is_next, opened, read, read_as, read_chain, read_past}
-use Rattle.markdown_brackets.specs.Reference.{FoundLabel, Form, collapsed, form_at, is_closer, is_opener, reference, shortcut}
-use Rattle.markdown_brackets.specs.Wikilink.{Shows, WikilinkBody, has_pothole, shows_from, shows_name, shows_nothing, wikilink_body}
+use Rattle.markdown_brackets.specs.Reference.{FoundLabel, Form, collapsed, form_at, is_closer, is_opener, reference}
+use Rattle.markdown_brackets.specs.Reference.{shortcut}
+use Rattle.markdown_brackets.specs.Wikilink.{Shows, WikilinkBody, has_pothole, shows_from, shows_name, shows_nothing}
+use Rattle.markdown_brackets.specs.Wikilink.{wikilink_body}
 
 abbrev shown_as : {A : Type 0} → WikilinkBody → Forest (Label A) → Wikilink A
 shown_as b children = record { name = b.name; has_pothole = has_pothole b.shows; children = children }
@@ -41,13 +52,25 @@ shown_as b children = record { name = b.name; has_pothole = has_pothole b.shows;
 module _ {A B : Type 0} (f : A → B) where
   -- the same with other tags
   abbrev pub retag_split : Split A → Split B
-  retag_split o = record { mark = o.mark; opener = retag f o.opener; after = retag_left f o.after; before = retag_left f o.before }
+  retag_split o = record {
+    mark = o.mark;
+    opener = retag f o.opener;
+    after = retag_left f o.after;
+    before = retag_left f
+        o.before;
+  }
 
   abbrev pub retag_closing : Closing A → Closing B
-  retag_closing c = record { label = retag f c.label; could_be_reference = c.could_be_reference; rest = retagged f c.rest }
+  retag_closing c = record {
+    label = retag f c.label;
+    could_be_reference = c.could_be_reference;
+    rest = retagged f
+        c.rest;
+  }
 
   abbrev pub retag_wikilink : Wikilink A → Wikilink B
-  retag_wikilink found = record { name = found.name; has_pothole = found.has_pothole; children = retagged f found.children }
+  retag_wikilink found = record
+      { name = found.name; has_pothole = found.has_pothole; children = retagged f found.children }
 
   abbrev pub retag_becomes : Becomes A → Becomes B
   retag_becomes a_text = a_text
@@ -65,14 +88,17 @@ module _ {A B : Type 0} (f : A → B) where
   retag_decision d = record { becomes = retag_becomes d.becomes; progress = retag_progress f d.progress }
 
   -- marks are changed by marks alone
-  pub change_retag : (test : Mark → Bool) (g : Mark → Mark) (left : List (Entry A)) → change_nearest test g (retag_left f left)
+  pub change_retag : (test : Mark → Bool) (g : Mark → Mark) (left : List (Entry A))
+      → change_nearest test g (retag_left f left)
       ≡ retag_left f (change_nearest test g left)
   change_retag test g [] = refl
-  change_retag test g (done a below ∷ left) = ap (λ l. done (retag f a) (retagged f below) ∷ l) (change_retag test g left)
+  change_retag test g (done a below ∷ left) = ap (λ l. done (retag f a) (retagged f below) ∷ l)
+      (change_retag test g left)
   change_retag test g (waits m a ∷ left) = by (test m) (change_retag test g left)
     where
       by : (b : Bool) → change_nearest test g (retag_left f left) ≡ retag_left f (change_nearest test g left)
-          → (if b then waits (g m) (retag f a) ∷ retag_left f left else waits m (retag f a) ∷ change_nearest test g (retag_left f left))
+          → (if b then waits (g m) (retag f a) ∷ retag_left f left else waits m (retag f a) ∷ change_nearest test g
+          (retag_left f left))
           ≡ retag_left f (if b then waits (g m) a ∷ left else waits m a ∷ change_nearest test g left)
       by true e = refl
       by false e = ap (λ l. waits m (retag f a) ∷ l) e
@@ -81,7 +107,8 @@ module _ {A B : Type 0} (f : A → B) where
   on_mark_retag g (done a below) = refl
   on_mark_retag g (waits m a) = refl
 
-  pub on_marks_retag : (g : Mark → Mark) (left : List (Entry A)) → on_marks g (retag_left f left) ≡ retag_left f (on_marks g left)
+  pub on_marks_retag : (g : Mark → Mark) (left : List (Entry A)) → on_marks g (retag_left f left)
+      ≡ retag_left f (on_marks g left)
   on_marks_retag g [] = refl
   on_marks_retag g (e ∷ left) =
       ap (λ x. x ∷ on_marks g (retag_left f left)) (on_mark_retag g e)
@@ -94,14 +121,19 @@ module _ {A B : Type 0} (f : A → B) where
   pub before_link_retag : (is_image : Bool) (left : List (Entry A)) → before_link is_image (retag_left f left)
       ≡ retag_left f (before_link is_image left)
   before_link_retag true left = second_retag left
-  before_link_retag false left = ap (on_marks disabled_mark) (second_retag left) ∙ on_marks_retag disabled_mark (second_folded left)
+  before_link_retag false left = ap (on_marks disabled_mark) (second_retag left)
+      ∙ on_marks_retag disabled_mark (second_folded left)
 
-  pub before_wikilink_retag : (left : List (Entry A)) → before_wikilink (retag_left f left) ≡ retag_left f (before_wikilink left)
+  pub before_wikilink_retag : (left : List (Entry A)) → before_wikilink (retag_left f left)
+      ≡ retag_left f (before_wikilink left)
   before_wikilink_retag left =
-      ap (on_marks without_wikilink) (on_marks_retag disabled_mark left) ∙ on_marks_retag without_wikilink (on_marks disabled_mark left)
+      ap (on_marks without_wikilink) (on_marks_retag disabled_mark left)
+      ∙ on_marks_retag without_wikilink (on_marks disabled_mark left)
 
-  pub before_footnote_retag : (left : List (Entry A)) → before_footnote (retag_left f left) ≡ retag_left f (before_footnote left)
-  before_footnote_retag left = ap (on_marks without_bracket) (second_retag left) ∙ on_marks_retag without_bracket (second_folded left)
+  pub before_footnote_retag : (left : List (Entry A)) → before_footnote (retag_left f left)
+      ≡ retag_left f (before_footnote left)
+  before_footnote_retag left = ap (on_marks without_bracket) (second_retag left)
+      ∙ on_marks_retag without_bracket (second_folded left)
 
   -- the same opener is nearest
   behind_retag : (e : Entry A) (o : Option (Split A)) → option_map (behind (retag_entry f e)) (option_map retag_split o)
@@ -126,7 +158,8 @@ module _ {A B : Type 0} (f : A → B) where
       by false e = ap (option_map (behind (waits m (retag f a)))) e ∙ behind_retag (waits m a) (nearest test left)
 
   -- the trees of a left list
-  pub onto_retag : (left : List (Entry A)) (later : Forest (Label A)) → trees_onto (retag_left f left) (retagged f later)
+  pub onto_retag : (left : List (Entry A)) (later : Forest (Label A))
+      → trees_onto (retag_left f left) (retagged f later)
       ≡ retagged f (trees_onto left later)
   onto_retag [] later = refl
   onto_retag (done a below ∷ left) later = onto_retag left (node a below later)
@@ -136,7 +169,8 @@ module _ {A B : Type 0} (f : A → B) where
   inside_retag o = onto_retag o.after nil
 
   -- the chain after a `]` is read by its parts
-  pub first_retag : (rest : Forest (Label A)) → option_map as_item (first_root (retagged f rest)) ≡ option_map as_item (first_root rest)
+  pub first_retag : (rest : Forest (Label A)) → option_map as_item (first_root (retagged f rest))
+      ≡ option_map as_item (first_root rest)
   first_retag nil = refl
   first_retag (node a below after) = refl
 
@@ -144,25 +178,31 @@ module _ {A B : Type 0} (f : A → B) where
   past_second_retag nil = refl
   past_second_retag (node a below after) = refl
 
-  pub is_next_retag : (test : ItemBody → Bool) (rest : Forest (Label A)) → is_next test (retagged f rest) ≡ is_next test rest
+  pub is_next_retag : (test : ItemBody → Bool) (rest : Forest (Label A)) → is_next test (retagged f rest)
+      ≡ is_next test rest
   is_next_retag test nil = refl
   is_next_retag test (node a below after) = refl
 
-  pub start_retag : (rest : Forest (Label A)) (i : ℕ) → start_of_first_past (retagged f rest) i ≡ start_of_first_past rest i
+  pub start_retag : (rest : Forest (Label A)) (i : ℕ) → start_of_first_past (retagged f rest) i
+      ≡ start_of_first_past rest i
   start_retag nil i = refl
-  start_retag (node a below after) i = ap (λ later. if nat_lt i (end_of a) then Some (start_of a) else later) (start_retag after i)
+  start_retag (node a below after) i = ap (λ later. if nat_lt i (end_of a) then Some (start_of a) else later)
+      (start_retag after i)
 
   pub ends_at_retag : (i : ℕ) (rest : Forest (Label A)) → closer_ends_at i (retagged f rest) ≡ closer_ends_at i rest
   ends_at_retag i nil = refl
   ends_at_retag i (node a below after) =
-      ap (λ later. if nat_lt (end_of a) i then later else is_closer (open_body a.part.shape) && (end_of a == i)) (ends_at_retag i after)
+      ap (λ later. if nat_lt (end_of a) i then later else is_closer (open_body a.part.shape) && (end_of a == i))
+      (ends_at_retag i after)
 
-  pub past_byte_retag : (i : ℕ) (chain : Forest (Label A)) → past_byte i (retagged f chain) ≡ retagged f (past_byte i chain)
+  pub past_byte_retag : (i : ℕ) (chain : Forest (Label A)) → past_byte i (retagged f chain)
+      ≡ retagged f (past_byte i chain)
   past_byte_retag i nil = refl
   past_byte_retag i (node a below after) = by (nat_le (end_of a) i) (past_byte_retag i after)
     where
       by : (b : Bool) → past_byte i (retagged f after) ≡ retagged f (past_byte i after)
-          → (if b then past_byte i (retagged f after) else node (begun_at i (retag f a)) (retagged f below) (retagged f after))
+          → (if b then past_byte i (retagged f after) else node (begun_at i (retag f a)) (retagged f below)
+          (retagged f after))
           ≡ retagged f (if b then past_byte i after else node (begun_at i a) below after)
       by true e = e
       by false e = refl
@@ -171,7 +211,8 @@ module _ {A B : Type 0} (f : A → B) where
     -- what is written at an opener and its `]`
     form_retag : (c : Closing A) → form_of w (retag_closing c) ≡ form_of w c
     form_retag c =
-        let by : Option Item → Option Item → Form = form_at (footnote_style w.setting.rules.options) (lines w) w.above.in_table (block_text w)
+        let by : Option Item → Option Item → Form = form_at (footnote_style w.setting.rules.options) (lines w)
+        w.above.in_table (block_text w)
         (end_of c.label) in
         let second = λ (chain : Forest (Label B)). option_map as_item (first_root chain) in
         ap (λ next. by next (second (past_second (retagged f c.rest)))) (first_retag c.rest)
@@ -198,7 +239,8 @@ module _ {A B : Type 0} (f : A → B) where
         by false is = refl
 
     reference_retag : (o : Split A) (end : ℕ) (closes : ℕ → Bool) (own : Option FoundLabel) (form : Form)
-        → reference_written w (retag_split o) end closes own form ≡ option_map retag_found (reference_written w o end closes own form)
+        → reference_written w (retag_split o) end closes own form
+        ≡ option_map retag_found (reference_written w o end closes own form)
     reference_retag o end closes own (reference label to) = by (closes to)
       where
         by : (b : Bool) → (if b then Some (link_reference (retag_split o) (full label to)) else None)
@@ -214,16 +256,19 @@ module _ {A B : Type 0} (f : A → B) where
     tail_retag o None other = refl
     tail_retag o (Some t) other = refl
 
-    written_retag : (c : Closing A) (o : Split A) → written w (retag_closing c) (retag_split o) ≡ option_map retag_found (written w c o)
+    written_retag : (c : Closing A) (o : Split A) → written w (retag_closing c) (retag_split o)
+        ≡ option_map retag_found (written w c o)
     written_retag c o =
         let end : ℕ = end_of c.label in
         let own : Option FoundLabel = label_of_opener w c o in
         let tail : (ℕ → Option ℕ) → Option LinkTail = λ starts. link_tail (lines w) starts (block_text w) end in
         let all : (ℕ → Option ℕ) → Option (Written B) → Option (Written B) =
         λ starts other. option_or (option_map (inline_link (retag_split o)) (tail starts)) other in
-        let refers : (ℕ → Bool) → Form → Option (Written B) = λ closes form. reference_written w (retag_split o) end closes own form in
+        let refers : (ℕ → Bool) → Form → Option (Written B) = λ closes form. reference_written w (retag_split o) end
+        closes own form in
         let closes : ℕ → Bool = λ i. closer_ends_at i c.rest in
-        ap (λ (starts : ℕ → Option ℕ). all starts (refers (λ i. closer_ends_at i (retagged f c.rest)) (form_of w (retag_closing c))))
+        ap (λ (starts : ℕ → Option ℕ). all starts
+        (refers (λ i. closer_ends_at i (retagged f c.rest)) (form_of w (retag_closing c))))
         (fun_ext (start_retag c.rest))
         ∙ (ap (λ (closes : ℕ → Bool). all (start_of_first_past c.rest) (refers closes (form_of w (retag_closing c))))
         (fun_ext (λ i. ends_at_retag i c.rest))
@@ -245,8 +290,10 @@ module _ {A B : Type 0} (f : A → B) where
         target None = refl
         target (Some t) = refl
 
-        by : (result : LookedUp) → looked_up (retag_split o) r result (retag_progress f p) ≡ retag_decision (looked_up o r result p)
-        by result = ap (λ becomes. to_be becomes (retag_progress f (looked_up o r result p).progress)) (target result.target)
+        by : (result : LookedUp) → looked_up (retag_split o) r result (retag_progress f p)
+            ≡ retag_decision (looked_up o r result p)
+        by result = ap (λ becomes. to_be becomes (retag_progress f (looked_up o r result p).progress))
+            (target result.target)
     carried_retag (Some (footnote_label o name)) p = refl
     carried_retag (Some (wikilink o v end)) p = refl
 
@@ -256,13 +303,16 @@ module _ {A B : Type 0} (f : A → B) where
     if_some_retag (node a below after) = refl
 
     children_retag : (first : Label A) (trees : Forest (Label A)) (end : ℕ) (shows : Shows)
-        → shown_children w (retag f first) (retagged f trees) end shows ≡ option_map (retagged f) (shown_children w first trees end shows)
+        → shown_children w (retag f first) (retagged f trees) end shows
+        ≡ option_map (retagged f) (shown_children w first trees end shows)
     children_retag first trees end shows_name = refl
     children_retag first trees end (shows_nothing at) = refl
-    children_retag first trees end (shows_from at) = ap if_some (past_byte_retag at trees) ∙ if_some_retag (past_byte at trees)
+    children_retag first trees end (shows_from at) = ap if_some (past_byte_retag at trees)
+        ∙ if_some_retag (past_byte at trees)
 
     shown_retag : (b : WikilinkBody) (children : Option (Forest (Label A)))
-        → option_map (shown_as b) (option_map (retagged f) children) ≡ option_map retag_wikilink (option_map (shown_as b) children)
+        → option_map (shown_as b) (option_map (retagged f) children)
+        ≡ option_map retag_wikilink (option_map (shown_as b) children)
     shown_retag b None = refl
     shown_retag b (Some children) = refl
 
@@ -271,7 +321,8 @@ module _ {A B : Type 0} (f : A → B) where
         ≡ option_map retag_wikilink (option_and_then (wikilink_by w first trees end) b)
     body_retag first trees end None = refl
     body_retag first trees end (Some b) =
-        ap (option_map (shown_as b)) (children_retag first trees end b.shows) ∙ shown_retag b (shown_children w first trees end b.shows)
+        ap (option_map (shown_as b)) (children_retag first trees end b.shows)
+        ∙ shown_retag b (shown_children w first trees end b.shows)
 
     pub wikilink_in_retag : (trees : Forest (Label A)) (end : ℕ) → wikilink_in w (retagged f trees) end
         ≡ option_map retag_wikilink (wikilink_in w trees end)
@@ -315,11 +366,14 @@ module _ {A B : Type 0} (f : A → B) where
 
         by : (b : Bool) → (if b then option_map (λ v. wikilink (retag_split o) v end)
             (wikilink_in w (past_second (inside (retag_split o))) start) else None)
-            ≡ option_map retag_found (if b then option_map (λ v. wikilink o v end) (wikilink_in w (past_second (inside o)) start) else None)
+            ≡ option_map retag_found
+            (if b then option_map (λ v. wikilink o v end) (wikilink_in w (past_second (inside o)) start) else None)
         by false = refl
         by true =
-            ap (λ trees. option_map (λ v. wikilink (retag_split o) v end) (wikilink_in w (past_second trees) start)) (inside_retag o)
-            ∙ (ap (λ trees. option_map (λ v. wikilink (retag_split o) v end) (wikilink_in w trees start)) (past_second_retag (inside o))
+            ap (λ trees. option_map (λ v. wikilink (retag_split o) v end) (wikilink_in w (past_second trees) start))
+            (inside_retag o)
+            ∙ (ap (λ trees. option_map (λ v. wikilink (retag_split o) v end) (wikilink_in w trees start))
+            (past_second_retag (inside o))
             ∙ (ap (option_map (λ v. wikilink (retag_split o) v end)) (wikilink_in_retag (past_second (inside o)) start)
             ∙ as_wikilink_retag o end (wikilink_in w (past_second (inside o)) start)))
 
@@ -333,8 +387,10 @@ module _ {A B : Type 0} (f : A → B) where
     one_left_retag (Some end) left = change_retag opens_wikilink without_wikilink left
 
     one_found_retag : (c : Closing A) (second : Option ℕ) (left : List (Entry A))
-        → option_and_then (bracket_found w (retag_closing c)) (nearest opens_bracket (left_for_one second (retag_left f left)))
-        ≡ option_map retag_found (option_and_then (bracket_found w c) (nearest opens_bracket (left_for_one second left)))
+        → option_and_then (bracket_found w (retag_closing c))
+        (nearest opens_bracket (left_for_one second (retag_left f left)))
+        ≡ option_map retag_found
+        (option_and_then (bracket_found w c) (nearest opens_bracket (left_for_one second left)))
     one_found_retag c second left =
         let find : Option (Split B) → Option (Written B) = option_and_then (bracket_found w (retag_closing c)) in
         ap (λ left. find (nearest opens_bracket left)) (one_left_retag second left)
@@ -343,8 +399,10 @@ module _ {A B : Type 0} (f : A → B) where
         (nearest opens_bracket (left_for_one second left)))
 
     two_found_retag : (c : Closing A) (end : ℕ) (left : List (Entry A))
-        → option_and_then (wikilink_found w (retag_closing c) end) (nearest opens_wikilink (bracket_taken (retag_left f left)))
-        ≡ option_map retag_found (option_and_then (wikilink_found w c end) (nearest opens_wikilink (bracket_taken left)))
+        → option_and_then (wikilink_found w (retag_closing c) end)
+        (nearest opens_wikilink (bracket_taken (retag_left f left)))
+        ≡ option_map retag_found
+        (option_and_then (wikilink_found w c end) (nearest opens_wikilink (bracket_taken left)))
     two_found_retag c end left =
         let find : Option (Split B) → Option (Written B) = option_and_then (wikilink_found w (retag_closing c) end) in
         ap (λ left. find (nearest opens_wikilink left)) (change_retag opens_bracket without_bracket left)
@@ -357,28 +415,36 @@ module _ {A B : Type 0} (f : A → B) where
     found_retag c None left = one_found_retag c None left
     found_retag c (Some end) left =
         let one : Option (Written B) =
-        option_and_then (bracket_found w (retag_closing c)) (nearest opens_bracket (left_for_one (Some end) (retag_left f left))) in
-        let two : Option (Written A) = option_and_then (wikilink_found w c end) (nearest opens_wikilink (bracket_taken left)) in
+        option_and_then (bracket_found w (retag_closing c))
+        (nearest opens_bracket (left_for_one (Some end) (retag_left f left))) in
+        let two : Option (Written A) = option_and_then (wikilink_found w c end)
+        (nearest opens_wikilink (bracket_taken left)) in
         ap (λ two. option_or two one) (two_found_retag c end left)
         ∙ (ap (option_or (option_map retag_found two)) (one_found_retag c (Some end) left)
         ∙ either_retag two (option_and_then (bracket_found w c) (nearest opens_bracket (wikilink_taken left))))
 
     -- what a `]` becomes
-    pub decided_retag : (c : Closing A) (p : Progress A) → decided w (retag_closing c) (retag_progress f p) ≡ retag_decision (decided w c p)
+    pub decided_retag : (c : Closing A) (p : Progress A) → decided w (retag_closing c) (retag_progress f p)
+        ≡ retag_decision (decided w c p)
     unfolding decided
     decided_retag c p =
         let second = second_end w c.rest in
-        let by : Option ℕ → Decision B = λ second. carried_out w (found w (retag_closing c) second (retag_left f p.left))
+        let by : Option ℕ → Decision B = λ second. carried_out w
+        (found w (retag_closing c) second (retag_left f p.left))
         (record (retag_progress f p) { left = bracket_taken (left_for_one second (retag_left f p.left)) }) in
         let now : Progress A = record p { left = bracket_taken (left_for_one second p.left) } in
         ap by (second_retag_end c.rest)
-        ∙ (ap (λ x. carried_out w x (record (retag_progress f p) { left = bracket_taken (left_for_one second (retag_left f p.left)) }))
+        ∙ (ap (λ x. carried_out w x
+        (record (retag_progress f p) { left = bracket_taken (left_for_one second (retag_left f p.left)) }))
         (found_retag c second p.left)
-        ∙ (ap (λ left. carried_out w (option_map retag_found (found w c second p.left)) (record (retag_progress f p) { left = left }))
-        (ap bracket_taken (one_left_retag second p.left) ∙ change_retag opens_bracket without_bracket (left_for_one second p.left))
+        ∙ (ap (λ left. carried_out w (option_map retag_found (found w c second p.left))
+        (record (retag_progress f p) { left = left }))
+        (ap bracket_taken (one_left_retag second p.left) ∙ change_retag opens_bracket without_bracket
+        (left_for_one second p.left))
         ∙ carried_retag (found w c second p.left) now))
 
-    pub footnote_onto_retag : (c : Closing A) (is_image : Bool) (opener : Label A) (name : List ℕ) (left : List (Entry A))
+    pub footnote_onto_retag : (c : Closing A) (is_image : Bool) (opener : Label A) (name : List ℕ)
+        (left : List (Entry A))
         → footnote_onto w (retag_closing c) is_image (retag f opener) name (retag_left f left)
         ≡ retag_left f (footnote_onto w c is_image opener name left)
     footnote_onto_retag c true opener name left = refl
@@ -411,7 +477,8 @@ module _ {A B : Type 0} (f : A → B) where
           goes_on = Some end;
         }) (before_wikilink_retag o.before)
 
-    pub closed_retag : (c : Closing A) (p : Progress A) → closed w (retag_closing c) (retag_progress f p) ≡ retag_progress f (closed w c p)
+    pub closed_retag : (c : Closing A) (p : Progress A) → closed w (retag_closing c) (retag_progress f p)
+        ≡ retag_progress f (closed w c p)
     unfolding closed
     closed_retag c p = ap (put_decided w (retag_closing c)) (decided_retag c p)
         ∙ put_retag c (decided w c p).becomes (decided w c p).progress
@@ -423,7 +490,8 @@ module _ {A B : Type 0} (f : A → B) where
     closing_retag could a rest p = closed_retag (closing_of could a rest p) p
 
     pub opened_retag : (is_image : Bool) (a : Label A) (rest : Forest (Label A)) (p : Progress A)
-        → opened w is_image (retag f a) (retagged f rest) (retag_progress f p) ≡ retag_progress f (opened w is_image a rest p)
+        → opened w is_image (retag f a) (retagged f rest) (retag_progress f p)
+        ≡ retag_progress f (opened w is_image a rest p)
     opened_retag is_image a rest p =
         ap (λ b. record (retag_progress f p) {
           left = waits (record {
@@ -451,14 +519,18 @@ module _ {A B : Type 0} (f : A → B) where
       read_past_retag None a below rest p = read_as_retag (open_body a.part.shape) a below rest p
       read_past_retag (Some i) a below rest p = by (nat_le (end_of a) i)
         where
-          by : (b : Bool) → (if b then retag_progress f p else read w others' (retag f (begun_at i a)) (retagged f below) (retagged f rest)
+          by : (b : Bool) → (if b then retag_progress f p else read w others' (retag f (begun_at i a))
+              (retagged f below) (retagged f rest)
               (record (retag_progress f p) { goes_on = None }))
-              ≡ retag_progress f (if b then p else read w others (begun_at i a) below rest (record p { goes_on = None }))
+              ≡ retag_progress f (if b then p else read w others (begun_at i a) below rest
+              (record p { goes_on = None }))
           by true = refl
-          by false = read_as_retag (open_body (begun_at i a).part.shape) (begun_at i a) below rest (record p { goes_on = None })
+          by false = read_as_retag (open_body (begun_at i a).part.shape) (begun_at i a) below rest
+              (record p { goes_on = None })
 
       pub read_chain_retag : (chain : Forest (Label A)) (p : Progress A)
-          → read_chain w others' (retagged f chain) (retag_progress f p) ≡ retag_progress f (read_chain w others chain p)
+          → read_chain w others' (retagged f chain) (retag_progress f p)
+          ≡ retag_progress f (read_chain w others chain p)
       unfolding read_chain
       read_chain_retag nil p = refl
       read_chain_retag (node a below rest) p =

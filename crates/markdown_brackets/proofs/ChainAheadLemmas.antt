@@ -1,5 +1,6 @@
 -- A chain of an arena from a link on: it opens node by node, and what a byte leaves of it a later byte leaves of that.
-use Rattle.std.proofs.Common.{◌≡◌, ℕ, ◌<◌, ◌≤◌, Bool, true, false, List, Option, Some, None, length, refl, subst, sym, ◌∙◌, arith, nat_lt}
+use Rattle.std.proofs.Common.{◌≡◌, ℕ, ◌<◌, ◌≤◌, Bool, true, false, List, Option, Some, None, length, refl, subst, sym}
+use Rattle.std.proofs.Common.{◌∙◌, arith, nat_lt}
 use Rattle.std.specs.Prelude.{if◌then◌else◌, ⊤}
 use Rattle.std.proofs.lemmas.Bool.Decides.{nat_tests}
 use Rattle.markdown_base.specs.Arena.{child_of, sibling_of}
@@ -76,13 +77,16 @@ pub root_none : (nodes : List (Node Item)) → first_root (forest_at (links_of n
 root_none nodes = rw (forest_at-none (links_of nodes)) refl
 
 -- what a byte leaves is what it leaves of what an earlier one leaves
-pub past_twice : (nodes : List (Node Item)) (i j : ℕ) (f : Forest ℕ) → i ≤ j → numbers_past nodes j (numbers_past nodes i f)
+pub past_twice : (nodes : List (Node Item)) (i j : ℕ) (f : Forest ℕ) → i ≤ j
+    → numbers_past nodes j (numbers_past nodes i f)
     ≡ numbers_past nodes j f
 past_twice nodes i j nil h = refl
 past_twice nodes i j (node ix below after) h = by (nat_lt i (item_at nodes ix).end) refl (past_twice nodes i j after h)
   where
-    by : (b : Bool) → nat_lt i (item_at nodes ix).end ≡ b → numbers_past nodes j (numbers_past nodes i after) ≡ numbers_past nodes j after
-        → numbers_past nodes j (if b then node ix below after else numbers_past nodes i after) ≡ numbers_past nodes j (node ix below after)
+    by : (b : Bool) → nat_lt i (item_at nodes ix).end ≡ b → numbers_past nodes j (numbers_past nodes i after)
+        ≡ numbers_past nodes j after
+        → numbers_past nodes j (if b then node ix below after else numbers_past nodes i after)
+        ≡ numbers_past nodes j (node ix below after)
     by true e more = refl
     by false e more = more ∙ sym (past_goes nodes j ix below after (let before = is_not_below i (item_at nodes ix).end e
         in omega (arith, before, h)))

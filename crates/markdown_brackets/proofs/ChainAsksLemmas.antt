@@ -1,5 +1,6 @@
 -- Reading a chain asks on top of what was asked: no question is taken back, and none is put before another.
-use Rattle.std.proofs.Common.{◌≡◌, ℕ, Bool, true, false, List, [], ◌++◌, Option, Some, None, cond, refl, sym, ◌∙◌, ap, append-nil}
+use Rattle.std.proofs.Common.{◌≡◌, ℕ, Bool, true, false, List, [], ◌++◌, Option, Some, None, cond, refl, sym, ◌∙◌, ap}
+use Rattle.std.proofs.Common.{append-nil}
 use Rattle.std.proofs.Common.{append_assoc, nat_le}
 use Rattle.markdown_base.specs.Forest.{Forest, nil, node}
 use Rattle.markdown_base.specs.Questions.{Question}
@@ -22,10 +23,12 @@ asks_nothing q p e = record { more = []; asked = e ∙ sym (append-nil p.asked) 
 pub asks_on : {A : Type 0} (r q p : Progress A) → AsksMore r q → AsksMore q p → AsksMore r p
 asks_on r q p later here = record {
   more = here.more ++ later.more;
-  asked = later.asked ∙ ap (λ (asked : List Question). asked ++ later.more) here.asked ∙ append_assoc p.asked here.more later.more;
+  asked = later.asked ∙ ap (λ (asked : List Question). asked ++ later.more) here.asked
+      ∙ append_assoc p.asked here.more later.more;
 }
 
-module _ {A : Type 0} (w : Around) (others : Reader A) (rule : (a : Label A) (below rest : Forest (Label A)) (p : Progress A)
+module _ {A : Type 0} (w : Around) (others : Reader A)
+    (rule : (a : Label A) (below rest : Forest (Label A)) (p : Progress A)
     → AsksMore (others a below rest p) p) where
   read_as_asks : (b : ItemBody) (a : Label A) (below rest : Forest (Label A)) (p : Progress A)
       → AsksMore (read_as w others b a below rest p) p
@@ -44,7 +47,8 @@ module _ {A : Type 0} (w : Around) (others : Reader A) (rule : (a : Label A) (be
       by : (b : Bool) → AsksMore (cond b p (read w others (begun_at i a) below rest (record p { goes_on = None }))) p
       by true = asks_nothing p p refl
       by false =
-          let r = read_as_asks (open_body (begun_at i a).part.shape) (begun_at i a) below rest (record p { goes_on = None }) in
+          let r = read_as_asks (open_body (begun_at i a).part.shape) (begun_at i a) below rest
+          (record p { goes_on = None }) in
           record { more = r.more; asked = r.asked }
 
   -- a chain

@@ -13,8 +13,10 @@ use Rattle.markdown_document.specs.Setting.{Known}
 use Rattle.markdown_brackets.specs.BracketDecision.{Around, Closing, Progress}
 use Rattle.markdown_brackets.specs.ChainBegins.{BeginsLaw, BeginsSo, BeginsWith, trees_of}
 use Rattle.markdown_brackets.specs.ClosingBracket.{footnote_onto}
-use Rattle.markdown_brackets.specs.LeftList.{Entry, Mark, Split, before_footnote, before_link, behind, change_nearest, disabled_mark, done}
-use Rattle.markdown_brackets.specs.LeftList.{nearest, on_marks, opens_bracket, opens_wikilink, second_folded, trees_onto, waits}
+use Rattle.markdown_brackets.specs.LeftList.{Entry, Mark, Split, before_footnote, before_link, behind, change_nearest}
+use Rattle.markdown_brackets.specs.LeftList.{disabled_mark, done}
+use Rattle.markdown_brackets.specs.LeftList.{nearest, on_marks, opens_bracket, opens_wikilink, second_folded}
+use Rattle.markdown_brackets.specs.LeftList.{trees_onto, waits}
 use Rattle.markdown_brackets.specs.LeftList.{without_bracket, without_wikilink}
 use Rattle.markdown_brackets.specs.ReadChain.{Reader, begun, closing_of, read, read_as, read_chain, read_past}
 use Rattle.markdown_brackets.proofs.ClosingBracketLemmas.{Cases, in_each_case, some_of}
@@ -24,8 +26,10 @@ pub begins_onto : {A : Type 0} (test : Shape → Bool) (left : List (Entry A)) (
     → (BeginsWith test one → BeginsWith test other)
     → BeginsWith test (trees_onto left one) → BeginsWith test (trees_onto left other)
 begins_onto test [] one other k h = k h
-begins_onto test (done a below ∷ left) one other k h = begins_onto test left (node a below one) (node a below other) (λ first. first) h
-begins_onto test (waits m a ∷ left) one other k h = begins_onto test left (node a nil one) (node a nil other) (λ first. first) h
+begins_onto test (done a below ∷ left) one other k h = begins_onto test left (node a below one) (node a below other)
+    (λ first. first) h
+begins_onto test (waits m a ∷ left) one other k h = begins_onto test left (node a nil one) (node a nil other)
+    (λ first. first) h
 
 module _ {A : Type 0} (w : Around) (test : Shape → Bool) (events : (e : EventView) (origins : List Origin)
     → test (leaf e origins) ≡ true) (tags : (tag : TagView) → test (enclosed tag) ≡ true) where
@@ -54,7 +58,8 @@ module _ {A : Type 0} (w : Around) (test : Shape → Bool) (events : (e : EventV
   first_or (waits m a ∷ left) k h = h
 
   -- nor do flags
-  first_marks : (f : Mark → Mark) (none : Type 0) (left : List (Entry A)) → First none left → First none (on_marks f left)
+  first_marks : (f : Mark → Mark) (none : Type 0) (left : List (Entry A)) → First none left
+      → First none (on_marks f left)
   first_marks f none [] h = h
   first_marks f none (done a below ∷ left) h = first_marks f (test a.part.shape ≡ true) left h
   first_marks f none (waits m a ∷ left) h = first_marks f (test a.part.shape ≡ true) left h
@@ -75,7 +80,8 @@ module _ {A : Type 0} (w : Around) (test : Shape → Bool) (events : (e : EventV
       by true k = h
       by false k = k
 
-  first_before_link : (is_image : Bool) (none : Type 0) (left : List (Entry A)) → First none left → First none (before_link is_image left)
+  first_before_link : (is_image : Bool) (none : Type 0) (left : List (Entry A)) → First none left
+      → First none (before_link is_image left)
   first_before_link true none left h = first_second none left h
   first_before_link false none left h = first_marks disabled_mark none (second_folded left) (first_second none left h)
 
@@ -87,7 +93,8 @@ module _ {A : Type 0} (w : Around) (test : Shape → Bool) (events : (e : EventV
   first_behind e None h = tt
   first_behind e (Some o) h = h
 
-  first_nearest : (opens : Mark → Bool) (none : Type 0) (left : List (Entry A)) → First none left → IfSome (nearest opens left) IsFirstAt
+  first_nearest : (opens : Mark → Bool) (none : Type 0) (left : List (Entry A)) → First none left
+      → IfSome (nearest opens left) IsFirstAt
   first_nearest opens none [] h = tt
   first_nearest opens none (done a below ∷ left) h = first_behind (done a below) (nearest opens left)
       (first_nearest opens (test a.part.shape ≡ true) left h)
@@ -100,7 +107,8 @@ module _ {A : Type 0} (w : Around) (test : Shape → Bool) (events : (e : EventV
       by false k = first_behind (waits m a) (nearest opens left) k
 
   module _ (c : Closing A) where
-    first_footnote : (is_image : Bool) (a : Label A) (name : List ℕ) (none : Type 0) (before : List (Entry A)) → First none before
+    first_footnote : (is_image : Bool) (a : Label A) (name : List ℕ) (none : Type 0) (before : List (Entry A))
+        → First none before
         → First ⊥ (footnote_onto w c is_image a name before)
     first_footnote true a name none before h = first_or before (λ k. events _ _) h
     first_footnote false a name none before h = first_or before (λ k. events _ _) h
@@ -112,29 +120,35 @@ module _ {A : Type 0} (w : Around) (test : Shape → Bool) (events : (e : EventV
       wikilink_goes = first_change opens_wikilink without_wikilink ⊤;
       text = λ left h. first_or left (λ k. events _ _) h;
       link = λ left o target end h found live.
-          let at : IsFirstAt o = some_of (nearest opens_bracket left) o IsFirstAt found (first_nearest opens_bracket ⊤ left h) in
+          let at : IsFirstAt o = some_of (nearest opens_bracket left) o IsFirstAt found
+          (first_nearest opens_bracket ⊤ left h) in
           first_before_link o.mark.is_image _ o.before (first_or o.before (λ k. tags _) at);
       footnote = λ left o name h found live.
-          let at : IsFirstAt o = some_of (nearest opens_bracket left) o IsFirstAt found (first_nearest opens_bracket ⊤ left h) in
+          let at : IsFirstAt o = some_of (nearest opens_bracket left) o IsFirstAt found
+          (first_nearest opens_bracket ⊤ left h) in
           let opener : Type 0 = test o.opener.part.shape ≡ true in
           first_footnote o.mark.is_image o.opener name opener (before_footnote o.before)
           (first_marks without_bracket opener (second_folded o.before) (first_second opener o.before at));
       wikilink = λ left o v end h found live is.
-          let at : IsFirstAt o = some_of (nearest opens_wikilink left) o IsFirstAt found (first_nearest opens_wikilink ⊤ left h) in
+          let at : IsFirstAt o = some_of (nearest opens_wikilink left) o IsFirstAt found
+          (first_nearest opens_wikilink ⊤ left h) in
           first_marks without_wikilink _ (on_marks disabled_mark o.before)
           (first_marks disabled_mark _ o.before (first_or o.before (λ k. tags _) at));
     }
 
   module _ (others : Reader A) (rule : BeginsSo test others) where
     -- an open item puts a first tree
-    first_put : (b : ItemBody) (a : Label A) (below rest : Forest (Label A)) (known : Known) → is_unresolved a.part.shape ≡ true
+    first_put : (b : ItemBody) (a : Label A) (below rest : Forest (Label A)) (known : Known)
+        → is_unresolved a.part.shape ≡ true
         → First ⊥ (read_as w others b a below rest (begun known)).left
     first_put body.MaybeLinkOpen a below rest known h = events _ _
     first_put body.MaybeImage a below rest known h = events _ _
     first_put (body.MaybeLinkClose could) a below rest known h =
-        in_each_case w (closing_of could a rest (begun known)) (First ⊤) (First ⊥) (first_cases (closing_of could a rest (begun known)))
+        in_each_case w (closing_of could a rest (begun known)) (First ⊤) (First ⊥)
+        (first_cases (closing_of could a rest (begun known)))
         (begun known) tt
-    first_put other a below rest known h = first-from_trees (others a below rest (begun known)).left nil (rule.puts a below rest known h)
+    first_put other a below rest known h = first-from_trees (others a below rest (begun known)).left nil
+        (rule.puts a below rest known h)
 
     -- and each later item keeps one
     first_kept : (b : ItemBody) (a : Label A) (below rest : Forest (Label A)) (p : Progress A) → First ⊥ p.left
@@ -142,7 +156,8 @@ module _ {A : Type 0} (w : Around) (test : Shape → Bool) (events : (e : EventV
     first_kept body.MaybeLinkOpen a below rest p h = first_or p.left (λ k. events _ _) h
     first_kept body.MaybeImage a below rest p h = first_or p.left (λ k. events _ _) h
     first_kept (body.MaybeLinkClose could) a below rest p h =
-        in_each_case w (closing_of could a rest p) (First ⊤) (First ⊥) (first_cases (closing_of could a rest p)) p (first_or p.left (λ k. tt) h)
+        in_each_case w (closing_of could a rest p) (First ⊤) (First ⊥) (first_cases (closing_of could a rest p)) p
+        (first_or p.left (λ k. tt) h)
     first_kept other a below rest p h = first-from_trees (others a below rest p).left nil
         (rule.keeps a below rest p (first-trees p.left nil h))
 
@@ -151,11 +166,14 @@ module _ {A : Type 0} (w : Around) (test : Shape → Bool) (events : (e : EventV
     first_past None a below rest p h = first_kept (open_body a.part.shape) a below rest p h
     first_past (Some i) a below rest p h = by (nat_le (end_of a) i)
       where
-        by : (b : Bool) → First ⊥ (if b then p else read w others (begun_at i a) below rest (record p { goes_on = None })).left
+        by : (b : Bool) → First ⊥
+            (if b then p else read w others (begun_at i a) below rest (record p { goes_on = None })).left
         by true = h
-        by false = first_kept (open_body (begun_at i a).part.shape) (begun_at i a) below rest (record p { goes_on = None }) h
+        by false = first_kept (open_body (begun_at i a).part.shape) (begun_at i a) below rest
+            (record p { goes_on = None }) h
 
-    first_chain : (chain : Forest (Label A)) (p : Progress A) → First ⊥ p.left → First ⊥ (read_chain w others chain p).left
+    first_chain : (chain : Forest (Label A)) (p : Progress A) → First ⊥ p.left
+        → First ⊥ (read_chain w others chain p).left
     unfolding read_chain
     first_chain nil p h = h
     first_chain (node a below rest) p h = first_chain rest (read_past w others p.goes_on a below rest p)
@@ -170,4 +188,5 @@ module _ {A : Type 0} (w : Around) (test : Shape → Bool) (events : (e : EventV
         (first_chain rest first (first_put (open_body a.part.shape) a below rest known h))
 
 pub begins_law : {A : Type 0} → BeginsLaw A
-begins_law w others test events tags rule a below rest known h = read_begins w test events tags others rule a below rest known h
+begins_law w others test events tags rule a below rest known h = read_begins w test events tags others rule a below rest
+    known h

@@ -1,5 +1,6 @@
 -- What is tried for an opener comes to what was found.
-use Rattle.std.proofs.Common.{◌≡◌, ℕ, ◌++◌, Bool, true, false, List, [], ◌∷◌, Option, Some, None, is_some, refl, sym, ◌∙◌, ap, subst, append-nil}
+use Rattle.std.proofs.Common.{◌≡◌, ℕ, ◌++◌, Bool, true, false, List, [], ◌∷◌, Option, Some, None, is_some, refl, sym}
+use Rattle.std.proofs.Common.{◌∙◌, ap, subst, append-nil}
 use Rattle.std.specs.Option.{option_map, option_or}
 use Rattle.std.proofs.Common.{arith}
 use Rattle.std.proofs.lemmas.Bool.Decides.{nat_tests}
@@ -23,8 +24,10 @@ use Rattle.markdown_defs.specs.Definitions.{Labelled}
 use Rattle.markdown_defs.specs.Folding.{is_match}
 use Rattle.markdown_defs.specs.Footnotes.{footnote_at}
 use Rattle.markdown_defs.specs.FootnoteCounts as footnotes
-use Rattle.markdown_brackets.specs.BracketDecision.{Around, Becomes, Written, LinkReference, Progress, a_text, a_link, a_footnote, carried_out}
-use Rattle.markdown_brackets.specs.BracketDecision.{footnote_label, footnote_written, inline_link, inline_target, link_reference, looked_up}
+use Rattle.markdown_brackets.specs.BracketDecision.{Around, Becomes, Written, LinkReference, Progress, a_text, a_link}
+use Rattle.markdown_brackets.specs.BracketDecision.{a_footnote, carried_out}
+use Rattle.markdown_brackets.specs.BracketDecision.{footnote_label, footnote_written, inline_link, inline_target}
+use Rattle.markdown_brackets.specs.BracketDecision.{link_reference, looked_up}
 use Rattle.markdown_brackets.specs.BracketDecision.{question_at, to_be, uses_once_more}
 use Rattle.markdown_brackets.specs.BracketOptions.{footnote_style}
 use Rattle.markdown_brackets.specs.DecisionView.{IsBecome, knowing}
@@ -58,7 +61,8 @@ unknown_looked_up other h = h
 abbrev pub IsNoInline : Option LinkView → Type 0
 IsNoInline target = IfSome target (λ t. IsLookedUp t.kind)
 
-none_inline : (defined : List Labelled) (asks : Bool) (limit : ℕ) (answers : Answers) (q : Question) → IsLookedUp q.link_type
+none_inline : (defined : List Labelled) (asks : Bool) (limit : ℕ) (answers : Answers) (q : Question)
+    → IsLookedUp q.link_type
     → IsNoInline (look_up defined asks limit answers q).target
 none_inline defined asks limit answers q h = by_limit (limit == 0)
   where
@@ -70,7 +74,8 @@ none_inline defined asks limit answers q h = by_limit (limit == 0)
     by_answers [] = by_answer [] None
     by_answers (a ∷ later) = by_answer later a
 
-    by_asking : (asking : Bool) → IsNoInline (if asking then asked limit answers q else finds_nothing limit answers []).target
+    by_asking : (asking : Bool)
+        → IsNoInline (if asking then asked limit answers q else finds_nothing limit answers []).target
     by_asking true = by_answers answers
     by_asking false = tt
 
@@ -85,16 +90,20 @@ none_inline defined asks limit answers q h = by_limit (limit == 0)
     by_limit false = by_definition (definitions.find_definition q.reference defined)
 
 -- so nothing is said of its title
-pub none_from : (source : List ℕ) (start end : ℕ) (target : Target) → IsLookedUp target.link_type → IsTargetFrom source start end target
+pub none_from : (source : List ℕ) (start end : ℕ) (target : Target) → IsLookedUp target.link_type
+    → IsTargetFrom source start end target
 none_from source start end target h = by target.link_type h
   where
-    by : (link_type : LinkType) → IsLookedUp link_type → IsTitleFrom source start end link_type (origin_of target.title) (text_of target.title)
+    by : (link_type : LinkType) → IsLookedUp link_type → IsTitleFrom source start end link_type (origin_of target.title)
+        (text_of target.title)
     by kind.Inline h = absurd h
     by other h = tt
 
 -- where nobody is asked and no end is used up
-pub comes_quietly : {C : Type 0} (step : C → Question → Option Answer → C → Type 0) (w : Around) (old : LabelLookup C) (spent : SpentEnds)
-    (x : Option (Written ℕ)) (becomes : Becomes ℕ) (found : ClosedBracket) → ((p : Progress ℕ) → carried_out w x p ≡ to_be becomes p)
+pub comes_quietly : {C : Type 0} (step : C → Question → Option Answer → C → Type 0) (w : Around) (old : LabelLookup C)
+    (spent : SpentEnds)
+    (x : Option (Written ℕ)) (becomes : Becomes ℕ) (found : ClosedBracket)
+    → ((p : Progress ℕ) → carried_out w x p ≡ to_be becomes p)
     → IsBecome w becomes found → ComesTo step w x old old spent spent found
 comes_quietly step w old spent x becomes found carried is = record {
   answers = [];
@@ -111,23 +120,28 @@ comes_quietly step w old spent x becomes found carried is = record {
 }
 
 -- where nothing is found
-pub comes_to_text : {C : Type 0} (step : C → Question → Option Answer → C → Type 0) (w : Around) (old : LabelLookup C) (spent : SpentEnds)
+pub comes_to_text : {C : Type 0} (step : C → Question → Option Answer → C → Type 0) (w : Around) (old : LabelLookup C)
+    (spent : SpentEnds)
     → ComesTo step w None old old spent spent Text
 comes_to_text step w old spent = comes_quietly step w old spent None a_text Text (λ p. refl) tt
 
 -- an inline link
-pub comes_to_tail : {C : Type 0} (step : C → Question → Option Answer → C → Type 0) (w : Around) (old : LabelLookup C) (spent : SpentEnds)
+pub comes_to_tail : {C : Type 0} (step : C → Question → Option Answer → C → Type 0) (w : Around) (old : LabelLookup C)
+    (spent : SpentEnds)
     (o : Split ℕ) (other : Option (Written ℕ)) (t : Option scanned.LinkTail) (tail : LinkTail) (found : ClosedBracket)
     → ReadsTail w.above.in_table t (Some tail)
-    → ((t : scanned.LinkTail) → IsTail w.above.in_table t tail → IsBecome w (a_link o (inline_target w t) t.ends t.ends) found)
+    → ((t : scanned.LinkTail) → IsTail w.above.in_table t tail → IsBecome w (a_link o (inline_target w t) t.ends t.ends)
+    found)
     → ComesTo step w (option_or (option_map (inline_link o) t) other) old old spent spent found
 comes_to_tail step w old spent o other None tail found reads is = absurd reads
-comes_to_tail step w old spent o other (Some t) tail found reads is = comes_quietly step w old spent (Some (inline_link o t))
+comes_to_tail step w old spent o other (Some t) tail found reads is = comes_quietly step w old spent
+    (Some (inline_link o t))
     (a_link o (inline_target w t) t.ends t.ends) found (λ p. refl) (is t reads)
 
 -- by another name of what was found
 pub found_as : {C : Type 0} {step : C → Question → Option Answer → C → Type 0} {w : Around} {old new : LabelLookup C}
-    {spent spent' : SpentEnds} {found : ClosedBracket} {x y : Option (Written ℕ)} → x ≡ y → ComesTo step w x old new spent spent' found
+    {spent spent' : SpentEnds} {found : ClosedBracket} {x y : Option (Written ℕ)} → x ≡ y
+    → ComesTo step w x old new spent spent' found
     → ComesTo step w y old new spent spent' found
 found_as {step = step} {w = w} {old = old} {new = new} {spent = spent} {spent' = spent'} {found = found} e h =
     subst (λ x. ComesTo step w x old new spent spent' found) e h
@@ -155,7 +169,8 @@ module _ {C : Type 0} (step : C → Question → Option Answer → C → Type 0)
   abbrev pub link_or_text : (end next : ℕ) → Option LinkView → Becomes ℕ
   link_or_text end next target = unwrap_or (option_map (λ t. a_link o t end next) target) a_text
 
-  pub comes_to_reference : (about : BrokenLink) (next : ℕ) (spends : List ℕ) (spent spent' : SpentEnds) (target : Option LinkView)
+  pub comes_to_reference : (about : BrokenLink) (next : ℕ) (spends : List ℕ) (spent spent' : SpentEnds)
+      (target : Option LinkView)
       (found : ClosedBracket)
       → about.span.start ≡ start_of o.opener → new.tables ≡ old.tables → Spends spends spent spent'
       → IsLookedUp about.link_type → LooksUp step old new (question_of about) target
@@ -181,7 +196,8 @@ module _ {C : Type 0} (step : C → Question → Option Answer → C → Type 0)
       looks : LooksUp step old new (question_at o r) target
       looks =
           subst (λ n. let q : Question =
-          record { span = record { start = n; end = r.end }; link_type = r.link_type; reference = r.label } in LooksUp step old new q target)
+          record { span = record { start = n; end = r.end }; link_type = r.link_type; reference = r.label } in LooksUp
+          step old new q target)
           start asks
 
   -- a footnote label
@@ -194,13 +210,15 @@ module _ {C : Type 0} (step : C → Question → Option Answer → C → Type 0)
 
     -- a use is counted, or nothing has changed
     knows_uses : (d : Bool) → is_some (footnote_at old.tables.footdefs name) ≡ d → (p : Progress ℕ) (later : Answers)
-        → knowing old.limit later (if d then uses_once_more name (uses_of old.tables.footdefs) else uses_of old.tables.footdefs) p
+        → knowing old.limit later
+        (if d then uses_once_more name (uses_of old.tables.footdefs) else uses_of old.tables.footdefs) p
         ≡ knowing new.limit later (uses_of new.tables.footdefs) p
     knows_uses true e p later = rw (limit, uses_grow old.tables.footdefs new.tables.footdefs name counted e) refl
     knows_uses false e p later = rw (limit, uses_stay old.tables.footdefs new.tables.footdefs name counted e) refl
 
     comes_by : (x : Option (Written ℕ)) (becomes : Becomes ℕ) (found : ClosedBracket)
-        → ((p : Progress ℕ) (later : Answers) → carried_out w x (knowing old.limit later (uses_of old.tables.footdefs) p)
+        → ((p : Progress ℕ) (later : Answers)
+        → carried_out w x (knowing old.limit later (uses_of old.tables.footdefs) p)
         ≡ to_be becomes (knowing new.limit later (uses_of new.tables.footdefs) p))
         → IsBecome w becomes found → ComesTo step w x old new spent spent found
     comes_by x becomes found carried is = record {
@@ -219,13 +237,16 @@ module _ {C : Type 0} (step : C → Question → Option Answer → C → Type 0)
 
     pub comes_to_footnote : is_one ≡ true → (found : ClosedBracket) → IsBecome w (a_footnote o name) found
         → ComesTo step w (footnote_written w o name) old new spent spent found
-    comes_to_footnote one found is = found_as (rw one refl) (comes_by (Some (footnote_label o name)) (a_footnote o name) found
-        (λ p later. ap (to_be (a_footnote o name)) (knows_uses (is_some (footnote_at old.tables.footdefs name)) refl p later)) is)
+    comes_to_footnote one found is = found_as (rw one refl)
+        (comes_by (Some (footnote_label o name)) (a_footnote o name) found
+        (λ p later. ap (to_be (a_footnote o name))
+        (knows_uses (is_some (footnote_at old.tables.footdefs name)) refl p later)) is)
 
     pub comes_to_no_footnote : is_one ≡ false → ComesTo step w (footnote_written w o name) old new spent spent Text
     comes_to_no_footnote none = found_as (rw none refl) (comes_by None a_text Text
         (λ p later. ap (to_be a_text) (knows_uses false
-        (none_defined (footnote_style place.options) (is_some (footnote_at old.tables.footdefs name)) none) p later)) tt)
+        (none_defined (footnote_style place.options) (is_some (footnote_at old.tables.footdefs name)) none) p later))
+        tt)
       where
         none_defined : (how : FootnoteStyle) (d : Bool) → is_reference how d ≡ false → d ≡ false
         none_defined style.Off d e = e

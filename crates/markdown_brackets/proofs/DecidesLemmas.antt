@@ -1,5 +1,6 @@
 -- The decision at a `]` is the wikilink that was found, or what its opener comes to.
-use Rattle.std.proofs.Common.{◌≡◌, ℕ, ◌++◌, Bool, List, [], ◌∷◌, Option, Some, None, refl, sym, ◌∙◌, ap, subst, append-nil}
+use Rattle.std.proofs.Common.{◌≡◌, ℕ, ◌++◌, Bool, List, [], ◌∷◌, Option, Some, None, refl, sym, ◌∙◌, ap, subst}
+use Rattle.std.proofs.Common.{append-nil}
 use Rattle.std.specs.Option.{option_and_then}
 use Rattle.std.specs.Prelude.{IfSome, MatchOption}
 use Rattle.markdown_base.specs.Arena.{sibling_of}
@@ -9,11 +10,13 @@ use Rattle.markdown_base.specs.declared.item.Item.{Item}
 use Rattle.markdown_base.specs.declared.node.Node.{Node}
 use Rattle.markdown_document.specs.ChainRest.{end_of}
 use Rattle.markdown_document.specs.Setting.{Known, uses_of}
-use Rattle.markdown_brackets.specs.BracketDecision.{Around, Closing, Decision, Progress, a_wikilink, bracket_found, to_be}
+use Rattle.markdown_brackets.specs.BracketDecision.{Around, Closing, Decision, Progress, a_wikilink, bracket_found}
+use Rattle.markdown_brackets.specs.BracketDecision.{to_be}
 use Rattle.markdown_brackets.specs.Decides.{Decides, StandsBefore}
 use Rattle.markdown_brackets.specs.DecisionView.{knowing, opener_of}
 use Rattle.markdown_brackets.specs.Finish.{SplitsAs}
-use Rattle.markdown_brackets.specs.LeftList.{Entry, Split, nearest, opens_bracket, without_bracket, bracket_taken, wikilink_taken}
+use Rattle.markdown_brackets.specs.LeftList.{Entry, Split, nearest, opens_bracket, without_bracket, bracket_taken}
+use Rattle.markdown_brackets.specs.LeftList.{wikilink_taken}
 use Rattle.markdown_brackets.specs.HeldOpeners.{brackets_of}
 use Rattle.markdown_brackets.specs.Openers.{Waiting}
 use Rattle.markdown_brackets.specs.ReadChain.{begun}
@@ -24,23 +27,29 @@ use Rattle.markdown_brackets.specs.declared.openers.Opener.{Opener}
 use Rattle.markdown_brackets.specs.declared.spent_ends.SpentEnds.{SpentEnds}
 use Rattle.markdown_brackets.proofs.AheadOfBracketLemmas.{same_start, same_end}
 use Rattle.markdown_brackets.proofs.BracketStandsLemmas.{found_at}
-use Rattle.markdown_brackets.proofs.OpenerHeldLemmas.{TopBracket, SplitsAt, brackets_stay, splits_at, top_bracket, wikilinks_stay}
+use Rattle.markdown_brackets.proofs.OpenerHeldLemmas.{TopBracket, SplitsAt, brackets_stay, splits_at, top_bracket}
+use Rattle.markdown_brackets.proofs.OpenerHeldLemmas.{wikilinks_stay}
 use Rattle.markdown_brackets.proofs.SplitLemmas.{opener_splits, taken_splits}
-use Rattle.markdown_brackets.proofs.TakeWikilinkLemmas.{closer_found, first_of, opener_holds, rest_brackets, rest_found, rest_of}
+use Rattle.markdown_brackets.proofs.TakeWikilinkLemmas.{closer_found, first_of, opener_holds, rest_brackets, rest_found}
+use Rattle.markdown_brackets.proofs.TakeWikilinkLemmas.{rest_of}
 
 -- what is left of a stack whose top was taken off
 pub left_of : (taken : Option (Opener × Bool)) (old new : List Waiting)
-    → MatchOption taken ((old ≡ []) × (new ≡ [])) (λ t. old ≡ record { opener = t.0; is_live = t.1 } ∷ new) → new ≡ rest_of old
+    → MatchOption taken ((old ≡ []) × (new ≡ [])) (λ t. old ≡ record { opener = t.0; is_live = t.1 } ∷ new) → new
+    ≡ rest_of old
 left_of None old new m = m.1 ∙ sym (ap rest_of m.0)
 left_of (Some t) old new m = sym (ap rest_of m)
 
-module _ {C : Type 0} (step : C → Question → Option Answer → C → Type 0) (w : Around) (c : Closing ℕ) (left : List (Entry ℕ))
+module _ {C : Type 0} (step : C → Question → Option Answer → C → Type 0) (w : Around) (c : Closing ℕ)
+    (left : List (Entry ℕ))
     (lookup : LabelLookup C) (spent : SpentEnds)
     (taken : Option (Opener × Bool)) (old new held : List Waiting) (old_is : old ≡ brackets_of left)
-    (m : MatchOption taken ((old ≡ []) × (new ≡ [])) (λ t. old ≡ record { opener = t.0; is_live = t.1 } ∷ new)) (found : ClosedBracket)
+    (m : MatchOption taken ((old ≡ []) × (new ≡ [])) (λ t. old ≡ record { opener = t.0; is_live = t.1 } ∷ new))
+    (found : ClosedBracket)
   where
     pub decides_wikilink : TakesOne w c left held found
-        → Decides step w c left lookup.limit lookup.limit (uses_of lookup.tables.footdefs) (uses_of lookup.tables.footdefs) spent spent
+        → Decides step w c left lookup.limit lookup.limit (uses_of lookup.tables.footdefs)
+        (uses_of lookup.tables.footdefs) spent spent
         lookup.callback lookup.callback new held found
     decides_wikilink t = record {
       answers = [];
@@ -57,13 +66,16 @@ module _ {C : Type 0} (step : C → Question → Option Answer → C → Type 0)
           ∙ ap (λ (asked : List Question). to_be (a_wikilink t.opener t.wikilink t.end)
           (record now { left = bracket_taken (wikilink_taken left); asked = asked })) (sym (append-nil p.asked));
       spends = λ end. refl;
-      brackets_are = left_of taken old new m ∙ (ap rest_of (old_is ∙ sym (brackets_stay left)) ∙ rest_brackets (wikilink_taken left));
+      brackets_are = left_of taken old new m
+          ∙ (ap rest_of (old_is ∙ sym (brackets_stay left)) ∙ rest_brackets (wikilink_taken left));
       wikilinks_are = t.held_is;
     }
 
     pub decides_one : (lookup' : LabelLookup C) (spent' : SpentEnds) (t : TakesNone w c left held)
-        → ComesTo step w (option_and_then (bracket_found w c) (nearest opens_bracket t.left_then)) lookup lookup' spent spent' found
-        → Decides step w c left lookup.limit lookup'.limit (uses_of lookup.tables.footdefs) (uses_of lookup'.tables.footdefs) spent spent'
+        → ComesTo step w (option_and_then (bracket_found w c) (nearest opens_bracket t.left_then)) lookup lookup' spent
+        spent' found
+        → Decides step w c left lookup.limit lookup'.limit (uses_of lookup.tables.footdefs)
+        (uses_of lookup'.tables.footdefs) spent spent'
         lookup.callback lookup'.callback new held found
     decides_one lookup' spent' t h = record {
       answers = h.answers;
@@ -75,7 +87,8 @@ module _ {C : Type 0} (step : C → Question → Option Answer → C → Type 0)
       splits =
           let none : Known = record { limit = 0; answers = []; uses = λ name. 0 } in
           let start : Progress ℕ = begun none in
-          subst (λ becomes. SplitsAs (bracket_taken t.left_then) becomes) (ap (λ (d : Decision ℕ). d.becomes) (h.comes start []))
+          subst (λ becomes. SplitsAs (bracket_taken t.left_then) becomes)
+          (ap (λ (d : Decision ℕ). d.becomes) (h.comes start []))
           (opener_splits w c (bracket_taken t.left_then) (nearest opens_bracket t.left_then)
           (knowing lookup.limit (h.answers ++ []) (uses_of lookup.tables.footdefs) start)
           (taken_splits opens_bracket without_bracket t.left_then));
@@ -102,12 +115,14 @@ module _ {C : Type 0} (step : C → Question → Option Answer → C → Type 0)
           ends = subst (λ n. (item_at nodes n).end ≡ end_of c.label) s.number (same_end s.source s.tables nodes c.label
               (closer_found nodes closer left c s).holds.2);
           could = could;
-          openers = by taken m (nearest opens_bracket t.left_then) (top_bracket t.left_then) (splits_at opens_bracket t.left_then);
+          openers = by taken m (nearest opens_bracket t.left_then) (top_bracket t.left_then)
+              (splits_at opens_bracket t.left_then);
         }
       where
         by : (taken : Option (Opener × Bool))
             → MatchOption taken ((old ≡ []) × (new ≡ [])) (λ t. old ≡ record { opener = t.0; is_live = t.1 } ∷ new)
-            → (o : Option (Split ℕ)) → TopBracket t.left_then o → IfSome o (SplitsAt t.left_then) → AreTaken nodes taken o
+            → (o : Option (Split ℕ)) → TopBracket t.left_then o → IfSome o (SplitsAt t.left_then)
+            → AreTaken nodes taken o
         by None m None top splits = tt
         by None m (Some o) top splits = let a = sym m.0 ∙ (old_is ∙ (sym t.brackets ∙ top)) in cc
         by (Some k) m None top splits = let a = sym m ∙ (old_is ∙ (sym t.brackets ∙ top.0)) in cc

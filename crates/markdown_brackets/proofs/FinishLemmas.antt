@@ -1,6 +1,7 @@
 -- What is added to a left list takes openers off the stacks: numbers rise along the list, so that an opener and all
 -- after it are removed, and those before it stay; only the one just before it leads to it.
-use Rattle.std.proofs.Common.{◌≡◌, ℕ, ◌<◌, ◌≤◌, ◌==◌, Bool, true, false, List, [], ◌∷◌, ◌++◌, Option, Some, map, nat_le, refl, sym, ◌∙◌, ap}
+use Rattle.std.proofs.Common.{◌≡◌, ℕ, ◌<◌, ◌≤◌, ◌==◌, Bool, true, false, List, [], ◌∷◌, ◌++◌, Option, Some, map, nat_le}
+use Rattle.std.proofs.Common.{refl, sym, ◌∙◌, ap}
 use Rattle.std.proofs.Common.{subst, arith}
 use Rattle.std.specs.Prelude.{if◌then◌else◌, ⊤}
 use Rattle.std.proofs.lemmas.Bool.Decides.{nat_tests}
@@ -10,14 +11,17 @@ use Rattle.markdown_base.specs.declared.item.Item.{Item}
 use Rattle.markdown_base.specs.declared.node.Node.{Node}
 use Rattle.markdown_document.specs.Document.{Label}
 use Rattle.markdown_document.specs.Tables.{Tables}
-use Rattle.markdown_brackets.specs.BracketDecision.{Around, Becomes, Closing, Progress, a_footnote, a_link, a_text, a_wikilink}
+use Rattle.markdown_brackets.specs.BracketDecision.{Around, Becomes, Closing, Progress, a_footnote, a_link, a_text}
+use Rattle.markdown_brackets.specs.BracketDecision.{a_wikilink}
 use Rattle.markdown_brackets.specs.ChainHeld.{Holds, numbers_of}
 use Rattle.markdown_brackets.specs.ClosingBracket.{footnote_onto, put}
 use Rattle.markdown_brackets.specs.DecisionView.{IsBecome, opener_of}
 use Rattle.markdown_brackets.specs.Decides.{EachOpener, StandsBefore}
 use Rattle.markdown_brackets.specs.Finish.{AreBehind, AreRising, IsSplit, LeftRises, SplitsAs}
-use Rattle.markdown_brackets.specs.LeftList.{Entry, Flag, Mark, Split, before_footnote, before_link, before_wikilink, disabled}
-use Rattle.markdown_brackets.specs.LeftList.{disabled_flag, disabled_mark, done, gone, live, on_marks, second_folded, trees_onto}
+use Rattle.markdown_brackets.specs.LeftList.{Entry, Flag, Mark, Split, before_footnote, before_link, before_wikilink}
+use Rattle.markdown_brackets.specs.LeftList.{disabled}
+use Rattle.markdown_brackets.specs.LeftList.{disabled_flag, disabled_mark, done, gone, live, on_marks, second_folded}
+use Rattle.markdown_brackets.specs.LeftList.{trees_onto}
 use Rattle.markdown_brackets.specs.LeftList.{waits, without_bracket, without_wikilink}
 use Rattle.markdown_brackets.specs.HeldOpeners.{brackets_of, held_as, wikilinks_of}
 use Rattle.markdown_brackets.specs.Openers.{Waiting, before}
@@ -38,7 +42,8 @@ each_before P n (t ∷ held) h = by (nat_le n t.opener.node) (each_before P n he
     by true rest = rest
     by false rest = h
 
-pub first_each : (P : ℕ → Type 0) (held : List Waiting) (opener : Opener) → openers.first_opener held ≡ Some opener → EachOpener P held
+pub first_each : (P : ℕ → Type 0) (held : List Waiting) (opener : Opener) → openers.first_opener held ≡ Some opener
+    → EachOpener P held
     → P opener.node
 first_each P [] opener e h = let none = e in cc
 first_each P (t ∷ held) opener e h = let same : t.opener ≡ opener = cc in subst (λ (o : Opener). P o.node) same h.0
@@ -78,7 +83,8 @@ AreAfter n (e ∷ left) = (n < number_of e) × AreAfter n left
 -- each entry leads to the next one, which has a greater number, and the nearest to this one
 abbrev LinksOn : List (Node Item) → ℕ → List (Entry ℕ) → Type 0
 LinksOn nodes n [] = ⊤
-LinksOn nodes n (e ∷ left) = (number_of e < n) × (sibling_of nodes (number_of e) ≡ Some n) × LinksOn nodes (number_of e) left
+LinksOn nodes n (e ∷ left) = (number_of e < n) × (sibling_of nodes (number_of e) ≡ Some n)
+    × LinksOn nodes (number_of e) left
 
 -- numbers that rise
 rising_from : (left : List (Entry ℕ)) (f : Forest (Label ℕ)) → AreRising (roots (numbers_of (trees_onto left f)))
@@ -87,44 +93,58 @@ rising_from [] f h = h
 rising_from (done a below ∷ left) f h = (rising_from left (node a below f) h).1
 rising_from (waits m a ∷ left) f h = (rising_from left (node a nil f) h).1
 
-behind_from : (n : ℕ) (left : List (Entry ℕ)) (f : Forest (Label ℕ)) → AreBehind n (roots (numbers_of (trees_onto left f)))
+behind_from : (n : ℕ) (left : List (Entry ℕ)) (f : Forest (Label ℕ))
+    → AreBehind n (roots (numbers_of (trees_onto left f)))
     → AreBehind n (roots (numbers_of f))
 behind_from n [] f h = h
 behind_from n (done a below ∷ left) f h = (behind_from n left (node a below f) h).1
 behind_from n (waits m a ∷ left) f h = (behind_from n left (node a nil f) h).1
 
-after_all : (n : ℕ) (left : List (Entry ℕ)) (f : Forest (Label ℕ)) → AreBehind n (roots (numbers_of (trees_onto left f))) → AreAfter n left
+after_all : (n : ℕ) (left : List (Entry ℕ)) (f : Forest (Label ℕ))
+    → AreBehind n (roots (numbers_of (trees_onto left f))) → AreAfter n left
 after_all n [] f h = tt
 after_all n (done a below ∷ left) f h = ((behind_from n left (node a below f) h).0, after_all n left (node a below f) h)
 after_all n (waits m a ∷ left) f h = ((behind_from n left (node a nil f) h).0, after_all n left (node a nil f) h)
 
 -- each node of the left list leads to the next
-links_on : (source : List ℕ) (tables : Tables) (nodes : List (Node Item)) (first : Option ℕ) (left : List (Entry ℕ)) (a : Label ℕ)
+links_on : (source : List ℕ) (tables : Tables) (nodes : List (Node Item)) (first : Option ℕ) (left : List (Entry ℕ))
+    (a : Label ℕ)
     (below later below' later' : Forest (Label ℕ))
     → Holds source tables nodes first (trees_onto left (node a below later))
     → AreRising (roots (numbers_of (trees_onto left (node a below' later')))) → LinksOn nodes a.tag left
 links_on source tables nodes first [] a below later below' later' h r = tt
 links_on source tables nodes first (done b under ∷ left) a below later below' later' h r =
     let at = Holds-from source tables nodes first left (node b under (node a below later)) h in
-    let rises = rising_from left (node b under (node a below' later')) r in
-    (rises.0.0, at.1.4.0, links_on source tables nodes first left b under (node a below later) under (node a below' later') h r)
+    let rises = rising_from left (node b under (node a below' later')) r in (
+      rises.0.0,
+      at.1.4.0,
+      links_on source tables nodes first left b under (node a below later) under
+          (node a below' later') h r,
+    )
 links_on source tables nodes first (waits m b ∷ left) a below later below' later' h r =
     let at = Holds-from source tables nodes first left (node b nil (node a below later)) h in
-    let rises = rising_from left (node b nil (node a below' later')) r in
-    (rises.0.0, at.1.4.0, links_on source tables nodes first left b nil (node a below later) nil (node a below' later') h r)
+    let rises = rising_from left (node b nil (node a below' later')) r in (
+      rises.0.0,
+      at.1.4.0,
+      links_on source tables nodes first left b nil (node a below later) nil (node a below' later')
+          h r,
+    )
 
-links_folded : (nodes : List (Node Item)) (n : ℕ) (left : List (Entry ℕ)) → LinksOn nodes n left → LinksOn nodes n (second_folded left)
+links_folded : (nodes : List (Node Item)) (n : ℕ) (left : List (Entry ℕ)) → LinksOn nodes n left
+    → LinksOn nodes n (second_folded left)
 links_folded nodes n [] h = tt
 links_folded nodes n (done a below ∷ left) h = h
 links_folded nodes n (waits m a ∷ left) h = h
 
-onto_append : (after left : List (Entry ℕ)) (f : Forest (Label ℕ)) → trees_onto (after ++ left) f ≡ trees_onto left (trees_onto after f)
+onto_append : (after left : List (Entry ℕ)) (f : Forest (Label ℕ)) → trees_onto (after ++ left) f
+    ≡ trees_onto left (trees_onto after f)
 onto_append [] left f = refl
 onto_append (done a below ∷ after) left f = onto_append after left (node a below f)
 onto_append (waits m a ∷ after) left f = onto_append after left (node a nil f)
 
 -- an opener of a greater number goes, one of a smaller number stays
-goes : (n number : ℕ) (is_image : Bool) (f : Flag) (held : List Waiting) → n ≤ number → before n (held_as number is_image f held)
+goes : (n number : ℕ) (is_image : Bool) (f : Flag) (held : List Waiting) → n ≤ number
+    → before n (held_as number is_image f held)
     ≡ before n held
 goes n number is_image live held le = rw (le_true n number le) refl
 goes n number is_image disabled held le = rw (le_true n number le) refl
@@ -136,14 +156,17 @@ stays n number is_image live held lt e = rw (lt_false n number lt) refl
 stays n number is_image disabled held lt e = rw (lt_false n number lt) refl
 stays n number is_image gone held lt e = e
 
-goes_all : (flag : Mark → Flag) (n : ℕ) (after left : List (Entry ℕ)) → AreAfter n after → before n (held_by flag (after ++ left))
+goes_all : (flag : Mark → Flag) (n : ℕ) (after left : List (Entry ℕ)) → AreAfter n after
+    → before n (held_by flag (after ++ left))
     ≡ before n (held_by flag left)
 goes_all flag n [] left h = refl
 goes_all flag n (done a below ∷ after) left h = goes_all flag n after left h.1
 goes_all flag n (waits m a ∷ after) left h =
-    goes n a.tag m.is_image (flag m) (held_by flag (after ++ left)) (omega (arith, h.0)) ∙ goes_all flag n after left h.1
+    goes n a.tag m.is_image (flag m) (held_by flag (after ++ left)) (omega (arith, h.0))
+    ∙ goes_all flag n after left h.1
 
-stays_all : (flag : Mark → Flag) (nodes : List (Node Item)) (n next : ℕ) (left : List (Entry ℕ)) → LinksOn nodes next left → next ≤ n
+stays_all : (flag : Mark → Flag) (nodes : List (Node Item)) (n next : ℕ) (left : List (Entry ℕ))
+    → LinksOn nodes next left → next ≤ n
     → before n (held_by flag left) ≡ held_by flag left
 stays_all flag nodes n next [] h le = refl
 stays_all flag nodes n next (done a below ∷ left) h le = stays_all flag nodes n a.tag left h.2 (omega (arith, h.0, le))
@@ -168,23 +191,30 @@ other_number m n lt = grind (arith, nat_tests)
 
 far_one : (nodes : List (Node Item)) (n next number : ℕ) (is_image : Bool) (f : Flag) (held : List Waiting)
     → sibling_of nodes number ≡ Some next → next < n
-    → without_second nodes n held ≡ held → without_second nodes n (held_as number is_image f held) ≡ held_as number is_image f held
+    → without_second nodes n held ≡ held → without_second nodes n (held_as number is_image f held)
+    ≡ held_as number is_image f held
 far_one nodes n next number is_image live held e lt rest = rw (e, other_number next n lt) refl
 far_one nodes n next number is_image disabled held e lt rest = rw (e, other_number next n lt) refl
 far_one nodes n next number is_image gone held e lt rest = rest
 
-far : (flag : Mark → Flag) (nodes : List (Node Item)) (n next : ℕ) (left : List (Entry ℕ)) → LinksOn nodes next left → next < n
+far : (flag : Mark → Flag) (nodes : List (Node Item)) (n next : ℕ) (left : List (Entry ℕ)) → LinksOn nodes next left
+    → next < n
     → without_second nodes n (held_by flag left) ≡ held_by flag left
 far flag nodes n next [] h lt = refl
 far flag nodes n next (done a below ∷ left) h lt = far flag nodes n a.tag left h.2 (omega (arith, h.0, lt))
 far flag nodes n next (waits m a ∷ left) h lt =
-    far_one nodes n next a.tag m.is_image (flag m) (held_by flag left) h.1 lt (far flag nodes n a.tag left h.2 (omega (arith, h.0, lt)))
+    far_one nodes n next a.tag m.is_image (flag m) (held_by flag left) h.1 lt
+    (far flag nodes n a.tag left h.2 (omega (arith, h.0, lt)))
 
 -- the last one before it does
-near_one : (nodes : List (Node Item)) (n number : ℕ) (is_image : Bool) (f : Flag) (held : List Waiting) → sibling_of nodes number ≡ Some n
-    → before number held ≡ held → without_second nodes n held ≡ held → without_second nodes n (held_as number is_image f held) ≡ held
-near_one nodes n number is_image live held e rest none = rw (e, same_number n) (goes number number is_image live held (omega arith) ∙ rest)
-near_one nodes n number is_image disabled held e rest none = rw (e, same_number n) (goes number number is_image disabled held (omega arith)
+near_one : (nodes : List (Node Item)) (n number : ℕ) (is_image : Bool) (f : Flag) (held : List Waiting)
+    → sibling_of nodes number ≡ Some n
+    → before number held ≡ held → without_second nodes n held ≡ held
+    → without_second nodes n (held_as number is_image f held) ≡ held
+near_one nodes n number is_image live held e rest none = rw (e, same_number n)
+    (goes number number is_image live held (omega arith) ∙ rest)
+near_one nodes n number is_image disabled held e rest none = rw (e, same_number n)
+    (goes number number is_image disabled held (omega arith)
     ∙ rest)
 near_one nodes n number is_image gone held e rest none = none
 
@@ -193,13 +223,16 @@ second_gone : (nodes : List (Node Item)) (n : ℕ) (left : List (Entry ℕ)) →
 second_gone nodes n [] h = refl
 second_gone nodes n (done a below ∷ left) h = far for_wikilink nodes n a.tag left h.2 h.0
 second_gone nodes n (waits m a ∷ left) h =
-    near_one nodes n a.tag m.is_image m.wikilink (held_by for_wikilink left) h.1 (stays_all for_wikilink nodes a.tag a.tag left h.2
+    near_one nodes n a.tag m.is_image m.wikilink (held_by for_wikilink left) h.1
+    (stays_all for_wikilink nodes a.tag a.tag left h.2
     (omega arith))
     (far for_wikilink nodes n a.tag left h.2 h.0)
 
 -- openers with other flags
-disabled_held : (number : ℕ) (is_image : Bool) (f : Flag) (held held' : List Waiting) → held' ≡ map openers.disabled_opener held
-    → held_as number is_image (if is_image then f else disabled_flag f) held' ≡ map openers.disabled_opener (held_as number is_image f held)
+disabled_held : (number : ℕ) (is_image : Bool) (f : Flag) (held held' : List Waiting) → held'
+    ≡ map openers.disabled_opener held
+    → held_as number is_image (if is_image then f else disabled_flag f) held'
+    ≡ map openers.disabled_opener (held_as number is_image f held)
 disabled_held number true live held held' e = ap (held_as number true live) e
 disabled_held number true disabled held held' e = ap (held_as number true disabled) e
 disabled_held number true gone held held' e = e
@@ -207,25 +240,31 @@ disabled_held number false live held held' e = ap (held_as number false disabled
 disabled_held number false disabled held held' e = ap (held_as number false disabled) e
 disabled_held number false gone held held' e = e
 
-brackets_disabled : (left : List (Entry ℕ)) → brackets_of (on_marks disabled_mark left) ≡ map openers.disabled_opener (brackets_of left)
+brackets_disabled : (left : List (Entry ℕ)) → brackets_of (on_marks disabled_mark left)
+    ≡ map openers.disabled_opener (brackets_of left)
 brackets_disabled [] = refl
 brackets_disabled (done a below ∷ left) = brackets_disabled left
 brackets_disabled (waits m a ∷ left) = by m.is_image m.bracket m.wikilink (brackets_disabled left)
   where
-    by : (i : Bool) (b w : Flag) → brackets_of (on_marks disabled_mark left) ≡ map openers.disabled_opener (brackets_of left)
+    by : (i : Bool) (b w : Flag) → brackets_of (on_marks disabled_mark left)
+        ≡ map openers.disabled_opener (brackets_of left)
         → brackets_of (on_marks disabled_mark (waits (record { is_image = i; bracket = b; wikilink = w }) a ∷ left))
-        ≡ map openers.disabled_opener (brackets_of (waits (record { is_image = i; bracket = b; wikilink = w }) a ∷ left))
+        ≡ map openers.disabled_opener
+        (brackets_of (waits (record { is_image = i; bracket = b; wikilink = w }) a ∷ left))
     by true b w e = disabled_held a.tag true b (brackets_of left) (brackets_of (on_marks disabled_mark left)) e
     by false b w e = disabled_held a.tag false b (brackets_of left) (brackets_of (on_marks disabled_mark left)) e
 
-wikilinks_disabled : (left : List (Entry ℕ)) → wikilinks_of (on_marks disabled_mark left) ≡ map openers.disabled_opener (wikilinks_of left)
+wikilinks_disabled : (left : List (Entry ℕ)) → wikilinks_of (on_marks disabled_mark left)
+    ≡ map openers.disabled_opener (wikilinks_of left)
 wikilinks_disabled [] = refl
 wikilinks_disabled (done a below ∷ left) = wikilinks_disabled left
 wikilinks_disabled (waits m a ∷ left) = by m.is_image m.bracket m.wikilink (wikilinks_disabled left)
   where
-    by : (i : Bool) (b w : Flag) → wikilinks_of (on_marks disabled_mark left) ≡ map openers.disabled_opener (wikilinks_of left)
+    by : (i : Bool) (b w : Flag) → wikilinks_of (on_marks disabled_mark left)
+        ≡ map openers.disabled_opener (wikilinks_of left)
         → wikilinks_of (on_marks disabled_mark (waits (record { is_image = i; bracket = b; wikilink = w }) a ∷ left))
-        ≡ map openers.disabled_opener (wikilinks_of (waits (record { is_image = i; bracket = b; wikilink = w }) a ∷ left))
+        ≡ map openers.disabled_opener
+        (wikilinks_of (waits (record { is_image = i; bracket = b; wikilink = w }) a ∷ left))
     by true b w e = disabled_held a.tag true w (wikilinks_of left) (wikilinks_of (on_marks disabled_mark left)) e
     by false b w e = disabled_held a.tag false w (wikilinks_of left) (wikilinks_of (on_marks disabled_mark left)) e
 
@@ -255,13 +294,15 @@ same_brackets (done a below ∷ left) = same_brackets left
 same_brackets (waits m a ∷ left) = ap (held_as a.tag m.is_image m.bracket) (same_brackets left)
 
 -- the stacks at an opener of the left list
-module _ (nodes : List (Node Item)) (closer : ℕ) (left : List (Entry ℕ)) (c : Closing ℕ) (s : StandsBefore nodes closer left c)
+module _ (nodes : List (Node Item)) (closer : ℕ) (left : List (Entry ℕ)) (c : Closing ℕ)
+    (s : StandsBefore nodes closer left c)
     (rises : LeftRises left)
     (o : Split ℕ) (h : IsSplit left o) where
   abbrev n : ℕ
   n = o.opener.tag
 
-  onto : (f : Forest (Label ℕ)) → trees_onto left f ≡ trees_onto o.before (node o.opener nil (trees_onto h.after_then f))
+  onto : (f : Forest (Label ℕ)) → trees_onto left f
+      ≡ trees_onto o.before (node o.opener nil (trees_onto h.after_then f))
   onto f =
       ap (λ (l : List (Entry ℕ)). trees_onto l f) h.left_is
       ∙ onto_append h.after_then (waits h.mark_then o.opener ∷ o.before) f
@@ -271,9 +312,11 @@ module _ (nodes : List (Node Item)) (closer : ℕ) (left : List (Entry ℕ)) (c 
 
   links : LinksOn nodes n o.before
   links =
-      links_on s.source s.tables nodes s.first o.before o.opener nil (trees_onto h.after_then (node c.label nil c.rest)) nil
+      links_on s.source s.tables nodes s.first o.before o.opener nil (trees_onto h.after_then (node c.label nil c.rest))
+      nil
       (trees_onto h.after_then nil)
-      (subst (λ (f : Forest (Label ℕ)). Holds s.source s.tables nodes s.first f) (onto (node c.label nil c.rest)) s.holds) rising
+      (subst (λ (f : Forest (Label ℕ)). Holds s.source s.tables nodes s.first f) (onto (node c.label nil c.rest))
+      s.holds) rising
 
   later : AreAfter n h.after_then
   later = after_all n h.after_then nil (rising_from o.before (node o.opener nil (trees_onto h.after_then nil)) rising).0
@@ -294,24 +337,29 @@ module _ (nodes : List (Node Item)) (closer : ℕ) (left : List (Entry ℕ)) (c 
       ∙ sym (wikilinks_by (second_folded o.before))
 
   -- they stay
-  wikilinks_left : before n (without_second nodes n (before n (wikilinks_of left))) ≡ wikilinks_of (second_folded o.before)
+  wikilinks_left : before n (without_second nodes n (before n (wikilinks_of left)))
+      ≡ wikilinks_of (second_folded o.before)
   wikilinks_left =
       ap (before n) (wikilinks_second ∙ wikilinks_by (second_folded o.before))
       ∙ stays_all for_wikilink nodes n n (second_folded o.before) (links_folded nodes n o.before links) (omega arith)
       ∙ sym (wikilinks_by (second_folded o.before))
 
   -- before a link or an image
-  link_brackets : (i : Bool) → (if i then before n (brackets_of left) else map openers.disabled_opener (before n (brackets_of left)))
+  link_brackets : (i : Bool)
+      → (if i then before n (brackets_of left) else map openers.disabled_opener (before n (brackets_of left)))
       ≡ brackets_of (before_link i o.before)
   link_brackets true = brackets_before ∙ sym (brackets_folded o.before)
   link_brackets false =
-      ap (map openers.disabled_opener) (brackets_before ∙ sym (brackets_folded o.before)) ∙ sym (brackets_disabled (second_folded o.before))
+      ap (map openers.disabled_opener) (brackets_before ∙ sym (brackets_folded o.before))
+      ∙ sym (brackets_disabled (second_folded o.before))
 
-  link_wikilinks : (i : Bool) → (let held = without_second nodes n (before n (wikilinks_of left)) in if i then before n held
+  link_wikilinks : (i : Bool)
+      → (let held = without_second nodes n (before n (wikilinks_of left)) in if i then before n held
       else map openers.disabled_opener (before n held))
       ≡ wikilinks_of (before_link i o.before)
   link_wikilinks true = wikilinks_left
-  link_wikilinks false = ap (map openers.disabled_opener) wikilinks_left ∙ sym (wikilinks_disabled (second_folded o.before))
+  link_wikilinks false = ap (map openers.disabled_opener) wikilinks_left
+      ∙ sym (wikilinks_disabled (second_folded o.before))
 
   -- before a footnote reference
   footnote_brackets : (w : Around) (i : Bool) (name : List ℕ)
@@ -319,7 +367,8 @@ module _ (nodes : List (Node Item)) (closer : ℕ) (left : List (Entry ℕ)) (c 
   footnote_brackets w true name = sym (no_brackets (second_folded o.before))
   footnote_brackets w false name = sym (no_brackets (second_folded o.before))
 
-  footnote_wikilinks : (w : Around) (i : Bool) (name : List ℕ) → before n (without_second nodes n (before n (wikilinks_of left)))
+  footnote_wikilinks : (w : Around) (i : Bool) (name : List ℕ)
+      → before n (without_second nodes n (before n (wikilinks_of left)))
       ≡ wikilinks_of (footnote_onto w c i o.opener name (before_footnote o.before))
   footnote_wikilinks w true name = wikilinks_left ∙ sym (same_wikilinks (second_folded o.before))
   footnote_wikilinks w false name = wikilinks_left ∙ sym (same_wikilinks (second_folded o.before))
@@ -327,24 +376,29 @@ module _ (nodes : List (Node Item)) (closer : ℕ) (left : List (Entry ℕ)) (c 
   -- before a wikilink
   wikilink_brackets : map openers.disabled_opener (before n (brackets_of left)) ≡ brackets_of (before_wikilink o.before)
   wikilink_brackets =
-      ap (map openers.disabled_opener) brackets_before ∙ sym (brackets_disabled o.before) ∙ sym (same_brackets (on_marks disabled_mark o.before))
+      ap (map openers.disabled_opener) brackets_before ∙ sym (brackets_disabled o.before)
+      ∙ sym (same_brackets (on_marks disabled_mark o.before))
 
   wikilink_wikilinks : [] ≡ wikilinks_of (before_wikilink o.before)
   wikilink_wikilinks = sym (no_wikilinks (on_marks disabled_mark o.before))
 
 -- what each kind leaves of the stacks
-abbrev pub Finishes : List (Node Item) → ClosedBracket → (brackets wikilinks brackets' wikilinks' : List Waiting) → Type 0
+abbrev pub Finishes : List (Node Item) → ClosedBracket → (brackets wikilinks brackets' wikilinks' : List Waiting)
+    → Type 0
 Finishes nodes Text brackets wikilinks brackets' wikilinks' = (brackets' ≡ brackets) × (wikilinks' ≡ wikilinks)
 Finishes nodes (Link opener target end next) brackets wikilinks brackets' wikilinks' =
     (brackets' ≡ openers.waiting_before_link opener brackets)
-    × (wikilinks' ≡ openers.waiting_before_link opener (without_second nodes opener.node (before opener.node wikilinks)))
+    × (wikilinks' ≡ openers.waiting_before_link opener
+    (without_second nodes opener.node (before opener.node wikilinks)))
 Finishes nodes (Footnote opener name) brackets wikilinks brackets' wikilinks' =
-    (brackets' ≡ []) × (wikilinks' ≡ before opener.node (without_second nodes opener.node (before opener.node wikilinks)))
+    (brackets' ≡ []) × (wikilinks'
+    ≡ before opener.node (without_second nodes opener.node (before opener.node wikilinks)))
 Finishes nodes (Wikilinked opener name has_pothole shown end) brackets wikilinks brackets' wikilinks' =
     (brackets' ≡ openers.waiting_before_wikilink opener.node brackets) × (wikilinks' ≡ [])
 
 -- so they hold what is left
-pub finished : (nodes : List (Node Item)) (found : ClosedBracket) (brackets wikilinks brackets' wikilinks' : List Waiting)
+pub finished : (nodes : List (Node Item)) (found : ClosedBracket)
+    (brackets wikilinks brackets' wikilinks' : List Waiting)
     → Finishes nodes found brackets wikilinks brackets' wikilinks'
     → (w : Around) (c : Closing ℕ) (closer : ℕ) (left : List (Entry ℕ)) (becomes : Becomes ℕ) (p : Progress ℕ)
     → StandsBefore nodes closer left c → LeftRises left → SplitsAs left becomes → IsBecome w becomes found
@@ -352,26 +406,34 @@ pub finished : (nodes : List (Node Item)) (found : ClosedBracket) (brackets wiki
     → (brackets' ≡ brackets_of (put w c becomes p).left) × (wikilinks' ≡ wikilinks_of (put w c becomes p).left)
 finished nodes Text brackets wikilinks brackets' wikilinks' f w c closer left a_text p s rises split is eb ew ep =
     (f.0 ∙ eb ∙ ap brackets_of (sym ep), f.1 ∙ ew ∙ ap wikilinks_of (sym ep))
-finished nodes (Link opener target end next) brackets wikilinks brackets' wikilinks' f w c closer left (a_link o view to on) p s rises split
+finished nodes (Link opener target end next) brackets wikilinks brackets' wikilinks' f w c closer left
+    (a_link o view to on) p s rises split
     is eb ew ep = (
-      f.0 ∙ ap (λ (at : Opener). openers.waiting_before_link at brackets) is.0 ∙ ap (openers.waiting_before_link (opener_of o)) eb
+      f.0 ∙ ap (λ (at : Opener). openers.waiting_before_link at brackets) is.0
+          ∙ ap (openers.waiting_before_link (opener_of o)) eb
           ∙ link_brackets nodes closer left c s rises o split o.mark.is_image,
-      f.1 ∙ ap (λ (at : Opener). openers.waiting_before_link at (without_second nodes at.node (before at.node wikilinks))) is.0
-          ∙ ap (λ (held : List Waiting). openers.waiting_before_link (opener_of o) (without_second nodes o.opener.tag (before o.opener.tag held)))
+      f.1 ∙ ap (λ (at : Opener). openers.waiting_before_link at
+          (without_second nodes at.node (before at.node wikilinks))) is.0
+          ∙ ap (λ (held : List Waiting). openers.waiting_before_link (opener_of o)
+          (without_second nodes o.opener.tag (before o.opener.tag held)))
           ew
           ∙ link_wikilinks nodes closer left c s rises o split o.mark.is_image,
     )
-finished nodes (Footnote opener label) brackets wikilinks brackets' wikilinks' f w c closer left (a_footnote o name) p s rises split is eb
+finished nodes (Footnote opener label) brackets wikilinks brackets' wikilinks' f w c closer left (a_footnote o name) p s
+    rises split is eb
     ew ep = (
       f.0 ∙ footnote_brackets nodes closer left c s rises o split w o.mark.is_image name,
       f.1 ∙ ap (λ (at : Opener). before at.node (without_second nodes at.node (before at.node wikilinks))) is.0
-          ∙ ap (λ (held : List Waiting). before o.opener.tag (without_second nodes o.opener.tag (before o.opener.tag held))) ew
+          ∙ ap (λ (held : List Waiting). before o.opener.tag
+          (without_second nodes o.opener.tag (before o.opener.tag held))) ew
           ∙ footnote_wikilinks nodes closer left c s rises o split w o.mark.is_image name,
     )
 finished nodes (Wikilinked opener label has_pothole shown end) brackets wikilinks brackets' wikilinks' f w c closer left
     (a_wikilink o found to) p s rises split is eb ew ep = (
-      f.0 ∙ ap (λ (at : Opener). openers.waiting_before_wikilink at.node brackets) is.0 ∙ ap (openers.waiting_before_wikilink o.opener.tag) eb
+      f.0 ∙ ap (λ (at : Opener). openers.waiting_before_wikilink at.node brackets) is.0
+          ∙ ap (openers.waiting_before_wikilink o.opener.tag) eb
           ∙ wikilink_brackets nodes closer left c s rises o split,
       f.1 ∙ wikilink_wikilinks nodes closer left c s rises o split,
     )
-finished nodes found brackets wikilinks brackets' wikilinks' f w c closer left becomes p s rises split is eb ew ep = absurd is
+finished nodes found brackets wikilinks brackets' wikilinks' f w c closer left becomes p s rises split is eb ew ep
+    = absurd is

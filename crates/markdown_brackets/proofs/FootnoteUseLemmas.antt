@@ -1,5 +1,6 @@
 -- One more use of a footnote, as the uses by names see it.
-use Rattle.std.proofs.Common.{◌≡◌, ℕ, ◌+◌, ◌-◌, ◌^◌, min, Bool, true, false, List, Option, Some, None, is_some, refl, sym, ◌∙◌, ap}
+use Rattle.std.proofs.Common.{◌≡◌, ℕ, ◌+◌, ◌-◌, ◌^◌, min, Bool, true, false, List, Option, Some, None, is_some, refl}
+use Rattle.std.proofs.Common.{sym, ◌∙◌, ap}
 use Rattle.std.proofs.Math.Path.{fun_ext}
 use Rattle.std.specs.Cmp.Lexicographic.{same_text}
 use Rattle.std.specs.Option.{option_map}
@@ -14,13 +15,16 @@ use Rattle.markdown_defs.specs.declared.footnotes.FootnoteDefs.{FootnoteDefs}
 use Rattle.markdown_brackets.specs.BracketDecision.{uses_once_more}
 
 -- names that match find the same footnote
-found_by_match : (held : FootnoteDefs) (name other : List ℕ) → is_match name other ≡ true → footnote_at held other ≡ footnote_at held name
+found_by_match : (held : FootnoteDefs) (name other : List ℕ) → is_match name other ≡ true → footnote_at held other
+    ≡ footnote_at held name
 found_by_match held name other e =
-    ap (λ folded. get_by_text held.by_folding (encode_utf8_all folded)) (sym (same_text (case_folding name) (case_folding other) (sym e)))
+    ap (λ folded. get_by_text held.by_folding (encode_utf8_all folded))
+    (sym (same_text (case_folding name) (case_folding other) (sym e)))
 
 module _ (old new : FootnoteDefs) (name : List ℕ)
     (counted : (other : List ℕ) → footnote_at new other
-    ≡ (if is_match name other then option_map footnotes.used_once_more (footnote_at old name) else footnote_at old other)) where
+    ≡ (if is_match name other then option_map footnotes.used_once_more (footnote_at old name) else footnote_at old
+    other)) where
   abbrev most : ℕ
   most = 2 ^ 64 - 1
 
@@ -29,7 +33,8 @@ module _ (old new : FootnoteDefs) (name : List ℕ)
   counted_in None e = cc
   counted_in (Some d) e = refl
 
-  not_counted_in : (found : Option FootnoteDef) → is_some found ≡ false → use_count (option_map footnotes.used_once_more found)
+  not_counted_in : (found : Option FootnoteDef) → is_some found ≡ false
+      → use_count (option_map footnotes.used_once_more found)
       ≡ use_count found
   not_counted_in None e = refl
   not_counted_in (Some d) e = cc
@@ -49,7 +54,8 @@ module _ (old new : FootnoteDefs) (name : List ℕ)
   uses_stay undefined = fun_ext (λ other. ap use_count (counted other) ∙ by other (is_match name other) refl)
     where
       by : (other : List ℕ) (b : Bool) → is_match name other ≡ b
-          → use_count (if b then option_map footnotes.used_once_more (footnote_at old name) else footnote_at old other) ≡ uses_of old other
+          → use_count (if b then option_map footnotes.used_once_more (footnote_at old name) else footnote_at old other)
+          ≡ uses_of old other
       by other true e =
           not_counted_in (footnote_at old name) undefined ∙ ap use_count (sym (found_by_match old name other e))
       by other false e = refl

@@ -22,18 +22,21 @@ total_left count (waits m a ∷ left) = count a.tag + total_left count left
 abbrev pub total_of : (ℕ → ℕ) → Forest (Label ℕ) → ℕ
 total_of count f = total count (numbers_of f)
 
-pub total-onto : (count : ℕ → ℕ) (left : List (Entry ℕ)) (later : Forest (Label ℕ)) → total_of count (trees_onto left later)
+pub total-onto : (count : ℕ → ℕ) (left : List (Entry ℕ)) (later : Forest (Label ℕ))
+    → total_of count (trees_onto left later)
     ≡ total_left count left + total_of count later
 total-onto count [] later = omega arith
 total-onto count (done a below ∷ left) later = omega (arith, total-onto count left (node a below later))
 total-onto count (waits m a ∷ left) later = omega (arith, total-onto count left (node a nil later))
 
-pub total-joined : (count : ℕ → ℕ) (f g : Forest (Label ℕ)) → total_of count (joined_chains f g) ≡ total_of count f + total_of count g
+pub total-joined : (count : ℕ → ℕ) (f g : Forest (Label ℕ)) → total_of count (joined_chains f g)
+    ≡ total_of count f + total_of count g
 total-joined count nil g = omega arith
 total-joined count (node a below after) g = omega (arith, total-joined count after g)
 
 -- what follows a left list is at most as high as all of it
-pub height-later : (left : List (Entry ℕ)) (f : Forest (Label ℕ)) → height (numbers_of f) ≤ height (numbers_of (trees_onto left f))
+pub height-later : (left : List (Entry ℕ)) (f : Forest (Label ℕ))
+    → height (numbers_of f) ≤ height (numbers_of (trees_onto left f))
 height-later [] f = omega arith
 height-later (done a below ∷ left) f = omega (arith, height-later left (node a below f))
 height-later (waits m a ∷ left) f = omega (arith, height-later left (node a nil f))

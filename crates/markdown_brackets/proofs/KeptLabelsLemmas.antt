@@ -10,8 +10,10 @@ use Rattle.markdown_base.specs.declared.item.ItemBody.TheVariants as body
 use Rattle.markdown_brackets.specs.BracketDecision.{Around, Closing, Progress, over, past_second, wikilink_in}
 use Rattle.markdown_brackets.specs.ClosingBracket.{footnote_onto}
 use Rattle.markdown_brackets.specs.KeptShapes.{EachLeft}
-use Rattle.markdown_brackets.specs.LeftList.{Entry, Mark, Split, before_footnote, before_link, behind, change_nearest, disabled_mark, done}
-use Rattle.markdown_brackets.specs.LeftList.{inside, nearest, on_marks, opens_bracket, opens_wikilink, second_folded, trees_onto, waits}
+use Rattle.markdown_brackets.specs.LeftList.{Entry, Mark, Split, before_footnote, before_link, behind, change_nearest}
+use Rattle.markdown_brackets.specs.LeftList.{disabled_mark, done}
+use Rattle.markdown_brackets.specs.LeftList.{inside, nearest, on_marks, opens_bracket, opens_wikilink, second_folded}
+use Rattle.markdown_brackets.specs.LeftList.{trees_onto, waits}
 use Rattle.markdown_brackets.specs.LeftList.{without_bracket, without_wikilink}
 use Rattle.markdown_brackets.specs.ReadChain.{Reader, begun, closing_of, read, read_as, read_chain, read_past}
 use Rattle.markdown_brackets.proofs.ClosingBracketLemmas.{Cases, in_each_case, some_of}
@@ -22,7 +24,8 @@ use Rattle.markdown_document.specs.Setting.{Known}
 
 -- it holds of what is made of any label, and of a Text in place of one of the chain, and of a label that begins later
 pub record KeepsLabels {A : Type 0} (base p : Label A → Type 0) : Type 0 where
-  pub event : (a : Label A) (e : EventView) (origins : List Origin) (start end : ℕ) → p (over a (leaf e origins) start end)
+  pub event : (a : Label A) (e : EventView) (origins : List Origin) (start end : ℕ)
+      → p (over a (leaf e origins) start end)
   pub tag : (a : Label A) (t : TagView) (start end : ℕ) → p (over a (enclosed t) start end)
   pub text : (source : List ℕ) (a : Label A) → base a → p (as_text source a)
   pub cut : (i : ℕ) (a : Label A) → p a → p (begun_at i a)
@@ -41,7 +44,8 @@ module _ {A : Type 0} {base p : Label A → Type 0} (k : KeepsLabels base p) whe
   All f = Each p f
 
   -- the trees of a left list, and trees that are put onto one
-  pub each_onto : (left : List (Entry A)) (later : Forest (Label A)) → Left left → All later → All (trees_onto left later)
+  pub each_onto : (left : List (Entry A)) (later : Forest (Label A)) → Left left → All later
+      → All (trees_onto left later)
   each_onto [] later h g = g
   each_onto (done a below ∷ left) later h g = each_onto left (node a below later) h.2 (h.0, h.1, g)
   each_onto (waits m a ∷ left) later h g = each_onto left (node a nil later) h.1 (h.0, tt, g)
@@ -57,7 +61,8 @@ module _ {A : Type 0} {base p : Label A → Type 0} (k : KeepsLabels base p) whe
   each_second (done a below ∷ left) h = h
   each_second (waits m a ∷ left) h = h
 
-  each_change : (opens : Mark → Bool) (f : Mark → Mark) (left : List (Entry A)) → Left left → Left (change_nearest opens f left)
+  each_change : (opens : Mark → Bool) (f : Mark → Mark) (left : List (Entry A)) → Left left
+      → Left (change_nearest opens f left)
   each_change opens f [] h = tt
   each_change opens f (done a below ∷ left) h = (h.0, h.1, each_change opens f left h.2)
   each_change opens f (waits m a ∷ left) h = by (opens m) (each_change opens f left h.1)
@@ -76,7 +81,8 @@ module _ {A : Type 0} {base p : Label A → Type 0} (k : KeepsLabels base p) whe
     after : Left o.after
     before : Left o.before
 
-  each_behind : (e : Entry A) (o : Option (Split A)) → ((more : List (Entry A)) → Left more → Left (e ∷ more)) → IfSome o EachAt
+  each_behind : (e : Entry A) (o : Option (Split A)) → ((more : List (Entry A)) → Left more → Left (e ∷ more))
+      → IfSome o EachAt
       → IfSome (option_map (behind e) o) EachAt
   each_behind e None r h = tt
   each_behind e (Some o) r h = record { after = r o.after h.after; before = h.before }
@@ -119,26 +125,38 @@ module _ {A : Type 0} {base p : Label A → Type 0} (k : KeepsLabels base p) whe
         wikilink_goes = each_change opens_wikilink without_wikilink;
         text = λ left h. (k.text w.setting.text c.label here, tt, h);
         link = λ left o target end h found live.
-            let at : EachAt o = some_of (nearest opens_bracket left) o EachAt found (each_nearest opens_bracket left h) in
-            (k.tag o.opener _ _ _, each_onto o.after nil at.after tt, each_before_link o.mark.is_image o.before at.before);
+            let at : EachAt o = some_of (nearest opens_bracket left) o EachAt found (each_nearest opens_bracket left h)
+            in (
+              k.tag o.opener _ _ _,
+              each_onto o.after nil at.after tt,
+              each_before_link o.mark.is_image o.before
+                  at.before,
+            );
         footnote = λ left o name h found live.
-            let at : EachAt o = some_of (nearest opens_bracket left) o EachAt found (each_nearest opens_bracket left h) in
-            each_footnote o.mark.is_image o.opener name (before_footnote o.before) (each_marks without_bracket (second_folded o.before)
+            let at : EachAt o = some_of (nearest opens_bracket left) o EachAt found (each_nearest opens_bracket left h)
+            in
+            each_footnote o.mark.is_image o.opener name (before_footnote o.before)
+            (each_marks without_bracket (second_folded o.before)
             (each_second o.before at.before));
         wikilink = λ left o v end h found live is.
-            let at : EachAt o = some_of (nearest opens_wikilink left) o EachAt found (each_nearest opens_wikilink left h) in
+            let at : EachAt o = some_of (nearest opens_wikilink left) o EachAt found
+            (each_nearest opens_wikilink left h) in
             let shown = some_of (wikilink_in w (past_second (inside o)) (start_of c.label)) v (λ v. All v.children) is
-            (wikilink_keeps w All (λ a x y. (k.event a _ _ _ _, tt, tt)) each_from (past_second (inside o)) (start_of c.label)
+            (wikilink_keeps w All (λ a x y. (k.event a _ _ _ _, tt, tt)) each_from (past_second (inside o))
+            (start_of c.label)
             (each_past (inside o) (each_onto o.after nil at.after tt))) in (
               k.tag o.opener _ _ _,
               shown,
-              each_marks without_wikilink (on_marks disabled_mark o.before) (each_marks disabled_mark o.before at.before),
+              each_marks without_wikilink (on_marks disabled_mark o.before)
+                  (each_marks disabled_mark o.before at.before),
             );
       }
 
-    module _ (others : Reader A) (rule : (a : Label A) (below rest : Forest (Label A)) (q : Progress A) → base a → All below → Left q.left
+    module _ (others : Reader A) (rule : (a : Label A) (below rest : Forest (Label A)) (q : Progress A) → base a
+        → All below → Left q.left
         → Left (others a below rest q).left) where
-      each_as : (b : ItemBody) (a : Label A) (below rest : Forest (Label A)) (q : Progress A) → base a → All below → Left q.left
+      each_as : (b : ItemBody) (a : Label A) (below rest : Forest (Label A)) (q : Progress A) → base a → All below
+          → Left q.left
           → Left (read_as w others b a below rest q).left
       each_as body.MaybeLinkOpen a below rest q here inner h = (k.text w.setting.text a here, h)
       each_as body.MaybeImage a below rest q here inner h = (k.text w.setting.text a here, h)
@@ -146,14 +164,17 @@ module _ {A : Type 0} {base p : Label A → Type 0} (k : KeepsLabels base p) whe
           in_each_case w (closing_of could a rest q) Left Left (each_case (closing_of could a rest q) here) q h
       each_as other a below rest q here inner h = rule a below rest q here inner h
 
-      each_read_past : (goes_on : Option ℕ) (a : Label A) (below rest : Forest (Label A)) (q : Progress A) → base a → All below
+      each_read_past : (goes_on : Option ℕ) (a : Label A) (below rest : Forest (Label A)) (q : Progress A) → base a
+          → All below
           → Left q.left → Left (read_past w others goes_on a below rest q).left
       each_read_past None a below rest q here inner h = each_as (open_body a.part.shape) a below rest q here inner h
       each_read_past (Some i) a below rest q here inner h = by (nat_le (end_of a) i)
         where
-          by : (b : Bool) → Left (if b then q else read w others (begun_at i a) below rest (record q { goes_on = None })).left
+          by : (b : Bool) → Left
+              (if b then q else read w others (begun_at i a) below rest (record q { goes_on = None })).left
           by true = h
-          by false = each_as (open_body (begun_at i a).part.shape) (begun_at i a) below rest (record q { goes_on = None })
+          by false = each_as (open_body (begun_at i a).part.shape) (begun_at i a) below rest
+              (record q { goes_on = None })
               (k.cut_base i a here) inner h
 
       each_chain : (chain : Forest (Label A)) (q : Progress A) → EachBelow base p chain → Left q.left
@@ -166,4 +187,5 @@ module _ {A : Type 0} {base p : Label A → Type 0} (k : KeepsLabels base p) whe
       -- of a chain that is read
       pub each_left : (chain : Forest (Label A)) (known : Known) → EachBelow base p chain
           → All (trees_onto (read_chain w others chain (begun known)).left nil)
-      each_left chain known g = each_onto (read_chain w others chain (begun known)).left nil (each_chain chain (begun known) g tt) tt
+      each_left chain known g = each_onto (read_chain w others chain (begun known)).left nil
+          (each_chain chain (begun known) g tt) tt

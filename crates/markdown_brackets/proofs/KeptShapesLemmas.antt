@@ -13,7 +13,8 @@ use Rattle.markdown_document.specs.Document.{Origin, Shape, leaf, enclosed, plai
 use Rattle.markdown_document.specs.Setting.{Known}
 
 -- a shape that begins later passes as before
-cut_passes : (test : Shape → Bool) → ((e : EventView) (origins : List Origin) → test (leaf e origins) ≡ true) → (n : ℕ) (shape : Shape)
+cut_passes : (test : Shape → Bool) → ((e : EventView) (origins : List Origin) → test (leaf e origins) ≡ true)
+    → (n : ℕ) (shape : Shape)
     → test shape ≡ true → test (cut_shape n shape) ≡ true
 cut_passes test events n (leaf e o) h = events _ o
 cut_passes test events n (enclosed tag) h = h
@@ -48,4 +49,5 @@ module _ {A : Type 0} (w : Around) (test : Shape → Bool) (events : (e : EventV
       → (chain : Forest (Label A)) (known : Known) → PassesBelow test chain
       → PassesAll test (trees_onto (read_chain w others chain (begun known)).left nil)
   all_kept others rule chain known h =
-      each_left passes w others (λ a below rest p any inner g. rule a below rest p inner g) chain known (below_any chain h)
+      each_left passes w others (λ a below rest p any inner g. rule a below rest p inner g) chain known
+      (below_any chain h)

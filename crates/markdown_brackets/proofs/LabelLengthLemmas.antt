@@ -1,15 +1,19 @@
 -- No label is longer than the bytes that it is read from, and so a block that ends before a `]` has no label up to it.
-use Rattle.std.proofs.Common.{◌≡◌, ℕ, zero, suc, ◌+◌, ◌-◌, ◌<◌, ◌≤◌, Bool, true, false, ◌==◌, List, [], ◌∷◌, Option, Some, None}
-use Rattle.std.proofs.Common.{length, refl, ap, arith, take, drop, if◌then◌else◌, is_none, unwrap_or, IfSome, length-drop}
+use Rattle.std.proofs.Common.{◌≡◌, ℕ, zero, suc, ◌+◌, ◌-◌, ◌<◌, ◌≤◌, Bool, true, false, ◌==◌, List, [], ◌∷◌, Option}
+use Rattle.std.proofs.Common.{Some, None}
+use Rattle.std.proofs.Common.{length, refl, ap, arith, take, drop, if◌then◌else◌, is_none, unwrap_or, IfSome}
+use Rattle.std.proofs.Common.{length-drop}
 use Rattle.std.specs.Prelude.{option_and_then, slice_range}
 use Rattle.std.specs.Option.{option_map, option_or}
 use Rattle.std.proofs.lemmas.Bool.Decides.{nat_tests}
 use Rattle.std.proofs.lemmas.List.{length-take}
 use Rattle.markdown_base.specs.Bytes.{backslash}
 use Rattle.markdown_scan.specs.Backslash.{is_bare}
-use Rattle.markdown_scan.specs.Label.{refused, body, fits_label, label_bytes, link_label, put_before, shown, collapse_whitespace, with_shown}
+use Rattle.markdown_scan.specs.Label.{refused, body, fits_label, label_bytes, link_label, put_before, shown}
+use Rattle.markdown_scan.specs.Label.{collapse_whitespace, with_shown}
 use Rattle.markdown_scan.specs.LinePrefix.{prefix_after}
-use Rattle.markdown_brackets.specs.Reference.{FoundLabel, footnote_label_in, label_after, label_after_bracket, bracket_label}
+use Rattle.markdown_brackets.specs.Reference.{FoundLabel, footnote_label_in, label_after, label_after_bracket}
+use Rattle.markdown_brackets.specs.Reference.{bracket_label}
 use Rattle.markdown_brackets.specs.Reference.{label_past, of_length, on_one_line, own_label}
 use Rattle.markdown_brackets.specs.declared.footnote.FootnoteStyle.{FootnoteStyle}
 use Rattle.markdown_brackets.specs.declared.footnote.FootnoteStyle.TheVariants as style
@@ -18,7 +22,8 @@ use Rattle.markdown_brackets.specs.declared.footnote.FootnoteStyle.TheVariants a
 StandsIn : ℕ → Option (ℕ × List ℕ) → Type 0
 StandsIn size found = IfSome found (λ f. f.0 < size)
 
-one_more : (size : ℕ) (text : List ℕ) (found : Option (ℕ × List ℕ)) → StandsIn size found → StandsIn (suc size) (put_before 1 text found)
+one_more : (size : ℕ) (text : List ℕ) (found : Option (ℕ × List ℕ)) → StandsIn size found
+    → StandsIn (suc size) (put_before 1 text found)
 unfolding StandsIn
 one_more size text None h = tt
 one_more size text (Some f) h = omega (arith, h)
@@ -31,12 +36,14 @@ body_stands skipped escaped (suc n) [] = tt
 body_stands skipped escaped (suc n) (b ∷ bytes) =
     one_more (length bytes) [] (body escaped (label_bytes skipped n bytes)) (body_stands skipped escaped n bytes)
 body_stands skipped escaped zero (b ∷ bytes) =
-    by (is_bare escaped b 93) (is_bare escaped b 91) (prefix_after skipped b bytes) (λ n. body_stands skipped later n bytes)
+    by (is_bare escaped b 93) (is_bare escaped b 91) (prefix_after skipped b bytes)
+    (λ n. body_stands skipped later n bytes)
   where
     later : Bool
     later = is_bare escaped b backslash
 
-    by : (closes opens : Bool) (prefix : Option ℕ) → ((n : ℕ) → StandsIn (length bytes) (body later (label_bytes skipped n bytes)))
+    by : (closes opens : Bool) (prefix : Option ℕ)
+        → ((n : ℕ) → StandsIn (length bytes) (body later (label_bytes skipped n bytes)))
         → StandsIn (suc (length bytes)) (if closes then Some (0, []) else if opens then None
         else put_before 1 (b ∷ [])
         (body later (if is_none prefix then refused ∷ [] else label_bytes skipped (unwrap_or prefix 0) bytes)))
@@ -64,12 +71,14 @@ module _ (in_table : Bool) where
       by (body false (label_bytes skipped 0 bytes)) (body_stands skipped false 0 bytes)
     where
       by : (found : Option (ℕ × List ℕ)) → StandsIn (length bytes) found
-          → IfSome (label_past is_footnote before (option_map squeezed (option_and_then if_fits (with_shown in_table found)))) (Fits size)
+          → IfSome (label_past is_footnote before
+          (option_map squeezed (option_and_then if_fits (with_shown in_table found)))) (Fits size)
       by None h = tt
       by (Some f) h = fitting (fits_label (shown in_table f.1))
         where
           fitting : (fits : Bool)
-              → IfSome (label_past is_footnote before (option_map squeezed (if fits then Some (f.0, shown in_table f.1) else None)))
+              → IfSome (label_past is_footnote before
+              (option_map squeezed (if fits then Some (f.0, shown in_table f.1) else None)))
               (Fits size)
           fitting true = (omega (arith, some), omega (arith, h, within))
           fitting false = tt
@@ -79,7 +88,8 @@ module _ (in_table : Bool) where
   caret_fits skipped [] = tt
   caret_fits skipped (b ∷ bytes) = by (b == 94)
     where
-      by : (is : Bool) → IfSome (label_past true 2 (option_and_then (link_label skipped in_table) (if is then Some bytes else None)))
+      by : (is : Bool) → IfSome
+          (label_past true 2 (option_and_then (link_label skipped in_table) (if is then Some bytes else None)))
           (Fits (suc (suc (length bytes))))
       by true = link_fits true 2 (suc (suc (length bytes))) skipped bytes (omega arith) (omega arith)
       by false = tt
@@ -96,16 +106,19 @@ module _ (in_table : Bool) where
   label_fits s skipped (b ∷ bytes) = by (b == 91)
     where
       or_link : (found : Option FoundLabel) → IfSome found (Fits (suc (length bytes)))
-          → IfSome (option_or found (label_past false 1 (link_label skipped in_table bytes))) (Fits (suc (length bytes)))
+          → IfSome (option_or found (label_past false 1 (link_label skipped in_table bytes)))
+          (Fits (suc (length bytes)))
       or_link None h = link_fits false 1 (suc (length bytes)) skipped bytes (omega arith) (omega arith)
       or_link (Some l) h = h
 
-      by : (opens : Bool) → IfSome (option_and_then (label_after_bracket s skipped in_table) (if opens then Some bytes else None))
+      by : (opens : Bool) → IfSome
+          (option_and_then (label_after_bracket s skipped in_table) (if opens then Some bytes else None))
           (Fits (suc (length bytes)))
       by true = or_link (footnote_label_in s skipped in_table bytes) (footnote_fits s skipped bytes)
       by false = tt
 
-  pub no_label_past_block : (s : FootnoteStyle) (skipped : List ℕ → Option ℕ) (text : List ℕ) (block_end start end : ℕ) → block_end < end
+  pub no_label_past_block : (s : FootnoteStyle) (skipped : List ℕ → Option ℕ) (text : List ℕ) (block_end start end : ℕ)
+      → block_end < end
       → own_label s skipped in_table (take block_end text) start end ≡ None
   unfolding Fits
   no_label_past_block s skipped text block_end start end past =

@@ -1,7 +1,9 @@
 -- In a link label no `[` is directly after a `]`: one of the two would end the label, or forbid it. So no two labels
 -- end at the same byte offset if the second begins directly after a `]` in the first.
-use Rattle.std.proofs.Common.{◌≡◌, ℕ, zero, suc, ◌+◌, ◌-◌, ◌<◌, Bool, true, false, ◌||◌, ◌==◌, List, [], ◌∷◌, Option, Some, None}
-use Rattle.std.proofs.Common.{length, refl, sym, ap, subst, ◌∙◌, arith, take, drop, get_or, drop-cons, length-drop, if◌then◌else◌, is_none}
+use Rattle.std.proofs.Common.{◌≡◌, ℕ, zero, suc, ◌+◌, ◌-◌, ◌<◌, Bool, true, false, ◌||◌, ◌==◌, List, [], ◌∷◌, Option}
+use Rattle.std.proofs.Common.{Some, None}
+use Rattle.std.proofs.Common.{length, refl, sym, ap, subst, ◌∙◌, arith, take, drop, get_or, drop-cons, length-drop}
+use Rattle.std.proofs.Common.{if◌then◌else◌, is_none}
 use Rattle.std.proofs.Common.{unwrap_or, nat_eq}
 use Rattle.std.specs.Prelude.{option_and_then}
 use Rattle.std.specs.List.{list_any}
@@ -15,7 +17,8 @@ use Rattle.markdown_scan.specs.Label.{refused, body, fits_label, label_bytes, li
 use Rattle.markdown_scan.specs.Label.{collapse_whitespace, with_shown}
 use Rattle.markdown_scan.specs.LinePrefix.{ends_line, prefix_after}
 use Rattle.markdown_brackets.specs.QuestionEnds.{HoldsNoOpener}
-use Rattle.markdown_brackets.specs.Reference.{FoundLabel, footnote_label_in, label_after, label_after_bracket, bracket_label}
+use Rattle.markdown_brackets.specs.Reference.{FoundLabel, footnote_label_in, label_after, label_after_bracket}
+use Rattle.markdown_brackets.specs.Reference.{bracket_label}
 use Rattle.markdown_brackets.specs.Reference.{label_past, on_one_line}
 use Rattle.markdown_brackets.specs.declared.footnote.FootnoteStyle.{FootnoteStyle}
 use Rattle.markdown_brackets.specs.declared.footnote.FootnoteStyle.TheVariants as style
@@ -32,7 +35,8 @@ record Found (o : Option (ℕ × List ℕ)) (k : ℕ) : Type 0 where
   found : o ≡ Some (place, text)
   after : k ≡ suc place
 
-one_more : (x : List ℕ) (o : Option (ℕ × List ℕ)) (k : ℕ) (text : List ℕ) → put_before 1 x o ≡ Some (k, text) → Found o k
+one_more : (x : List ℕ) (o : Option (ℕ × List ℕ)) (k : ℕ) (text : List ℕ) → put_before 1 x o ≡ Some (k, text)
+    → Found o k
 one_more x None k text e = absurd (none-some (k, text) e)
 one_more x (Some f) k text e =
     let same = ap (λ (p : ℕ × List ℕ). p.0) (same_Some (1 + f.0, _) (k, text) e) in
@@ -43,7 +47,8 @@ or_second true b h = absurd (cc h)
 or_second false b h = h
 
 -- a line ending is no backslash
-no_backslash : (escaped : Bool) (b : ℕ) (bytes : List ℕ) → ends_line b bytes ≡ true → is_bare escaped b backslash ≡ false
+no_backslash : (escaped : Bool) (b : ℕ) (bytes : List ℕ) → ends_line b bytes ≡ true → is_bare escaped b backslash
+    ≡ false
 no_backslash true b bytes h = refl
 no_backslash false b bytes h = grind (arith, nat_tests)
 
@@ -67,7 +72,8 @@ module _ (skipped : List ℕ → ℕ) (none : HoldsNoOpener skipped) where
   pair_here true (suc n) rest k text h e l = absurd (cc (h.bare (omega arith)))
   pair_here false (suc n) rest k text h e l =
       let later = one_more [] (body false (label_bytes (behind skipped) n (91 ∷ rest))) k text e in
-      none-some (later.place, later.text) (subst (λ o. o ≡ Some (later.place, later.text)) (opens_none n rest h.free) later.found)
+      none-some (later.place, later.text)
+      (subst (λ o. o ≡ Some (later.place, later.text)) (opens_none n rest h.free) later.found)
 
   -- after a byte, and the prefix that follows it
   behind_byte : (escaped : Bool) (b : ℕ) (bytes : List ℕ) (m : ℕ) → prefix_after (behind skipped) b bytes ≡ Some m
@@ -82,31 +88,41 @@ module _ (skipped : List ℕ → ℕ) (none : HoldsNoOpener skipped) where
       }
       by false line e =
           let same = same_Some 0 m e in
-          subst (λ m. IsBehind (is_bare escaped b backslash) m bytes) same (record { free = refl; bare = λ l. absurd (omega (arith, l)) })
+          subst (λ m. IsBehind (is_bare escaped b backslash) m bytes) same
+          (record { free = refl; bare = λ l. absurd (omega (arith, l)) })
 
   -- what is found from a byte on, if it is not found at that byte, is found after it
   abbrev IsPast : (later : Bool) → List ℕ → ℕ → Type 0
   IsPast later bytes k = (m : ℕ) × IsBehind later m bytes × Found (body later (label_bytes (behind skipped) m bytes)) k
 
   past_byte : (escaped : Bool) (b : ℕ) (bytes : List ℕ) (k : ℕ) (text : List ℕ)
-      → body escaped (label_bytes (behind skipped) 0 (b ∷ bytes)) ≡ Some (k, text) → 0 < k → IsPast (is_bare escaped b backslash) bytes k
-  past_byte escaped b bytes k text e l = by (is_bare escaped b 93) (is_bare escaped b 91) (prefix_after (behind skipped) b bytes) refl e
+      → body escaped (label_bytes (behind skipped) 0 (b ∷ bytes)) ≡ Some (k, text) → 0 < k
+      → IsPast (is_bare escaped b backslash) bytes k
+  past_byte escaped b bytes k text e l = by (is_bare escaped b 93) (is_bare escaped b 91)
+      (prefix_after (behind skipped) b bytes) refl e
     where
       later : Bool
       later = is_bare escaped b backslash
 
       by : (closes opens : Bool) (o : Option ℕ) → prefix_after (behind skipped) b bytes ≡ o
           → (if closes then Some (0, []) else if opens then None
-          else put_before 1 (b ∷ []) (body later (if is_none o then refused ∷ [] else label_bytes (behind skipped) (unwrap_or o 0) bytes)))
+          else put_before 1 (b ∷ [])
+          (body later (if is_none o then refused ∷ [] else label_bytes (behind skipped) (unwrap_or o 0) bytes)))
           ≡ Some (k, text) → IsPast later bytes k
-      by true opens o f e = let same = ap (λ (p : ℕ × List ℕ). p.0) (same_Some (0, []) (k, text) e) in absurd (omega (arith, same, l))
+      by true opens o f e = let same = ap (λ (p : ℕ × List ℕ). p.0) (same_Some (0, []) (k, text) e) in absurd
+          (omega (arith, same, l))
       by false true o f e = absurd (none-some (k, text) e)
       by false false None f e = absurd (none-some (k, text) e)
-      by false false (Some m) f e =
-          (m, behind_byte escaped b bytes m f, one_more (b ∷ []) (body later (label_bytes (behind skipped) m bytes)) k text e)
+      by false false (Some m) f e = (
+        m,
+        behind_byte escaped b bytes m f,
+        one_more (b ∷ []) (body later (label_bytes (behind skipped) m bytes)) k
+            text e,
+      )
 
   no_pair : (i : ℕ) (escaped : Bool) (n : ℕ) (bytes rest : List ℕ) (k : ℕ) (text : List ℕ) → IsBehind escaped n bytes
-      → body escaped (label_bytes (behind skipped) n bytes) ≡ Some (k, text) → suc i < k → drop i bytes ≡ 93 ∷ 91 ∷ rest → ⊥
+      → body escaped (label_bytes (behind skipped) n bytes) ≡ Some (k, text) → suc i < k → drop i bytes ≡ 93 ∷ 91 ∷ rest
+      → ⊥
   no_pair zero escaped n bytes rest k text h e l d =
       let here = subst (λ xs. body escaped (label_bytes (behind skipped) n xs) ≡ Some (k, text)) d e in
       pair_here escaped n rest k text (subst (IsBehind escaped n) d h) here l
@@ -118,7 +134,8 @@ module _ (skipped : List ℕ → ℕ) (none : HoldsNoOpener skipped) where
       no_pair i escaped n bytes rest later.place later.text behind later.found (omega (arith, l, later.after)) d
   no_pair (suc i) escaped zero (b ∷ bytes) rest k text h e l d =
       let r = past_byte escaped b bytes k text e (omega (arith, l)) in
-      no_pair i (is_bare escaped b backslash) r.0 bytes rest r.2.place r.2.text r.1 r.2.found (omega (arith, l, r.2.after)) d
+      no_pair i (is_bare escaped b backslash) r.0 bytes rest r.2.place r.2.text r.1 r.2.found
+      (omega (arith, l, r.2.after)) d
 
 -- in a text a link label begins at one byte, and ends before another
 pub record IsLabelFrom (skipped : List ℕ → Option ℕ) (text : List ℕ) (from to : ℕ) : Type 0 where
@@ -140,11 +157,13 @@ record IsLabel (skipped : List ℕ → Option ℕ) (bytes : List ℕ) (size : �
 
 module _ (skipped : List ℕ → Option ℕ) (in_table : Bool) where
   -- a label that is found after the mark of a footnote is a footnote's label
-  past_is_footnote : (n : ℕ) (o : Option (ℕ × List ℕ)) (l : FoundLabel) → label_past true n o ≡ Some l → l.is_footnote ≡ true
+  past_is_footnote : (n : ℕ) (o : Option (ℕ × List ℕ)) (l : FoundLabel) → label_past true n o ≡ Some l → l.is_footnote
+      ≡ true
   past_is_footnote n None l e = absurd (none-some l e)
   past_is_footnote n (Some f) l e = sym (ap (λ (l : FoundLabel). l.is_footnote) (same_Some _ l e))
 
-  is_footnote : (s : FootnoteStyle) (bytes : List ℕ) (l : FoundLabel) → footnote_label_in s skipped in_table bytes ≡ Some l
+  is_footnote : (s : FootnoteStyle) (bytes : List ℕ) (l : FoundLabel) → footnote_label_in s skipped in_table bytes
+      ≡ Some l
       → l.is_footnote ≡ true
   is_footnote style.Off bytes l e = absurd (none-some l e)
   is_footnote style.Gfm bytes l e = past_is_footnote 2 (label_after 94 on_one_line in_table bytes) l e
@@ -163,7 +182,8 @@ module _ (skipped : List ℕ → Option ℕ) (in_table : Bool) where
   link_found None l e = absurd (none-some l e)
   link_found (Some f) l e = by (fits_label (shown in_table f.1)) e
     where
-      by : (fits : Bool) → label_past false 1 (option_map squeezed (if fits then Some (f.0, shown in_table f.1) else None)) ≡ Some l
+      by : (fits : Bool) → label_past false 1
+          (option_map squeezed (if fits then Some (f.0, shown in_table f.1) else None)) ≡ Some l
           → (place : ℕ) × (text : List ℕ) × (Some f ≡ Some (place, text)) × (l.length ≡ place + 2)
       by false e = absurd (none-some l e)
       by true e =
@@ -171,14 +191,16 @@ module _ (skipped : List ℕ → Option ℕ) (in_table : Bool) where
           (f.0, f.1, refl, omega (arith, size))
 
   -- a label that is no footnote's
-  of_bytes : (s : FootnoteStyle) (bytes : List ℕ) (l : FoundLabel) → bracket_label s skipped in_table bytes ≡ Some l → l.is_footnote ≡ false
+  of_bytes : (s : FootnoteStyle) (bytes : List ℕ) (l : FoundLabel) → bracket_label s skipped in_table bytes ≡ Some l
+      → l.is_footnote ≡ false
       → IsLabel skipped bytes l.length
   of_bytes s [] l e plain = absurd (none-some l e)
   of_bytes s (b ∷ bytes) l e plain = by (b == 91) refl e
     where
       or_link : (o : Option FoundLabel) → footnote_label_in s skipped in_table bytes ≡ o
           → option_or o (label_past false 1 (link_label skipped in_table bytes)) ≡ Some l
-          → (place : ℕ) × (text : List ℕ) × (body false (label_bytes skipped 0 bytes) ≡ Some (place, text)) × (l.length ≡ place + 2)
+          → (place : ℕ) × (text : List ℕ) × (body false (label_bytes skipped 0 bytes) ≡ Some (place, text))
+          × (l.length ≡ place + 2)
       or_link None f e = link_found (body false (label_bytes skipped 0 bytes)) l e
       or_link (Some l') f e =
           let other = is_footnote s bytes l' f in
@@ -192,14 +214,31 @@ module _ (skipped : List ℕ → Option ℕ) (in_table : Bool) where
       by true is e =
           let r = or_link (footnote_label_in s skipped in_table bytes) refl e in
           let byte : b ≡ 91 = grind (arith, nat_tests) in
-          record { tail = bytes; opens = ap (λ (b : ℕ). b ∷ bytes) byte; place = r.0; shown = r.1; closes = r.2; ends = r.3 }
+          record {
+            tail = bytes;
+            opens = ap (λ (b : ℕ). b ∷ bytes) byte;
+            place = r.0;
+            shown = r.1;
+            closes = r.2;
+            ends
+                = r.3;
+          }
 
-  pub label_from : (s : FootnoteStyle) (text : List ℕ) (from : ℕ) (l : FoundLabel) → bracket_label s skipped in_table (drop from text) ≡ Some l
+  pub label_from : (s : FootnoteStyle) (text : List ℕ) (from : ℕ) (l : FoundLabel)
+      → bracket_label s skipped in_table (drop from text) ≡ Some l
       → l.is_footnote ≡ false
       → IsLabelFrom skipped text from (from + l.length)
   label_from s text from l e plain =
       let r = of_bytes s (drop from text) l e plain in
-      record { tail = r.tail; opens = r.opens; place = r.place; shown = r.shown; closes = r.closes; ends = omega (arith, r.ends) }
+      record {
+        tail = r.tail;
+        opens = r.opens;
+        place = r.place;
+        shown = r.shown;
+        closes = r.closes;
+        ends = omega
+            (arith, r.ends);
+      }
 
 -- the byte that a label begins with
 pub first_byte : (skipped : List ℕ → Option ℕ) (text : List ℕ) (from to : ℕ) → IsLabelFrom skipped text from to
@@ -211,7 +250,8 @@ first_byte skipped text from to label =
     (within, ap (λ (xs : List ℕ). get_or xs 0 0) here)
 
 -- a `[` and a `]` are at two byte offsets
-not_next : (text : List ℕ) (from later : ℕ) → get_or text from 0 ≡ 91 → get_or text (later - 1) 0 ≡ 93 → later ≡ suc from → ⊥
+not_next : (text : List ℕ) (from later : ℕ) → get_or text from 0 ≡ 91 → get_or text (later - 1) 0 ≡ 93 → later
+    ≡ suc from → ⊥
 not_next text from later opens closes e =
     let place : later - 1 ≡ from = omega (arith, e) in
     let same : get_or text (later - 1) 0 ≡ get_or text from 0 = ap (λ (i : ℕ). get_or text i 0) place in
@@ -219,7 +259,8 @@ not_next text from later opens closes e =
 
 -- if two labels end together, the second does not begin directly after a `]`
 pub labels_apart : (skipped : List ℕ → ℕ) → HoldsNoOpener skipped → (text : List ℕ) (from later to : ℕ)
-    → IsLabelFrom (behind skipped) text from to → IsLabelFrom (behind skipped) text later to → from < later → get_or text (later - 1) 0 ≡ 93 → ⊥
+    → IsLabelFrom (behind skipped) text from to → IsLabelFrom (behind skipped) text later to → from < later
+    → get_or text (later - 1) 0 ≡ 93 → ⊥
 labels_apart skipped none text from later to first second l byte =
     let one = first_byte (behind skipped) text from to first in
     let two = first_byte (behind skipped) text later to second in
@@ -232,5 +273,6 @@ labels_apart skipped none text from later to first second l byte =
     ap (drop i) (sym tail) ∙ drop-drop i (from + 1) text ∙ ap (λ (n : ℕ). drop n text) here
     ∙ drop-cons text (later - 1) 0 (omega (arith, two.0)) ∙ ap (λ (b : ℕ). b ∷ drop (suc (later - 1)) text) byte
     ∙ ap (λ (n : ℕ). 93 ∷ drop n text) next ∙ ap (λ (xs : List ℕ). 93 ∷ xs) second.opens in
-    no_pair skipped none i false 0 first.tail second.tail first.place first.shown (record { free = refl; bare = λ l. refl }) first.closes
+    no_pair skipped none i false 0 first.tail second.tail first.place first.shown
+    (record { free = refl; bare = λ l. refl }) first.closes
     (omega (arith, first.ends, second.ends, here, next, l)) at

@@ -1,5 +1,6 @@
 -- Look-ups, case by case.
-use Rattle.std.proofs.Common.{◌≡◌, ℕ, ◌==◌, Bool, true, false, List, [], ◌∷◌, Option, Some, None, cond, refl, sym, ◌∙◌, ap, subst, is_some}
+use Rattle.std.proofs.Common.{◌≡◌, ℕ, ◌==◌, Bool, true, false, List, [], ◌∷◌, Option, Some, None, cond, refl, sym, ◌∙◌}
+use Rattle.std.proofs.Common.{ap, subst, is_some}
 use Rattle.std.proofs.Common.{◌<◌, MatchOption, arith}
 use Rattle.std.proofs.lemmas.Bool.Decides.{nat_tests}
 use Rattle.markdown_base.specs.BlockParts.{definition_view}
@@ -20,12 +21,14 @@ module _ {C : Type 0} (step : C → Question → Option Answer → C → Type 0)
     questions = [];
     asked = refl;
     finds = λ later.
-        let P : ℕ → Type 0 = λ n. look_up old.tables.refdefs (is_some old.callback) n later q ≡ finds_nothing n later [] in
+        let P : ℕ → Type 0 = λ n. look_up old.tables.refdefs (is_some old.callback) n later q
+        ≡ finds_nothing n later [] in
         subst P (sym none) refl;
   }
 
   -- what the label finds: by its definition, or by a question
-  pub LooksUp-found : (new : LabelLookup C) (target : Option LinkView) → 0 < old.limit → new.limit ≡ limit_after old.limit target
+  pub LooksUp-found : (new : LabelLookup C) (target : Option LinkView) → 0 < old.limit → new.limit
+      ≡ limit_after old.limit target
       → FindsTarget step old.tables.refdefs q old.callback new.callback target → LooksUp step old new q target
   LooksUp-found new target some left found = by (definitions.find_definition q.reference old.tables.refdefs) refl found
     where
@@ -70,7 +73,8 @@ module _ {C : Type 0} (step : C → Question → Option Answer → C → Type 0)
         answers = [];
         questions = [];
         asked = e ∙ sym is.0;
-        finds = λ later. ap (λ c. Result (is_some c) later) e ∙ (opens false later None found ∙ leaves [] later None is.1);
+        finds = λ later. ap (λ c. Result (is_some c) later) e
+            ∙ (opens false later None found ∙ leaves [] later None is.1);
       }
       answered (Some callback) e found (then, answer, stepped, now, is) = record {
         answers = answer ∷ [];
@@ -78,7 +82,8 @@ module _ {C : Type 0} (step : C → Question → Option Answer → C → Type 0)
         asked = subst (λ c. Asks step c (q ∷ []) (answer ∷ []) new.callback) (sym e) (then, stepped, sym now);
         finds = λ later.
             ap (λ c. Result (is_some c) (answer ∷ later)) e
-            ∙ (opens true (answer ∷ later) None found ∙ (by_answer answer later ∙ leaves (q ∷ []) later (target_by q answer) is));
+            ∙ (opens true (answer ∷ later) None found
+            ∙ (by_answer answer later ∙ leaves (q ∷ []) later (target_by q answer) is));
       }
 
       by : (o : Option LinkDef) → definitions.find_definition q.reference old.tables.refdefs ≡ o

@@ -1,5 +1,6 @@
 -- After a `[` that can still become a link there is no link: so no link is enclosed in one.
-use Rattle.std.proofs.Common.{◌≡◌, ℕ, ◌-◌, Bool, true, false, not, ◌&&◌, ◌||◌, List, [], ◌∷◌, ◌++◌, Option, Some, None, refl, sym, subst}
+use Rattle.std.proofs.Common.{◌≡◌, ℕ, ◌-◌, Bool, true, false, not, ◌&&◌, ◌||◌, List, [], ◌∷◌, ◌++◌, Option, Some, None}
+use Rattle.std.proofs.Common.{refl, sym, subst}
 use Rattle.std.proofs.Common.{inl, inr, ⊎_elim, nat_le}
 use Rattle.std.specs.Prelude.{⊤, ◌⊎◌, IfSome, if◌then◌else◌}
 use Rattle.std.specs.Option.{option_map, option_and_then}
@@ -10,18 +11,24 @@ use Rattle.markdown_base.specs.declared.item.ItemBody.TheVariants as body
 use Rattle.markdown_document.specs.Document.{Shape, leaf, enclosed, plain, backslash_break, unresolved, Label}
 use Rattle.markdown_document.specs.Setting.{Known}
 use Rattle.markdown_document.specs.ChainRest.{begun_at, past_byte, cut_shape, start_of, end_of, open_body}
-use Rattle.markdown_brackets.specs.BracketDecision.{Around, Closing, Progress, Wikilink, over, text_from, wikilink_in, wikilink_by}
+use Rattle.markdown_brackets.specs.BracketDecision.{Around, Closing, Progress, Wikilink, over, text_from, wikilink_in}
+use Rattle.markdown_brackets.specs.BracketDecision.{wikilink_by}
 use Rattle.markdown_brackets.specs.BracketDecision.{shown_children, if_some, past_second}
 use Rattle.markdown_brackets.specs.ClosingBracket.{footnote_onto, wikilink_target, closed}
-use Rattle.markdown_brackets.specs.LeftList.{Flag, live, disabled, gone, Mark, Entry, done, waits, is_live, trees_onto, Split, inside}
-use Rattle.markdown_brackets.specs.LeftList.{behind, nearest, change_nearest, opens_bracket, opens_wikilink, without_bracket}
-use Rattle.markdown_brackets.specs.LeftList.{without_wikilink, on_marks, disabled_flag, disabled_mark, second_folded, before_link}
+use Rattle.markdown_brackets.specs.LeftList.{Flag, live, disabled, gone, Mark, Entry, done, waits, is_live, trees_onto}
+use Rattle.markdown_brackets.specs.LeftList.{Split, inside}
+use Rattle.markdown_brackets.specs.LeftList.{behind, nearest, change_nearest, opens_bracket, opens_wikilink}
+use Rattle.markdown_brackets.specs.LeftList.{without_bracket}
+use Rattle.markdown_brackets.specs.LeftList.{without_wikilink, on_marks, disabled_flag, disabled_mark, second_folded}
+use Rattle.markdown_brackets.specs.LeftList.{before_link}
 use Rattle.markdown_brackets.specs.LeftList.{before_wikilink, before_footnote}
 use Rattle.markdown_brackets.proofs.ClosingBracketLemmas.{Cases, in_each_case, some_of}
-use Rattle.markdown_brackets.specs.NoLinkInLink.{IsNoLink, IsFreeOfLinks, ClosesOverNone, HasNoneBelow, HasNoLinkInLink, AreFreeTrees}
+use Rattle.markdown_brackets.specs.NoLinkInLink.{IsNoLink, IsFreeOfLinks, ClosesOverNone, HasNoneBelow, HasNoLinkInLink}
+use Rattle.markdown_brackets.specs.NoLinkInLink.{AreFreeTrees}
 use Rattle.markdown_brackets.specs.NoLinkInLink.{HasMoreTrees}
 use Rattle.markdown_brackets.specs.ReadChain.{Reader, begun, closing_of, read_as, read, read_past, read_chain}
-use Rattle.markdown_brackets.specs.Wikilink.{WikilinkBody, Shows, shows_name, shows_nothing, shows_from, has_pothole, wikilink_body}
+use Rattle.markdown_brackets.specs.Wikilink.{WikilinkBody, Shows, shows_name, shows_nothing, shows_from, has_pothole}
+use Rattle.markdown_brackets.specs.Wikilink.{wikilink_body}
 
 or_left : (a b : Bool) → a ≡ true → (a || b) ≡ true
 or_left true b h = refl
@@ -108,7 +115,8 @@ behind_sound e left None l f k h = tt
 behind_sound e left (Some o) l f k h =
     record { before = h.before; live = λ q. l (h.live q); free = λ q. (f (h.live q), h.free q); well = (k, h.well) }
 
-sound_nearest : {A : Type 0} (test : Mark → Bool) (left : List (Entry A)) → IsSound left → IfSome (nearest test left) (SoundAt left)
+sound_nearest : {A : Type 0} (test : Mark → Bool) (left : List (Entry A)) → IsSound left
+    → IfSome (nearest test left) (SoundAt left)
 sound_nearest test [] s = tt
 sound_nearest test (done a below ∷ left) s = behind_sound (done a below) left (nearest test left) (λ q. q) s.0 s.1
     (sound_nearest test left s.2)
@@ -130,12 +138,15 @@ lowers_flags true b w b' w' p q h = h
 lowers_flags false b w b' w' p q h = ⊎_elim (λ e. or_left b w (p e)) (λ e. or_right b w (q e)) (or_split b' w' h)
 
 lowers_bracket : Lowers without_bracket
-lowers_bracket m h = lowers_flags m.is_image (is_live m.bracket) (is_live m.wikilink) false (is_live m.wikilink) (λ e. cc) (λ e. e) h
+lowers_bracket m h = lowers_flags m.is_image (is_live m.bracket) (is_live m.wikilink) false (is_live m.wikilink)
+    (λ e. cc) (λ e. e) h
 
 lowers_wikilink : Lowers without_wikilink
-lowers_wikilink m h = lowers_flags m.is_image (is_live m.bracket) (is_live m.wikilink) (is_live m.bracket) false (λ e. e) (λ e. cc) h
+lowers_wikilink m h = lowers_flags m.is_image (is_live m.bracket) (is_live m.wikilink) (is_live m.bracket) false
+    (λ e. e) (λ e. cc) h
 
-any_lower : {A : Type 0} (f : Mark → Mark) → Lowers f → (left : List (Entry A)) → any_live (on_marks f left) ≡ true → any_live left ≡ true
+any_lower : {A : Type 0} (f : Mark → Mark) → Lowers f → (left : List (Entry A)) → any_live (on_marks f left) ≡ true
+    → any_live left ≡ true
 any_lower f low [] h = h
 any_lower f low (done a below ∷ left) h = any_lower f low left h
 any_lower f low (waits m a ∷ left) h =
@@ -143,7 +154,8 @@ any_lower f low (waits m a ∷ left) h =
     (any_lower f low left e))
     (or_split (is_live_link (f m)) (any_live (on_marks f left)) h)
 
-sound_on_marks : {A : Type 0} (f : Mark → Mark) → Lowers f → (left : List (Entry A)) → IsSound left → IsSound (on_marks f left)
+sound_on_marks : {A : Type 0} (f : Mark → Mark) → Lowers f → (left : List (Entry A)) → IsSound left
+    → IsSound (on_marks f left)
 sound_on_marks f low [] s = tt
 sound_on_marks f low (done a below ∷ left) s = (λ q. s.0 (any_lower f low left q), s.1, sound_on_marks f low left s.2)
 sound_on_marks f low (waits m a ∷ left) s = (λ q. s.0 (any_lower f low left q), s.1, sound_on_marks f low left s.2)
@@ -156,17 +168,21 @@ any_change test f low (done a below ∷ left) h = any_change test f low left h
 any_change {A} test f low (waits m a ∷ left) h = by (test m) (any_change test f low left) h
   where
     by : (b : Bool) → (any_live (change_nearest test f left) ≡ true → any_live left ≡ true)
-        → any_live (if b then waits (f m) a ∷ left else waits m a ∷ change_nearest test f left) ≡ true → (is_live_link m || any_live left)
+        → any_live (if b then waits (f m) a ∷ left else waits m a ∷ change_nearest test f left) ≡ true
+        → (is_live_link m || any_live left)
         ≡ true
-    by true ih q = ⊎_elim (λ e. or_left (is_live_link m) (any_live left) (low m e)) (λ e. or_right (is_live_link m) (any_live left) e)
+    by true ih q = ⊎_elim (λ e. or_left (is_live_link m) (any_live left) (low m e))
+        (λ e. or_right (is_live_link m) (any_live left) e)
         (or_split (is_live_link (f m)) (any_live left) q)
-    by false ih q = ⊎_elim (λ e. or_left (is_live_link m) (any_live left) e) (λ e. or_right (is_live_link m) (any_live left) (ih e))
+    by false ih q = ⊎_elim (λ e. or_left (is_live_link m) (any_live left) e)
+        (λ e. or_right (is_live_link m) (any_live left) (ih e))
         (or_split (is_live_link m) (any_live (change_nearest test f left)) q)
 
 sound_change : {A : Type 0} (test : Mark → Bool) (f : Mark → Mark) → Lowers f → (left : List (Entry A)) → IsSound left
     → IsSound (change_nearest test f left)
 sound_change test f low [] s = tt
-sound_change test f low (done a below ∷ left) s = (λ q. s.0 (any_change test f low left q), s.1, sound_change test f low left s.2)
+sound_change test f low (done a below ∷ left) s
+    = (λ q. s.0 (any_change test f low left q), s.1, sound_change test f low left s.2)
 sound_change {A} test f low (waits m a ∷ left) s = by (test m) (sound_change test f low left s.2)
   where
     by : (b : Bool) → IsSound (change_nearest test f left)
@@ -184,7 +200,8 @@ any_second : {A : Type 0} (left : List (Entry A)) → any_live (second_folded le
 any_second [] h = h
 any_second (done a below ∷ left) h = h
 any_second (waits m a ∷ left) h =
-    ⊎_elim (λ e. or_left (is_live_link m) (any_live left) (lowers_wikilink m e)) (λ e. or_right (is_live_link m) (any_live left) e)
+    ⊎_elim (λ e. or_left (is_live_link m) (any_live left) (lowers_wikilink m e))
+    (λ e. or_right (is_live_link m) (any_live left) e)
     (or_split (is_live_link (without_wikilink m)) (any_live left) h)
 
 disabled_is_dead : (f : Flag) → is_live (disabled_flag f) ≡ false
@@ -200,7 +217,8 @@ mark_is_dead m = by m.is_image m.bracket m.wikilink
     flags disabled w = disabled_is_dead w
     flags gone w = disabled_is_dead w
 
-    by : (i : Bool) (b w : Flag) → is_live_link (disabled_mark (record { is_image = i; bracket = b; wikilink = w })) ≡ false
+    by : (i : Bool) (b w : Flag) → is_live_link (disabled_mark (record { is_image = i; bracket = b; wikilink = w }))
+        ≡ false
     by true b w = refl
     by false b w = flags b w
 
@@ -219,10 +237,14 @@ live_if i b w e h = rw (e, h) refl
 live_wikilink_if : (i b w : Bool) → i ≡ false → w ≡ true → (not i && (b || w)) ≡ true
 live_wikilink_if i b w e h = rw (e, h) (or_right b true refl)
 
-link_entry : {A : Type 0} (i : Bool) (a : Label A) (target : LinkView) (start end : ℕ) (below : Forest (Label A)) (before : List (Entry A))
-    → IsSound before → (i ≡ false → IsFreeOfLinks below) → (any_live before ≡ true → IsFreeOfLinks below) → HasNoLinkInLink below
-    → IsSound (done (over a (enclosed (if i then image target else link target)) start end) below ∷ before_link i before)
-link_entry true a target start end below before s f g h = (λ q. (tt, g (any_second before q)), (tt, h), sound_second before s)
+link_entry : {A : Type 0} (i : Bool) (a : Label A) (target : LinkView) (start end : ℕ) (below : Forest (Label A))
+    (before : List (Entry A))
+    → IsSound before → (i ≡ false → IsFreeOfLinks below) → (any_live before ≡ true → IsFreeOfLinks below)
+    → HasNoLinkInLink below
+    → IsSound (done (over a (enclosed (if i then image target else link target)) start end) below ∷ before_link i
+    before)
+link_entry true a target start end below before s f g h
+    = (λ q. (tt, g (any_second before q)), (tt, h), sound_second before s)
 link_entry false a target start end below before s f g h = (
   λ q. absurd (let e = none_live (second_folded before) in cc),
   (f refl, h),
@@ -233,14 +255,18 @@ link_entry false a target start end below before s f g h = (
 wikilink_entry : {A : Type 0} (i : Bool) (a : Label A) (target : LinkView) (start end : ℕ) (below : Forest (Label A))
     (before : List (Entry A))
     → IsSound before → (i ≡ false → IsFreeOfLinks below) → HasNoLinkInLink below
-    → IsSound (done (over a (enclosed (if i then image target else link target)) start end) below ∷ before_wikilink before)
+    → IsSound (done (over a (enclosed (if i then image target else link target)) start end) below ∷ before_wikilink
+    before)
 wikilink_entry i a target start end below before s f h = (
-  λ q. absurd (let e = none_live before in let d = any_lower without_wikilink lowers_wikilink (on_marks disabled_mark before) q in cc),
+  λ q. absurd (let e = none_live before in let d = any_lower without_wikilink lowers_wikilink
+      (on_marks disabled_mark before) q in cc),
   (well i f, h),
-  sound_on_marks without_wikilink lowers_wikilink (on_marks disabled_mark before) (sound_on_marks disabled_mark lowers_disabled before s),
+  sound_on_marks without_wikilink lowers_wikilink (on_marks disabled_mark before)
+      (sound_on_marks disabled_mark lowers_disabled before s),
 )
   where
-    well : (i : Bool) → (i ≡ false → IsFreeOfLinks below) → ClosesOverNone (if i then image target else link target) below
+    well : (i : Bool) → (i ≡ false → IsFreeOfLinks below) → ClosesOverNone (if i then image target else link target)
+        below
     well true f = tt
     well false f = f refl
 
@@ -270,7 +296,8 @@ free_from : {A : Type 0} (i : ℕ) (f : Forest (Label A)) → IsFreeOfLinks f �
 free_from i nil h = tt
 free_from i (node a below after) h = by (nat_le a.part.range.end i) (free_from i after h.2)
   where
-    by : (b : Bool) → IsFreeOfLinks (past_byte i after) → IsFreeOfLinks (if b then past_byte i after else node (begun_at i a) below after)
+    by : (b : Bool) → IsFreeOfLinks (past_byte i after)
+        → IsFreeOfLinks (if b then past_byte i after else node (begun_at i a) below after)
     by true k = k
     by false k = (begun_free i a h.0, h.1, h.2)
 
@@ -288,7 +315,8 @@ if_some_keeps : {A : Type 0} (p : Forest (Label A) → Type 0) (f : Forest (Labe
 if_some_keeps p nil h = tt
 if_some_keeps p (node a below after) h = h
 
-module _ {A : Type 0} (w : Around) (p : Forest (Label A) → Type 0) (texts : (a : Label A) (i j : ℕ) → p (node (text_from w a i j) nil nil))
+module _ {A : Type 0} (w : Around) (p : Forest (Label A) → Type 0)
+    (texts : (a : Label A) (i j : ℕ) → p (node (text_from w a i j) nil nil))
     (from : (i : ℕ) (f : Forest (Label A)) → p f → p (past_byte i f)) where
   shown_keeps : (first : Label A) (trees : Forest (Label A)) (end : ℕ) (shows : Shows) → p trees
       → IfSome (shown_children w first trees end shows) p
@@ -298,17 +326,21 @@ module _ {A : Type 0} (w : Around) (p : Forest (Label A) → Type 0) (texts : (a
 
   named_keeps : (first : Label A) (trees : Forest (Label A)) (end : ℕ) (b : WikilinkBody) → p trees
       → IfSome (wikilink_by w first trees end b) (λ found. p found.children)
-  named_keeps first trees end b h = by (shown_children w first trees end b.shows) (shown_keeps first trees end b.shows h)
+  named_keeps first trees end b h = by (shown_children w first trees end b.shows)
+      (shown_keeps first trees end b.shows h)
     where
       by : (o : Option (Forest (Label A))) → IfSome o p
-          → IfSome (option_map (λ children. record { name = b.name; has_pothole = has_pothole b.shows; children = children }) o)
+          → IfSome (option_map (λ children. record
+          { name = b.name; has_pothole = has_pothole b.shows; children = children }) o)
           (λ (found : Wikilink A). p found.children)
       by None k = tt
       by (Some f) k = k
 
-  pub wikilink_keeps : (trees : Forest (Label A)) (end : ℕ) → p trees → IfSome (wikilink_in w trees end) (λ found. p found.children)
+  pub wikilink_keeps : (trees : Forest (Label A)) (end : ℕ) → p trees
+      → IfSome (wikilink_in w trees end) (λ found. p found.children)
   wikilink_keeps nil end h = tt
-  wikilink_keeps (node first below after) end h = by (wikilink_body w.setting.text w.above.block_end (start_of first) end)
+  wikilink_keeps (node first below after) end h = by
+      (wikilink_body w.setting.text w.above.block_end (start_of first) end)
     where
       by : (o : Option WikilinkBody) → IfSome (option_and_then (wikilink_by w first (node first below after) end) o)
           (λ found. p found.children)
@@ -335,24 +367,29 @@ module _ {A : Type 0} (w : Around) (c : Closing A) where
     wikilink_goes = sound_change opens_wikilink without_wikilink lowers_wikilink;
     text = λ left s. (λ q. (tt, tt), (tt, tt), s);
     link = λ left o target end s found live.
-        let at : SoundAt left o = some_of (nearest opens_bracket left) o (SoundAt left) found (sound_nearest opens_bracket left s) in
+        let at : SoundAt left o = some_of (nearest opens_bracket left) o (SoundAt left) found
+        (sound_nearest opens_bracket left s) in
         link_entry o.mark.is_image o.opener target (start_of o.opener) end (inside o) o.before at.before
         (λ e. free_onto o.after nil (at.free (or_left (is_live_link o.mark) (any_live o.before)
         (live_if o.mark.is_image (is_live o.mark.bracket) (is_live o.mark.wikilink) e live))) tt)
         (λ q. free_onto o.after nil (at.free (or_right (is_live_link o.mark) (any_live o.before) q)) tt)
         (well_onto o.after nil at.well tt);
     footnote = λ left o name s found live.
-        let at : SoundAt left o = some_of (nearest opens_bracket left) o (SoundAt left) found (sound_nearest opens_bracket left s) in
+        let at : SoundAt left o = some_of (nearest opens_bracket left) o (SoundAt left) found
+        (sound_nearest opens_bracket left s) in
         footnote_entry o.mark.is_image o.opener name (before_footnote o.before)
         (sound_on_marks without_bracket lowers_bracket (second_folded o.before) (sound_second o.before at.before));
     wikilink = λ left o v end s found live is.
-        let at : SoundAt left o = some_of (nearest opens_wikilink left) o (SoundAt left) found (sound_nearest opens_wikilink left s) in
+        let at : SoundAt left o = some_of (nearest opens_wikilink left) o (SoundAt left) found
+        (sound_nearest opens_wikilink left s) in
         let shown = wikilink_in w (past_second (inside o)) (start_of c.label) in
-        wikilink_entry o.mark.is_image o.opener (wikilink_target v) (start_of o.opener) end v.children o.before at.before
+        wikilink_entry o.mark.is_image o.opener (wikilink_target v) (start_of o.opener) end v.children o.before
+        at.before
         (λ i. some_of shown v (λ v. IsFreeOfLinks v.children) is
         (wikilink_keeps w IsFreeOfLinks (λ a x y. (tt, tt, tt)) free_from (past_second (inside o)) (start_of c.label)
         (free_past (inside o) (free_onto o.after nil
-        (at.free (or_left (is_live_link o.mark) (any_live o.before) (live_wikilink_if o.mark.is_image (is_live o.mark.bracket)
+        (at.free (or_left (is_live_link o.mark) (any_live o.before)
+        (live_wikilink_if o.mark.is_image (is_live o.mark.bracket)
         (is_live o.mark.wikilink) i live))) tt))))
         (some_of shown v (λ v. HasNoLinkInLink v.children) is
         (wikilink_keeps w HasNoLinkInLink (λ a x y. (tt, tt, tt)) well_from (past_second (inside o)) (start_of c.label)
@@ -385,14 +422,17 @@ module _ {A : Type 0} (w : Around) (others : Reader A)
       let more = rule a below rest p f g in
       subst IsSound (sym more.grown) (sound_more more.more p.left more.free s)
 
-  read_past_sound : (o : Option ℕ) (a : Label A) (below rest : Forest (Label A)) (p : Progress A) → IsNoLink a.part.shape
+  read_past_sound : (o : Option ℕ) (a : Label A) (below rest : Forest (Label A)) (p : Progress A)
+      → IsNoLink a.part.shape
       → IsFreeOfLinks below → IsSound p.left → IsSound (read_past w others o a below rest p).left
   read_past_sound None a below rest p f g s = read_as_sound (open_body a.part.shape) a below rest p f g s
   read_past_sound (Some i) a below rest p f g s = by (nat_le (end_of a) i)
     where
-      by : (b : Bool) → IsSound (if b then p else read w others (begun_at i a) below rest (record p { goes_on = None })).left
+      by : (b : Bool) → IsSound
+          (if b then p else read w others (begun_at i a) below rest (record p { goes_on = None })).left
       by true = s
-      by false = read_as_sound (open_body (begun_at i a).part.shape) (begun_at i a) below rest (record p { goes_on = None })
+      by false = read_as_sound (open_body (begun_at i a).part.shape) (begun_at i a) below rest
+          (record p { goes_on = None })
           (begun_free i a f) g s
 
   chain_sound : (chain : Forest (Label A)) (p : Progress A) → IsFreeOfLinks chain → IsSound p.left
@@ -400,7 +440,8 @@ module _ {A : Type 0} (w : Around) (others : Reader A)
   unfolding read_chain
   chain_sound nil p f s = s
   chain_sound (node a below rest) p f s =
-      chain_sound rest (read_past w others p.goes_on a below rest p) f.2 (read_past_sound p.goes_on a below rest p f.0 f.1 s)
+      chain_sound rest (read_past w others p.goes_on a below rest p) f.2
+      (read_past_sound p.goes_on a below rest p f.0 f.1 s)
 
   pub no_link_in_link : (chain : Forest (Label A)) (known : Known) → IsFreeOfLinks chain
       → HasNoLinkInLink (trees_onto (read_chain w others chain (begun known)).left nil)

@@ -6,8 +6,10 @@ use Rattle.markdown_base.specs.Forest.{Forest, nil, node}
 use Rattle.markdown_document.specs.ChainRest.{joined_chains}
 use Rattle.markdown_document.specs.Document.{Label}
 use Rattle.markdown_brackets.specs.DecisionView.{opener_of}
-use Rattle.markdown_brackets.specs.LeftList.{Flag, live, disabled, gone, Mark, Entry, done, waits, is_live, trees_onto, Split, behind}
-use Rattle.markdown_brackets.specs.LeftList.{nearest, change_nearest, opens_bracket, opens_wikilink, without_bracket, without_wikilink}
+use Rattle.markdown_brackets.specs.LeftList.{Flag, live, disabled, gone, Mark, Entry, done, waits, is_live, trees_onto}
+use Rattle.markdown_brackets.specs.LeftList.{Split, behind}
+use Rattle.markdown_brackets.specs.LeftList.{nearest, change_nearest, opens_bracket, opens_wikilink, without_bracket}
+use Rattle.markdown_brackets.specs.LeftList.{without_wikilink}
 use Rattle.markdown_brackets.specs.LeftList.{bracket_taken, wikilink_taken}
 use Rattle.markdown_brackets.specs.HeldOpeners.{brackets_of, wikilinks_of, held_as}
 
@@ -15,19 +17,23 @@ use Rattle.markdown_brackets.specs.HeldOpeners.{brackets_of, wikilinks_of, held_
 abbrev pub TopBracket : List (Entry ℕ) → Option (Split ℕ) → Type 0
 TopBracket left None = (brackets_of left ≡ []) × (brackets_of (bracket_taken left) ≡ [])
 TopBracket left (Some o) =
-    brackets_of left ≡ record { opener = opener_of o; is_live = is_live o.mark.bracket } ∷ brackets_of (bracket_taken left)
+    brackets_of left ≡ record { opener = opener_of o; is_live = is_live o.mark.bracket } ∷ brackets_of
+    (bracket_taken left)
 
 abbrev pub TopWikilink : List (Entry ℕ) → Option (Split ℕ) → Type 0
 TopWikilink left None = (wikilinks_of left ≡ []) × (wikilinks_of (wikilink_taken left) ≡ [])
 TopWikilink left (Some o) =
-    wikilinks_of left ≡ record { opener = opener_of o; is_live = is_live o.mark.wikilink } ∷ wikilinks_of (wikilink_taken left)
+    wikilinks_of left ≡ record { opener = opener_of o; is_live = is_live o.mark.wikilink } ∷ wikilinks_of
+    (wikilink_taken left)
 
-bracket_behind_done : (a : Label ℕ) (below : Forest (Label ℕ)) (left : List (Entry ℕ)) (o : Option (Split ℕ)) → TopBracket left o
+bracket_behind_done : (a : Label ℕ) (below : Forest (Label ℕ)) (left : List (Entry ℕ)) (o : Option (Split ℕ))
+    → TopBracket left o
     → TopBracket (done a below ∷ left) (option_map (behind (done a below)) o)
 bracket_behind_done a below left None h = h
 bracket_behind_done a below left (Some o) h = h
 
-bracket_behind_gone : (i : Bool) (w : Flag) (a : Label ℕ) (left : List (Entry ℕ)) (o : Option (Split ℕ)) → TopBracket left o
+bracket_behind_gone : (i : Bool) (w : Flag) (a : Label ℕ) (left : List (Entry ℕ)) (o : Option (Split ℕ))
+    → TopBracket left o
     → TopBracket (waits (record { is_image = i; bracket = gone; wikilink = w }) a ∷ left)
     (option_map (behind (waits (record { is_image = i; bracket = gone; wikilink = w }) a)) o)
 bracket_behind_gone i w a left None h = h
@@ -45,12 +51,14 @@ top_bracket (waits m a ∷ left) = by m.is_image m.bracket m.wikilink (top_brack
     by i disabled w h = refl
     by i gone w h = bracket_behind_gone i w a left (nearest opens_bracket left) h
 
-wikilink_behind_done : (a : Label ℕ) (below : Forest (Label ℕ)) (left : List (Entry ℕ)) (o : Option (Split ℕ)) → TopWikilink left o
+wikilink_behind_done : (a : Label ℕ) (below : Forest (Label ℕ)) (left : List (Entry ℕ)) (o : Option (Split ℕ))
+    → TopWikilink left o
     → TopWikilink (done a below ∷ left) (option_map (behind (done a below)) o)
 wikilink_behind_done a below left None h = h
 wikilink_behind_done a below left (Some o) h = h
 
-wikilink_behind_gone : (i : Bool) (b : Flag) (a : Label ℕ) (left : List (Entry ℕ)) (o : Option (Split ℕ)) → TopWikilink left o
+wikilink_behind_gone : (i : Bool) (b : Flag) (a : Label ℕ) (left : List (Entry ℕ)) (o : Option (Split ℕ))
+    → TopWikilink left o
     → TopWikilink (waits (record { is_image = i; bracket = b; wikilink = gone }) a ∷ left)
     (option_map (behind (waits (record { is_image = i; bracket = b; wikilink = gone }) a)) o)
 wikilink_behind_gone i b a left None h = h
@@ -75,7 +83,8 @@ wikilinks_stay (done a below ∷ left) = wikilinks_stay left
 wikilinks_stay (waits m a ∷ left) = by (opens_bracket m) (wikilinks_stay left)
   where
     by : (b : Bool) → wikilinks_of (bracket_taken left) ≡ wikilinks_of left
-        → wikilinks_of (if b then waits (without_bracket m) a ∷ left else waits m a ∷ bracket_taken left) ≡ wikilinks_of (waits m a ∷ left)
+        → wikilinks_of (if b then waits (without_bracket m) a ∷ left else waits m a ∷ bracket_taken left)
+        ≡ wikilinks_of (waits m a ∷ left)
     by true h = refl
     by false h = ap (held_as a.tag m.is_image m.wikilink) h
 
@@ -85,7 +94,8 @@ brackets_stay (done a below ∷ left) = brackets_stay left
 brackets_stay (waits m a ∷ left) = by (opens_wikilink m) (brackets_stay left)
   where
     by : (b : Bool) → brackets_of (wikilink_taken left) ≡ brackets_of left
-        → brackets_of (if b then waits (without_wikilink m) a ∷ left else waits m a ∷ wikilink_taken left) ≡ brackets_of (waits m a ∷ left)
+        → brackets_of (if b then waits (without_wikilink m) a ∷ left else waits m a ∷ wikilink_taken left)
+        ≡ brackets_of (waits m a ∷ left)
     by true h = refl
     by false h = ap (held_as a.tag m.is_image m.bracket) h
 
@@ -97,15 +107,18 @@ trees_stay test f (done a below ∷ left) later = trees_stay test f left (node a
 trees_stay test f (waits m a ∷ left) later = by (test m) (trees_stay test f left (node a nil later))
   where
     by : (b : Bool) → trees_onto (change_nearest test f left) (node a nil later) ≡ trees_onto left (node a nil later)
-        → trees_onto (if b then waits (f m) a ∷ left else waits m a ∷ change_nearest test f left) later ≡ trees_onto left (node a nil later)
+        → trees_onto (if b then waits (f m) a ∷ left else waits m a ∷ change_nearest test f left) later
+        ≡ trees_onto left (node a nil later)
     by true h = refl
     by false h = h
 
 -- the trees of a left list at an opener
 abbrev pub SplitsAt : List (Entry ℕ) → Split ℕ → Type 0
-SplitsAt left o = (later : Forest (Label ℕ)) → trees_onto left later ≡ trees_onto o.before (node o.opener nil (trees_onto o.after later))
+SplitsAt left o = (later : Forest (Label ℕ)) → trees_onto left later
+    ≡ trees_onto o.before (node o.opener nil (trees_onto o.after later))
 
-splits_behind_done : (a : Label ℕ) (below : Forest (Label ℕ)) (left : List (Entry ℕ)) (o : Option (Split ℕ)) → IfSome o (SplitsAt left)
+splits_behind_done : (a : Label ℕ) (below : Forest (Label ℕ)) (left : List (Entry ℕ)) (o : Option (Split ℕ))
+    → IfSome o (SplitsAt left)
     → IfSome (option_map (behind (done a below)) o) (SplitsAt (done a below ∷ left))
 splits_behind_done a below left None h = tt
 splits_behind_done a below left (Some o) h = λ later. h (node a below later)
@@ -126,7 +139,8 @@ splits_at test (waits m a ∷ left) = by (test m) (splits_at test left)
     by true h = λ later. refl
     by false h = splits_behind_waits m a left (nearest test left) h
 
-pub onto_joined : (left : List (Entry ℕ)) (f g : Forest (Label ℕ)) → trees_onto left (joined_chains f g) ≡ joined_chains (trees_onto left f) g
+pub onto_joined : (left : List (Entry ℕ)) (f g : Forest (Label ℕ)) → trees_onto left (joined_chains f g)
+    ≡ joined_chains (trees_onto left f) g
 onto_joined [] f g = refl
 onto_joined (done a below ∷ left) f g = onto_joined left (node a below f) g
 onto_joined (waits m a ∷ left) f g = onto_joined left (node a nil f) g

@@ -1,5 +1,6 @@
 -- A stack of openers as the list that it represents.
-use Rattle.std.proofs.Common.{◌≡◌, ℕ, suc, zero, ◌+◌, ◌-◌, ◌<◌, ◌≤◌, Bool, true, false, ◌&&◌, List, [], ◌∷◌, ◌++◌, Some, length, get_or}
+use Rattle.std.proofs.Common.{◌≡◌, ℕ, suc, zero, ◌+◌, ◌-◌, ◌<◌, ◌≤◌, Bool, true, false, ◌&&◌, List, [], ◌∷◌, ◌++◌, Some}
+use Rattle.std.proofs.Common.{length, get_or}
 use Rattle.std.proofs.Common.{take, map, min, cond, nat_le, arith, refl, sym, ◌∙◌, ap, reverse, subst}
 use Rattle.std.proofs.lemmas.Bool.{leb-true}
 use Rattle.std.proofs.lemmas.Bool.Decides.{nat_tests}
@@ -21,26 +22,30 @@ map-reverse f (x ∷ xs) =
     ∙ ap (λ ys. ys ++ f x ∷ []) (map-reverse f xs) ∙ sym (reverse-append (f x ∷ []) (map f xs))
 
 -- one more, which is not disabled
-marked_live : (n : ℕ) (openers : List Opener) (o : Opener) → n ≤ length openers → marked n (openers ++ o ∷ []) ≡ marked n openers
+marked_live : (n : ℕ) (openers : List Opener) (o : Opener) → n ≤ length openers → marked n (openers ++ o ∷ [])
+    ≡ marked n openers
     ++ live_opener o ∷ []
 marked_live zero [] o h = refl
 marked_live (suc n) [] o h = absurd (omega arith)
 marked_live zero (x ∷ openers) o h = ap (λ ws. live_opener x ∷ ws) (marked_live zero openers o (omega arith))
-marked_live (suc n) (x ∷ openers) o h = ap (λ ws. disabled_opener (live_opener x) ∷ ws) (marked_live n openers o (omega arith))
+marked_live (suc n) (x ∷ openers) o h = ap (λ ws. disabled_opener (live_opener x) ∷ ws)
+    (marked_live n openers o (omega arith))
 
 pub waiting_live : (n : ℕ) (openers : List Opener) (o : Opener) → n ≤ length openers
     → waiting_openers n (openers ++ o ∷ []) ≡ live_opener o ∷ waiting_openers n openers
 waiting_live n openers o h = ap reverse (marked_live n openers o h) ∙ reverse-snoc (marked n openers) (live_opener o)
 
 -- one more, which is
-marked_disabled : (openers : List Opener) (o : Opener) → marked (suc (length openers)) (openers ++ o ∷ []) ≡ marked (length openers) openers
+marked_disabled : (openers : List Opener) (o : Opener) → marked (suc (length openers)) (openers ++ o ∷ [])
+    ≡ marked (length openers) openers
     ++ disabled_opener (live_opener o) ∷ []
 marked_disabled [] o = refl
 marked_disabled (x ∷ openers) o = ap (λ ws. disabled_opener (live_opener x) ∷ ws) (marked_disabled openers o)
 
 pub waiting_disabled : (openers : List Opener) (o : Opener) → waiting_openers (suc (length openers)) (openers ++ o ∷ [])
     ≡ disabled_opener (live_opener o) ∷ waiting_openers (length openers) openers
-waiting_disabled openers o = ap reverse (marked_disabled openers o) ∙ reverse-snoc (marked (length openers) openers) (disabled_opener (live_opener o))
+waiting_disabled openers o = ap reverse (marked_disabled openers o) ∙ reverse-snoc (marked (length openers) openers)
+    (disabled_opener (live_opener o))
 
 -- one more
 pub record Last (n : ℕ) (openers : List Opener) (o : Opener) : Type 0 where
@@ -61,7 +66,11 @@ marked_last zero (x ∷ openers) o =
     record { last = rest.last; is_it = rest.is_it; stands = ap (λ ws. live_opener x ∷ ws) rest.stands }
 marked_last (suc n) (x ∷ openers) o =
     let rest = marked_last n openers o in
-    record { last = rest.last; is_it = rest.is_it; stands = ap (λ ws. disabled_opener (live_opener x) ∷ ws) rest.stands }
+    record {
+      last = rest.last;
+      is_it = rest.is_it;
+      stands = ap (λ ws. disabled_opener (live_opener x) ∷ ws) rest.stands;
+    }
 
 pub waiting_last : (n : ℕ) (openers : List Opener) (o : Opener) → Last n openers o
 waiting_last n openers o =
@@ -83,16 +92,19 @@ marked_all (suc n) (x ∷ openers) = ap (λ w. w ∷ marked (length openers) ope
     ∙ ap (λ ws. disabled_opener (disabled_opener (live_opener x)) ∷ ws) (marked_all n openers)
 
 -- all are disabled
-pub waiting_all : (n : ℕ) (openers : List Opener) → waiting_openers (length openers) openers ≡ map disabled_opener (waiting_openers n openers)
+pub waiting_all : (n : ℕ) (openers : List Opener) → waiting_openers (length openers) openers
+    ≡ map disabled_opener (waiting_openers n openers)
 waiting_all n openers = ap reverse (marked_all n openers) ∙ sym (map-reverse disabled_opener (marked n openers))
 
 -- more than there are cannot be disabled
 marked_past : (n : ℕ) (openers : List Opener) → length openers ≤ n → marked n openers ≡ marked (length openers) openers
 marked_past n [] h = refl
 marked_past zero (x ∷ openers) h = absurd (omega arith)
-marked_past (suc n) (x ∷ openers) h = ap (λ ws. disabled_opener (live_opener x) ∷ ws) (marked_past n openers (omega arith))
+marked_past (suc n) (x ∷ openers) h = ap (λ ws. disabled_opener (live_opener x) ∷ ws)
+    (marked_past n openers (omega arith))
 
-pub waiting_past : (n : ℕ) (openers : List Opener) → length openers ≤ n → waiting_openers n openers ≡ waiting_openers (length openers) openers
+pub waiting_past : (n : ℕ) (openers : List Opener) → length openers ≤ n → waiting_openers n openers
+    ≡ waiting_openers (length openers) openers
 waiting_past n openers h = ap reverse (marked_past n openers h)
 
 -- a nearest one whose number is this one or greater goes
@@ -101,7 +113,8 @@ pub before_goes : (node n : ℕ) (openers : List Opener) (o : Opener) → nat_le
 before_goes node n openers o e =
     let l = waiting_last n openers o in
     let test : nat_le node l.last.opener.node ≡ true = ap (λ p. nat_le node p.node) l.is_it ∙ e in
-    ap (before node) l.stands ∙ ap (λ b. cond b (before node (waiting_openers n openers)) (l.last ∷ waiting_openers n openers)) test
+    ap (before node) l.stands
+    ∙ ap (λ b. cond b (before node (waiting_openers n openers)) (l.last ∷ waiting_openers n openers)) test
 
 -- one whose number is smaller stays
 pub before_stays : (node n : ℕ) (openers : List Opener) (o : Opener) → nat_le node o.node ≡ false
@@ -109,7 +122,9 @@ pub before_stays : (node n : ℕ) (openers : List Opener) (o : Opener) → nat_l
 before_stays node n openers o e =
     let l = waiting_last n openers o in
     let test : nat_le node l.last.opener.node ≡ false = ap (λ p. nat_le node p.node) l.is_it ∙ e in
-    ap (before node) l.stands ∙ ap (λ b. cond b (before node (waiting_openers n openers)) (l.last ∷ waiting_openers n openers)) test ∙ sym l.stands
+    ap (before node) l.stands
+    ∙ ap (λ b. cond b (before node (waiting_openers n openers)) (l.last ∷ waiting_openers n openers)) test
+    ∙ sym l.stands
 
 and_true : (b : Bool) → (b && true) ≡ b
 and_true true = refl
@@ -118,7 +133,8 @@ and_true false = refl
 -- the last one of all, where all are disabled
 pub waiting_image : (openers : List Opener) (o : Opener) → waiting_openers (suc (length openers)) (openers ++ o ∷ [])
     ≡ record { opener = o; is_live = o.is_image } ∷ waiting_openers (length openers) openers
-waiting_image openers o = waiting_disabled openers o ∙ ap (λ b. record { opener = o; is_live = b } ∷ waiting_openers (length openers) openers)
+waiting_image openers o = waiting_disabled openers o
+    ∙ ap (λ b. record { opener = o; is_live = b } ∷ waiting_openers (length openers) openers)
     (and_true o.is_image)
 
 pub le_true : (a b : ℕ) → a ≤ b → nat_le a b ≡ true
@@ -128,25 +144,31 @@ pub lt_false : (a b : ℕ) → b < a → nat_le a b ≡ false
 lt_false a b h = grind (arith, nat_tests)
 
 -- of the first k + 1 openers the last goes
-pub last_goes : (node n k : ℕ) (openers : List Opener) (d : Opener) → k < length openers → node ≤ (get_or openers k d).node
+pub last_goes : (node n k : ℕ) (openers : List Opener) (d : Opener) → k < length openers
+    → node ≤ (get_or openers k d).node
     → before node (waiting_openers n (take (k + 1) openers)) ≡ before node (waiting_openers n (take k openers))
-last_goes node n k openers d h le = rw (take_more openers k d h) (before_goes node n (take k openers) (get_or openers k d)
+last_goes node n k openers d h le = rw (take_more openers k d h)
+    (before_goes node n (take k openers) (get_or openers k d)
     (le_true node (get_or openers k d).node le))
 
 -- or it stays, and all before it
-pub last_stays : (node n k : ℕ) (openers : List Opener) (d : Opener) → k < length openers → (get_or openers k d).node < node
+pub last_stays : (node n k : ℕ) (openers : List Opener) (d : Opener) → k < length openers
+    → (get_or openers k d).node < node
     → before node (waiting_openers n (take (k + 1) openers)) ≡ waiting_openers n (take (k + 1) openers)
-last_stays node n k openers d h lt = rw (take_more openers k d h) (before_stays node n (take k openers) (get_or openers k d)
+last_stays node n k openers d h lt = rw (take_more openers k d h)
+    (before_stays node n (take k openers) (get_or openers k d)
     (lt_false node (get_or openers k d).node lt))
 
 past_of : (a b : ℕ) → nat_le a b ≡ false → b ≤ a
 past_of a b e = grind (arith, nat_tests)
 
 -- no more are disabled than there are
-pub waiting_min : (n : ℕ) (openers : List Opener) → waiting_openers n openers ≡ waiting_openers (min n (length openers)) openers
+pub waiting_min : (n : ℕ) (openers : List Opener) → waiting_openers n openers ≡ waiting_openers (min n (length openers))
+    openers
 waiting_min n openers = cases (nat_le n (length openers)) refl
   where
-    cases : (b : Bool) → nat_le n (length openers) ≡ b → waiting_openers n openers ≡ waiting_openers (min n (length openers)) openers
+    cases : (b : Bool) → nat_le n (length openers) ≡ b → waiting_openers n openers
+        ≡ waiting_openers (min n (length openers)) openers
     cases true e =
         let le : n ≤ length openers = leb-true n (length openers) e in
         let same : n ≡ min n (length openers) = omega arith in
@@ -161,22 +183,27 @@ pub nearest_goes : (node n left : ℕ) (openers : List Opener) (d : Opener) → 
     → node ≤ (get_or openers (left - 1) d).node → before node (waiting_openers n (take left openers))
     ≡ before node (waiting_openers n (take (left - 1) openers))
 nearest_goes node n left openers d some within le =
-    let P : ℕ → Type 0 = λ m. before node (waiting_openers n (take m openers)) ≡ before node (waiting_openers n (take (left - 1) openers)) in
+    let P : ℕ → Type 0 = λ m. before node (waiting_openers n (take m openers))
+    ≡ before node (waiting_openers n (take (left - 1) openers)) in
     let same : left - 1 + 1 ≡ left = omega arith in
     subst P same (last_goes node n (left - 1) openers d (omega arith) le)
 
 pub nearest_stays : (node n left : ℕ) (openers : List Opener) (d : Opener) → 0 < left → left ≤ length openers
-    → (get_or openers (left - 1) d).node < node → before node (waiting_openers n (take left openers)) ≡ waiting_openers n (take left openers)
+    → (get_or openers (left - 1) d).node < node → before node (waiting_openers n (take left openers))
+    ≡ waiting_openers n (take left openers)
 nearest_stays node n left openers d some within lt =
     let P : ℕ → Type 0 = λ m. before node (waiting_openers n (take m openers)) ≡ waiting_openers n (take m openers) in
     let same : left - 1 + 1 ≡ left = omega arith in
     subst P same (last_stays node n (left - 1) openers d (omega arith) lt)
 
 -- the nearest is the last
-first_last : (n : ℕ) (openers : List Opener) (o : Opener) → first_opener (waiting_openers n (openers ++ o ∷ [])) ≡ Some o
-first_last n openers o = let l = waiting_last n openers o in ap first_opener l.stands ∙ ap (λ (p : Opener). Some p) l.is_it
+first_last : (n : ℕ) (openers : List Opener) (o : Opener) → first_opener (waiting_openers n (openers ++ o ∷ []))
+    ≡ Some o
+first_last n openers o = let l = waiting_last n openers o in ap first_opener l.stands
+    ∙ ap (λ (p : Opener). Some p) l.is_it
 
-pub nearest_is : (n : ℕ) (openers : List Opener) → slice_get openers (length openers - 1) ≡ first_opener (waiting_openers n openers)
+pub nearest_is : (n : ℕ) (openers : List Opener) → slice_get openers (length openers - 1)
+    ≡ first_opener (waiting_openers n openers)
 nearest_is n [] = refl
 nearest_is n (x ∷ openers) =
     let all : List Opener = x ∷ openers in
@@ -185,4 +212,5 @@ nearest_is n (x ∷ openers) =
     let last : length all - 1 ≡ k = omega arith in
     let whole : length all ≤ k + 1 = omega arith in
     ap (slice_get all) last ∙ slice_get-get_or all k x within ∙ sym (first_last n (take k all) (get_or all k x))
-    ∙ ap (λ (l : List Opener). first_opener (waiting_openers n l)) (sym (take_more all k x within) ∙ take_all (k + 1) all whole)
+    ∙ ap (λ (l : List Opener). first_opener (waiting_openers n l))
+    (sym (take_more all k x within) ∙ take_all (k + 1) all whole)

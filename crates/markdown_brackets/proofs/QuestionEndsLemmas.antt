@@ -1,7 +1,9 @@
 -- A chain asks at most as many questions as it has `]`, and no two end together: a `]` that ends the label of an
 -- earlier one asks about no label itself, and no two labels that follow a `]` end at the same byte offset.
-use Rattle.std.proofs.Common.{◌≡◌, ◌⊎◌, inl, inr, ⊎_elim, ℕ, ◌+◌, ◌-◌, ◌<◌, ◌≤◌, Bool, true, false, not, ◌&&◌, ◌||◌, ◌==◌, List}
-use Rattle.std.proofs.Common.{[], ◌∷◌, ◌++◌, length, map, Option, Some, None, cond, refl, sym, ap, subst, ◌∙◌, arith, append-nil, drop}
+use Rattle.std.proofs.Common.{◌≡◌, ◌⊎◌, inl, inr, ⊎_elim, ℕ, ◌+◌, ◌-◌, ◌<◌, ◌≤◌, Bool, true, false, not, ◌&&◌, ◌||◌}
+use Rattle.std.proofs.Common.{◌==◌, List}
+use Rattle.std.proofs.Common.{[], ◌∷◌, ◌++◌, length, map, Option, Some, None, cond, refl, sym, ap, subst, ◌∙◌, arith}
+use Rattle.std.proofs.Common.{append-nil, drop}
 use Rattle.std.proofs.Common.{get_or, take, nat_le, nat_eq, length-append, length-drop, length-take}
 use Rattle.std.specs.Prelude.{IfSome, slice_range}
 use Rattle.std.specs.List.{AllByRecursion, IsDistinct, list_any}
@@ -22,9 +24,11 @@ use Rattle.markdown_brackets.specs.BracketDecision.{Around, Closing, Progress, b
 use Rattle.markdown_brackets.specs.ClosingBracket.{closed}
 use Rattle.markdown_brackets.specs.QuestionEnds.{AsksNothing, HoldsNoOpener, StandInLine, StandsInLine}
 use Rattle.markdown_brackets.specs.QuestionsAsked.{AsksAtMost, EndApart, closers_among, closes_bracket}
-use Rattle.markdown_brackets.specs.ReadChain.{Reader, among, begun, closing_of, opened, read, read_as, read_chain, read_past}
+use Rattle.markdown_brackets.specs.ReadChain.{Reader, among, begun, closing_of, opened, read, read_as, read_chain}
+use Rattle.markdown_brackets.specs.ReadChain.{read_past}
 use Rattle.markdown_brackets.specs.Reference.{is_closer}
-use Rattle.markdown_brackets.proofs.AsksAboutLemmas.{Asks, AsksFull, AsksNone, AsksOwn, AtMostOneTo, Told, closed_told, full_label, told_by}
+use Rattle.markdown_brackets.proofs.AsksAboutLemmas.{Asks, AsksFull, AsksNone, AsksOwn, AtMostOneTo, Told, closed_told}
+use Rattle.markdown_brackets.proofs.AsksAboutLemmas.{full_label, told_by}
 use Rattle.markdown_brackets.proofs.LabelPairLemmas.{IsLabelFrom, first_byte, labels_apart}
 
 -- cutting leaves it open what an item opens or closes
@@ -82,7 +86,8 @@ abbrev one_if : Bool → ℕ
 one_if b = cond b 1 0
 
 module _ {A : Type 0} (w : Around) (others : Reader A) (nothing : AsksNothing others) where
-  other_told : (a : Label A) (below rest : Forest (Label A)) (p : Progress A) → told_by (others a below rest p) ≡ told_by p
+  other_told : (a : Label A) (below rest : Forest (Label A)) (p : Progress A) → told_by (others a below rest p)
+      ≡ told_by p
   other_told a below rest p = ap told_by (nothing a below rest p)
 
   read_as_more : (b : ItemBody) (a : Label A) (below rest : Forest (Label A)) (p : Progress A)
@@ -126,20 +131,24 @@ module _ {A : Type 0} (w : Around) (others : Reader A) (nothing : AsksNothing ot
 
   pub asks_at_most : (chain : Forest (Label A)) (known : Known)
       → AsksAtMost (closers_among (roots chain)) known.limit (read_chain w others chain (begun known)).asked
-  asks_at_most chain known = let h = chain_more chain (begun known) in record { once = omega (arith, h.once); silent = λ z. (h.silent z).1 }
+  asks_at_most chain known = let h = chain_more chain (begun known) in record
+      { once = omega (arith, h.once); silent = λ z. (h.silent z).1 }
 
   -- a limit of 0 stays
-  pub stays_zero : (chain : Forest (Label A)) (known : Known) → known.limit ≡ 0 → (read_chain w others chain (begun known)).known.limit ≡ 0
+  pub stays_zero : (chain : Forest (Label A)) (known : Known) → known.limit ≡ 0
+      → (read_chain w others chain (begun known)).known.limit ≡ 0
   stays_zero chain known z = ((chain_more chain (begun known)).silent z).0
 
 -- ---- where they end
 
 -- what holds of all, where one thing follows from another
-all_also : {X : Type 0} (P Q : X → Type 0) → ((x : X) → P x → Q x) → (xs : List X) → AllByRecursion P xs → AllByRecursion Q xs
+all_also : {X : Type 0} (P Q : X → Type 0) → ((x : X) → P x → Q x) → (xs : List X) → AllByRecursion P xs
+    → AllByRecursion Q xs
 all_also P Q f [] h = tt
 all_also P Q f (x ∷ xs) h = (f x h.0, all_also P Q f xs h.1)
 
-all_pushed : {X : Type 0} (P : X → Type 0) (xs : List X) (x : X) → AllByRecursion P xs → P x → AllByRecursion P (xs ++ x ∷ [])
+all_pushed : {X : Type 0} (P : X → Type 0) (xs : List X) (x : X) → AllByRecursion P xs → P x
+    → AllByRecursion P (xs ++ x ∷ [])
 all_pushed P [] x h k = (k, tt)
 all_pushed P (y ∷ xs) x h k = (h.0, all_pushed P xs x h.1 k)
 
@@ -148,7 +157,8 @@ none_there : (end : ℕ) (questions : List Question) → AllByRecursion (λ q. (
     → list_any (nat_eq end) (map (λ q. q.span.end) questions) ≡ false
 none_there end [] h = refl
 none_there end (q ∷ questions) h =
-    neither (nat_eq end q.span.end) (list_any (nat_eq end) (map (λ q. q.span.end) questions)) (apart h.0) (none_there end questions h.1)
+    neither (nat_eq end q.span.end) (list_any (nat_eq end) (map (λ q. q.span.end) questions)) (apart h.0)
+    (none_there end questions h.1)
   where
     apart : ((end ≡ q.span.end) → ⊥) → nat_eq end q.span.end ≡ false
     apart h = grind (arith, nat_tests, h)
@@ -160,7 +170,8 @@ apart_pushed : (questions : List Question) (q : Question) → EndApart questions
     → AllByRecursion (λ r. (q.span.end ≡ r.span.end) → ⊥) questions → EndApart (questions ++ q ∷ [])
 apart_pushed questions q h k =
     subst (IsDistinct nat_eq) (sym (map-append (λ (q : Question). q.span.end) questions (q ∷ [])))
-    (IsDistinct-push nat_eq_equiv (map (λ (q : Question). q.span.end) questions) q.span.end h (none_there q.span.end questions k))
+    (IsDistinct-push nat_eq_equiv (map (λ (q : Question). q.span.end) questions) q.span.end h
+    (none_there q.span.end questions k))
 
 among_more : (n m : ℕ) (ms : List ℕ) → among n ms ≡ true → among n (m ∷ ms) ≡ true
 among_more n m ms h = by (n == m)
@@ -198,7 +209,8 @@ ends_later w last later spent spent' q l more k = ⊎_elim
 told_later : (w : Around) (last later : ℕ) (t : Told) → last ≤ later → IsToldTo w last t → IsToldTo w later t
 told_later w last later t l h = record {
   apart = h.apart;
-  each = all_also (EndsBy w last t.spent) (EndsBy w later t.spent) (λ q k. ends_later w last later t.spent t.spent q l (λ u. u) k)
+  each = all_also (EndsBy w last t.spent) (EndsBy w later t.spent)
+      (λ q k. ends_later w last later t.spent t.spent q l (λ u. u) k)
       t.asked h.each;
 }
 
@@ -216,7 +228,8 @@ module _ {A : Type 0} (w : Around) (none : HoldsNoOpener w.skipped) (c : Closing
   here = end_of c.label
 
   -- no earlier question ends where the label ends that follows
-  full_apart : (spent : List ℕ) (end : ℕ) → IsLabelFrom (lines w) (block_text w) here end → (q : Question) → EndsBy w last spent q
+  full_apart : (spent : List ℕ) (end : ℕ) → IsLabelFrom (lines w) (block_text w) here end → (q : Question)
+      → EndsBy w last spent q
       → (end ≡ q.span.end) → ⊥
   full_apart spent end label q (inl l) e = absurd (omega (arith, l, label.ends, at.later, e))
   full_apart spent end label q (inr k) e =
@@ -228,7 +241,8 @@ module _ {A : Type 0} (w : Around) (none : HoldsNoOpener w.skipped) (c : Closing
       labels_apart w.skipped none (block_text w) k.from here end earlier label (omega (arith, k.behind, at.later)) byte
 
   -- nor where the `]` ends, where that is not used up
-  own_apart : (spent : List ℕ) → among here spent ≡ false → (q : Question) → EndsBy w last spent q → (here ≡ q.span.end) → ⊥
+  own_apart : (spent : List ℕ) → among here spent ≡ false → (q : Question) → EndsBy w last spent q → (here ≡ q.span.end)
+      → ⊥
   own_apart spent unused q (inl l) e = absurd (omega (arith, l, at.later, e))
   own_apart spent unused q (inr k) e = let used : among here spent ≡ true = rw e k.used in absurd (cc (used, unused))
 
@@ -236,14 +250,21 @@ module _ {A : Type 0} (w : Around) (none : HoldsNoOpener w.skipped) (c : Closing
   ToldWith asked spent limit = IsToldTo w here (record { asked = asked; spent = spent; limit = limit })
 
   -- one question more at most, which ends elsewhere
-  pushed : (asked : List Question) (spent : List ℕ) (limit end : ℕ) (more : List Question) → AtMostOneTo end more → EndApart asked
+  pushed : (asked : List Question) (spent : List ℕ) (limit end : ℕ) (more : List Question) → AtMostOneTo end more
+      → EndApart asked
       → AllByRecursion (EndsBy w here spent) asked → AllByRecursion (λ r. (end ≡ r.span.end) → ⊥) asked
       → ((q : Question) → q.span.end ≡ end → EndsBy w here spent q) → ToldWith (asked ++ more) spent limit
   pushed asked spent limit end [] most apart each elsewhere new =
-      subst (λ (asked : List Question). ToldWith asked spent limit) (sym (append-nil asked)) (record { apart = apart; each = each })
+      subst (λ (asked : List Question). ToldWith asked spent limit) (sym (append-nil asked))
+      (record { apart = apart; each = each })
   pushed asked spent limit end (q ∷ []) most apart each elsewhere new =
-      let other = all_also (λ r. (end ≡ r.span.end) → ⊥) (λ r. (q.span.end ≡ r.span.end) → ⊥) (λ r h e. h (sym most ∙ e)) asked elsewhere in
-      record { apart = apart_pushed asked q apart other; each = all_pushed (EndsBy w here spent) asked q each (new q most) }
+      let other = all_also (λ r. (end ≡ r.span.end) → ⊥) (λ r. (q.span.end ≡ r.span.end) → ⊥)
+      (λ r h e. h (sym most ∙ e)) asked elsewhere in
+      record {
+        apart = apart_pushed asked q apart other;
+        each = all_pushed (EndsBy w here spent) asked q each
+            (new q most);
+      }
   pushed asked spent limit end (q ∷ r ∷ more) most apart each elsewhere new = absurd most
 
   module _ (s t : Told) (so : IsToldTo w last s) where
@@ -255,9 +276,11 @@ module _ {A : Type 0} (w : Around) (none : HoldsNoOpener w.skipped) (c : Closing
     full_told more k =
         let label = full_label w c k.label k.end k.form in
         let kept = all_also (EndsBy w here s.spent) (EndsBy w here (k.end ∷ s.spent))
-        (λ q j. ends_later w here here s.spent (k.end ∷ s.spent) q (omega arith) (λ u. among_more q.span.end k.end s.spent u) j)
+        (λ q j. ends_later w here here s.spent (k.end ∷ s.spent) q (omega arith)
+        (λ u. among_more q.span.end k.end s.spent u) j)
         s.asked later.each in
-        let other = all_also (EndsBy w last s.spent) (λ r. (k.end ≡ r.span.end) → ⊥) (full_apart s.spent k.end label) s.asked so.each in
+        let other = all_also (EndsBy w last s.spent) (λ r. (k.end ≡ r.span.end) → ⊥) (full_apart s.spent k.end label)
+        s.asked so.each in
         let new = λ (q : Question) (e : q.span.end ≡ k.end). inr (record {
           used = among_first q.span.end k.end s.spent e;
           from = here;
@@ -268,10 +291,12 @@ module _ {A : Type 0} (w : Around) (none : HoldsNoOpener w.skipped) (c : Closing
         (pushed s.asked (k.end ∷ s.spent) t.limit k.end more k.most so.apart kept other new)
 
     -- about the label that the `]` ends
-    own_told : (c.could_be_reference ≡ true → among here s.spent ≡ false) → (more : List Question) → AsksOwn w c more s.spent t.spent
+    own_told : (c.could_be_reference ≡ true → among here s.spent ≡ false) → (more : List Question)
+        → AsksOwn w c more s.spent t.spent
         → ToldWith (s.asked ++ more) t.spent t.limit
     own_told unused more k =
-        let other = all_also (EndsBy w last s.spent) (λ r. (here ≡ r.span.end) → ⊥) (own_apart s.spent (unused k.could)) s.asked so.each in
+        let other = all_also (EndsBy w last s.spent) (λ r. (here ≡ r.span.end) → ⊥) (own_apart s.spent (unused k.could))
+        s.asked so.each in
         subst (λ (spent : List ℕ). ToldWith (s.asked ++ more) spent t.limit) (sym k.keeps)
         (pushed s.asked s.spent t.limit here more k.most so.apart later.each other (λ q e. inl (omega (arith, e))))
 
@@ -306,7 +331,8 @@ abbrev IfCloses : List ℕ → ℕ → ItemBody → ℕ → Type 0
 IfCloses text last (body.MaybeLinkClose could) end = ClosesUpTo text last end
 IfCloses text last other end = Unit {0}
 
-if_closes : {A : Type 0} (text : List ℕ) (last : ℕ) (b : ItemBody) (a : Label A) (next : Option (Label A)) → StandsInLine text a next
+if_closes : {A : Type 0} (text : List ℕ) (last : ℕ) (b : ItemBody) (a : Label A) (next : Option (Label A))
+    → StandsInLine text a next
     → open_body a.part.shape ≡ b → last ≤ start_of a
     → IfCloses text last b (end_of a)
 if_closes text last (body.MaybeLinkClose could) a next h is l =
@@ -323,47 +349,55 @@ unused_then could true h = by could h
     by false h = cc h
 unused_then could false h = refl
 
-module _ {A : Type 0} (w : Around) (others : Reader A) (nothing : AsksNothing others) (none : HoldsNoOpener w.skipped) where
-  read_as_told : (b : ItemBody) (a : Label A) (below rest : Forest (Label A)) (p : Progress A) (last : ℕ) → last ≤ end_of a
-      → IfCloses w.setting.text last b (end_of a)
-      → IsToldTo w last (told_by p) → IsToldTo w (end_of a) (told_by (read_as w others b a below rest p))
-  read_as_told body.MaybeLinkOpen a below rest p last l at so = told_later w last (end_of a) (told_by p) l so
-  read_as_told body.MaybeImage a below rest p last l at so = told_later w last (end_of a) (told_by p) l so
-  read_as_told (body.MaybeLinkClose could) a below rest p last l at so =
-      let c : Closing A = closing_of could a rest p in
-      let unused = unused_then could (among (end_of a) p.spent) in
-      closer_told w none c last at (told_by p) (told_by (closed w c p)) so unused (closed_told w c p)
-  read_as_told other a below rest p last l at so =
-      subst (IsToldTo w (end_of a)) (sym (other_told w others nothing a below rest p)) (told_later w last (end_of a) (told_by p) l so)
+module _ {A : Type 0} (w : Around) (others : Reader A) (nothing : AsksNothing others) (none : HoldsNoOpener w.skipped)
+  where
+    read_as_told : (b : ItemBody) (a : Label A) (below rest : Forest (Label A)) (p : Progress A) (last : ℕ)
+        → last ≤ end_of a
+        → IfCloses w.setting.text last b (end_of a)
+        → IsToldTo w last (told_by p) → IsToldTo w (end_of a) (told_by (read_as w others b a below rest p))
+    read_as_told body.MaybeLinkOpen a below rest p last l at so = told_later w last (end_of a) (told_by p) l so
+    read_as_told body.MaybeImage a below rest p last l at so = told_later w last (end_of a) (told_by p) l so
+    read_as_told (body.MaybeLinkClose could) a below rest p last l at so =
+        let c : Closing A = closing_of could a rest p in
+        let unused = unused_then could (among (end_of a) p.spent) in
+        closer_told w none c last at (told_by p) (told_by (closed w c p)) so unused (closed_told w c p)
+    read_as_told other a below rest p last l at so =
+        subst (IsToldTo w (end_of a)) (sym (other_told w others nothing a below rest p))
+        (told_later w last (end_of a) (told_by p) l so)
 
-  read_past_told : (goes_on : Option ℕ) (a : Label A) (below rest : Forest (Label A)) (p : Progress A) (last : ℕ) → last ≤ end_of a
-      → IfCloses w.setting.text last (open_body a.part.shape) (end_of a)
-      → IsToldTo w last (told_by p) → IsToldTo w (end_of a) (told_by (read_past w others goes_on a below rest p))
-  read_past_told None a below rest p last l at so = read_as_told (open_body a.part.shape) a below rest p last l at so
-  read_past_told (Some i) a below rest p last l at so = by (nat_le (end_of a) i)
-    where
-      by : (b : Bool) → IsToldTo w (end_of a) (told_by (cond b p (read w others (begun_at i a) below rest (record p { goes_on = None }))))
-      by true = told_later w last (end_of a) (told_by p) l so
-      by false =
-          read_as_told (open_body (begun_at i a).part.shape) (begun_at i a) below rest (record p { goes_on = None }) last l
-          (subst (λ (b : ItemBody). IfCloses w.setting.text last b (end_of a)) (sym (cut_body (i - start_of a) a.part.shape)) at) so
+    read_past_told : (goes_on : Option ℕ) (a : Label A) (below rest : Forest (Label A)) (p : Progress A) (last : ℕ)
+        → last ≤ end_of a
+        → IfCloses w.setting.text last (open_body a.part.shape) (end_of a)
+        → IsToldTo w last (told_by p) → IsToldTo w (end_of a) (told_by (read_past w others goes_on a below rest p))
+    read_past_told None a below rest p last l at so = read_as_told (open_body a.part.shape) a below rest p last l at so
+    read_past_told (Some i) a below rest p last l at so = by (nat_le (end_of a) i)
+      where
+        by : (b : Bool) → IsToldTo w (end_of a)
+            (told_by (cond b p (read w others (begun_at i a) below rest (record p { goes_on = None }))))
+        by true = told_later w last (end_of a) (told_by p) l so
+        by false =
+            read_as_told (open_body (begun_at i a).part.shape) (begun_at i a) below rest (record p { goes_on = None })
+            last l
+            (subst (λ (b : ItemBody). IfCloses w.setting.text last b (end_of a))
+            (sym (cut_body (i - start_of a) a.part.shape)) at) so
 
-  chain_told : (chain : Forest (Label A)) (p : Progress A) (last : ℕ) → StandInLine w.setting.text chain
-      → IfSome (first_root chain) (λ a. last ≤ start_of a) → IsToldTo w last (told_by p)
-      → EndApart (read_chain w others chain p).asked
-  unfolding read_chain
-  chain_told nil p last stand l so = so.apart
-  chain_told (node a below rest) p last stand l so =
-      let ordered : start_of a ≤ end_of a = stand.0.lies.ordered in
-      let at = if_closes w.setting.text last (open_body a.part.shape) a (first_root rest) stand.0 refl l in
-      chain_told rest (read_past w others p.goes_on a below rest p) (end_of a) stand.1 stand.0.in_order
-      (read_past_told p.goes_on a below rest p last (omega (arith, l, ordered)) at so)
+    chain_told : (chain : Forest (Label A)) (p : Progress A) (last : ℕ) → StandInLine w.setting.text chain
+        → IfSome (first_root chain) (λ a. last ≤ start_of a) → IsToldTo w last (told_by p)
+        → EndApart (read_chain w others chain p).asked
+    unfolding read_chain
+    chain_told nil p last stand l so = so.apart
+    chain_told (node a below rest) p last stand l so =
+        let ordered : start_of a ≤ end_of a = stand.0.lies.ordered in
+        let at = if_closes w.setting.text last (open_body a.part.shape) a (first_root rest) stand.0 refl l in
+        chain_told rest (read_past w others p.goes_on a below rest p) (end_of a) stand.1 stand.0.in_order
+        (read_past_told p.goes_on a below rest p last (omega (arith, l, ordered)) at so)
 
-  pub end_apart : (chain : Forest (Label A)) (known : Known) → StandInLine w.setting.text chain
-      → EndApart (read_chain w others chain (begun known)).asked
-  unfolding IsDistinct
-  end_apart chain known stand = chain_told chain (begun known) 0 stand (from_start chain) (record { apart = tt; each = tt })
-    where
-      from_start : (chain : Forest (Label A)) → IfSome (first_root chain) (λ a. 0 ≤ start_of a)
-      from_start nil = tt
-      from_start (node a below rest) = omega arith
+    pub end_apart : (chain : Forest (Label A)) (known : Known) → StandInLine w.setting.text chain
+        → EndApart (read_chain w others chain (begun known)).asked
+    unfolding IsDistinct
+    end_apart chain known stand = chain_told chain (begun known) 0 stand (from_start chain)
+        (record { apart = tt; each = tt })
+      where
+        from_start : (chain : Forest (Label A)) → IfSome (first_root chain) (λ a. 0 ≤ start_of a)
+        from_start nil = tt
+        from_start (node a below rest) = omega arith

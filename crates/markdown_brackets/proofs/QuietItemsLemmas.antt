@@ -12,21 +12,24 @@ use Rattle.markdown_brackets.specs.QuietItems.{LeavesQuiet, QuietItemsLaw, Waits
 use Rattle.markdown_brackets.specs.ReadChain.{Reader, begun, read_as, read_chain, read_past}
 
 -- the trees put are the chain's, after those that stood there
-pub all_done_trees : {A : Type 0} (chain : Forest (Label A)) (left : List (Entry A)) → trees_onto (all_done chain left) nil
+pub all_done_trees : {A : Type 0} (chain : Forest (Label A)) (left : List (Entry A))
+    → trees_onto (all_done chain left) nil
     ≡ trees_onto left chain
 all_done_trees nil left = refl
 all_done_trees (node a below after) left = all_done_trees after (done a below ∷ left)
 
 module _ {A : Type 0} (w : Around) (others : Reader A) (leaves : LeavesQuiet others) where
   -- it is no bracket
-  waits_elsewhere : (b : ItemBody) (a : Label A) (below rest : Forest (Label A)) (p : Progress A) → waits_for_pairing b ≡ true
+  waits_elsewhere : (b : ItemBody) (a : Label A) (below rest : Forest (Label A)) (p : Progress A) → waits_for_pairing b
+      ≡ true
       → read_as w others b a below rest p ≡ others a below rest p
   waits_elsewhere body.MaybeLinkOpen a below rest p h = cc
   waits_elsewhere body.MaybeImage a below rest p h = cc
   waits_elsewhere (body.MaybeLinkClose could) a below rest p h = cc
   waits_elsewhere other a below rest p h = refl
 
-  read_elsewhere : (shape : Shape) (a : Label A) (below rest : Forest (Label A)) (p : Progress A) → is_quiet shape ≡ true
+  read_elsewhere : (shape : Shape) (a : Label A) (below rest : Forest (Label A)) (p : Progress A) → is_quiet shape
+      ≡ true
       → read_as w others (open_body shape) a below rest p ≡ others a below rest p
   read_elsewhere (leaf e origins) a below rest p h = refl
   read_elsewhere (enclosed tag) a below rest p h = refl

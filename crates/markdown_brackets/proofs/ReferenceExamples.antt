@@ -12,7 +12,8 @@ abbrev no_prefix : List ℕ → Option ℕ
 no_prefix rest = Some 0
 
 -- the bytes from the opener to the `]` are exactly one label
-own : own_label Off no_prefix false (codes "x [a b] y") 2 7 ≡ Some (record { is_footnote = false; length = 5; name = codes "a b" })
+own : own_label Off no_prefix false (codes "x [a b] y") 2 7
+    ≡ Some (record { is_footnote = false; length = 5; name = codes "a b" })
 own = refl
 
 two_labels : own_label Off no_prefix false (codes "[a] [b]") 0 7 ≡ None
@@ -23,19 +24,24 @@ past_block : own_label Off no_prefix false (take 2 (codes "[a]")) 0 3 ≡ None
 past_block = refl
 
 -- footnotes, on one line as GitHub writes them
-no_footnotes : bracket_label Off no_prefix false (codes "[^a]") ≡ Some (record { is_footnote = false; length = 4; name = codes "^a" })
+no_footnotes : bracket_label Off no_prefix false (codes "[^a]")
+    ≡ Some (record { is_footnote = false; length = 4; name = codes "^a" })
 no_footnotes = refl
 
-footnote : bracket_label Gfm no_prefix false (codes "[^a]") ≡ Some (record { is_footnote = true; length = 4; name = codes "a" })
+footnote : bracket_label Gfm no_prefix false (codes "[^a]")
+    ≡ Some (record { is_footnote = true; length = 4; name = codes "a" })
 footnote = refl
 
-blank_name : bracket_label Gfm no_prefix false (codes "[^ ]") ≡ Some (record { is_footnote = false; length = 4; name = codes "^" })
+blank_name : bracket_label Gfm no_prefix false (codes "[^ ]")
+    ≡ Some (record { is_footnote = false; length = 4; name = codes "^" })
 blank_name = refl
 
-empty_name : bracket_label Old no_prefix false (codes "[^]") ≡ Some (record { is_footnote = false; length = 3; name = codes "^" })
+empty_name : bracket_label Old no_prefix false (codes "[^]")
+    ≡ Some (record { is_footnote = false; length = 3; name = codes "^" })
 empty_name = refl
 
-name_of_two_lines : bracket_label Gfm no_prefix false (codes "[^a\nb]") ≡ Some (record { is_footnote = false; length = 6; name = codes "^a b" })
+name_of_two_lines : bracket_label Gfm no_prefix false (codes "[^a\nb]")
+    ≡ Some (record { is_footnote = false; length = 6; name = codes "^a b" })
 name_of_two_lines = refl
 
 name_of_two_lines_old : bracket_label Old no_prefix false (codes "[^a\nb]")
@@ -52,7 +58,8 @@ closer_at at = Some (record { start = at; end = at; body = MaybeLinkClose true }
 empty_brackets : form_at Off no_prefix false (codes "[foo][]") 5 (opener_at 5) (closer_at 6) ≡ collapsed
 empty_brackets = refl
 
-label_follows : form_at Off no_prefix false (codes "[testing][Some reference]") 9 (opener_at 9) None ≡ reference (codes "Some reference") 25
+label_follows : form_at Off no_prefix false (codes "[testing][Some reference]") 9 (opener_at 9) None
+    ≡ reference (codes "Some reference") 25
 label_follows = refl
 
 -- an escaped bracket begins no label: no item starts there
@@ -74,13 +81,20 @@ at_zero : lookup.look_up [] true 0 (None ∷ []) (about (codes "a"))
     ≡ record { target = None; questions = []; limit = 0; answers = None ∷ [] }
 at_zero = refl
 
-nobody_to_ask : lookup.look_up [] false 9 [] (about (codes "a")) ≡ record { target = None; questions = []; limit = 9; answers = [] }
+nobody_to_ask : lookup.look_up [] false 9 [] (about (codes "a"))
+    ≡ record { target = None; questions = []; limit = 9; answers = [] }
 nobody_to_ask = refl
 
 -- an answer may be longer than what is left of the limit
-long_answer : lookup.look_up [] true 4 (Some (record { destination = codes "http"; title = codes "t" }) ∷ None ∷ []) (about (codes "a"))
+long_answer : lookup.look_up [] true 4 (Some (record { destination = codes "http"; title = codes "t" }) ∷ None ∷ [])
+    (about (codes "a"))
     ≡ record {
-      target = Some (record { kind = ShortcutUnknown; destination = codes "http"; title = codes "t"; label = codes "a" });
+      target = Some (record {
+        kind = ShortcutUnknown;
+        destination = codes "http";
+        title = codes "t";
+        label = codes "a";
+      });
       questions = about (codes "a") ∷ [];
       limit = 0;
       answers = None ∷ [];

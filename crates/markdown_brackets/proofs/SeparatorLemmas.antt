@@ -1,5 +1,6 @@
 -- Separators are ASCII: the text may be cut after them.
-use Rattle.std.proofs.Common.{◌≡◌, ℕ, suc, ◌+◌, ◌≤◌, Bool, true, ◌&&◌, ◌==◌, List, [], ◌∷◌, Option, Some, None, IfSome, length, take, drop}
+use Rattle.std.proofs.Common.{◌≡◌, ℕ, suc, ◌+◌, ◌≤◌, Bool, true, ◌&&◌, ◌==◌, List, [], ◌∷◌, Option, Some, None, IfSome}
+use Rattle.std.proofs.Common.{length, take, drop}
 use Rattle.std.proofs.Common.{cond, arith, refl, subst}
 use Rattle.std.specs.List.{list_all, prefix_len}
 use Rattle.std.specs.Char.{is_ascii}
@@ -61,7 +62,8 @@ pub line_ending_is_ascii : (bytes : List ℕ) → IfSome (line_ending bytes) (Be
 line_ending_is_ascii [] = tt
 line_ending_is_ascii (b ∷ bytes) =
     let P = λ (r : Option ℕ). IfSome r (BeginsAscii (b ∷ bytes)) in
-    cond_both (b == line_feed) (Some 1) (cond (b == carriage_return) (cond (begins_line_feed bytes) (Some 2) (Some 1)) None) P
+    cond_both (b == line_feed) (Some 1)
+    (cond (b == carriage_return) (cond (begins_line_feed bytes) (Some 2) (Some 1)) None) P
     (λ e. one_more b bytes 0 (line_feed_is_ascii b e) (nothing_ascii bytes))
     (λ e. cond_both (b == carriage_return) (cond (begins_line_feed bytes) (Some 2) (Some 1)) None P
     (λ f. after_return b bytes (carriage_return_is_ascii b f)) (λ f. tt))
@@ -77,4 +79,5 @@ after_ascii text n utf8 begins = after_ascii_bytes text n utf8 begins.within beg
 pub after_more_ascii : (text : List ℕ) (n m : ℕ) → IsUtf8 text → IsCharBoundary text n → m ≤ length (drop n text)
     → list_all is_ascii (take m (drop n text)) ≡ true → IsCharBoundary text (n + m)
 after_more_ascii text n m utf8 here within all =
-    IsCharBoundary-from_rest text n m here.0 (after_ascii_bytes (drop n text) m (IsUtf8-drop text n utf8 here) within all)
+    IsCharBoundary-from_rest text n m here.0
+    (after_ascii_bytes (drop n text) m (IsUtf8-drop text n utf8 here) within all)

@@ -4,7 +4,8 @@ use Rattle.std.specs.Prelude.{IfSome, if◌then◌else◌, unwrap_or}
 use Rattle.std.specs.Option.{option_and_then, option_map}
 use Rattle.markdown_base.specs.Event.{LinkView}
 use Rattle.markdown_base.specs.Forest.{node, nil}
-use Rattle.markdown_brackets.specs.BracketDecision.{Around, Closing, Written, LinkReference, Progress, a_link, a_text, bracket_found, carried_out}
+use Rattle.markdown_brackets.specs.BracketDecision.{Around, Closing, Written, LinkReference, Progress, a_link, a_text}
+use Rattle.markdown_brackets.specs.BracketDecision.{bracket_found, carried_out}
 use Rattle.markdown_brackets.specs.BracketDecision.{question_at}
 use Rattle.markdown_brackets.specs.Finish.{IsSplit, SplitsAs}
 use Rattle.markdown_brackets.specs.LeftList.{Entry, Mark, Split, behind, change_nearest, done, nearest, waits}
@@ -47,7 +48,8 @@ taken_splits test f (waits m a ∷ left) = by (test m) (taken_splits test f left
     by false h = maybe_behind (waits m a) (change_nearest test f left) (nearest test left) h
 
 -- what a `]` becomes by an opener splits the left list there
-pub opener_splits : (w : Around) (c : Closing ℕ) (left : List (Entry ℕ)) (o : Option (Split ℕ)) (p : Progress ℕ) → IfSome o (IsSplit left)
+pub opener_splits : (w : Around) (c : Closing ℕ) (left : List (Entry ℕ)) (o : Option (Split ℕ)) (p : Progress ℕ)
+    → IfSome o (IsSplit left)
     → SplitsAs left (carried_out w (option_and_then (bracket_found w c) o) p).becomes
 opener_splits w c left None p h = tt
 opener_splits w c left (Some o) p h =
@@ -55,10 +57,12 @@ opener_splits w c left (Some o) p h =
     let rules = w.setting.rules in
     either Splits (bracket_found w c o) tt (bracket_cases w c o (λ x. Splits (Some x)) (λ live. record {
       inline = λ t is. h;
-      refers = λ r way. target r (look_up rules.definitions rules.asks p.known.limit p.known.answers (question_at o r)).target;
+      refers = λ r way. target r
+          (look_up rules.definitions rules.asks p.known.limit p.known.answers (question_at o r)).target;
       footnote = λ name. h;
     }))
   where
-    target : (r : LinkReference) (t : Option LinkView) → SplitsAs left (unwrap_or (option_map (λ t. a_link o t r.end r.next) t) a_text)
+    target : (r : LinkReference) (t : Option LinkView)
+        → SplitsAs left (unwrap_or (option_map (λ t. a_link o t r.end r.next) t) a_text)
     target r None = tt
     target r (Some t) = h

@@ -1,5 +1,6 @@
 -- Tails of links, and bodies of wikilinks, as the definitions read them.
-use Rattle.std.proofs.Common.{◌≡◌, ℕ, ◌++◌, true, false, List, [], Option, Some, None, codes, refl, replicate, if◌then◌else◌, nat_lt}
+use Rattle.std.proofs.Common.{◌≡◌, ℕ, ◌++◌, true, false, List, [], Option, Some, None, codes, refl, replicate}
+use Rattle.std.proofs.Common.{if◌then◌else◌, nat_lt}
 use Rattle.markdown_brackets.specs.LinkTail.{link_tail}
 use Rattle.markdown_brackets.specs.Wikilink.{wikilink_body, shows_name, shows_nothing, shows_from}
 
@@ -24,7 +25,8 @@ with_title : link_tail no_prefix no_item (codes "[a](c 't' )") 3
 with_title = refl
 
 -- the destination may be left out, and the separator before a title
-nothing_in_it : link_tail no_prefix no_item (codes "[a]()") 3 ≡ Some (record { ends = 5; destination = []; title = []; is_joined = false })
+nothing_in_it : link_tail no_prefix no_item (codes "[a]()") 3
+    ≡ Some (record { ends = 5; destination = []; title = []; is_joined = false })
 nothing_in_it = refl
 
 -- a destination is left out only before a `)`

@@ -1,5 +1,6 @@
 -- The title of a tail comes from the source: it is what is written between its marks.
-use Rattle.std.proofs.Common.{◌≡◌, ℕ, suc, ◌+◌, ◌-◌, ◌≤◌, ◌==◌, Bool, true, false, List, [], ◌∷◌, Option, Some, None, take, drop}
+use Rattle.std.proofs.Common.{◌≡◌, ℕ, suc, ◌+◌, ◌-◌, ◌≤◌, ◌==◌, Bool, true, false, List, [], ◌∷◌, Option, Some, None}
+use Rattle.std.proofs.Common.{take, drop}
 use Rattle.std.proofs.Common.{slice_range, refl, sym, ◌∙◌, ap, subst, arith, ◌<◌, is_some, nat_lt, unwrap_or}
 use Rattle.std.specs.Option.{option_and_then, option_map}
 use Rattle.std.specs.Prelude.{slice_index, if◌then◌else◌, ⊤, IfSome}
@@ -16,7 +17,8 @@ use Rattle.markdown_document.specs.LinkOrigins.{IsWrittenTitle}
 use Rattle.markdown_document.specs.Origins.{origin_of, sliced}
 use Rattle.markdown_document.proofs.OriginLemmas.{title_wider}
 use Rattle.markdown_brackets.specs.LinkTail as tail
-use Rattle.markdown_brackets.specs.LinkTail.{after_destination, after_title, closed_at, destination_at, link_tail, past_separator}
+use Rattle.markdown_brackets.specs.LinkTail.{after_destination, after_title, closed_at, destination_at, link_tail}
+use Rattle.markdown_brackets.specs.LinkTail.{past_separator}
 use Rattle.markdown_brackets.specs.LinkTailView.{BorrowsTail, ReadsTail}
 use Rattle.markdown_brackets.specs.WrittenView.{IsTailFrom}
 use Rattle.markdown_brackets.specs.declared.link_tail.LinkTail.{LinkTail}
@@ -34,16 +36,19 @@ is_from starts closer from i escaped [] = tt
 is_from starts closer from i escaped (b ∷ bytes) =
     let line = next_line starts i b in
     by line (nat_lt i from) refl (is_from starts closer from (i + 1) escaped bytes)
-    (is_from starts closer (unwrap_or line (i + 1)) (i + 1) (is_bare escaped (if is_some line then line_feed else b) backslash) bytes)
+    (is_from starts closer (unwrap_or line (i + 1)) (i + 1)
+    (is_bare escaped (if is_some line then line_feed else b) backslash) bytes)
   where
     skipped : (o : Option Title) → i < from → IsFrom from (i + 1) bytes o → IsFrom from i (b ∷ bytes) o
     skipped None past h = tt
     skipped (Some t) past h = (omega (arith, h.0), λ low. absurd (omega (arith, low, past)))
 
     shown : (line : Option ℕ) (bare refused : Bool) (o : Option Title) → IsFrom (unwrap_or line (i + 1)) (i + 1) bytes o
-        → IsFrom from i (b ∷ bytes) (if bare then Some (record { ends = i + 1; text = []; is_joined = false }) else if refused then None
+        → IsFrom from i (b ∷ bytes)
+        (if bare then Some (record { ends = i + 1; text = []; is_joined = false }) else if refused then None
         else option_map (after ((if is_some line then line_feed else b) ∷ []) (is_some line)) o)
-    shown line true refused o h = (omega arith, λ low j. let none : 0 ≡ i + 1 - 1 - i = omega arith in ap (λ (n : ℕ). take n (b ∷ bytes)) none)
+    shown line true refused o h
+        = (omega arith, λ low j. let none : 0 ≡ i + 1 - 1 - i = omega arith in ap (λ (n : ℕ). take n (b ∷ bytes)) none)
     shown line false true o h = tt
     shown line false false None h = tt
     shown None false false (Some t) h =
@@ -56,11 +61,14 @@ is_from starts closer from i escaped (b ∷ bytes) =
 
     by : (line : Option ℕ) (skips : Bool) → nat_lt i from ≡ skips
         → IsFrom from (i + 1) bytes (title_in closer escaped (joined_lines starts from (i + 1) bytes))
-        → IsFrom (unwrap_or line (i + 1)) (i + 1) bytes (title_in closer (is_bare escaped (if is_some line then line_feed else b) backslash)
+        → IsFrom (unwrap_or line (i + 1)) (i + 1) bytes
+        (title_in closer (is_bare escaped (if is_some line then line_feed else b) backslash)
         (joined_lines starts (unwrap_or line (i + 1)) (i + 1) bytes))
         → IsFrom from i (b ∷ bytes) (title_in closer escaped (if skips then joined_lines starts from (i + 1) bytes
-        else (i, if is_some line then line_feed else b, is_some line) ∷ joined_lines starts (unwrap_or line (i + 1)) (i + 1) bytes))
-    by line true e skips here = skipped (title_in closer escaped (joined_lines starts from (i + 1) bytes)) (is_below i from e) skips
+        else (i, if is_some line then line_feed else b, is_some line) ∷ joined_lines starts (unwrap_or line (i + 1))
+        (i + 1) bytes))
+    by line true e skips here = skipped (title_in closer escaped (joined_lines starts from (i + 1) bytes))
+        (is_below i from e) skips
     by line false e skips here = shown line _ _ _ here
 
 -- a title ends after its first byte, and where no line is joined is the bytes between its marks
@@ -76,11 +84,13 @@ title_is_at starts text i = by (closer_of (slice_index text i))
     at (Some t) h = (omega (arith, h.0), h.1 (omega arith))
 
     by : (closer : Option ℕ)
-        → IsTitleAt text i (option_and_then (λ closer. title_in closer false (joined_lines starts (i + 1) 0 text)) closer)
+        → IsTitleAt text i (option_and_then (λ closer. title_in closer false (joined_lines starts (i + 1) 0 text))
+        closer)
     by None = tt
     by (Some closer) =
         let bytes = joined_lines starts (i + 1) (i + 1) (drop (i + 1) text) in
-        subst (λ l. IsTitleAt text i (title_in closer false l)) (sym (joined_after starts (i + 1) 0 (i + 1) (i + 1) text (omega arith) (omega arith)))
+        subst (λ l. IsTitleAt text i (title_in closer false l))
+        (sym (joined_after starts (i + 1) 0 (i + 1) (i + 1) text (omega arith) (omega arith)))
         (at (title_in closer false bytes) (is_from starts closer (i + 1) (i + 1) false (drop (i + 1) text)))
 
 borrowed_sliced : (c : CowStr) → IsBorrowed c → origin_of c ≡ sliced
@@ -95,7 +105,8 @@ module _ (in_table : Bool) (skipped : List ℕ → Option ℕ) (starts : ℕ →
 
   -- the title of what was found is written in the text, from the byte `at` on and before the end
   abbrev IsWritten : Type 0
-  IsWritten = (text_of found.title ≡ [] → ⊥) → IsWrittenTitle source at found.end (origin_of found.title) (text_of found.title)
+  IsWritten = (text_of found.title ≡ [] → ⊥) → IsWrittenTitle source at found.end (origin_of found.title)
+      (text_of found.title)
 
   -- it is, where that is this tail
   abbrev Titled : Option tail.LinkTail → Type 0
@@ -108,7 +119,8 @@ module _ (in_table : Bool) (skipped : List ℕ → Option ℕ) (starts : ℕ →
   closed i written title joined h = by (slice_index text i == 41)
     where
       by : (b : Bool)
-          → Titled (if b then Some (record { ends = i + 1; destination = written; title = title; is_joined = joined }) else None)
+          → Titled (if b then Some (record { ends = i + 1; destination = written; title = title; is_joined = joined })
+          else None)
       by true reads borrows = h reads.ends reads.title borrows.title
       by false reads borrows = absurd reads
 
@@ -153,18 +165,22 @@ module _ (in_table : Bool) (skipped : List ℕ → Option ℕ) (starts : ℕ →
       by false = λ reads borrows. absurd reads
 
 -- the title of a tail that was read up to a block's end
-pub has_title : (in_table : Bool) (skipped : List ℕ → Option ℕ) (starts : ℕ → Option ℕ) (source bytes : List ℕ) (block_end at : ℕ)
+pub has_title : (in_table : Bool) (skipped : List ℕ → Option ℕ) (starts : ℕ → Option ℕ) (source bytes : List ℕ)
+    (block_end at : ℕ)
     (read : Option LinkTail) → bytes ≡ take block_end source
     → ReadsTail in_table (link_tail skipped starts bytes at) read → BorrowsTail (link_tail skipped starts bytes at) read
     → IfSome read (IsTailFrom source at)
 has_title in_table skipped starts source bytes block_end at None e reads borrows = tt
 has_title in_table skipped starts source bytes block_end at (Some found) e reads borrows = λ some.
     let t = λ (bytes : List ℕ). link_tail skipped starts bytes at in
-    ∣ tail_titled in_table skipped starts source block_end at found (subst (λ bytes. ReadsTail in_table (t bytes) (Some found)) e reads)
+    ∣ tail_titled in_table skipped starts source block_end at found
+    (subst (λ bytes. ReadsTail in_table (t bytes) (Some found)) e reads)
     (subst (λ bytes. BorrowsTail (t bytes) (Some found)) e borrows) some ∣₁
 
 -- what comes from a range comes from a wider one
-pub tail_wider : (source : List ℕ) (start start' : ℕ) (found : LinkTail) → start' ≤ start → IsTailFrom source start found
+pub tail_wider : (source : List ℕ) (start start' : ℕ) (found : LinkTail) → start' ≤ start
+    → IsTailFrom source start found
     → IsTailFrom source start' found
 tail_wider source start start' found low h =
-    title_wider source start found.end start' found.end kind.Inline (origin_of found.title) (text_of found.title) low (omega arith) h
+    title_wider source start found.end start' found.end kind.Inline (origin_of found.title) (text_of found.title) low
+    (omega arith) h

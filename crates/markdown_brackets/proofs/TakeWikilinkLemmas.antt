@@ -1,5 +1,6 @@
 -- A left list before a `]` in an arena: the openers on the stacks are those of the list, and are where the list says.
-use Rattle.std.proofs.Common.{◌≡◌, ℕ, ◌≤◌, Bool, true, false, ◌&&◌, List, [], ◌∷◌, Option, Some, None, length, refl, sym, ◌∙◌, ap, subst}
+use Rattle.std.proofs.Common.{◌≡◌, ℕ, ◌≤◌, Bool, true, false, ◌&&◌, List, [], ◌∷◌, Option, Some, None, length, refl}
+use Rattle.std.proofs.Common.{sym, ◌∙◌, ap, subst}
 use Rattle.std.proofs.Common.{arith}
 use Rattle.std.specs.Prelude.{IfSome, MatchOption, if◌then◌else◌}
 use Rattle.markdown_base.specs.Arena.{sibling_of}
@@ -13,27 +14,32 @@ use Rattle.markdown_document.specs.ChainRest.{start_of, end_of, joined_chains, o
 use Rattle.markdown_document.specs.Document.{Label}
 use Rattle.markdown_document.specs.Totals.{same}
 use Rattle.markdown_document.proofs.TablesLemmas.{same-refl}
-use Rattle.markdown_brackets.specs.BracketDecision.{Around, Closing, Decision, Written, Progress, Wikilink, bracket_found, carried_out, decided}
-use Rattle.markdown_brackets.specs.BracketDecision.{found, left_for_one, past_second, second_end, wikilink, wikilink_found, wikilink_in}
+use Rattle.markdown_brackets.specs.BracketDecision.{Around, Closing, Decision, Written, Progress, Wikilink}
+use Rattle.markdown_brackets.specs.BracketDecision.{bracket_found, carried_out, decided}
+use Rattle.markdown_brackets.specs.BracketDecision.{found, left_for_one, past_second, second_end, wikilink}
+use Rattle.markdown_brackets.specs.BracketDecision.{wikilink_found, wikilink_in}
 use Rattle.std.specs.Option.{option_and_then, option_map, option_or}
 use Rattle.markdown_base.specs.EnabledOptions.{wikilinks_on}
 use Rattle.markdown_brackets.specs.ChainHeld.{Holds, numbers_of, times_of}
 use Rattle.markdown_brackets.specs.Decides.{StandsBefore}
 use Rattle.markdown_brackets.specs.DecisionView.{opener_of}
 use Rattle.markdown_brackets.specs.Finish.{IsSplit}
-use Rattle.markdown_brackets.specs.LeftList.{Entry, Split, done, inside, is_live, nearest, opens_bracket, opens_wikilink, waits, without_bracket}
+use Rattle.markdown_brackets.specs.LeftList.{Entry, Split, done, inside, is_live, nearest, opens_bracket}
+use Rattle.markdown_brackets.specs.LeftList.{opens_wikilink, waits, without_bracket}
 use Rattle.markdown_brackets.specs.LeftList.{without_wikilink, bracket_taken, wikilink_taken, trees_onto}
 use Rattle.markdown_brackets.specs.HeldOpeners.{brackets_of, wikilinks_of}
 use Rattle.markdown_brackets.specs.Openers.{Waiting}
 use Rattle.markdown_brackets.specs.Reference.{is_closer}
-use Rattle.markdown_brackets.specs.StandsAt.{FindsWikilink, IsWikilink, HoldsInside, TriesWikilink, TakesNone, TakesWikilink}
+use Rattle.markdown_brackets.specs.StandsAt.{FindsWikilink, IsWikilink, HoldsInside, TriesWikilink, TakesNone}
+use Rattle.markdown_brackets.specs.StandsAt.{TakesWikilink}
 use Rattle.markdown_brackets.specs.declared.closing_bracket.ClosedBracket.{ClosedBracket}
 use Rattle.markdown_brackets.specs.declared.closing_bracket.ClosedBracket.TheVariants.{Text, Link, Footnote, Wikilinked}
 use Rattle.markdown_brackets.specs.declared.openers.Opener.{Opener}
 use Rattle.markdown_brackets.proofs.AheadOfBracketLemmas.{same_start, same_end, same_closer}
 use Rattle.markdown_brackets.proofs.BracketStandsLemmas.{Found, found_after, found_at, height_found}
 use Rattle.markdown_brackets.proofs.HeldTreesLemmas.{Holds-from, height-later, total-onto, total-joined}
-use Rattle.markdown_brackets.proofs.OpenerHeldLemmas.{TopBracket, TopWikilink, top_bracket, top_wikilink, wikilinks_stay, brackets_stay}
+use Rattle.markdown_brackets.proofs.OpenerHeldLemmas.{TopBracket, TopWikilink, top_bracket, top_wikilink}
+use Rattle.markdown_brackets.proofs.OpenerHeldLemmas.{wikilinks_stay, brackets_stay}
 use Rattle.markdown_brackets.proofs.OpenerHeldLemmas.{trees_stay, splits_at, SplitsAt, onto_joined}
 use Rattle.markdown_brackets.proofs.SplitLemmas.{taken_splits}
 
@@ -67,14 +73,16 @@ taken_both [] = refl
 taken_both (done a below ∷ left) = ap (λ (l : List (Entry ℕ)). done a below ∷ l) (taken_both left)
 taken_both (waits m a ∷ left) = by (opens_bracket m) (opens_wikilink m) refl refl (taken_both left)
   where
-    by : (b d : Bool) → opens_bracket m ≡ b → opens_wikilink m ≡ d → wikilink_taken (bracket_taken left) ≡ bracket_taken (wikilink_taken left)
+    by : (b d : Bool) → opens_bracket m ≡ b → opens_wikilink m ≡ d → wikilink_taken (bracket_taken left)
+        ≡ bracket_taken (wikilink_taken left)
         → wikilink_taken (bracket_taken (waits m a ∷ left)) ≡ bracket_taken (wikilink_taken (waits m a ∷ left))
     by true true e f h = rw (e, f, e) refl
     by true false e f h = rw (e, f, e) refl
     by false true e f h = rw (e, f, e) refl
     by false false e f h = rw (e, f, e) (ap (λ (l : List (Entry ℕ)). waits m a ∷ l) h)
 
-module _ (nodes : List (Node Item)) (closer : ℕ) (left : List (Entry ℕ)) (c : Closing ℕ) (s : StandsBefore nodes closer left c) where
+module _ (nodes : List (Node Item)) (closer : ℕ) (left : List (Entry ℕ)) (c : Closing ℕ)
+    (s : StandsBefore nodes closer left c) where
   abbrev behind_left : Forest (Label ℕ)
   behind_left = node c.label nil c.rest
 
@@ -97,32 +105,40 @@ module _ (nodes : List (Node Item)) (closer : ℕ) (left : List (Entry ℕ)) (c 
       (found_after s.source s.tables nodes (Some closer) c.label nil c.rest closer_found)
 
   -- an opener of the left list, with flags of its own
-  module _ (other : List (Entry ℕ)) (trees : (later : Forest (Label ℕ)) → trees_onto other later ≡ trees_onto left later) (o : Split ℕ)
+  module _ (other : List (Entry ℕ)) (trees : (later : Forest (Label ℕ)) → trees_onto other later
+      ≡ trees_onto left later) (o : Split ℕ)
       (splits : SplitsAt other o) where
     onto : trees_onto left behind_left ≡ trees_onto o.before (node o.opener nil (trees_onto o.after behind_left))
     onto = sym (trees behind_left) ∙ splits behind_left
 
-    pub opener_holds : Holds s.source s.tables nodes (Some o.opener.tag) (node o.opener nil (trees_onto o.after behind_left))
+    pub opener_holds : Holds s.source s.tables nodes (Some o.opener.tag)
+        (node o.opener nil (trees_onto o.after behind_left))
     opener_holds =
-        let h = Holds-from s.source s.tables nodes s.first o.before _ (subst (λ f. Holds s.source s.tables nodes s.first f) onto s.holds) in
+        let h = Holds-from s.source s.tables nodes s.first o.before _
+        (subst (λ f. Holds s.source s.tables nodes s.first f) onto s.holds) in
         subst (λ l. Holds s.source s.tables nodes l (node o.opener nil (trees_onto o.after behind_left))) h.1.0 h.1
 
     opener_low : height (numbers_of (node o.opener nil (trees_onto o.after behind_left))) ≤ length nodes
     opener_low =
-        let whole : height (numbers_of (trees_onto o.before (node o.opener nil (trees_onto o.after behind_left)))) ≤ length nodes =
+        let whole : height (numbers_of (trees_onto o.before (node o.opener nil (trees_onto o.after behind_left)))) ≤
+        length nodes =
         subst (λ f. height (numbers_of f) ≤ length nodes) onto low in
         omega (arith, whole, height-later o.before (node o.opener nil (trees_onto o.after behind_left)))
 
     pub between : (opener : Opener) → opener ≡ opener_of o → HoldsInside nodes closer opener c o
     between opener e =
         let n : opener.node ≡ o.opener.tag = ap (λ (p : Opener). p.node) e in
-        let after : trees_onto o.after behind_left ≡ joined_chains (inside o) behind_left = onto_joined o.after nil behind_left in
-        let low_after : height (numbers_of (trees_onto o.after behind_left)) ≤ length nodes = omega (arith, opener_low) in
+        let after : trees_onto o.after behind_left ≡ joined_chains (inside o) behind_left = onto_joined o.after nil
+        behind_left in
+        let low_after : height (numbers_of (trees_onto o.after behind_left)) ≤ length nodes = omega (arith, opener_low)
+        in
         let all : Found s.source s.tables nodes (sibling_of nodes o.opener.tag) (trees_onto o.after behind_left) =
         record { holds = opener_holds.4; low = low_after } in
-        let there : Found s.source s.tables nodes (sibling_of nodes opener.node) (joined_chains (inside o) behind_left) =
+        let there : Found s.source s.tables nodes (sibling_of nodes opener.node) (joined_chains (inside o) behind_left)
+        =
         subst (λ f. Found s.source s.tables nodes (sibling_of nodes opener.node) f) after
-        (subst (λ m. Found s.source s.tables nodes (sibling_of nodes m) (trees_onto o.after behind_left)) (sym n) all) in
+        (subst (λ m. Found s.source s.tables nodes (sibling_of nodes m) (trees_onto o.after behind_left)) (sym n) all)
+        in
         let once = s.once c.label.tag in
         let counted = ap (λ f. times_of c.label.tag f) onto in
         let first = total-onto (same c.label.tag) o.before (node o.opener nil (trees_onto o.after behind_left)) in
@@ -132,10 +148,12 @@ module _ (nodes : List (Node Item)) (closer : ℕ) (left : List (Entry ℕ)) (c 
           source = s.source;
           tables = s.tables;
           holds = there.holds;
-          found = found_at s.source s.tables nodes (sibling_of nodes opener.node) (joined_chains (inside o) behind_left) there;
+          found = found_at s.source s.tables nodes (sibling_of nodes opener.node) (joined_chains (inside o) behind_left)
+              there;
           apart = omega (arith, once, counted, first, second, third, same-refl c.label.tag);
           number = s.number;
-          starts = subst (λ m. (item_at nodes m).start ≡ start_of c.label) s.number (same_start s.source s.tables nodes c.label
+          starts = subst (λ m. (item_at nodes m).start ≡ start_of c.label) s.number
+              (same_start s.source s.tables nodes c.label
               closer_found.holds.2);
           order = s.order;
         }
@@ -143,9 +161,11 @@ module _ (nodes : List (Node Item)) (closer : ℕ) (left : List (Entry ℕ)) (c 
   module _ (w : Around) where
     -- the decision, with the end of a second `]`
     abbrev decided_by : Option ℕ → Progress ℕ → Decision ℕ
-    decided_by second p = carried_out w (found w c second p.left) (record p { left = bracket_taken (left_for_one second p.left) })
+    decided_by second p = carried_out w (found w c second p.left)
+        (record p { left = bracket_taken (left_for_one second p.left) })
 
-    decided_is : (second : Option ℕ) → second_end w c.rest ≡ second → (p : Progress ℕ) → decided w c p ≡ decided_by second p
+    decided_is : (second : Option ℕ) → second_end w c.rest ≡ second → (p : Progress ℕ) → decided w c p
+        ≡ decided_by second p
     unfolding decided
     decided_is second e p = ap (λ second. decided_by second p) e
 
@@ -172,7 +192,8 @@ module _ (nodes : List (Node Item)) (closer : ℕ) (left : List (Entry ℕ)) (c 
     and_false false = refl
 
     pub none_by_next : (held : List Waiting) → held ≡ wikilinks_of left
-        → MatchOption (sibling_of nodes closer) (Unit {0}) (λ next. is_closer (item_at nodes next).body ≡ false) → TakesNone w c left held
+        → MatchOption (sibling_of nodes closer) (Unit {0}) (λ next. is_closer (item_at nodes next).body ≡ false)
+        → TakesNone w c left held
     none_by_next held h next = none_tried held h (by c.rest (sibling_of nodes closer) rest_found.holds next)
       where
         by : (rest : Forest (Label ℕ)) (l : Option ℕ) → Holds s.source s.tables nodes l rest
@@ -182,11 +203,13 @@ module _ (nodes : List (Node Item)) (closer : ℕ) (left : List (Entry ℕ)) (c 
         by (node a below after) (Some next) h m =
             let e : next ≡ a.tag = let q = h.0 in cc in
             let none : is_closer (open_body a.part.shape) ≡ false =
-            sym (same_closer s.source s.tables nodes a h.2) ∙ subst (λ n. is_closer (item_at nodes n).body ≡ false) e m in
+            sym (same_closer s.source s.tables nodes a h.2) ∙ subst (λ n. is_closer (item_at nodes n).body ≡ false) e m
+            in
             rw (none, and_false (wikilinks_on w.setting.rules.options)) refl
 
     -- where a wikilink is tried
-    module _ (next : ℕ) (is_next : sibling_of nodes closer ≡ Some next) (closes : is_closer (item_at nodes next).body ≡ true)
+    module _ (next : ℕ) (is_next : sibling_of nodes closer ≡ Some next) (closes : is_closer (item_at nodes next).body
+        ≡ true)
         (on : wikilinks_on w.setting.rules.options ≡ true) where
       abbrev end : ℕ
       end = (item_at nodes next).end
@@ -203,104 +226,117 @@ module _ (nodes : List (Node Item)) (closer : ℕ) (left : List (Entry ℕ)) (c 
           by (node a below after) l h e =
               let n : next ≡ a.tag = let q = h.0 in cc in
               let is : is_closer (open_body a.part.shape) ≡ true =
-              sym (same_closer s.source s.tables nodes a h.2) ∙ subst (λ n. is_closer (item_at nodes n).body ≡ true) n closes in
-              let ends : (item_at nodes next).end ≡ end_of a = ap (λ n. (item_at nodes n).end) n ∙ same_end s.source s.tables nodes a h.2 in
+              sym (same_closer s.source s.tables nodes a h.2) ∙ subst (λ n. is_closer (item_at nodes n).body ≡ true) n
+              closes in
+              let ends : (item_at nodes next).end ≡ end_of a = ap (λ n. (item_at nodes n).end) n
+              ∙ same_end s.source s.tables nodes a h.2 in
               rw (on, is, ends) refl
 
       -- the decision, by the wikilink that is found
-      decided_as : (x : Option (Written ℕ)) → option_and_then (wikilink_found w c end) wikilink_opener ≡ x → (p : Progress ℕ)
+      decided_as : (x : Option (Written ℕ)) → option_and_then (wikilink_found w c end) wikilink_opener ≡ x
+          → (p : Progress ℕ)
           → decided w c (record p { left = left })
-          ≡ carried_out w (option_or x (option_and_then (bracket_found w c) (nearest opens_bracket (wikilink_taken left))))
+          ≡ carried_out w (option_or x
+          (option_and_then (bracket_found w c) (nearest opens_bracket (wikilink_taken left))))
           (record p { left = bracket_taken (wikilink_taken left) })
       decided_as x e p =
           let now : Progress ℕ = record p { left = bracket_taken (wikilink_taken left) } in
-          let one : Option (Written ℕ) = option_and_then (bracket_found w c) (nearest opens_bracket (wikilink_taken left)) in
+          let one : Option (Written ℕ) = option_and_then (bracket_found w c)
+          (nearest opens_bracket (wikilink_taken left)) in
           decided_is (Some end) second_is (record p { left = left }) ∙ ap (λ x. carried_out w (option_or x one) now) e
 
       module _ (taken : Option (Opener × Bool)) (old new : List Waiting) (old_is : old ≡ wikilinks_of left)
-          (m : MatchOption taken ((old ≡ []) × (new ≡ [])) (λ t. old ≡ record { opener = t.0; is_live = t.1 } ∷ new)) where
-        new_is : new ≡ rest_of (wikilinks_of left)
-        new_is = by taken m ∙ ap rest_of old_is
-          where
-            by : (taken : Option (Opener × Bool))
-                → MatchOption taken ((old ≡ []) × (new ≡ [])) (λ t. old ≡ record { opener = t.0; is_live = t.1 } ∷ new) → new ≡ rest_of old
-            by None m = m.1 ∙ sym (ap rest_of m.0)
-            by (Some t) m = sym (ap rest_of m)
+          (m : MatchOption taken ((old ≡ []) × (new ≡ [])) (λ t. old ≡ record { opener = t.0; is_live = t.1 } ∷ new))
+        where
+          new_is : new ≡ rest_of (wikilinks_of left)
+          new_is = by taken m ∙ ap rest_of old_is
+            where
+              by : (taken : Option (Opener × Bool))
+                  → MatchOption taken ((old ≡ []) × (new ≡ [])) (λ t. old ≡ record { opener = t.0; is_live = t.1 } ∷ new)
+                  → new ≡ rest_of old
+              by None m = m.1 ∙ sym (ap rest_of m.0)
+              by (Some t) m = sym (ap rest_of m)
 
-        tries_two : (o : Option (Split ℕ)) → wikilink_opener ≡ o → TriesWikilink nodes closer taken c o
-        tries_two o e = by taken m o (subst (TopWikilink (bracket_taken left)) e (top_wikilink (bracket_taken left)))
-            (subst (λ o. IfSome o (SplitsAt (bracket_taken left))) e (splits_at opens_wikilink (bracket_taken left)))
-          where
-            by : (taken : Option (Opener × Bool))
-                → MatchOption taken ((old ≡ []) × (new ≡ [])) (λ t. old ≡ record { opener = t.0; is_live = t.1 } ∷ new)
-                → (o : Option (Split ℕ)) → TopWikilink (bracket_taken left) o → IfSome o (SplitsAt (bracket_taken left))
-                → TriesWikilink nodes closer taken c o
-            by None m None top splits = tt
-            by None m (Some o) top splits = let a = sym m.0 ∙ (old_is ∙ (sym (wikilinks_stay left) ∙ top)) in cc
-            by (Some t) m None top splits = let a = sym m ∙ (old_is ∙ (sym (wikilinks_stay left) ∙ top.0)) in cc
-            by (Some t) m (Some o) top splits =
-                let a = sym m ∙ (old_is ∙ (sym (wikilinks_stay left) ∙ top)) in
-                let first = ap (first_of (record { opener = t.0; is_live = t.1 })) a in
-                let opener : t.0 ≡ opener_of o = ap (λ (v : Waiting). v.opener) first in
-                record {
-                  opener = opener;
-                  live = ap (λ (v : Waiting). v.is_live) first;
-                  stands = between (bracket_taken left) (trees_stay opens_bracket without_bracket left) o splits t.0 opener;
-                }
+          tries_two : (o : Option (Split ℕ)) → wikilink_opener ≡ o → TriesWikilink nodes closer taken c o
+          tries_two o e = by taken m o (subst (TopWikilink (bracket_taken left)) e (top_wikilink (bracket_taken left)))
+              (subst (λ o. IfSome o (SplitsAt (bracket_taken left))) e (splits_at opens_wikilink (bracket_taken left)))
+            where
+              by : (taken : Option (Opener × Bool))
+                  → MatchOption taken ((old ≡ []) × (new ≡ [])) (λ t. old ≡ record { opener = t.0; is_live = t.1 } ∷ new)
+                  → (o : Option (Split ℕ)) → TopWikilink (bracket_taken left) o → IfSome o (SplitsAt (bracket_taken left))
+                  → TriesWikilink nodes closer taken c o
+              by None m None top splits = tt
+              by None m (Some o) top splits = let a = sym m.0 ∙ (old_is ∙ (sym (wikilinks_stay left) ∙ top)) in cc
+              by (Some t) m None top splits = let a = sym m ∙ (old_is ∙ (sym (wikilinks_stay left) ∙ top.0)) in cc
+              by (Some t) m (Some o) top splits =
+                  let a = sym m ∙ (old_is ∙ (sym (wikilinks_stay left) ∙ top)) in
+                  let first = ap (first_of (record { opener = t.0; is_live = t.1 })) a in
+                  let opener : t.0 ≡ opener_of o = ap (λ (v : Waiting). v.opener) first in
+                  record {
+                    opener = opener;
+                    live = ap (λ (v : Waiting). v.is_live) first;
+                    stands = between (bracket_taken left) (trees_stay opens_bracket without_bracket left) o splits t.0
+                        opener;
+                  }
 
-        pub takes : (r : Option ClosedBracket) → ((o : Option (Split ℕ)) → TriesWikilink nodes closer taken c o → FindsWikilink w end c o r)
-            → TakesWikilink w c left new r
-        takes r finds = by wikilink_opener refl (finds wikilink_opener (tries_two wikilink_opener refl))
-          where
-            takes_none : option_and_then (wikilink_found w c end) wikilink_opener ≡ None → TakesNone w c left new
-            takes_none e = record {
-              left_then = wikilink_taken left;
-              held_is = new_is ∙ rest_wikilinks left;
-              brackets = brackets_stay left;
-              trees = trees_stay opens_wikilink without_wikilink left;
-              decides = decided_as None e;
-            }
+          pub takes : (r : Option ClosedBracket)
+              → ((o : Option (Split ℕ)) → TriesWikilink nodes closer taken c o → FindsWikilink w end c o r)
+              → TakesWikilink w c left new r
+          takes r finds = by wikilink_opener refl (finds wikilink_opener (tries_two wikilink_opener refl))
+            where
+              takes_none : option_and_then (wikilink_found w c end) wikilink_opener ≡ None → TakesNone w c left new
+              takes_none e = record {
+                left_then = wikilink_taken left;
+                held_is = new_is ∙ rest_wikilinks left;
+                brackets = brackets_stay left;
+                trees = trees_stay opens_wikilink without_wikilink left;
+                decides = decided_as None e;
+              }
 
-            by : (o : Option (Split ℕ)) → wikilink_opener ≡ o → FindsWikilink w end c o r → TakesWikilink w c left new r
-            by None q h = subst (λ r. TakesWikilink w c left new r) (sym h) (takes_none (ap (option_and_then (wikilink_found w c end)) q))
-            by (Some o) q h = inner (if is_live o.mark.wikilink then wikilink_in w (past_second (inside o)) (start_of c.label) else None)
-                refl r h
-              where
-                splits : IsSplit (bracket_taken (wikilink_taken left)) o
-                splits = subst (λ l. IsSplit l o) (taken_both left)
-                    (subst (λ o. IfSome o (IsSplit (wikilink_taken (bracket_taken left)))) q
-                    (taken_splits opens_wikilink without_wikilink (bracket_taken left)))
+              by : (o : Option (Split ℕ)) → wikilink_opener ≡ o → FindsWikilink w end c o r → TakesWikilink w c left new r
+              by None q h = subst (λ r. TakesWikilink w c left new r) (sym h)
+                  (takes_none (ap (option_and_then (wikilink_found w c end)) q))
+              by (Some o) q h = inner
+                  (if is_live o.mark.wikilink then wikilink_in w (past_second (inside o)) (start_of c.label) else None)
+                  refl r h
+                where
+                  splits : IsSplit (bracket_taken (wikilink_taken left)) o
+                  splits = subst (λ l. IsSplit l o) (taken_both left)
+                      (subst (λ o. IfSome o (IsSplit (wikilink_taken (bracket_taken left)))) q
+                      (taken_splits opens_wikilink without_wikilink (bracket_taken left)))
 
-                found_is : (live : Bool) (v : Option (Wikilink ℕ))
-                    → (if live then option_map (λ v. wikilink o v end) v else None)
-                    ≡ option_map (λ v. wikilink o v end) (if live then v else None)
-                found_is true v = refl
-                found_is false v = refl
+                  found_is : (live : Bool) (v : Option (Wikilink ℕ))
+                      → (if live then option_map (λ v. wikilink o v end) v else None)
+                      ≡ option_map (λ v. wikilink o v end) (if live then v else None)
+                  found_is true v = refl
+                  found_is false v = refl
 
-                all_is : (x : Option (Wikilink ℕ))
-                    → (if is_live o.mark.wikilink then wikilink_in w (past_second (inside o)) (start_of c.label) else None) ≡ x
-                    → option_and_then (wikilink_found w c end) wikilink_opener ≡ option_map (λ v. wikilink o v end) x
-                all_is x e =
-                    ap (option_and_then (wikilink_found w c end)) q
-                    ∙ (found_is (is_live o.mark.wikilink) (wikilink_in w (past_second (inside o)) (start_of c.label))
-                    ∙ ap (option_map (λ v. wikilink o v end)) e)
+                  all_is : (x : Option (Wikilink ℕ))
+                      → (if is_live o.mark.wikilink then wikilink_in w (past_second (inside o)) (start_of c.label) else
+                      None) ≡ x
+                      → option_and_then (wikilink_found w c end) wikilink_opener ≡ option_map (λ v. wikilink o v end) x
+                  all_is x e =
+                      ap (option_and_then (wikilink_found w c end)) q
+                      ∙ (found_is (is_live o.mark.wikilink) (wikilink_in w (past_second (inside o)) (start_of c.label))
+                      ∙ ap (option_map (λ v. wikilink o v end)) e)
 
-                inner : (x : Option (Wikilink ℕ))
-                    → (if is_live o.mark.wikilink then wikilink_in w (past_second (inside o)) (start_of c.label) else None) ≡ x
-                    → (r : Option ClosedBracket) → IsWikilink w (opener_of o) end (past_second (inside o)) x r
-                    → TakesWikilink w c left new r
-                inner None e None h = takes_none (all_is None e)
-                inner None e (Some x) h = absurd h
-                inner (Some v) e None h = absurd h
-                inner (Some v) e (Some Text) h = absurd h
-                inner (Some v) e (Some (Link a b d f)) h = absurd h
-                inner (Some v) e (Some (Footnote a b)) h = absurd h
-                inner (Some v) e (Some (Wikilinked a b d f g)) h = record {
-                  opener = o;
-                  wikilink = v;
-                  end = end;
-                  held_is = new_is ∙ (rest_wikilinks left ∙ sym (wikilinks_stay (wikilink_taken left)));
-                  splits = splits;
-                  decides = decided_as (Some (wikilink o v end)) (all_is (Some v) e);
-                  is = h;
-                }
+                  inner : (x : Option (Wikilink ℕ))
+                      → (if is_live o.mark.wikilink then wikilink_in w (past_second (inside o)) (start_of c.label) else
+                      None) ≡ x
+                      → (r : Option ClosedBracket) → IsWikilink w (opener_of o) end (past_second (inside o)) x r
+                      → TakesWikilink w c left new r
+                  inner None e None h = takes_none (all_is None e)
+                  inner None e (Some x) h = absurd h
+                  inner (Some v) e None h = absurd h
+                  inner (Some v) e (Some Text) h = absurd h
+                  inner (Some v) e (Some (Link a b d f)) h = absurd h
+                  inner (Some v) e (Some (Footnote a b)) h = absurd h
+                  inner (Some v) e (Some (Wikilinked a b d f g)) h = record {
+                    opener = o;
+                    wikilink = v;
+                    end = end;
+                    held_is = new_is ∙ (rest_wikilinks left ∙ sym (wikilinks_stay (wikilink_taken left)));
+                    splits = splits;
+                    decides = decided_as (Some (wikilink o v end)) (all_is (Some v) e);
+                    is = h;
+                  }

@@ -1,6 +1,8 @@
 -- Steps of the scan of a title: one byte of joined lines, and what it adds.
-use Rattle.std.proofs.Common.{◌≡◌, ℕ, suc, zero, ◌+◌, ◌-◌, ◌<◌, ◌≤◌, Bool, true, false, ◌&&◌, ◌||◌, ◌==◌, List, [], ◌∷◌, ◌++◌}
-use Rattle.std.proofs.Common.{Option, Some, None, if◌then◌else◌, is_some, unwrap_or, length, get_or, take, drop, slice_range, refl, sym}
+use Rattle.std.proofs.Common.{◌≡◌, ℕ, suc, zero, ◌+◌, ◌-◌, ◌<◌, ◌≤◌, Bool, true, false, ◌&&◌, ◌||◌, ◌==◌, List, [], ◌∷◌}
+use Rattle.std.proofs.Common.{◌++◌}
+use Rattle.std.proofs.Common.{Option, Some, None, if◌then◌else◌, is_some, unwrap_or, length, get_or, take, drop}
+use Rattle.std.proofs.Common.{slice_range, refl, sym}
 use Rattle.std.proofs.Common.{◌∙◌, ap, subst, arith, append_assoc, nat_lt}
 use Rattle.std.specs.Option.{option_map}
 use Rattle.std.proofs.Math.Bool.{or-false, or_assoc}
@@ -31,7 +33,8 @@ shown_bare starts i escaped b what h = by ((b == line_feed) || (b == carriage_re
     both false e = refl
 
     by : (ends : Bool) → ((b == line_feed) || (b == carriage_return)) ≡ ends
-        → is_bare escaped (shown (if ends && nat_lt i (unwrap_or (starts (i + 1)) 0) then starts (i + 1) else None) b) what
+        → is_bare escaped (shown (if ends && nat_lt i (unwrap_or (starts (i + 1)) 0) then starts (i + 1) else None) b)
+        what
         ≡ is_bare escaped b what
     by true e = both (is_some (if nat_lt i (unwrap_or (starts (i + 1)) 0) then starts (i + 1) else None)) e
     by false e = refl
@@ -46,7 +49,8 @@ title_on so is_joined closer escaped bytes = option_map (after so is_joined) (ti
 -- bytes before the offset from which lines are joined
 pub joined_after : (starts : ℕ → Option ℕ) (from i n at : ℕ) (bytes : List ℕ) → i + n ≡ at → at ≤ from
     → joined_lines starts from i bytes ≡ joined_lines starts from at (drop n bytes)
-joined_after starts from i zero at bytes e h = let same : i ≡ at = omega (arith, e) in ap (λ (k : ℕ). joined_lines starts from k bytes) same
+joined_after starts from i zero at bytes e h = let same : i
+    ≡ at = omega (arith, e) in ap (λ (k : ℕ). joined_lines starts from k bytes) same
 joined_after starts from i (suc n) at [] e h = refl
 joined_after starts from i (suc n) at (b ∷ bytes) e h =
     rw (below_is i from (omega (arith, e, h))) (joined_after starts from (i + 1) n at bytes (omega (arith, e)) h)
@@ -58,17 +62,20 @@ next_line_same starts starts' i b e =
     ap (λ o. if ((b == line_feed) || (b == carriage_return)) && nat_lt i (unwrap_or o 0) then o else None) e
 
 -- a title has this text up to a byte offset, and then what the rest has
-pub record ReadTo (starts : ℕ → Option ℕ) (bytes : List ℕ) (closer : ℕ) (whole : Option Title) (at : ℕ) (escaped : Bool) (so : List ℕ)
+pub record ReadTo (starts : ℕ → Option ℕ) (bytes : List ℕ) (closer : ℕ) (whole : Option Title) (at : ℕ) (escaped : Bool)
+    (so : List ℕ)
     (is_joined : Bool) : Type 0 where
   pub mark : 13 < closer
   pub rest : whole ≡ title_on so is_joined closer escaped (joined_lines starts at 0 bytes)
 
-module _ {starts : ℕ → Option ℕ} {bytes : List ℕ} {closer : ℕ} {whole : Option Title} {at : ℕ} {escaped : Bool} {so : List ℕ} {is_joined : Bool}
+module _ {starts : ℕ → Option ℕ} {bytes : List ℕ} {closer : ℕ} {whole : Option Title} {at : ℕ} {escaped : Bool}
+    {so : List ℕ} {is_joined : Bool}
     (read : ReadTo starts bytes closer whole at escaped so is_joined) where
   -- nothing is left
   pub past_end : length bytes ≤ at → whole ≡ None
   past_end past =
-      read.rest ∙ ap (title_on so is_joined closer escaped) (joined_after starts at 0 (length bytes) (length bytes) bytes (omega arith) past
+      read.rest ∙ ap (title_on so is_joined closer escaped)
+      (joined_after starts at 0 (length bytes) (length bytes) bytes (omega arith) past
       ∙ ap (joined_lines starts at (length bytes)) (drop_all (length bytes) bytes (omega arith)))
 
   module _ (here : at < length bytes) where
@@ -81,16 +88,21 @@ module _ {starts : ℕ → Option ℕ} {bytes : List ℕ} {closer : ℕ} {whole 
         ∷ joined_lines starts (unwrap_or line (at + 1)) (at + 1) (drop (at + 1) bytes))
     now line is =
         let first : joined_lines starts at at (byte ∷ drop (at + 1) bytes) ≡ (at, shown line byte, is_some line)
-        ∷ joined_lines starts (unwrap_or line (at + 1)) (at + 1) (drop (at + 1) bytes) = rw (not_below_is at at (omega arith), is) refl in
-        read.rest ∙ ap (title_on so is_joined closer escaped) (joined_after starts at 0 at at bytes (omega arith) (omega arith)
+        ∷ joined_lines starts (unwrap_or line (at + 1)) (at + 1) (drop (at + 1) bytes) = rw
+        (not_below_is at at (omega arith), is) refl in
+        read.rest ∙ ap (title_on so is_joined closer escaped)
+        (joined_after starts at 0 at at bytes (omega arith) (omega arith)
         ∙ ap (joined_lines starts at at) (drop_more bytes at 0 here) ∙ first)
 
-    bare : (line : Option ℕ) (what : ℕ) (b : Bool) → next_line starts at byte ≡ line → 13 < what → is_bare escaped byte what ≡ b
+    bare : (line : Option ℕ) (what : ℕ) (b : Bool) → next_line starts at byte ≡ line → 13 < what
+        → is_bare escaped byte what ≡ b
         → is_bare escaped (shown line byte) what ≡ b
-    bare line what b is h e = ap (λ l. is_bare escaped (shown l byte) what) (sym is) ∙ shown_bare starts at escaped byte what h ∙ e
+    bare line what b is h e = ap (λ l. is_bare escaped (shown l byte) what) (sym is)
+        ∙ shown_bare starts at escaped byte what h ∙ e
 
     -- it is the closing mark
-    pub closes : is_bare escaped (get_or bytes at 0) closer ≡ true → whole ≡ Some (record { ends = at + 1; text = so; is_joined = is_joined })
+    pub closes : is_bare escaped (get_or bytes at 0) closer ≡ true → whole
+        ≡ Some (record { ends = at + 1; text = so; is_joined = is_joined })
     closes e = now (next_line starts at byte) refl
         ∙ rw (bare (next_line starts at byte) closer true refl read.mark e, append-nil so, or-false is_joined) refl
 
@@ -100,7 +112,8 @@ module _ {starts : ℕ → Option ℕ} {bytes : List ℕ} {closer : ℕ} {whole 
     refused e r = now (next_line starts at byte) refl
         ∙ rw (
           bare (next_line starts at byte) closer false refl read.mark e,
-          bare (next_line starts at byte) open_parenthesis (is_bare escaped byte open_parenthesis) refl (omega arith) refl,
+          bare (next_line starts at byte) open_parenthesis (is_bare escaped byte open_parenthesis) refl (omega arith)
+              refl,
           r,
         ) refl
 
@@ -108,8 +121,10 @@ module _ {starts : ℕ → Option ℕ} {bytes : List ℕ} {closer : ℕ} {whole 
     pub goes_on : (starts' : ℕ → Option ℕ) (line : Option ℕ) (next : ℕ) (so' : List ℕ) (is_joined' escaped' : Bool)
         → is_bare escaped (get_or bytes at 0) closer ≡ false
         → ((closer == close_parenthesis) && is_bare escaped (get_or bytes at 0) open_parenthesis) ≡ false
-        → starts' (at + 1) ≡ starts (at + 1) → line ≡ next_line starts' at (get_or bytes at 0) → unwrap_or line (at + 1) ≡ next → at < next
-        → so' ≡ so ++ (if is_some line then line_feed else get_or bytes at 0) ∷ [] → is_joined' ≡ (is_joined || is_some line)
+        → starts' (at + 1) ≡ starts (at + 1) → line ≡ next_line starts' at (get_or bytes at 0) → unwrap_or line (at + 1)
+        ≡ next → at < next
+        → so' ≡ so ++ (if is_some line then line_feed else get_or bytes at 0) ∷ [] → is_joined'
+        ≡ (is_joined || is_some line)
         → escaped' ≡ is_bare escaped (get_or bytes at 0) backslash
         → ReadTo starts bytes closer whole next escaped' so' is_joined'
     goes_on starts' line next so' is_joined' escaped' e r same lined to later text joins escapes =
@@ -129,13 +144,16 @@ module _ {starts : ℕ → Option ℕ} {bytes : List ℕ} {closer : ℕ} {whole 
                 escapes,
                 joined_after starts next 0 (at + 1) (at + 1) bytes (omega arith) (omega (arith, later)),
               )
-              (by (title_in closer (is_bare escaped byte backslash) (joined_lines starts next (at + 1) (drop (at + 1) bytes))));
+              (by (title_in closer (is_bare escaped byte backslash)
+              (joined_lines starts next (at + 1) (drop (at + 1) bytes))));
         }
       where
-        by : (o : Option Title) → option_map (after so is_joined) (option_map (after (shown line byte ∷ []) (is_some line)) o)
+        by : (o : Option Title)
+            → option_map (after so is_joined) (option_map (after (shown line byte ∷ []) (is_some line)) o)
             ≡ option_map (after (so ++ shown line byte ∷ []) (is_joined || is_some line)) o
         by None = refl
-        by (Some t) = rw (append_assoc so (shown line byte ∷ []) t.text, or_assoc is_joined (is_some line) t.is_joined) refl
+        by (Some t) = rw (append_assoc so (shown line byte ∷ []) t.text, or_assoc is_joined (is_some line) t.is_joined)
+            refl
 
 pub ReadsTitle-none : (in_table : Bool) (whole : Option Title) → whole ≡ None → ReadsTitle in_table whole None
 ReadsTitle-none in_table whole e = subst (λ (t : Option Title). ReadsTitle in_table t None) (sym e) tt
@@ -169,5 +187,6 @@ ReadsTitle-closed in_table whole so joined at found is text =
 pub BorrowsTitle-closed : (whole : Option Title) (so : List ℕ) (joined : Bool) (at : ℕ) (found : CowStr)
     → whole ≡ Some (record { ends = at + 1; text = so; is_joined = joined })
     → (joined ≡ false → text_of found ≡ so → IsBorrowed found) → BorrowsTitle whole (Some (at + 1, found))
-BorrowsTitle-closed whole so joined at found is borrowed = let P : Option Title → Type 0 = λ t. BorrowsTitle t (Some (at + 1, found))
+BorrowsTitle-closed whole so joined at found is borrowed = let P : Option Title
+    → Type 0 = λ t. BorrowsTitle t (Some (at + 1, found))
     in subst P (sym is) borrowed

@@ -13,7 +13,8 @@ use Rattle.markdown_base.specs.declared.item.ItemBody.{ItemBody}
 use Rattle.markdown_base.specs.declared.node.Node.{Node}
 use Rattle.markdown_document.specs.ChainRest.{as_item, end_of, start_of}
 use Rattle.markdown_document.specs.declared.chain_place.ChainPlace.{ChainPlace}
-use Rattle.markdown_brackets.specs.BracketDecision.{Around, Closing, bracket_found, closer_ends_at, inline_link, lines, past_second}
+use Rattle.markdown_brackets.specs.BracketDecision.{Around, Closing, bracket_found, closer_ends_at, inline_link, lines}
+use Rattle.markdown_brackets.specs.BracketDecision.{past_second}
 use Rattle.markdown_brackets.specs.BracketDecision.{reference_written, start_of_first_past, written}
 use Rattle.markdown_brackets.specs.BracketOptions.{footnote_style}
 use Rattle.markdown_brackets.specs.ChainAhead.{reaches_closer, starts_from}
@@ -28,11 +29,13 @@ use Rattle.markdown_brackets.specs.declared.closing_bracket.ClosedBracket.TheVar
 use Rattle.markdown_brackets.specs.declared.look_up.LabelLookup.{LabelLookup}
 use Rattle.markdown_brackets.specs.declared.openers.Opener.{Opener}
 use Rattle.markdown_brackets.specs.declared.spent_ends.SpentEnds.{SpentEnds}
-use Rattle.markdown_brackets.proofs.AheadOfBracketLemmas.{EndsBehind, closers_ahead, form_ahead_is, form_behind, starts_ahead}
+use Rattle.markdown_brackets.proofs.AheadOfBracketLemmas.{EndsBehind, closers_ahead, form_ahead_is, form_behind}
+use Rattle.markdown_brackets.proofs.AheadOfBracketLemmas.{starts_ahead}
 use Rattle.markdown_brackets.proofs.ComesToLemmas.{comes_to_text, found_as}
 
 -- a reference by two tests that agree past byte 0
-reference_same : (w : Around) (o : Split ℕ) (end : ℕ) (closes closes' : ℕ → Bool) (own : Option FoundLabel) (form : Form)
+reference_same : (w : Around) (o : Split ℕ) (end : ℕ) (closes closes' : ℕ → Bool) (own : Option FoundLabel)
+    (form : Form)
     → EndsBehind 0 form → ((i : ℕ) → 0 < i → closes i ≡ closes' i)
     → reference_written w o end closes own form ≡ reference_written w o end closes' own form
 reference_same w o end closes closes' own (reference label to) behind same = rw (same to behind) refl
@@ -40,7 +43,8 @@ reference_same w o end closes closes' own collapsed behind same = refl
 reference_same w o end closes closes' own shortcut behind same = refl
 
 module _ {C : Type 0} (step : C → Question → Option Answer → C → Type 0) (nodes : List (Node Item)) (place : ChainPlace)
-    (skipped : List ℕ → ℕ) (bodies : List ItemBody) (old new : LabelLookup C) (closer : ℕ) (could_be : Bool) (c : Closing ℕ) where
+    (skipped : List ℕ → ℕ) (bodies : List ItemBody) (old new : LabelLookup C) (closer : ℕ) (could_be : Bool)
+    (c : Closing ℕ) where
   abbrev w : Around
   w = around_by place skipped bodies old
 
@@ -55,11 +59,13 @@ module _ {C : Type 0} (step : C → Question → Option Answer → C → Type 0)
       let form : Form = form_ahead nodes place (lines w) closer in
       let form_is : form ≡ form_at (footnote_style place.options) (lines w) place.in_table text end
       (option_map as_item (first_root c.rest)) (option_map as_item (first_root (past_second c.rest))) =
-      form_ahead_is t.source t.tables nodes (footnote_style place.options) (lines w) place.in_table text end next c.rest t.rest in
+      form_ahead_is t.source t.tables nodes (footnote_style place.options) (lines w) place.in_table text end next c.rest
+      t.rest in
       let behind : EndsBehind 0 form = form_behind (footnote_style place.options) (lines w) place.in_table text end
       (option_map (item_at nodes) next)
       (option_map (item_at nodes) (option_and_then (sibling_of nodes) next)) some in
-      let starts : starts_from nodes next ≡ start_of_first_past c.rest = fun_ext (starts_ahead t.source t.tables nodes next c.rest t.rest
+      let starts : starts_from nodes next
+      ≡ start_of_first_past c.rest = fun_ext (starts_ahead t.source t.tables nodes next c.rest t.rest
       t.rest_found) in
       let own : Option FoundLabel = if could_be
       then own_label (footnote_style place.options) (lines w) place.in_table text start end else None in
@@ -69,14 +75,17 @@ module _ {C : Type 0} (step : C → Question → Option Answer → C → Type 0)
       ∙ rw (form_is, starts, t.ends, e, ← t.could) refl
 
   -- the opener is live
-  pub comes_by_live : (opener : Opener) (live : Bool) (o : Option (Split ℕ)) (spent spent' : SpentEnds) (found : ClosedBracket)
+  pub comes_by_live : (opener : Opener) (live : Bool) (o : Option (Split ℕ)) (spent spent' : SpentEnds)
+      (found : ClosedBracket)
       → live ≡ true → 0 < (item_at nodes closer).end → (rule : List ℕ → Option ℕ) → rule ≡ lines w
       → ((o : Split ℕ) → opener ≡ opener_of o → (item_at nodes opener.node).start ≡ start_of o.opener
-      → ComesTo step w (written_at nodes place rule closer w o could_be ((item_at nodes opener.node).end - 1)) old new spent spent' found)
+      → ComesTo step w (written_at nodes place rule closer w o could_be ((item_at nodes opener.node).end - 1)) old new
+      spent spent' found)
       → TriesOpener nodes closer could_be (Some (opener, live)) c o
       → ComesTo step w (option_and_then (bracket_found w c) o) old new spent spent' found
   comes_by_live opener live None spent spent' found e some rule goes comes t = absurd t.openers
-  comes_by_live opener live (Some o) spent spent' found e some rule goes comes t = found_as found_is (comes o t.openers.opener t.openers.starts)
+  comes_by_live opener live (Some o) spent spent' found e some rule goes comes t = found_as found_is
+      (comes o t.openers.opener t.openers.starts)
     where
       start : ℕ
       start = (item_at nodes opener.node).end - 1

@@ -1,5 +1,6 @@
 -- What a wikilink is in an arena is what the definition makes of the trees between its opener and the `]`.
-use Rattle.std.proofs.Common.{◌≡◌, ℕ, ◌-◌, ◌<◌, ◌≤◌, Bool, true, false, List, [], ◌∷◌, Option, Some, None, length, refl, sym, ◌∙◌, ap}
+use Rattle.std.proofs.Common.{◌≡◌, ℕ, ◌-◌, ◌<◌, ◌≤◌, Bool, true, false, List, [], ◌∷◌, Option, Some, None, length, refl}
+use Rattle.std.proofs.Common.{sym, ◌∙◌, ap}
 use Rattle.std.proofs.Common.{subst, suc, ◌+◌, ◌==◌, arith, drop, get_or, nat_lt, take}
 use Rattle.std.specs.Prelude.{IfSome, if◌then◌else◌, slice_index, slice_range}
 use Rattle.std.specs.List.{position_or_len}
@@ -18,15 +19,18 @@ use Rattle.markdown_document.specs.Document.{Label}
 use Rattle.markdown_document.specs.Places.{follows_pipe}
 use Rattle.markdown_document.specs.Tables.{Tables}
 use Rattle.markdown_scan.specs.WikilinkPipe.{wikilink_pipe}
-use Rattle.markdown_brackets.specs.BracketDecision.{Around, Closing, Wikilink, past_second, if_some, text_from, wikilink_by, wikilink_in}
+use Rattle.markdown_brackets.specs.BracketDecision.{Around, Closing, Wikilink, past_second, if_some, text_from}
+use Rattle.markdown_brackets.specs.BracketDecision.{wikilink_by, wikilink_in}
 use Rattle.markdown_brackets.specs.ChainAhead.{numbers_past}
 use Rattle.markdown_brackets.specs.ChainHeld.{numbers_of, times_of, link_to}
 use Rattle.markdown_brackets.specs.DecisionView.{IsShownAfterPipe, first_shown, shown_of}
-use Rattle.markdown_brackets.specs.Wikilink.{WikilinkBody, Shows, shows_name, shows_nothing, shows_from, cut_at, has_pothole, named}
+use Rattle.markdown_brackets.specs.Wikilink.{WikilinkBody, Shows, shows_name, shows_nothing, shows_from, cut_at}
+use Rattle.markdown_brackets.specs.Wikilink.{has_pothole, named}
 use Rattle.markdown_brackets.specs.Wikilink.{shown_from, wikilink_body}
 use Rattle.markdown_base.proofs.ArenaForestLemmas.{height}
 use Rattle.markdown_brackets.specs.LeftList.{Split, inside, is_live}
-use Rattle.markdown_brackets.specs.StandsAt.{FindsWikilink, IsWikilink, IsWikilinkAt, TriesWikilink, wikilink_nodes, shown_from_node, shown_in, wikilink_from}
+use Rattle.markdown_brackets.specs.StandsAt.{FindsWikilink, IsWikilink, IsWikilinkAt, TriesWikilink, wikilink_nodes}
+use Rattle.markdown_brackets.specs.StandsAt.{shown_from_node, shown_in, wikilink_from}
 use Rattle.markdown_brackets.specs.WikilinkNodes.{body_start}
 use Rattle.markdown_brackets.specs.declared.closing_bracket.ClosedBracket.{ClosedBracket}
 use Rattle.markdown_brackets.specs.declared.closing_bracket.ClosedBracket.TheVariants.{Text, Link, Footnote, Wikilinked}
@@ -40,7 +44,8 @@ use Rattle.markdown_brackets.proofs.WikilinkNodesLemmas.{from_is, second_is}
 use Rattle.markdown_brackets.proofs.WikilinkPipeLemmas.{some_in_block}
 
 -- the first pipe of a body
-pipe_found : (text : List ℕ) (start size : ℕ) → IfSome (wikilink_pipe text start size) (λ p. follows_pipe text p.0 ≡ true)
+pipe_found : (text : List ℕ) (start size : ℕ)
+    → IfSome (wikilink_pipe text start size) (λ p. follows_pipe text p.0 ≡ true)
 pipe_found text start size = by (nat_lt n (length part)) refl
   where
     part : List ℕ
@@ -56,7 +61,8 @@ pipe_found text start size = by (nat_lt n (length part)) refl
         let inside_part : n < length part = is_below n (length part) e in
         let is : (get_or part n 0 == pipe) ≡ true = passes_at_first (λ b. b == pipe) part 0 inside_part in
         let cut : n < size = omega (arith, inside_part, length-take size (drop start text)) in
-        let byte : get_or part n 0 ≡ slice_index text (start + n) = get_or-take size (drop start text) n 0 cut ∙ get_or-drop start text n 0 in
+        let byte : get_or part n 0 ≡ slice_index text (start + n) = get_or-take size (drop start text) n 0 cut
+        ∙ get_or-drop start text n 0 in
         let after : start + n + 1 ≡ suc (start + n) = omega arith in
         subst (λ i. follows_pipe text i ≡ true) (sym after) (subst (λ b. (b == pipe) ≡ true) byte is)
     by false e = tt
@@ -78,23 +84,29 @@ named_within : (text : List ℕ) (end : ℕ) (name : List ℕ) (shows : Shows) �
 named_within text end [] shows h = tt
 named_within text end (x ∷ name) shows h = h
 
-cut_within : (text : List ℕ) (start end : ℕ) (found : Option (ℕ × List ℕ)) → IfSome found (λ p. follows_pipe text p.0 ≡ true)
+cut_within : (text : List ℕ) (start end : ℕ) (found : Option (ℕ × List ℕ))
+    → IfSome found (λ p. follows_pipe text p.0 ≡ true)
     → IfSome (cut_at text start end found) (λ b. StartsWithin text end b.shows)
 cut_within text start end None piped = named_within text end (slice_range text start end) shows_name tt
-cut_within text start end (Some p) piped = named_within text end p.1 (shown_from p.0 end) (shown_within text p.0 end piped)
+cut_within text start end (Some p) piped = named_within text end p.1 (shown_from p.0 end)
+    (shown_within text p.0 end piped)
 
 body_within : (text : List ℕ) (block_end start end : ℕ)
     → IfSome (wikilink_body text block_end start end) (λ b. StartsWithin text end b.shows)
 body_within text block_end start end = by (nat_lt start end)
   where
-    by : (b : Bool) → IfSome (if b then cut_at text start end (wikilink_pipe (take block_end text) start (end - start)) else None)
+    by : (b : Bool) → IfSome (if b then cut_at text start end (wikilink_pipe (take block_end text) start (end - start))
+        else None)
         (λ b. StartsWithin text end b.shows)
     by true = cut_within text start end (wikilink_pipe (take block_end text) start (end - start))
-        (some_in_block text block_end start (end - start) (λ p. follows_pipe text p.0 ≡ true) (pipe_found text start (end - start)))
+        (some_in_block text block_end start (end - start) (λ p. follows_pipe text p.0 ≡ true)
+        (pipe_found text start (end - start)))
     by false = tt
 
-module _ (source : List ℕ) (tables : Tables) (nodes : List (Node Item)) (w : Around) (closer : Label ℕ) (rest : Forest (Label ℕ))
-    (reads : (item_at nodes closer.tag).start ≡ start_of closer) (order : start_of closer ≤ end_of closer) (opener : Opener) (end : ℕ) where
+module _ (source : List ℕ) (tables : Tables) (nodes : List (Node Item)) (w : Around) (closer : Label ℕ)
+    (rest : Forest (Label ℕ))
+    (reads : (item_at nodes closer.tag).start ≡ start_of closer) (order : start_of closer ≤ end_of closer)
+    (opener : Opener) (end : ℕ) where
   module _ (b : WikilinkBody) (trees : Forest (Label ℕ)) where
     abbrev as_wikilink : Forest (Label ℕ) → Wikilink ℕ
     as_wikilink children = record { name = b.name; has_pothole = has_pothole b.shows; children = children }
@@ -126,7 +138,8 @@ module _ (source : List ℕ) (tables : Tables) (nodes : List (Node Item)) (w : A
         none_found : (r : Option ClosedBracket) → IsWikilinkAt opener end None r → IsWikilink w opener end trees None r
         none_found None h = tt
         none_found (Some x) h = absurd h
-    from_found at (node q below after) so piped r h = is_found (From q.tag at) (node q below after) (so q.tag) refl piped r h
+    from_found at (node q below after) so piped r h = is_found (From q.tag at) (node q below after) (so q.tag) refl
+        piped r h
 
   -- what it shows
   shows_so : (f : Label ℕ) (below after : Forest (Label ℕ)) (l : Option ℕ)
@@ -139,7 +152,8 @@ module _ (source : List ℕ) (tables : Tables) (nodes : List (Node Item)) (w : A
       → IsWikilink w opener end (node f below after) (wikilink_by w f (node f below after) (start_of closer)
       (record { name = name; shows = shows })) r
   shows_so f below after l s apart e name shows_name behind r h =
-      is_found (record { name = name; shows = shows_name }) (node f below after) (Over f.tag (start_of f) (start_of closer))
+      is_found (record { name = name; shows = shows_name }) (node f below after)
+      (Over f.tag (start_of f) (start_of closer))
       (node (text_from w f (start_of f) (start_of closer)) nil nil) refl refl tt r h
   shows_so f below after l s apart e name (shows_nothing at) behind r h =
       is_found (record { name = name; shows = shows_nothing at }) (node f below after) (Over f.tag at at)
@@ -147,7 +161,8 @@ module _ (source : List ℕ) (tables : Tables) (nodes : List (Node Item)) (w : A
   shows_so f below after l s apart e name (shows_from at) behind r h =
       let trees = node f below after in
       let b : WikilinkBody = record { name = name; shows = shows_from at } in
-      let is : shown_from_node closer.tag at (first_root (numbers_past nodes at (forest_at (links_of nodes) (Some f.tag))))
+      let is : shown_from_node closer.tag at
+      (first_root (numbers_past nodes at (forest_at (links_of nodes) (Some f.tag))))
       ≡ option_map (λ n. From n at) (link_to (past_byte at trees)) =
       ap (λ g. shown_from_node closer.tag at (first_root (numbers_past nodes at g)))
       (ap (λ m. forest_at (links_of nodes) m) (sym e) ∙ found_at source tables nodes l _ s)
@@ -161,27 +176,33 @@ module _ (source : List ℕ) (tables : Tables) (nodes : List (Node Item)) (w : A
   none_at_all trees (Some x) h = absurd h
 
   -- the wikilink of these trees
-  pub wikilink_is : (trees : Forest (Label ℕ)) (l : Option ℕ) → Found source tables nodes l (joined_chains trees (node closer nil rest))
+  pub wikilink_is : (trees : Forest (Label ℕ)) (l : Option ℕ)
+      → Found source tables nodes l (joined_chains trees (node closer nil rest))
       → times_of closer.tag trees ≡ 0
       → (r : Option ClosedBracket)
-      → IsWikilinkAt opener end (option_and_then (wikilink_from nodes w.setting.text w.above.block_end closer.tag) (link_to trees)) r
+      → IsWikilinkAt opener end
+      (option_and_then (wikilink_from nodes w.setting.text w.above.block_end closer.tag) (link_to trees)) r
       → IsWikilink w opener end trees (wikilink_in w trees (start_of closer)) r
   wikilink_is nil l s apart r h = none_at_all nil r h
   wikilink_is (node f below after) l s apart r h =
       by (wikilink_body w.setting.text w.above.block_end (start_of f) (start_of closer))
       (body_within w.setting.text w.above.block_end (start_of f) (start_of closer))
-      (subst (λ j. At (start_of f) j) reads (subst (λ i. At i (item_at nodes closer.tag).start) (same_start source tables nodes f s.holds.2)
+      (subst (λ j. At (start_of f) j) reads
+      (subst (λ i. At i (item_at nodes closer.tag).start) (same_start source tables nodes f s.holds.2)
       h))
     where
       At : (start stop : ℕ) → Type 0
       At start stop =
-          IsWikilinkAt opener end (option_and_then (λ b. option_map (λ shown. (b, shown)) (shown_in nodes f.tag closer.tag b.shows start
+          IsWikilinkAt opener end
+          (option_and_then (λ b. option_map (λ shown. (b, shown)) (shown_in nodes f.tag closer.tag b.shows start
           stop)) (wikilink_body w.setting.text w.above.block_end start stop)) r
 
       by : (o : Option WikilinkBody) → IfSome o (λ b. StartsWithin w.setting.text (start_of closer) b.shows)
           → IsWikilinkAt opener end (option_and_then
-          (λ b. option_map (λ shown. (b, shown)) (shown_in nodes f.tag closer.tag b.shows (start_of f) (start_of closer))) o) r
-          → IsWikilink w opener end (node f below after) (option_and_then (wikilink_by w f (node f below after) (start_of closer)) o) r
+          (λ b. option_map (λ shown. (b, shown))
+          (shown_in nodes f.tag closer.tag b.shows (start_of f) (start_of closer))) o) r
+          → IsWikilink w opener end (node f below after)
+          (option_and_then (wikilink_by w f (node f below after) (start_of closer)) o) r
       by None behind h = none_at_all (node f below after) r h
       by (Some b) behind h = shows_so f below after l s apart s.holds.0 b.name b.shows behind r h
 
@@ -191,25 +212,33 @@ low_of : (nodes : List (Node Item)) (l : Option ℕ) (f : Forest (Label ℕ)) �
 low_of nodes l f e = subst (λ g. height g ≤ length nodes) e (height_found (links_of nodes) l)
 
 -- the trees past the second of some, in an arena
-module _ (source : List ℕ) (tables : Tables) (nodes : List (Node Item)) (closer : Label ℕ) (rest : Forest (Label ℕ)) where
-  pub record PastSecond (trees : Forest (Label ℕ)) : Type 0 where
-    pub link : Option ℕ
-    pub found : Found source tables nodes link (joined_chains (past_second trees) (node closer nil rest))
-    pub apart : times_of closer.tag (past_second trees) ≡ 0
+module _ (source : List ℕ) (tables : Tables) (nodes : List (Node Item)) (closer : Label ℕ) (rest : Forest (Label ℕ))
+  where
+    pub record PastSecond (trees : Forest (Label ℕ)) : Type 0 where
+      pub link : Option ℕ
+      pub found : Found source tables nodes link (joined_chains (past_second trees) (node closer nil rest))
+      pub apart : times_of closer.tag (past_second trees) ≡ 0
 
-  pub past_second_found : (l : Option ℕ) (trees : Forest (Label ℕ)) → Found source tables nodes l (joined_chains trees (node closer nil rest))
-      → times_of closer.tag trees ≡ 0
-      → PastSecond trees
-  past_second_found l nil s apart = record { link = l; found = s; apart = apart }
-  past_second_found l (node a below after) s apart =
-      record { link = sibling_of nodes a.tag; found = found_after source tables nodes l a below _ s; apart = omega (arith, apart) }
+    pub past_second_found : (l : Option ℕ) (trees : Forest (Label ℕ))
+        → Found source tables nodes l (joined_chains trees (node closer nil rest))
+        → times_of closer.tag trees ≡ 0
+        → PastSecond trees
+    past_second_found l nil s apart = record { link = l; found = s; apart = apart }
+    past_second_found l (node a below after) s apart =
+        record {
+          link = sibling_of nodes a.tag;
+          found = found_after source tables nodes l a below _ s;
+          apart = omega
+              (arith, apart);
+        }
 
 pub finds_none : (nodes : List (Node Item)) (w : Around) (end closer : ℕ) (c : Closing ℕ) (o : Option (Split ℕ))
     → TriesWikilink nodes closer None c o → FindsWikilink w end c o None
 finds_none nodes w end closer c None t = refl
 finds_none nodes w end closer c (Some o) t = absurd t
 
-pub finds_dead : (nodes : List (Node Item)) (w : Around) (end closer : ℕ) (opener : Opener) (live : Bool) (c : Closing ℕ)
+pub finds_dead : (nodes : List (Node Item)) (w : Around) (end closer : ℕ) (opener : Opener) (live : Bool)
+    (c : Closing ℕ)
     (o : Option (Split ℕ)) → live ≡ false
     → TriesWikilink nodes closer (Some (opener, live)) c o → FindsWikilink w end c o None
 finds_dead nodes w end closer opener live c None e t = absurd t
@@ -217,7 +246,8 @@ finds_dead nodes w end closer opener live c (Some o) e t =
     let dead : is_live o.mark.wikilink ≡ false = sym t.live ∙ e in
     rw dead tt
 
-pub finds_live : (nodes : List (Node Item)) (w : Around) (end closer : ℕ) (opener : Opener) (live : Bool) (c : Closing ℕ)
+pub finds_live : (nodes : List (Node Item)) (w : Around) (end closer : ℕ) (opener : Opener) (live : Bool)
+    (c : Closing ℕ)
     (o : Option (Split ℕ)) (r : Option ClosedBracket) → live ≡ true
     → IsWikilinkAt opener end (wikilink_nodes nodes w.setting.text w.above.block_end opener.node closer) r
     → TriesWikilink nodes closer (Some (opener, live)) c o → FindsWikilink w end c o r
@@ -225,19 +255,28 @@ finds_live nodes w end closer opener live c None r e h t = absurd t
 finds_live nodes w end closer opener live c (Some o) r e h t =
     let s = t.stands in
     let alive : is_live o.mark.wikilink ≡ true = sym t.live ∙ e in
-    let all : Found s.source s.tables nodes (sibling_of nodes opener.node) (joined_chains (inside o) (node c.label nil c.rest)) =
+    let all : Found s.source s.tables nodes (sibling_of nodes opener.node)
+    (joined_chains (inside o) (node c.label nil c.rest)) =
     record { holds = s.holds; low = low_of nodes _ _ s.found } in
-    let past = past_second_found s.source s.tables nodes c.label c.rest (sibling_of nodes opener.node) (inside o) all s.apart in
+    let past = past_second_found s.source s.tables nodes c.label c.rest (sibling_of nodes opener.node) (inside o) all
+    s.apart in
     let begins : body_start nodes opener.node c.label.tag ≡ link_to (past_second (inside o)) =
     second_is s.source s.tables nodes c.label nil c.rest opener.node (inside o) s.holds s.apart in
-    let reads : (item_at nodes c.label.tag).start ≡ start_of c.label = subst (λ n. (item_at nodes n).start ≡ start_of c.label)
+    let reads : (item_at nodes c.label.tag).start
+    ≡ start_of c.label = subst (λ n. (item_at nodes n).start ≡ start_of c.label)
     (sym s.number) s.starts in
-    let at : IsWikilinkAt opener end (option_and_then (wikilink_from nodes w.setting.text w.above.block_end c.label.tag) (link_to (past_second (inside o)))) r
+    let at : IsWikilinkAt opener end (option_and_then (wikilink_from nodes w.setting.text w.above.block_end c.label.tag)
+    (link_to (past_second (inside o)))) r
     =
-    subst (λ l. IsWikilinkAt opener end (option_and_then (wikilink_from nodes w.setting.text w.above.block_end c.label.tag) l) r) begins
-    (subst (λ n. IsWikilinkAt opener end (wikilink_nodes nodes w.setting.text w.above.block_end opener.node n) r) (sym s.number) h) in
-    let found : IsWikilink w opener end (past_second (inside o)) (wikilink_in w (past_second (inside o)) (start_of c.label)) r =
-    wikilink_is s.source s.tables nodes w c.label c.rest reads s.order opener end (past_second (inside o)) past.link past.found past.apart r
+    subst (λ l. IsWikilinkAt opener end
+    (option_and_then (wikilink_from nodes w.setting.text w.above.block_end c.label.tag) l) r) begins
+    (subst (λ n. IsWikilinkAt opener end (wikilink_nodes nodes w.setting.text w.above.block_end opener.node n) r)
+    (sym s.number) h) in
+    let found : IsWikilink w opener end (past_second (inside o))
+    (wikilink_in w (past_second (inside o)) (start_of c.label)) r =
+    wikilink_is s.source s.tables nodes w c.label c.rest reads s.order opener end (past_second (inside o)) past.link
+    past.found past.apart r
     at in
-    rw alive (subst (λ p. IsWikilink w p end (past_second (inside o)) (wikilink_in w (past_second (inside o)) (start_of c.label)) r)
+    rw alive (subst (λ p. IsWikilink w p end (past_second (inside o))
+    (wikilink_in w (past_second (inside o)) (start_of c.label)) r)
     t.opener found)

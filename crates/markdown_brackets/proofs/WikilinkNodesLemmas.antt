@@ -1,5 +1,6 @@
 -- The nodes of a wikilink's body are those of the trees between its opener and the `]`.
-use Rattle.std.proofs.Common.{◌≡◌, ℕ, ◌<◌, Bool, true, false, ◌==◌, List, Option, refl, sym, subst, arith, nat_le, nat_lt}
+use Rattle.std.proofs.Common.{◌≡◌, ℕ, ◌<◌, Bool, true, false, ◌==◌, List, Option, refl, sym, subst, arith, nat_le}
+use Rattle.std.proofs.Common.{nat_lt}
 use Rattle.std.specs.Prelude.{if◌then◌else◌}
 use Rattle.std.specs.Option.{option_map}
 use Rattle.std.proofs.lemmas.Bool.Decides.{nat_tests}
@@ -28,7 +29,8 @@ equal_by : (n m : ℕ) → (n == m) ≡ true → n ≡ m
 equal_by n m e = grind (arith, nat_tests)
 
 -- a node that does not occur in some trees is not their first
-apart_root : (k : ℕ) (a : Label ℕ) (below after : Forest (Label ℕ)) → times_of k (node a below after) ≡ 0 → (a.tag == k) ≡ false
+apart_root : (k : ℕ) (a : Label ℕ) (below after : Forest (Label ℕ)) → times_of k (node a below after) ≡ 0 → (a.tag == k)
+    ≡ false
 apart_root k a below after none = by (a.tag == k) refl
   where
     by : (b : Bool) → (a.tag == k) ≡ b → b ≡ false
@@ -38,10 +40,12 @@ apart_root k a below after none = by (a.tag == k) refl
         absurd (omega (arith, one, none))
 
 -- nor the first of those after it
-apart_after : (k : ℕ) (a : Label ℕ) (below after : Forest (Label ℕ)) → times_of k (node a below after) ≡ 0 → times_of k after ≡ 0
+apart_after : (k : ℕ) (a : Label ℕ) (below after : Forest (Label ℕ)) → times_of k (node a below after) ≡ 0
+    → times_of k after ≡ 0
 apart_after k a below after none = omega (arith, none)
 
-module _ (source : List ℕ) (tables : Tables) (nodes : List (Node Item)) (closer : Label ℕ) (below_closer rest : Forest (Label ℕ)) where
+module _ (source : List ℕ) (tables : Tables) (nodes : List (Node Item)) (closer : Label ℕ)
+    (below_closer rest : Forest (Label ℕ)) where
   abbrev Up : Forest (Label ℕ) → Forest (Label ℕ)
   Up f = joined_chains f (node closer below_closer rest)
 
@@ -61,7 +65,8 @@ module _ (source : List ℕ) (tables : Tables) (nodes : List (Node Item)) (close
       (unless_closer (sibling_of nodes a.tag) after h.4 (apart_after closer.tag a below after none))
 
   -- the node in which the part of the body from a byte offset on begins
-  pub from_is : (at : ℕ) → at < end_of closer → (l : Option ℕ) (f : Forest (Label ℕ)) → Holds source tables nodes l (Up f)
+  pub from_is : (at : ℕ) → at < end_of closer → (l : Option ℕ) (f : Forest (Label ℕ))
+      → Holds source tables nodes l (Up f)
       → times_of closer.tag f ≡ 0
       → shown_from_node closer.tag at (first_root (numbers_past nodes at (numbers_of (Up f))))
       ≡ option_map (λ n. From n at) (link_to (past_byte at f))
@@ -69,7 +74,8 @@ module _ (source : List ℕ) (tables : Tables) (nodes : List (Node Item)) (close
       rw (same_end source tables nodes closer h.2, below_is at (end_of closer) behind, is_itself closer.tag) refl
   from_is at behind l (node a below after) h none =
       rw (same_end source tables nodes a h.2)
-      (by (nat_lt at (end_of a)) refl (from_is at behind (sibling_of nodes a.tag) after h.4 (apart_after closer.tag a below after none)))
+      (by (nat_lt at (end_of a)) refl
+      (from_is at behind (sibling_of nodes a.tag) after h.4 (apart_after closer.tag a below after none)))
     where
       Goal : Bool → Bool → Type 0
       Goal b d =

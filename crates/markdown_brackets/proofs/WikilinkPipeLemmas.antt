@@ -1,5 +1,6 @@
 -- The pipe of a wikilink in a block is that of the whole text, if it is before the block's end.
-use Rattle.std.proofs.Common.{◌≡◌, ℕ, zero, suc, ◌+◌, ◌-◌, ◌<◌, ◌≤◌, ◌⊎◌, inl, inr, Bool, true, false, not, ◌==◌, List, [], ◌∷◌, Option, Some}
+use Rattle.std.proofs.Common.{◌≡◌, ℕ, zero, suc, ◌+◌, ◌-◌, ◌<◌, ◌≤◌, ◌⊎◌, inl, inr, Bool, true, false, not, ◌==◌, List}
+use Rattle.std.proofs.Common.{[], ◌∷◌, Option, Some}
 use Rattle.std.proofs.Common.{None, length, take, drop, min, refl, sym, ap, ◌∙◌, subst, arith, cond, nat_lt, nat_le}
 use Rattle.std.specs.Prelude.{IfSome, if◌then◌else◌}
 use Rattle.std.specs.List.{position_or_len}
@@ -15,7 +16,8 @@ ending_by n None = None
 ending_by n (Some found) = if nat_le found.0 n then Some found else None
 
 -- so it has what was found
-if_ending_by : (n : ℕ) (found : Option (ℕ × List ℕ)) (P : ℕ × List ℕ → Type 0) → IfSome found P → IfSome (ending_by n found) P
+if_ending_by : (n : ℕ) (found : Option (ℕ × List ℕ)) (P : ℕ × List ℕ → Type 0) → IfSome found P
+    → IfSome (ending_by n found) P
 if_ending_by n None P h = tt
 if_ending_by n (Some found) P h = by (nat_le found.0 n)
   where
@@ -100,7 +102,8 @@ module _ (start m : ℕ) (body : List ℕ) where
       place : position_or_len (λ b. b == 124) (take m body) ≡ min m here
       place = place_taken (λ b. b == 124) m body
 
-      by : (here < m) ⊎ (m ≤ here) → name_before_pipe start (take m body) ≡ ending_by (start + m) (name_before_pipe start body)
+      by : (here < m) ⊎ (m ≤ here) → name_before_pipe start (take m body)
+          ≡ ending_by (start + m) (name_before_pipe start body)
       by (inl l) = at here (omega (arith, place, l)) ∙ inside l
       by (inr l) = at m (omega (arith, place, l)) ∙ outside l
 
@@ -115,12 +118,14 @@ past_block start n body l = by (nat_lt place (length body))
     pipe : ℕ × List ℕ
     pipe = (start + place + 1, take place body)
 
-    by : (b : Bool) → ending_by (start + (n - start)) (option_map (λ k. (start + k + 1, take k body)) (if b then Some place else None))
+    by : (b : Bool) → ending_by (start + (n - start))
+        (option_map (λ k. (start + k + 1, take k body)) (if b then Some place else None))
         ≡ ending_by n (option_map (λ k. (start + k + 1, take k body)) (if b then Some place else None))
     by true =
         let one : nat_le (start + place + 1) (start + (n - start)) ≡ false = grind (arith, nat_tests) in
         let other : nat_le (start + place + 1) n ≡ false = grind (arith, nat_tests) in
-        ap (λ (b : Bool). if b then Some pipe else None) one ∙ sym (ap (λ (b : Bool). if b then Some pipe else None) other)
+        ap (λ (b : Bool). if b then Some pipe else None) one
+        ∙ sym (ap (λ (b : Bool). if b then Some pipe else None) other)
     by false = refl
 
 pub pipe_in_block : (text : List ℕ) (block_end start size : ℕ)
@@ -132,7 +137,8 @@ pipe_in_block text block_end start size =
     ap (name_before_pipe start) taken ∙ name_taken start (block_end - start) body ∙ by body (cases_lt block_end start)
   where
     by : (body : List ℕ) → (block_end < start) ⊎ (start ≤ block_end)
-        → ending_by (start + (block_end - start)) (name_before_pipe start body) ≡ ending_by block_end (name_before_pipe start body)
+        → ending_by (start + (block_end - start)) (name_before_pipe start body)
+        ≡ ending_by block_end (name_before_pipe start body)
     by body (inl l) = past_block start block_end body l
     by body (inr l) =
         let ends : start + (block_end - start) ≡ block_end = omega (arith, l) in
@@ -140,16 +146,19 @@ pipe_in_block text block_end start size =
 
 pub no_pipe_in_block : (text : List ℕ) (block_end start size : ℕ) → None ≡ wikilink_pipe text start size
     → None ≡ wikilink_pipe (take block_end text) start size
-no_pipe_in_block text block_end start size e = ap (ending_by block_end) e ∙ sym (pipe_in_block text block_end start size)
+no_pipe_in_block text block_end start size e = ap (ending_by block_end) e
+    ∙ sym (pipe_in_block text block_end start size)
 
-pub pipe_past_block : (text : List ℕ) (block_end start size : ℕ) (found : ℕ × List ℕ) → Some found ≡ wikilink_pipe text start size
+pub pipe_past_block : (text : List ℕ) (block_end start size : ℕ) (found : ℕ × List ℕ) → Some found
+    ≡ wikilink_pipe text start size
     → block_end < found.0 → None ≡ wikilink_pipe (take block_end text) start size
 pipe_past_block text block_end start size found e l =
     let past : nat_le found.0 block_end ≡ false = grind (arith, nat_tests) in
     sym (ap (λ (b : Bool). if b then Some found else None) past) ∙ ap (ending_by block_end) e
     ∙ sym (pipe_in_block text block_end start size)
 
-pub pipe_before_end : (text : List ℕ) (block_end start size : ℕ) (found : ℕ × List ℕ) → Some found ≡ wikilink_pipe text start size
+pub pipe_before_end : (text : List ℕ) (block_end start size : ℕ) (found : ℕ × List ℕ) → Some found
+    ≡ wikilink_pipe text start size
     → found.0 ≤ block_end → Some found ≡ wikilink_pipe (take block_end text) start size
 pipe_before_end text block_end start size found e l =
     let before : nat_le found.0 block_end ≡ true = grind (arith, nat_tests) in
@@ -157,7 +166,8 @@ pipe_before_end text block_end start size found e l =
     ∙ sym (pipe_in_block text block_end start size)
 
 -- so a pipe in the block has what the pipe of the text has
-pub some_in_block : (text : List ℕ) (block_end start size : ℕ) (P : ℕ × List ℕ → Type 0) → IfSome (wikilink_pipe text start size) P
+pub some_in_block : (text : List ℕ) (block_end start size : ℕ) (P : ℕ × List ℕ → Type 0)
+    → IfSome (wikilink_pipe text start size) P
     → IfSome (wikilink_pipe (take block_end text) start size) P
 some_in_block text block_end start size P h = subst (λ (found : Option (ℕ × List ℕ)). IfSome found P)
     (sym (pipe_in_block text block_end start size)) (if_ending_by block_end (wikilink_pipe text start size) P h)

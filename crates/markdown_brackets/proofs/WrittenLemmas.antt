@@ -1,5 +1,6 @@
 -- What is read of a block's text, and that nothing is read past its end.
-use Rattle.std.proofs.Common.{rules, ◌≡◌, ℕ, ◌<◌, ◌≤◌, Bool, List, Option, Some, None, Result, Ok, Err, length, take, arith}
+use Rattle.std.proofs.Common.{rules, ◌≡◌, ℕ, ◌<◌, ◌≤◌, Bool, List, Option, Some, None, Result, Ok, Err, length, take}
+use Rattle.std.proofs.Common.{arith}
 use Rattle.std.proofs.Common.{◌+◌, ◌&&◌, true, false, refl, ◌∙◌, ap, if◌then◌else◌}
 use Rattle.std.proofs.lemmas.List.{length-take}
 use Rattle.std.specs.Prelude.{IfOk, slice_range}
@@ -22,7 +23,8 @@ use Rattle.markdown_brackets.proofs.LinkTailLemmas.{tail_past_end}
 use Rattle.markdown_brackets.proofs.ReferenceLemmas.{form_past}
 
 -- where there is no tail, a reference is written
-pub other_written : (in_table : Bool) (o : Split ℕ) (other : Option (Written ℕ)) (t : Option scanned.LinkTail) → ReadsTail in_table t None
+pub other_written : (in_table : Bool) (o : Split ℕ) (other : Option (Written ℕ)) (t : Option scanned.LinkTail)
+    → ReadsTail in_table t None
     → other ≡ option_or (option_map (inline_link o) t) other
 other_written in_table o other None h = refl
 other_written in_table o other (Some t) h = absurd h
@@ -35,7 +37,8 @@ pub ok_map : {X E : Type 0} (r : Result X E) (P G : X → Type 0) → IfOk r P �
 ok_map (Ok x) P G h f = f x h
 ok_map (Err e) P G h f = tt
 
-pub ok_both : {X E : Type 0} (r : Result X E) (P Q G : X → Type 0) → IfOk r P → IfOk r Q → ((x : X) → P x → Q x → G x) → IfOk r G
+pub ok_both : {X E : Type 0} (r : Result X E) (P Q G : X → Type 0) → IfOk r P → IfOk r Q → ((x : X) → P x → Q x → G x)
+    → IfOk r G
 ok_both (Ok x) P Q G h k f = f x h k
 ok_both (Err e) P Q G h k f = tt
 
@@ -48,7 +51,8 @@ no_reference w o true end closes false = refl
 no_reference w o false end closes false = refl
 
 -- past the block's end nothing is written
-pub nothing_past_block : (nodes : List (Node Item)) (place : ChainPlace) (skipped : List ℕ → Option ℕ) (closer : ℕ) (w : Around)
+pub nothing_past_block : (nodes : List (Node Item)) (place : ChainPlace) (skipped : List ℕ → Option ℕ) (closer : ℕ)
+    (w : Around)
     (o : Split ℕ) (could_be : Bool) (start : ℕ) → place.block_end < (item_at nodes closer).end
     → written_at nodes place skipped closer w o could_be start ≡ None
 nothing_past_block nodes place skipped closer w o could_be start past =
@@ -60,10 +64,12 @@ nothing_past_block nodes place skipped closer w o could_be start past =
     let second : Option Item = option_map (item_at nodes) (option_and_then (sibling_of nodes) next) in
     let by : Option FoundLabel → Form → Option (Written ℕ) = λ own form.
     reference_written w o end (λ i. reaches_closer nodes i next) (if could_be then own else None) form in
-    ap (λ (t : Option scanned.LinkTail). option_or (option_map (inline_link o) t) (reference_at nodes place skipped closer w o could_be start))
+    ap (λ (t : Option scanned.LinkTail). option_or (option_map (inline_link o) t)
+    (reference_at nodes place skipped closer w o could_be start))
     (tail_past_end skipped (starts_from nodes next) text end within)
     ∙ ap (λ own. by own (form_ahead nodes place skipped closer))
-    (no_label_past_block place.in_table (footnote_style place.options) skipped place.text.now place.block_end start end past)
+    (no_label_past_block place.in_table (footnote_style place.options) skipped place.text.now place.block_end start end
+    past)
     ∙ ap (by None) (form_past (footnote_style place.options) skipped place.in_table text end after second within)
     ∙ no_reference w o could_be end (λ i. reaches_closer nodes i next)
     (stands_at end is_opener after && stands_at (end + 1) is_closer second)

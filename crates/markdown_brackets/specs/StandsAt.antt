@@ -15,7 +15,8 @@ use Rattle.markdown_document.specs.Tables.{Tables}
 use Rattle.markdown_document.specs.ChainRest.{joined_chains}
 use Rattle.markdown_document.specs.Document.{Label}
 use Rattle.markdown_base.specs.Forest.{Forest, nil, node, first_root}
-use Rattle.markdown_brackets.specs.BracketDecision.{Around, Becomes, Closing, Written, LinkReference, Progress, Wikilink}
+use Rattle.markdown_brackets.specs.BracketDecision.{Around, Becomes, Closing, Written, LinkReference, Progress}
+use Rattle.markdown_brackets.specs.BracketDecision.{Wikilink}
 use Rattle.markdown_brackets.specs.BracketDecision.{a_wikilink, bracket_found, carried_out, decided, past_second, to_be}
 use Rattle.markdown_brackets.specs.BracketDecision.{wikilink_in}
 use Rattle.markdown_base.specs.CowText.{text_of}
@@ -25,7 +26,8 @@ use Rattle.markdown_brackets.specs.Wikilink.{wikilink_body}
 use Rattle.markdown_brackets.specs.declared.wikilink_nodes.ShownNodes.{ShownNodes}
 use Rattle.markdown_brackets.specs.declared.closing_bracket.ClosedBracket.TheVariants.{Wikilinked}
 use Rattle.markdown_brackets.specs.ChainHeld.{Holds, numbers_of, times_of, link_to}
-use Rattle.markdown_brackets.specs.DecisionView.{IsBecome, IsShownAfterPipe, around_at, first_shown, knowing, opener_of, shown_of}
+use Rattle.markdown_brackets.specs.DecisionView.{IsBecome, IsShownAfterPipe, around_at, first_shown, knowing, opener_of}
+use Rattle.markdown_brackets.specs.DecisionView.{shown_of}
 use Rattle.markdown_brackets.specs.LeftList.{Split, inside, is_live, Entry, trees_onto, bracket_taken, wikilink_taken}
 use Rattle.markdown_brackets.specs.LeftList.{nearest, opens_bracket}
 use Rattle.markdown_brackets.specs.ReadChain.{among}
@@ -85,18 +87,19 @@ around_by place skipped bodies lookup =
 -- the result of carrying out what was found: the callback answered these questions, at most one, and the result is what
 -- the rules say whatever answers follow, which are left
 pub record ComesTo {C : Type 0} (step : C → Question → Option Answer → C → Type 0) (w : Around)
-    (find : Option (Written ℕ)) (old new : LabelLookup C) (spent spent' : SpentEnds) (found : ClosedBracket) : Type 0 where
-  pub answers : Answers
-  pub questions : List Question
-  pub asked : Asks step old.callback questions answers new.callback
-  pub becomes : Becomes ℕ
-  pub more : List ℕ
-  pub comes : (p : Progress ℕ) (later : Answers)
-      → carried_out w find (knowing old.limit (answers ++ later) (uses_of old.tables.footdefs) p)
-      ≡ to_be becomes (record (knowing new.limit later (uses_of new.tables.footdefs) p)
-      { spent = more ++ p.spent; asked = p.asked ++ questions })
-  pub spends : Spends more spent spent'
-  pub is : IsBecome w becomes found
+    (find : Option (Written ℕ)) (old new : LabelLookup C) (spent spent' : SpentEnds) (found : ClosedBracket) : Type 0
+  where
+    pub answers : Answers
+    pub questions : List Question
+    pub asked : Asks step old.callback questions answers new.callback
+    pub becomes : Becomes ℕ
+    pub more : List ℕ
+    pub comes : (p : Progress ℕ) (later : Answers)
+        → carried_out w find (knowing old.limit (answers ++ later) (uses_of old.tables.footdefs) p)
+        ≡ to_be becomes (record (knowing new.limit later (uses_of new.tables.footdefs) p)
+        { spent = more ++ p.spent; asked = p.asked ++ questions })
+    pub spends : Spends more spent spent'
+    pub is : IsBecome w becomes found
 
 -- what is found from an opener at a `]` is carried out as the rules say, where that opener is the one of a split
 abbrev pub Tries : {C R : Type 0} → (C → Question → Option Answer → C → Type 0) → Closer R → Opener

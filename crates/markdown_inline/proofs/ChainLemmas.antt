@@ -1,5 +1,6 @@
 -- A chain that is resolved in place: what a walk that is before it has left.
-use Rattle.std.proofs.Common.{◌+◌, ◌≡◌, ℕ, ◌<◌, ◌≤◌, Bool, true, false, List, [], ◌∷◌, ◌++◌, map, length, Option, Some, refl, ap, sym, ◌∙◌}
+use Rattle.std.proofs.Common.{◌+◌, ◌≡◌, ℕ, ◌<◌, ◌≤◌, Bool, true, false, List, [], ◌∷◌, ◌++◌, map, length, Option, Some}
+use Rattle.std.proofs.Common.{refl, ap, sym, ◌∙◌}
 use Rattle.std.proofs.Common.{⊎_elim, arith, append_assoc}
 use Rattle.std.specs.Prelude.{slice_range}
 use Rattle.std.proofs.lemmas.Bool.{cases_lt}
@@ -29,7 +30,8 @@ use Rattle.markdown_document.specs.Places.{label_at, trees_from}
 use Rattle.markdown_document.specs.PlacedNodes.{IsPlaced}
 use Rattle.markdown_resolver.specs.PassOne.{Outcome}
 use Rattle.markdown_resolver.specs.Resolved.{resolved, all_paired}
-use Rattle.markdown_document.specs.Document.{plain_tags, Plain, Shape, leaf, enclosed, plain, backslash_break, unresolved, is_unresolved}
+use Rattle.markdown_document.specs.Document.{plain_tags, Plain, Shape, leaf, enclosed, plain, backslash_break}
+use Rattle.markdown_document.specs.Document.{unresolved, is_unresolved}
 use Rattle.markdown_document.specs.Document.{shape_of}
 use Rattle.markdown_document.specs.Labels.{GivesFirst, Begins}
 use Rattle.markdown_resolver.specs.Unread.{IsUnread}
@@ -71,14 +73,17 @@ named_above-past source tables nodes (ix ∷ deeper) n r z =
     )
 
 -- one that gives an event at once is not open
-gives-closed : (tables : Tables) (source : List ℕ) (b : ItemBody) (is : Bool) → is_open b ≡ is → GivesFirst (shape_of tables source b)
+gives-closed : (tables : Tables) (source : List ℕ) (b : ItemBody) (is : Bool) → is_open b ≡ is
+    → GivesFirst (shape_of tables source b)
     → is ≡ false
 gives-closed tables source b true e g = absurd (rw (shape-open tables source b e) at g)
 gives-closed tables source b false e g = refl
 
-opened-begins : (shape : Shape) (range : Range ℕ) (inside : Reading → Reading) (after whole : Reading) (known : Known) → GivesFirst shape
+opened-begins : (shape : Shape) (range : Range ℕ) (inside : Reading → Reading) (after whole : Reading) (known : Known)
+    → GivesFirst shape
     → BeginsWithEvent (reading_opened shape range inside after whole known)
-opened-begins (leaf e origins) range inside after whole known h = record { first = (e, range, origins); rest = after known; is = refl }
+opened-begins (leaf e origins) range inside after whole known h = record
+    { first = (e, range, origins); rest = after known; is = refl }
 opened-begins (enclosed tag) range inside after whole known h = record {
   first = (start tag, range, []);
   rest =
@@ -86,7 +91,8 @@ opened-begins (enclosed tag) range inside after whole known h = record {
   is = refl;
 }
 opened-begins plain range inside after whole known h = absurd h
-opened-begins backslash_break range inside after whole known h = record { first = (hard_break, range, []); rest = after known; is = refl }
+opened-begins backslash_break range inside after whole known h = record
+    { first = (hard_break, range, []); rest = after known; is = refl }
 opened-begins (unresolved b) range inside after whole known h = absurd h
 
 reading-begins : (f : Forest Plain) (s : Setting) (above : Above) (after : Reading) (known : Known) → Begins f
@@ -95,7 +101,8 @@ reading-begins nil s above after known h = absurd h
 reading-begins (node a below later) s above after known h = opened-begins a.part.shape a.part.range _ _ _ known h
 
 -- from one state to another a chain was resolved
-pub record ChainMoves (s : Setting) (tables tables' : Tables) (nodes nodes' : List (Node Item)) (first : ℕ) (spine : List ℕ)
+pub record ChainMoves (s : Setting) (tables tables' : Tables) (nodes nodes' : List (Node Item)) (first : ℕ)
+    (spine : List ℕ)
     (before now : Answers → Known) (questions : List Question) (answers : Answers) : Type 0 where
   pub stands : Stands s.text tables' nodes' (Some first) spine
   pub left : (later : Answers) → (left_of s tables nodes (Some first) spine (before (answers ++ later))).elements
@@ -104,28 +111,35 @@ pub record ChainMoves (s : Setting) (tables tables' : Tables) (nodes nodes' : Li
   pub falls : steps_of nodes' (Some first) spine < steps_of nodes (Some first) spine
 
 -- numbers above are those of nodes, and entries that are referred to there are in the tables
-above_within : (k : Links) (p : ℕ → Type 0) (spine : List ℕ) (n : ℕ) → AllReach k p spine → 0 < climbed (same n) (same n) k spine
+above_within : (k : Links) (p : ℕ → Type 0) (spine : List ℕ) (n : ℕ) → AllReach k p spine
+    → 0 < climbed (same n) (same n) k spine
     → n < k.size
-above_within k p spine n r l = ⊎_elim (λ h. h) (λ h. absurd (omega (arith, times_above-past k p spine n r h, l))) (cases_lt n k.size)
+above_within k p spine n r l = ⊎_elim (λ h. h) (λ h. absurd (omega (arith, times_above-past k p spine n r h, l)))
+    (cases_lt n k.size)
 
 above_named : (source : List ℕ) (tables : Tables) (nodes : List (Node Item)) (spine : List ℕ) (n : Named)
     → AllReach (links_of nodes) (IsPlaced source tables nodes) spine
     → 0 < climbed (λ ix. 0) (naming nodes n) (links_of nodes) spine → number_of n < size_for tables n
 above_named source tables nodes spine n r l = ⊎_elim (λ h. h)
-    (λ h. absurd (omega (arith, named_above-past source tables nodes spine n r h, l))) (cases_lt (number_of n) (size_for tables n))
+    (λ h. absurd (omega (arith, named_above-past source tables nodes spine n r h, l)))
+    (cases_lt (number_of n) (size_for tables n))
 
 -- what is above a chain stays when the chain is resolved
-above_chain : {C : Type 0} (step : C → Question → Option Answer → C → Type 0) (s : Setting) (first : ℕ) (spine : List ℕ) (old new : Stage C)
+above_chain : {C : Type 0} (step : C → Question → Option Answer → C → Type 0) (s : Setting) (first : ℕ) (spine : List ℕ)
+    (old new : Stage C)
     → Stands s.text old.tables old.nodes (Some first) spine
     → ResolvesFrom step s.text (resolved s plain_tags (above_at s.text old.nodes spine)) (Some first) old new
     → AboveFramed s old.tables new.tables old.nodes new.nodes spine
 unfolding left_total
 above_chain step s first spine old new w r =
-    above_framed s old.tables new.tables old.nodes new.nodes spine r.changes.more_nodes (grown-longer old.tables new.tables r.changes.grown)
+    above_framed s old.tables new.tables old.nodes new.nodes spine r.changes.more_nodes
+    (grown-longer old.tables new.tables r.changes.grown)
     w.walk.above w.above_kept w.spine_lies
-    (λ n l. r.changes.outside n (above_within (links_of old.nodes) (IsPlaced s.text old.tables old.nodes) spine n w.walk.above l)
+    (λ n l. r.changes.outside n
+    (above_within (links_of old.nodes) (IsPlaced s.text old.tables old.nodes) spine n w.walk.above l)
     (omega (arith, w.once n, l)))
-    (λ n l. grown-same old.tables new.tables n r.changes.grown (above_named s.text old.tables old.nodes spine n w.walk.above l))
+    (λ n l. grown-same old.tables new.tables n r.changes.grown
+    (above_named s.text old.tables old.nodes spine n w.walk.above l))
 
 -- the chain is ready to be resolved
 pub can_resolve : (source : List ℕ) (tables : Tables) (nodes : List (Node Item)) (first : ℕ) (spine : List ℕ)
@@ -134,7 +148,8 @@ pub can_resolve : (source : List ℕ) (tables : Tables) (nodes : List (Node Item
 unfolding left_total
 can_resolve source tables nodes first spine w e =
     let o = opens (links_of nodes) (IsPlaced source tables nodes) first w.walk.here in
-    let open_shape = shape-open tables (slice_range source (item_at nodes first).start (item_at nodes first).end) (item_at nodes first).body
+    let open_shape = shape-open tables (slice_range source (item_at nodes first).start (item_at nodes first).end)
+    (item_at nodes first).body
     e in
     record {
       reaches = w.walk.here;
@@ -149,12 +164,14 @@ pub is_unread : (source : List ℕ) (tables : Tables) (nodes : List (Node Item))
     → IsUnread (trees_from source tables nodes (Some first))
 is_unread source tables nodes first spine w e =
     let o = opens (links_of nodes) (IsPlaced source tables nodes) first w.walk.here in
-    let open_shape = shape-open tables (slice_range source (item_at nodes first).start (item_at nodes first).end) (item_at nodes first).body
+    let open_shape = shape-open tables (slice_range source (item_at nodes first).start (item_at nodes first).end)
+    (item_at nodes first).body
     e in
     rw o.here ((rw o.here at w.here_kept).0 (ap is_unresolved open_shape)).1
 
 -- the nodes that were entered exist, lie in the text, and are not in the chain at hand
-nodes_above : (source : List ℕ) (k : Links) (nodes : List (Node Item)) (p : ℕ → Type 0) (l : Option ℕ) (spine : List ℕ) → k ≡ links_of nodes
+nodes_above : (source : List ℕ) (k : Links) (nodes : List (Node Item)) (p : ℕ → Type 0) (l : Option ℕ) (spine : List ℕ)
+    → k ≡ links_of nodes
     → AllReach k p spine → SpineLies source nodes spine
     → ((n : ℕ) → times_in nodes l n + climbed (same n) (same n) k spine ≤ 1) → AreAbove source nodes l spine
 nodes_above source k nodes p l [] e r lies h = tt
@@ -166,18 +183,21 @@ nodes_above source k nodes p l (ix ∷ deeper) e r lies h = (
 pub are_above : (source : List ℕ) (tables : Tables) (nodes : List (Node Item)) (first : ℕ) (spine : List ℕ)
     → Stands source tables nodes (Some first) spine → AreAbove source nodes (Some first) spine
 unfolding left_total
-are_above source tables nodes first spine w = nodes_above source (links_of nodes) nodes (IsPlaced source tables nodes) (Some first) spine
+are_above source tables nodes first spine w = nodes_above source (links_of nodes) nodes (IsPlaced source tables nodes)
+    (Some first) spine
     refl w.walk.above w.spine_lies w.once
 
 -- what is left before a chain, where its first item is open
 pub chain_left : (s : Setting) (tables : Tables) (nodes : List (Node Item)) (first : ℕ) (spine : List ℕ) (known : Known)
     → Stands s.text tables nodes (Some first) spine → is_open (item_at nodes first).body ≡ true
     → left_of s tables nodes (Some first) spine known ≡ chain_reading s plain_tags (above_at s.text nodes spine)
-    (trees_from s.text tables nodes (Some first)) (after_chain s (no_blocks s.text) tables nodes spine nothing_read) known
+    (trees_from s.text tables nodes (Some first)) (after_chain s (no_blocks s.text) tables nodes spine nothing_read)
+    known
 unfolding left_of
 chain_left s tables nodes first spine known w e =
     let o = opens (links_of nodes) (IsPlaced s.text tables nodes) first w.walk.here in
-    let open_shape = shape-open tables (slice_range s.text (item_at nodes first).start (item_at nodes first).end) (item_at nodes first).body
+    let open_shape = shape-open tables (slice_range s.text (item_at nodes first).start (item_at nodes first).end)
+    (item_at nodes first).body
     e in
     let blocks = above_at s.text nodes spine in
     let after = after_chain s (no_blocks s.text) tables nodes spine nothing_read in
@@ -186,15 +206,18 @@ chain_left s tables nodes first spine known w e =
     rw o.here (opened-open (label_at s.text tables nodes first).part.shape _ _ _ _ (ap is_unresolved open_shape)) in
     ap (λ (x : Reading). x known) whole
 
-pub moves_chain : {C : Type 0} (step : C → Question → Option Answer → C → Type 0) (s : Setting) (first : ℕ) (spine : List ℕ)
+pub moves_chain : {C : Type 0} (step : C → Question → Option Answer → C → Type 0) (s : Setting) (first : ℕ)
+    (spine : List ℕ)
     (old new : Stage C)
     → Stands s.text old.tables old.nodes (Some first) spine → is_open (item_at old.nodes first).body ≡ true
     → (r : ResolvesFrom step s.text (resolved s plain_tags (above_at s.text old.nodes spine)) (Some first) old new)
-    → ChainMoves s old.tables new.tables old.nodes new.nodes first spine (known_at old) (known_at new) r.questions r.answers
+    → ChainMoves s old.tables new.tables old.nodes new.nodes first spine (known_at old) (known_at new) r.questions
+    r.answers
 unfolding left_of left_total
 moves_chain step s first spine old new w e r =
     let o = opens (links_of old.nodes) (IsPlaced s.text old.tables old.nodes) first w.walk.here in
-    let open_shape = shape-open old.tables (slice_range s.text (item_at old.nodes first).start (item_at old.nodes first).end)
+    let open_shape = shape-open old.tables
+    (slice_range s.text (item_at old.nodes first).start (item_at old.nodes first).end)
     (item_at old.nodes first).body e in
     let ready = can_resolve s.text old.tables old.nodes first spine w e in
     let above = above_chain step s first spine old new w r in
@@ -202,31 +225,38 @@ moves_chain step s first spine old new w e r =
     let chain = trees_from s.text old.tables old.nodes (Some first) in
     let blocks = above_at s.text old.nodes spine in
     let after = after_chain s (no_blocks s.text) old.tables old.nodes spine nothing_read in
-    let settled : IsSettled made = rw (r.resolves []) at (resolved-settled s plain_tags blocks chain (known_at old (r.answers ++ []))
+    let settled : IsSettled made = rw (r.resolves []) at
+    (resolved-settled s plain_tags blocks chain (known_at old (r.answers ++ []))
     ready.quiet_below) in
     let begins : Begins made =
-    rw (rw o.here at (r.resolves [])) at (resolved-begins s plain_tags blocks (label_at s.text old.tables old.nodes first)
+    rw (rw o.here at (r.resolves [])) at
+    (resolved-begins s plain_tags blocks (label_at s.text old.tables old.nodes first)
     (trees_from s.text old.tables old.nodes (child_of old.nodes first))
     (trees_from s.text old.tables old.nodes (sibling_of old.nodes first)) (known_at old (r.answers ++ []))
     (ap is_unresolved open_shape)) in
     let after' = after_chain s (no_blocks s.text) new.tables new.nodes spine nothing_read in
-    let now : SameElements (reading s plain_tags (above_at s.text new.nodes spine) made after') (settled_reading (all_paired s made) after) =
-    rw (above.blocks (no_blocks s.text), above.around (no_blocks s.text) nothing_read) (reading-settled s blocks made after settled) in
+    let now : SameElements (reading s plain_tags (above_at s.text new.nodes spine) made after')
+    (settled_reading (all_paired s made) after) =
+    rw (above.blocks (no_blocks s.text), above.around (no_blocks s.text) nothing_read)
+    (reading-settled s blocks made after settled) in
     let n = opens (links_of new.nodes) (IsPlaced s.text new.tables new.nodes) first r.changes.reaches in
     let item = item_at new.nodes first in
-    let closed : is_open item.body ≡ false = gives-closed new.tables (slice_range s.text item.start item.end) item.body (is_open item.body)
+    let closed : is_open item.body ≡ false = gives-closed new.tables (slice_range s.text item.start item.end) item.body
+    (is_open item.body)
     refl (rw n.here at begins) in
     record {
       stands = record {
         walk = record { here = r.changes.reaches; above = above.reach };
         once = λ n. rw (above.times n) (⊎_elim
             (λ l. let x = w.once n in let y = r.changes.of_chain n l in omega arith)
-            (λ l. let x = times_above-past (links_of old.nodes) (IsPlaced s.text old.tables old.nodes) spine n w.walk.above l
+            (λ l. let x = times_above-past (links_of old.nodes) (IsPlaced s.text old.tables old.nodes) spine n
+            w.walk.above l
             in let y = r.changes.once n in omega arith)
             (cases_lt n (length old.nodes)));
         named_once = λ n. rw (above.naming n) (⊎_elim
             (λ l. let x = w.named_once n in let y = r.changes.named n l in omega arith)
-            (λ l. let x = named_above-past s.text old.tables old.nodes spine n w.walk.above l in let y = r.changes.named_once n
+            (λ l. let x = named_above-past s.text old.tables old.nodes spine n w.walk.above l in let y
+            = r.changes.named_once n
             in omega arith)
             (cases_lt (number_of n) (size_for old.tables n)));
         here_kept = IsKept-from_IsSettled made settled;
@@ -236,7 +266,8 @@ moves_chain step s first spine old new w e r =
       left = λ later.
           let known = known_at old (r.answers ++ later) in
           ap (λ (x : Passage). x.elements) (chain_left s old.tables old.nodes first spine known w e)
-          ∙ rw (r.resolves later) (ap (λ (es : List Element). map question r.questions ++ es) (sym (now (known_at new later))));
+          ∙ rw (r.resolves later)
+          (ap (λ (es : List Element). map question r.questions ++ es) (sym (now (known_at new later))));
       begins = λ known. reading-begins made s (above_at s.text new.nodes spine) after' known begins;
       falls = rw (above.steps, closed, e) (let x = r.changes.no_heavier in omega arith);
     }
@@ -244,16 +275,21 @@ moves_chain step s first spine old new w e r =
 more_questions : (s : Setting) (r : Outcome (Unit {0})) (after : Reading) (questions others : List Question)
     → r.questions ≡ questions ++ others
     → (es : List Element) × (then_resolved s r after ≡ map question questions ++ es)
-more_questions s r after questions others e =
-    (map question others ++ (settled_reading (all_paired s r.forest) after r.known).elements, rw e (simp (map-append, append_assoc)))
+more_questions s r after questions others e = (
+  map question others ++ (settled_reading (all_paired s r.forest) after r.known).elements,
+  rw e
+      (simp (map-append, append_assoc)),
+)
 
 -- where memory is refused on the way, what was left begins with the questions asked
-pub stops_chain : {C : Type 0} (step : C → Question → Option Answer → C → Type 0) (s : Setting) (first : ℕ) (spine : List ℕ) (old : Stage C)
+pub stops_chain : {C : Type 0} (step : C → Question → Option Answer → C → Type 0) (s : Setting) (first : ℕ)
+    (spine : List ℕ) (old : Stage C)
     (d : Option C) (work work' : Work)
     → Stands s.text old.tables old.nodes (Some first) spine → is_open (item_at old.nodes first).body ≡ true
     → (r : StopsIn step s (above_at s.text old.nodes spine) first old d work work')
     → (later : Answers) → (others : List Element)
-    × ((left_of s old.tables old.nodes (Some first) spine (known_at old (r.answers ++ later))).elements ≡ map question r.questions ++ others)
+    × ((left_of s old.tables old.nodes (Some first) spine (known_at old (r.answers ++ later))).elements
+    ≡ map question r.questions ++ others)
 stops_chain step s first spine old d work work' w e r later =
     let b = r.begins later in
     let known = known_at old (r.answers ++ later) in

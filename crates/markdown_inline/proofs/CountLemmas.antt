@@ -1,7 +1,8 @@
 -- How the counts of work rise along a walk.
 use Rattle.std.proofs.Common.{◌≡◌, ℕ, zero, suc, ◌*◌, ◌≤◌, refl, arith}
 use Rattle.markdown_document.specs.declared.work.Work.{Work}
-use Rattle.markdown_document.specs.Counts.{ChainCounts, no_counts, risen, RisesAtMost, WorkRises, comparisons_per_delimiter}
+use Rattle.markdown_document.specs.Counts.{ChainCounts, no_counts, risen, RisesAtMost, WorkRises}
+use Rattle.markdown_document.specs.Counts.{comparisons_per_delimiter}
 use Rattle.markdown_resolver.specs.ChainCounts.{RisesInPart}
 
 -- a count stayed as it was
@@ -45,17 +46,20 @@ part_stays old new r =
     let items = risen_none part.items old.items new.items r.items rises.items in
     let delimiters = risen_none part.delimiters old.delimiters new.delimiters r.delimiters rises.delimiters in
     let none : comparisons_per_delimiter * part.delimiters ≤ 0 = omega (arith, r.delimiters) in
-    let examined = at_most_none (comparisons_per_delimiter * part.delimiters) old.examined new.examined none rises.examined in
+    let examined = at_most_none (comparisons_per_delimiter * part.delimiters) old.examined new.examined none
+    rises.examined in
     let code = at_most_none part.items old.code_visits new.code_visits r.items rises.code_visits in
     let math = at_most_none part.items old.math_visits new.math_visits r.items rises.math_visits in
     let work : ℕ → ℕ → ℕ → ℕ → ℕ → Work = λ i d e c m.
     record { delimiters = d; examined = e; items = i; code_visits = c; math_visits = m } in
     let same : work new.items new.delimiters new.examined new.code_visits new.math_visits
-    ≡ work old.items old.delimiters old.examined old.code_visits old.math_visits = rw (items, delimiters, examined, code, math) refl in
+    ≡ work old.items old.delimiters old.examined old.code_visits old.math_visits = rw
+    (items, delimiters, examined, code, math) refl in
     same
 
 -- a chain was resolved, and nothing after it
-pub part-chain : (n : ChainCounts) (old mid new : Work) → WorkRises n old mid → RisesInPart no_counts mid new → RisesInPart n old new
+pub part-chain : (n : ChainCounts) (old mid new : Work) → WorkRises n old mid → RisesInPart no_counts mid new
+    → RisesInPart n old new
 part-chain n old mid new a b = record {
   part = n;
   items = omega arith;
@@ -63,6 +67,7 @@ part-chain n old mid new a b = record {
   rises = rw (part_stays mid new b) a;
 }
 
-pub rises-chain : (n : ChainCounts) (old mid new : Work) → WorkRises n old mid → WorkRises no_counts mid new → WorkRises n old new
+pub rises-chain : (n : ChainCounts) (old mid new : Work) → WorkRises n old mid → WorkRises no_counts mid new
+    → WorkRises n old new
 rises-chain n old mid new a b =
     rw (part_stays mid new (record { part = no_counts; items = omega arith; delimiters = omega arith; rises = b })) a

@@ -1,6 +1,7 @@
 -- No count of a walk reaches its maximum: a call counts at most as many as there are steps to come before it, and steps
 -- get fewer.
-use Rattle.std.proofs.Common.{◌≡◌, ℕ, zero, suc, ◌+◌, ◌*◌, ◌^◌, ◌<◌, ◌≤◌, Bool, true, false, List, [], ◌∷◌, ◌++◌, length}
+use Rattle.std.proofs.Common.{◌≡◌, ℕ, zero, suc, ◌+◌, ◌*◌, ◌^◌, ◌<◌, ◌≤◌, Bool, true, false, List, [], ◌∷◌, ◌++◌}
+use Rattle.std.proofs.Common.{length}
 use Rattle.std.proofs.Common.{Option, Some, None, Result, Ok, Err, refl, ap, subst, arith}
 use Rattle.std.specs.Prelude.{IfSome, slice_range}
 use Rattle.std.specs.declared.ops.Range.{Range}
@@ -19,7 +20,8 @@ use Rattle.markdown_base.specs.declared.tag.TagEnd.{TagEnd}
 use Rattle.markdown_document.specs.Above.{Above, above_at, inside_item, inside_label, no_blocks}
 use Rattle.markdown_document.specs.Counts.{ChainCounts, RisesAtMost, WorkRises, comparisons_per_delimiter, no_counts}
 use Rattle.markdown_document.specs.Counts.{risen, counts_delimiter, counts_shape, delimiters_in}
-use Rattle.markdown_document.specs.Document.{Label, Plain, Shape, Tags, backslash_break, enclosed, is_unresolved, leaf, plain, plain_tags}
+use Rattle.markdown_document.specs.Document.{Label, Plain, Shape, Tags, backslash_break, enclosed, is_unresolved, leaf}
+use Rattle.markdown_document.specs.Document.{plain, plain_tags}
 use Rattle.markdown_document.specs.Document.{shape_of, unresolved}
 use Rattle.markdown_document.specs.Labels.{weight}
 use Rattle.markdown_document.specs.Places.{label_at, trees_from}
@@ -34,7 +36,8 @@ use Rattle.markdown_resolver.proofs.PassOneLemmas.{pass_one-weight}
 use Rattle.markdown_inline.specs.CountsLaw.{AreBelowGreatest, Calls, CountsLaw, RisesPlainly}
 use Rattle.markdown_inline.specs.Elements.{Placed, Passage, Reading, nothing_read}
 use Rattle.markdown_inline.specs.NextGives.{NextGives, IsEventOf, IsPlacedOf}
-use Rattle.markdown_inline.specs.ParserLeft.{no_work, parser_counts, parser_known, parser_setting, parser_steps, parser_work}
+use Rattle.markdown_inline.specs.ParserLeft.{no_work, parser_counts, parser_known, parser_setting, parser_steps}
+use Rattle.markdown_inline.specs.ParserLeft.{parser_work}
 use Rattle.markdown_inline.specs.Reading.{chain_reading, reading, reading_opened}
 use Rattle.markdown_inline.specs.Walk.{after_chain, end_of_body, ended, left_of}
 use Rattle.markdown_inline.specs.WalkTotals.{climbed, left_total, weight_to_come}
@@ -85,7 +88,8 @@ chain-few s tags above chain known = record {
 }
 
 -- and so are those before the first event of a forest
-opened-few : (shape : Shape) (range : Range ℕ) (inside : Reading → Reading) (after whole : Reading) (known : Known) (most : ℕ)
+opened-few : (shape : Shape) (range : Range ℕ) (inside : Reading → Reading) (after whole : Reading) (known : Known)
+    (most : ℕ)
     → AreFew (inside after known).counts most → AreFew (whole known).counts most
     → AreFew (reading_opened shape range inside after whole known).counts most
 opened-few (leaf e origins) range inside after whole known most i c = few-none most
@@ -104,8 +108,10 @@ reading-few s above (node a below later) after known most h =
     let all = weight (node a below later) + most in
     opened-few a.part.shape a.part.range inside rest chain known all
     (few-more (inside rest known).counts (weight below + (weight later + most)) all (omega arith)
-    (reading-few s (inside_label a above) below rest known (weight later + most) (reading-few s above later after known most h)))
-    (few-more (chain known).counts (weight (node a below later)) all (omega arith) (chain-few s plain_tags above (node a below later) known))
+    (reading-few s (inside_label a above) below rest known (weight later + most)
+    (reading-few s above later after known most h)))
+    (few-more (chain known).counts (weight (node a below later)) all (omega arith)
+    (chain-few s plain_tags above (node a below later) known))
 
 -- an item waits where it is open
 open-same : (tables : Tables) (source : List ℕ) (b : ItemBody) → is_unresolved (shape_of tables source b) ≡ is_open b
@@ -133,12 +139,14 @@ weight-placed source tables nodes (node ix below after) =
       weight-placed source tables nodes after,
     )
 
-ended-few : (e : Option TagEnd) (range : Range ℕ) (after : Reading) (known : Known) (most : ℕ) → AreFew (after known).counts most
+ended-few : (e : Option TagEnd) (range : Range ℕ) (after : Reading) (known : Known) (most : ℕ)
+    → AreFew (after known).counts most
     → AreFew (ended e range after known).counts most
 ended-few None range after known most h = h
 ended-few (Some e) range after known most h = few-none most
 
-after-few : (s : Setting) (above : Above) (tables : Tables) (nodes : List (Node Item)) (spine : List ℕ) (after : Reading)
+after-few : (s : Setting) (above : Above) (tables : Tables) (nodes : List (Node Item)) (spine : List ℕ)
+    (after : Reading)
     (known : Known) (most : ℕ) → AreFew (after known).counts most
     → AreFew (after_chain s above tables nodes spine after known).counts
     (climbed (λ ix. 1) (weight_at nodes) (links_of nodes) spine + most)
@@ -153,7 +161,8 @@ after-few s above tables nodes (ix ∷ deeper) after known most h =
     few-more whole.counts (climbed (λ ix. 1) (weight_at nodes) (links_of nodes) deeper + (weight trees + most))
     (climbed (λ ix. 1) (weight_at nodes) (links_of nodes) (ix ∷ deeper) + most) (omega (arith, same))
     (after-few s (inside_item item above) tables nodes deeper behind known (weight trees + most)
-    (ended-few (end_of_body item.body) (range_of item) here known (weight trees + most) (reading-few s above trees after known most h)))
+    (ended-few (end_of_body item.body) (range_of item) here known (weight trees + most)
+    (reading-few s above trees after known most h)))
 
 -- the counts of a walk are few, by the weight of what is left of it
 left-few : (s : Setting) (tables : Tables) (nodes : List (Node Item)) (l : Option ℕ) (spine : List ℕ) (known : Known)
@@ -166,15 +175,18 @@ left-few s tables nodes l spine known =
     let whole : Passage = reading s plain_tags blocks trees after known in
     let behind = climbed (λ ix. 1) (weight_at nodes) (links_of nodes) spine in
     let same = weight-placed s.text tables nodes (forest_at (links_of nodes) l) in
-    few-more whole.counts (weight trees + (behind + 0)) (total (weight_at nodes) (forest_at (links_of nodes) l) + behind)
+    few-more whole.counts (weight trees + (behind + 0))
+    (total (weight_at nodes) (forest_at (links_of nodes) l) + behind)
     (omega (arith, same))
     (reading-few s blocks trees after known (behind + 0)
     (after-few s (no_blocks s.text) tables nodes spine nothing_read known 0 (few-none 0)))
 
 parser-few : {F : Type 0} (p : Parser F) (answers : Answers) → AreFew (parser_counts p answers) (parser_steps p)
 parser-few p answers =
-    few-more (parser_counts p answers) (weight_to_come p.tree.nodes p.tree.cursor p.tree.spine) (parser_steps p) (omega arith)
-    (left-few (parser_setting p) (tables_of p.resolver.lookup.tables) p.tree.nodes p.tree.cursor p.tree.spine (parser_known p answers))
+    few-more (parser_counts p answers) (weight_to_come p.tree.nodes p.tree.cursor p.tree.spine) (parser_steps p)
+    (omega arith)
+    (left-few (parser_setting p) (tables_of p.resolver.lookup.tables) p.tree.nodes p.tree.cursor p.tree.spine
+    (parser_known p answers))
 
 -- counts, with what the steps to come may still add to them, are small
 record Fits (work : Work) (left : ℕ) : Type 0 where
@@ -206,8 +218,20 @@ fits-on n old new before left f r few paid = record {
     paid,
   );
   items = omega (arith, f.items, r.items, risen-few n.items old.items, few.items, paid);
-  code_visits = omega (arith, f.code_visits, rises-few n.items old.code_visits new.code_visits r.code_visits, few.items, paid);
-  math_visits = omega (arith, f.math_visits, rises-few n.items old.math_visits new.math_visits r.math_visits, few.items, paid);
+  code_visits = omega (
+    arith,
+    f.code_visits,
+    rises-few n.items old.code_visits new.code_visits r.code_visits,
+    few.items,
+    paid,
+  );
+  math_visits = omega (
+    arith,
+    f.math_visits,
+    rises-few n.items old.math_visits new.math_visits r.math_visits,
+    few.items,
+    paid,
+  );
 }
 
 -- a step fewer is to come, or none
@@ -223,11 +247,13 @@ module _ {F I : Type 0} (step : F → Question → Option Answer → F → Type 
       → Fits (parser_work t) (parser_steps t)
   fits-next s None t h falls f =
       let g = h.gives in
-      fits-on (parser_counts s []) (parser_work s) (parser_work t) (parser_steps s) (parser_steps t) f (g.counts []) (parser-few s [])
+      fits-on (parser_counts s []) (parser_work s) (parser_work t) (parser_steps s) (parser_steps t) f (g.counts [])
+      (parser-few s [])
       (paid-over (parser_steps s) (parser_steps t) g.over.steps)
   fits-next s (Some (Ok item)) t h falls f =
       let g = h.gives in
-      fits-on (parser_counts s (g.answers ++ [])) (parser_work s) (parser_work t) (parser_steps s) (parser_steps t) f (g.counts [])
+      fits-on (parser_counts s (g.answers ++ [])) (parser_work s) (parser_work t) (parser_steps s) (parser_steps t) f
+      (g.counts [])
       (parser-few s (g.answers ++ [])) (paid-falls (parser_steps s) (parser_steps t) falls f.few)
   fits-next s (Some (Err fault)) t h falls f =
       let g = h.gives in

@@ -1,6 +1,7 @@
 -- Lists of numbers that a forest's labels have, in the order in which its trees end: what is dropped from such a list,
 -- and sums of what stands before each number.
-use Rattle.std.proofs.Common.{◌≡◌, ℕ, ◌+◌, ◌-◌, ◌<◌, ◌≤◌, Bool, true, false, List, [], ◌∷◌, ◌++◌, refl, sym, ap, ◌∙◌, append_assoc, arith}
+use Rattle.std.proofs.Common.{◌≡◌, ℕ, ◌+◌, ◌-◌, ◌<◌, ◌≤◌, Bool, true, false, List, [], ◌∷◌, ◌++◌, refl, sym, ap, ◌∙◌}
+use Rattle.std.proofs.Common.{append_assoc, arith}
 use Rattle.std.specs.Prelude.{⊤, if◌then◌else◌}
 use Rattle.markdown_base.specs.Forest.{Forest, nil, node}
 use Rattle.markdown_document.specs.Document.{Shape, Label}
@@ -44,7 +45,11 @@ within_nothing ns = record { fits = λ limit n m h f. tt; sums = omega arith }
 
 -- a number may be dropped, or kept, and so may several
 drop_one : (x : ℕ) (ns ms : List ℕ) → IsWithin ns ms → IsWithin ns (x ∷ ms)
-drop_one x ns ms w = record { fits = λ limit n m h f. w.fits limit n (m + x) (omega (arith, h)) f.1; sums = omega (arith, w.sums) }
+drop_one x ns ms w = record {
+  fits = λ limit n m h f. w.fits limit n (m + x) (omega (arith, h)) f.1;
+  sums = omega
+      (arith, w.sums);
+}
 
 keep_one : (x : ℕ) (ns ms : List ℕ) → IsWithin ns ms → IsWithin (x ∷ ns) (x ∷ ms)
 keep_one x ns ms w = record {
@@ -76,7 +81,8 @@ fits_append limit before (n ∷ ns) ms f g = (
 )
 
 -- a list fits later, where the limit is less by what precedes it
-pub fits_later : (limit later before n m : ℕ) (ns : List ℕ) → later ≤ limit - before → m ≤ before + n → Fits later n ns → Fits limit m ns
+pub fits_later : (limit later before n m : ℕ) (ns : List ℕ) → later ≤ limit - before → m ≤ before + n → Fits later n ns
+    → Fits limit m ns
 fits_later limit later before n m [] h e f = tt
 fits_later limit later before n m (x ∷ ns) h e f = (
   omega (arith, h, e, f.0),
@@ -123,7 +129,8 @@ ends_onto own (node a below after) rest = ends_onto own below (own a.part.shape 
 module _ {A : Type 0} (own : Shape → List ℕ) where
   -- where a list is within another, so it is with the numbers of a forest before both; all of a forest's may be
   -- dropped; what follows stays in order
-  pub ends_mono : (f : Forest (Label A)) (ns ms : List ℕ) → IsWithin ns ms → IsWithin (ends_onto own f ns) (ends_onto own f ms)
+  pub ends_mono : (f : Forest (Label A)) (ns ms : List ℕ) → IsWithin ns ms
+      → IsWithin (ends_onto own f ns) (ends_onto own f ms)
   ends_mono nil ns ms w = w
   ends_mono (node a below after) ns ms w =
       ends_mono below (own a.part.shape ++ ends_onto own after ns) (own a.part.shape ++ ends_onto own after ms)
@@ -142,7 +149,8 @@ module _ {A : Type 0} (own : Shape → List ℕ) where
       ∙ ends_append below (own a.part.shape ++ ends_onto own after ns) ms
 
   -- a sum over the labels, in whichever order
-  pub total_ends : (f : Forest (Label A)) (ns : List ℕ) → total (ends_onto own f ns) ≡ sum_of (λ a. total (own a.part.shape)) f + total ns
+  pub total_ends : (f : Forest (Label A)) (ns : List ℕ) → total (ends_onto own f ns)
+      ≡ sum_of (λ a. total (own a.part.shape)) f + total ns
   total_ends nil ns = omega arith
   total_ends (node a below after) ns =
       omega (

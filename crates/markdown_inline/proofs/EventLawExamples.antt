@@ -38,14 +38,16 @@ start_alone : AreBalanced ((start emphasis, from_to 0 3) ∷ []) → ⊥
 start_alone h = cc h
 
 -- `[<c>](c)` keeps the second law, and so does a link after a link; an inline link in another breaks it
-autolink_in_link : NoLinkInLink ((start (link (leads kind.Inline)), from_to 0 8) ∷ (start (link (leads kind.Autolink)), from_to 1 4) ∷ [])
+autolink_in_link : NoLinkInLink
+    ((start (link (leads kind.Inline)), from_to 0 8) ∷ (start (link (leads kind.Autolink)), from_to 1 4) ∷ [])
 autolink_in_link = (λ some. absurd (omega (arith, some)), (λ some. refl, tt))
 
 link_after_link : NoLinkInLink ((start (link (leads kind.Inline)), from_to 0 6) ∷ (end closes.Link, from_to 0 6)
     ∷ (start (link (leads kind.Inline)), from_to 6 12) ∷ [])
 link_after_link = (λ some. absurd (omega (arith, some)), (λ some. absurd (omega (arith, some)), tt))
 
-link_in_link : NoLinkInLink ((start (link (leads kind.Inline)), from_to 0 11) ∷ (start (link (leads kind.Inline)), from_to 1 7) ∷ []) → ⊥
+link_in_link : NoLinkInLink
+    ((start (link (leads kind.Inline)), from_to 0 11) ∷ (start (link (leads kind.Inline)), from_to 1 7) ∷ []) → ⊥
 link_in_link h = cc (h.1.0 (omega arith))
 
 -- of two references to `c` one byte counts, and of three two, since the last does not; inline links do not count
@@ -54,11 +56,13 @@ two_references : ExpandsBelow 2 (round (link (leads kind.Shortcut)) 0 3 (text (c
 two_references = omega arith
 
 three_references : ExpandsBelow 2 (round (link (leads kind.Shortcut)) 0 3 (text (codes "b"), from_to 1 2)
-    ++ round (image (leads kind.Collapsed)) 4 10 (text (codes "b"), from_to 6 7) ++ round (link (leads kind.ReferenceUnknown)) 11 17
+    ++ round (image (leads kind.Collapsed)) 4 10 (text (codes "b"), from_to 6 7) ++ round
+    (link (leads kind.ReferenceUnknown)) 11 17
     (text (codes "b"), from_to 12 13)) → ⊥
 three_references h = omega (arith, h)
 
-inline_links : ExpandsBelow 1 (round (link (leads kind.Inline)) 0 6 (text (codes "b"), from_to 1 2) ++ round (link (leads kind.Inline)) 6 12
+inline_links : ExpandsBelow 1
+    (round (link (leads kind.Inline)) 0 6 (text (codes "b"), from_to 1 2) ++ round (link (leads kind.Inline)) 6 12
     (text (codes "b"), from_to 7 8))
 inline_links = omega arith
 

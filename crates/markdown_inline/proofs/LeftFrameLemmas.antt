@@ -19,20 +19,26 @@ use Rattle.markdown_document.proofs.TablesLemmas.{same-refl}
 use Rattle.markdown_document.specs.Tables.{Tables}
 
 -- the same of what is above the chain at hand
-pub record AboveFramed (s : Setting) (tables tables' : Tables) (nodes nodes' : List (Node Item)) (spine : List ℕ) : Type 0 where
+pub record AboveFramed (s : Setting) (tables tables' : Tables) (nodes nodes' : List (Node Item)) (spine : List ℕ) : Type
+    0 where
   pub reach : AllReach (links_of nodes') (IsPlaced s.text tables' nodes') spine
   pub kept : AboveKept s.text tables' nodes' spine
   pub lies : SpineLies s.text nodes' spine
-  pub times : (n : ℕ) → climbed (same n) (same n) (links_of nodes') spine ≡ climbed (same n) (same n) (links_of nodes) spine
+  pub times : (n : ℕ) → climbed (same n) (same n) (links_of nodes') spine ≡ climbed (same n) (same n) (links_of nodes)
+      spine
   pub naming : (n : Named) → climbed (λ ix. 0) (naming nodes' n) (links_of nodes') spine
       ≡ climbed (λ ix. 0) (naming nodes n) (links_of nodes) spine
-  pub steps : climbed (λ ix. 1) (weight_at nodes') (links_of nodes') spine ≡ climbed (λ ix. 1) (weight_at nodes) (links_of nodes) spine
-  pub around : (above : Above) (after : Reading) → after_chain s above tables' nodes' spine after ≡ after_chain s above tables nodes spine after
+  pub steps : climbed (λ ix. 1) (weight_at nodes') (links_of nodes') spine
+      ≡ climbed (λ ix. 1) (weight_at nodes) (links_of nodes) spine
+  pub around : (above : Above) (after : Reading) → after_chain s above tables' nodes' spine after
+      ≡ after_chain s above tables nodes spine after
   pub blocks : (above : Above) → inside_all nodes' spine above ≡ inside_all nodes spine above
 
-pub above_framed : (s : Setting) (tables tables' : Tables) (nodes nodes' : List (Node Item)) (spine : List ℕ) → length nodes ≤ length nodes'
+pub above_framed : (s : Setting) (tables tables' : Tables) (nodes nodes' : List (Node Item)) (spine : List ℕ)
+    → length nodes ≤ length nodes'
     → IsNoShorter tables tables'
-    → AllReach (links_of nodes) (IsPlaced s.text tables nodes) spine → AboveKept s.text tables nodes spine → SpineLies s.text nodes spine
+    → AllReach (links_of nodes) (IsPlaced s.text tables nodes) spine → AboveKept s.text tables nodes spine
+    → SpineLies s.text nodes spine
     → ((n : ℕ) → 0 < climbed (same n) (same n) (links_of nodes) spine → IsSameAt nodes nodes' n)
     → ((n : Named) → 0 < climbed (λ ix. 0) (naming nodes n) (links_of nodes) spine → IsSameEntry tables tables' n)
     → AboveFramed s tables tables' nodes nodes' spine
@@ -66,21 +72,27 @@ above_framed s tables tables' nodes nodes' (ix ∷ deeper) z y r k lies h t =
     }
 
 -- what is left of a walk, where all that it leads to stays
-pub record LeftFramed (s : Setting) (tables tables' : Tables) (nodes nodes' : List (Node Item)) (l : Option ℕ) (spine : List ℕ) : Type 0
+pub record LeftFramed (s : Setting) (tables tables' : Tables) (nodes nodes' : List (Node Item)) (l : Option ℕ)
+    (spine : List ℕ) : Type 0
   where
     pub stands : Stands s.text tables' nodes' l spine
     pub left : left_of s tables' nodes' l spine ≡ left_of s tables nodes l spine
 
-pub left_framed : (s : Setting) (tables tables' : Tables) (nodes nodes' : List (Node Item)) (l : Option ℕ) (spine : List ℕ)
+pub left_framed : (s : Setting) (tables tables' : Tables) (nodes nodes' : List (Node Item)) (l : Option ℕ)
+    (spine : List ℕ)
     → length nodes ≤ length nodes' → IsNoShorter tables tables'
-    → Stands s.text tables nodes l spine → ((n : ℕ) → 0 < times_left (links_of nodes) l spine n → IsSameAt nodes nodes' n)
-    → ((n : Named) → 0 < named_left nodes l spine n → IsSameEntry tables tables' n) → LeftFramed s tables tables' nodes nodes' l spine
+    → Stands s.text tables nodes l spine
+    → ((n : ℕ) → 0 < times_left (links_of nodes) l spine n → IsSameAt nodes nodes' n)
+    → ((n : Named) → 0 < named_left nodes l spine n → IsSameEntry tables tables' n)
+    → LeftFramed s tables tables' nodes nodes' l spine
 unfolding left_total left_of
 left_framed s tables tables' nodes nodes' l spine z y w h t =
-    let stay = stay_throughout tables tables' nodes nodes' (forest_at (links_of nodes) l) y.headings (λ n x. h n (omega (arith, x)))
+    let stay = stay_throughout tables tables' nodes nodes' (forest_at (links_of nodes) l) y.headings
+    (λ n x. h n (omega (arith, x)))
     (λ n x. t n (omega (arith, x))) in
     let here = framed s.text tables tables' nodes nodes' l z y w.walk.here stay in
-    let above = above_framed s tables tables' nodes nodes' spine z y w.walk.above w.above_kept w.spine_lies (λ n x. h n (omega (arith, x)))
+    let above = above_framed s tables tables' nodes nodes' spine z y w.walk.above w.above_kept w.spine_lies
+    (λ n x. h n (omega (arith, x)))
     (λ n x. t n (omega (arith, x))) in
     record {
       stands = record {

@@ -1,17 +1,20 @@
 -- Resolving a chain whose only links are autolinks puts no link into a link: pass one by the law of brackets, and
 -- pairing since it makes no link and moves none into another.
-use Rattle.std.proofs.Common.{◌≡◌, ℕ, Bool, true, false, List, [], ◌∷◌, ◌++◌, Some, None, refl, sym, ◌∙◌, append_assoc, arith}
+use Rattle.std.proofs.Common.{◌≡◌, ℕ, Bool, true, false, List, [], ◌∷◌, ◌++◌, Some, None, refl, sym, ◌∙◌, append_assoc}
+use Rattle.std.proofs.Common.{arith}
 use Rattle.std.specs.Prelude.{⊤, slice_range}
 use Rattle.markdown_base.specs.Event.{TagView, link}
 use Rattle.markdown_base.specs.Forest.{Forest, nil, node}
 use Rattle.markdown_document.specs.Above.{Above}
-use Rattle.markdown_document.specs.Document.{Tags, Shape, leaf, enclosed, plain, backslash_break, unresolved, Label, shaped, is_unresolved}
+use Rattle.markdown_document.specs.Document.{Tags, Shape, leaf, enclosed, plain, backslash_break, unresolved, Label}
+use Rattle.markdown_document.specs.Document.{shaped, is_unresolved}
 use Rattle.markdown_document.specs.Document.{text_over}
 use Rattle.markdown_document.specs.ChainRest.{open_body}
 use Rattle.markdown_document.specs.Setting.{Setting, Known}
 use Rattle.markdown_document.specs.Waiting.{text_if, is_quiet}
 use Rattle.markdown_spans.specs.AfterLess.{Markup, autolink, html_markup}
-use Rattle.markdown_spans.specs.Finds.{Find, SpanText, code_span, code_trees, find, is_escaped, markup, markup_trees, math_span, nothing}
+use Rattle.markdown_spans.specs.Finds.{Find, SpanText, code_span, code_trees, find, is_escaped, markup, markup_trees}
+use Rattle.markdown_spans.specs.Finds.{math_span, nothing}
 use Rattle.markdown_spans.specs.Finds.{read_tree, read_unless, trees_for}
 use Rattle.markdown_delims.specs.Layers.{enclosed_if, layer_of_one, layer_of_two, marks_of}
 use Rattle.markdown_delims.specs.Pairing.{paired}
@@ -24,7 +27,8 @@ use Rattle.markdown_delims.proofs.LayerLawLemmas.{turn-made}
 use Rattle.markdown_delims.proofs.SumLemmas.{sum_of}
 use Rattle.markdown_brackets.specs.BracketDecision.{Progress}
 use Rattle.markdown_brackets.specs.LeftList.{Entry, done, waits, all_done}
-use Rattle.markdown_brackets.specs.NoLinkInLink.{AreFreeTrees, ClosesOverNone, HasMoreTrees, HasNoLinkInLink, HasNoneBelow, IsFreeOfLinks}
+use Rattle.markdown_brackets.specs.NoLinkInLink.{AreFreeTrees, ClosesOverNone, HasMoreTrees, HasNoLinkInLink}
+use Rattle.markdown_brackets.specs.NoLinkInLink.{HasNoneBelow, IsFreeOfLinks}
 use Rattle.markdown_brackets.specs.NoLinkInLink.{IsNoLink, OpensNoLink, is_autolink}
 use Rattle.markdown_brackets.proofs.NoLinkLemmas.{no_link_in_link}
 use Rattle.markdown_resolver.specs.PassOne.{around, pass_one, read_other}
@@ -97,15 +101,21 @@ module _ {A : Type 0} where
 
   free_from_count : (f : Forest (Label A)) → links f ≡ 0 → IsFreeOfLinks f
   free_from_count nil e = tt
-  free_from_count (node a below after) e =
-      (free_shape a.part.shape (omega (arith, e)), free_from_count below (omega (arith, e)), free_from_count after (omega (arith, e)))
+  free_from_count (node a below after) e = (
+    free_shape a.part.shape (omega (arith, e)),
+    free_from_count below (omega (arith, e)),
+    free_from_count after
+        (omega (arith, e)),
+  )
 
   count_of_free : (f : Forest (Label A)) → IsFreeOfLinks f → links f ≡ 0
   count_of_free nil h = refl
-  count_of_free (node a below after) h = omega (arith, none_shape a.part.shape h.0, count_of_free below h.1, count_of_free after h.2)
+  count_of_free (node a below after) h = omega
+      (arith, none_shape a.part.shape h.0, count_of_free below h.1, count_of_free after h.2)
 
   -- so pairing the chains of children leaves it free
-  free_below : (s : Setting) (f : Forest (Label A)) → IsFreeOfLinks f → IsFreeOfLinks (paired_if_open s (all_paired s f))
+  free_below : (s : Setting) (f : Forest (Label A)) → IsFreeOfLinks f
+      → IsFreeOfLinks (paired_if_open s (all_paired s f))
   free_below s f h =
       let paired_below : Forest (Label A) = paired_if_open s (all_paired s f) in
       let within = below_within links_at links_numbered s f [] in
@@ -127,7 +137,8 @@ module _ {A : Type 0} where
   from_each (node a below after) h = (h.0.0, h.0.1, from_each after h.1)
 
   -- a layer is no link
-  enclosed_apart : (b : Bool) (tag : TagView) (other : Shape) (below : Forest (Label A)) → IsNoBracket tag → HasNoneBelow other below
+  enclosed_apart : (b : Bool) (tag : TagView) (other : Shape) (below : Forest (Label A)) → IsNoBracket tag
+      → HasNoneBelow other below
       → HasNoneBelow (enclosed_if b tag other) below
   enclosed_apart true tag other below h k = no_link tag h
     where
@@ -136,16 +147,19 @@ module _ {A : Type 0} where
       no_link other h = tt
   enclosed_apart false tag other below h k = k
 
-  two_apart : (m : Marks) (d : Delimiter) (source : List ℕ) (below : Forest (Label A)) → HasNoneBelow (layer_of_two m d source) below
+  two_apart : (m : Marks) (d : Delimiter) (source : List ℕ) (below : Forest (Label A))
+      → HasNoneBelow (layer_of_two m d source) below
   two_apart m Star source below = tt
   two_apart m Underscore source below = tt
   two_apart m Tilde source below = enclosed_apart m.strikethrough _ (text_over source) below tt tt
   two_apart m Caret source below = enclosed_apart m.superscript _ (text_over source) below tt tt
 
-  one_apart : (m : Marks) (d : Delimiter) (source : List ℕ) (below : Forest (Label A)) → HasNoneBelow (layer_of_one m d source) below
+  one_apart : (m : Marks) (d : Delimiter) (source : List ℕ) (below : Forest (Label A))
+      → HasNoneBelow (layer_of_one m d source) below
   one_apart m Star source below = tt
   one_apart m Underscore source below = tt
-  one_apart m Tilde source below = enclosed_apart m.subscript _ _ below tt (enclosed_apart m.strikethrough _ (text_over source) below tt tt)
+  one_apart m Tilde source below = enclosed_apart m.subscript _ _ below tt
+      (enclosed_apart m.strikethrough _ (text_over source) below tt tt)
   one_apart m Caret source below = enclosed_apart m.superscript _ (text_over source) below tt tt
 
   makes_apart : (s : Setting) → MakesTrees s (λ (a : Label A). ⊤) IsApart
@@ -182,11 +196,13 @@ module _ {A : Type 0} where
   -- so pairing puts no link into a link
   paired_apart : (s : Setting) (chain : Forest (Label A)) → HasNoLinkInLink chain → HasNoLinkInLink (paired s chain)
   unfolding paired with_quotes
-  paired_apart s chain h = from_each (paired s chain) (runs-keep (λ (a : Label A). ⊤) IsApart s (makes_apart s) (with_quotes chain)
+  paired_apart s chain h = from_each (paired s chain)
+      (runs-keep (λ (a : Label A). ⊤) IsApart s (makes_apart s) (with_quotes chain)
       (quoted_apart s false false chain h))
 
   -- chains of children
-  shape_apart : (shape : Shape) (below later : Forest (Label A)) → (IsFreeOfLinks below → IsFreeOfLinks later) → HasNoneBelow shape below
+  shape_apart : (shape : Shape) (below later : Forest (Label A)) → (IsFreeOfLinks below → IsFreeOfLinks later)
+      → HasNoneBelow shape below
       → HasNoneBelow shape later
   shape_apart (enclosed (link v)) below later k h = k h
   shape_apart (enclosed other) below later k h = tt
@@ -195,14 +211,16 @@ module _ {A : Type 0} where
   shape_apart backslash_break below later k h = tt
   shape_apart (unresolved b) below later k h = tt
 
-  from_apart : (s : Setting) (is_open : Bool) (a : Label A) (below after later : Forest (Label A)) → HasNoLinkInLink (node a below after)
+  from_apart : (s : Setting) (is_open : Bool) (a : Label A) (below after later : Forest (Label A))
+      → HasNoLinkInLink (node a below after)
       → HasNoLinkInLink later → HasNoLinkInLink (paired_from s is_open a below after later)
   from_apart s true a below after later h k = paired_apart s (node a below after) h
   from_apart s false a below after later h k = (h.0, h.1, k)
 
   if_open_apart : (s : Setting) (f : Forest (Label A)) → HasNoLinkInLink f → HasNoLinkInLink (paired_if_open s f)
   if_open_apart s nil h = tt
-  if_open_apart s (node a below after) h = from_apart s (is_unresolved a.part.shape) a below after (paired_if_open s after) h
+  if_open_apart s (node a below after) h = from_apart s (is_unresolved a.part.shape) a below after
+      (paired_if_open s after) h
       (if_open_apart s after h.2)
 
   -- nor does pairing the chains of children
@@ -232,20 +250,23 @@ module _ {A : Type 0} where
   free_find s new a (markup m) = free_markup s new a m
   free_find s new a nothing = (tt, tt, tt)
 
-  free_unless : (quiet : Bool) (s : Setting) (tags : Tags A) (above : Above) (n : ℕ) (a : Label A) (below rest : Forest (Label A))
+  free_unless : (quiet : Bool) (s : Setting) (tags : Tags A) (above : Above) (n : ℕ) (a : Label A)
+      (below rest : Forest (Label A))
       → IsNoLink a.part.shape → IsFreeOfLinks below
       → IsFreeOfLinks (read_unless quiet s tags above n a below rest).trees
   free_unless true s tags above n a below rest h i = (h, i, tt)
   free_unless false s tags above n a below rest h i = free_find s (tags.fresh n) a (find s above a rest)
 
   -- put onto a left list they stand at its right
-  free_more : (a : Label A) (below : Forest (Label A)) (more : List (Entry A)) → AreFreeTrees more → IsNoLink a.part.shape
+  free_more : (a : Label A) (below : Forest (Label A)) (more : List (Entry A)) → AreFreeTrees more
+      → IsNoLink a.part.shape
       → IsFreeOfLinks below → AreFreeTrees (more ++ done a below ∷ [])
   free_more a below [] f h i = (h, i, tt)
   free_more a below (done b inner ∷ more) f h i = (f.0, f.1, free_more a below more f.2 h i)
   free_more a below (waits m b ∷ more) f h i = absurd f
 
-  put_more : (trees : Forest (Label A)) (left : List (Entry A)) → IsFreeOfLinks trees → HasMoreTrees left (all_done trees left)
+  put_more : (trees : Forest (Label A)) (left : List (Entry A)) → IsFreeOfLinks trees
+      → HasMoreTrees left (all_done trees left)
   put_more nil left h = record { more = []; free = tt; grown = refl }
   put_more (node a below after) left h =
       let r = put_more after (done a below ∷ left) h.2 in
@@ -256,22 +277,27 @@ module _ {A : Type 0} where
             ∙ sym (append_assoc r.more (done a below ∷ []) left);
       }
 
-  other_free : (s : Setting) (tags : Tags A) (above : Above) (a : Label A) (below rest : Forest (Label A)) (p : Progress A)
+  other_free : (s : Setting) (tags : Tags A) (above : Above) (a : Label A) (below rest : Forest (Label A))
+      (p : Progress A)
       → IsNoLink a.part.shape → IsFreeOfLinks below
       → HasMoreTrees p.left (read_other s tags above a below rest p).left
   unfolding read_tree
   other_free s tags above a below rest p h i =
-      put_more (read_tree s tags above p.made a below rest).trees p.left (free_unless (is_quiet a.part.shape) s tags above p.made a below
+      put_more (read_tree s tags above p.made a below rest).trees p.left
+      (free_unless (is_quiet a.part.shape) s tags above p.made a below
       rest h i)
 
   -- pass one puts no link into a link either, by the law of brackets; nor does the whole
-  pass_one_apart : (s : Setting) (tags : Tags A) (above : Above) (chain : Forest (Label A)) (known : Known) → IsFreeOfLinks chain
+  pass_one_apart : (s : Setting) (tags : Tags A) (above : Above) (chain : Forest (Label A)) (known : Known)
+      → IsFreeOfLinks chain
       → HasNoLinkInLink (pass_one s tags above chain known).forest
   unfolding pass_one
-  pass_one_apart s tags above chain known h = no_link_in_link (around s above) (read_other s tags above) (other_free s tags above) chain
+  pass_one_apart s tags above chain known h = no_link_in_link (around s above) (read_other s tags above)
+      (other_free s tags above) chain
       known h
 
-  pub resolved_apart : (s : Setting) (tags : Tags A) (above : Above) (chain : Forest (Label A)) (known : Known) → IsFreeOfLinks chain
+  pub resolved_apart : (s : Setting) (tags : Tags A) (above : Above) (chain : Forest (Label A)) (known : Known)
+      → IsFreeOfLinks chain
       → HasNoLinkInLink (all_paired s (resolved s tags above chain known).forest)
   unfolding resolved
   resolved_apart s tags above chain known h =

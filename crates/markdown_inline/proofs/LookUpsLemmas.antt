@@ -1,6 +1,7 @@
 -- What a look-up finds takes its bytes off the limit, which was not 0 before; nothing else in a chain changes the
 -- limit.
-use Rattle.std.proofs.Common.{◌≡◌, ℕ, ◌-◌, ◌≤◌, Bool, true, false, List, [], ◌∷◌, map, Option, Some, None, refl, sym, subst}
+use Rattle.std.proofs.Common.{◌≡◌, ℕ, ◌-◌, ◌≤◌, Bool, true, false, List, [], ◌∷◌, map, Option, Some, None, refl, sym}
+use Rattle.std.proofs.Common.{subst}
 use Rattle.std.proofs.Common.{arith, nat_le}
 use Rattle.std.specs.Option.{option_map}
 use Rattle.std.specs.Prelude.{MatchOption, if◌then◌else◌, unwrap_or}
@@ -13,8 +14,10 @@ use Rattle.markdown_document.specs.Above.{Above}
 use Rattle.markdown_document.specs.ChainRest.{begun_at, end_of, open_body}
 use Rattle.markdown_document.specs.Document.{Tags, Label}
 use Rattle.markdown_document.specs.Setting.{Setting, Known}
-use Rattle.markdown_brackets.specs.BracketDecision.{Around, Becomes, Closing, Decision, Written, LinkReference, Progress, a_footnote, a_link}
-use Rattle.markdown_brackets.specs.BracketDecision.{a_text, a_wikilink, carried_out, decided, footnote_label, found, inline_link, left_for_one}
+use Rattle.markdown_brackets.specs.BracketDecision.{Around, Becomes, Closing, Decision, Written, LinkReference}
+use Rattle.markdown_brackets.specs.BracketDecision.{Progress, a_footnote, a_link}
+use Rattle.markdown_brackets.specs.BracketDecision.{a_text, a_wikilink, carried_out, decided, footnote_label, found}
+use Rattle.markdown_brackets.specs.BracketDecision.{inline_link, left_for_one}
 use Rattle.markdown_brackets.specs.BracketDecision.{link_reference, question_at, second_end, wikilink}
 use Rattle.markdown_brackets.specs.ClosingBracket.{closed, put}
 use Rattle.markdown_brackets.specs.LeftList.{Split, bracket_taken}
@@ -65,12 +68,14 @@ module _ {A : Type 0} where
     put_known (a_footnote o name) p = refl
     put_known (a_wikilink o found end) p = refl
 
-    closed_spent : (p : Progress A) → Spent p.known.limit (sizes (found_by (decided w c p).becomes)) (closed w c p).known.limit
+    closed_spent : (p : Progress A) → Spent p.known.limit (sizes (found_by (decided w c p).becomes))
+        (closed w c p).known.limit
     unfolding closed decided
     closed_spent p =
         subst (λ (l : ℕ). Spent p.known.limit (sizes (found_by (decided w c p).becomes)) l)
         (sym (put_known (decided w c p).becomes (decided w c p).progress))
-        (carried_spent (found w c (second_end w c.rest) p.left) (record p { left = bracket_taken (left_for_one (second_end w c.rest) p.left) }))
+        (carried_spent (found w c (second_end w c.rest) p.left)
+        (record p { left = bracket_taken (left_for_one (second_end w c.rest) p.left) }))
 
   module _ (s : Setting) (tags : Tags A) (above : Above) where
     as_spent : (b : ItemBody) (a : Label A) (below rest : Forest (Label A)) (p : Progress A)
@@ -88,12 +93,14 @@ module _ {A : Type 0} where
     past_spent (Some n) a below rest p = by (nat_le (end_of a) n)
       where
         by : (b : Bool) → Spent p.known.limit
-            (sizes (if b then [] else found_as (around s above) (open_body (begun_at n a).part.shape) (begun_at n a) rest
+            (sizes (if b then [] else found_as (around s above) (open_body (begun_at n a).part.shape) (begun_at n a)
+            rest
             (record p { goes_on = None })))
             (if b then p else read (around s above) (read_other s tags above) (begun_at n a) below rest
             (record p { goes_on = None })).known.limit
         by true = spent_none p.known.limit
-        by false = as_spent (open_body (begun_at n a).part.shape) (begun_at n a) below rest (record p { goes_on = None })
+        by false = as_spent (open_body (begun_at n a).part.shape) (begun_at n a) below rest
+            (record p { goes_on = None })
 
     chain_spent : (chain : Forest (Label A)) (p : Progress A)
         → Spent p.known.limit (sizes (look_ups_from s tags above chain p)) (read_on s tags above chain p).known.limit
@@ -110,6 +117,7 @@ module _ {A : Type 0} where
 
     -- all of a chain
     pub resolved_spent : (chain : Forest (Label A)) (known : Known)
-        → Spent known.limit (map size_of (resolved_chain s tags above chain known).found) (resolved_chain s tags above chain known).known.limit
+        → Spent known.limit (map size_of (resolved_chain s tags above chain known).found)
+        (resolved_chain s tags above chain known).known.limit
     unfolding resolved pass_one
     resolved_spent chain known = chain_spent chain (begun known)

@@ -12,7 +12,8 @@ all_spell : (k : Links) (p : ℕ → Type 0) (spine : List ℕ) → AllReach k p
 all_spell k p [] r = tt
 all_spell k p (ix ∷ deeper) r = (r.1.spelled, all_spell k p deeper r.2)
 
-pub one_forest : (source : List ℕ) (tables : Tables) (tree : Arena Item) → TreeStands source tables tree → IsOneForest tree
+pub one_forest : (source : List ℕ) (tables : Tables) (tree : Arena Item) → TreeStands source tables tree
+    → IsOneForest tree
 one_forest source tables tree w = record {
   here = w.walk.here.spelled;
   behind = all_spell (links_of tree.nodes) _ tree.spine w.walk.above;

@@ -28,7 +28,8 @@ use Rattle.markdown_inline.proofs.RunLemmas.{questions_of-questions}
 use Rattle.markdown_resolver.specs.Kept.{EachChain}
 use Rattle.markdown_resolver.specs.PassOne.{Outcome}
 use Rattle.markdown_resolver.specs.Resolved.{all_paired, resolved}
-use Rattle.markdown_resolver.proofs.ChainQuestionsLemmas.{document_in_line, resolved_asks, resolved_ends, resolved_stays_zero}
+use Rattle.markdown_resolver.proofs.ChainQuestionsLemmas.{document_in_line, resolved_asks, resolved_ends}
+use Rattle.markdown_resolver.proofs.ChainQuestionsLemmas.{resolved_stays_zero}
 
 -- a reading asks at most this many questions, and none at a limit of 0
 record Few (most : ℕ) (r : Reading) : Type 0 where
@@ -45,16 +46,19 @@ module _ {A : Type 0} where
       → (shape : Shape) → Few most (reading_opened shape a.part.range inside after after)
   settled_tree a most inside after within h (leaf e origins) = record { once = h.once; silent = h.silent }
   settled_tree a most inside after within h (enclosed tag) =
-      let inner = within (then_reads (end (tag_end tag), a.part.range, []) after) (record { once = h.once; silent = h.silent }) in
+      let inner = within (then_reads (end (tag_end tag), a.part.range, []) after)
+      (record { once = h.once; silent = h.silent }) in
       record { once = inner.once; silent = inner.silent }
   settled_tree a most inside after within h plain = within after h
   settled_tree a most inside after within h backslash_break = record { once = h.once; silent = h.silent }
   settled_tree a most inside after within h (unresolved b) = h
 
-  settled_few : (f : Forest (Label A)) (most : ℕ) (after : Reading) → Few most after → Few most (settled_reading f after)
+  settled_few : (f : Forest (Label A)) (most : ℕ) (after : Reading) → Few most after
+      → Few most (settled_reading f after)
   settled_few nil most after h = h
   settled_few (node a below later) most after h =
-      settled_tree a most (λ inner. settled_reading below inner) (settled_reading later after) (λ inner k. settled_few below most inner k)
+      settled_tree a most (λ inner. settled_reading below inner) (settled_reading later after)
+      (λ inner k. settled_few below most inner k)
       (settled_few later most after h) a.part.shape
 
 -- 1 for a `]`
@@ -78,7 +82,8 @@ opened_few : (a : Plain) (all few : ℕ) (inside : Reading → Reading) (after w
 opened_few a all few inside after whole within h l rest (leaf e origins) =
     let k = more_few few all after l h in record { once = k.once; silent = k.silent }
 opened_few a all few inside after whole within h l rest (enclosed tag) =
-    let inner = within (then_reads (end (tag_end tag), a.part.range, []) after) (record { once = h.once; silent = h.silent }) in
+    let inner = within (then_reads (end (tag_end tag), a.part.range, []) after)
+    (record { once = h.once; silent = h.silent }) in
     record { once = inner.once; silent = inner.silent }
 opened_few a all few inside after whole within h l rest plain = within after h
 opened_few a all few inside after whole within h l rest backslash_break =
@@ -111,7 +116,8 @@ module _ (s : Setting) where
         let here = (resolved_asks s plain_tags above chain known).silent z in
         let zero = resolved_stays_zero s plain_tags above chain known z in
         let later = (settled_few (all_paired s r.forest) most after h).silent r.known zero in
-        questions_of-questions r.questions (settled_reading (all_paired s r.forest) after r.known).elements ∙ rw (here, later) refl;
+        questions_of-questions r.questions (settled_reading (all_paired s r.forest) after r.known).elements
+        ∙ rw (here, later) refl;
   }
 
   reading_few : (f : Forest Plain) (above : Above) (most : ℕ) (after : Reading) → Few most after
@@ -122,13 +128,17 @@ module _ (s : Setting) where
       let all : ℕ = closers_among (preorder (node a below later)) + most in
       let few : ℕ = closers_among (preorder later) + most in
       let inside : Reading → Reading = λ inner. reading s plain_tags (inside_label a above) below inner in
-      let within = λ (inner : Reading) (k : Few few inner). more_few (closers_among (preorder below) + few) all (inside inner)
+      let within = λ (inner : Reading) (k : Few few inner). more_few (closers_among (preorder below) + few) all
+      (inside inner)
       (omega (arith, sum)) (reading_few below (inside_label a above) few inner k) in
-      opened_few a all few inside (reading s plain_tags above later after) (chain_reading s plain_tags above (node a below later) after)
-      within (reading_few later above most after h) (omega (arith, sum)) (chain_few above (node a below later) most after h) a.part.shape
+      opened_few a all few inside (reading s plain_tags above later after)
+      (chain_reading s plain_tags above (node a below later) after)
+      within (reading_few later above most after h) (omega (arith, sum))
+      (chain_few above (node a below later) most after h) a.part.shape
 
 -- an item is a `]` where its label is
-closer_seen : (tables : Tables) (source : List ℕ) (b : ItemBody) → is_closer (open_body (shape_of tables source b)) ≡ is_closer b
+closer_seen : (tables : Tables) (source : List ℕ) (b : ItemBody) → is_closer (open_body (shape_of tables source b))
+    ≡ is_closer b
 closer_seen tables source (body.HardBreak true) = refl
 closer_seen tables source (body.HardBreak false) = refl
 closer_seen tables source other = refl
@@ -141,7 +151,8 @@ module _ (source : List ℕ) (tables : Tables) where
       → closers_among (preorder (relabelled seen f)) ≡ count_by (λ (n : Numbered). is_closer n.item.body) (preorder f)
   closers_seen nil = refl
   closers_seen (node a below after) =
-      let here = ap {B = ℕ} (λ (b : Bool). cond b 1 0) (closer_seen tables (slice_range source a.item.start a.item.end) a.item.body) in
+      let here = ap {B = ℕ} (λ (b : Bool). cond b 1 0)
+      (closer_seen tables (slice_range source a.item.start a.item.end) a.item.body) in
       let one : Numbered → ℕ = λ n. cond (is_closer n.item.body) 1 0 in
       let labels = closers_sum (seen a) (relabelled seen below) (relabelled seen after) in
       let items = sum_by-cons one a (preorder below ++ preorder after) in
@@ -156,10 +167,14 @@ document_asks source nodes tables rules known =
     let s = setting_of source rules in
     let none : Few 0 nothing_read = record { once = λ known. omega arith; silent = λ known z. refl } in
     let few = reading_few s (document source tables nodes) (no_blocks source) 0 nothing_read none in
-    record { once = omega (arith, few.once known, closers_seen source tables (tree_of nodes)); silent = few.silent known }
+    record {
+      once = omega (arith, few.once known, closers_seen source tables (tree_of nodes));
+      silent = few.silent known;
+    }
 
 -- what holds of each chain, where one thing follows from another
-pub each_also : {A : Type 0} (P Q : Forest (Label A) → Type 0) → ((chain : Forest (Label A)) → P chain → Q chain) → (f : Forest (Label A))
+pub each_also : {A : Type 0} (P Q : Forest (Label A) → Type 0) → ((chain : Forest (Label A)) → P chain → Q chain)
+    → (f : Forest (Label A))
     → EachChain P f → EachChain Q f
 each_also P Q also nil h = tt
 each_also P Q also (node a below after) h =
@@ -170,5 +185,6 @@ pub document_ends : (source : List ℕ) (nodes : List (Node Item)) (parts : Bloc
     → EachChain (AsksApart (setting_of source rules)) (document source tables nodes)
 document_ends source nodes parts tables rules formed =
     let s = setting_of source rules in
-    each_also (StandInLine source) (AsksApart s) (λ chain stand above known. resolved_ends s plain_tags above chain known stand)
+    each_also (StandInLine source) (AsksApart s)
+    (λ chain stand above known. resolved_ends s plain_tags above chain known stand)
     (document source tables nodes) (document_in_line source nodes parts tables formed)

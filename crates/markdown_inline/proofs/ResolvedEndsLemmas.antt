@@ -1,7 +1,8 @@
 -- The numbers of the shapes of a resolved chain, in the order in which its trees end, where those of the chain itself
 -- have none: then only what look-ups made has some, and a property of them and of the limit that each look-up keeps is
 -- kept.
-use Rattle.std.proofs.Common.{◌≡◌, ℕ, ◌+◌, ◌-◌, ◌≤◌, Bool, true, false, List, [], ◌∷◌, Option, Some, None, refl, sym, subst, ap, ◌∙◌}
+use Rattle.std.proofs.Common.{◌≡◌, ℕ, ◌+◌, ◌-◌, ◌≤◌, Bool, true, false, List, [], ◌∷◌, Option, Some, None, refl, sym}
+use Rattle.std.proofs.Common.{subst, ap, ◌∙◌}
 use Rattle.std.proofs.Common.{append-nil, append_assoc, ◌++◌, arith, nat_le}
 use Rattle.std.proofs.lemmas.Bool.{cond_both}
 use Rattle.std.proofs.lemmas.Bool.Decides.{nat_tests}
@@ -21,15 +22,20 @@ use Rattle.markdown_document.specs.Document.{made, sliced, Tags, Shape, leaf, en
 use Rattle.markdown_document.specs.Setting.{Setting, Known}
 use Rattle.markdown_document.specs.Waiting.{is_quiet}
 use Rattle.markdown_spans.specs.AfterLess.{Markup, autolink, html_markup}
-use Rattle.markdown_spans.specs.Finds.{Find, SpanText, address, code_span, code_trees, find, is_escaped, markup, markup_trees, math_span}
+use Rattle.markdown_spans.specs.Finds.{Find, SpanText, address, code_span, code_trees, find, is_escaped, markup}
+use Rattle.markdown_spans.specs.Finds.{markup_trees, math_span}
 use Rattle.markdown_spans.specs.Finds.{nothing, read_tree, read_unless, trees_for}
 use Rattle.markdown_delims.specs.Pairing.{paired}
-use Rattle.markdown_brackets.specs.BracketDecision.{Around, Closing, Written, LinkReference, Progress, Wikilink, a_footnote, a_link, a_text}
-use Rattle.markdown_brackets.specs.BracketDecision.{a_wikilink, carried_out, decided, found, inline_target, left_for_one, looked_up, past_second}
+use Rattle.markdown_brackets.specs.BracketDecision.{Around, Closing, Written, LinkReference, Progress, Wikilink}
+use Rattle.markdown_brackets.specs.BracketDecision.{a_footnote, a_link, a_text}
+use Rattle.markdown_brackets.specs.BracketDecision.{a_wikilink, carried_out, decided, found, inline_target}
+use Rattle.markdown_brackets.specs.BracketDecision.{left_for_one, looked_up, past_second}
 use Rattle.markdown_brackets.specs.BracketDecision.{question_at, second_end, wikilink_in}
 use Rattle.markdown_brackets.specs.ClosingBracket.{closed, footnote_onto, put, put_decided, wikilink_target}
-use Rattle.markdown_brackets.specs.LeftList.{Entry, Mark, Split, before_footnote, before_link, before_wikilink, behind, bracket_taken}
-use Rattle.markdown_brackets.specs.LeftList.{change_nearest, disabled_mark, done, inside, nearest, on_marks, opens_bracket}
+use Rattle.markdown_brackets.specs.LeftList.{Entry, Mark, Split, before_footnote, before_link, before_wikilink, behind}
+use Rattle.markdown_brackets.specs.LeftList.{bracket_taken}
+use Rattle.markdown_brackets.specs.LeftList.{change_nearest, disabled_mark, done, inside, nearest, on_marks}
+use Rattle.markdown_brackets.specs.LeftList.{opens_bracket}
 use Rattle.markdown_brackets.specs.LeftList.{opens_wikilink, second_folded, trees_onto, waits, without_bracket}
 use Rattle.markdown_brackets.specs.LeftList.{without_wikilink, all_done}
 use Rattle.markdown_brackets.specs.Lookup.{LookedUp, answered, defined_or_asked, finds_nothing, look_up, size_of}
@@ -40,7 +46,8 @@ use Rattle.markdown_inline.specs.LookUps.{is_looked_up}
 use Rattle.markdown_inline.specs.ResolvedShapes.{IsMadeEvent}
 use Rattle.markdown_resolver.specs.PassOne.{around, pass_one, read_on, read_other}
 use Rattle.markdown_resolver.specs.Resolved.{all_paired, resolved}
-use Rattle.markdown_inline.proofs.EndOrderLemmas.{IsWithin, drop_list, ends_append, ends_drop, ends_mono, ends_onto, keep_list}
+use Rattle.markdown_inline.proofs.EndOrderLemmas.{IsWithin, drop_list, ends_append, ends_drop, ends_mono, ends_onto}
+use Rattle.markdown_inline.proofs.EndOrderLemmas.{keep_list}
 use Rattle.markdown_inline.proofs.EndOrderLemmas.{within_nothing, within_same, within_trans}
 use Rattle.markdown_inline.proofs.PairedEndsLemmas.{NumbersNoMarks, all_within, paired_within, text_none}
 
@@ -84,7 +91,8 @@ pub takes_from : (defined : List Labelled) (asks : Bool) (limit : ℕ) (answers 
     → TakesFrom limit (look_up defined asks limit answers q)
 takes_from defined asks limit answers q =
     cond_both (limit == 0) (finds_nothing limit answers [])
-    (defined_or_asked asks limit answers q (definitions.find_definition q.reference defined)) (TakesFrom limit) (λ e. refl)
+    (defined_or_asked asks limit answers q (definitions.find_definition q.reference defined)) (TakesFrom limit)
+    (λ e. refl)
     (λ e. takes_if_found asks limit answers q (definitions.find_definition q.reference defined) (some_left limit e))
 
 -- math stands for itself, displayed or not
@@ -115,11 +123,13 @@ module _ {A : Type 0} (own : Shape → List ℕ) (holds : List ℕ → (limit : 
   none_onto : (f : Forest (Label A)) (t : List ℕ) → HasNone f → IsWithin (ends f t) t
   none_onto nil t h = within_same t
   none_onto (node a below after) t h =
-      within_trans (ends below (of a ++ ends after t)) (of a ++ ends after t) t (none_onto below (of a ++ ends after t) h.1)
+      within_trans (ends below (of a ++ ends after t)) (of a ++ ends after t) t
+      (none_onto below (of a ++ ends after t) h.1)
       (none_before (of a) (ends after t) t h.0 (none_onto after t h.2))
 
   -- the trees of a left list, and trees that are put onto one
-  onto : (left : List (Entry A)) (later : Forest (Label A)) (t : List ℕ) → ends (trees_onto left later) t ≡ ends_left left (ends later t)
+  onto : (left : List (Entry A)) (later : Forest (Label A)) (t : List ℕ) → ends (trees_onto left later) t
+      ≡ ends_left left (ends later t)
   onto [] later t = refl
   onto (done a below ∷ left) later t = onto left (node a below later) t
   onto (waits m a ∷ left) later t = onto left (node a nil later) t
@@ -131,7 +141,8 @@ module _ {A : Type 0} (own : Shape → List ℕ) (holds : List ℕ → (limit : 
 
   -- where a list is within another, so it is with the numbers of a left list before both; all of a left list's may be
   -- dropped; what follows stays in order
-  mono_left : (left : List (Entry A)) (ns ms : List ℕ) → IsWithin ns ms → IsWithin (ends_left left ns) (ends_left left ms)
+  mono_left : (left : List (Entry A)) (ns ms : List ℕ) → IsWithin ns ms
+      → IsWithin (ends_left left ns) (ends_left left ms)
   mono_left [] ns ms w = w
   mono_left (done a below ∷ left) ns ms w = mono_left left (ends below (of a ++ ns)) (ends below (of a ++ ms))
       (ends_mono own below (of a ++ ns) (of a ++ ms) (keep_list (of a) ns ms w))
@@ -147,7 +158,8 @@ module _ {A : Type 0} (own : Shape → List ℕ) (holds : List ℕ → (limit : 
   append_left [] ns ms = refl
   append_left (done a below ∷ left) ns ms =
       ap (λ (l : List ℕ). ends_left left (ends below l)) (sym (append_assoc (of a) ns ms))
-      ∙ ap (λ (l : List ℕ). ends_left left l) (ends_append own below (of a ++ ns) ms) ∙ append_left left (ends below (of a ++ ns)) ms
+      ∙ ap (λ (l : List ℕ). ends_left left l) (ends_append own below (of a ++ ns) ms)
+      ∙ append_left left (ends below (of a ++ ns)) ms
   append_left (waits m a ∷ left) ns ms = ap (λ (l : List ℕ). ends_left left l) (sym (append_assoc (of a) ns ms))
       ∙ append_left left (of a ++ ns) ms
 
@@ -162,18 +174,21 @@ module _ {A : Type 0} (own : Shape → List ℕ) (holds : List ℕ → (limit : 
   second (done a below ∷ left) t = refl
   second (waits m a ∷ left) t = refl
 
-  change : (test : Mark → Bool) (f : Mark → Mark) (left : List (Entry A)) (t : List ℕ) → ends_left (change_nearest test f left) t
+  change : (test : Mark → Bool) (f : Mark → Mark) (left : List (Entry A)) (t : List ℕ)
+      → ends_left (change_nearest test f left) t
       ≡ ends_left left t
   change test f [] t = refl
   change test f (done a below ∷ left) t = change test f left (ends below (of a ++ t))
   change test f (waits m a ∷ left) t = by (test m) (change test f left (of a ++ t))
     where
       by : (b : Bool) → ends_left (change_nearest test f left) (of a ++ t) ≡ ends_left left (of a ++ t)
-          → ends_left (if b then waits (f m) a ∷ left else waits m a ∷ change_nearest test f left) t ≡ ends_left left (of a ++ t)
+          → ends_left (if b then waits (f m) a ∷ left else waits m a ∷ change_nearest test f left) t
+          ≡ ends_left left (of a ++ t)
       by true e = refl
       by false e = e
 
-  of_link : (is_image : Bool) (left : List (Entry A)) (t : List ℕ) → ends_left (before_link is_image left) t ≡ ends_left left t
+  of_link : (is_image : Bool) (left : List (Entry A)) (t : List ℕ) → ends_left (before_link is_image left) t
+      ≡ ends_left left t
   of_link true left t = second left t
   of_link false left t = marks disabled_mark (second_folded left) t ∙ second left t
 
@@ -187,7 +202,8 @@ module _ {A : Type 0} (own : Shape → List ℕ) (holds : List ℕ → (limit : 
   abbrev IsPart : List (Entry A) → Split A → Type 0
   IsPart left o = (t : List ℕ) → IsWithin (ends_left o.before (ends_left o.after t)) (ends_left left t)
 
-  part_done : (a : Label A) (below : Forest (Label A)) (left : List (Entry A)) (o : Option (Split A)) → IfSome o (IsPart left)
+  part_done : (a : Label A) (below : Forest (Label A)) (left : List (Entry A)) (o : Option (Split A))
+      → IfSome o (IsPart left)
       → IfSome (option_map (behind (done a below)) o) (IsPart (done a below ∷ left))
   part_done a below left None h = tt
   part_done a below left (Some o) h = λ t. h (ends below (of a ++ t))
@@ -209,9 +225,11 @@ module _ {A : Type 0} (own : Shape → List ℕ) (holds : List ℕ → (limit : 
       by false h = part_waits m a left (nearest test left) h
 
   -- the same where its flags were changed
-  part_of : (left other : List (Entry A)) (o : Split A) → ((t : List ℕ) → ends_left other t ≡ ends_left left t) → IsPart left o
+  part_of : (left other : List (Entry A)) (o : Split A) → ((t : List ℕ) → ends_left other t ≡ ends_left left t)
+      → IsPart left o
       → IsPart other o
-  part_of left other o e h = λ t. subst (λ (l : List ℕ). IsWithin (ends_left o.before (ends_left o.after t)) l) (sym (e t)) (h t)
+  part_of left other o e h = λ t. subst (λ (l : List ℕ). IsWithin (ends_left o.before (ends_left o.after t)) l)
+      (sym (e t)) (h t)
 
   -- trees from a byte on, and those of a wikilink
   from_byte : (i : ℕ) (f : Forest (Label A)) (t : List ℕ) → IsWithin (ends (past_byte i f) t) (ends f t)
@@ -219,8 +237,10 @@ module _ {A : Type 0} (own : Shape → List ℕ) (holds : List ℕ → (limit : 
   from_byte i (node a below after) t = by (nat_le (end_of a) i) (from_byte i after t)
     where
       by : (b : Bool) → IsWithin (ends (past_byte i after) t) (ends after t)
-          → IsWithin (ends (if b then past_byte i after else node (begun_at i a) below after) t) (ends below (of a ++ ends after t))
-      by true h = ends_drop own below (ends (past_byte i after) t) (of a ++ ends after t) (drop_list (of a) (ends (past_byte i after) t)
+          → IsWithin (ends (if b then past_byte i after else node (begun_at i a) below after) t)
+          (ends below (of a ++ ends after t))
+      by true h = ends_drop own below (ends (past_byte i after) t) (of a ++ ends after t)
+          (drop_list (of a) (ends (past_byte i after) t)
           (ends after t) h)
       by false h = subst (λ (l : List ℕ). IsWithin (ends below (l ++ ends after t)) (ends below (of a ++ ends after t)))
           (sym (keeps.cut (i - start_of a) a.part.shape)) (within_same (ends below (of a ++ ends after t)))
@@ -238,7 +258,8 @@ module _ {A : Type 0} (own : Shape → List ℕ) (holds : List ℕ → (limit : 
         let bytes : List ℕ = slice_range w.setting.text (start_of c.label) (end_of c.label) in
         let shown : List ℕ = own (leaf (text bytes) (sliced ∷ [])) in
         keeps.less (ends_left p.left []) (ends_left p.left (shown ++ [])) p.known.limit
-        (mono_left p.left (shown ++ []) [] (none_before shown [] [] (text_none own keeps.numbers bytes) (within_same []))) h
+        (mono_left p.left (shown ++ []) []
+        (none_before shown [] [] (text_none own keeps.numbers bytes) (within_same []))) h
 
     -- a link or an image that was not looked up, and one that was
     abbrev of_tag : (is_image : Bool) → LinkView → List ℕ
@@ -248,9 +269,11 @@ module _ {A : Type 0} (own : Shape → List ℕ) (holds : List ℕ → (limit : 
     tag_none true v e = keeps.other_image v e
     tag_none false v e = keeps.other_link v e
 
-    tag_holds : (is_image : Bool) (v : LinkView) (ns : List ℕ) (limit : ℕ) → is_looked_up v.kind ≡ false → holds ns limit
+    tag_holds : (is_image : Bool) (v : LinkView) (ns : List ℕ) (limit : ℕ) → is_looked_up v.kind ≡ false
+        → holds ns limit
         → holds (ns ++ of_tag is_image v) limit
-    tag_holds is_image v ns limit e h = subst (λ (l : List ℕ). holds l limit) (sym (ap (λ (l : List ℕ). ns ++ l) (tag_none is_image v e)
+    tag_holds is_image v ns limit e h = subst (λ (l : List ℕ). holds l limit)
+        (sym (ap (λ (l : List ℕ). ns ++ l) (tag_none is_image v e)
         ∙ append-nil ns)) h
 
     tag_found : (is_image : Bool) (v : LinkView) (ns : List ℕ) (limit : ℕ) → 1 ≤ limit → holds ns limit
@@ -259,7 +282,8 @@ module _ {A : Type 0} (own : Shape → List ℕ) (holds : List ℕ → (limit : 
     tag_found false v ns limit e h = keeps.link_found ns limit v e h
 
     -- with what is inside it and before it
-    enclosing : (left : List (Entry A)) (o : Split A) (children : Forest (Label A)) (before : List (Entry A)) (x : List ℕ) (limit later : ℕ)
+    enclosing : (left : List (Entry A)) (o : Split A) (children : Forest (Label A)) (before : List (Entry A))
+        (x : List ℕ) (limit later : ℕ)
         → IsWithin (ends children []) (ends_left o.after [])
         → ((t : List ℕ) → ends_left before t ≡ ends_left o.before t) → IsPart left o
         → ((ns : List ℕ) → holds ns limit → holds (ns ++ x) later) → holds (ends_left left []) limit
@@ -268,7 +292,8 @@ module _ {A : Type 0} (own : Shape → List ℕ) (holds : List ℕ → (limit : 
         let ns : List ℕ = ends_left before (ends children []) in
         let within : IsWithin ns (ends_left left []) =
         subst (λ (l : List ℕ). IsWithin l (ends_left left [])) (sym (same (ends children [])))
-        (within_trans (ends_left o.before (ends children [])) (ends_left o.before (ends_left o.after [])) (ends_left left [])
+        (within_trans (ends_left o.before (ends children [])) (ends_left o.before (ends_left o.after []))
+        (ends_left left [])
         (mono_left o.before (ends children []) (ends_left o.after []) i) (part [])) in
         let listed : ends_left before (ends children (x ++ [])) ≡ ns ++ x =
         ap (λ (l : List ℕ). ends_left before (ends children l)) (append-nil x) ∙ ap (λ (l : List ℕ). ends_left before l)
@@ -280,26 +305,32 @@ module _ {A : Type 0} (own : Shape → List ℕ) (holds : List ℕ → (limit : 
         (within_same (ends_left o.after t))
 
     -- a link or an image: not looked up, or looked up at a limit that was not 0; and a wikilink
-    link_holds : (o : Split A) (v : LinkView) (end next : ℕ) (p : Progress A) → is_looked_up v.kind ≡ false → IsPart p.left o → Holds p
+    link_holds : (o : Split A) (v : LinkView) (end next : ℕ) (p : Progress A) → is_looked_up v.kind ≡ false
+        → IsPart p.left o → Holds p
         → Holds (put w c (a_link o v end next) p)
     link_holds o v end next p e part h =
-        enclosing p.left o (inside o) (before_link o.mark.is_image o.before) (of_tag o.mark.is_image v) p.known.limit p.known.limit
+        enclosing p.left o (inside o) (before_link o.mark.is_image o.before) (of_tag o.mark.is_image v) p.known.limit
+        p.known.limit
         (inside_within o []) (of_link o.mark.is_image o.before) part
         (λ ns k. tag_holds o.mark.is_image v ns p.known.limit e k) h
 
-    link_found : (o : Split A) (v : LinkView) (end next limit : ℕ) (p : Progress A) → 1 ≤ limit → p.known.limit ≡ limit - size_of v
+    link_found : (o : Split A) (v : LinkView) (end next limit : ℕ) (p : Progress A) → 1 ≤ limit → p.known.limit
+        ≡ limit - size_of v
         → IsPart p.left o → holds (ends_left p.left []) limit
         → Holds (put w c (a_link o v end next) p)
     link_found o v end next limit p some e part h =
         subst (λ l. holds (ends_left (put w c (a_link o v end next) p).left []) l) (sym e)
-        (enclosing p.left o (inside o) (before_link o.mark.is_image o.before) (of_tag o.mark.is_image v) limit (limit - size_of v)
+        (enclosing p.left o (inside o) (before_link o.mark.is_image o.before) (of_tag o.mark.is_image v) limit
+        (limit - size_of v)
         (inside_within o []) (of_link o.mark.is_image o.before) part
         (λ ns k. tag_found o.mark.is_image v ns limit some k) h)
 
-    wikilink_holds : (o : Split A) (v : Wikilink A) (end : ℕ) (p : Progress A) → IsWithin (ends v.children []) (ends_left o.after [])
+    wikilink_holds : (o : Split A) (v : Wikilink A) (end : ℕ) (p : Progress A)
+        → IsWithin (ends v.children []) (ends_left o.after [])
         → IsPart p.left o → Holds p → Holds (put w c (a_wikilink o v end) p)
     wikilink_holds o v end p i part h =
-        enclosing p.left o v.children (before_wikilink o.before) (of_tag o.mark.is_image (wikilink_target v)) p.known.limit p.known.limit i
+        enclosing p.left o v.children (before_wikilink o.before) (of_tag o.mark.is_image (wikilink_target v))
+        p.known.limit p.known.limit i
         (of_wikilink o.before) part
         (λ ns k. tag_holds o.mark.is_image (wikilink_target v) ns p.known.limit refl k) h
 
@@ -310,26 +341,32 @@ module _ {A : Type 0} (own : Shape → List ℕ) (holds : List ℕ → (limit : 
         let bytes : List ℕ = slice_range w.setting.text (start_of a) (start_of a + 1) in
         let shown : List ℕ = own (leaf (footnote_reference name) (made ∷ [])) in
         let mark : List ℕ = own (leaf (text bytes) (sliced ∷ [])) in
-        mono_left before (mark ++ (shown ++ [])) [] (none_before mark (shown ++ []) [] (text_none own keeps.numbers bytes)
+        mono_left before (mark ++ (shown ++ [])) []
+        (none_before mark (shown ++ []) [] (text_none own keeps.numbers bytes)
         (none_before shown [] [] (keeps.numbers.lone (footnote_reference name) (made ∷ []) tt) (within_same [])))
     footnote_within false a name before =
         let shown : List ℕ = own (leaf (footnote_reference name) (made ∷ [])) in
-        mono_left before (shown ++ []) [] (none_before shown [] [] (keeps.numbers.lone (footnote_reference name) (made ∷ []) tt)
+        mono_left before (shown ++ []) []
+        (none_before shown [] [] (keeps.numbers.lone (footnote_reference name) (made ∷ []) tt)
         (within_same []))
 
-    footnote_holds : (o : Split A) (name : List ℕ) (p : Progress A) → IsPart p.left o → Holds p → Holds (put w c (a_footnote o name) p)
+    footnote_holds : (o : Split A) (name : List ℕ) (p : Progress A) → IsPart p.left o → Holds p
+        → Holds (put w c (a_footnote o name) p)
     footnote_holds o name p part h =
         let left : List (Entry A) = before_footnote o.before in
         let before : IsWithin (ends_left left []) (ends_left p.left []) =
         subst (λ (l : List ℕ). IsWithin l (ends_left p.left [])) (sym (of_footnote o.before []))
         (within_trans (ends_left o.before []) (ends_left o.before (ends_left o.after [])) (ends_left p.left [])
         (mono_left o.before [] (ends_left o.after []) (within_nothing (ends_left o.after []))) (part [])) in
-        keeps.less (ends_left p.left []) (ends_left (footnote_onto w c o.mark.is_image o.opener name left) []) p.known.limit
-        (within_trans (ends_left (footnote_onto w c o.mark.is_image o.opener name left) []) (ends_left left []) (ends_left p.left [])
+        keeps.less (ends_left p.left []) (ends_left (footnote_onto w c o.mark.is_image o.opener name left) [])
+        p.known.limit
+        (within_trans (ends_left (footnote_onto w c o.mark.is_image o.opener name left) []) (ends_left left [])
+        (ends_left p.left [])
         (footnote_within o.mark.is_image o.opener name left) before) h
 
     -- a left list without some flags
-    unmarked : (p : Progress A) (left : List (Entry A)) → ((t : List ℕ) → ends_left left t ≡ ends_left p.left t) → Holds p
+    unmarked : (p : Progress A) (left : List (Entry A)) → ((t : List ℕ) → ends_left left t ≡ ends_left p.left t)
+        → Holds p
         → Holds (record p { left = left })
     unmarked p left e h = subst (λ (l : List ℕ). holds l p.known.limit) (sym (e [])) h
 
@@ -344,13 +381,16 @@ module _ {A : Type 0} (own : Shape → List ℕ) (holds : List ℕ → (limit : 
     }
 
     -- its nearest opener is one of the left list
-    part_same : (test : Mark → Bool) (left other : List (Entry A)) (o : Split A) → Same left other → nearest test other ≡ Some o
+    part_same : (test : Mark → Bool) (left other : List (Entry A)) (o : Split A) → Same left other → nearest test other
+        ≡ Some o
         → IsPart left o
     part_same test left other o same e =
-        part_of other left o (λ t. sym (same t)) (some_of (nearest test other) o (IsPart other) e (part_nearest test other))
+        part_of other left o (λ t. sym (same t))
+        (some_of (nearest test other) o (IsPart other) e (part_nearest test other))
 
     -- what a wikilink shows is a part of what is inside its brackets
-    wikilink_within : (o : Split A) (v : Wikilink A) → wikilink_in w (past_second (inside o)) (start_of c.label) ≡ Some v
+    wikilink_within : (o : Split A) (v : Wikilink A) → wikilink_in w (past_second (inside o)) (start_of c.label)
+        ≡ Some v
         → IsWithin (ends v.children []) (ends_left o.after [])
     wikilink_within o v is =
         some_of (wikilink_in w (past_second (inside o)) (start_of c.label)) v (λ v. IsPartOf v.children) is
@@ -359,7 +399,8 @@ module _ {A : Type 0} (own : Shape → List ℕ) (holds : List ℕ → (limit : 
         (drop_left o.after t t (within_same t)))
         (λ i f k t. within_trans (ends (past_byte i f) t) (ends f t) (ends_left o.after t) (from_byte i f t) (k t))
         (past_second (inside o)) (start_of c.label)
-        (λ t. within_trans (ends (past_second (inside o)) t) (ends (inside o) t) (ends_left o.after t) (of_second (inside o) t)
+        (λ t. within_trans (ends (past_second (inside o)) t) (ends (inside o) t) (ends_left o.after t)
+        (of_second (inside o) t)
         (inside_within o t))) []
       where
         IsPartOf : Forest (Label A) → Type 0
@@ -396,10 +437,12 @@ module _ {A : Type 0} (own : Shape → List ℕ) (holds : List ℕ → (limit : 
           footnote = λ name. footnote_holds o name now part h';
         })
         (λ other o v end s e live is k.
-        wikilink_holds o v end now (wikilink_within o v is) (there o (part_same opens_wikilink p.left other o s e)) h') p.left (λ t. refl))
+        wikilink_holds o v end now (wikilink_within o v is) (there o (part_same opens_wikilink p.left other o s e)) h')
+        p.left (λ t. refl))
 
   -- the trees that replace a find have no numbers
-  code_none : (s : Setting) (escaped : Bool) (a : Label A) (t : SpanText) (closer : Label A) → HasNone (code_trees s escaped a t closer)
+  code_none : (s : Setting) (escaped : Bool) (a : Label A) (t : SpanText) (closer : Label A)
+      → HasNone (code_trees s escaped a t closer)
   code_none s false a t closer = (keeps.numbers.lone (code t.bytes) (t.origin ∷ []) tt, tt, tt)
   code_none s true a t closer = (
     text_none own keeps.numbers (slice_range s.text (start_of a) (start_of a + 1)),
@@ -413,7 +456,8 @@ module _ {A : Type 0} (own : Shape → List ℕ) (holds : List ℕ → (limit : 
     (text_none own keeps.numbers (slice_range s.text (end_of a) (end - 1)), tt, tt),
     tt,
   )
-  markup_none s new a (html_markup end None) = (keeps.numbers.lone (inline_html (slice_range s.text (start_of a) end)) (sliced ∷ []) tt, tt, tt)
+  markup_none s new a (html_markup end None)
+      = (keeps.numbers.lone (inline_html (slice_range s.text (start_of a) end)) (sliced ∷ []) tt, tt, tt)
   markup_none s new a (html_markup end (Some bytes)) = (keeps.numbers.lone (inline_html bytes) (made ∷ []) tt, tt, tt)
 
   find_none : (s : Setting) (new : A) (a : Label A) (found : Find A) → HasNone (trees_for s new a found)
@@ -428,12 +472,14 @@ module _ {A : Type 0} (own : Shape → List ℕ) (holds : List ℕ → (limit : 
 
   module _ (s : Setting) (tags : Tags A) (above : Above) where
     -- what is read of an item that is no bracket
-    unless_none : (quiet : Bool) (n : ℕ) (a : Label A) (below rest : Forest (Label A)) → own a.part.shape ≡ [] → HasNone below
+    unless_none : (quiet : Bool) (n : ℕ) (a : Label A) (below rest : Forest (Label A)) → own a.part.shape ≡ []
+        → HasNone below
         → HasNone (read_unless quiet s tags above n a below rest).trees
     unless_none true n a below rest e i = (e, i, tt)
     unless_none false n a below rest e i = find_none s (tags.fresh n) a (find s above a rest)
 
-    other_holds : (a : Label A) (below rest : Forest (Label A)) (p : Progress A) → own a.part.shape ≡ [] → HasNone below → Holds p
+    other_holds : (a : Label A) (below rest : Forest (Label A)) (p : Progress A) → own a.part.shape ≡ [] → HasNone below
+        → Holds p
         → Holds (read_other s tags above a below rest p)
     unfolding read_tree
     other_holds a below rest p e i h =
@@ -444,35 +490,43 @@ module _ {A : Type 0} (own : Shape → List ℕ) (holds : List ℕ → (limit : 
         (mono_left p.left (ends trees []) [] (none_onto trees [] none))) h
 
     opener_holds : (a : Label A) (left : List (Entry A)) (limit : ℕ) → holds (ends_left left []) limit
-        → holds (ends_left left (own (leaf (text (slice_range s.text (start_of a) (end_of a))) (sliced ∷ [])) ++ [])) limit
+        → holds (ends_left left (own (leaf (text (slice_range s.text (start_of a) (end_of a))) (sliced ∷ [])) ++ []))
+        limit
     opener_holds a left limit h =
         let bytes : List ℕ = slice_range s.text (start_of a) (end_of a) in
         let shown : List ℕ = own (leaf (text bytes) (sliced ∷ [])) in
         keeps.less (ends_left left []) (ends_left left (shown ++ [])) limit
-        (mono_left left (shown ++ []) [] (none_before shown [] [] (text_none own keeps.numbers bytes) (within_same []))) h
+        (mono_left left (shown ++ []) [] (none_before shown [] [] (text_none own keeps.numbers bytes) (within_same [])))
+        h
 
     -- an item, a chain, and pass one
-    as_holds : (b : ItemBody) (a : Label A) (below rest : Forest (Label A)) (p : Progress A) → own a.part.shape ≡ [] → HasNone below
+    as_holds : (b : ItemBody) (a : Label A) (below rest : Forest (Label A)) (p : Progress A) → own a.part.shape ≡ []
+        → HasNone below
         → Holds p
         → Holds (read_as (around s above) (read_other s tags above) b a below rest p)
     as_holds body.MaybeLinkOpen a below rest p e i h = opener_holds a p.left p.known.limit h
     as_holds body.MaybeImage a below rest p e i h = opener_holds a p.left p.known.limit h
-    as_holds (body.MaybeLinkClose could) a below rest p e i h = closed_holds (around s above) (closing_of could a rest p) p h
+    as_holds (body.MaybeLinkClose could) a below rest p e i h = closed_holds (around s above)
+        (closing_of could a rest p) p h
     as_holds other a below rest p e i h = other_holds a below rest p e i h
 
-    past_holds : (goes_on : Option ℕ) (a : Label A) (below rest : Forest (Label A)) (p : Progress A) → own a.part.shape ≡ [] → HasNone below
+    past_holds : (goes_on : Option ℕ) (a : Label A) (below rest : Forest (Label A)) (p : Progress A) → own a.part.shape
+        ≡ [] → HasNone below
         → Holds p
         → Holds (read_past (around s above) (read_other s tags above) goes_on a below rest p)
     past_holds None a below rest p e i h = as_holds (open_body a.part.shape) a below rest p e i h
     past_holds (Some n) a below rest p e i h = by (nat_le (end_of a) n)
       where
-        by : (b : Bool) → Holds (if b then p else read (around s above) (read_other s tags above) (begun_at n a) below rest
+        by : (b : Bool) → Holds (if b then p else read (around s above) (read_other s tags above) (begun_at n a) below
+            rest
             (record p { goes_on = None }))
         by true = h
-        by false = as_holds (open_body (begun_at n a).part.shape) (begun_at n a) below rest (record p { goes_on = None })
+        by false = as_holds (open_body (begun_at n a).part.shape) (begun_at n a) below rest
+            (record p { goes_on = None })
             (keeps.cut (n - start_of a) a.part.shape ∙ e) i h
 
-    chain_holds : (chain : Forest (Label A)) (p : Progress A) → HasNone chain → Holds p → Holds (read_on s tags above chain p)
+    chain_holds : (chain : Forest (Label A)) (p : Progress A) → HasNone chain → Holds p
+        → Holds (read_on s tags above chain p)
     unfolding read_chain
     chain_holds nil p e h = h
     chain_holds (node a below rest) p e h =
@@ -487,13 +541,16 @@ module _ {A : Type 0} (own : Shape → List ℕ) (holds : List ℕ → (limit : 
         subst (λ (l : List ℕ). holds l p.known.limit) (sym (onto p.left nil [])) (chain_holds chain (begun known) e h)
 
   -- a resolved chain, with its chains of children paired
-  pub resolved_holds : (s : Setting) (tags : Tags A) (above : Above) (chain : Forest (Label A)) (known : Known) → HasNone chain
+  pub resolved_holds : (s : Setting) (tags : Tags A) (above : Above) (chain : Forest (Label A)) (known : Known)
+      → HasNone chain
       → holds [] known.limit
-      → holds (ends (all_paired s (resolved s tags above chain known).forest) []) (resolved s tags above chain known).known.limit
+      → holds (ends (all_paired s (resolved s tags above chain known).forest) [])
+      (resolved s tags above chain known).known.limit
   unfolding resolved
   resolved_holds s tags above chain known e h =
       let f : Forest (Label A) = (pass_one s tags above chain known).forest in
       keeps.less (ends f []) (ends (all_paired s (paired s f)) []) (pass_one s tags above chain known).known.limit
-      (within_trans (ends (all_paired s (paired s f)) []) (ends (paired s f) []) (ends f []) (all_within own keeps.numbers s (paired s f)
+      (within_trans (ends (all_paired s (paired s f)) []) (ends (paired s f) []) (ends f [])
+      (all_within own keeps.numbers s (paired s f)
       []) (paired_within own keeps.numbers s f []))
       (pass_one_holds s tags above chain known e h)

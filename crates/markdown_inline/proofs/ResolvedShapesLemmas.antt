@@ -47,7 +47,8 @@ module _ (passes : Shape → Bool) (made : (shape : Shape) → IsMadeShape shape
     other_link = λ v e. none_made (enclosed (link v)) tt;
     other_image = λ v e. none_made (enclosed (image v)) tt;
     less = λ ns ms limit w e. omega (arith, w.sums, e);
-    link_found = λ ns limit v h e. omega (arith, total_append ns (own (enclosed (link v))), e, ap total (none_made (enclosed (link v)) tt));
+    link_found = λ ns limit v h e. omega
+        (arith, total_append ns (own (enclosed (link v))), e, ap total (none_made (enclosed (link v)) tt));
     image_found = λ ns limit v h e. omega (
       arith,
       total_append ns (own (enclosed (image v))),
@@ -65,12 +66,17 @@ module _ (passes : Shape → Bool) (made : (shape : Shape) → IsMadeShape shape
     all_pass : (f : Forest (Label A)) → sum_of (λ (a : Label A). total (own a.part.shape)) f ≡ 0
         → Each (λ (a : Label A). passes a.part.shape ≡ true) f
     all_pass nil e = tt
-    all_pass (node a below after) e =
-        (none_passed (passes a.part.shape) (omega (arith, e)), all_pass below (omega (arith, e)), all_pass after (omega (arith, e)))
+    all_pass (node a below after) e = (
+      none_passed (passes a.part.shape) (omega (arith, e)),
+      all_pass below (omega (arith, e)),
+      all_pass after
+          (omega (arith, e)),
+    )
 
 pub shapes-law : {A : Type 0} → ShapesLaw A
 shapes-law passes made cuts s tags above chain known h =
     let trees = (resolved_chain s tags above chain known).trees in
-    let none = resolved_holds (own passes made cuts) (λ ns limit. total ns ≡ 0) (passes_keep passes made cuts) s tags above chain known
+    let none = resolved_holds (own passes made cuts) (λ ns limit. total ns ≡ 0) (passes_keep passes made cuts) s tags
+    above chain known
     (none_in passes made cuts chain h) refl in
     all_pass passes made cuts trees (omega (arith, none, total_ends (own passes made cuts) trees []))

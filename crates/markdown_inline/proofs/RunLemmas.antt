@@ -1,5 +1,6 @@
 -- Calls of `next`, one after another up to None, and what was left before them.
-use Rattle.std.proofs.Common.{◌≡◌, ℕ, List, [], ◌∷◌, ◌++◌, map, Option, Some, None, Result, Ok, Err, inl, inr, ⊎_elim, refl, sym, ap, ◌∙◌}
+use Rattle.std.proofs.Common.{◌≡◌, ℕ, List, [], ◌∷◌, ◌++◌, map, Option, Some, None, Result, Ok, Err, inl, inr, ⊎_elim}
+use Rattle.std.proofs.Common.{refl, sym, ap, ◌∙◌}
 use Rattle.std.proofs.Common.{append_assoc, append-nil, Vec}
 use Rattle.std.specs.Iterator.{Drains}
 use Rattle.std.specs.Prelude.{IfOk}
@@ -17,16 +18,19 @@ use Rattle.markdown_inline.specs.declared.walk.Parser.{Parser}
 use Rattle.markdown_document.proofs.CallbackLemmas.{Asks-append}
 
 -- questions are no events
-pub events_of-questions : (questions : List Question) (es : List Element) → events_of (map question questions ++ es) ≡ events_of es
+pub events_of-questions : (questions : List Question) (es : List Element) → events_of (map question questions ++ es)
+    ≡ events_of es
 events_of-questions [] es = refl
 events_of-questions (q ∷ questions) es = events_of-questions questions es
 
-pub questions_of-questions : (questions : List Question) (es : List Element) → questions_of (map question questions ++ es) ≡ questions
+pub questions_of-questions : (questions : List Question) (es : List Element)
+    → questions_of (map question questions ++ es) ≡ questions
     ++ questions_of es
 questions_of-questions [] es = refl
 questions_of-questions (q ∷ questions) es = ap (λ qs. q ∷ qs) (questions_of-questions questions es)
 
-module _ {S F I : Type 0} (step : F → Question → Option Answer → F → Type 0) (is_of : List ℕ → I → Placed → Type 0) (at : S
+module _ {S F I : Type 0} (step : F → Question → Option Answer → F → Type 0) (is_of : List ℕ → I → Placed → Type 0)
+    (at : S
     → Parser F) where
   -- a call of `next`
   abbrev pub Steps : S → Option (Result I Fault) → S → Type 0
@@ -35,15 +39,18 @@ module _ {S F I : Type 0} (step : F → Question → Option Answer → F → Typ
   -- the events that were left before an item, in terms of those that are left after it
   events_before : (s t : S) (item : I) (g : GivesItem step is_of (at s) item (at t)) (later : Answers)
       → events_of (elements (at s) (g.answers ++ later)) ≡ g.placed ∷ events_of (elements (at t) later)
-  events_before s t item g later = rw (g.left later) (events_of-questions g.questions (event g.placed ∷ elements (at t) later))
+  events_before s t item g later = rw (g.left later)
+      (events_of-questions g.questions (event g.placed ∷ elements (at t) later))
 
   -- the questions that were left before an item, in the same terms
   questions_before : (s t : S) (item : I) (g : GivesItem step is_of (at s) item (at t)) (later : Answers)
       → questions_of (elements (at s) (g.answers ++ later)) ≡ g.questions ++ questions_of (elements (at t) later)
-  questions_before s t item g later = rw (g.left later) (questions_of-questions g.questions (event g.placed ∷ elements (at t) later))
+  questions_before s t item g later = rw (g.left later)
+      (questions_of-questions g.questions (event g.placed ∷ elements (at t) later))
 
   -- after an item come all that are left then
-  then_all : (s t : S) (item : I) (rest : List (Result I Fault)) → Steps s (Some (Ok item)) t → GaveAll is_of step (at t) rest
+  then_all : (s t : S) (item : I) (rest : List (Result I Fault)) → Steps s (Some (Ok item)) t
+      → GaveAll is_of step (at t) rest
       → GaveAll is_of step (at s) (Ok item ∷ rest)
   then_all s t item rest h r =
       let g = h.gives in
@@ -56,7 +63,8 @@ module _ {S F I : Type 0} (step : F → Question → Option Answer → F → Typ
           events = g.placed ∷ a.events;
           are = (g.is_item, rw h.text at a.are);
           answers = g.answers ++ a.answers;
-          asked = rw (questions_before s t item g a.answers) (Asks-append step (parser_callback (at s)) (parser_callback (at t)) r.callback
+          asked = rw (questions_before s t item g a.answers)
+              (Asks-append step (parser_callback (at s)) (parser_callback (at t)) r.callback
               g.questions (questions_of (elements (at t) a.answers)) g.answers a.answers g.asked a.asked);
           left = λ later. rw (append_assoc g.answers a.answers later) (events_before s t item g (a.answers ++ later)
               ∙ ap (λ xs. g.placed ∷ xs) (a.left later));
@@ -64,7 +72,8 @@ module _ {S F I : Type 0} (step : F → Question → Option Answer → F → Typ
       }
 
   -- or a beginning of them
-  then_refused : (s t : S) (item : I) (rest : List (Result I Fault)) → Steps s (Some (Ok item)) t → WasRefused is_of step (at t) rest
+  then_refused : (s t : S) (item : I) (rest : List (Result I Fault)) → Steps s (Some (Ok item)) t
+      → WasRefused is_of step (at t) rest
       → WasRefused is_of step (at s) (Ok item ∷ rest)
   then_refused s t item rest h r =
       let g = h.gives in
@@ -78,7 +87,8 @@ module _ {S F I : Type 0} (step : F → Question → Option Answer → F → Typ
           first = map question g.questions ++ then;
           are = rw (events_of-questions g.questions then) (g.is_item, rw h.text at b.are);
           answers = g.answers ++ b.answers;
-          asked = rw (questions_of-questions g.questions then) (Asks-append step (parser_callback (at s)) (parser_callback (at t)) r.callback
+          asked = rw (questions_of-questions g.questions then)
+              (Asks-append step (parser_callback (at s)) (parser_callback (at t)) r.callback
               g.questions (questions_of b.first) g.answers b.answers g.asked b.asked);
           begins = λ later.
               let o = b.begins later in
@@ -87,7 +97,8 @@ module _ {S F I : Type 0} (step : F → Question → Option Answer → F → Typ
       }
 
   -- after an error nothing comes
-  only_error : (s t : S) (fault : Fault) (rest : List (Result I Fault)) → Steps s (Some (Err fault)) t → Drains Steps t rest
+  only_error : (s t : S) (fault : Fault) (rest : List (Result I Fault)) → Steps s (Some (Err fault)) t
+      → Drains Steps t rest
       → WasRefused is_of step (at s) (Err fault ∷ rest)
   only_error s t fault [] h d =
       let g = h.gives in
@@ -116,8 +127,10 @@ module _ {S F I : Type 0} (step : F → Question → Option Answer → F → Typ
     pub answers : Answers
     pub questions : List Question
     pub asked : Asks step (parser_callback (at s)) questions answers (parser_callback (at t))
-    pub left : (later : Answers) → events_of (elements (at s) (answers ++ later)) ≡ events ++ events_of (elements (at t) later)
-    pub asks : (later : Answers) → questions_of (elements (at s) (answers ++ later)) ≡ questions ++ questions_of (elements (at t) later)
+    pub left : (later : Answers) → events_of (elements (at s) (answers ++ later))
+        ≡ events ++ events_of (elements (at t) later)
+    pub asks : (later : Answers) → questions_of (elements (at s) (answers ++ later))
+        ≡ questions ++ questions_of (elements (at t) later)
 
   pub gave_none : (s : S) → GaveFirst s s []
   gave_none s = record {
@@ -132,7 +145,8 @@ module _ {S F I : Type 0} (step : F → Question → Option Answer → F → Typ
         λ later. refl;
   }
 
-  are-append : (source : List ℕ) (given : List I) (events : List Placed) (item : I) (placed : Placed) → AreOf is_of source given events
+  are-append : (source : List ℕ) (given : List I) (events : List Placed) (item : I) (placed : Placed)
+      → AreOf is_of source given events
       → is_of source item placed
       → AreOf is_of source (given ++ item ∷ []) (events ++ placed ∷ [])
   are-append source [] [] item placed a h = (h, tt)
@@ -150,7 +164,8 @@ module _ {S F I : Type 0} (step : F → Question → Option Answer → F → Typ
         are = are-append (parser_text (at s)) given r.events item g.placed r.are (rw r.text at g.is_item);
         answers = r.answers ++ g.answers;
         questions = r.questions ++ g.questions;
-        asked = Asks-append step (parser_callback (at s)) (parser_callback (at t)) (parser_callback (at u)) r.questions g.questions
+        asked = Asks-append step (parser_callback (at s)) (parser_callback (at t)) (parser_callback (at u)) r.questions
+            g.questions
             r.answers g.answers r.asked g.asked;
         left = λ later. rw (
           append_assoc r.answers g.answers later,
@@ -173,7 +188,8 @@ module _ {S F I : Type 0} (step : F → Question → Option Answer → F → Typ
       → GaveRest is_of step (at s) given (parser_callback (at u))
   gave_rest s t u given r h =
       let n = h.gives in
-      let q : questions_of (elements (at s) r.answers) ≡ r.questions = rw (append-nil r.answers, n.none_left [], append-nil r.questions) at
+      let q : questions_of (elements (at s) r.answers)
+      ≡ r.questions = rw (append-nil r.answers, n.none_left [], append-nil r.questions) at
       (r.asks []) in
       record {
         events = r.events;
@@ -186,9 +202,16 @@ module _ {S F I : Type 0} (step : F → Question → Option Answer → F → Typ
   -- a run up to None
   pub is_run : (s : S) (all : List (Result I Fault)) → Drains Steps s all → IsRun is_of step (at s) all
   is_run s [] (u, (t, y, z)) =
-      inl (record { given = []; no_fault = refl; callback = parser_callback (at u); rest = gave_rest s s u [] (gave_none s) (rw y z) })
+      inl (record {
+        given = [];
+        no_fault = refl;
+        callback = parser_callback (at u);
+        rest = gave_rest s s u []
+            (gave_none s) (rw y z);
+      })
   is_run s (Ok item ∷ rest) (u, (t, (j, h, y), z)) =
-      ⊎_elim (λ r. inl (then_all s j item rest h r)) (λ r. inr (then_refused s j item rest h r)) (is_run j rest (u, (t, y, z)))
+      ⊎_elim (λ r. inl (then_all s j item rest h r)) (λ r. inr (then_refused s j item rest h r))
+      (is_run j rest (u, (t, y, z)))
   is_run s (Err fault ∷ rest) (u, (t, (j, h, y), z)) = inr (only_error s j fault rest h (u, (t, y, z)))
 
   -- what `collect` makes is such a run
@@ -200,7 +223,8 @@ module _ {S F I : Type 0} (step : F → Question → Option Answer → F → Typ
   collected s (Err x) h = tt
 
 -- with no callback nothing is asked, and there is none afterwards
-unasked : {C : Type 0} (step : C → Question → Option Answer → C → Type 0) (old new : Option C) (questions : List Question)
+unasked : {C : Type 0} (step : C → Question → Option Answer → C → Type 0) (old new : Option C)
+    (questions : List Question)
     (answers : Answers)
     → Asks step old questions answers new → old ≡ None → (answers ≡ []) × (new ≡ None)
 unasked step old new [] [] h n = (refl, sym h ∙ n)
@@ -210,7 +234,8 @@ unasked step None new (q ∷ questions) (a ∷ answers) h n = absurd h
 unasked step (Some c) new (q ∷ questions) (a ∷ answers) h n = cc n
 
 -- so the items of a run without an error are what was left, for all answers
-pub drained_unasked : {F : Type 0} (step : F → Question → Option Answer → F → Type 0) (p : Parser F) (given : List Event)
+pub drained_unasked : {F : Type 0} (step : F → Question → Option Answer → F → Type 0) (p : Parser F)
+    (given : List Event)
     → Drains (NextGives step IsEventOf) p (map (λ e. Ok e) given) → parser_callback p ≡ None
     → (later : Answers) → map (λ e. e.0) (events_of (elements p later)) ≡ map event_view given
 drained_unasked step p [] (u, (t, y, z)) n later = rw (y, z.gives.none_left later) refl
@@ -224,7 +249,8 @@ drained_unasked step p (e ∷ given) (u, (t, (j, h, y), z)) n later =
 -- whatever the callback answers, the events of a run without an error are those that were left
 pub drained : {F : Type 0} (step : F → Question → Option Answer → F → Type 0) (p : Parser F) (given : List Event)
     → Drains (NextGives step IsEventOf) p (map (λ e. Ok e) given)
-    → (answers : Answers) × ((later : Answers) → map (λ e. e.0) (events_of (elements p (answers ++ later))) ≡ map event_view given)
+    → (answers : Answers)
+    × ((later : Answers) → map (λ e. e.0) (events_of (elements p (answers ++ later))) ≡ map event_view given)
 drained step p [] (u, (t, y, z)) = ([], λ later. rw (y, z.gives.none_left later) refl)
 drained step p (e ∷ given) (u, (t, (j, h, y), z)) =
     let g = h.gives in

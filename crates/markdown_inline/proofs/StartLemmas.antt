@@ -1,6 +1,7 @@
 -- A walk at the start of a whole block result.
 use Rattle.markdown_base.specs.declared.item.ItemBody.TheVariants as body
-use Rattle.std.proofs.Common.{not, ◌≡◌, ◌≤◌, ℕ, ◌+◌, Bool, true, false, ◌||◌, ◌&&◌, List, [], ◌++◌, Option, Some, None, Result, Ok, Err}
+use Rattle.std.proofs.Common.{not, ◌≡◌, ◌≤◌, ℕ, ◌+◌, Bool, true, false, ◌||◌, ◌&&◌, List, [], ◌++◌, Option, Some, None}
+use Rattle.std.proofs.Common.{Result, Ok, Err}
 use Rattle.std.proofs.Common.{refl, ap, ◌∙◌, arith}
 use Rattle.std.specs.Prelude.{IfOk, if◌then◌else◌, IsTrue, nat_eq, is_some, slice_range}
 use Rattle.std.proofs.Math.Path.{fun_ext}
@@ -24,7 +25,8 @@ use Rattle.markdown_document.specs.ItemRules.{ComesBefore}
 use Rattle.markdown_base.specs.BlockTree.{Numbered, numbered, item_at, tree_of}
 use Rattle.markdown_base.specs.Forest.{Forest, nil, node, Each, Throughout, preorder, first_root, relabelled}
 use Rattle.markdown_base.specs.Item.{alignments_named, is_childless, is_inline, is_open, is_resolved, text_named}
-use Rattle.markdown_base.specs.WellFormed.{InlineInOrder, PartCounts, KeepsRules, IsWellFormed, PartsAreNamed, counts_of, all_named}
+use Rattle.markdown_base.specs.WellFormed.{InlineInOrder, PartCounts, KeepsRules, IsWellFormed, PartsAreNamed}
+use Rattle.markdown_base.specs.WellFormed.{counts_of, all_named}
 use Rattle.markdown_base.specs.WellFormed.{has_open, all_inline}
 use Rattle.markdown_base.specs.declared.block_parts.BlockParts.{BlockParts}
 use Rattle.markdown_base.specs.declared.item.Item.{Item}
@@ -55,12 +57,14 @@ use Rattle.markdown_document.proofs.PlaceLemmas.{named-past, open-unresolved}
 use Rattle.markdown_inline.proofs.ParserLemmas.{elements-left}
 
 -- the texts that are referred to
-listed-cons : (n : ℕ) (o : Option ℕ) (xs : List ℕ) → listed (same n) (cons_option o xs) ≡ same_as n o + listed (same n) xs
+listed-cons : (n : ℕ) (o : Option ℕ) (xs : List ℕ) → listed (same n) (cons_option o xs)
+    ≡ same_as n o + listed (same n) xs
 listed-cons n None xs = omega arith
 listed-cons n (Some m) xs = refl
 
 named-listed : (name : ItemBody → Option ℕ) (nodes : List (Node Item)) (n : ℕ) (f : Forest ℕ)
-    → total (λ ix. same_as n (name (item_at nodes ix).body)) f ≡ listed (same n) (all_named name (relabelled (numbered nodes) f))
+    → total (λ ix. same_as n (name (item_at nodes ix).body)) f
+    ≡ listed (same n) (all_named name (relabelled (numbered nodes) f))
 named-listed name nodes n nil = refl
 named-listed name nodes n (node ix below after) =
     let of = λ (a : Numbered). name a.item.body in
@@ -69,7 +73,8 @@ named-listed name nodes n (node ix below after) =
     rw (
       listed-cons n (name (item_at nodes ix).body) (filter_map of (preorder (relabelled (numbered nodes) below)
           ++ preorder (relabelled (numbered nodes) after))),
-      filter_map-append of (preorder (relabelled (numbered nodes) below)) (preorder (relabelled (numbered nodes) after)),
+      filter_map-append of (preorder (relabelled (numbered nodes) below))
+          (preorder (relabelled (numbered nodes) after)),
     )
     (omega (arith, listed-append (same n) b a, named-listed name nodes n below, named-listed name nodes n after))
 
@@ -90,11 +95,14 @@ unresolved_slices source tables start end other r = tt
 
 entries_named : (parts : BlockParts) (b : ItemBody) → PartsAreNamed (counts_of parts) b → is_resolved b ≡ false
     → NamesEntries (tables_at_start parts) b
-entries_named parts b p r = record { text = p.text; link = rw (no_link b r) tt; alignments = p.alignments; attributes = p.attributes }
+entries_named parts b p r = record
+    { text = p.text; link = rw (no_link b r) tt; alignments = p.alignments; attributes = p.attributes }
 
 -- no entry is referred to twice
-starts_once : (source : List ℕ) (nodes : List (Node Item)) (parts : BlockParts) (n : Named) → IsWellFormed source nodes parts
-    → Each (IsPlaced source (tables_at_start parts) nodes) (numbers_below nodes) → total (naming nodes n) (numbers_below nodes) ≤ 1
+starts_once : (source : List ℕ) (nodes : List (Node Item)) (parts : BlockParts) (n : Named)
+    → IsWellFormed source nodes parts
+    → Each (IsPlaced source (tables_at_start parts) nodes) (numbers_below nodes)
+    → total (naming nodes n) (numbers_below nodes) ≤ 1
 starts_once source nodes parts (some_text n) w placed =
     omega (
       arith,
@@ -103,7 +111,11 @@ starts_once source nodes parts (some_text n) w placed =
           w.each_text_once,
     )
 starts_once source nodes parts (some_link n) w placed =
-    omega (arith, named-past source (tables_at_start parts) nodes (numbers_below nodes) (some_link n) placed (omega arith))
+    omega (
+      arith,
+      named-past source (tables_at_start parts) nodes (numbers_below nodes) (some_link n) placed
+          (omega arith),
+    )
 starts_once source nodes parts (some_alignments n) w placed =
     omega (
       arith,
@@ -118,7 +130,8 @@ following_root : (nodes : List (Node Item)) (l : Option ℕ) (f : Forest ℕ) �
 following_root nodes l nil s = rw s refl
 following_root nodes l (node ix below after) s = rw s.0 refl
 
-no_child : (nodes : List (Node Item)) (l : Option ℕ) (f : Forest ℕ) → Spells (links_of nodes) l f → relabelled (numbered nodes) f ≡ nil
+no_child : (nodes : List (Node Item)) (l : Option ℕ) (f : Forest ℕ) → Spells (links_of nodes) l f
+    → relabelled (numbered nodes) f ≡ nil
     → l ≡ None
 no_child nodes l nil s h = s
 no_child nodes l (node ix below after) s h = cc h
@@ -136,15 +149,18 @@ open_childless other h = cc h
 abbrev AllKept : List ℕ → PartCounts → Forest Numbered → Type 0
 AllKept source counts trees = Throughout (λ a below after. KeepsRules source counts a below (first_root after)) trees
 
-in_order_from : (source : List ℕ) (counts : PartCounts) (a : Numbered) (after : Forest Numbered) → is_resolved a.item.body ≡ false
+in_order_from : (source : List ℕ) (counts : PartCounts) (a : Numbered) (after : Forest Numbered)
+    → is_resolved a.item.body ≡ false
     → AllKept source counts after → InlineInOrder a (first_root after)
     → ComesBefore a (first_root after)
 in_order_from source counts a nil r w h = tt
-in_order_from source counts a (node b below after) r w h = λ x y. h (inline_from (is_inline a.item.body) (is_resolved a.item.body) x r)
+in_order_from source counts a (node b below after) r w h = λ x y. h
+    (inline_from (is_inline a.item.body) (is_resolved a.item.body) x r)
     (inline_from (is_inline b.item.body) (is_resolved b.item.body) y w.0.nothing_resolved)
 
 -- the facts of each number are one
-each_placed : (source : List ℕ) (counts : PartCounts) (tables : Tables) (nodes : List (Node Item)) (l : Option ℕ) (f : Forest ℕ)
+each_placed : (source : List ℕ) (counts : PartCounts) (tables : Tables) (nodes : List (Node Item)) (l : Option ℕ)
+    (f : Forest ℕ)
     → Spells (links_of nodes) l f → AllKept source counts (relabelled (numbered nodes) f)
     → Each (λ ix. NamesEntries tables (item_at nodes ix).body) f → Each (IsPlaced source tables nodes) f
 each_placed source counts tables nodes l nil s w named = tt
@@ -153,10 +169,12 @@ each_placed source counts tables nodes l (node ix below after) s w named =
       record {
         lies = k.ranges_lie_in;
         named = named.0;
-        slices = unresolved_slices source tables (origin_start source (item_at nodes ix).start) (item_at nodes ix).end (item_at nodes ix).body
+        slices = unresolved_slices source tables (origin_start source (item_at nodes ix).start) (item_at nodes ix).end
+            (item_at nodes ix).body
             k.nothing_resolved;
         keeps = rw (following_root nodes (sibling_of nodes ix) after s.3) (record {
-          in_order = in_order_from source counts (numbered nodes ix) (relabelled (numbered nodes) after) k.nothing_resolved w.2
+          in_order = in_order_from source counts (numbered nodes ix) (relabelled (numbered nodes) after)
+              k.nothing_resolved w.2
               k.inline_in_order;
           markup_is_there = k.markup_is_there;
           runs_are_whole = k.runs_are_whole;
@@ -173,7 +191,8 @@ childless-inline : (body : ItemBody) → is_inline body ≡ true → is_childles
 childless-inline body.Rule h = refl
 childless-inline other h = h
 
-nothing_below : (source : List ℕ) (tables : Tables) (nodes : List (Node Item)) (f : Forest ℕ) → relabelled (numbered nodes) f ≡ nil
+nothing_below : (source : List ℕ) (tables : Tables) (nodes : List (Node Item)) (f : Forest ℕ)
+    → relabelled (numbered nodes) f ≡ nil
     → IsQuiet (relabelled (label_at source tables nodes) f)
 nothing_below source tables nodes nil h = tt
 nothing_below source tables nodes (node ix below after) h = cc h
@@ -194,7 +213,8 @@ inline_no_block b h = rw h refl
 abbrev Childless : Forest Numbered → Type 0
 Childless f = Throughout (λ a below after. IsTrue (is_childless a.item.body) → below ≡ nil) f
 
-quiet_inline : (source : List ℕ) (tables : Tables) (nodes : List (Node Item)) (f : Forest ℕ) → Childless (relabelled (numbered nodes) f)
+quiet_inline : (source : List ℕ) (tables : Tables) (nodes : List (Node Item)) (f : Forest ℕ)
+    → Childless (relabelled (numbered nodes) f)
     → all_inline (relabelled (numbered nodes) f) ≡ true
     → IsQuietBelow (relabelled (label_at source tables nodes) f)
 quiet_inline source tables nodes nil c h = tt
@@ -207,7 +227,8 @@ quiet_inline source tables nodes (node ix below after) c h =
     )
 
 -- nothing was made, so what has still to be read comes last
-inline_unmade : (tables : Tables) (bytes : List ℕ) (b : ItemBody) → is_inline b ≡ true → is_made (shape_of tables bytes b) ≡ false
+inline_unmade : (tables : Tables) (bytes : List ℕ) (b : ItemBody) → is_inline b ≡ true
+    → is_made (shape_of tables bytes b) ≡ false
 inline_unmade tables bytes (body.HardBreak true) h = refl
 inline_unmade tables bytes (body.HardBreak false) h = refl
 inline_unmade tables bytes (body.Code ix) h = cc h
@@ -241,7 +262,8 @@ or_more false b h = h
 abbrev InlineOnly : Forest Numbered → Type 0
 InlineOnly f = Throughout (λ a below after. IsTrue (has_open below) → IsTrue (all_inline below)) f
 
-kept_from : (source : List ℕ) (tables : Tables) (nodes : List (Node Item)) (f : Forest ℕ) → Childless (relabelled (numbered nodes) f)
+kept_from : (source : List ℕ) (tables : Tables) (nodes : List (Node Item)) (f : Forest ℕ)
+    → Childless (relabelled (numbered nodes) f)
     → InlineOnly (relabelled (numbered nodes) f)
     → (IsTrue (has_open (relabelled (numbered nodes) f)) → IsTrue (all_inline (relabelled (numbered nodes) f)))
     → IsKept (relabelled (label_at source tables nodes) f)
@@ -250,9 +272,14 @@ kept_from source tables nodes (node ix below after) c i h =
     let item = item_at nodes ix in (
       λ e. let o = open-unresolved tables (slice_range source item.start item.end) item.body e
           in let all = h (rw o refl)
-          in (quiet_inline source tables nodes (node ix below after) c all, unread_inline source tables nodes (node ix below after) all),
+          in (
+            quiet_inline source tables nodes (node ix below after) c all,
+            unread_inline source tables nodes
+                (node ix below after) all,
+          ),
       kept_from source tables nodes below c.1 i.1 i.0,
-      kept_from source tables nodes after c.2 i.2 (λ o. and_right (is_inline item.body) (all_inline (relabelled (numbered nodes) after))
+      kept_from source tables nodes after c.2 i.2
+          (λ o. and_right (is_inline item.body) (all_inline (relabelled (numbered nodes) after))
           (h (or_more (is_open item.body) (has_open (relabelled (numbered nodes) after)) o))),
     )
 
@@ -262,20 +289,25 @@ pub starts_stands : (source : List ℕ) (nodes : List (Node Item)) (parts : Bloc
 unfolding left_total
 starts_stands source nodes parts w =
     let f = numbers_below nodes in
-    let keeps = λ (a : Numbered) (below after : Forest Numbered). KeepsRules source (counts_of parts) a below (first_root after) in
+    let keeps = λ (a : Numbered) (below after : Forest Numbered). KeepsRules source (counts_of parts) a below
+    (first_root after) in
     let tables = tables_at_start parts in
     let entries = relabelled-Throughout (numbered nodes) (λ n below after. NamesEntries tables n.item.body) f
-    (Throughout-weaker keeps (λ n below after. NamesEntries tables n.item.body) (λ a below after k. entries_named parts a.item.body
+    (Throughout-weaker keeps (λ n below after. NamesEntries tables n.item.body)
+    (λ a below after k. entries_named parts a.item.body
     k.parts_are_named k.nothing_resolved) (tree_of nodes) w.rules) in
-    let placed = each_placed source (counts_of parts) tables nodes (child_of nodes 0) f w.reached_once.finite w.rules entries in
-    let childless : Childless (tree_of nodes) = Throughout-weaker keeps (λ a below after. IsTrue (is_childless a.item.body)
+    let placed = each_placed source (counts_of parts) tables nodes (child_of nodes 0) f w.reached_once.finite w.rules
+    entries in
+    let childless : Childless (tree_of nodes) = Throughout-weaker keeps
+    (λ a below after. IsTrue (is_childless a.item.body)
     → below ≡ nil) (λ a below after k. k.chains_are_kept.childless) (tree_of nodes) w.rules in
     let inline_only : InlineOnly (tree_of nodes) = Throughout-weaker keeps (λ a below after. IsTrue (has_open below)
     → IsTrue (all_inline below)) (λ a below after k. k.chains_are_kept.inline_only) (tree_of nodes) w.rules in
     record {
       walk = record { here = record { spelled = w.reached_once.finite; each = placed }; above = tt };
       once = λ n. let a = total-preorder (same n) f
-          in let b = listed_once n (preorder f) (IsDistinct-tail nat_eq 0 (preorder f) w.reached_once.once) in omega arith;
+          in let b = listed_once n (preorder f) (IsDistinct-tail nat_eq 0 (preorder f) w.reached_once.once) in omega
+          arith;
       named_once = λ n. omega (arith, starts_once source nodes parts n w placed);
       here_kept = kept_from source tables nodes f childless inline_only (λ o. cc (o, w.top_is_closed));
       above_kept = tt;
@@ -289,17 +321,21 @@ some_if a false = refl
 -- the document's tree is that of the trees from the first block on
 document-trees : (source : List ℕ) (tables : Tables) (nodes : List (Node Item))
     → document source tables nodes ≡ trees_from source tables nodes (child_of nodes 0)
-document-trees source tables nodes = relabelled-relabelled (numbered nodes) (λ n. label_of source tables n.item) (numbers_below nodes)
+document-trees source tables nodes = relabelled-relabelled (numbered nodes) (λ n. label_of source tables n.item)
+    (numbers_below nodes)
 
 -- the tables are those of the block result
-pub tables_held : (parts : BlockParts) (held : Allocated) → HoldsParts parts held → tables_of held ≡ tables_at_start parts
+pub tables_held : (parts : BlockParts) (held : Allocated) → HoldsParts parts held → tables_of held
+    ≡ tables_at_start parts
 tables_held parts held h = rw (h.cows, h.links, h.alignments, h.headings) refl
 
 -- what is held at first gives the rules of the block result
-rules_held : (blocks : Blocks) (held : Allocated) (options : Options) (asks : Bool) → HoldsParts (block_parts blocks) held
+rules_held : (blocks : Blocks) (held : Allocated) (options : Options) (asks : Bool)
+    → HoldsParts (block_parts blocks) held
     → options ≡ block_options blocks → rules_from options held asks ≡ rules_of blocks asks
 rules_held blocks held options asks h o =
-    let is_name : List ℕ → Bool = λ name. list_any (λ n. is_match (text_of n) name) (block_parts blocks).footnotes.items in
+    let is_name : List ℕ → Bool = λ name. list_any (λ n. is_match (text_of n) name) (block_parts blocks).footnotes.items
+    in
     let is_held : List ℕ → Bool = λ name. is_some (footnote_at held.footdefs name) in
     let named : is_held ≡ is_name = fun_ext (λ name. ap is_some (h.footnotes name) ∙ some_if unused (is_name name)) in
     rw (o, h.definitions) (ap (λ (f : List ℕ → Bool). let r : Rules = record {
@@ -315,7 +351,8 @@ none_used : (named : Bool) → use_count (if named then Some unused else None) �
 none_used true = refl
 none_used false = refl
 
-uses_held : (blocks : Blocks) (held : Allocated) → HoldsParts (block_parts blocks) held → uses_of held.footdefs ≡ (λ name. 0)
+uses_held : (blocks : Blocks) (held : Allocated) → HoldsParts (block_parts blocks) held → uses_of held.footdefs
+    ≡ (λ name. 0)
 uses_held blocks held h =
     let none : List ℕ → ℕ = λ name. 0 in
     let same : uses_of held.footdefs ≡ none = fun_ext (λ name. ap use_count (h.footnotes name)
@@ -323,9 +360,11 @@ uses_held blocks held h =
     same
 
 -- at the start what is left is the whole reading
-pub starts_left : {F : Type 0} (blocks : Blocks) (p : Parser F) (answers : Answers) → p.resolver.text.now ≡ text_of_blocks blocks
+pub starts_left : {F : Type 0} (blocks : Blocks) (p : Parser F) (answers : Answers) → p.resolver.text.now
+    ≡ text_of_blocks blocks
     → p.resolver.options ≡ block_options blocks → HoldsParts (block_parts blocks) p.resolver.lookup.tables
-    → (tree : Arena Item) → tree ≡ block_tree blocks → p.tree ≡ record tree { spine = []; cursor = child_of tree.nodes 0 }
+    → (tree : Arena Item) → tree ≡ block_tree blocks → p.tree
+    ≡ record tree { spine = []; cursor = child_of tree.nodes 0 }
     → p.resolver.lookup.limit ≡ expansion_limit (text_of_blocks blocks)
     → elements p answers ≡ reading_of blocks (is_some p.resolver.lookup.callback) answers
 unfolding left_of
@@ -348,5 +387,6 @@ pub of_some_text : {F : Type 0} (text : List ℕ) (options : Options) (blocks : 
     → IsOfText text options blocks
     → IfOk made (ReadsBlocks blocks) → IfOk made (λ p. parser_definitions p ≡ block_definitions blocks)
     → IfOk made (ReadsText text options)
-of_some_text text options blocks (Ok p) of left found = record { blocks = blocks; of_text = of; left = left; definitions = found }
+of_some_text text options blocks (Ok p) of left found = record
+    { blocks = blocks; of_text = of; left = left; definitions = found }
 of_some_text text options blocks (Err fault) of left found = tt

@@ -1,7 +1,8 @@
 -- What an item begins with, by what it refers to, and what is left in the tables.
 use Rattle.markdown_base.specs.declared.item.ItemBody.TheVariants as body
 use Rattle.markdown_inline.specs.declared.bodies.Way.TheVariants as way
-use Rattle.std.proofs.Common.{◌≡◌, ℕ, zero, suc, ◌-◌, ◌<◌, ◌≤◌, List, [], ◌∷◌, Option, Some, None, length, refl, sym, ap, subst, arith}
+use Rattle.std.proofs.Common.{◌≡◌, ℕ, zero, suc, ◌-◌, ◌<◌, ◌≤◌, List, [], ◌∷◌, Option, Some, None, length, refl, sym}
+use Rattle.std.proofs.Common.{ap, subst, arith}
 use Rattle.std.proofs.Common.{get_or, set, true, false}
 use Rattle.std.specs.Prelude.{IfSome, is_some, slice_range}
 use Rattle.std.specs.Borrow.{Bor}
@@ -43,12 +44,14 @@ use Rattle.markdown_inline.specs.Slices.{slice_start, texts_of, IsFrom, TagIsFro
 use Rattle.markdown_inline.specs.WalkSteps.{OpensWith, TakesOnly, beginning, way_at_shape, way_at, event_of_shape}
 
 -- an entry that is read
-pub text_at-read : (cows : List CowStr) (n : ℕ) (c : CowStr) → n < length cows → c ≡ get_or cows n c → text_at cows n ≡ text_of c
+pub text_at-read : (cows : List CowStr) (n : ℕ) (c : CowStr) → n < length cows → c ≡ get_or cows n c → text_at cows n
+    ≡ text_of c
 text_at-read [] n c l e = absurd (omega (arith, l))
 text_at-read (d ∷ cows) zero c l e = ap text_of (sym e)
 text_at-read (d ∷ cows) (suc n) c l e = text_at-read cows n c (omega (arith, l)) e
 
-pub origin_at-read : (cows : List CowStr) (n : ℕ) (c : CowStr) → n < length cows → c ≡ get_or cows n c → origin_at cows n ≡ origin_of c
+pub origin_at-read : (cows : List CowStr) (n : ℕ) (c : CowStr) → n < length cows → c ≡ get_or cows n c
+    → origin_at cows n ≡ origin_of c
 origin_at-read [] n c l e = absurd (omega (arith, l))
 origin_at-read (d ∷ cows) zero c l e = ap origin_of (sym e)
 origin_at-read (d ∷ cows) (suc n) c l e = origin_at-read cows n c (omega (arith, l)) e
@@ -59,7 +62,8 @@ from_itself : (source : List ℕ) (start end : ℕ) (c : CowStr) → IsSlicedOf 
 from_itself source start end (Borrowed slice) h = h refl
 from_itself source start end other h = tt
 
-pub is_from : (source : List ℕ) (start end : ℕ) (cows : List CowStr) (n : ℕ) (c : CowStr) → n < length cows → c ≡ get_or cows n c
+pub is_from : (source : List ℕ) (start end : ℕ) (cows : List CowStr) (n : ℕ) (c : CowStr) → n < length cows → c
+    ≡ get_or cows n c
     → IsSlicedOf source start end (origin_at cows n) (text_at cows n)
     → IsFrom source start end (origin_at cows n) c
 is_from source start end cows n c l e h =
@@ -84,22 +88,26 @@ pub leads_from : (source : List ℕ) (start end : ℕ) (tables : Tables) (n : �
     → IsLinkFrom source start end (link_origins c) (link_view c)
 leads_from source start end tables n c l e h =
     subst (λ (v : LinkView). IsLinkFrom source start end (link_origins c) v) (link_at-read tables.links n c l e)
-    (subst (λ (o : LinkOrigins). IsLinkFrom source start end o (link_at tables.links n)) (link_origins_at-read tables.links n c l e) h)
+    (subst (λ (o : LinkOrigins). IsLinkFrom source start end o (link_at tables.links n))
+    (link_origins_at-read tables.links n c l e) h)
 
-pub alignments_at-read : (alignments : List (Vec Alignment Global)) (n : ℕ) (c : Vec Alignment Global) → n < length alignments
+pub alignments_at-read : (alignments : List (Vec Alignment Global)) (n : ℕ) (c : Vec Alignment Global)
+    → n < length alignments
     → c ≡ get_or alignments n c → alignments_at alignments n ≡ c.items
 alignments_at-read [] n c l e = absurd (omega (arith, l))
 alignments_at-read (d ∷ alignments) zero c l e = ap (λ (v : Vec Alignment Global). v.items) (sym e)
 alignments_at-read (d ∷ alignments) (suc n) c l e = alignments_at-read alignments n c (omega (arith, l)) e
 
-pub attributes_at-read : (headings : List HeadingAttributes) (n : ℕ) (c : HeadingAttributes) → n < length headings → c ≡ get_or headings n c
+pub attributes_at-read : (headings : List HeadingAttributes) (n : ℕ) (c : HeadingAttributes) → n < length headings → c
+    ≡ get_or headings n c
     → attributes_at headings n ≡ attributes_view c
 attributes_at-read [] n c l e = absurd (omega (arith, l))
 attributes_at-read (d ∷ headings) zero c l e = ap attributes_view (sym e)
 attributes_at-read (d ∷ headings) (suc n) c l e = attributes_at-read headings n c (omega (arith, l)) e
 
 -- the attributes that a heading refers to exist
-pub heading_named : (tables : Tables) (level : HeadingLevel) (named : Option HeadingIndex) → NamesEntries tables (body.Heading level named)
+pub heading_named : (tables : Tables) (level : HeadingLevel) (named : Option HeadingIndex)
+    → NamesEntries tables (body.Heading level named)
     → IfSome named (λ ix. (1 ≤ ix.0) × (ix.0 ≤ length tables.headings))
 heading_named tables level None h = tt
 heading_named tables level (Some ix) h = h.attributes
@@ -116,14 +124,16 @@ text_at-set (d ∷ cows) zero (suc m) c h = refl
 text_at-set (d ∷ cows) (suc n) zero c h = refl
 text_at-set (d ∷ cows) (suc n) (suc m) c h = text_at-set cows n m c h
 
-origin_at-set : (cows : List CowStr) (n m : ℕ) (c : CowStr) → same m n ≡ 0 → origin_at (set cows n c) m ≡ origin_at cows m
+origin_at-set : (cows : List CowStr) (n m : ℕ) (c : CowStr) → same m n ≡ 0 → origin_at (set cows n c) m
+    ≡ origin_at cows m
 origin_at-set [] n m c h = refl
 origin_at-set (d ∷ cows) zero zero c h = cc h
 origin_at-set (d ∷ cows) zero (suc m) c h = refl
 origin_at-set (d ∷ cows) (suc n) zero c h = refl
 origin_at-set (d ∷ cows) (suc n) (suc m) c h = origin_at-set cows n m c h
 
-link_at-set : (links : List LinkParts) (n m : ℕ) (c : LinkParts) → same m n ≡ 0 → link_at (set links n c) m ≡ link_at links m
+link_at-set : (links : List LinkParts) (n m : ℕ) (c : LinkParts) → same m n ≡ 0 → link_at (set links n c) m
+    ≡ link_at links m
 link_at-set [] n m c h = refl
 link_at-set (d ∷ links) zero zero c h = cc h
 link_at-set (d ∷ links) zero (suc m) c h = refl
@@ -159,7 +169,8 @@ takes_nothing body held = record {
 }
 
 -- the text that a body refers to was taken
-text_others : (tables : Tables) (b : ItemBody) (ix : ℕ) (left : CowStr) (n : Named) → text_named b ≡ Some ix → times_named n b ≡ 0
+text_others : (tables : Tables) (b : ItemBody) (ix : ℕ) (left : CowStr) (n : Named) → text_named b ≡ Some ix
+    → times_named n b ≡ 0
     → IsSameEntry tables (record tables { cows = set tables.cows ix left }) n
 text_others tables b ix left (some_text n) e h = let apart = rw e at h
     in (text_at-set tables.cows ix n left apart, origin_at-set tables.cows ix n left apart)
@@ -168,11 +179,13 @@ text_others tables b ix left (some_alignments n) e h = refl
 
 text_sizes : (tables : Tables) (ix : ℕ) (left : CowStr) (n : Named)
     → size_for tables n ≤ size_for (record tables { cows = set tables.cows ix left }) n
-text_sizes tables ix left (some_text n) = same_length tables.cows (set tables.cows ix left) (length-set tables.cows ix left)
+text_sizes tables ix left (some_text n) = same_length tables.cows (set tables.cows ix left)
+    (length-set tables.cows ix left)
 text_sizes tables ix left (some_link n) = omega arith
 text_sizes tables ix left (some_alignments n) = omega arith
 
-pub takes_text : (b : ItemBody) (held held' : Allocated) (ix : CowIndex) → text_named b ≡ Some ix.0 → LeavesEmptyCow held held' ix
+pub takes_text : (b : ItemBody) (held held' : Allocated) (ix : CowIndex) → text_named b ≡ Some ix.0
+    → LeavesEmptyCow held held' ix
     → TakesOnly b held held'
 takes_text b held held' ix e l = rw l.others (record {
   tables = refl;
@@ -181,7 +194,8 @@ takes_text b held held' ix e l = rw l.others (record {
 })
 
 -- the link that a body refers to was taken
-link_others : (tables : Tables) (b : ItemBody) (ix : ℕ) (left : LinkParts) (n : Named) → link_named b ≡ Some ix → times_named n b ≡ 0
+link_others : (tables : Tables) (b : ItemBody) (ix : ℕ) (left : LinkParts) (n : Named) → link_named b ≡ Some ix
+    → times_named n b ≡ 0
     → IsSameEntry tables (record tables { links = set tables.links ix left }) n
 link_others tables b ix left (some_text n) e h = (refl, refl)
 link_others tables b ix left (some_link n) e h = let apart = rw e at h
@@ -191,10 +205,12 @@ link_others tables b ix left (some_alignments n) e h = refl
 link_sizes : (tables : Tables) (ix : ℕ) (left : LinkParts) (n : Named)
     → size_for tables n ≤ size_for (record tables { links = set tables.links ix left }) n
 link_sizes tables ix left (some_text n) = omega arith
-link_sizes tables ix left (some_link n) = same_length tables.links (set tables.links ix left) (length-set tables.links ix left)
+link_sizes tables ix left (some_link n) = same_length tables.links (set tables.links ix left)
+    (length-set tables.links ix left)
 link_sizes tables ix left (some_alignments n) = omega arith
 
-pub takes_link : (b : ItemBody) (held held' : Allocated) (ix : LinkIndex) → link_named b ≡ Some ix.0 → LeavesEmptyLink held held' ix
+pub takes_link : (b : ItemBody) (held held' : Allocated) (ix : LinkIndex) → link_named b ≡ Some ix.0
+    → LeavesEmptyLink held held' ix
     → TakesOnly b held held'
 takes_link b held held' ix e l = rw l.others (record {
   tables = refl;
@@ -203,7 +219,8 @@ takes_link b held held' ix e l = rw l.others (record {
 })
 
 -- the alignments that a body refers to were taken
-alignments_others : (tables : Tables) (b : ItemBody) (ix : ℕ) (left : Vec Alignment Global) (n : Named) → alignments_named b ≡ Some ix
+alignments_others : (tables : Tables) (b : ItemBody) (ix : ℕ) (left : Vec Alignment Global) (n : Named)
+    → alignments_named b ≡ Some ix
     → times_named n b ≡ 0
     → IsSameEntry tables (record tables { alignments = set tables.alignments ix left }) n
 alignments_others tables b ix left (some_text n) e h = (refl, refl)
@@ -226,7 +243,8 @@ takes_alignments b held held' ix e l = rw l.others (record {
 })
 
 -- an event of one text is not a Start
-pub no_start : (source : List ℕ) (start end : ℕ) (e : Event) (c : CowStr) → texts_of e ≡ c ∷ [] → StartIsFrom source start end e
+pub no_start : (source : List ℕ) (start end : ℕ) (e : Event) (c : CowStr) → texts_of e ≡ c ∷ []
+    → StartIsFrom source start end e
 no_start source start end (step.Start tag) c h = cc h
 no_start source start end other c h = tt
 
@@ -244,7 +262,8 @@ opens_slice source range view e c (slice, is, over) viewed texts from = rw is (r
 })
 
 -- an event of one text that is referred to, and is taken
-pub opens_made : (source : List ℕ) (range : Range ℕ) (cows : List CowStr) (n : ℕ) (view : List ℕ → EventView) (e : CowStr → Event) (c : CowStr)
+pub opens_made : (source : List ℕ) (range : Range ℕ) (cows : List CowStr) (n : ℕ) (view : List ℕ → EventView)
+    (e : CowStr → Event) (c : CowStr)
     → n < length cows → c ≡ get_or cows n c
     → ((d : CowStr) → event_view (e d) ≡ view (text_of d)) → ((d : CowStr) → texts_of (e d) ≡ d ∷ [])
     → OpensWith source range (leaf (view (text_at cows n)) (made ∷ [])) (e c)
@@ -256,7 +275,8 @@ opens_made source range cows n view e c within read viewed texts = record {
 }
 
 -- the same for the text of a span, which is a slice of the source where the table says so
-pub opens_span : (source : List ℕ) (range : Range ℕ) (cows : List CowStr) (n : ℕ) (view : List ℕ → EventView) (e : CowStr → Event) (c : CowStr)
+pub opens_span : (source : List ℕ) (range : Range ℕ) (cows : List CowStr) (n : ℕ) (view : List ℕ → EventView)
+    (e : CowStr → Event) (c : CowStr)
     → n < length cows → c ≡ get_or cows n c
     → IsSlicedOf source (origin_start source range.start) range.end (origin_at cows n) (text_at cows n)
     → ((d : CowStr) → event_view (e d) ≡ view (text_of d)) → ((d : CowStr) → texts_of (e d) ≡ d ∷ [])
@@ -265,7 +285,10 @@ pub opens_span : (source : List ℕ) (range : Range ℕ) (cows : List CowStr) (n
 opens_span source range cows n view e c within read slice viewed texts from = record {
   origins = origin_at cows n ∷ [];
   begins = rw (viewed c, text_at-read cows n c within read) refl;
-  texts = rw (texts c, from c) (is_from source (origin_start source range.start) range.end cows n c within read slice, tt);
+  texts = rw (texts c, from c) (
+    is_from source (origin_start source range.start) range.end cows n c within read slice,
+    tt,
+  );
   start = no_start source range.start range.end (e c) c (texts c);
 }
 
@@ -340,7 +363,8 @@ some_container (body.HardBreak false) h heading fenced footnote table link image
 some_container other h heading fenced footnote table link image = cc h
 
 -- the tree reads with the container's tag
-pub container_shape : (tables : Tables) (over : List ℕ) (b : ItemBody) (tag : TagView) (found : Option TagView) → container_of b ≡ found
+pub container_shape : (tables : Tables) (over : List ℕ) (b : ItemBody) (tag : TagView) (found : Option TagView)
+    → container_of b ≡ found
     → is_some found ≡ true → IfSome found (λ t. tag ≡ t) → shape_of tables over b ≡ enclosed tag
 container_shape tables over b tag None e s h = cc s
 container_shape tables over b tag (Some t) e s h = rw e (ap enclosed (sym h))

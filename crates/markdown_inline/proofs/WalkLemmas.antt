@@ -1,6 +1,7 @@
 -- What is left of a walk, before and after a move over, into or out of a node.
 use Rattle.markdown_base.specs.declared.item.ItemBody.TheVariants as body
-use Rattle.std.proofs.Common.{◌≡◌, ℕ, ◌+◌, ◌<◌, ◌≤◌, Bool, true, false, List, [], ◌∷◌, ◌++◌, Option, Some, None, refl, arith, ap}
+use Rattle.std.proofs.Common.{◌≡◌, ℕ, ◌+◌, ◌<◌, ◌≤◌, Bool, true, false, List, [], ◌∷◌, ◌++◌, Option, Some, None, refl}
+use Rattle.std.proofs.Common.{arith, ap}
 use Rattle.std.specs.Prelude.{slice_range}
 use Rattle.markdown_base.specs.Arena.{child_of, sibling_of}
 use Rattle.markdown_base.specs.ArenaForest.{Links, links_of, forest_at}
@@ -33,10 +34,12 @@ use Rattle.markdown_document.specs.Document.{unresolved, shape_of}
 use Rattle.markdown_document.proofs.PlaceLemmas.{some_weight}
 
 -- a walk went from l below spine to m below deeper, and gave these events
-pub record Moves (s : Setting) (tables : Tables) (nodes : List (Node Item)) (l : Option ℕ) (spine : List ℕ) (m : Option ℕ) (deeper : List ℕ)
+pub record Moves (s : Setting) (tables : Tables) (nodes : List (Node Item)) (l : Option ℕ) (spine : List ℕ)
+    (m : Option ℕ) (deeper : List ℕ)
     (given : List Placed) : Type 0 where
   pub stands : Stands s.text tables nodes m deeper
-  pub left : (known : Known) → left_of s tables nodes l spine known ≡ events_first given (left_of s tables nodes m deeper known)
+  pub left : (known : Known) → left_of s tables nodes l spine known
+      ≡ events_first given (left_of s tables nodes m deeper known)
   pub falls : steps_of nodes m deeper < steps_of nodes l spine
 
 one_once : (waits : Bool) → one_if waits ≤ 1
@@ -49,7 +52,8 @@ waits_once nodes None = omega arith
 waits_once nodes (Some ix) = one_once (is_open (item_at nodes ix).body)
 
 -- one more node is entered
-AllReach-snoc : (k : Links) (p : ℕ → Type 0) (spine : List ℕ) (ix : ℕ) → AllReach k p spine → ix < k.size → Reaches k p (k.next ix)
+AllReach-snoc : (k : Links) (p : ℕ → Type 0) (spine : List ℕ) (ix : ℕ) → AllReach k p spine → ix < k.size
+    → Reaches k p (k.next ix)
     → AllReach k p (spine ++ ix ∷ [])
 AllReach-snoc k p [] ix a within follows = (within, follows, tt)
 AllReach-snoc k p (j ∷ js) ix a within follows = (a.0, a.1, AllReach-snoc k p js ix a.2 within follows)
@@ -61,7 +65,8 @@ AboveKept-snoc source tables nodes [] ix a h = h
 AboveKept-snoc source tables nodes (j ∷ js) ix a h = (a.0, AboveKept-snoc source tables nodes js ix a.1 h)
 
 -- the last of them is left
-AllReach-front : (k : Links) (p : ℕ → Type 0) (spine : List ℕ) (ix : ℕ) → AllReach k p (spine ++ ix ∷ []) → AllReach k p spine
+AllReach-front : (k : Links) (p : ℕ → Type 0) (spine : List ℕ) (ix : ℕ) → AllReach k p (spine ++ ix ∷ [])
+    → AllReach k p spine
 AllReach-front k p [] ix a = tt
 AllReach-front k p (j ∷ js) ix a = (a.0, a.1, AllReach-front k p js ix a.2)
 
@@ -84,16 +89,19 @@ AboveKept-last source tables nodes [] ix a = a
 AboveKept-last source tables nodes (j ∷ js) ix a = AboveKept-last source tables nodes js ix a.1
 
 -- the node that was entered last ends first
-around-snoc : (s : Setting) (above : Above) (tables : Tables) (nodes : List (Node Item)) (spine : List ℕ) (ix : ℕ) (after : Reading)
+around-snoc : (s : Setting) (above : Above) (tables : Tables) (nodes : List (Node Item)) (spine : List ℕ) (ix : ℕ)
+    (after : Reading)
     → after_chain s above tables nodes (spine ++ ix ∷ []) after
     ≡ ended (end_of_body (item_at nodes ix).body) (range_of (item_at nodes ix))
     (reading s plain_tags (inside_all nodes spine above) (trees_from s.text tables nodes (sibling_of nodes ix))
     (after_chain s above tables nodes spine after))
 around-snoc s above tables nodes [] ix after = refl
-around-snoc s above tables nodes (j ∷ js) ix after = around-snoc s (inside_item (item_at nodes j) above) tables nodes js ix _
+around-snoc s above tables nodes (j ∷ js) ix after = around-snoc s (inside_item (item_at nodes j) above) tables nodes js
+    ix _
 
 -- what is below it is inside it
-inside_all-snoc : (nodes : List (Node Item)) (spine : List ℕ) (ix : ℕ) (above : Above) → inside_all nodes (spine ++ ix ∷ []) above
+inside_all-snoc : (nodes : List (Node Item)) (spine : List ℕ) (ix : ℕ) (above : Above)
+    → inside_all nodes (spine ++ ix ∷ []) above
     ≡ inside_item (item_at nodes ix) (inside_all nodes spine above)
 inside_all-snoc nodes [] ix above = refl
 inside_all-snoc nodes (j ∷ js) ix above = inside_all-snoc nodes js ix (inside_item (item_at nodes j) above)
@@ -104,7 +112,8 @@ climbed-snoc gone count k [] ix = omega arith
 climbed-snoc gone count k (j ∷ js) ix = omega (arith, climbed-snoc gone count k js ix)
 
 -- how a tree ends depends on its body alone
-closing-enclosed : (tables : Tables) (source : List ℕ) (body : ItemBody) (tag : TagView) → shape_of tables source body ≡ enclosed tag
+closing-enclosed : (tables : Tables) (source : List ℕ) (body : ItemBody) (tag : TagView) → shape_of tables source body
+    ≡ enclosed tag
     → end_of_body body ≡ Some (tag_end tag)
 closing-enclosed tables source body.Paragraph tag h = cc h
 closing-enclosed tables source body.TightParagraph tag h = cc h
@@ -112,7 +121,8 @@ closing-enclosed tables source (body.HardBreak true) tag h = cc h
 closing-enclosed tables source (body.HardBreak false) tag h = cc h
 closing-enclosed tables source other tag h = cc h
 
-closing-plain : (tables : Tables) (source : List ℕ) (body : ItemBody) → shape_of tables source body ≡ plain → end_of_body body ≡ None
+closing-plain : (tables : Tables) (source : List ℕ) (body : ItemBody) → shape_of tables source body ≡ plain
+    → end_of_body body ≡ None
 closing-plain tables source body.Paragraph h = cc h
 closing-plain tables source body.TightParagraph h = refl
 closing-plain tables source (body.HardBreak true) h = cc h
@@ -120,20 +130,25 @@ closing-plain tables source (body.HardBreak false) h = cc h
 closing-plain tables source other h = cc h
 
 -- a tree that reads as one event
-reads-event : (shape : Shape) (range : Range ℕ) (inside : Reading → Reading) (after whole : Reading) (e : EventView) (origins : List Origin)
+reads-event : (shape : Shape) (range : Range ℕ) (inside : Reading → Reading) (after whole : Reading) (e : EventView)
+    (origins : List Origin)
     → event_of_shape shape ≡ Some (e, origins)
     → reading_opened shape range inside after whole ≡ then_reads (e, range, origins) after
 reads-event (leaf d origins') range inside after whole e origins h =
-    let same : (d, origins') ≡ (e, origins) = cc h in ap (λ (x : EventView × List Origin). then_reads (x.0, range, x.1) after) same
+    let same : (d, origins')
+    ≡ (e, origins) = cc h in ap (λ (x : EventView × List Origin). then_reads (x.0, range, x.1) after) same
 reads-event (enclosed tag) range inside after whole e origins h = cc h
 reads-event plain range inside after whole e origins h = cc h
 reads-event backslash_break range inside after whole e origins h =
-    let same : (hard_break, []) ≡ (e, origins) = cc h in ap (λ (x : EventView × List Origin). then_reads (x.0, range, x.1) after) same
+    let same : (hard_break, [])
+    ≡ (e, origins) = cc h in ap (λ (x : EventView × List Origin). then_reads (x.0, range, x.1) after) same
 reads-event (unresolved b) range inside after whole e origins h = cc h
 
 -- over a node that reads as one event
-pub moves_on : (s : Setting) (tables : Tables) (nodes : List (Node Item)) (ix : ℕ) (spine : List ℕ) (e : EventView) (origins : List Origin)
-    → Stands s.text tables nodes (Some ix) spine → event_of_shape (label_at s.text tables nodes ix).part.shape ≡ Some (e, origins)
+pub moves_on : (s : Setting) (tables : Tables) (nodes : List (Node Item)) (ix : ℕ) (spine : List ℕ) (e : EventView)
+    (origins : List Origin)
+    → Stands s.text tables nodes (Some ix) spine → event_of_shape (label_at s.text tables nodes ix).part.shape
+    ≡ Some (e, origins)
     → Moves s tables nodes (Some ix) spine (sibling_of nodes ix) spine ((e, range_of (item_at nodes ix), origins) ∷ [])
 unfolding left_of left_total
 moves_on s tables nodes ix spine e origins w h =
@@ -148,14 +163,16 @@ moves_on s tables nodes ix spine e origins w h =
         above_kept = w.above_kept;
         spine_lies = w.spine_lies;
       };
-      left = λ known. rw o.here (ap (λ (r : Reading). r known) (reads-event (label_at s.text tables nodes ix).part.shape _ _ _ _ e origins
+      left = λ known. rw o.here
+          (ap (λ (r : Reading). r known) (reads-event (label_at s.text tables nodes ix).part.shape _ _ _ _ e origins
           h));
       falls = let waits = waits_once nodes (sibling_of nodes ix) in rw o.here (omega arith);
     }
 
 -- no entry that it refers to is referred to afterwards
 pub moves_past : (source : List ℕ) (tables : Tables) (nodes : List (Node Item)) (ix : ℕ) (spine : List ℕ) (n : Named)
-    → Stands source tables nodes (Some ix) spine → naming nodes n ix + named_left nodes (sibling_of nodes ix) spine n ≤ 1
+    → Stands source tables nodes (Some ix) spine → naming nodes n ix + named_left nodes (sibling_of nodes ix) spine n ≤
+    1
 unfolding left_total
 moves_past source tables nodes ix spine n w =
     let o = opens (links_of nodes) (IsPlaced source tables nodes) ix w.walk.here in
@@ -163,22 +180,26 @@ moves_past source tables nodes ix spine n w =
     omega arith
 
 pub moves_past_in : (source : List ℕ) (tables : Tables) (nodes : List (Node Item)) (ix : ℕ) (spine : List ℕ) (n : Named)
-    → Stands source tables nodes (Some ix) spine → naming nodes n ix + named_left nodes (child_of nodes ix) (spine ++ ix ∷ []) n ≤ 1
+    → Stands source tables nodes (Some ix) spine → naming nodes n ix + named_left nodes (child_of nodes ix)
+    (spine ++ ix ∷ []) n ≤ 1
 unfolding left_total
 moves_past_in source tables nodes ix spine n w =
     let o = opens (links_of nodes) (IsPlaced source tables nodes) ix w.walk.here in
-    rw (climbed-snoc (λ ix. 0) (naming nodes n) (links_of nodes) spine ix) (let x = rw o.here at (w.named_once n) in omega arith)
+    rw (climbed-snoc (λ ix. 0) (naming nodes n) (links_of nodes) spine ix)
+    (let x = rw o.here at (w.named_once n) in omega arith)
 
 -- into a node that reads as a Start, its children and an End
 pub moves_in : (s : Setting) (tables : Tables) (nodes : List (Node Item)) (ix : ℕ) (spine : List ℕ) (tag : TagView)
     → Stands s.text tables nodes (Some ix) spine → (label_at s.text tables nodes ix).part.shape ≡ enclosed tag
-    → Moves s tables nodes (Some ix) spine (child_of nodes ix) (spine ++ ix ∷ []) ((start tag, range_of (item_at nodes ix), []) ∷ [])
+    → Moves s tables nodes (Some ix) spine (child_of nodes ix) (spine ++ ix ∷ [])
+    ((start tag, range_of (item_at nodes ix), []) ∷ [])
 unfolding left_of left_total
 moves_in s tables nodes ix spine tag w h =
     let o = opens (links_of nodes) (IsPlaced s.text tables nodes) ix w.walk.here in
     let kept = rw o.here at w.here_kept in
     let two = some_weight (is_open (item_at nodes ix).body) in
-    let c = closing-enclosed tables (slice_range s.text (item_at nodes ix).start (item_at nodes ix).end) (item_at nodes ix).body tag h in
+    let c = closing-enclosed tables (slice_range s.text (item_at nodes ix).start (item_at nodes ix).end)
+    (item_at nodes ix).body tag h in
     record {
       stands = record {
         walk = record {
@@ -186,8 +207,10 @@ moves_in s tables nodes ix spine tag w h =
           above = AllReach-snoc (links_of nodes) (IsPlaced s.text tables nodes) spine ix w.walk.above o.within
               o.after;
         };
-        once = λ n. rw (climbed-snoc (same n) (same n) (links_of nodes) spine ix) (let x = rw o.here at (w.once n) in omega arith);
-        named_once = λ n. rw (climbed-snoc (λ ix. 0) (naming nodes n) (links_of nodes) spine ix) (let x = rw o.here at (w.named_once n)
+        once = λ n. rw (climbed-snoc (same n) (same n) (links_of nodes) spine ix)
+            (let x = rw o.here at (w.once n) in omega arith);
+        named_once = λ n. rw (climbed-snoc (λ ix. 0) (naming nodes n) (links_of nodes) spine ix)
+            (let x = rw o.here at (w.named_once n)
             in omega arith);
         here_kept = kept.1;
         above_kept = AboveKept-snoc s.text tables nodes spine ix w.above_kept (kept.2, tt);
@@ -214,7 +237,8 @@ moves_in_plain s tables nodes ix spine w h =
     let o = opens (links_of nodes) (IsPlaced s.text tables nodes) ix w.walk.here in
     let kept = rw o.here at w.here_kept in
     let two = some_weight (is_open (item_at nodes ix).body) in
-    let c = closing-plain tables (slice_range s.text (item_at nodes ix).start (item_at nodes ix).end) (item_at nodes ix).body h in
+    let c = closing-plain tables (slice_range s.text (item_at nodes ix).start (item_at nodes ix).end)
+    (item_at nodes ix).body h in
     record {
       stands = record {
         walk = record {
@@ -222,8 +246,10 @@ moves_in_plain s tables nodes ix spine w h =
           above = AllReach-snoc (links_of nodes) (IsPlaced s.text tables nodes) spine ix w.walk.above o.within
               o.after;
         };
-        once = λ n. rw (climbed-snoc (same n) (same n) (links_of nodes) spine ix) (let x = rw o.here at (w.once n) in omega arith);
-        named_once = λ n. rw (climbed-snoc (λ ix. 0) (naming nodes n) (links_of nodes) spine ix) (let x = rw o.here at (w.named_once n)
+        once = λ n. rw (climbed-snoc (same n) (same n) (links_of nodes) spine ix)
+            (let x = rw o.here at (w.once n) in omega arith);
+        named_once = λ n. rw (climbed-snoc (λ ix. 0) (naming nodes n) (links_of nodes) spine ix)
+            (let x = rw o.here at (w.named_once n)
             in omega arith);
         here_kept = kept.1;
         above_kept = AboveKept-snoc s.text tables nodes spine ix w.above_kept (kept.2, tt);
@@ -242,9 +268,11 @@ moves_in_plain s tables nodes ix spine w h =
     }
 
 -- out of a node that ends like this
-pub moves_out : (s : Setting) (tables : Tables) (nodes : List (Node Item)) (ix : ℕ) (spine : List ℕ) (given : List Placed)
+pub moves_out : (s : Setting) (tables : Tables) (nodes : List (Node Item)) (ix : ℕ) (spine : List ℕ)
+    (given : List Placed)
     → Stands s.text tables nodes None (spine ++ ix ∷ [])
-    → ((after : Reading) (known : Known) → ended (end_of_body (item_at nodes ix).body) (range_of (item_at nodes ix)) after known
+    → ((after : Reading) (known : Known) → ended (end_of_body (item_at nodes ix).body) (range_of (item_at nodes ix))
+    after known
     ≡ events_first given (after known))
     → Moves s tables nodes None (spine ++ ix ∷ []) (sibling_of nodes ix) spine given
 unfolding left_of left_total
@@ -257,16 +285,22 @@ moves_out s tables nodes ix spine given w h =
               AllReach-front (links_of nodes) (IsPlaced s.text tables nodes) spine ix w.walk.above;
         };
         once = λ n. let x = rw (climbed-snoc (same n) (same n) (links_of nodes) spine ix) at (w.once n) in omega arith;
-        named_once = λ n. let x = rw (climbed-snoc (λ ix. 0) (naming nodes n) (links_of nodes) spine ix) at (w.named_once n) in omega arith;
+        named_once = λ n. let x = rw (climbed-snoc (λ ix. 0) (naming nodes n) (links_of nodes) spine ix) at
+            (w.named_once n) in omega arith;
         here_kept = (AboveKept-last s.text tables nodes spine ix w.above_kept).0;
         above_kept = AboveKept-front s.text tables nodes spine ix w.above_kept;
         spine_lies = All-front (λ n. LiesIn s.text (item_at nodes n)) spine ix w.spine_lies;
       };
-      left = λ known. rw (forest_at-none (links_of nodes), around-snoc s (no_blocks s.text) tables nodes spine ix nothing_read)
+      left = λ known. rw (
+        forest_at-none (links_of nodes),
+        around-snoc s (no_blocks s.text) tables nodes spine ix
+            nothing_read,
+      )
           (h (reading s plain_tags (above_at s.text nodes spine) (trees_from s.text tables nodes (sibling_of nodes ix))
           (after_chain s (no_blocks s.text) tables nodes spine nothing_read)) known);
       falls = let waits = waits_once nodes (sibling_of nodes ix)
-          in rw (forest_at-none (links_of nodes), climbed-snoc (λ ix. 1) (weight_at nodes) (links_of nodes) spine ix) (omega arith);
+          in rw (forest_at-none (links_of nodes), climbed-snoc (λ ix. 1) (weight_at nodes) (links_of nodes) spine ix)
+          (omega arith);
     }
 
 -- at the end nothing is left

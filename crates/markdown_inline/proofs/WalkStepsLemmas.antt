@@ -1,5 +1,6 @@
 -- The moves of a walk, over the tree and the tables of a program.
-use Rattle.std.proofs.Common.{◌≡◌, ℕ, ◌+◌, ◌<◌, ◌≤◌, false, List, [], ◌∷◌, ◌++◌, Option, Some, None, length, refl, arith}
+use Rattle.std.proofs.Common.{◌≡◌, ℕ, ◌+◌, ◌<◌, ◌≤◌, false, List, [], ◌∷◌, ◌++◌, Option, Some, None, length, refl}
+use Rattle.std.proofs.Common.{arith}
 use Rattle.std.specs.Prelude.{slice_range}
 use Rattle.std.proofs.Common.{sym, subst, ◌∙◌}
 use Rattle.markdown_inline.specs.declared.bodies.Way.TheVariants as way
@@ -28,7 +29,8 @@ use Rattle.markdown_inline.specs.WalkSteps.{TreeStands, HasEnded, Went, PassedBe
 use Rattle.markdown_inline.specs.WalkSteps.{beginning, way_at, way_at_shape, events_first, event_of_shape}
 use Rattle.markdown_inline.proofs.TakingLemmas.{leaf_shape, some_leaf, some_tag, plain_shape, way-shape, takes_nothing}
 use Rattle.markdown_inline.proofs.LeftFrameLemmas.{left_framed}
-use Rattle.markdown_inline.proofs.WalkLemmas.{Moves, moves_on, moves_past, moves_in, moves_past_in, moves_in_plain, moves_out, left_of-end}
+use Rattle.markdown_inline.proofs.WalkLemmas.{Moves, moves_on, moves_past, moves_in, moves_past_in, moves_in_plain}
+use Rattle.markdown_inline.proofs.WalkLemmas.{moves_out, left_of-end}
 use Rattle.markdown_inline.proofs.WalkLemmas.{steps-some, steps-end, stands-end, AllReach-last}
 
 -- the bytes of an item's range
@@ -40,19 +42,23 @@ any_rules : Rules
 any_rules = record { options = record { 0 = 0 }; definitions = []; is_footnote = λ name. false; asks = false }
 
 -- an entry that is taken after a move, and is no longer referred to, changes nothing of what is left
-taken_after : (source : List ℕ) (nodes : List (Node Item)) (ix : ℕ) (held held' : Allocated) (m : Option ℕ) (deeper : List ℕ)
+taken_after : (source : List ℕ) (nodes : List (Node Item)) (ix : ℕ) (held held' : Allocated) (m : Option ℕ)
+    (deeper : List ℕ)
     (rules : Rules)
     → TakesOnly (item_at nodes ix).body held held' → ((n : Named) → naming nodes n ix + named_left nodes m deeper n ≤ 1)
     → Stands source (tables_of held) nodes m deeper
-    → Stands source (tables_of held') nodes m deeper × (left_of (setting_of source rules) (tables_of held') nodes m deeper
+    → Stands source (tables_of held') nodes m deeper
+    × (left_of (setting_of source rules) (tables_of held') nodes m deeper
     ≡ left_of (setting_of source rules) (tables_of held) nodes m deeper)
 taken_after source nodes ix held held' m deeper rules t past w =
-    let f = left_framed (setting_of source rules) (tables_of held) (tables_of held') nodes nodes m deeper (omega arith) t.longer w
+    let f = left_framed (setting_of source rules) (tables_of held) (tables_of held') nodes nodes m deeper (omega arith)
+    t.longer w
     (λ n l. record { child = refl; next = refl; item = refl })
     (λ n l. t.others n (let x = past n in omega arith)) in
     (f.stands, f.left)
 
-went : (source : List ℕ) (s t : Arena Item) (held held' : Allocated) (ix : ℕ) (m : Option ℕ) (deeper : List ℕ) (given : List Placed)
+went : (source : List ℕ) (s t : Arena Item) (held held' : Allocated) (ix : ℕ) (m : Option ℕ) (deeper : List ℕ)
+    (given : List Placed)
     → s.cursor ≡ Some ix → t ≡ record s { cursor = m; spine = deeper } → TakesOnly (item_at s.nodes ix).body held held'
     → ((n : Named) → naming s.nodes n ix + named_left s.nodes m deeper n ≤ 1)
     → ((rules : Rules) → Moves (setting_of source rules) (tables_of held) s.nodes (Some ix) s.spine m deeper given)
@@ -61,37 +67,48 @@ went source s t held held' ix m deeper given a c k past mv =
     rw (c, a) (record {
       stands = (taken_after source s.nodes ix held held' m deeper any_rules k past (mv any_rules).stands).0;
       tables = k.tables;
-      left = λ rules known. rw (taken_after source s.nodes ix held held' m deeper rules k past (mv rules).stands).1 ((mv rules).left known);
+      left = λ rules known. rw (taken_after source s.nodes ix held held' m deeper rules k past (mv rules).stands).1
+          ((mv rules).left known);
       falls = (mv any_rules).falls;
     })
 
-stands_at : (source : List ℕ) (tables : Tables) (s : Arena Item) (l : Option ℕ) (up : List ℕ) → s.cursor ≡ l → s.spine ≡ up
+stands_at : (source : List ℕ) (tables : Tables) (s : Arena Item) (l : Option ℕ) (up : List ℕ) → s.cursor ≡ l → s.spine
+    ≡ up
     → TreeStands source tables s
     → Stands source tables s.nodes l up
 stands_at source tables s l up a b w = rw (← a, ← b) w
 
 -- the node at the cursor exists, and its item is placed
-pub cursor_within : (source : List ℕ) (tables : Tables) (s : Arena Item) (ix : ℕ) → TreeStands source tables s → s.cursor ≡ Some ix
+pub cursor_within : (source : List ℕ) (tables : Tables) (s : Arena Item) (ix : ℕ) → TreeStands source tables s
+    → s.cursor ≡ Some ix
     → ix < length s.nodes
-cursor_within source tables s ix w e = (opens (links_of s.nodes) (IsPlaced source tables s.nodes) ix (rw (← e) w.walk.here)).within
+cursor_within source tables s ix w e
+    = (opens (links_of s.nodes) (IsPlaced source tables s.nodes) ix (rw (← e) w.walk.here)).within
 
-pub cursor_placed : (source : List ℕ) (tables : Tables) (s : Arena Item) (ix : ℕ) → TreeStands source tables s → s.cursor ≡ Some ix
+pub cursor_placed : (source : List ℕ) (tables : Tables) (s : Arena Item) (ix : ℕ) → TreeStands source tables s
+    → s.cursor ≡ Some ix
     → IsPlaced source tables s.nodes ix
-cursor_placed source tables s ix w e = (opens (links_of s.nodes) (IsPlaced source tables s.nodes) ix (rw (← e) w.walk.here)).holds
+cursor_placed source tables s ix w e
+    = (opens (links_of s.nodes) (IsPlaced source tables s.nodes) ix (rw (← e) w.walk.here)).holds
 
 -- so do the nodes that were entered
-pub spine_within : (source : List ℕ) (tables : Tables) (s : Arena Item) (ix : ℕ) (up : List ℕ) → TreeStands source tables s
+pub spine_within : (source : List ℕ) (tables : Tables) (s : Arena Item) (ix : ℕ) (up : List ℕ)
+    → TreeStands source tables s
     → s.spine ≡ up ++ ix ∷ [] → ix < length s.nodes
-spine_within source tables s ix up w e = (AllReach-last (links_of s.nodes) (IsPlaced source tables s.nodes) up ix (rw (← e) w.walk.above)).0
+spine_within source tables s ix up w e
+    = (AllReach-last (links_of s.nodes) (IsPlaced source tables s.nodes) up ix (rw (← e) w.walk.above)).0
 
 -- over a node
-pub went_on : (source : List ℕ) (s t : Arena Item) (held held' : Allocated) (ix : ℕ) (item : Item) (e : EventView) (origins : List Origin)
+pub went_on : (source : List ℕ) (s t : Arena Item) (held held' : Allocated) (ix : ℕ) (item : Item) (e : EventView)
+    (origins : List Origin)
     → TreeStands source (tables_of held) s → s.cursor ≡ Some ix → item ≡ item_at s.nodes ix
-    → event_of_shape (shape_of (tables_of held) (over source item) item.body) ≡ Some (e, origins) → TakesOnly item.body held held'
+    → event_of_shape (shape_of (tables_of held) (over source item) item.body) ≡ Some (e, origins)
+    → TakesOnly item.body held held'
     → t ≡ record s { cursor = sibling_of s.nodes ix } → Went source s t held held' ((e, range_of item, origins) ∷ [])
 went_on source s t held held' ix item e origins w a h sh k c =
     let st = stands_at source (tables_of held) s (Some ix) s.spine a refl w in
-    rw h (went source s t held held' ix (sibling_of s.nodes ix) s.spine ((e, range_of (item_at s.nodes ix), origins) ∷ []) a c (rw h at k)
+    rw h (went source s t held held' ix (sibling_of s.nodes ix) s.spine
+    ((e, range_of (item_at s.nodes ix), origins) ∷ []) a c (rw h at k)
     (λ n. moves_past source (tables_of held) s.nodes ix s.spine n st)
     (λ rules. moves_on (setting_of source rules) (tables_of held) s.nodes ix s.spine e origins st (rw h at sh)))
 
@@ -103,7 +120,8 @@ pub went_in : (source : List ℕ) (s t : Arena Item) (held held' : Allocated) (i
     → Went source s t held held' ((start tag, range_of item, []) ∷ [])
 went_in source s t held held' ix item tag w a h sh k c =
     let st = stands_at source (tables_of held) s (Some ix) s.spine a refl w in
-    rw h (went source s t held held' ix (child_of s.nodes ix) (s.spine ++ ix ∷ []) ((start tag, range_of (item_at s.nodes ix), []) ∷ []) a c
+    rw h (went source s t held held' ix (child_of s.nodes ix) (s.spine ++ ix ∷ [])
+    ((start tag, range_of (item_at s.nodes ix), []) ∷ []) a c
     (rw h at k) (λ n. moves_past_in source (tables_of held) s.nodes ix s.spine n st)
     (λ rules. moves_in (setting_of source rules) (tables_of held) s.nodes ix s.spine tag st (rw h at sh)))
 
@@ -114,20 +132,24 @@ pub went_in_plain : (source : List ℕ) (s t : Arena Item) (held held' : Allocat
     → Went source s t held held' []
 went_in_plain source s t held held' ix item w a h sh k c =
     let st = stands_at source (tables_of held) s (Some ix) s.spine a refl w in
-    went source s t held held' ix (child_of s.nodes ix) (s.spine ++ ix ∷ []) [] a c (rw h at k) (λ n. moves_past_in source (tables_of held)
+    went source s t held held' ix (child_of s.nodes ix) (s.spine ++ ix ∷ []) [] a c (rw h at k)
+    (λ n. moves_past_in source (tables_of held)
     s.nodes ix s.spine n st)
     (λ rules. moves_in_plain (setting_of source rules) (tables_of held) s.nodes ix s.spine st (rw h at sh))
 
 -- the entries that the item at the cursor refers to exist
-can_begin : (source : List ℕ) (s : Arena Item) (held : Allocated) (ix : ℕ) (item : Item) → TreeStands source (tables_of held) s
+can_begin : (source : List ℕ) (s : Arena Item) (held : Allocated) (ix : ℕ) (item : Item)
+    → TreeStands source (tables_of held) s
     → s.cursor ≡ Some ix → item ≡ item_at s.nodes ix → CanBegin source (tables_of held) item
 can_begin source s held ix item w a h =
     let placed = cursor_placed source (tables_of held) s ix w a in
     rw h (record { lies = placed.lies; named = placed.named; slices = placed.slices })
 
 -- past an item that is one event
-pub passed_over : (source : List ℕ) (s t : Arena Item) (held : Allocated) (ix : ℕ) (item : Item) → TreeStands source (tables_of held) s
-    → s.cursor ≡ Some ix → item ≡ item_at s.nodes ix → way_at item.body ≡ way.Leaf → t ≡ record s { cursor = sibling_of s.nodes ix }
+pub passed_over : (source : List ℕ) (s t : Arena Item) (held : Allocated) (ix : ℕ) (item : Item)
+    → TreeStands source (tables_of held) s
+    → s.cursor ≡ Some ix → item ≡ item_at s.nodes ix → way_at item.body ≡ way.Leaf → t
+    ≡ record s { cursor = sibling_of s.nodes ix }
     → PassedBeginning source s t held item
 passed_over source s t held ix item w a h goes c =
     let shape = shape_of (tables_of held) (over source item) item.body in
@@ -136,10 +158,13 @@ passed_over source s t held ix item w a h goes c =
     let is_event = leaf_shape shape some.event some.origins is some.begins in
     record {
       can = can_begin source s held ix item w a h;
-      stays = (went_on source s t held held ix item some.event some.origins w a h is_event (takes_nothing item.body held) c).stands;
+      stays = (went_on source s t held held ix item some.event some.origins w a h is_event
+          (takes_nothing item.body held) c).stands;
       stands = λ held' k. (went_on source s t held held' ix item some.event some.origins w a h is_event k c).stands;
-      went = λ held' e origins k b. went_on source s t held held' ix item e origins w a h (leaf_shape shape e origins is b) k c;
-      falls = (went_on source s t held held ix item some.event some.origins w a h is_event (takes_nothing item.body held) c).falls;
+      went = λ held' e origins k b. went_on source s t held held' ix item e origins w a h
+          (leaf_shape shape e origins is b) k c;
+      falls = (went_on source s t held held ix item some.event some.origins w a h is_event
+          (takes_nothing item.body held) c).falls;
     }
 
 -- the event that a tree in a tag begins with is the Start
@@ -152,7 +177,8 @@ start_begins backslash_break tag e origins h b = cc h
 start_begins (unresolved other) tag e origins h b = cc h
 
 -- into an item by a Start
-pub passed_in : (source : List ℕ) (s t : Arena Item) (held : Allocated) (ix : ℕ) (item : Item) → TreeStands source (tables_of held) s
+pub passed_in : (source : List ℕ) (s t : Arena Item) (held : Allocated) (ix : ℕ) (item : Item)
+    → TreeStands source (tables_of held) s
     → s.cursor ≡ Some ix → item ≡ item_at s.nodes ix → way_at item.body ≡ way.Start
     → t ≡ record s { spine = s.spine ++ ix ∷ []; cursor = child_of s.nodes ix } → PassedBeginning source s t held item
 passed_in source s t held ix item w a h goes c =
@@ -165,21 +191,25 @@ passed_in source s t held ix item w a h goes c =
       stands = λ held' k. (went_in source s t held held' ix item some.tag w a h some.is k c).stands;
       went = λ held' e origins k b.
           subst (λ (x : EventView × List Origin). Went source s t held held' ((x.0, range_of item, x.1) ∷ []))
-          (start_begins shape some.tag e origins some.is b) (went_in source s t held held' ix item some.tag w a h some.is k c);
+          (start_begins shape some.tag e origins some.is b)
+          (went_in source s t held held' ix item some.tag w a h some.is k c);
       falls = (went_in source s t held held ix item some.tag w a h some.is (takes_nothing item.body held) c).falls;
     }
 
 -- into an item without a Start
-pub passed_plain : (source : List ℕ) (s t : Arena Item) (held : Allocated) (ix : ℕ) (item : Item) → TreeStands source (tables_of held) s
+pub passed_plain : (source : List ℕ) (s t : Arena Item) (held : Allocated) (ix : ℕ) (item : Item)
+    → TreeStands source (tables_of held) s
     → s.cursor ≡ Some ix → item ≡ item_at s.nodes ix → way_at item.body ≡ way.Plain
     → t ≡ record s { spine = s.spine ++ ix ∷ []; cursor = child_of s.nodes ix } → Went source s t held held []
 passed_plain source s t held ix item w a h goes c =
     went_in_plain source s t held held ix item w a h
-    (plain_shape _ (sym (way-shape (tables_of held) (over source item) item.body) ∙ goes)) (takes_nothing item.body held) c
+    (plain_shape _ (sym (way-shape (tables_of held) (over source item) item.body) ∙ goes))
+    (takes_nothing item.body held) c
 
 went_out : (source : List ℕ) (s t : Arena Item) (held : Allocated) (ix : ℕ) (up : List ℕ) (given : List Placed)
     → TreeStands source (tables_of held) s → s.cursor ≡ None → s.spine ≡ up ++ ix ∷ []
-    → ((after : Reading) (known : Known) → ended (end_of_body (item_at s.nodes ix).body) (range_of (item_at s.nodes ix)) after known
+    → ((after : Reading) (known : Known) → ended (end_of_body (item_at s.nodes ix).body) (range_of (item_at s.nodes ix))
+    after known
     ≡ events_first given (after known))
     → t ≡ record s { spine = up; cursor = sibling_of s.nodes ix } → Went source s t held held given
 went_out source s t held ix up given w a sp cl c =
@@ -193,17 +223,21 @@ went_out source s t held ix up given w a sp cl c =
     })
 
 -- out of a node that gives an End
-pub went_out_end : (source : List ℕ) (s t : Arena Item) (held : Allocated) (ix : ℕ) (item : Item) (up : List ℕ) (e : TagEnd)
+pub went_out_end : (source : List ℕ) (s t : Arena Item) (held : Allocated) (ix : ℕ) (item : Item) (up : List ℕ)
+    (e : TagEnd)
     → TreeStands source (tables_of held) s → s.cursor ≡ None → s.spine ≡ up ++ ix ∷ []
-    → item ≡ item_at s.nodes ix → end_of_body item.body ≡ Some e → t ≡ record s { spine = up; cursor = sibling_of s.nodes ix }
+    → item ≡ item_at s.nodes ix → end_of_body item.body ≡ Some e → t
+    ≡ record s { spine = up; cursor = sibling_of s.nodes ix }
     → Went source s t held held ((end e, range_of item, []) ∷ [])
 went_out_end source s t held ix item up e w a sp h cl c =
-    rw h (went_out source s t held ix up ((end e, range_of (item_at s.nodes ix), []) ∷ []) w a sp (λ after known. rw (rw h at cl) refl) c)
+    rw h (went_out source s t held ix up ((end e, range_of (item_at s.nodes ix), []) ∷ []) w a sp
+    (λ after known. rw (rw h at cl) refl) c)
 
 -- out of a node that gives no End
 pub went_out_plain : (source : List ℕ) (s t : Arena Item) (held : Allocated) (ix : ℕ) (item : Item) (up : List ℕ)
     → TreeStands source (tables_of held) s → s.cursor ≡ None → s.spine ≡ up ++ ix ∷ []
-    → item ≡ item_at s.nodes ix → end_of_body item.body ≡ None → t ≡ record s { spine = up; cursor = sibling_of s.nodes ix }
+    → item ≡ item_at s.nodes ix → end_of_body item.body ≡ None → t
+    ≡ record s { spine = up; cursor = sibling_of s.nodes ix }
     → Went source s t held held []
 went_out_plain source s t held ix item up w a sp h cl c =
     went_out source s t held ix up [] w a sp (λ after known. rw (rw h at cl) refl) c
@@ -220,12 +254,15 @@ pub steps_ended : (t : Arena Item) → HasEnded t → tree_steps t ≡ 0
 steps_ended t e = rw (e.cursor, e.spine) (steps-end t.nodes)
 
 -- with a node at the cursor there are steps to come
-pub steps_at_cursor : (source : List ℕ) (tables : Tables) (s : Arena Item) (ix : ℕ) → TreeStands source tables s → s.cursor ≡ Some ix
+pub steps_at_cursor : (source : List ℕ) (tables : Tables) (s : Arena Item) (ix : ℕ) → TreeStands source tables s
+    → s.cursor ≡ Some ix
     → 0 < tree_steps s
-steps_at_cursor source tables s ix w e = rw e (steps-some source tables s.nodes ix s.spine (stands_at source tables s (Some ix) s.spine e
+steps_at_cursor source tables s ix w e = rw e
+    (steps-some source tables s.nodes ix s.spine (stands_at source tables s (Some ix) s.spine e
     refl w))
 
-pub refused_at : (source : List ℕ) (tables : Tables) (s t : Arena Item) (ix : ℕ) → TreeStands source tables s → s.cursor ≡ Some ix → t ≡ s
+pub refused_at : (source : List ℕ) (tables : Tables) (s t : Arena Item) (ix : ℕ) → TreeStands source tables s → s.cursor
+    ≡ Some ix → t ≡ s
     → IsRefused s t
 refused_at source tables s t ix w e same = record { same = same; steps = steps_at_cursor source tables s ix w e }
 

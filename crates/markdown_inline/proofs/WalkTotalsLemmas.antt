@@ -1,5 +1,6 @@
 -- What is left of a walk weighs at most four for each node of the arena, since no node occurs twice in it.
-use Rattle.std.proofs.Common.{◌≡◌, ℕ, zero, suc, ◌+◌, ◌*◌, ◌<◌, ◌≤◌, Bool, true, false, List, [], ◌∷◌, length, Option, Some, None}
+use Rattle.std.proofs.Common.{◌≡◌, ℕ, zero, suc, ◌+◌, ◌*◌, ◌<◌, ◌≤◌, Bool, true, false, List, [], ◌∷◌, length, Option}
+use Rattle.std.proofs.Common.{Some, None}
 use Rattle.std.proofs.Common.{refl, arith}
 use Rattle.markdown_base.specs.ArenaForest.{Links, Spells, links_of, forest_at}
 use Rattle.markdown_base.specs.ArenaWalk.{AllReach}
@@ -84,7 +85,8 @@ weight_left-few source tables nodes l spine w =
     omega (
       arith,
       total-few k (weight_at nodes) at l (forest_at k l) w.walk.here.spelled,
-      climbed-few k (IsPlaced source tables nodes) (λ ix. 1) (weight_at nodes) (λ ix. omega arith) at spine w.walk.above,
+      climbed-few k (IsPlaced source tables nodes) (λ ix. 1) (weight_at nodes) (λ ix. omega arith) at spine
+          w.walk.above,
       sum-add k.size (λ i. total (same i) (forest_at k l)) (λ i. climbed (same i) (same i) k spine),
       sum-few k.size (times_left k l spine) w.once,
     )

@@ -17,24 +17,28 @@ use Rattle.markdown_blocks.specs.Blocks.{block_parts, text_of_blocks, block_tree
 use Rattle.markdown_blocks.specs.declared.blocks.Blocks.{Blocks}
 use Rattle.markdown_document.specs.Above.{Above, inside_label, no_blocks}
 use Rattle.markdown_document.specs.ChainRest.{cut_event, cut_shape, without_first}
-use Rattle.markdown_document.specs.Document.{Origin, sliced, inlined, made, Shape, leaf, enclosed, plain, backslash_break, unresolved, Label, Plain}
+use Rattle.markdown_document.specs.Document.{Origin, sliced, inlined, made, Shape, leaf, enclosed, plain}
+use Rattle.markdown_document.specs.Document.{backslash_break, unresolved, Label, Plain}
 use Rattle.markdown_document.specs.Document.{plain_tags, document, label_of, shape_of}
 use Rattle.markdown_document.specs.Setting.{Setting, Known, setting_of}
 use Rattle.markdown_document.specs.Tables.{Tables, tables_at_start}
 use Rattle.markdown_delims.proofs.SumLemmas.{sum_of}
 use Rattle.markdown_brackets.specs.Lookup.{size_of}
-use Rattle.markdown_brackets.specs.NoLinkInLink.{ClosesOverNone, HasNoLinkInLink, HasNoneBelow, IsFreeOfLinks, IsNoLink, OpensNoLink}
+use Rattle.markdown_brackets.specs.NoLinkInLink.{ClosesOverNone, HasNoLinkInLink, HasNoneBelow, IsFreeOfLinks, IsNoLink}
+use Rattle.markdown_brackets.specs.NoLinkInLink.{OpensNoLink}
 use Rattle.markdown_inline.specs.Balanced.{Ranged, ranged}
 use Rattle.markdown_inline.specs.Elements.{Placed, events_of}
 use Rattle.markdown_inline.specs.LimitLaw.{tag_expansion}
 use Rattle.markdown_inline.specs.LookUps.{is_looked_up}
 use Rattle.markdown_inline.specs.ParserLeft.{known_at_start, reading_of, rules_of}
-use Rattle.markdown_inline.specs.ResolvedDocument.{Resolution, Resolving, no_trees, resolved_blocks, resolved_chain, resolved_document}
+use Rattle.markdown_inline.specs.ResolvedDocument.{Resolution, Resolving, no_trees, resolved_blocks, resolved_chain}
+use Rattle.markdown_inline.specs.ResolvedDocument.{resolved_document}
 use Rattle.markdown_inline.specs.ResolvedDocument.{resolved_tree, tree_then}
 use Rattle.markdown_inline.specs.ResolvedShapes.{IsMadeEvent}
 use Rattle.markdown_inline.specs.TreeReading.{BlockTreeLaw, GivesBoth, IsLone, events_in, tree_events}
 use Rattle.markdown_inline.proofs.LinksApartLemmas.{resolved_apart}
-use Rattle.markdown_inline.proofs.EndOrderLemmas.{Spent, ends_append, ends_onto, spends, spent_both, spent_none, total, total_append, total_ends}
+use Rattle.markdown_inline.proofs.EndOrderLemmas.{Spent, ends_append, ends_onto, spends, spent_both, spent_none, total}
+use Rattle.markdown_inline.proofs.EndOrderLemmas.{total_append, total_ends}
 use Rattle.markdown_inline.proofs.LookUpsLemmas.{resolved_spent}
 use Rattle.markdown_inline.proofs.PairedEndsLemmas.{IsNoBracket, mark_bracket}
 use Rattle.markdown_inline.proofs.ResolvedEndsLemmas.{Keeps, resolved_holds}
@@ -57,7 +61,8 @@ ranged_tree : (shape : Shape) (range : Range ℕ) (es fs : List Placed)
     → ranged (tree_events shape range es fs) ≡ opened_events shape range (ranged es) (ranged fs)
 ranged_tree (leaf e origins) range es fs = refl
 ranged_tree (enclosed tag) range es fs =
-    ap (λ (l : List Ranged). (start tag, range) ∷ l) (map-append (λ (e : Placed). (e.0, e.1)) es ((end (tag_end tag), range, []) ∷ fs))
+    ap (λ (l : List Ranged). (start tag, range) ∷ l)
+    (map-append (λ (e : Placed). (e.0, e.1)) es ((end (tag_end tag), range, []) ∷ fs))
 ranged_tree plain range es fs = map-append (λ (e : Placed). (e.0, e.1)) es fs
 ranged_tree backslash_break range es fs = refl
 ranged_tree (unresolved b) range es fs = refl
@@ -139,7 +144,10 @@ expansions_keep limit = record {
   cut = cut_same;
   other_link = λ v e. if_none (is_looked_up v.kind) (size_of v ∷ []) e;
   other_image = λ v e. if_none (is_looked_up v.kind) (size_of v ∷ []) e;
-  less = λ ns ms later w s. record { left = omega (arith, w.sums, s.left); fits = w.fits limit 0 0 (omega arith) s.fits };
+  less = λ ns ms later w s. record {
+    left = omega (arith, w.sums, s.left);
+    fits = w.fits limit 0 0 (omega arith) s.fits;
+  };
   link_found = λ ns later v h s. spends limit ns later (size_of v) (is_looked_up v.kind) h s;
   image_found = λ ns later v h s. spends limit ns later (size_of v) (is_looked_up v.kind) h s;
 }
@@ -194,10 +202,12 @@ block_apart (enclosed tag) below h = tag_apart tag h
 block_apart other below h = tt
 
 module _ {A : Type 0} where
-  none_at : (own : Shape → List ℕ) → ((shape : Shape) → IsBlockShape shape → own shape ≡ []) → (f : Forest (Label A)) → AreBlockShapes f
+  none_at : (own : Shape → List ℕ) → ((shape : Shape) → IsBlockShape shape → own shape ≡ []) → (f : Forest (Label A))
+      → AreBlockShapes f
       → Each (λ (a : Label A). own a.part.shape ≡ []) f
   none_at own none nil h = tt
-  none_at own none (node a below after) h = (none a.part.shape h.0, none_at own none below h.1, none_at own none after h.2)
+  none_at own none (node a below after) h
+      = (none a.part.shape h.0, none_at own none below h.1, none_at own none after h.2)
 
   free_blocks : (f : Forest (Label A)) → AreBlockShapes f → IsFreeOfLinks f
   free_blocks nil h = tt
@@ -214,37 +224,47 @@ chain_such s above chain known h =
           (none_at alone_at block_alone chain h) refl in
           omega (arith, none, total_ends alone_at trees []);
       apart = resolved_apart s plain_tags above chain known (free_blocks chain h);
-      spent = resolved_holds expansion_at (Spent known.limit) (expansions_keep known.limit) s plain_tags above chain known
+      spent = resolved_holds expansion_at (Spent known.limit) (expansions_keep known.limit) s plain_tags above chain
+          known
           (none_at expansion_at block_expansion chain h) (spent_none known.limit);
       found = resolved_spent s plain_tags above chain known;
     }
 
 -- a tree over what is below it, before what comes after it
-then_such : (a : Plain) (below after : Resolving (Unit {0})) (known : Known) → IsBlockShape a.part.shape → IsSuch known (below known)
+then_such : (a : Plain) (below after : Resolving (Unit {0})) (known : Known) → IsBlockShape a.part.shape
+    → IsSuch known (below known)
     → IsSuch (below known).known (after (below known).known) → IsSuch known (tree_then a below after known)
 then_such a below after known h i r =
     let inside : Resolution (Unit {0}) = below known in
     let later : Resolution (Unit {0}) = after inside.known in
     let rest : List ℕ = ends_onto expansion_at later.trees [] in
-    let listed : ends_onto expansion_at inside.trees (expansion_at a.part.shape ++ rest) ≡ ends_onto expansion_at inside.trees [] ++ rest =
+    let listed : ends_onto expansion_at inside.trees (expansion_at a.part.shape ++ rest)
+    ≡ ends_onto expansion_at inside.trees [] ++ rest =
     ap (λ (l : List ℕ). ends_onto expansion_at inside.trees (l ++ rest)) (block_expansion a.part.shape h)
     ∙ ends_append expansion_at inside.trees [] rest in
     record {
       lone = omega (arith, ap total (block_alone a.part.shape h), i.lone, r.lone);
       apart = (block_apart a.part.shape inside.trees h, i.apart, r.apart);
-      spent = subst (λ (l : List ℕ). Spent known.limit l later.known.limit) (sym listed) (spent_both known.limit inside.known.limit
+      spent = subst (λ (l : List ℕ). Spent known.limit l later.known.limit) (sym listed)
+          (spent_both known.limit inside.known.limit
           later.known.limit (ends_onto expansion_at inside.trees []) rest i.spent r.spent);
-      found = subst (λ (l : List ℕ). Spent known.limit l later.known.limit) (sym (map-append size_of inside.found later.found))
-          (spent_both known.limit inside.known.limit later.known.limit (map size_of inside.found) (map size_of later.found) i.found r.found);
+      found = subst (λ (l : List ℕ). Spent known.limit l later.known.limit)
+          (sym (map-append size_of inside.found later.found))
+          (spent_both known.limit inside.known.limit later.known.limit (map size_of inside.found)
+          (map size_of later.found) i.found r.found);
     }
 
 tree_such : (shape : Shape) (a : Plain) (below after chain : Resolving (Unit {0})) → IsBlockShape a.part.shape
     → ((known : Known) → IsSuch known (below known)) → ((known : Known) → IsSuch known (after known))
-    → ((known : Known) → IsSuch known (chain known)) → (known : Known) → IsSuch known (resolved_tree shape a below after chain known)
-tree_such (leaf e origins) a below after chain h i l w known = then_such a no_trees after known h (none_such known) (l known)
-tree_such (enclosed tag) a below after chain h i l w known = then_such a below after known h (i known) (l (below known).known)
+    → ((known : Known) → IsSuch known (chain known)) → (known : Known)
+    → IsSuch known (resolved_tree shape a below after chain known)
+tree_such (leaf e origins) a below after chain h i l w known = then_such a no_trees after known h (none_such known)
+    (l known)
+tree_such (enclosed tag) a below after chain h i l w known = then_such a below after known h (i known)
+    (l (below known).known)
 tree_such plain a below after chain h i l w known = then_such a below after known h (i known) (l (below known).known)
-tree_such backslash_break a below after chain h i l w known = then_such a no_trees after known h (none_such known) (l known)
+tree_such backslash_break a below after chain h i l w known = then_such a no_trees after known h (none_such known)
+    (l known)
 tree_such (unresolved b) a below after chain h i l w known = w known
 
 -- a document
@@ -253,12 +273,14 @@ document_such : (s : Setting) (above : Above) (f : Forest Plain) (known : Known)
 document_such s above nil known h = none_such known
 document_such s above (node a below later) known h =
     tree_such a.part.shape a (λ k. resolved_document s plain_tags (inside_label a above) below k)
-    (λ k. resolved_document s plain_tags above later k) (λ k. resolved_chain s plain_tags above (node a below later) k) h.0
+    (λ k. resolved_document s plain_tags above later k) (λ k. resolved_chain s plain_tags above (node a below later) k)
+    h.0
     (λ k. document_such s (inside_label a above) below k h.1) (λ k. document_such s above later k h.2)
     (λ k. chain_such s above (node a below later) k h) known
 
 -- the shapes of a well-formed block result
-block_shape : (tables : Tables) (source : List ℕ) (b : ItemBody) → is_resolved b ≡ false → IsBlockShape (shape_of tables source b)
+block_shape : (tables : Tables) (source : List ℕ) (b : ItemBody) → is_resolved b ≡ false
+    → IsBlockShape (shape_of tables source b)
 block_shape tables source (body.HardBreak true) h = tt
 block_shape tables source (body.HardBreak false) h = tt
 block_shape tables source (body.Math ix display) h = cc h
@@ -266,7 +288,8 @@ block_shape tables source (body.Link ix) h = cc h
 block_shape tables source (body.Image ix) h = cc h
 block_shape tables source other h = tt
 
-block_shapes : (source : List ℕ) (tables : Tables) (counts : PartCounts) (tree : Forest Numbered) → AllKeepRules source counts tree
+block_shapes : (source : List ℕ) (tables : Tables) (counts : PartCounts) (tree : Forest Numbered)
+    → AllKeepRules source counts tree
     → AreBlockShapes (relabelled (λ (n : Numbered). label_of source tables n.item) tree)
 block_shapes source tables counts nil h = tt
 block_shapes source tables counts (node a below after) h = (
@@ -287,7 +310,8 @@ whole_such blocks asks answers =
     (tree_of (block_tree blocks).nodes) blocks.well_formed.rules)
 
 -- its events
-pub whole_events : (blocks : Blocks) (asks : Bool) (answers : Answers) → ranged (events_of (reading_of blocks asks answers))
+pub whole_events : (blocks : Blocks) (asks : Bool) (answers : Answers)
+    → ranged (events_of (reading_of blocks asks answers))
     ≡ ranged_in (resolved_blocks blocks asks answers).trees
 whole_events blocks asks answers =
     ap ranged (blocks_read blocks asks answers).0 ∙ ranged_same (resolved_blocks blocks asks answers).trees

@@ -26,7 +26,8 @@ use Rattle.markdown_inline.proofs.NoLinkInLinkEventsLemmas.{no-link-law}
 use Rattle.markdown_inline.proofs.QuestionLawsLemmas.{document_asks, document_ends, each_also}
 
 -- events that are those of a reading, one by one
-viewed-ranged : (source : List ℕ) (given : List (Event × Range ℕ)) (events : List Placed) → AreOf IsPlacedOf source given events
+viewed-ranged : (source : List ℕ) (given : List (Event × Range ℕ)) (events : List Placed)
+    → AreOf IsPlacedOf source given events
     → viewed given ≡ ranged events
 viewed-ranged source [] [] h = refl
 viewed-ranged source [] (p ∷ events) h = absurd h
@@ -47,7 +48,8 @@ whole_reading blocks asks answers =
     }
 
 -- what a reading asks
-asks_once : (blocks : Blocks) (asks : Bool) (answers : Answers) → AsksOnce blocks asks (questions_of (reading_of blocks asks answers))
+asks_once : (blocks : Blocks) (asks : Bool) (answers : Answers)
+    → AsksOnce blocks asks (questions_of (reading_of blocks asks answers))
 asks_once blocks asks answers =
     let source = text_of_blocks blocks in
     let nodes = (block_tree blocks).nodes in
@@ -56,20 +58,25 @@ asks_once blocks asks answers =
     let s = setting_of source rules in
     record {
       at_most = document_asks source nodes tables rules (known_at_start source answers);
-      in_chains = each_also (AsksApart s) (λ chain. (above : Above) (known : Known) → AsksApartAndOnce s above known chain)
-          (λ chain apart above known. record { at_most = resolved_asks s plain_tags above chain known; apart = apart above known })
-          (document source tables nodes) (document_ends source nodes (block_parts blocks) tables rules blocks.well_formed);
+      in_chains = each_also (AsksApart s) (λ chain. (above : Above) (known : Known)
+          → AsksApartAndOnce s above known chain)
+          (λ chain apart above known. record
+          { at_most = resolved_asks s plain_tags above chain known; apart = apart above known })
+          (document source tables nodes)
+          (document_ends source nodes (block_parts blocks) tables rules blocks.well_formed);
     }
 
 -- what `into_events` returns keeps the laws
-pub whole_run : {F : Type 0} (step : F → Question → Option Answer → F → Type 0) (p : Parser F) (given : List (Event × Range ℕ))
+pub whole_run : {F : Type 0} (step : F → Question → Option Answer → F → Type 0) (p : Parser F)
+    (given : List (Event × Range ℕ))
     (callback : Option F)
     → GaveRest IsPlacedOf step p given callback → IsWholeFromStart step p given callback
 whole_run step p given callback r blocks reads =
     let answers : Answers = r.answers ++ [] in
     let asks = is_some (parser_callback p) in
     let same : viewed given ≡ ranged (events_of (reading_of blocks asks answers)) =
-    viewed-ranged _ given r.events r.are ∙ ap ranged (sym (r.left [])) ∙ ap (λ es. ranged (events_of es)) (reads answers) in
+    viewed-ranged _ given r.events r.are ∙ ap ranged (sym (r.left []))
+    ∙ ap (λ es. ranged (events_of es)) (reads answers) in
     record {
       events = subst (IsWhole (text_of_blocks blocks)) (sym same) (whole_reading blocks asks answers);
       questions = questions_of (elements p r.answers);

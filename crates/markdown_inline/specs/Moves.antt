@@ -98,7 +98,8 @@ pub record HasGone {F : Type 0} (step : F → Question → Option Answer → F �
 
 -- the shape of an item, from the text and the tables of a parser
 abbrev pub shape_in : {F : Type 0} → Parser F → Item → Shape
-shape_in p item = shape_of (tables_of p.resolver.lookup.tables) (slice_range (parser_text p) item.start item.end) item.body
+shape_in p item = shape_of (tables_of p.resolver.lookup.tables) (slice_range (parser_text p) item.start item.end)
+    item.body
 
 -- the event of an item can be made, and the walk keeps its invariant when what the item refers to is taken
 pub record IsToBegin {F : Type 0} (s : Parser F) (item : Item) (w : Way) : Type 0 where

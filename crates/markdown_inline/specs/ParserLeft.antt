@@ -91,7 +91,8 @@ parser_known p answers = record {
 
 -- what is left of it, for these answers
 abbrev pub parser_left : {F : Type 0} → Parser F → Answers → Passage
-parser_left p answers = tree_left (parser_setting p) (tables_of p.resolver.lookup.tables) p.tree (parser_known p answers)
+parser_left p answers = tree_left (parser_setting p) (tables_of p.resolver.lookup.tables) p.tree
+    (parser_known p answers)
 
 -- the elements that are left of it
 unfoldable pub elements : {F : Type 0} → Parser F → Answers → List Element

@@ -25,7 +25,8 @@ closers_of nodes = count_by (λ n. is_closer n.item.body) (preorder (tree_of nod
 -- the reading of a document, by its rules and what is known before it
 abbrev pub document_reading : List ℕ → List (Node Item) → Tables → Rules → Known → List Element
 document_reading source nodes tables rules known =
-    (reading (setting_of source rules) plain_tags (no_blocks source) (document source tables nodes) nothing_read known).elements
+    (reading (setting_of source rules) plain_tags (no_blocks source) (document source tables nodes) nothing_read
+    known).elements
 
 -- at most one question is asked for each `]`, and none at a limit of 0
 abbrev pub DocumentCountLaw : Type 0

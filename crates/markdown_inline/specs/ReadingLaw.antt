@@ -12,6 +12,7 @@ use Rattle.markdown_resolver.specs.Resolved.{resolved, all_paired}
 -- what a chain is resolved to has the same elements whether its chains of children are paired when they are reached,
 -- where they are counted, or all at once
 abbrev pub ReadingLaw : Type 0
-ReadingLaw = (s : Setting) (above : Above) (chain : Forest Plain) (known later : Known) (after : Reading) → IsQuietBelow chain
+ReadingLaw = (s : Setting) (above : Above) (chain : Forest Plain) (known later : Known) (after : Reading)
+    → IsQuietBelow chain
     → (reading s plain_tags above (resolved s plain_tags above chain known).forest after later).elements
     ≡ (settled_reading (all_paired s (resolved s plain_tags above chain known).forest) after later).elements

@@ -76,6 +76,7 @@ resolved_document s tags above (node a below after) known =
 -- the trees of a block result, for these answers, with or without a callback
 abbrev pub resolved_blocks : Blocks → (asks : Bool) → Answers → Resolution (Unit {0})
 resolved_blocks blocks asks answers =
-    resolved_document (setting_of (text_of_blocks blocks) (rules_of blocks asks)) plain_tags (no_blocks (text_of_blocks blocks))
+    resolved_document (setting_of (text_of_blocks blocks) (rules_of blocks asks)) plain_tags
+    (no_blocks (text_of_blocks blocks))
     (document (text_of_blocks blocks) (tables_at_start (block_parts blocks)) (block_tree blocks).nodes)
     (known_at_start (text_of_blocks blocks) answers)

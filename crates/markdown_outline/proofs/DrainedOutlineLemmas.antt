@@ -1,5 +1,6 @@
 -- The outline of what a merge returns is that of what its iterator returns.
-use Rattle.std.proofs.Common.{◌≡◌, ◌⊎◌, ℕ, Bool, true, false, ◌||◌, List, [], ◌∷◌, ◌++◌, map, Ok, Err, Result, Option, Some, None}
+use Rattle.std.proofs.Common.{◌≡◌, ◌⊎◌, ℕ, Bool, true, false, ◌||◌, List, [], ◌∷◌, ◌++◌, map, Ok, Err, Result, Option}
+use Rattle.std.proofs.Common.{Some, None}
 use Rattle.std.proofs.Common.{refl, sym, ap, subst, ◌∙◌, inl, inr}
 use Rattle.std.specs.Bool.{MatchBool}
 use Rattle.std.specs.List.{flat_map, list_any}
@@ -8,7 +9,8 @@ use Rattle.std.specs.declared.ops.Range.{Range}
 use Rattle.markdown_base.specs.declared.event.Event.{Event}
 use Rattle.markdown_base.specs.declared.fault.Fault.{Fault}
 use Rattle.markdown_base.specs.declared.fault.Fault.TheVariants.{Memory}
-use Rattle.markdown_out.specs.Merge.{Item, PlacedText, text_item, text_of_item, Run, alone, texts, before_runs, runs, last_text}
+use Rattle.markdown_out.specs.Merge.{Item, PlacedText, text_item, text_of_item, Run, alone, texts, before_runs, runs}
+use Rattle.markdown_out.specs.Merge.{last_text}
 use Rattle.markdown_out.specs.Merge.{unless_empty, run_items, merged}
 use Rattle.markdown_out.specs.MergeNext.{MergeState, PassesOn, item_view}
 use Rattle.markdown_out.specs.OutLaws.{StaysEnded, IsNewMerge, merge_steps}
@@ -39,7 +41,8 @@ abbrev run_error : Run R → Bool
 run_error (alone x) = is_error x
 run_error (texts t us) = false
 
-error-text : (t : PlacedText R) (rs : List (Run R)) → list_any run_error (before_runs (text_item t) (Some t) rs) ≡ list_any run_error rs
+error-text : (t : PlacedText R) (rs : List (Run R)) → list_any run_error (before_runs (text_item t) (Some t) rs)
+    ≡ list_any run_error rs
 error-text t [] = refl
 error-text t (alone x ∷ rs) = refl
 error-text t (texts u us ∷ rs) = refl
@@ -47,7 +50,8 @@ error-text t (texts u us ∷ rs) = refl
 error-before : (x : Item R) (rs : List (Run R)) → IsText x ⊎ (text_of_item x ≡ None)
     → list_any run_error (before_runs x (text_of_item x) rs) ≡ (is_error x || list_any run_error rs)
 error-before x rs (inl is) =
-    subst (λ (y : Item R). list_any run_error (before_runs y (text_of_item y) rs) ≡ (is_error y || list_any run_error rs)) (sym is.is)
+    subst (λ (y : Item R). list_any run_error (before_runs y (text_of_item y) rs)
+    ≡ (is_error y || list_any run_error rs)) (sym is.is)
     (error-text is.t rs)
 error-before x rs (inr none) = ap (λ (o : Option (PlacedText R)). list_any run_error (before_runs x o rs)) none
 
@@ -55,7 +59,8 @@ error-runs : (xs : List (Item R)) → list_any run_error (runs xs) ≡ list_any 
 error-runs [] = refl
 error-runs (x ∷ xs) = error-before x (runs xs) (text_or_none x) ∙ ap (λ (b : Bool). is_error x || b) (error-runs xs)
 
-error-unless : (bytes : List ℕ) (p : R) (xs : List (Item R)) → list_any is_error (unless_empty bytes p ++ xs) ≡ list_any is_error xs
+error-unless : (bytes : List ℕ) (p : R) (xs : List (Item R)) → list_any is_error (unless_empty bytes p ++ xs)
+    ≡ list_any is_error xs
 error-unless [] p xs = refl
 error-unless (b ∷ bytes) p xs = refl
 
@@ -92,16 +97,20 @@ are-events (Err fault ∷ xs) h = cc h
 
 -- ---- the calls
 
-module _ {S M : Type 0} (steps : S → Option Raw → S → Type 0) (can : S → Type 0) (rest : S → Count) (state : M → MergeState S R) where
+module _ {S M : Type 0} (steps : S → Option Raw → S → Type 0) (can : S → Type 0) (rest : S → Count)
+    (state : M → MergeState S R) where
   abbrev calls : M → Option Raw → M → Type 0
   calls = merge_steps through_ranges view steps can rest state
 
   -- where a merge that is not over returns no error, it continues
-  goes-on : (m t : M) (r : Option Raw) → (r ≡ Some (Err Memory) → ⊥) → (state m).over ≡ false → calls m r t → (state t).over ≡ false
+  goes-on : (m t : M) (r : Option Raw) → (r ≡ Some (Err Memory) → ⊥) → (state m).over ≡ false → calls m r t
+      → (state t).over ≡ false
   goes-on m t r passes o c = by_kind (subst (λ (b : Bool). MatchBool b ((r ≡ None) × ((state t).over ≡ true))
-      (PassesOn through_ranges view steps (state m) r (state t) ⊎ ((r ≡ Some (Err Memory)) × ((state t).over ≡ true)))) o c.gives)
+      (PassesOn through_ranges view steps (state m) r (state t) ⊎ ((r ≡ Some (Err Memory)) × ((state t).over ≡ true))))
+      o c.gives)
     where
-      by_kind : PassesOn through_ranges view steps (state m) r (state t) ⊎ ((r ≡ Some (Err Memory)) × ((state t).over ≡ true))
+      by_kind : PassesOn through_ranges view steps (state m) r (state t) ⊎
+          ((r ≡ Some (Err Memory)) × ((state t).over ≡ true))
           → (state t).over ≡ false
       by_kind (inl p) = p.goes_on
       by_kind (inr q) = absurd (passes q.0)
@@ -109,7 +118,8 @@ module _ {S M : Type 0} (steps : S → Option Raw → S → Type 0) (can : S →
   no-error : (e : Event × R) → Some (Ok e) ≡ Some (Err Memory) → ⊥
   no-error e h = cc
 
-  events-go-on : (m t : M) (es : List (Event × R)) → (state m).over ≡ false → Yields calls m (event_items es) t → (state t).over ≡ false
+  events-go-on : (m t : M) (es : List (Event × R)) → (state m).over ≡ false → Yields calls m (event_items es) t
+      → (state t).over ≡ false
   events-go-on m t [] o y = subst (λ (k : M). (state k).over ≡ false) y o
   events-go-on m t (e ∷ es) o y = events-go-on y.0 t es (goes-on m y.0 (Some (Ok e)) (no-error e) o y.1) y.2
 
@@ -125,11 +135,13 @@ module _ {S M : Type 0} (steps : S → Option Raw → S → Type 0) (can : S →
       let u = r.read.0 in
       let before = events-go-on m t es begun.goes_on r.read.1.1 in
       let last = goes-on t u None (none-error (Err Memory)) before r.read.1.2 in
-      let g = (gives_the_merge through_ranges view steps can rest state m ends begun).all (event_items es) t u r.read.1.1 r.read.1.2 last in
+      let g = (gives_the_merge through_ranges view steps can rest state m ends begun).all (event_items es) t u
+      r.read.1.1 r.read.1.2 last in
       let clean : list_any is_error (map view g.all) ≡ false =
       sym (error-merged (map view g.all)) ∙ ap (list_any is_error) g.merges ∙ error-events es in
       let read = are-events g.all clean in
-      let merges : merged through_ranges (merge_items (map ranged_view read.events)) ≡ merge_items (map ranged_view es) =
+      let merges : merged through_ranges (merge_items (map ranged_view read.events))
+      ≡ merge_items (map ranged_view es) =
       ap (merged through_ranges) (sym (ap (map view) read.are ∙ views-items read.events)) ∙ g.merges ∙ views-items es in
       record {
         events = read.events;

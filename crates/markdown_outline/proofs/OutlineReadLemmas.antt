@@ -1,5 +1,6 @@
 -- What the loop over the events keeps, and what follows from it where the loop is left.
-use Rattle.std.proofs.Common.{◌≡◌, ◌<◌, ◌+◌, ℕ, false, List, [], ◌∷◌, ◌++◌, Ok, Err, Result, Option, Some, None, length, map}
+use Rattle.std.proofs.Common.{◌≡◌, ◌<◌, ◌+◌, ℕ, false, List, [], ◌∷◌, ◌++◌, Ok, Err, Result, Option, Some, None, length}
+use Rattle.std.proofs.Common.{map}
 use Rattle.std.proofs.Common.{refl, sym, ap, subst, ◌∙◌, append_assoc, append-nil}
 use Rattle.std.specs.Prelude.{IsSome}
 use Rattle.std.specs.Iterator.{Yields}
@@ -9,7 +10,8 @@ use Rattle.std.proofs.iter.Next.{Yields-more}
 use Rattle.markdown_base.specs.declared.event.Event.{Event}
 use Rattle.markdown_base.specs.declared.fault.Fault.{Fault}
 use Rattle.markdown_outline.specs.Outline.{Ranged, EntryView, entries_from}
-use Rattle.markdown_outline.specs.OutlineRead.{ranged_view, entries_of_events, event_items, IsOutlineOfAll, MeetsError, NeedsMemory}
+use Rattle.markdown_outline.specs.OutlineRead.{ranged_view, entries_of_events, event_items, IsOutlineOfAll, MeetsError}
+use Rattle.markdown_outline.specs.OutlineRead.{NeedsMemory}
 use Rattle.markdown_outline.specs.OutlineSoFar.{EntriesView, all_entries}
 use Rattle.markdown_outline.proofs.OutlineSoFarLemmas.{open-has_entry}
 
@@ -23,7 +25,8 @@ pub record TookIn (state : EntriesView) (yielded : List (Result Placed Fault)) :
   pub makes : (later : List Ranged) → entries_from false (map ranged_view events ++ later) ≡ all_entries state later
 
 -- before the first event
-pub TookIn-none : (state : EntriesView) (yielded : List (Result Placed Fault)) → state ≡ record { ended = []; open_entry = None }
+pub TookIn-none : (state : EntriesView) (yielded : List (Result Placed Fault)) → state
+    ≡ record { ended = []; open_entry = None }
     → yielded ≡ [] → TookIn state yielded
 TookIn-none state yielded none read = record {
   events = [];
@@ -45,7 +48,8 @@ views-more events e later =
     ∙ append_assoc (map ranged_view events) (ranged_view e ∷ []) later
 
 -- after one more event
-pub TookIn-more : {state state' : EntriesView} {yielded : List (Result Placed Fault)} {item : Result Placed Fault} (e : Placed)
+pub TookIn-more : {state state' : EntriesView} {yielded : List (Result Placed Fault)} {item : Result Placed Fault}
+    (e : Placed)
     → TookIn state yielded → item ≡ Ok e
     → ((later : List Ranged) → all_entries state (ranged_view e ∷ later) ≡ all_entries state' later)
     → TookIn state' (yielded ++ item ∷ [])
@@ -60,7 +64,8 @@ TookIn-more {state} {state'} {yielded} {item} e t is next = record {
 
 module _ {S : Type 0} (steps : S → Option (Result Placed Fault) → S → Type 0) where
   -- an item is an error
-  pub MeetsError-from : (it s u : S) {state : EntriesView} {yielded : List (Result Placed Fault)} {item : Result Placed Fault}
+  pub MeetsError-from : (it s u : S) {state : EntriesView} {yielded : List (Result Placed Fault)}
+      {item : Result Placed Fault}
       (fault : Fault) → Yields steps it yielded s → steps s (Some item) u → item ≡ Err fault → TookIn state yielded
       → MeetsError steps it fault
   MeetsError-from it s u {state} {yielded} {item} fault y step is t = record {
@@ -73,13 +78,15 @@ module _ {S : Type 0} (steps : S → Option (Result Placed Fault) → S → Type
   }
 
   -- an allocation was refused at an event inside a heading
-  pub NeedsMemory-event : (it s u : S) {state : EntriesView} {yielded : List (Result Placed Fault)} {item : Result Placed Fault}
+  pub NeedsMemory-event : (it s u : S) {state : EntriesView} {yielded : List (Result Placed Fault)}
+      {item : Result Placed Fault}
       (e : Placed) → Yields steps it yielded s → steps s (Some item) u → item ≡ Ok e → TookIn state yielded
       → IsSome state.open_entry → NeedsMemory steps it
   NeedsMemory-event it s u {state} {yielded} {item} e y step is t inside = record {
     events = t.events ++ e ∷ [];
     left = u;
-    read = subst (λ (ys : List (Result Placed Fault)). Yields steps it ys u) (items-more t.events e yielded item t.read is)
+    read = subst (λ (ys : List (Result Placed Fault)). Yields steps it ys u)
+        (items-more t.events e yielded item t.read is)
         (Yields-more steps it yielded s item u y step);
     has_entry = subst (λ (es : List EntryView). 0 < length es)
         (sym (ap (λ (es : List Ranged). entries_from false es)
@@ -90,10 +97,12 @@ module _ {S : Type 0} (steps : S → Option (Result Placed Fault) → S → Type
   -- the entries of the events read
   all-read : {state : EntriesView} {yielded : List (Result Placed Fault)} (t : TookIn state yielded)
       → entries_of_events t.events ≡ all_entries state []
-  all-read t = ap (λ (es : List Ranged). entries_from false es) (sym (append-nil (map ranged_view t.events))) ∙ t.makes []
+  all-read t = ap (λ (es : List Ranged). entries_from false es) (sym (append-nil (map ranged_view t.events)))
+      ∙ t.makes []
 
   -- an allocation was refused at the end, where a heading has no End
-  pub NeedsMemory-end : (it s : S) {state : EntriesView} {yielded : List (Result Placed Fault)} → Yields steps it yielded s
+  pub NeedsMemory-end : (it s : S) {state : EntriesView} {yielded : List (Result Placed Fault)}
+      → Yields steps it yielded s
       → TookIn state yielded → IsSome state.open_entry → NeedsMemory steps it
   NeedsMemory-end it s {state} y t inside = record {
     events = t.events;
@@ -103,7 +112,8 @@ module _ {S : Type 0} (steps : S → Option (Result Placed Fault) → S → Type
   }
 
   -- all events were read
-  pub IsOutlineOfAll-from : (it s u : S) {state : EntriesView} {yielded : List (Result Placed Fault)} {entries : List EntryView}
+  pub IsOutlineOfAll-from : (it s u : S) {state : EntriesView} {yielded : List (Result Placed Fault)}
+      {entries : List EntryView}
       → Yields steps it yielded s → steps s None u → TookIn state yielded → entries ≡ all_entries state []
       → IsOutlineOfAll steps it entries
   IsOutlineOfAll-from it s u y step t all = record {

@@ -1,5 +1,6 @@
 -- The outline of what a parser returns with its ranges is that of its reading, and so has the entries of the tree read.
-use Rattle.std.proofs.Common.{◌≡◌, ℕ, false, List, [], ◌∷◌, ◌++◌, map, Err, Option, Some, None, Result, refl, sym, ap, subst, ◌∙◌}
+use Rattle.std.proofs.Common.{◌≡◌, ℕ, false, List, [], ◌∷◌, ◌++◌, map, Err, Option, Some, None, Result, refl, sym, ap}
+use Rattle.std.proofs.Common.{subst, ◌∙◌}
 use Rattle.std.proofs.Common.{append_assoc, append-nil}
 use Rattle.std.specs.Prelude.{is_some}
 use Rattle.std.specs.Iterator.{Drains, Yields}
@@ -13,7 +14,8 @@ use Rattle.markdown_defs.specs.Callback.{Asks}
 use Rattle.markdown_inline.specs.Balanced.{ranged}
 use Rattle.markdown_inline.specs.Elements.{Element, Placed, events_of}
 use Rattle.markdown_inline.specs.NextGives.{NextGives, IsPlacedOf}
-use Rattle.markdown_inline.specs.ParserLeft.{ReadsBlocks, elements, offset_parser, parser_callback, parser_text, reading_of}
+use Rattle.markdown_inline.specs.ParserLeft.{ReadsBlocks, elements, offset_parser, parser_callback, parser_text}
+use Rattle.markdown_inline.specs.ParserLeft.{reading_of}
 use Rattle.markdown_inline.specs.ResolvedDocument.{resolved_blocks}
 use Rattle.markdown_inline.specs.Runs.{AreOf, GaveRest}
 use Rattle.markdown_inline.specs.declared.walk.OffsetIter.{OffsetIter}
@@ -42,7 +44,8 @@ module _ {F : Type 0} (step : F → Question → Option Answer → F → Type 0)
   Gave o t given = GaveFirst step IsPlacedOf offset_parser o t given
 
   -- after some events come others
-  then_more : (o q t : OffsetIter F) (given more : List (Event × Range ℕ)) → Gave o q given → Yields Steps q (event_items more) t
+  then_more : (o q t : OffsetIter F) (given more : List (Event × Range ℕ)) → Gave o q given
+      → Yields Steps q (event_items more) t
       → Gave o t (given ++ more)
   then_more o q t given [] g y =
       subst (Gave o t) (sym (append-nil given)) (subst (λ (r : OffsetIter F). Gave o r given) y g)
@@ -55,7 +58,8 @@ module _ {F : Type 0} (step : F → Question → Option Answer → F → Type 0)
       → (after : Option F) × GaveRest IsPlacedOf step (offset_parser o) given after
   drained o given (u, (t, y, z)) = (
     parser_callback (offset_parser u),
-    gave_rest step IsPlacedOf offset_parser o t u given (then_more o o t [] given (gave_none step IsPlacedOf offset_parser o) y) z,
+    gave_rest step IsPlacedOf offset_parser o t u given
+        (then_more o o t [] given (gave_none step IsPlacedOf offset_parser o) y) z,
   )
 
   -- an error item is one of memory
@@ -90,8 +94,10 @@ module _ {F : Type 0} (step : F → Question → Option Answer → F → Type 0)
       ∙ ap (λ (es : List Element). entries_of (ranged (events_of es))) read
 
   -- and so has the entries of its tree
-  pub entries_of_blocks : (blocks : Blocks) (o : OffsetIter F) (entries : List EntryView) → ReadsBlocks blocks (offset_parser o)
-      → parser_callback (offset_parser o) ≡ None → IsOutlineOfAll Steps o entries → HeadingsApart blocks → AreEntriesOf blocks entries
+  pub entries_of_blocks : (blocks : Blocks) (o : OffsetIter F) (entries : List EntryView)
+      → ReadsBlocks blocks (offset_parser o)
+      → parser_callback (offset_parser o) ≡ None → IsOutlineOfAll Steps o entries → HeadingsApart blocks
+      → AreEntriesOf blocks entries
   entries_of_blocks blocks o entries reads nobody outline apart answers =
       let law = block_tree-law blocks false answers in
       outline_reads blocks o entries reads nobody outline answers

@@ -15,13 +15,15 @@ use Rattle.markdown_blocks.specs.declared.blocks.Blocks.{Blocks}
 use Rattle.markdown_builder.specs.HeadingsHoldInline.{is_heading_block, HeadingsHoldInline}
 use Rattle.markdown_document.specs.Above.{Above, inside_label, no_blocks}
 use Rattle.markdown_document.specs.ChainRest.{cut_shape}
-use Rattle.markdown_document.specs.Document.{Shape, leaf, enclosed, plain, backslash_break, unresolved, Label, Plain, document}
+use Rattle.markdown_document.specs.Document.{Shape, leaf, enclosed, plain, backslash_break, unresolved, Label, Plain}
+use Rattle.markdown_document.specs.Document.{document}
 use Rattle.markdown_document.specs.Document.{is_unresolved, label_of, plain_tags, shape_of}
 use Rattle.markdown_document.specs.Setting.{Known, Setting, setting_of}
 use Rattle.markdown_document.specs.Tables.{Tables, tables_at_start}
 use Rattle.markdown_document.proofs.PlaceLemmas.{open-unresolved}
 use Rattle.markdown_inline.specs.ParserLeft.{known_at_start, rules_of}
-use Rattle.markdown_inline.specs.ResolvedDocument.{Resolving, no_trees, resolved_blocks, resolved_chain, resolved_document, resolved_tree}
+use Rattle.markdown_inline.specs.ResolvedDocument.{Resolving, no_trees, resolved_blocks, resolved_chain}
+use Rattle.markdown_inline.specs.ResolvedDocument.{resolved_document, resolved_tree}
 use Rattle.markdown_inline.specs.ResolvedShapes.{IsMadeShape, IsMadeTag}
 use Rattle.markdown_inline.proofs.ResolvedShapesLemmas.{shapes-law}
 use Rattle.markdown_outline.specs.Outline.{tag_level}
@@ -67,7 +69,8 @@ document_none : (s : Setting) (above : Above) (f : Forest Plain) → NoHeading f
 document_none s above nil n known = tt
 document_none s above (node a below after) n known =
     tree_none a.part.shape a (λ k. resolved_document s plain_tags (inside_label a above) below k)
-    (λ k. resolved_document s plain_tags above after k) (λ k. resolved_chain s plain_tags above (node a below after) k) n.0
+    (λ k. resolved_document s plain_tags above after k) (λ k. resolved_chain s plain_tags above (node a below after) k)
+    n.0
     (λ k. document_none s (inside_label a above) below n.1 k) (λ k. document_none s above after n.2 k)
     (λ k. chain_none s above (node a below after) k n) known
 
@@ -110,14 +113,16 @@ tree_apart plain a below after chain is n i l w known = (
 )
 tree_apart backslash_break a below after chain is n i l w known =
     (record { in_heading = λ h. tt; unread = λ h. tt }, tt, l known)
-tree_apart (unresolved b) a below after chain is n i l w known = none_apart (chain known).trees (w (ap is_unresolved is) known)
+tree_apart (unresolved b) a below after chain is n i l w known = none_apart (chain known).trees
+    (w (ap is_unresolved is) known)
 
 document_apart : (s : Setting) (above : Above) (f : Forest Plain) → AllKept f
     → (known : Known) → AllApart (resolved_document s plain_tags above f known).trees
 document_apart s above nil p known = tt
 document_apart s above (node a below after) p known =
     tree_apart a.part.shape a (λ k. resolved_document s plain_tags (inside_label a above) below k)
-    (λ k. resolved_document s plain_tags above after k) (λ k. resolved_chain s plain_tags above (node a below after) k) refl
+    (λ k. resolved_document s plain_tags above after k) (λ k. resolved_chain s plain_tags above (node a below after) k)
+    refl
     (λ h k. document_none s (inside_label a above) below (p.0.in_heading h) k)
     (λ k. document_apart s (inside_label a above) below p.1 k) (λ k. document_apart s above after p.2 k)
     (λ h k. chain_none s above (node a below after) k (p.0.in_chain h)) known
@@ -170,7 +175,8 @@ module _ (source : List ℕ) (tables : Tables) (counts : PartCounts) where
 
   labels_none : (f : Forest Numbered) → NoHeadingBlock f → NoHeading (labelled f)
   labels_none nil n = tt
-  labels_none (node a below after) n = (body_none tables _ a.item.body n.0, labels_none below n.1, labels_none after n.2)
+  labels_none (node a below after) n
+      = (body_none tables _ a.item.body n.0, labels_none below n.1, labels_none after n.2)
 
   -- an inline chain contains no heading
   chain_of_inline : (f : Forest Numbered) → AllKeepRules source counts f → all_inline f ≡ true → NoHeadingBlock f
@@ -183,7 +189,8 @@ module _ (source : List ℕ) (tables : Tables) (counts : PartCounts) where
       )
 
   kept_apart : (f : Forest Numbered) → AllKeepRules source counts f → (has_open f ≡ true → all_inline f ≡ true)
-      → Throughout (λ (a : Numbered) (below after : Forest Numbered). IsTrue (is_heading_block a.item.body) → NoHeadingBlock below) f
+      → Throughout (λ (a : Numbered) (below after : Forest Numbered). IsTrue (is_heading_block a.item.body)
+      → NoHeadingBlock below) f
       → AllKept (labelled f)
   kept_apart nil k h p = tt
   kept_apart (node a below after) k h p = (
@@ -218,7 +225,8 @@ inline_nones nil h = tt
 inline_nones (node a below after) h = (inline_none a.item.body h.0, inline_nones below h.1, inline_nones after h.2)
 
 held_apart : (f : Forest Numbered) → HeadingsHoldInline f
-    → Throughout (λ (a : Numbered) (below after : Forest Numbered). IsTrue (is_heading_block a.item.body) → NoHeadingBlock below) f
+    → Throughout (λ (a : Numbered) (below after : Forest Numbered). IsTrue (is_heading_block a.item.body)
+    → NoHeadingBlock below) f
 held_apart nil h = tt
 held_apart (node a below after) h = (λ e. inline_nones below (h.0 e), held_apart below h.1, held_apart after h.2)
 

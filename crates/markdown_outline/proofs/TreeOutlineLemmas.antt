@@ -1,5 +1,6 @@
 -- The outline of the events of trees has the entries of their headings, where none of these contains another.
-use Rattle.std.proofs.Common.{◌≡◌, ℕ, Bool, true, false, List, [], ◌∷◌, ◌++◌, map, Option, Some, None, refl, sym, ap, ◌∙◌}
+use Rattle.std.proofs.Common.{◌≡◌, ℕ, Bool, true, false, List, [], ◌∷◌, ◌++◌, map, Option, Some, None, refl, sym, ap}
+use Rattle.std.proofs.Common.{◌∙◌}
 use Rattle.std.proofs.Common.{append_assoc, append-nil}
 use Rattle.std.specs.Prelude.{IsTrue, is_some, not, if◌then◌else◌}
 use Rattle.std.specs.declared.ops.Range.{Range}
@@ -10,7 +11,8 @@ use Rattle.markdown_document.specs.Document.{Shape, leaf, enclosed, plain, backs
 use Rattle.markdown_inline.specs.Balanced.{ranged}
 use Rattle.markdown_inline.specs.Elements.{Placed}
 use Rattle.markdown_inline.specs.TreeReading.{GivesBoth, IsLone, events_in, tree_events}
-use Rattle.markdown_outline.specs.Outline.{Ranged, EntryView, tag_level, opened_level, is_heading, ends_heading, joined_text}
+use Rattle.markdown_outline.specs.Outline.{Ranged, EntryView, tag_level, opened_level, is_heading, ends_heading}
+use Rattle.markdown_outline.specs.Outline.{joined_text}
 use Rattle.markdown_outline.specs.Outline.{up_to_end, opened_entry, entries_from, entries_of}
 use Rattle.markdown_outline.specs.TreeOutline.{tree_level, own_entry, tree_entries}
 
@@ -66,7 +68,8 @@ lone_opens_none (end tag) h = absurd h
 lone_opens_none other h = refl
 
 -- events after others, and then more
-parted : (first others : List Placed) (rest : List Ranged) → ranged (first ++ others) ++ rest ≡ ranged first ++ (ranged others ++ rest)
+parted : (first others : List Placed) (rest : List Ranged) → ranged (first ++ others) ++ rest
+    ≡ ranged first ++ (ranged others ++ rest)
 parted first others rest =
     ap (λ (es : List Ranged). es ++ rest) (map-append (λ (e : Placed). (e.0, e.1)) first others)
     ∙ append_assoc (ranged first) (ranged others) rest
@@ -91,19 +94,23 @@ tree_stays (enclosed tag) range inside after n g i l rest =
     (ap up_to_end (parted inside (close ∷ after) rest) ∙ i ((end (tag_end tag), range) ∷ (ranged after ++ rest))
     ∙ ap (λ (es : List Ranged). ranged inside ++ es) goes_on ∙ sym (parted inside (close ∷ after) (up_to_end rest)))
 tree_stays plain range inside after n g i l rest =
-    ap up_to_end (parted inside after rest) ∙ i (ranged after ++ rest) ∙ ap (λ (es : List Ranged). ranged inside ++ es) (l rest)
+    ap up_to_end (parted inside after rest) ∙ i (ranged after ++ rest) ∙ ap (λ (es : List Ranged). ranged inside ++ es)
+    (l rest)
     ∙ sym (parted inside after (up_to_end rest))
 tree_stays backslash_break range inside after n g i l rest = rw (l rest) refl
 tree_stays (unresolved b) range inside after n g i l rest = l rest
 
-tree_silent : (shape : Shape) (range : Range ℕ) (inside after : List Placed) → not_heading shape ≡ true → GivesBoth shape
+tree_silent : (shape : Shape) (range : Range ℕ) (inside after : List Placed) → not_heading shape ≡ true
+    → GivesBoth shape
     → Silent inside → Silent after → Silent (tree_events shape range inside after)
 tree_silent (leaf e origins) range inside after n g i l rest = rw (entries_from, lone_ends_none e g) (l rest)
 tree_silent (enclosed tag) range inside after n g i l rest =
     let close : Placed = (end (tag_end tag), range, []) in
     let none = ends_none tag (no_level (tag_level tag) n) in
-    let goes_on : entries_from true ((end (tag_end tag), range) ∷ (ranged after ++ rest)) ≡ entries_from true rest = rw (entries_from, none) (l rest) in
-    ap (entries_from true) (parted inside (close ∷ after) rest) ∙ i ((end (tag_end tag), range) ∷ (ranged after ++ rest)) ∙ goes_on
+    let goes_on : entries_from true ((end (tag_end tag), range) ∷ (ranged after ++ rest))
+    ≡ entries_from true rest = rw (entries_from, none) (l rest) in
+    ap (entries_from true) (parted inside (close ∷ after) rest)
+    ∙ i ((end (tag_end tag), range) ∷ (ranged after ++ rest)) ∙ goes_on
 tree_silent plain range inside after n g i l rest =
     ap (entries_from true) (parted inside after rest) ∙ i (ranged after ++ rest) ∙ l rest
 tree_silent backslash_break range inside after n g i l rest = l rest
@@ -113,7 +120,8 @@ tree_silent (unresolved b) range inside after n g i l rest = l rest
 trees_stay : {A : Type 0} (f : Forest (Label A)) → NoHeading f → AllGiveBoth f → Stays (events_in f)
 trees_stay nil n g rest = refl
 trees_stay (node a below after) n g rest =
-    tree_stays a.part.shape a.part.range (events_in below) (events_in after) n.0 g.0 (trees_stay below n.1 g.1) (trees_stay after n.2 g.2)
+    tree_stays a.part.shape a.part.range (events_in below) (events_in after) n.0 g.0 (trees_stay below n.1 g.1)
+    (trees_stay after n.2 g.2)
     rest
 
 trees_silent : {A : Type 0} (f : Forest (Label A)) → NoHeading f → AllGiveBoth f → Silent (events_in f)
@@ -130,7 +138,8 @@ no_entries (node a below after) n =
 
 -- outside of headings these events have these entries
 abbrev Have : List Placed → List EntryView → Type 0
-Have events entries = (rest : List Ranged) → entries_from false (ranged events ++ rest) ≡ entries ++ entries_from false rest
+Have events entries = (rest : List Ranged) → entries_from false (ranged events ++ rest)
+    ≡ entries ++ entries_from false rest
 
 -- what is below a tree has its entries, and where no heading is below it its events are within one
 record BelowHas {A : Type 0} (below : Forest (Label A)) : Type 0 where
@@ -139,9 +148,12 @@ record BelowHas {A : Type 0} (below : Forest (Label A)) : Type 0 where
   silent : NoHeading below → Silent (events_in below)
 
 -- a Start and an End with what is between them, by the level of the heading that they are, if they are one
-enclosed_has : {A : Type 0} (tag : TagView) (o : Option ℕ) (range : Range ℕ) (below : Forest (Label A)) (after : List Placed)
-    (others : List EntryView) → tag_level tag ≡ o → (is_some o ≡ true → NoHeading below) → BelowHas below → Have after others
-    → Have (tree_events (enclosed tag) range (events_in below) after) (own_entry o range below ++ (tree_entries below ++ others))
+enclosed_has : {A : Type 0} (tag : TagView) (o : Option ℕ) (range : Range ℕ) (below : Forest (Label A))
+    (after : List Placed)
+    (others : List EntryView) → tag_level tag ≡ o → (is_some o ≡ true → NoHeading below) → BelowHas below
+    → Have after others
+    → Have (tree_events (enclosed tag) range (events_in below) after)
+    (own_entry o range below ++ (tree_entries below ++ others))
 enclosed_has tag None range below after others t n b l rest =
     let close : Placed = (end (tag_end tag), range, []) in
     let outside : entries_from false (ranged (events_in below ++ close ∷ after) ++ rest)
@@ -156,21 +168,28 @@ enclosed_has tag (Some level) range below after others t n b l rest =
     let later : List Ranged = ranged after ++ rest in
     let one = ends_one tag level t in
     let stops : up_to_end ((end (tag_end tag), range) ∷ later) ≡ [] = rw one refl in
-    let leaves : entries_from true ((end (tag_end tag), range) ∷ later) ≡ entries_from false later = rw (entries_from, one) refl in
+    let leaves : entries_from true ((end (tag_end tag), range) ∷ later)
+    ≡ entries_from false later = rw (entries_from, one) refl in
     let within : up_to_end (ranged (events_in below ++ close ∷ after) ++ rest) ≡ ranged (events_in below) =
     ap up_to_end (parted (events_in below) (close ∷ after) rest) ∙ b.stays (n refl) ((end (tag_end tag), range) ∷ later)
     ∙ ap (λ (es : List Ranged). ranged (events_in below) ++ es) stops ∙ append-nil (ranged (events_in below)) in
-    let behind : entries_from true (ranged (events_in below ++ close ∷ after) ++ rest) ≡ others ++ entries_from false rest =
-    ap (entries_from true) (parted (events_in below) (close ∷ after) rest) ∙ b.silent (n refl) ((end (tag_end tag), range) ∷ later)
+    let behind : entries_from true (ranged (events_in below ++ close ∷ after) ++ rest)
+    ≡ others ++ entries_from false rest =
+    ap (entries_from true) (parted (events_in below) (close ∷ after) rest)
+    ∙ b.silent (n refl) ((end (tag_end tag), range) ∷ later)
     ∙ leaves ∙ l rest in
     rw (t, within, behind, no_entries below (n refl)) refl
 
 -- a tree of whatever shape
-tree_has : {A : Type 0} (shape : Shape) (range : Range ℕ) (below : Forest (Label A)) (after : List Placed) (others : List EntryView)
-    → GivesBoth shape → (not_heading shape ≡ false → NoHeading below) → (reads_below shape ≡ false → NoHeading below) → BelowHas below
+tree_has : {A : Type 0} (shape : Shape) (range : Range ℕ) (below : Forest (Label A)) (after : List Placed)
+    (others : List EntryView)
+    → GivesBoth shape → (not_heading shape ≡ false → NoHeading below) → (reads_below shape ≡ false → NoHeading below)
+    → BelowHas below
     → Have after others
-    → Have (tree_events shape range (events_in below) after) (own_entry (tree_level shape) range below ++ (tree_entries below ++ others))
-tree_has (leaf e origins) range below after others g n u b l rest = rw (lone_opens_none e g, no_entries below (u refl)) (l rest)
+    → Have (tree_events shape range (events_in below) after)
+    (own_entry (tree_level shape) range below ++ (tree_entries below ++ others))
+tree_has (leaf e origins) range below after others g n u b l rest = rw (lone_opens_none e g, no_entries below (u refl))
+    (l rest)
 tree_has (enclosed tag) range below after others g n u b l rest =
     enclosed_has tag (tag_level tag) range below after others refl (λ h. n (rw h refl)) b l rest
 tree_has plain range below after others g n u b l rest =
@@ -184,7 +203,8 @@ tree_has (unresolved b') range below after others g n u b l rest = rw (no_entrie
 trees_have : {A : Type 0} (f : Forest (Label A)) → AllApart f → AllGiveBoth f → Have (events_in f) (tree_entries f)
 trees_have nil p g rest = refl
 trees_have (node a below after) p g rest =
-    tree_has a.part.shape a.part.range below (events_in after) (tree_entries after) g.0 p.0.in_heading p.0.unread (record {
+    tree_has a.part.shape a.part.range below (events_in after) (tree_entries after) g.0 p.0.in_heading p.0.unread
+    (record {
       entries = trees_have below p.1 g.1;
       stays = λ n. trees_stay below n g.1;
       silent = λ n. trees_silent below n g.1;
@@ -194,4 +214,5 @@ trees_have (node a below after) p g rest =
 pub outline_of_trees : {A : Type 0} (f : Forest (Label A)) → AllApart f → AllGiveBoth f
     → entries_of (ranged (events_in f)) ≡ tree_entries f
 outline_of_trees f p g =
-    ap (entries_from false) (sym (append-nil (ranged (events_in f)))) ∙ (trees_have f p g [] ∙ append-nil (tree_entries f))
+    ap (entries_from false) (sym (append-nil (ranged (events_in f))))
+    ∙ (trees_have f p g [] ∙ append-nil (tree_entries f))

@@ -1,9 +1,11 @@
 -- The outline of a list of events with their ranges: an entry for each heading, with its level, its text and its range.
-use Rattle.std.specs.Prelude.{ℕ, Bool, true, false, not, if◌then◌else◌, List, [], ◌∷◌, ◌++◌, codes, Option, Some, None, is_some}
+use Rattle.std.specs.Prelude.{ℕ, Bool, true, false, not, if◌then◌else◌, List, [], ◌∷◌, ◌++◌, codes, Option, Some, None}
+use Rattle.std.specs.Prelude.{is_some}
 use Rattle.std.specs.List.{flat_map}
 use Rattle.std.specs.String.{string_bytes}
 use Rattle.std.specs.declared.ops.Range.{Range}
-use Rattle.markdown_base.specs.Event.{EventView, start, end, text, code, inline_math, display_math, soft_break, hard_break}
+use Rattle.markdown_base.specs.Event.{EventView, start, end, text, code, inline_math, display_math, soft_break}
+use Rattle.markdown_base.specs.Event.{hard_break}
 use Rattle.markdown_base.specs.Event.{TagView, heading}
 use Rattle.markdown_base.specs.HeadingLevels.{level_number}
 use Rattle.markdown_base.specs.declared.tag.TagEnd.{TagEnd}

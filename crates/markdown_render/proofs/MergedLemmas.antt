@@ -20,11 +20,13 @@ use Rattle.markdown_render.specs.Merged.{IsMergedHtmlOf, IsMergeTooDeep}
 use Rattle.markdown_render.proofs.RenderingLemmas.{drained, first_drained, memory_alone}
 
 -- a parser stays ended
-stays_ended : {F : Type 0} (step : F → Question → Option Answer → F → Type 0) (p : Parser F) → StaysEnded (NextGives step IsEventOf) p
+stays_ended : {F : Type 0} (step : F → Question → Option Answer → F → Type 0) (p : Parser F)
+    → StaysEnded (NextGives step IsEventOf) p
 stays_ended step p answers s t u r gave none next = (next.stays none.gives.over).0
 
 -- the HTML of a merge of all events that a parser gave
-of_events : {F : Type 0} (step : F → Question → Option Answer → F → Type 0) (p : Parser F) (old html : List ℕ) → old ≡ []
+of_events : {F : Type 0} (step : F → Question → Option Answer → F → Type 0) (p : Parser F) (old html : List ℕ) → old
+    ≡ []
     → IsRenderedMerged (NextGives step IsEventOf) p old html → IsMergedHtmlOf step p html
 of_events step p old html empty r = record {
   events = map event_view r.events;
@@ -41,19 +43,22 @@ begun_of {F} m p new = record {
 }
 
 -- the HTML of a new merge over a parser
-pub merged : {F : Type 0} (step : F → Question → Option Answer → F → Type 0) (can : Parser F → Type 0) (rest : Parser F → Count)
+pub merged : {F : Type 0} (step : F → Question → Option Answer → F → Type 0) (can : Parser F → Type 0)
+    (rest : Parser F → Count)
     (m : TextMergeStream (Parser F)) (p : Parser F) (old html : List ℕ)
     → stream_state m ≡ record { iter = p; held = []; over = false } → old ≡ []
     → IsRendered (merge_steps nowhere (item_view bare) (NextGives step IsEventOf) can rest stream_state) m old html
     → IsMergedHtmlOf step p html
 merged {F} step can rest m p old html new empty r =
     let begun = begun_of m p new in
-    let of = rendered-merged (NextGives step IsEventOf) can rest stream_state m (stays_ended step (stream_state m).iter) old html begun r in
+    let of = rendered-merged (NextGives step IsEventOf) can rest stream_state m (stays_ended step (stream_state m).iter)
+    old html begun r in
     of_events step p old html empty
     (subst (λ (q : Parser F). IsRenderedMerged (NextGives step IsEventOf) q old html)
     (ap (λ (s : MergeState (Parser F) (Unit {0})). s.iter) new) of)
 
-module _ {F : Type 0} (step : F → Question → Option Answer → F → Type 0) (can : Parser F → Type 0) (rest : Parser F → Count) where
+module _ {F : Type 0} (step : F → Question → Option Answer → F → Type 0) (can : Parser F → Type 0)
+    (rest : Parser F → Count) where
   abbrev Steps : Parser F → Option (Result Event Fault) → Parser F → Type 0
   Steps = NextGives step IsEventOf
 
@@ -76,7 +81,8 @@ module _ {F : Type 0} (step : F → Question → Option Answer → F → Type 0)
     it = (stream_state m).iter
 
     stopped : (fault : Fault)
-        → StopsAtErrorMerged Steps it old new fault ⊎ ((fault ≡ Memory) × IsRefusedMerged Steps it old new) → fault ≡ Memory
+        → StopsAtErrorMerged Steps it old new fault ⊎ ((fault ≡ Memory) × IsRefusedMerged Steps it old new) → fault
+        ≡ Memory
     stopped fault (inl s) = memory_alone step it s.left s.events fault s.read
     stopped fault (inr r) = r.0
 
@@ -85,7 +91,11 @@ module _ {F : Type 0} (step : F → Question → Option Answer → F → Type 0)
         → (fault ≡ Memory) ⊎ ((fault ≡ Depth) × IsMergeTooDeep step it)
     own_faults Memory own = inl refl
     own_faults Depth own =
-        inr (refl, of_deep it old new (deep-merged Steps can rest stream_state m (stays_ended step it) old new begun own))
+        inr (
+          refl,
+          of_deep it old new
+              (deep-merged Steps can rest stream_state m (stays_ended step it) old new begun own),
+        )
     own_faults Blocks own = absurd own
 
     faults : (fault : Fault) → StopsAtError MergeSteps m old new fault ⊎ IsOwnFault MergeSteps m old new fault

@@ -18,7 +18,8 @@ kept_prefix bytes p keeps = record {
 }
 
 -- all of it is a prefix
-pub whole_prefix : {old new : Option (List ℕ)} (bytes : List ℕ) → Appends old new bytes → AppendsKnownPrefix old new bytes
+pub whole_prefix : {old new : Option (List ℕ)} (bytes : List ℕ) → Appends old new bytes
+    → AppendsKnownPrefix old new bytes
 whole_prefix bytes appended = record { prefix = bytes; missing = []; stands = appended; whole = append-nil bytes }
 
 -- what a write takes from the front of the rest

@@ -58,7 +58,8 @@ module _ {F : Type 0} (step : F → Question → Option Answer → F → Type 0)
       → Yields Steps q (items more ++ Err fault ∷ []) left → (t : Parser F) × GaveEvents p t (given ++ more)
   until_error p q left given [] fault g y = (q, subst (GaveEvents p q) (sym (append-nil given)) g)
   until_error p q left given (e ∷ more) fault g (j, h, y) =
-      let r = until_error p j left (given ++ e ∷ []) more fault (gave_more step IsEventOf (λ (r : Parser F). r) p q j given e g h) y
+      let r = until_error p j left (given ++ e ∷ []) more fault
+      (gave_more step IsEventOf (λ (r : Parser F). r) p q j given e g h) y
       in (r.0, subst (GaveEvents p r.0) (append_assoc given (e ∷ []) more) r.1)
 
   -- the events of a run up to None are those that were left
@@ -116,7 +117,8 @@ module _ {F : Type 0} (step : F → Question → Option Answer → F → Type 0)
 
   pub of_deep : (p : Parser F) (old new : List ℕ) → GoesTooDeep Steps p old new
       → (events : List EventView) × IsHtmlOfFirst step p old new events × IsTooDeep events
-  of_deep p old new d = (map event_view d.events, record { left = first_drained p d.left d.events d.read; stands = d.stands }, d.deep)
+  of_deep p old new d =
+      (map event_view d.events, record { left = first_drained p d.left d.events d.read; stands = d.stands }, d.deep)
 
   -- and where all of a document's reading was left, that of the document
   pub of_document : (text : List ℕ) (options : Options) (p : Parser F) (old new : List ℕ) → ReadsText text options p
@@ -165,8 +167,13 @@ module _ {F : Type 0} (step : F → Question → Option Answer → F → Type 0)
           answers = f.answers;
           after = f.after;
           asked = f.asked;
-          first_asked = λ later. let a = f.first_asked later in (a.0, ap questions_of (sym (of.left (f.answers ++ later))) ∙ a.1);
-          are_first = λ later. let a = f.are_first later in (a.0, ap views_of (sym (of.left (f.answers ++ later))) ∙ a.1);
+          first_asked = λ later. let a = f.first_asked later in
+              (a.0, ap questions_of (sym (of.left (f.answers ++ later))) ∙ a.1);
+          are_first = λ later. let a = f.are_first later in (
+            a.0,
+            ap views_of (sym (of.left (f.answers ++ later)))
+                ∙ a.1,
+          );
         };
         deep = deep;
       } in
@@ -186,17 +193,20 @@ module _ {F : Type 0} (step : F → Question → Option Answer → F → Type 0)
       → StopsAtError Steps p old new fault ⊎ IsOwnFault Steps p old new fault
       → (fault ≡ Memory) ⊎ ((fault ≡ Depth) × IsTooDeepFor step callback text options)
   faults text old new options callback p fault of holds (inl s) = inl (memory_alone p s.left s.events fault s.read)
-  faults text old new options callback p fault of holds (inr own) = own_faults text old new options callback p fault of holds own
+  faults text old new options callback p fault of holds (inr own) = own_faults text old new options callback p fault of
+      holds own
 
   -- without a callback there are no answers
-  unasked : (questions : List Question) (answers : Answers) (after : Option F) → Asks step None questions answers after → answers ≡ []
+  unasked : (questions : List Question) (answers : Answers) (after : Option F) → Asks step None questions answers after
+      → answers ≡ []
   unasked [] [] after a = refl
   unasked [] (x ∷ answers) after a = absurd a
   unasked (q ∷ questions) [] after a = absurd a
   unasked (q ∷ questions) (x ∷ answers) after a = absurd a
 
   -- so the rendering is the same for all answers
-  pub rendering_alone : (text html : List ℕ) (options : Options) → IsUtf8 text → IsRenderingFor step None text options html
+  pub rendering_alone : (text html : List ℕ) (options : Options) → IsUtf8 text
+      → IsRenderingFor step None text options html
       → IsRenderingOf text options html
   rendering_alone text html options utf8 r =
       let none = unasked _ r.read.answers r.read.after r.read.asked in
@@ -228,6 +238,7 @@ module _ {F : Type 0} (step : F → Question → Option Answer → F → Type 0)
   -- so the program's rendering fails by memory, or there
   pub failed_alone : (text : List ℕ) (options : Options) (fault : Fault) → IsUtf8 text
       → (fault ≡ Memory) ⊎ ((fault ≡ Depth) × IsTooDeepFor step None text options)
-      → (failure.Fault fault ≡ failure.Fault Memory) ⊎ ((failure.Fault fault ≡ failure.Fault Depth) × IsTooDeepOf text options)
+      → (failure.Fault fault ≡ failure.Fault Memory) ⊎ ((failure.Fault fault ≡ failure.Fault Depth)
+      × IsTooDeepOf text options)
   failed_alone text options fault utf8 (inl e) = inl (ap failure.Fault e)
   failed_alone text options fault utf8 (inr (e, deep)) = inr (ap failure.Fault e, too_deep_alone text options utf8 deep)

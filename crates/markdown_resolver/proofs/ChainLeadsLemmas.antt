@@ -40,7 +40,8 @@ no_block b h = by_block (is_block b) h
 -- the numbers of a chain rise, since each item precedes the next one
 pub next_above : (source : List ℕ) (tables : Tables) (nodes : List (Node Item)) (ix : ℕ) (l : Option ℕ) (f : Forest ℕ)
     → Spells (links_of nodes) l f → is_block (item_at nodes ix).body ≡ false
-    → IsQuietBelow (relabelled (label_at source tables nodes) f) → ComesBefore (numbered nodes ix) (option_map (numbered nodes) l)
+    → IsQuietBelow (relabelled (label_at source tables nodes) f)
+    → ComesBefore (numbered nodes ix) (option_map (numbered nodes) l)
     → IfSome l (λ n. suc ix ≤ n)
 next_above source tables nodes ix l nil s b q stands = rw s tt
 next_above source tables nodes ix l (node j below after) s b q stands =
@@ -58,7 +59,8 @@ leads_along source tables nodes low l (node ix below after) s p q from =
       s.1,
       refl,
       leads_along source tables nodes (suc ix) (sibling_of nodes ix) after s.3 p.2 q.2
-          (next_above source tables nodes ix (sibling_of nodes ix) after s.3 (no_block (item_at nodes ix).body q.0) q.2 p.0.keeps.in_order),
+          (next_above source tables nodes ix (sibling_of nodes ix) after s.3 (no_block (item_at nodes ix).body q.0) q.2
+          p.0.keeps.in_order),
     )
 
 pub any_link : (l : Option ℕ) → IfSome l (λ n. 0 ≤ n)
@@ -66,22 +68,31 @@ any_link None = tt
 any_link (Some n) = omega arith
 
 -- links lead along the items of a chain that can be resolved
-pub leads_items : (source : List ℕ) (tables : Tables) (nodes : List (Node Item)) (l : Option ℕ) → CanResolve source tables nodes l
+pub leads_items : (source : List ℕ) (tables : Tables) (nodes : List (Node Item)) (l : Option ℕ)
+    → CanResolve source tables nodes l
     → LeadsThrough nodes 0 l (items_along nodes (forest_at (links_of nodes) l))
 leads_items source tables nodes l ready =
-    leads_along source tables nodes 0 l (forest_at (links_of nodes) l) ready.reaches.spelled ready.reaches.each ready.quiet_below
+    leads_along source tables nodes 0 l (forest_at (links_of nodes) l) ready.reaches.spelled ready.reaches.each
+    ready.quiet_below
     (any_link l)
 
-pub chain_leads : (source : List ℕ) (tables : Tables) (nodes : List (Node Item)) (l : Option ℕ) → CanResolve source tables nodes l
+pub chain_leads : (source : List ℕ) (tables : Tables) (nodes : List (Node Item)) (l : Option ℕ)
+    → CanResolve source tables nodes l
     → HasChain nodes l
 chain_leads source tables nodes l ready =
-    record { low = 0; chain = items_along nodes (forest_at (links_of nodes) l); leads = leads_items source tables nodes l ready }
+    record {
+      low = 0;
+      chain = items_along nodes (forest_at (links_of nodes) l);
+      leads = leads_items source tables nodes
+          l ready;
+    }
 
 abbrev begun_number : ℕ → Numbered → Numbered
 begun_number i a = record { number = a.number; item = begun_item i a.item }
 
 -- what was learned of a chain is true of what is left of it past a byte offset
-holds_past_byte : (kind : SpanKind) (learned : Learned) (nodes : List (Node Item)) (i low : ℕ) (l : Option ℕ) (chain : List Numbered)
+holds_past_byte : (kind : SpanKind) (learned : Learned) (nodes : List (Node Item)) (i low : ℕ) (l : Option ℕ)
+    (chain : List Numbered)
     → LeadsThrough nodes low l chain → HoldsOf kind learned chain → HoldsOf kind learned (numbered_past_byte i chain)
 holds_past_byte kind learned nodes i low l [] h holds = holds
 holds_past_byte kind learned nodes i low l (a ∷ after) h holds =
@@ -94,7 +105,8 @@ holds_past_byte kind learned nodes i low l (a ∷ after) h holds =
     by_end true later = later
     by_end false later = holds_alike kind (a ∷ after) (begun_number i a ∷ after) learned (λ n stands. stands) refl holds
 
-holds_of_past : (kind : SpanKind) (learned : Learned) (nodes : List (Node Item)) (goes_on : Option ℕ) (low : ℕ) (l : Option ℕ)
+holds_of_past : (kind : SpanKind) (learned : Learned) (nodes : List (Node Item)) (goes_on : Option ℕ) (low : ℕ)
+    (l : Option ℕ)
     (chain : List Numbered)
     → LeadsThrough nodes low l chain → HoldsOf kind learned chain → HoldsOf kind learned (numbered_past goes_on chain)
 holds_of_past kind learned nodes None low l chain h holds = holds
@@ -108,7 +120,8 @@ pub holds_past : (kind : SpanKind) (learned : Learned) (old new : List (Node Ite
     → HoldsFrom kind learned old (sibling_of old ix) → HoldsFrom kind learned new next
 holds_past kind learned old new ix goes_on next has leads holds =
     holds_from kind new has.low next (numbered_past goes_on has.chain) learned (leads has.low has.chain has.leads)
-    (holds_of_past kind learned old goes_on has.low (sibling_of old ix) has.chain has.leads (holds has.low has.chain has.leads))
+    (holds_of_past kind learned old goes_on has.low (sibling_of old ix) has.chain has.leads
+    (holds has.low has.chain has.leads))
 
 -- and of the items after its first one
 pub holds_next : (kind : SpanKind) (learned : Learned) (nodes : List (Node Item)) (ix : ℕ) → HasChain nodes (Some ix)

@@ -1,5 +1,6 @@
 -- The items of a chain in order, by their numbers and in the text; and the links that lead through them.
-use Rattle.std.proofs.Common.{◌≡◌, ℕ, suc, ◌<◌, ◌≤◌, Bool, true, false, List, [], ◌∷◌, length, Option, Some, None, refl, sym, ◌∙◌, subst}
+use Rattle.std.proofs.Common.{◌≡◌, ℕ, suc, ◌<◌, ◌≤◌, Bool, true, false, List, [], ◌∷◌, length, Option, Some, None, refl}
+use Rattle.std.proofs.Common.{sym, ◌∙◌, subst}
 use Rattle.std.proofs.Common.{arith, if◌then◌else◌, nat_le}
 use Rattle.std.proofs.lemmas.Bool.Decides.{nat_tests}
 use Rattle.std.specs.Prelude.{⊤, is_some, IfSome}
@@ -40,7 +41,8 @@ no_block false b h = refl
 -- the item after one is past it
 next_past : (source : List ℕ) (tables : Tables) (nodes : List (Node Item)) (ix : ℕ) (l : Option ℕ) (f : Forest ℕ)
     → is_block (item_at nodes ix).body ≡ false → Spells (links_of nodes) l f
-    → IsQuietBelow (relabelled (label_at source tables nodes) f) → ComesBefore (numbered nodes ix) (option_map (numbered nodes) l)
+    → IsQuietBelow (relabelled (label_at source tables nodes) f)
+    → ComesBefore (numbered nodes ix) (option_map (numbered nodes) l)
     → IfSome l (λ n. StandsPast nodes ix (item_at nodes ix).end n)
 next_past source tables nodes ix l nil here s quiet h = rw s tt
 next_past source tables nodes ix l (node jx below after) here s quiet h =
@@ -50,7 +52,8 @@ next_past source tables nodes ix l (node jx below after) here s quiet h =
 past_more : (nodes : List (Node Item)) (low low' byte byte' : ℕ) (l : Option ℕ) → low ≤ low' → byte ≤ byte'
     → IfSome l (λ n. StandsPast nodes low' byte' n) → IfSome l (λ n. StandsPast nodes low byte n)
 past_more nodes low low' byte byte' None a b h = tt
-past_more nodes low low' byte byte' (Some n) a b h = record { number = omega (arith, h.number, a); start = omega (arith, h.start, b) }
+past_more nodes low low' byte byte' (Some n) a b h = record
+    { number = omega (arith, h.number, a); start = omega (arith, h.start, b) }
 
 all_past : (source : List ℕ) (tables : Tables) (nodes : List (Node Item)) (low byte : ℕ) (l : Option ℕ) (f : Forest ℕ)
     → Spells (links_of nodes) l f → Each (IsPlaced source tables nodes) f
@@ -70,12 +73,14 @@ all_past source tables nodes low byte l (node ix below after) s placed quiet fir
     )
 
 -- all that follow the first item of a chain are past it
-pub rest_past : (source : List ℕ) (tables : Tables) (nodes : List (Node Item)) (ix : ℕ) → CanResolve source tables nodes (Some ix)
+pub rest_past : (source : List ℕ) (tables : Tables) (nodes : List (Node Item)) (ix : ℕ)
+    → CanResolve source tables nodes (Some ix)
     → AllPast nodes ix (item_at nodes ix).end (roots (forest_at (links_of nodes) (sibling_of nodes ix)))
 rest_past source tables nodes ix ready =
     let o = opens (links_of nodes) (IsPlaced source tables nodes) ix ready.reaches in
     let quiet = rw o.here at ready.quiet_below in
-    all_past source tables nodes ix (item_at nodes ix).end (sibling_of nodes ix) (forest_at (links_of nodes) (sibling_of nodes ix))
+    all_past source tables nodes ix (item_at nodes ix).end (sibling_of nodes ix)
+    (forest_at (links_of nodes) (sibling_of nodes ix))
     o.after.spelled o.after.each quiet.2
     (next_past source tables nodes ix (sibling_of nodes ix) (forest_at (links_of nodes) (sibling_of nodes ix))
     (no_block (is_block (item_at nodes ix).body) (item_at nodes ix).body quiet.0)
@@ -86,7 +91,8 @@ pub record IsFirstPast (nodes : List (Node Item)) (low byte i ix : ℕ) : Type 0
   pub place : StandsPast nodes low byte ix
   pub ends : i < (item_at nodes ix).end
 
-first_if : (b : Bool) (nodes : List (Node Item)) (low byte i n ix : ℕ) (l : Option ℕ) → nat_le (item_at nodes n).end i ≡ b
+first_if : (b : Bool) (nodes : List (Node Item)) (low byte i n ix : ℕ) (l : Option ℕ) → nat_le (item_at nodes n).end i
+    ≡ b
     → StandsPast nodes low byte n → (l ≡ Some ix → IsFirstPast nodes low byte i ix)
     → (if b then l else Some n) ≡ Some ix → IsFirstPast nodes low byte i ix
 first_if true nodes low byte i n ix l test here rest e = rest e
@@ -109,31 +115,39 @@ leads_lower nodes low low' l [] le h = h
 leads_lower nodes low low' l (a ∷ after) le h = (h.0, omega (arith, le, h.1), h.2, h.3, h.4)
 
 -- through nodes that stay
-pub leads_kept : (old new : List (Node Item)) (l : Option ℕ) (f : Forest ℕ) (low : ℕ) (chain : List Numbered) → Spells (links_of old) l f
+pub leads_kept : (old new : List (Node Item)) (l : Option ℕ) (f : Forest ℕ) (low : ℕ) (chain : List Numbered)
+    → Spells (links_of old) l f
     → length old ≤ length new
-    → ((n : ℕ) → n < length old → 0 < total (same n) f → IsSameAt old new n) → LeadsThrough old low l chain → LeadsThrough new low l chain
+    → ((n : ℕ) → n < length old → 0 < total (same n) f → IsSameAt old new n) → LeadsThrough old low l chain
+    → LeadsThrough new low l chain
 leads_kept old new l f low [] s more kept h = h
-leads_kept old new l nil low (a ∷ after) s more kept h = absurd (let no : ◌≡◌ {A = Option ℕ} None (Some a.number) = sym s ∙ h.0 in cc no)
+leads_kept old new l nil low (a ∷ after) s more kept h = absurd
+    (let no : ◌≡◌ {A = Option ℕ} None (Some a.number) = sym s ∙ h.0 in cc no)
 leads_kept old new l (node ix below rest) low (a ∷ after) s more kept h =
     let e : Some ix ≡ Some a.number = sym s.0 ∙ h.0 in
     let same_number : ix ≡ a.number = cc e in
     let one = same-refl ix in
-    let at : IsSameAt old new a.number = subst (λ (n : ℕ). IsSameAt old new n) same_number (kept ix s.1 (omega (arith, one))) in
-    let spelled : Spells (links_of old) (sibling_of old a.number) rest = subst (λ (n : ℕ). Spells (links_of old) (sibling_of old n) rest)
+    let at : IsSameAt old new a.number = subst (λ (n : ℕ). IsSameAt old new n) same_number
+    (kept ix s.1 (omega (arith, one))) in
+    let spelled : Spells (links_of old) (sibling_of old a.number) rest = subst
+    (λ (n : ℕ). Spells (links_of old) (sibling_of old n) rest)
     same_number s.3 in
-    let go = leads_kept old new (sibling_of old a.number) rest (suc a.number) after spelled more (λ n l k. kept n l (omega (arith, k))) h.4
+    let go = leads_kept old new (sibling_of old a.number) rest (suc a.number) after spelled more
+    (λ n l k. kept n l (omega (arith, k))) h.4
     in
     (h.0, h.1, omega (arith, h.2, more), at.item ∙ h.3, rw at.next go)
 
 -- through numbers that are no lower, where nodes stay
-pub leads_above : (old new : List (Node Item)) (l : Option ℕ) (low : ℕ) (chain : List Numbered) → length old ≤ length new
+pub leads_above : (old new : List (Node Item)) (l : Option ℕ) (low : ℕ) (chain : List Numbered)
+    → length old ≤ length new
     → ((n : ℕ) → low ≤ n → IsSameAt old new n)
     → LeadsThrough old low l chain → LeadsThrough new low l chain
 leads_above old new l low [] more kept h = h
 leads_above old new l low (a ∷ after) more kept h =
     let at = kept a.number h.1 in
     let least = h.1 in
-    let go = leads_above old new (sibling_of old a.number) (suc a.number) after more (λ n le. kept n (omega (arith, le, least))) h.4 in
+    let go = leads_above old new (sibling_of old a.number) (suc a.number) after more
+    (λ n le. kept n (omega (arith, le, least))) h.4 in
     (h.0, h.1, omega (arith, h.2, more), at.item ∙ h.3, rw at.next go)
 
 -- what is left of a chain past a byte offset, with the first item as it is; and with that begun there
@@ -145,13 +159,15 @@ abbrev pub numbered_begun : ℕ → List Numbered → List Numbered
 numbered_begun i [] = []
 numbered_begun i (a ∷ after) = record { number = a.number; item = begun_item i a.item } ∷ after
 
-past_if : (b : Bool) (i : ℕ) (a : Numbered) (after : List Numbered) → numbered_past_byte i after ≡ numbered_begun i (numbered_left i after)
+past_if : (b : Bool) (i : ℕ) (a : Numbered) (after : List Numbered) → numbered_past_byte i after
+    ≡ numbered_begun i (numbered_left i after)
     → (if b then numbered_past_byte i after else record { number = a.number; item = begun_item i a.item } ∷ after)
     ≡ numbered_begun i (if b then numbered_left i after else a ∷ after)
 past_if true i a after e = e
 past_if false i a after e = refl
 
-pub numbered_past_is : (i : ℕ) (chain : List Numbered) → numbered_past_byte i chain ≡ numbered_begun i (numbered_left i chain)
+pub numbered_past_is : (i : ℕ) (chain : List Numbered) → numbered_past_byte i chain
+    ≡ numbered_begun i (numbered_left i chain)
 numbered_past_is i [] = refl
 numbered_past_is i (a ∷ after) = past_if (nat_le a.item.end i) i a after (numbered_past_is i after)
 
@@ -166,17 +182,22 @@ pub leads_left : (nodes : List (Node Item)) (i : ℕ) (l : Option ℕ) (f : Fore
     → Spells (links_of nodes) l f → LeadsThrough nodes low l chain
     → LeadsThrough nodes low (first_past nodes i (roots f)) (numbered_left i chain)
 leads_left nodes i l nil low [] s h = refl
-leads_left nodes i l nil low (a ∷ after) s h = absurd (let no : ◌≡◌ {A = Option ℕ} None (Some a.number) = sym s ∙ h.0 in cc no)
-leads_left nodes i l (node ix below rest) low [] s h = absurd (let no : ◌≡◌ {A = Option ℕ} None (Some ix) = sym h ∙ s.0 in cc no)
+leads_left nodes i l nil low (a ∷ after) s h = absurd (let no : ◌≡◌ {A = Option ℕ} None (Some a.number) = sym s
+    ∙ h.0 in cc no)
+leads_left nodes i l (node ix below rest) low [] s h = absurd (let no : ◌≡◌ {A = Option ℕ} None (Some ix) = sym h
+    ∙ s.0 in cc no)
 leads_left nodes i l (node ix below rest) low (a ∷ after) s h =
     let e : Some ix ≡ Some a.number = sym s.0 ∙ h.0 in
     let same_number : ix ≡ a.number = cc e in
-    let spelled : Spells (links_of nodes) (sibling_of nodes a.number) rest = subst (λ (n : ℕ). Spells (links_of nodes) (sibling_of nodes n)
+    let spelled : Spells (links_of nodes) (sibling_of nodes a.number) rest = subst
+    (λ (n : ℕ). Spells (links_of nodes) (sibling_of nodes n)
     rest) same_number s.3 in
     let least = h.1 in
-    let go = leads_lower nodes low (suc a.number) (first_past nodes i (roots rest)) (numbered_left i after) (omega (arith, least))
+    let go = leads_lower nodes low (suc a.number) (first_past nodes i (roots rest)) (numbered_left i after)
+    (omega (arith, least))
     (leads_left nodes i (sibling_of nodes a.number) rest (suc a.number) after spelled h.4) in
-    let all = left_if (nat_le a.item.end i) nodes low (first_past nodes i (roots rest)) a after (numbered_left i after) go
+    let all = left_if (nat_le a.item.end i) nodes low (first_past nodes i (roots rest)) a after (numbered_left i after)
+    go
     (refl, h.1, h.2, h.3, h.4) in
     let item_is : item_at nodes ix ≡ a.item = subst (λ (n : ℕ). item_at nodes n ≡ a.item) (sym same_number) h.3 in
     rw (item_is, same_number) all

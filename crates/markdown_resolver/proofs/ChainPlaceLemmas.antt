@@ -1,6 +1,7 @@
 -- What is above a chain: of the nodes that were entered, only the blocks contribute to a line's prefix, and each is a
 -- node of the tree.
-use Rattle.std.proofs.Common.{◌≡◌, ℕ, zero, suc, ◌<◌, ◌≤◌, ◌+◌, Bool, true, false, List, [], ◌∷◌, ◌++◌, Option, Some, None, length, map, IsUtf8}
+use Rattle.std.proofs.Common.{◌≡◌, ℕ, zero, suc, ◌<◌, ◌≤◌, ◌+◌, Bool, true, false, List, [], ◌∷◌, ◌++◌, Option, Some}
+use Rattle.std.proofs.Common.{None, length, map, IsUtf8}
 use Rattle.std.proofs.Common.{drop, get_or, refl, sym, ap, ◌∙◌, arith, append_assoc, append-nil}
 use Rattle.std.specs.Prelude.{if◌then◌else◌, slice_index}
 use Rattle.std.specs.Str.{IsCharBoundary}
@@ -39,14 +40,16 @@ blocks_in nodes [] = []
 blocks_in nodes (ix ∷ deeper) = with_block (block_of (item_at nodes ix).body) (blocks_in nodes deeper)
 
 -- these are what the nodes of a spine add
-bodies_inside : (nodes : List (Node Item)) (spine : List ℕ) (above : Above) → (inside_all nodes spine above).bodies ≡ above.bodies
+bodies_inside : (nodes : List (Node Item)) (spine : List ℕ) (above : Above) → (inside_all nodes spine above).bodies
+    ≡ above.bodies
     ++ blocks_in nodes spine
 unfolding blocks_in with_block
 bodies_inside nodes [] above = sym (append-nil above.bodies)
 bodies_inside nodes (ix ∷ deeper) above =
     bodies_inside nodes deeper (inside_item (item_at nodes ix) above) ∙ added (block_of (item_at nodes ix).body)
   where
-    added : (block : Option ItemBody) → (inside_block block (range_of (item_at nodes ix)) above).bodies ++ blocks_in nodes deeper ≡ above.bodies
+    added : (block : Option ItemBody) → (inside_block block (range_of (item_at nodes ix)) above).bodies ++ blocks_in
+        nodes deeper ≡ above.bodies
         ++ with_block block (blocks_in nodes deeper)
     added None = refl
     added (Some block) = append_assoc above.bodies (block ∷ []) (blocks_in nodes deeper)
@@ -64,18 +67,22 @@ same_left : (gfm : Bool) (nodes : List (Node Item)) (spine : List ℕ) (line : L
     → past_blocks gfm (map (λ ix. (item_at nodes ix).body) spine) line ≡ past_blocks gfm (blocks_in nodes spine) line
 unfolding blocks_in with_block
 same_left gfm nodes [] line = refl
-same_left gfm nodes (ix ∷ deeper) line = by_block (is_block (item_at nodes ix).body) refl (λ after. same_left gfm nodes deeper after)
+same_left gfm nodes (ix ∷ deeper) line = by_block (is_block (item_at nodes ix).body) refl
+    (λ after. same_left gfm nodes deeper after)
   where
     read : (found : Option LineLeft)
-        → ((after : LineLeft) → past_blocks gfm (map (λ n. (item_at nodes n).body) deeper) after ≡ past_blocks gfm (blocks_in nodes deeper)
+        → ((after : LineLeft) → past_blocks gfm (map (λ n. (item_at nodes n).body) deeper) after
+        ≡ past_blocks gfm (blocks_in nodes deeper)
         after)
-        → elim found as (λ x. LineLeft) [ Some after ↦ past_blocks gfm (map (λ n. (item_at nodes n).body) deeper) after | None ↦ line ]
+        → elim found as (λ x. LineLeft)
+        [ Some after ↦ past_blocks gfm (map (λ n. (item_at nodes n).body) deeper) after | None ↦ line ]
         ≡ elim found as (λ x. LineLeft) [ Some after ↦ past_blocks gfm (blocks_in nodes deeper) after | None ↦ line ]
     read None later = refl
     read (Some after) later = later after
 
     by_block : (is : Bool) → is_block (item_at nodes ix).body ≡ is
-        → ((after : LineLeft) → past_blocks gfm (map (λ n. (item_at nodes n).body) deeper) after ≡ past_blocks gfm (blocks_in nodes deeper)
+        → ((after : LineLeft) → past_blocks gfm (map (λ n. (item_at nodes n).body) deeper) after
+        ≡ past_blocks gfm (blocks_in nodes deeper)
         after)
         → elim (past_block gfm (item_at nodes ix).body line) as (λ x. LineLeft)
         [ Some after ↦ past_blocks gfm (map (λ n. (item_at nodes n).body) deeper) after | None ↦ line ]
@@ -96,26 +103,32 @@ prefix_is prefix s e bytes =
     ∙ ap (λ (gfm : Bool). prefix_length gfm (above_cursor s.text tree).bodies bytes) e
 
 -- each node that was entered is a node of the tree
-within_nodes : (source : List ℕ) (nodes : List (Node Item)) (l : Option ℕ) (spine : List ℕ) → AreAbove source nodes l spine
+within_nodes : (source : List ℕ) (nodes : List (Node Item)) (l : Option ℕ) (spine : List ℕ)
+    → AreAbove source nodes l spine
     → (k : ℕ) → k < length spine → slice_index spine k < length nodes
 within_nodes source nodes l [] above k h = absurd (omega (arith, h))
 within_nodes source nodes l (ix ∷ deeper) above zero h = above.0.within
-within_nodes source nodes l (ix ∷ deeper) above (suc k) h = within_nodes source nodes l deeper above.1 k (omega (arith, h))
+within_nodes source nodes l (ix ∷ deeper) above (suc k) h = within_nodes source nodes l deeper above.1 k
+    (omega (arith, h))
 
-pub has_blocks : (source : List ℕ) (tree : Arena Item) (l : Option ℕ) → AreAbove source tree.nodes l tree.spine → HasBlocks tree
+pub has_blocks : (source : List ℕ) (tree : Arena Item) (l : Option ℕ) → AreAbove source tree.nodes l tree.spine
+    → HasBlocks tree
 has_blocks source tree l above = within_nodes source tree.nodes l tree.spine above
 
 -- the nodes of a spine before a number have been read: the place is that inside them, and the others are to come
-pub record IsReadUpTo (source : List ℕ) (place : ChainPlace) (nodes : List (Node Item)) (spine : List ℕ) (i : ℕ) : Type 0 where
+pub record IsReadUpTo (source : List ℕ) (place : ChainPlace) (nodes : List (Node Item)) (spine : List ℕ) (i : ℕ) : Type
+    0 where
   pub bodies : List ItemBody
-  pub reads : inside_all nodes (drop i spine) (record { block_end = place.block_end; in_table = place.in_table; bodies = bodies })
+  pub reads : inside_all nodes (drop i spine)
+      (record { block_end = place.block_end; in_table = place.in_table; bodies = bodies })
       ≡ inside_all nodes spine (no_blocks source)
   pub boundary : IsCharBoundary source place.block_end
   pub text : place.text.now ≡ source
 
 -- before the first, the whole text is in reach
 pub nothing_read : (source : List ℕ) (place : ChainPlace) (nodes : List (Node Item)) (spine : List ℕ) (i : ℕ) → i ≡ 0
-    → place.text.now ≡ source → place.block_end ≡ length source → place.in_table ≡ false → IsReadUpTo source place nodes spine i
+    → place.text.now ≡ source → place.block_end ≡ length source → place.in_table ≡ false
+    → IsReadUpTo source place nodes spine i
 nothing_read source place nodes spine i first text ends table = record {
   bodies = [];
   reads = rw (first, ends, table) refl;
@@ -124,7 +137,8 @@ nothing_read source place nodes spine i first text ends table = record {
 }
 
 -- the node of a number in a spine lies in the text
-lies_above : (source : List ℕ) (nodes : List (Node Item)) (l : Option ℕ) (spine : List ℕ) (i : ℕ) → AreAbove source nodes l spine
+lies_above : (source : List ℕ) (nodes : List (Node Item)) (l : Option ℕ) (spine : List ℕ) (i : ℕ)
+    → AreAbove source nodes l spine
     → i < length spine
     → LiesIn source (item_at nodes (get_or spine i 0))
 lies_above source nodes l [] i above h = absurd (omega (arith, h))
@@ -132,16 +146,19 @@ lies_above source nodes l (ix ∷ deeper) zero above h = above.0.lies
 lies_above source nodes l (ix ∷ deeper) (suc i) above h = lies_above source nodes l deeper i above.1 (omega (arith, h))
 
 -- what is inside one more node
-read_next : (nodes : List (Node Item)) (spine : List ℕ) (i : ℕ) (above : Above) (block : Option ItemBody) → i < length spine
+read_next : (nodes : List (Node Item)) (spine : List ℕ) (i : ℕ) (above : Above) (block : Option ItemBody)
+    → i < length spine
     → block_of (item_at nodes (get_or spine i 0)).body ≡ block
     → inside_all nodes (drop i spine) above ≡ inside_all nodes (drop (i + 1) spine)
     (inside_block block (range_of (item_at nodes (get_or spine i 0))) above)
 read_next nodes spine i above block within is =
     ap (λ (rest : List ℕ). inside_all nodes rest above) (drop_more spine i 0 within)
-    ∙ ap (λ (b : Option ItemBody). inside_all nodes (drop (i + 1) spine) (inside_block b (range_of (item_at nodes (get_or spine i 0))) above)) is
+    ∙ ap (λ (b : Option ItemBody). inside_all nodes (drop (i + 1) spine)
+    (inside_block b (range_of (item_at nodes (get_or spine i 0))) above)) is
 
 -- one more block: the place is that of its end
-pub block_read : (source : List ℕ) (place place' : ChainPlace) (nodes : List (Node Item)) (l : Option ℕ) (spine : List ℕ) (i : ℕ)
+pub block_read : (source : List ℕ) (place place' : ChainPlace) (nodes : List (Node Item)) (l : Option ℕ)
+    (spine : List ℕ) (i : ℕ)
     (item : Item) → AreAbove source nodes l spine → i < length spine
     → item ≡ item_at nodes (get_or spine i 0) → is_block item.body ≡ true
     → place'.text.now ≡ place.text.now → place'.block_end ≡ item.end → place'.in_table ≡ is_table_cell item.body
@@ -159,7 +176,8 @@ block_read source place place' nodes l spine i item above within same is text en
     }
 
 -- one more node that is not a block: the place is unchanged
-pub other_read : (source : List ℕ) (place : ChainPlace) (nodes : List (Node Item)) (spine : List ℕ) (i : ℕ) (item : Item) → i < length spine
+pub other_read : (source : List ℕ) (place : ChainPlace) (nodes : List (Node Item)) (spine : List ℕ) (i : ℕ)
+    (item : Item) → i < length spine
     → item ≡ item_at nodes (get_or spine i 0) → is_block item.body ≡ false → IsReadUpTo source place nodes spine i
     → IsReadUpTo source place nodes spine (i + 1)
 other_read source place nodes spine i item within same is r =

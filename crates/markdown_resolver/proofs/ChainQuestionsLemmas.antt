@@ -6,7 +6,8 @@ use Rattle.std.specs.List.{list_all}
 use Rattle.markdown_base.specs.BlockTree.{Numbered, tree_of}
 use Rattle.markdown_base.specs.Forest.{Forest, nil, node, relabelled, first_root, roots}
 use Rattle.markdown_base.specs.Item.{is_inline, is_open}
-use Rattle.markdown_base.specs.WellFormed.{AllKeepRules, InlineInOrder, IsWellFormed, PartCounts, StandsOverMarkup, all_inline}
+use Rattle.markdown_base.specs.WellFormed.{AllKeepRules, InlineInOrder, IsWellFormed, PartCounts, StandsOverMarkup}
+use Rattle.markdown_base.specs.WellFormed.{all_inline}
 use Rattle.markdown_base.specs.WellFormed.{counts_of, has_open}
 use Rattle.markdown_base.specs.declared.block_parts.BlockParts.{BlockParts}
 use Rattle.markdown_base.specs.declared.item.Item.{Item}
@@ -46,7 +47,8 @@ module _ {A : Type 0} (s : Setting) (tags : Tags A) (above : Above) where
   pub resolved_stays_zero : (chain : Forest (Label A)) (known : Known) → known.limit ≡ 0
       → (resolved s tags above chain known).known.limit ≡ 0
   unfolding resolved pass_one
-  resolved_stays_zero chain known z = stays_zero (around s above) (read_other s tags above) other_asks_nothing chain known z
+  resolved_stays_zero chain known z = stays_zero (around s above) (read_other s tags above) other_asks_nothing chain
+      known z
 
   pub resolved_ends : (chain : Forest (Label A)) (known : Known) → StandInLine s.text chain
       → EndApart (resolved s tags above chain known).questions
@@ -74,14 +76,16 @@ module _ (source : List ℕ) (tables : Tables) (counts : PartCounts) where
   abbrev seen : Numbered → Plain
   seen a = label_of source tables a.item
 
-  before_next : (a : Numbered) (after : Forest Numbered) → InlineInOrder a (first_root after) → IsTrue (is_inline a.item.body)
+  before_next : (a : Numbered) (after : Forest Numbered) → InlineInOrder a (first_root after)
+      → IsTrue (is_inline a.item.body)
       → IsTrue (all_inline after)
       → IfSome (first_root (relabelled seen after)) (λ b. end_of (seen a) ≤ start_of b)
   before_next a nil h inline all = tt
   before_next a (node b below after) h inline all =
       (h inline (both (is_inline b.item.body) (list_all (λ n. is_inline n.item.body) (roots after)) all).0).ends
 
-  in_line : (f : Forest Numbered) → AllKeepRules source counts f → IsTrue (all_inline f) → StandInLine source (relabelled seen f)
+  in_line : (f : Forest Numbered) → AllKeepRules source counts f → IsTrue (all_inline f)
+      → StandInLine source (relabelled seen f)
   in_line nil h all = tt
   in_line (node a below after) h all =
       let inline = both (is_inline a.item.body) (list_all (λ n. is_inline n.item.body) (roots after)) all in
@@ -110,10 +114,13 @@ module _ (source : List ℕ) (tables : Tables) (counts : PartCounts) where
 
       open_here : is_unresolved (seen a).part.shape ≡ true → IsTrue (has_open (node a below after))
       open_here opens =
-          let is : is_open a.item.body ≡ true = open-unresolved tables (slice_range source a.item.start a.item.end) a.item.body opens in
+          let is : is_open a.item.body ≡ true = open-unresolved tables (slice_range source a.item.start a.item.end)
+          a.item.body opens in
           rw is refl
 
-pub document_in_line : (source : List ℕ) (nodes : List (Node Item)) (parts : BlockParts) (tables : Tables) → IsWellFormed source nodes parts
+pub document_in_line : (source : List ℕ) (nodes : List (Node Item)) (parts : BlockParts) (tables : Tables)
+    → IsWellFormed source nodes parts
     → EachChain (StandInLine source) (document source tables nodes)
 document_in_line source nodes parts tables formed =
-    chains_in_line source tables (counts_of parts) (tree_of nodes) formed.rules (λ opens. absurd (cc (opens, formed.top_is_closed)))
+    chains_in_line source tables (counts_of parts) (tree_of nodes) formed.rules
+    (λ opens. absurd (cc (opens, formed.top_is_closed)))

@@ -23,7 +23,8 @@ use Rattle.markdown_resolver.specs.Chains.{AreAbove, CanResolve, ChangesChain, R
 use Rattle.markdown_resolver.specs.PassOne.{pass_one}
 use Rattle.markdown_resolver.specs.ReadOn.{AreSpent, ReadsOn, StopsInPassOne, StopsOn}
 use Rattle.markdown_document.specs.declared.chain_place.ChainPlace.{ChainPlace}
-use Rattle.markdown_resolver.proofs.ReadOnLemmas.{reads_on_all, reads_on_none, reads_on_twice, stops_later, stops_pass_one}
+use Rattle.markdown_resolver.proofs.ReadOnLemmas.{reads_on_all, reads_on_none, reads_on_twice, stops_later}
+use Rattle.markdown_resolver.proofs.ReadOnLemmas.{stops_pass_one}
 use Rattle.markdown_resolver.proofs.StandsToLemmas.{above_changed, above_rest, stands_rest}
 use Rattle.markdown_defs.specs.Allocations.{Allocated}
 use Rattle.markdown_defs.specs.Footnotes.{footnote_at}
@@ -32,19 +33,28 @@ use Rattle.markdown_document.specs.Places.{trees_from}
 
 -- the setting of a chain stays where its text, the options, the reference definitions, the names of its footnotes, and
 -- whether there is a callback stay
-pub same_setting : (text text' : List ℕ) (options options' : Options) (held held' : Allocated) (asks asks' : Bool) → text' ≡ text
+pub same_setting : (text text' : List ℕ) (options options' : Options) (held held' : Allocated) (asks asks' : Bool)
+    → text' ≡ text
     → options' ≡ options → held'.refdefs ≡ held.refdefs
-    → ((name : List ℕ) → is_some (footnote_at held'.footdefs name) ≡ is_some (footnote_at held.footdefs name)) → asks' ≡ asks
+    → ((name : List ℕ) → is_some (footnote_at held'.footdefs name) ≡ is_some (footnote_at held.footdefs name)) → asks'
+    ≡ asks
     → setting_of text' (rules_from options' held' asks') ≡ setting_of text (rules_from options held asks)
 same_setting text text' options options' held held' asks asks' of_text of_options definitions footnotes same =
-    let names : (λ name. is_some (footnote_at held'.footdefs name)) ≡ (λ name. is_some (footnote_at held.footdefs name)) = fun_ext footnotes
+    let names : (λ name. is_some (footnote_at held'.footdefs name)) ≡ (λ name. is_some (footnote_at held.footdefs name))
+    = fun_ext footnotes
     in
     rw (of_text, of_options, definitions, same) (ap (λ (names : List ℕ → Bool). let x : Setting =
-    record { text = text; rules = record { options = options; definitions = held.refdefs; is_footnote = names; asks = asks } } in x) names)
+    record {
+      text = text;
+      rules = record
+          { options = options; definitions = held.refdefs; is_footnote = names; asks = asks };
+    } in x) names)
 
 -- the blocks above a chain stay where it is changed
-inside_changed : (source : List ℕ) (l : Option ℕ) (old new : List (Node Item)) (tables tables' : Tables) (spine : List ℕ) (outer : Above)
-    → ChangesChain source l old new tables tables' → AreAbove source old l spine → inside_all new spine outer ≡ inside_all old spine outer
+inside_changed : (source : List ℕ) (l : Option ℕ) (old new : List (Node Item)) (tables tables' : Tables)
+    (spine : List ℕ) (outer : Above)
+    → ChangesChain source l old new tables tables' → AreAbove source old l spine → inside_all new spine outer
+    ≡ inside_all old spine outer
 inside_changed source l old new tables tables' [] outer c above = refl
 inside_changed source l old new tables tables' (n ∷ deeper) outer c above =
     let at = above.0 in
@@ -52,7 +62,8 @@ inside_changed source l old new tables tables' (n ∷ deeper) outer c above =
     ∙ inside_changed source l old new tables tables' deeper (inside_item (item_at old n) outer) c above.1
 
 -- where a chain was read up to an item, that item can be read
-pub can_read_item : {place : ChainPlace} {tree : Arena Item} {held : Allocated} {brackets wikilinks : List Waiting} {first ix : ℕ}
+pub can_read_item : {place : ChainPlace} {tree : Arena Item} {held : Allocated} {brackets wikilinks : List Waiting}
+    {first ix : ℕ}
     {left : List (Entry ℕ)}
     → CanReadOn place tree held brackets wikilinks first ix left → CanReadItem place tree held ix
 can_read_item {place} {tree} {held} {brackets} {wikilinks} {first} {ix} {left} can = record {
@@ -63,7 +74,8 @@ can_read_item {place} {tree} {held} {brackets} {wikilinks} {first} {ix} {left} c
 }
 
 -- a chain was read in place from the node `first` up to a link
-pub record ReadsUpTo {C : Type 0} (step : C → Question → Option Answer → C → Type 0) (s : Setting) (first : ℕ) (at : Option ℕ)
+pub record ReadsUpTo {C : Type 0} (step : C → Question → Option Answer → C → Type 0) (s : Setting) (first : ℕ)
+    (at : Option ℕ)
     (old now : Arena Item) (held held' : Allocated) (limit limit' : ℕ)
     (callback callback' : Option C) (spent : SpentEnds) (brackets wikilinks : List Waiting) : Type 0 where
   pub tree : now ≡ record old { nodes = now.nodes }
@@ -74,7 +86,8 @@ pub record ReadsUpTo {C : Type 0} (step : C → Question → Option Answer → C
   pub unread : IsUnread (trees_from s.text (tables_of held') now.nodes at)
 
 -- none of it was read yet
-pub up_to_none : {C : Type 0} (step : C → Question → Option Answer → C → Type 0) (s : Setting) (first : ℕ) (old : Arena Item)
+pub up_to_none : {C : Type 0} (step : C → Question → Option Answer → C → Type 0) (s : Setting) (first : ℕ)
+    (old : Arena Item)
     (held : Allocated) (limit : ℕ) (callback : Option C) (spent : SpentEnds)
     (brackets wikilinks : List Waiting) → CanResolve s.text (tables_of held) old.nodes (Some first)
     → IsUnread (trees_from s.text (tables_of held) old.nodes (Some first)) → AreSpent spent [] → brackets ≡ []
@@ -91,7 +104,8 @@ up_to_none step s first old held limit callback spent brackets wikilinks ready u
       unread = unread;
     }
 
-module _ {C : Type 0} {step : C → Question → Option Answer → C → Type 0} {s : Setting} {first : ℕ} {at : Option ℕ} {old now : Arena Item}
+module _ {C : Type 0} {step : C → Question → Option Answer → C → Type 0} {s : Setting} {first : ℕ} {at : Option ℕ}
+    {old now : Arena Item}
     {held held' : Allocated} {limit limit' : ℕ}
     {callback callback' : Option C} {spent : SpentEnds} {brackets wikilinks : List Waiting}
     (r : ReadsUpTo step s first at old now held held' limit limit' callback callback' spent brackets wikilinks)
@@ -101,13 +115,15 @@ module _ {C : Type 0} {step : C → Question → Option Answer → C → Type 0}
 
   -- the same blocks are above it
   pub still_above : AreAbove s.text now.nodes (Some first) now.spine
-  still_above = rw same_spine (above_changed s.text (Some first) old.nodes now.nodes (tables_of held) (tables_of held') old.spine
+  still_above = rw same_spine (above_changed s.text (Some first) old.nodes now.nodes (tables_of held) (tables_of held')
+      old.spine
       r.reads.changes is_above)
 
   pub same_above : above_cursor s.text now ≡ above_cursor s.text old
   same_above =
       ap (λ (spine : List ℕ). above_at s.text now.nodes spine) same_spine
-      ∙ inside_changed s.text (Some first) old.nodes now.nodes (tables_of held) (tables_of held') old.spine (no_blocks s.text)
+      ∙ inside_changed s.text (Some first) old.nodes now.nodes (tables_of held) (tables_of held') old.spine
+      (no_blocks s.text)
       r.reads.changes is_above
 
   -- there is still a callback, or still none
@@ -133,32 +149,41 @@ module _ {C : Type 0} {step : C → Question → Option Answer → C → Type 0}
       }
 
   -- more was read
-  pub up_to_more : (s' : Setting) (ix : ℕ) (next : Option ℕ) (new : Arena Item) (held'' : Allocated) (limit'' : ℕ) (callback'' : Option C)
+  pub up_to_more : (s' : Setting) (ix : ℕ) (next : Option ℕ) (new : Arena Item) (held'' : Allocated) (limit'' : ℕ)
+      (callback'' : Option C)
       (spent'' : SpentEnds) (brackets'' wikilinks'' : List Waiting) → s' ≡ s → at ≡ Some ix
       → new ≡ record now { nodes = new.nodes }
-      → ReadsOn step s' (above_cursor s'.text now) first (Some ix) next r.reads.left_then (stage now held' limit' callback')
+      → ReadsOn step s' (above_cursor s'.text now) first (Some ix) next r.reads.left_then
+      (stage now held' limit' callback')
       (stage new held'' limit'' callback'') spent spent'' brackets'' wikilinks''
-      → (IsUnread (trees_from s'.text (tables_of held') now.nodes (Some ix)) → IsUnread (trees_from s'.text (tables_of held'') new.nodes next))
+      → (IsUnread (trees_from s'.text (tables_of held') now.nodes (Some ix))
+      → IsUnread (trees_from s'.text (tables_of held'') new.nodes next))
       → ReadsUpTo step s first next old new held held'' limit limit'' callback callback'' spent'' brackets'' wikilinks''
   up_to_more s' ix next new held'' limit'' callback'' spent'' brackets'' wikilinks'' same is e reads unread =
       let before = stage old held limit callback in
       let between = stage now held' limit' callback' in
       let after = stage new held'' limit'' callback'' in
-      let from : ReadsOn step s' (above_cursor s'.text now) first at next r.reads.left_then between after spent spent'' brackets''
+      let from : ReadsOn step s' (above_cursor s'.text now) first at next r.reads.left_then between after spent spent''
+      brackets''
       wikilinks'' =
-      subst (λ (l : Option ℕ). ReadsOn step s' (above_cursor s'.text now) first l next r.reads.left_then between after spent spent''
+      subst (λ (l : Option ℕ). ReadsOn step s' (above_cursor s'.text now) first l next r.reads.left_then between after
+      spent spent''
       brackets'' wikilinks'') (sym is) reads in
-      let here : ReadsOn step s (above_cursor s.text now) first at next r.reads.left_then between after spent spent'' brackets'' wikilinks''
+      let here : ReadsOn step s (above_cursor s.text now) first at next r.reads.left_then between after spent spent''
+      brackets'' wikilinks''
       =
-      subst (λ (x : Setting). ReadsOn step x (above_cursor x.text now) first at next r.reads.left_then between after spent spent''
+      subst (λ (x : Setting). ReadsOn step x (above_cursor x.text now) first at next r.reads.left_then between after
+      spent spent''
       brackets'' wikilinks'') same from in
-      let there = subst (λ (a : Above). ReadsOn step s a first at next r.reads.left_then between after spent spent'' brackets'' wikilinks'')
+      let there = subst (λ (a : Above). ReadsOn step s a first at next r.reads.left_then between after spent spent''
+      brackets'' wikilinks'')
       same_above here in
       record {
         tree = e ∙ ap (λ (t : Arena Item). let u : Arena Item = record t { nodes = new.nodes } in u) r.tree;
         begun = r.begun;
         none = r.none;
-        reads = reads_on_twice step s (above_cursor s.text old) first (Some first) at [] before between r.begun spent brackets wikilinks
+        reads = reads_on_twice step s (above_cursor s.text old) first (Some first) at [] before between r.begun spent
+            brackets wikilinks
             r.reads next after spent'' brackets'' wikilinks'' there;
         unread = subst (λ (x : Setting). IsUnread (trees_from x.text (tables_of held'') new.nodes next)) same
             (unread (rw (same, ← is) r.unread));
@@ -171,21 +196,27 @@ module _ {C : Type 0} {step : C → Question → Option Answer → C → Type 0}
       let before = stage old held limit callback in
       let after = stage now held' limit' callback' in
       reads_on_all step s (above_cursor s.text old) first before after r.begun spent brackets wikilinks r.none
-      (subst (λ (l : Option ℕ). ReadsOn step s (above_cursor s.text old) first (Some first) l [] before after r.begun spent brackets
+      (subst (λ (l : Option ℕ). ReadsOn step s (above_cursor s.text old) first (Some first) l [] before after r.begun
+      spent brackets
       wikilinks) none r.reads)
 
   -- memory was refused to what follows
   pub up_to_stops : (s' : Setting) (ix : ℕ) (callback'' : Option C) → s' ≡ s → at ≡ Some ix
-      → StopsOn step s' (above_cursor s'.text now) (Some ix) r.reads.left_then (stage now held' limit' callback') spent callback''
+      → StopsOn step s' (above_cursor s'.text now) (Some ix) r.reads.left_then (stage now held' limit' callback') spent
+      callback''
       → StopsInPassOne step s (above_cursor s.text old) first (stage old held limit callback) callback''
   up_to_stops s' ix callback'' same is stops =
       let before = stage old held limit callback in
       let between = stage now held' limit' callback' in
       let from : StopsOn step s' (above_cursor s'.text now) at r.reads.left_then between spent callback'' =
-      subst (λ (l : Option ℕ). StopsOn step s' (above_cursor s'.text now) l r.reads.left_then between spent callback'') (sym is) stops in
+      subst (λ (l : Option ℕ). StopsOn step s' (above_cursor s'.text now) l r.reads.left_then between spent callback'')
+      (sym is) stops in
       let here : StopsOn step s (above_cursor s.text now) at r.reads.left_then between spent callback'' =
-      subst (λ (x : Setting). StopsOn step x (above_cursor x.text now) at r.reads.left_then between spent callback'') same from in
-      let there = subst (λ (a : Above). StopsOn step s a at r.reads.left_then between spent callback'') same_above here in
+      subst (λ (x : Setting). StopsOn step x (above_cursor x.text now) at r.reads.left_then between spent callback'')
+      same from in
+      let there = subst (λ (a : Above). StopsOn step s a at r.reads.left_then between spent callback'') same_above here
+      in
       stops_pass_one step s (above_cursor s.text old) first before r.begun callback'' r.none
-      (stops_later step s (above_cursor s.text old) first (Some first) at [] before between r.begun spent brackets wikilinks r.reads
+      (stops_later step s (above_cursor s.text old) first (Some first) at [] before between r.begun spent brackets
+      wikilinks r.reads
       callback'' there)

@@ -1,7 +1,8 @@
 -- A `]` after a left list in an arena: the rules by which it is decided, that its openers can be tried, and what is put
 -- in place.
 use Rattle.markdown_base.specs.declared.item.ItemBody.TheVariants as body
-use Rattle.std.proofs.Common.{◌≡◌, ℕ, ◌-◌, ◌<◌, Bool, not, ◌&&◌, List, [], ◌++◌, Option, Some, None, length, drop, refl, sym, ap, ◌∙◌}
+use Rattle.std.proofs.Common.{◌≡◌, ℕ, ◌-◌, ◌<◌, Bool, not, ◌&&◌, List, [], ◌++◌, Option, Some, None, length, drop, refl}
+use Rattle.std.proofs.Common.{sym, ap, ◌∙◌}
 use Rattle.std.proofs.Common.{subst, arith, true}
 use Rattle.std.proofs.Math.Path.{fun_ext}
 use Rattle.std.proofs.lemmas.List.{length-drop, length-take}
@@ -73,7 +74,8 @@ pub record IsPrefixOf (place : ChainPlace) (prefix : ContainerPrefix) (tree : Ar
   pub gfm : prefix.gfm_footnotes ≡ gfm_footnotes_on place.options
 
 -- brackets are decided by the rules of pass one
-pub around_is : (place : ChainPlace) (prefix : ContainerPrefix) (tree : Arena Item) (source : List ℕ) (options : Options)
+pub around_is : (place : ChainPlace) (prefix : ContainerPrefix) (tree : Arena Item) (source : List ℕ)
+    (options : Options)
     (held : Allocated) (asks : Bool)
     → place.text.now ≡ source → place.options ≡ options → IsPlaceOf place tree → IsPrefixOf place prefix tree
     → around_at place (length_by prefix) (above_cursor source tree).bodies held.refdefs held.footdefs asks
@@ -106,7 +108,8 @@ some_byte source tables nodes ix could_be ready is =
 
 module _ {place : ChainPlace} {tree : Arena Item} {held : Allocated} {brackets wikilinks : List Waiting} {first ix : ℕ}
     {left : List (Entry ℕ)}
-    (can : CanReadOn place tree held brackets wikilinks first ix left) (could_be : Bool) (is : (item_at tree.nodes ix).body
+    (can : CanReadOn place tree held brackets wikilinks first ix left) (could_be : Bool)
+    (is : (item_at tree.nodes ix).body
     ≡ body.MaybeLinkClose could_be) where
   here_ready : CanResolve place.text.now (tables_of held) tree.nodes (Some ix)
   here_ready = stands_rest place.text.now (tables_of held) tree.nodes first (Some ix) left can.so_far
@@ -115,7 +118,8 @@ module _ {place : ChainPlace} {tree : Arena Item} {held : Allocated} {brackets w
   pub tries_each : EachOpener (CanTry tree.nodes place ix) brackets
   tries_each =
       let source = place.text.now in
-      let each = each_bracket (StandsOpen source (tables_of held) tree.nodes ix) left (each_open source (tables_of held) tree.nodes first ix
+      let each = each_bracket (StandsOpen source (tables_of held) tree.nodes ix) left
+      (each_open source (tables_of held) tree.nodes first ix
       left can.so_far) in
       subst (λ (w : List Waiting). EachOpener (CanTry tree.nodes place ix) w) (sym can.openers.brackets_are)
       (each_follows (StandsOpen source (tables_of held) tree.nodes ix) (CanTry tree.nodes place ix) _
@@ -125,31 +129,41 @@ module _ {place : ChainPlace} {tree : Arena Item} {held : Allocated} {brackets w
   pub finds_each : EachOpener (λ n. CanFindWikilink tree.nodes place.text.now n ix) wikilinks
   finds_each =
       let source = place.text.now in
-      let each = each_wikilink (StandsOpen source (tables_of held) tree.nodes ix) left (each_open source (tables_of held) tree.nodes first
+      let each = each_wikilink (StandsOpen source (tables_of held) tree.nodes ix) left
+      (each_open source (tables_of held) tree.nodes first
       ix left can.so_far) in
-      subst (λ (w : List Waiting). EachOpener (λ n. CanFindWikilink tree.nodes source n ix) w) (sym can.openers.wikilinks_are)
+      subst (λ (w : List Waiting). EachOpener (λ n. CanFindWikilink tree.nodes source n ix) w)
+      (sym can.openers.wikilinks_are)
       (each_follows (StandsOpen source (tables_of held) tree.nodes ix) (λ n. CanFindWikilink tree.nodes source n ix) _
       (λ n o. can_find source (tables_of held) tree.nodes ix n here_ready o) each)
 
 -- it was decided what becomes of a `]`: the left list that is left is where the first was, its numbers rise, and the
 -- result can be put in place
-pub record MayClose (source : List ℕ) (tables : Tables) (nodes : List (Node Item)) (first ix : ℕ) (w : Around) (c : Closing ℕ)
+pub record MayClose (source : List ℕ) (tables : Tables) (nodes : List (Node Item)) (first ix : ℕ) (w : Around)
+    (c : Closing ℕ)
     (left_then : List (Entry ℕ)) (becomes : Becomes ℕ) : Type 0 where
   pub stands : StandsTo source tables nodes first (Some ix) left_then
   pub before : StandsBefore nodes ix left_then c
   pub rises : LeftRises left_then
   pub closes : ClosesAt source tables nodes first ix left_then w c becomes
 
-pub may_close : {C : Type 0} (step : C → Question → Option Answer → C → Type 0) (source : List ℕ) (rules : Rules) (above : Above)
+pub may_close : {C : Type 0} (step : C → Question → Option Answer → C → Type 0) (source : List ℕ) (rules : Rules)
+    (above : Above)
     (tables : Tables) (nodes : List (Node Item)) (first ix : ℕ) (left : List (Entry ℕ))
-    (could_be : Bool) (limit limit' : ℕ) (uses uses' : List ℕ → ℕ) (spent spent' : SpentEnds) (callback callback' : Option C)
+    (could_be : Bool) (limit limit' : ℕ) (uses uses' : List ℕ → ℕ) (spent spent' : SpentEnds)
+    (callback callback' : Option C)
     (brackets wikilinks : List Waiting) (found : ClosedBracket)
-    → IsUtf8 source → StandsTo source tables nodes first (Some ix) left → IsUnread (trees_from source tables nodes (Some ix))
-    → (item_at nodes ix).body ≡ body.MaybeLinkClose could_be → (d : Decides step (around (setting_of source rules) above) (closing_at source tables nodes spent could_be ix) left limit limit' uses
+    → IsUtf8 source → StandsTo source tables nodes first (Some ix) left
+    → IsUnread (trees_from source tables nodes (Some ix))
+    → (item_at nodes ix).body ≡ body.MaybeLinkClose could_be
+    → (d : Decides step (around (setting_of source rules) above) (closing_at source tables nodes spent could_be ix)
+    left limit limit' uses
     uses' spent spent' callback callback' brackets wikilinks found)
-    → MayClose source tables nodes first ix (around (setting_of source rules) above) (closing_at source tables nodes spent could_be ix)
+    → MayClose source tables nodes first ix (around (setting_of source rules) above)
+    (closing_at source tables nodes spent could_be ix)
     d.left_then d.becomes
-may_close step source rules above tables nodes first ix left could_be limit limit' uses uses' spent spent' callback callback' brackets
+may_close step source rules above tables nodes first ix left could_be limit limit' uses uses' spent spent' callback
+    callback' brackets
     wikilinks found utf8 h unread is d =
     let w = around (setting_of source rules) above in
     let c = closing_at source tables nodes spent could_be ix in
@@ -176,7 +190,8 @@ may_close step source rules above tables nodes first ix left could_be limit limi
       made = 0;
     } in
     let decides : decided w c p ≡ record { becomes = d.becomes; progress = q } = d.decides p [] in
-    let stands = decided_stands source tables nodes first (Some ix) left d.left_then w c d.becomes p q refl refl decides h in
+    let stands = decided_stands source tables nodes first (Some ix) left d.left_then w c d.becomes p q refl refl decides
+    h in
     record {
       stands = stands;
       before = stands_before source tables nodes first ix d.left_then c could_be stands refl refl is;
@@ -187,7 +202,8 @@ may_close step source rules above tables nodes first ix left could_be limit limi
         label_is = refl;
         rest_is = refl;
         text_is = refl;
-        unmade = unmade_after source tables nodes ix (stands_rest source tables nodes first (Some ix) left h) (ap is_open is)
+        unmade = unmade_after source tables nodes ix (stands_rest source tables nodes first (Some ix) left h)
+            (ap is_open is)
             (ap waits_for_pairing is) unread;
         splits = d.splits;
         ends = ends_well source tables nodes first ix left w c p d.becomes q h refl refl refl utf8 refl decides;
@@ -201,36 +217,47 @@ pub decides_here : {C E : Type 0} (step : C → Question → Option Answer → C
     → is_closer (item_at tree.nodes ix).body ≡ true
     → IfOk r (λ found. (bodies : List ItemBody) (skipped : List ℕ → ℕ) (left : List (Entry ℕ)) (c : Closing ℕ)
     → GoesOnBehind (λ rest. Some (length_by prefix rest)) skipped → StandsBefore tree.nodes ix left c
-    → c.could_be_reference ≡ (could_be_reference (item_at tree.nodes ix).body && not (is_spent old.waiting.spent (end_of c.label)))
+    → c.could_be_reference
+    ≡ (could_be_reference (item_at tree.nodes ix).body && not (is_spent old.waiting.spent (end_of c.label)))
     → old.waiting.openers.brackets ≡ brackets_of left → old.waiting.openers.wikilinks ≡ wikilinks_of left
-    → Decides step (around_at place skipped bodies old.lookup.tables.refdefs old.lookup.tables.footdefs (is_some old.lookup.callback)) c
-    left old.lookup.limit new.lookup.limit (uses_of old.lookup.tables.footdefs) (uses_of new.lookup.tables.footdefs) old.waiting.spent
-    new.waiting.spent old.lookup.callback new.lookup.callback new.waiting.openers.brackets new.waiting.openers.wikilinks found)
+    → Decides step (around_at place skipped bodies old.lookup.tables.refdefs old.lookup.tables.footdefs
+    (is_some old.lookup.callback)) c
+    left old.lookup.limit new.lookup.limit (uses_of old.lookup.tables.footdefs) (uses_of new.lookup.tables.footdefs)
+    old.waiting.spent
+    new.waiting.spent old.lookup.callback new.lookup.callback new.waiting.openers.brackets new.waiting.openers.wikilinks
+    found)
     → IfOk r (λ found. DecidesClosing step place tree ix old new found)
 decides_here step place prefix tree old new ix (Ok found) text options_are prefix_is_its closes decides = record {
   decides = λ first left can.
       let could_be = could_be_reference (item_at tree.nodes ix).body in
       let held = old.lookup.tables in
       let c = closing_at place.text.now (tables_of held) tree.nodes old.waiting.spent could_be ix in
-      let before = stands_before place.text.now (tables_of held) tree.nodes first ix left c could_be can.so_far refl refl
+      let before = stands_before place.text.now (tables_of held) tree.nodes first ix left c could_be can.so_far refl
+      refl
       (closer_body (item_at tree.nodes ix).body closes) in
       let d = decides (above_cursor place.text.now tree).bodies (length_by prefix) left c (λ rest. refl) before refl
       can.openers.brackets_are can.openers.wikilinks_are in
       let here = subst (λ (w : Around). Decides step w c left old.lookup.limit new.lookup.limit (uses_of held.footdefs)
       (uses_of new.lookup.tables.footdefs) old.waiting.spent new.waiting.spent old.lookup.callback new.lookup.callback
       new.waiting.openers.brackets new.waiting.openers.wikilinks found)
-      (around_is place prefix tree place.text.now old.options held (is_some old.lookup.callback) refl options_are can.stands prefix_is_its) d
+      (around_is place prefix tree place.text.now old.options held (is_some old.lookup.callback) refl options_are
+      can.stands prefix_is_its) d
       in
-      subst (λ (t : List ℕ). Decides step (around (setting_of t (rules_from old.options held (is_some old.lookup.callback)))
-      (above_cursor t tree)) (closing_at t (tables_of held) tree.nodes old.waiting.spent could_be ix) left old.lookup.limit
+      subst (λ (t : List ℕ). Decides step
+      (around (setting_of t (rules_from old.options held (is_some old.lookup.callback)))
+      (above_cursor t tree)) (closing_at t (tables_of held) tree.nodes old.waiting.spent could_be ix) left
+      old.lookup.limit
       new.lookup.limit (uses_of held.footdefs) (uses_of new.lookup.tables.footdefs) old.waiting.spent new.waiting.spent
-      old.lookup.callback new.lookup.callback new.waiting.openers.brackets new.waiting.openers.wikilinks found) text here;
+      old.lookup.callback new.lookup.callback new.waiting.openers.brackets new.waiting.openers.wikilinks found) text
+      here;
 }
 decides_here step place prefix tree old new ix (Err fault) text options_are prefix_is_its closes decides = tt
 
 -- what is left after a `]` was not read
-unread_closed : (source : List ℕ) (tables tables' : Tables) (old new : List (Node Item)) (first closer : ℕ) (rest : Rest)
-    (left : List (Entry ℕ)) (w : Around) (c : Closing ℕ) (becomes : Becomes ℕ) → CanResolve source tables old (Some closer)
+unread_closed : (source : List ℕ) (tables tables' : Tables) (old new : List (Node Item)) (first closer : ℕ)
+    (rest : Rest)
+    (left : List (Entry ℕ)) (w : Around) (c : Closing ℕ) (becomes : Becomes ℕ)
+    → CanResolve source tables old (Some closer)
     → PutsClosed source first closer rest left w c becomes old new tables tables'
     → IsUnread (trees_from source tables old (Some closer)) → IsUnread (trees_from source tables' new rest.next)
 unread_closed source tables tables' old new first closer rest left w c becomes ready puts h =
@@ -242,11 +269,13 @@ unread_closed source tables tables' old new first closer rest left w c becomes r
       known = record { limit = 0; answers = []; uses = λ n. 0 };
       made = 0;
     } in
-    rw (puts.rest_is p refl) (unread_past (put w c becomes p).goes_on (trees_from source tables old (sibling_of old closer))
+    rw (puts.rest_is p refl)
+    (unread_past (put w c becomes p).goes_on (trees_from source tables old (sibling_of old closer))
     (unread_after source tables old closer ready h))
 
 -- a resolver has decided what a `]` becomes
-module _ {C : Type 0} (step : C → Question → Option Answer → C → Type 0) (place : ChainPlace) (tree : Arena Item) (old mid : Resolver C)
+module _ {C : Type 0} (step : C → Question → Option Answer → C → Type 0) (place : ChainPlace) (tree : Arena Item)
+    (old mid : Resolver C)
     (found : ClosedBracket) (ix : ℕ) (can : CanReadNode place tree old ix) (text_is : IsUtf8 place.text.now)
     (is_close : is_closer (item_at tree.nodes ix).body ≡ true) (changes : ChangesForDecision old mid)
     (decision : DecidesClosing step place tree ix old mid found) where
@@ -274,19 +303,25 @@ module _ {C : Type 0} (step : C → Question → Option Answer → C → Type 0)
 
   closes_here : (first : ℕ) (left : List (Entry ℕ)) (was_read : WasReadTo place tree old first ix left)
       → (let d = decision.decides first left was_read in
-      MayClose old.text.now (tables_of old.lookup.tables) tree.nodes first ix around_here closing_here d.left_then d.becomes)
+      MayClose old.text.now (tables_of old.lookup.tables) tree.nodes first ix around_here closing_here d.left_then
+      d.becomes)
   closes_here first left was_read =
-      may_close step old.text.now (rules_from old.options old.lookup.tables (is_some old.lookup.callback)) (above_cursor old.text.now tree)
-      (tables_of old.lookup.tables) tree.nodes first ix left could_be old.lookup.limit mid.lookup.limit (uses_of old.lookup.tables.footdefs)
-      (uses_of mid.lookup.tables.footdefs) old.waiting.spent mid.waiting.spent old.lookup.callback mid.lookup.callback mid.waiting.openers.brackets mid.waiting.openers.wikilinks found utf8
+      may_close step old.text.now (rules_from old.options old.lookup.tables (is_some old.lookup.callback))
+      (above_cursor old.text.now tree)
+      (tables_of old.lookup.tables) tree.nodes first ix left could_be old.lookup.limit mid.lookup.limit
+      (uses_of old.lookup.tables.footdefs)
+      (uses_of mid.lookup.tables.footdefs) old.waiting.spent mid.waiting.spent old.lookup.callback mid.lookup.callback
+      mid.waiting.openers.brackets mid.waiting.openers.wikilinks found utf8
       (here_stands first left was_read) (rw (← can.text) was_read.unread) is (decision.decides first left was_read)
 
   closes_there : (first : ℕ) (left : List (Entry ℕ)) (was_read : WasReadTo place tree old first ix left)
       → (let d = decision.decides first left was_read in
-      ClosesAt old.text.now (tables_of mid.lookup.tables) tree.nodes first ix d.left_then around_here closing_here d.becomes)
+      ClosesAt old.text.now (tables_of mid.lookup.tables) tree.nodes first ix d.left_then around_here closing_here
+      d.becomes)
   closes_there first left was_read =
       let d = decision.decides first left was_read in
-      subst (λ (t : Tables). ClosesAt old.text.now t tree.nodes first ix d.left_then around_here closing_here d.becomes) (sym tables)
+      subst (λ (t : Tables). ClosesAt old.text.now t tree.nodes first ix d.left_then around_here closing_here d.becomes)
+      (sym tables)
       (closes_here first left was_read).closes
 
   -- it can be put in place: the openers that are left are nodes
@@ -294,7 +329,8 @@ module _ {C : Type 0} (step : C → Question → Option Answer → C → Type 0)
     pub within : EachOpener (λ n. n < length tree.nodes) mid.waiting.openers.wikilinks
     pub left_then : List (Entry ℕ)
     pub becomes : Becomes ℕ
-    pub closes : ClosesAt old.text.now (tables_of mid.lookup.tables) tree.nodes can.first ix left_then around_here closing_here becomes
+    pub closes : ClosesAt old.text.now (tables_of mid.lookup.tables) tree.nodes can.first ix left_then around_here
+        closing_here becomes
     pub is_become : IsBecome around_here becomes found
 
   pub may_put : MayPut
@@ -302,8 +338,10 @@ module _ {C : Type 0} (step : C → Question → Option Answer → C → Type 0)
       let d = decision.decides can.first can.left can.was_read in
       record {
         within = subst (λ (w : List Waiting). EachOpener (λ n. n < length tree.nodes) w) (sym d.wikilinks_are)
-            (each_follows (IsOpener old.text.now tree.nodes) (λ n. n < length tree.nodes) (wikilinks_of d.left_then) (λ n o. o.within)
-            (each_wikilink (IsOpener old.text.now tree.nodes) d.left_then (closes_here can.first can.left can.was_read).stands.waiting));
+            (each_follows (IsOpener old.text.now tree.nodes) (λ n. n < length tree.nodes) (wikilinks_of d.left_then)
+            (λ n o. o.within)
+            (each_wikilink (IsOpener old.text.now tree.nodes) d.left_then
+            (closes_here can.first can.left can.was_read).stands.waiting));
         left_then = d.left_then;
         becomes = d.becomes;
         closes = closes_there can.first can.left can.was_read;
@@ -314,16 +352,21 @@ module _ {C : Type 0} (step : C → Question → Option Answer → C → Type 0)
   module _ (tree' : Arena Item) (held : Allocated) (openers : ChainOpeners) where
     -- what is put in place, whatever was decided
     abbrev pub PutsEach : Rest → Type 0
-    PutsEach rest = (source : List ℕ) (first : ℕ) (left : List (Entry ℕ)) (w : Around) (c : Closing ℕ) (becomes : Becomes ℕ)
+    PutsEach rest = (source : List ℕ) (first : ℕ) (left : List (Entry ℕ)) (w : Around) (c : Closing ℕ)
+        (becomes : Becomes ℕ)
         → ClosesAt source (tables_of mid.lookup.tables) tree.nodes first ix left w c becomes → IsBecome w becomes found
-        → PutsClosed source first ix rest left w c becomes tree.nodes tree'.nodes (tables_of mid.lookup.tables) (tables_of held)
+        → PutsClosed source first ix rest left w c becomes tree.nodes tree'.nodes (tables_of mid.lookup.tables)
+        (tables_of held)
 
     -- and what the stacks hold then
     abbrev pub FinishesEach : Type 0
-    FinishesEach = (w : Around) (c : Closing ℕ) (closer : ℕ) (left : List (Entry ℕ)) (becomes : Becomes ℕ) (p : Progress ℕ)
+    FinishesEach = (w : Around) (c : Closing ℕ) (closer : ℕ) (left : List (Entry ℕ)) (becomes : Becomes ℕ)
+        (p : Progress ℕ)
         → StandsBefore tree.nodes closer left c → LeftRises left → SplitsAs left becomes → IsBecome w becomes found
-        → mid.waiting.openers.brackets ≡ brackets_of left → mid.waiting.openers.wikilinks ≡ wikilinks_of left → p.left ≡ left
-        → (openers.brackets ≡ brackets_of (put w c becomes p).left) × (openers.wikilinks ≡ wikilinks_of (put w c becomes p).left)
+        → mid.waiting.openers.brackets ≡ brackets_of left → mid.waiting.openers.wikilinks ≡ wikilinks_of left → p.left
+        ≡ left
+        → (openers.brackets ≡ brackets_of (put w c becomes p).left)
+        × (openers.wikilinks ≡ wikilinks_of (put w c becomes p).left)
 
     abbrev pub put_then : Resolver C
     put_then = record mid {
@@ -331,17 +374,21 @@ module _ {C : Type 0} (step : C → Question → Option Answer → C → Type 0)
       waiting = record mid.waiting { openers = openers };
     }
 
-    puts_here : (rest : Rest) (first : ℕ) (left : List (Entry ℕ)) (was_read : WasReadTo place tree old first ix left) → PutsEach rest
+    puts_here : (rest : Rest) (first : ℕ) (left : List (Entry ℕ)) (was_read : WasReadTo place tree old first ix left)
+        → PutsEach rest
         → (let d = decision.decides first left was_read in
-        PutsClosed old.text.now first ix rest d.left_then around_here closing_here d.becomes tree.nodes tree'.nodes (tables_of old.lookup.tables)
+        PutsClosed old.text.now first ix rest d.left_then around_here closing_here d.becomes tree.nodes tree'.nodes
+        (tables_of old.lookup.tables)
         (tables_of held))
     puts_here rest first left was_read puts =
         let d = decision.decides first left was_read in
-        subst (λ (t : Tables). PutsClosed old.text.now first ix rest d.left_then around_here closing_here d.becomes tree.nodes tree'.nodes t
+        subst (λ (t : Tables). PutsClosed old.text.now first ix rest d.left_then around_here closing_here d.becomes
+        tree.nodes tree'.nodes t
         (tables_of held)) tables
         (puts old.text.now first d.left_then around_here closing_here d.becomes (closes_there first left was_read) d.is)
 
-    pub reads_closed : {E : Type 0} (r : Result Rest E) → held.footdefs ≡ mid.lookup.tables.footdefs → FinishesEach → IfOk r PutsEach
+    pub reads_closed : {E : Type 0} (r : Result Rest E) → held.footdefs ≡ mid.lookup.tables.footdefs → FinishesEach
+        → IfOk r PutsEach
         → IfOk r (λ rest. tree' ≡ record tree { nodes = tree'.nodes })
         → IfOk r (λ rest. ReadsBracket step place ix rest tree tree' old put_then)
     reads_closed (Ok rest) footdefs finishes puts place_is =
@@ -351,21 +398,29 @@ module _ {C : Type 0} (step : C → Question → Option Answer → C → Type 0)
             reads = λ first left was_read.
                 let d = decision.decides first left was_read in
                 let m = closes_here first left was_read in
-                subst (λ (f : FootnoteDefs). ReadsOn step (setting_by old) (above_cursor old.text.now tree) first (Some ix) rest.next left
-                (stage_by tree old) (record (stage_by tree' put_then) { uses = uses_of f }) old.waiting.spent mid.waiting.spent openers.brackets
+                subst (λ (f : FootnoteDefs). ReadsOn step (setting_by old) (above_cursor old.text.now tree) first
+                (Some ix) rest.next left
+                (stage_by tree old) (record (stage_by tree' put_then) { uses = uses_of f }) old.waiting.spent
+                mid.waiting.spent openers.brackets
                 openers.wikilinks) (sym footdefs)
-                (reads_on_closer step (setting_by old) (above_cursor old.text.now tree) first ix left could_be (stage_by tree old)
-                (record (stage_by tree' put_then) { uses = uses_of mid.lookup.tables.footdefs }) old.waiting.spent mid.waiting.spent mid.waiting.openers.brackets
-                mid.waiting.openers.wikilinks found rest openers.brackets openers.wikilinks d (here_stands first left was_read) is
+                (reads_on_closer step (setting_by old) (above_cursor old.text.now tree) first ix left could_be
+                (stage_by tree old)
+                (record (stage_by tree' put_then) { uses = uses_of mid.lookup.tables.footdefs }) old.waiting.spent
+                mid.waiting.spent mid.waiting.openers.brackets
+                mid.waiting.openers.wikilinks found rest openers.brackets openers.wikilinks d
+                (here_stands first left was_read) is
                 (puts_here rest first left was_read puts)
                 (record {
-                  holds = λ q e. finishes around_here closing_here ix d.left_then d.becomes q m.before m.rises d.splits d.is d.brackets_are
+                  holds = λ q e. finishes around_here closing_here ix d.left_then d.becomes q m.before m.rises d.splits
+                      d.is d.brackets_are
                       d.wikilinks_are e;
                 }));
             passes = here.passes;
-            unread = λ h. unread_closed old.text.now (tables_of old.lookup.tables) (tables_of held) tree.nodes tree'.nodes can.first ix rest
+            unread = λ h. unread_closed old.text.now (tables_of old.lookup.tables) (tables_of held) tree.nodes
+                tree'.nodes can.first ix rest
                 (decision.decides can.first can.left can.was_read).left_then around_here closing_here
-                (decision.decides can.first can.left can.was_read).becomes (stands_rest old.text.now (tables_of old.lookup.tables) tree.nodes
+                (decision.decides can.first can.left can.was_read).becomes
+                (stands_rest old.text.now (tables_of old.lookup.tables) tree.nodes
                 can.first (Some ix) can.left (here_stands can.first can.left can.was_read)) here h;
             place_is = place_is;
           };
@@ -373,9 +428,11 @@ module _ {C : Type 0} (step : C → Question → Option Answer → C → Type 0)
         }
     reads_closed (Err fault) footdefs finishes puts place_is = tt
 
-  pub stops_decided : {E : Type 0} (r : Result Rest E) → IfErr r (λ fault. StopsAtNode step place ix tree old mid.lookup.callback)
+  pub stops_decided : {E : Type 0} (r : Result Rest E)
+      → IfErr r (λ fault. StopsAtNode step place ix tree old mid.lookup.callback)
   stops_decided (Ok rest) = tt
   stops_decided (Err fault) = λ first left was_read.
       stops_at_closer step (setting_by old) (above_cursor old.text.now tree) first ix left could_be (stage_by tree old)
-      (stage_by tree mid) old.waiting.spent mid.waiting.spent mid.waiting.openers.brackets mid.waiting.openers.wikilinks found (decision.decides first left was_read)
+      (stage_by tree mid) old.waiting.spent mid.waiting.spent mid.waiting.openers.brackets mid.waiting.openers.wikilinks
+      found (decision.decides first left was_read)
       (here_stands first left was_read) is

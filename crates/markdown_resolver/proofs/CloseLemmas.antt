@@ -1,6 +1,7 @@
 -- What a `]` becomes is put in the place of its opener in the left list, over what is inside: what can be put there,
 -- and what is there then.
-use Rattle.std.proofs.Common.{◌≡◌, ℕ, suc, ◌<◌, ◌≤◌, Bool, true, false, List, [], ◌∷◌, length, Option, Some, refl, sym, ap, ◌∙◌, subst}
+use Rattle.std.proofs.Common.{◌≡◌, ℕ, suc, ◌<◌, ◌≤◌, Bool, true, false, List, [], ◌∷◌, length, Option, Some, refl, sym}
+use Rattle.std.proofs.Common.{ap, ◌∙◌, subst}
 use Rattle.std.proofs.Common.{if◌then◌else◌, nat_le}
 use Rattle.std.specs.Prelude.{slice_range}
 use Rattle.markdown_base.specs.Arena.{child_of, sibling_of}
@@ -43,14 +44,16 @@ use Rattle.markdown_resolver.proofs.SplitLemmas.{InsideOf, inside_numbers, insid
 use Rattle.markdown_resolver.proofs.UnreadLemmas.{first_cut}
 
 -- an opener of a left list in an arena, with what is inside and a `]` after that
-pub record OpenerAt (source : List ℕ) (tables : Tables) (nodes : List (Node Item)) (first closer : ℕ) (o : Split ℕ) : Type 0 where
+pub record OpenerAt (source : List ℕ) (tables : Tables) (nodes : List (Node Item)) (first closer : ℕ) (o : Split ℕ)
+    : Type 0 where
   pub stands : StandsTo source tables nodes first (Some o.opener.tag) o.before
   pub opener : IsOpener source nodes o.opener.tag
   pub ready : CanResolve source tables nodes (Some o.opener.tag)
   pub ready_closer : CanResolve source tables nodes (Some closer)
   pub around : InsideOf source tables nodes closer o
 
-pub opener_at : (source : List ℕ) (tables : Tables) (nodes : List (Node Item)) (first closer : ℕ) (left : List (Entry ℕ)) (o : Split ℕ)
+pub opener_at : (source : List ℕ) (tables : Tables) (nodes : List (Node Item)) (first closer : ℕ)
+    (left : List (Entry ℕ)) (o : Split ℕ)
     → StandsTo source tables nodes first (Some closer) left
     → IsSplit left o
     → OpenerAt source tables nodes first closer o
@@ -67,7 +70,8 @@ opener_at source tables nodes first closer left o stands splits =
     }
 
 -- an item whose label is not open is not open
-not_open : (tables : Tables) (source : List ℕ) (b : ItemBody) → is_unresolved (shape_of tables source b) ≡ false → is_open b ≡ false
+not_open : (tables : Tables) (source : List ℕ) (b : ItemBody) → is_unresolved (shape_of tables source b) ≡ false
+    → is_open b ≡ false
 not_open tables source b closed = by (is_open b) refl
   where
     by : (opens : Bool) → is_open b ≡ opens → is_open b ≡ false
@@ -77,7 +81,8 @@ not_open tables source b closed = by (is_open b) refl
 -- the first node that ends past a byte is not open where it starts before it
 pub none_open : (source : List ℕ) (tables : Tables) (nodes : List (Node Item)) (byte next : ℕ) (f : Forest ℕ)
     → NoneOpenAround byte (relabelled (numbered_label source tables nodes) f)
-    → first_past nodes byte (roots f) ≡ Some next → (item_at nodes next).start < byte → is_open (item_at nodes next).body ≡ false
+    → first_past nodes byte (roots f) ≡ Some next → (item_at nodes next).start < byte
+    → is_open (item_at nodes next).body ≡ false
 none_open source tables nodes byte next nil h first before = cc first
 none_open source tables nodes byte next (node n below after) h first before =
     by (nat_le (item_at nodes n).end byte) h first (none_open source tables nodes byte next after)
@@ -85,7 +90,8 @@ none_open source tables nodes byte next (node n below after) h first before =
     by : (ended : Bool) → IsNotCut ended byte (numbered_label source tables nodes n)
         (NoneOpenAround byte (relabelled (numbered_label source tables nodes) after))
         → (if ended then first_past nodes byte (roots after) else Some n) ≡ Some next
-        → (NoneOpenAround byte (relabelled (numbered_label source tables nodes) after) → first_past nodes byte (roots after) ≡ Some next
+        → (NoneOpenAround byte (relabelled (numbered_label source tables nodes) after)
+        → first_past nodes byte (roots after) ≡ Some next
         → (item_at nodes next).start < byte
         → is_open (item_at nodes next).body ≡ false)
         → is_open (item_at nodes next).body ≡ false
@@ -98,9 +104,11 @@ none_open source tables nodes byte next (node n below after) h first before =
         (h (subst (λ (m : ℕ). (item_at nodes m).start < byte) (sym same) before)))
 
 -- something that is found can end at a byte offset there
-pub can_close : (source : List ℕ) (tables : Tables) (nodes : List (Node Item)) (first closer : ℕ) (left : List (Entry ℕ)) (w : Around)
+pub can_close : (source : List ℕ) (tables : Tables) (nodes : List (Node Item)) (first closer : ℕ)
+    (left : List (Entry ℕ)) (w : Around)
     (c : Closing ℕ) (becomes : Becomes ℕ) (o : Split ℕ) (byte : ℕ)
-    → ClosesAt source tables nodes first closer left w c becomes → OpenerAt source tables nodes first closer o → CanGoOn source c byte
+    → ClosesAt source tables nodes first closer left w c becomes → OpenerAt source tables nodes first closer o
+    → CanGoOn source c byte
     → CanClose source tables nodes o.opener.tag closer (inside_numbers o) byte
 can_close source tables nodes first closer left w c becomes o byte closes at can = record {
   ready = at.ready;
@@ -111,8 +119,10 @@ can_close source tables nodes first closer left w c becomes o byte closes at can
   closer_no_run = ap run_character closes.closes.1;
   closer_ends = subst (λ (a : Label ℕ). end_of a ≤ byte) closes.label_is can.behind;
   boundary = can.between;
-  between = λ next first before. first_cut source tables nodes byte next (forest_at (links_of nodes) (sibling_of nodes closer))
-      closes.unmade first (none_open source tables nodes byte next (forest_at (links_of nodes) (sibling_of nodes closer))
+  between = λ next first before. first_cut source tables nodes byte next
+      (forest_at (links_of nodes) (sibling_of nodes closer))
+      closes.unmade first (none_open source tables nodes byte next
+      (forest_at (links_of nodes) (sibling_of nodes closer))
       (subst (NoneOpenAround byte) closes.rest_is can.none_around) first before);
 }
 
@@ -146,31 +156,38 @@ quiet_later [] later h = h
 quiet_later (done a below ∷ left) later h = (quiet_later left (node a below later) h).3
 quiet_later (waits m a ∷ left) later h = (quiet_later left (node a nil later) h).3
 
-pub quiet_inside : (left : List (Entry ℕ)) (o : Split ℕ) → IsSplit left o → IsQuiet (trees_onto left nil) → IsQuiet (inside o)
+pub quiet_inside : (left : List (Entry ℕ)) (o : Split ℕ) → IsSplit left o → IsQuiet (trees_onto left nil)
+    → IsQuiet (inside o)
 quiet_inside left o splits quiet =
     let whole : trees_onto left nil ≡ trees_onto o.before (node o.opener nil (inside o)) =
-    ap (λ (l : List (Entry ℕ)). trees_onto l nil) splits.left_is ∙ onto_appended splits.after_then o.before splits.mark_then o.opener nil
+    ap (λ (l : List (Entry ℕ)). trees_onto l nil) splits.left_is ∙ onto_appended splits.after_then o.before
+    splits.mark_then o.opener nil
     ∙ ap (λ (f : Forest (Label ℕ)). trees_onto o.before (node o.opener nil f)) (splits.same_trees nil) in
     (quiet_later o.before (node o.opener nil (inside o)) (subst IsQuiet whole quiet)).3
 
 -- what is put in place: these trees after this left list, up to a byte offset
-pub record PutsWhat (w : Around) (c : Closing ℕ) (left : List (Entry ℕ)) (becomes : Becomes ℕ) (trees : Forest (Label ℕ))
+pub record PutsWhat (w : Around) (c : Closing ℕ) (left : List (Entry ℕ)) (becomes : Becomes ℕ)
+    (trees : Forest (Label ℕ))
     (before : List (Entry ℕ)) (goes_on : ℕ) : Type 0 where
   pub left_is : (p : Progress ℕ) → p.left ≡ left → (put w c becomes p).left ≡ all_done trees before
   pub goes : (p : Progress ℕ) → (put w c becomes p).goes_on ≡ Some goes_on
 
 -- so it is in the left list
-pub puts_closed : (source : List ℕ) (first closer : ℕ) (rest : Rest) (left : List (Entry ℕ)) (w : Around) (c : Closing ℕ)
+pub puts_closed : (source : List ℕ) (first closer : ℕ) (rest : Rest) (left : List (Entry ℕ)) (w : Around)
+    (c : Closing ℕ)
     (becomes : Becomes ℕ) (o : Split ℕ) (old new : List (Node Item))
-    (tables tables' : Tables) (before : List (Entry ℕ)) (trees : Enclosing) (what : Forest (Label ℕ)) (goes_on : ℕ) (standing : List ℕ)
+    (tables tables' : Tables) (before : List (Entry ℕ)) (trees : Enclosing) (what : Forest (Label ℕ)) (goes_on : ℕ)
+    (standing : List ℕ)
     → ClosesAt source tables old first closer left w c becomes → OpenerAt source tables old first closer o
     → StandsTo source tables old first (Some o.opener.tag) before
-    → PutsWhat w c left becomes what before goes_on → trees (label_at source tables old o.opener.tag) (without_numbers (inside o))
+    → PutsWhat w c left becomes what before goes_on → trees (label_at source tables old o.opener.tag)
+    (without_numbers (inside o))
     ≡ without_numbers what → IsQuiet what
     → ((a : Plain) (i : Forest Plain) → length (roots (trees a i)) ≡ length standing)
     → PutsOver source o.opener.tag closer (inside_numbers o) trees goes_on standing rest old new tables tables'
     → PutsClosed source first closer rest left w c becomes old new tables tables'
-puts_closed source first closer rest left w c becomes o old new tables tables' before trees what goes_on standing closes at stands puts
+puts_closed source first closer rest left w c becomes o old new tables tables' before trees what goes_on standing closes
+    at stands puts
     reads quiet many over =
     let ix = o.opener.tag in
     let a = label_at source tables old ix in
@@ -178,25 +195,32 @@ puts_closed source first closer rest left w c becomes o old new tables tables' b
     let next = rest.next in
     let behind = trees_from source tables old (sibling_of old closer) in
     let opened = opens_numbered source tables old ix at.ready in
-    let is : trees a (first_trees (length (inside_numbers o)) after) ≡ without_numbers what = ap (trees a) at.around.inside_is ∙ reads in
+    let is : trees a (first_trees (length (inside_numbers o)) after)
+    ≡ without_numbers what = ap (trees a) at.around.inside_is ∙ reads in
     let put_there = over_trees source ix closer (inside_numbers o) trees goes_on standing rest old new tables tables' a
     (trees_from source tables old (child_of old ix)) after at.ready opened.trees
     (subst IsQuiet (sym is) (quiet_tagged (λ n. tt) what quiet)) over many in
     let so : PutsTrees source ix next (without_numbers what) (past_byte goes_on behind) old new tables tables' =
-    subst (λ (f : Forest Plain). PutsTrees source ix next (without_numbers what) (past_byte goes_on f) old new tables tables')
+    subst (λ (f : Forest Plain). PutsTrees source ix next (without_numbers what) (past_byte goes_on f) old new tables
+    tables')
     at.around.behind_is
-    (subst (λ (f : Forest Plain). PutsTrees source ix next f (past_byte goes_on (trees_past (suc (length (inside_numbers o))) after)) old
+    (subst (λ (f : Forest Plain). PutsTrees source ix next f
+    (past_byte goes_on (trees_past (suc (length (inside_numbers o))) after)) old
     new tables tables') is put_there) in
-    let b = puts_behind source first ix next before (without_numbers what) (past_byte goes_on behind) old new tables tables' stands so in
+    let b = puts_behind source first ix next before (without_numbers what) (past_byte goes_on behind) old new tables
+    tables' stands so in
     record {
       changes = b.changes;
       left_then = all_done b.standing before;
       stands = b.stands;
-      puts = λ p e. without_done b.standing before ∙ ap (λ (f : Forest Plain). all_done f (left_without_numbers before)) b.reads
+      puts = λ p e. without_done b.standing before ∙ ap (λ (f : Forest Plain). all_done f (left_without_numbers before))
+          b.reads
           ∙ sym (without_done what before)
           ∙ ap left_without_numbers (sym (puts.left_is p e));
-      brackets = λ p e. brackets_done b.standing before ∙ sym (brackets_done what before) ∙ ap brackets_of (sym (puts.left_is p e));
-      wikilinks = λ p e. wikilinks_done b.standing before ∙ sym (wikilinks_done what before) ∙ ap wikilinks_of (sym (puts.left_is p e));
+      brackets = λ p e. brackets_done b.standing before ∙ sym (brackets_done what before)
+          ∙ ap brackets_of (sym (puts.left_is p e));
+      wikilinks = λ p e. wikilinks_done b.standing before ∙ sym (wikilinks_done what before)
+          ∙ ap wikilinks_of (sym (puts.left_is p e));
       rest_is = λ p e. b.rest_is ∙ ap (λ (g : Option ℕ). past g behind) (sym (puts.goes p));
       passes = passes_past source tables tables' old new closer goes_on rest
           (stands_ready source tables old (Some closer) at.ready_closer) over.past b.rest_is;

@@ -50,7 +50,8 @@ closer_settled source tables nodes closer could_be is =
 
 pub text_closed : (source : List ℕ) (tables : Tables) (old new : List (Node Item)) (first closer : ℕ) (rest : Rest)
     (left : List (Entry ℕ)) (w : Around) (c : Closing ℕ)
-    → ClosesAt source tables old first closer left w c a_text → Puts source closer (settled source) None rest old new tables tables
+    → ClosesAt source tables old first closer left w c a_text → Puts source closer (settled source) None rest old new
+    tables tables
     → PutsClosed source first closer rest left w c a_text old new tables tables
 text_closed source tables old new first closer rest left w c closes puts =
     let next = rest.next in
@@ -61,8 +62,10 @@ text_closed source tables old new first closer rest left w c closes puts =
     let is = closer_settled source tables old closer closes.closes.0 closes.closes.1 in
     let no_block : is_some a.part.block ≡ false = ap (λ (b : ItemBody). is_some (block_of b)) closes.closes.1 in
     let quiet : IsQuiet (node (as_text source a) nil nil) = (refl, no_block, tt, tt) in
-    let p = put_trees source closer (settled source) None rest old new tables tables ready puts (subst IsQuiet (sym is) quiet) in
-    let b = puts_behind source first closer next left (node (as_text source a) nil nil) behind old new tables tables closes.stands
+    let p = put_trees source closer (settled source) None rest old new tables tables ready puts
+    (subst IsQuiet (sym is) quiet) in
+    let b = puts_behind source first closer next left (node (as_text source a) nil nil) behind old new tables tables
+    closes.stands
     (subst (λ (f : Forest Plain). PutsTrees source closer next f behind old new tables tables) is p) in
     let reads : node (as_text source a) nil nil ≡ without_numbers what =
     ap (λ (text : List ℕ). node (as_text text a) nil nil) (sym closes.text_is)
@@ -71,7 +74,8 @@ text_closed source tables old new first closer rest left w c closes puts =
       changes = b.changes;
       left_then = all_done b.standing left;
       stands = b.stands;
-      puts = λ q e. without_done b.standing left ∙ ap (λ (f : Forest Plain). all_done f (left_without_numbers left)) (b.reads ∙ reads)
+      puts = λ q e. without_done b.standing left ∙ ap (λ (f : Forest Plain). all_done f (left_without_numbers left))
+          (b.reads ∙ reads)
           ∙ ap (λ (l : List (Entry ℕ)). left_without_numbers (all_done what l)) (sym e);
       brackets = λ q e. brackets_done b.standing left ∙ ap brackets_of (sym e);
       wikilinks = λ q e. wikilinks_done b.standing left ∙ ap wikilinks_of (sym e);

@@ -1,5 +1,6 @@
 -- A wikilink, put in the place of its opener: over a Text, or over what is inside from a byte offset on.
-use Rattle.std.proofs.Common.{◌≡◌, ℕ, zero, suc, ◌<◌, ◌≤◌, Bool, true, false, List, [], ◌∷◌, ◌++◌, length, max, Some, Bor, refl}
+use Rattle.std.proofs.Common.{◌≡◌, ℕ, zero, suc, ◌<◌, ◌≤◌, Bool, true, false, List, [], ◌∷◌, ◌++◌, length, max, Some}
+use Rattle.std.proofs.Common.{Bor, refl}
 use Rattle.std.proofs.Common.{sym, ap, ◌∙◌, subst, arith, if◌then◌else◌, nat_le}
 use Rattle.std.proofs.lemmas.Bool.Decides.{nat_tests}
 use Rattle.std.specs.Prelude.{IsCharBoundary}
@@ -13,7 +14,8 @@ use Rattle.markdown_base.specs.declared.item.ItemBody.{ItemBody}
 use Rattle.markdown_base.specs.declared.item.ItemBody.TheVariants as body
 use Rattle.markdown_base.specs.declared.node.Node.{Node}
 use Rattle.markdown_base.specs.declared.tag.LinkType.TheVariants as kind
-use Rattle.markdown_brackets.specs.BracketDecision.{Around, Becomes, Closing, Wikilink, a_footnote, a_link, a_text, a_wikilink, past_second}
+use Rattle.markdown_brackets.specs.BracketDecision.{Around, Becomes, Closing, Wikilink, a_footnote, a_link, a_text}
+use Rattle.markdown_brackets.specs.BracketDecision.{a_wikilink, past_second}
 use Rattle.markdown_brackets.specs.BracketDecision.{text_from}
 use Rattle.markdown_brackets.specs.ChainHeld.{link_to, numbers_of}
 use Rattle.markdown_brackets.specs.ClosingBracket.{linked, wikilink_target}
@@ -24,7 +26,8 @@ use Rattle.markdown_brackets.specs.declared.openers.Opener.{Opener}
 use Rattle.markdown_brackets.specs.declared.wikilink_nodes.ShownNodes.{ShownNodes}
 use Rattle.markdown_brackets.specs.declared.wikilink_nodes.ShownNodes.TheVariants.{From, Over}
 use Rattle.markdown_document.specs.ChainRest.{begun_at, cut_shape, end_of, past_byte, start_of}
-use Rattle.markdown_document.specs.Document.{Label, Plain, Shape, backslash_break, enclosed, label_of, leaf, plain, unresolved}
+use Rattle.markdown_document.specs.Document.{Label, Plain, Shape, backslash_break, enclosed, label_of, leaf, plain}
+use Rattle.markdown_document.specs.Document.{unresolved}
 use Rattle.markdown_document.specs.LinkOrigins.{IsLinkFrom, LinkOrigins}
 use Rattle.markdown_document.specs.Origins.{IsSliceWithin, origin_of, sliced}
 use Rattle.markdown_document.specs.Tables.{Tables, link_origins, link_view, tables_of}
@@ -32,7 +35,8 @@ use Rattle.markdown_document.specs.Waiting.{is_quiet}
 use Rattle.markdown_defs.specs.Allocations.{Allocated, LinkParts}
 use Rattle.markdown_defs.specs.AllocationCalls.{with_link}
 use Rattle.markdown_resolver.specs.declared.rest.Rest.{Rest}
-use Rattle.markdown_resolver.specs.ClosedOver.{CanClose, CanPutOver, CanShow, PutsOver, first_trees, over_shown, over_text, trees_past}
+use Rattle.markdown_resolver.specs.ClosedOver.{CanClose, CanPutOver, CanShow, PutsOver, first_trees, over_shown}
+use Rattle.markdown_resolver.specs.ClosedOver.{over_text, trees_past}
 use Rattle.markdown_resolver.specs.Closes.{ClosesAt, FirstLies, NoneOpenAround, PutsClosed, IsNamedIn}
 use Rattle.markdown_resolver.specs.Kept.{IsQuiet}
 use Rattle.markdown_resolver.specs.PutsTrees.{numbered_from, numbered_label, without_numbers}
@@ -49,7 +53,8 @@ use Rattle.markdown_document.specs.Places.{follows_pipe}
 use Rattle.markdown_resolver.proofs.FollowersLemmas.{InOrder, opens_chain}
 
 -- what becomes a wikilink
-pub record IsWikilink (w : Around) (becomes : Becomes ℕ) (opener : Opener) (name : List ℕ) (has_pothole : Bool) (shown : ShownNodes)
+pub record IsWikilink (w : Around) (becomes : Becomes ℕ) (opener : Opener) (name : List ℕ) (has_pothole : Bool)
+    (shown : ShownNodes)
     (end : ℕ) : Type 0 where
   pub split : Split ℕ
   pub found : Wikilink ℕ
@@ -61,9 +66,11 @@ pub record IsWikilink (w : Around) (becomes : Becomes ℕ) (opener : Opener) (na
   pub first_is : link_to found.children ≡ Some (first_shown shown)
   pub piped : IsShownAfterPipe w.setting.text shown
 
-pub wikilink_is : (w : Around) (becomes : Becomes ℕ) (opener : Opener) (name : Bor (List ℕ)) (has_pothole : Bool) (shown : ShownNodes)
+pub wikilink_is : (w : Around) (becomes : Becomes ℕ) (opener : Opener) (name : Bor (List ℕ)) (has_pothole : Bool)
+    (shown : ShownNodes)
     (end : ℕ)
-    → IsBecome w becomes (Wikilinked opener name has_pothole shown end) → IsWikilink w becomes opener name.now has_pothole shown end
+    → IsBecome w becomes (Wikilinked opener name has_pothole shown end)
+    → IsWikilink w becomes opener name.now has_pothole shown end
 wikilink_is w a_text opener name has_pothole shown end h = absurd h
 wikilink_is w (a_link o target e next) opener name has_pothole shown end h = absurd h
 wikilink_is w (a_footnote o n) opener name has_pothole shown end h = absurd h
@@ -85,7 +92,8 @@ without_past i nil = refl
 without_past i (node a below after) = by (nat_le (end_of a) i) (without_past i after)
   where
     by : (b : Bool) → past_byte i (without_numbers after) ≡ without_numbers (past_byte i after)
-        → (if b then past_byte i (without_numbers after) else node (begun_at i (record { tag = tt; part = a.part })) (without_numbers below)
+        → (if b then past_byte i (without_numbers after) else node (begun_at i (record { tag = tt; part = a.part }))
+        (without_numbers below)
         (without_numbers after))
         ≡ without_numbers (if b then past_byte i after else node (begun_at i a) below after)
     by true e = e
@@ -102,7 +110,8 @@ quiet_left : (i : ℕ) (f : Forest (Label ℕ)) → IsQuiet f → IsQuiet (past_
 quiet_left i nil h = h
 quiet_left i (node a below after) h = by (nat_le (end_of a) i) (quiet_left i after h.3)
   where
-    by : (b : Bool) → IsQuiet (past_byte i after) → IsQuiet (if b then past_byte i after else node (begun_at i a) below after)
+    by : (b : Bool) → IsQuiet (past_byte i after)
+        → IsQuiet (if b then past_byte i after else node (begun_at i a) below after)
     by true later = later
     by false later = (quiet_cut _ a.part.shape h.0, h.1, h.2, h.3)
 
@@ -123,27 +132,30 @@ inside_is source tables nodes first closer o at =
     let label = numbered_label source tables nodes in
     let all = forest_at (links_of nodes) (sibling_of nodes o.opener.tag) in
     let is : inside o ≡ relabelled label (first_trees k all) =
-    sym (first_joined (inside o) (numbered_from source tables nodes (Some closer))) ∙ ap (first_trees k) (sym at.around.numbered)
+    sym (first_joined (inside o) (numbered_from source tables nodes (Some closer)))
+    ∙ ap (first_trees k) (sym at.around.numbered)
     ∙ sym (relabelled_first label k all) in
     record {
       numbers = first_trees k all;
       is = is;
-      listed = ap (λ (f : Forest (Label ℕ)). roots (numbers_of f)) is ∙ ap roots (numbers_are source tables nodes (first_trees k all));
+      listed = ap (λ (f : Forest (Label ℕ)). roots (numbers_of f)) is
+          ∙ ap roots (numbers_are source tables nodes (first_trees k all));
     }
 
 -- a chain from a byte offset on, and the node that it begins in
-pub record ShownAt (source : List ℕ) (tables : Tables) (nodes : List (Node Item)) (at first : ℕ) (g : Forest ℕ) : Type 0 where
-  pub skipped : List ℕ
-  pub shown : List ℕ
-  pub parts : roots g ≡ skipped ++ first ∷ shown
-  pub reads : past_byte at (trees_past (length skipped) (relabelled (numbered_label source tables nodes) g))
-      ≡ past_byte at (relabelled (numbered_label source tables nodes) g)
-  pub below : Forest (Label ℕ)
-  pub after : Forest (Label ℕ)
-  pub begins : past_byte at (relabelled (numbered_label source tables nodes) g)
-      ≡ node (begun_at at (numbered_label source tables nodes first)) below after
-  pub ends_past : at < (item_at nodes first).end
-  pub first_is : first_past nodes at (roots g) ≡ Some first
+pub record ShownAt (source : List ℕ) (tables : Tables) (nodes : List (Node Item)) (at first : ℕ) (g : Forest ℕ) : Type 0
+  where
+    pub skipped : List ℕ
+    pub shown : List ℕ
+    pub parts : roots g ≡ skipped ++ first ∷ shown
+    pub reads : past_byte at (trees_past (length skipped) (relabelled (numbered_label source tables nodes) g))
+        ≡ past_byte at (relabelled (numbered_label source tables nodes) g)
+    pub below : Forest (Label ℕ)
+    pub after : Forest (Label ℕ)
+    pub begins : past_byte at (relabelled (numbered_label source tables nodes) g)
+        ≡ node (begun_at at (numbered_label source tables nodes first)) below after
+    pub ends_past : at < (item_at nodes first).end
+    pub first_is : first_past nodes at (roots g) ≡ Some first
 
 pub shown_at : (source : List ℕ) (tables : Tables) (nodes : List (Node Item)) (at first : ℕ) (g : Forest ℕ)
     → link_to (past_byte at (relabelled (numbered_label source tables nodes) g)) ≡ Some first
@@ -153,10 +165,12 @@ shown_at source tables nodes at first (node n under g) e = by (nat_le (item_at n
     (shown_at source tables nodes at first g)
   where
     by : (b : Bool) → nat_le (item_at nodes n).end at ≡ b
-        → (link_to (past_byte at (relabelled (numbered_label source tables nodes) g)) ≡ Some first → ShownAt source tables nodes at first g)
+        → (link_to (past_byte at (relabelled (numbered_label source tables nodes) g)) ≡ Some first
+        → ShownAt source tables nodes at first g)
         → ShownAt source tables nodes at first (node n under g)
     by true ends after =
-        let left : link_to (past_byte at (relabelled (numbered_label source tables nodes) g)) ≡ Some first = rw ends at e in
+        let left : link_to (past_byte at (relabelled (numbered_label source tables nodes) g))
+        ≡ Some first = rw ends at e in
         let later = after left in
         record {
           skipped = n ∷ later.skipped;
@@ -184,24 +198,29 @@ shown_at source tables nodes at first (node n under g) e = by (nat_le (item_at n
         })
 
 -- what can be put over the opener of a wikilink
-record CanWikilink (source : List ℕ) (tables tables' : Tables) (nodes : List (Node Item)) (closer : ℕ) (o : Split ℕ) (opener : Opener)
+record CanWikilink (source : List ℕ) (tables tables' : Tables) (nodes : List (Node Item)) (closer : ℕ) (o : Split ℕ)
+    (opener : Opener)
     (number : LinkIndex) (end : ℕ) : Type 0 where
   pub close : CanClose source tables nodes opener.node closer (inside_numbers o) end
   pub over : CanPutOver source tables tables' nodes opener.node (link_from nodes opener number end) end
 
-can_wikilink : (source : List ℕ) (tables tables' : Tables) (nodes : List (Node Item)) (first closer : ℕ) (left : List (Entry ℕ))
+can_wikilink : (source : List ℕ) (tables tables' : Tables) (nodes : List (Node Item)) (first closer : ℕ)
+    (left : List (Entry ℕ))
     (w : Around) (c : Closing ℕ) (o : Split ℕ) (opener : Opener)
-    (number : LinkIndex) (v : Wikilink ℕ) (end : ℕ) → ClosesAt source tables nodes first closer left w c (a_wikilink o v end)
+    (number : LinkIndex) (v : Wikilink ℕ) (end : ℕ) → ClosesAt source tables nodes first closer left w c
+    (a_wikilink o v end)
     → opener ≡ opener_of o
     → PutsLink source (item_at nodes o.opener.tag).start end tables tables' number (wikilink_target v)
     → CanWikilink source tables tables' nodes closer o opener number end
 can_wikilink source tables tables' nodes first closer left w c o opener number v end closes is put =
     let at = opener_at source tables nodes first closer left o closes.stands closes.splits in
     let goes = closes.ends.0 in
-    let behind : (item_at nodes closer).end ≤ end = subst (λ (a : Label ℕ). end_of a ≤ end) closes.label_is goes.behind in
+    let behind : (item_at nodes closer).end ≤ end = subst (λ (a : Label ℕ). end_of a ≤ end) closes.label_is goes.behind
+    in
     rw is (record {
       close = can_close source tables nodes first closer left w c (a_wikilink o v end) o end closes at goes;
-      over = link_over_opener source tables tables' nodes first closer o number (wikilink_target v) end end at put goes.between behind
+      over = link_over_opener source tables tables' nodes first closer o number (wikilink_target v) end end at put
+          goes.between behind
           (omega arith);
     })
 
@@ -218,18 +237,22 @@ name_from source start end origins v is slice = record {
 }
 
 -- which is after its opener
-name_after : (source : List ℕ) (tables : Tables) (nodes : List (Node Item)) (start low end : ℕ) (f : Forest (Label ℕ)) (g : Forest ℕ)
-    (after : List ℕ) (name : List ℕ) → f ≡ relabelled (numbered_label source tables nodes) g → InOrder nodes low (roots g ++ after)
+name_after : (source : List ℕ) (tables : Tables) (nodes : List (Node Item)) (start low end : ℕ) (f : Forest (Label ℕ))
+    (g : Forest ℕ)
+    (after : List ℕ) (name : List ℕ) → f ≡ relabelled (numbered_label source tables nodes) g
+    → InOrder nodes low (roots g ++ after)
     → start ≤ low → IsNamedIn source (past_second f) end name → IsSliceWithin source start end name
 name_after source tables nodes start low end f nil after name is order le h =
     absurd (subst (λ (f : Forest (Label ℕ)). IsNamedIn source (past_second f) end name) is h)
 name_after source tables nodes start low end f (node b under nil) after name is order le h =
     absurd (subst (λ (f : Forest (Label ℕ)). IsNamedIn source (past_second f) end name) is h)
 name_after source tables nodes start low end f (node b under (node n below later)) after name is order le h =
-    slice_wider source (item_at nodes n).start end start end name (omega (arith, le, order.0, order.1, order.2.0)) (omega arith)
+    slice_wider source (item_at nodes n).start end start end name (omega (arith, le, order.0, order.1, order.2.0))
+    (omega arith)
     (subst (λ (f : Forest (Label ℕ)). IsNamedIn source (past_second f) end name) is h)
 
-name_in_range : (source : List ℕ) (tables : Tables) (nodes : List (Node Item)) (first closer : ℕ) (o : Split ℕ) (end : ℕ) (name : List ℕ)
+name_in_range : (source : List ℕ) (tables : Tables) (nodes : List (Node Item)) (first closer : ℕ) (o : Split ℕ)
+    (end : ℕ) (name : List ℕ)
     → OpenerAt source tables nodes first closer o → IsNamedIn source (past_second (inside o)) end name
     → IsSliceWithin source (item_at nodes o.opener.tag).start end name
 name_in_range source tables nodes first closer o end name at h =
@@ -239,22 +262,29 @@ name_in_range source tables nodes first closer o end name at h =
     let order : InOrder nodes (item_at nodes o.opener.tag).end (roots i.numbers ++ behind) =
     subst (λ (l : List ℕ). InOrder nodes (item_at nodes o.opener.tag).end (l ++ behind)) i.listed
     (subst (InOrder nodes (item_at nodes o.opener.tag).end) at.around.follows chain.ordered) in
-    name_after source tables nodes (item_at nodes o.opener.tag).start (item_at nodes o.opener.tag).end end (inside o) i.numbers behind name
+    name_after source tables nodes (item_at nodes o.opener.tag).start (item_at nodes o.opener.tag).end end (inside o)
+    i.numbers behind name
     i.is order chain.placed.lies.ordered h
 
 -- its opener is a node
-pub opener_there : {source : List ℕ} {tables : Tables} {nodes : List (Node Item)} {first closer : ℕ} {left : List (Entry ℕ)} {w : Around}
-    {c : Closing ℕ} {becomes : Becomes ℕ} (opener : Opener) (name : Bor (List ℕ)) (has_pothole : Bool) (shown : ShownNodes) (end : ℕ)
-    → ClosesAt source tables nodes first closer left w c becomes → IsBecome w becomes (Wikilinked opener name has_pothole shown end)
+pub opener_there : {source : List ℕ} {tables : Tables} {nodes : List (Node Item)} {first closer : ℕ}
+    {left : List (Entry ℕ)} {w : Around}
+    {c : Closing ℕ} {becomes : Becomes ℕ} (opener : Opener) (name : Bor (List ℕ)) (has_pothole : Bool)
+    (shown : ShownNodes) (end : ℕ)
+    → ClosesAt source tables nodes first closer left w c becomes
+    → IsBecome w becomes (Wikilinked opener name has_pothole shown end)
     → opener.node < length nodes
-opener_there {source} {tables} {nodes} {first} {closer} {left} {w} {c} {becomes} opener name has_pothole shown end closes h =
+opener_there {source} {tables} {nodes} {first} {closer} {left} {w} {c} {becomes} opener name has_pothole shown end
+    closes h =
     let i = wikilink_is w becomes opener name has_pothole shown end h in
     let so = subst (ClosesAt source tables nodes first closer left w c) i.is closes in
     rw i.opener_is (opener_at source tables nodes first closer left i.split so.stands so.splits).opener.within
 
 -- what becomes a wikilink can be put in place, as an item, once its entry is in its table
-pub record MayShow (source : List ℕ) (tables tables' : Tables) (nodes : List (Node Item)) (first closer : ℕ) (left : List (Entry ℕ))
-    (w : Around) (c : Closing ℕ) (becomes : Becomes ℕ) (opener : Opener) (shown : ShownNodes) (number : LinkIndex) (end : ℕ)
+pub record MayShow (source : List ℕ) (tables tables' : Tables) (nodes : List (Node Item)) (first closer : ℕ)
+    (left : List (Entry ℕ))
+    (w : Around) (c : Closing ℕ) (becomes : Becomes ℕ) (opener : Opener) (shown : ShownNodes) (number : LinkIndex)
+    (end : ℕ)
     (item : Item) : Type 0 where
   pub split : Split ℕ
   pub found : Wikilink ℕ
@@ -269,11 +299,14 @@ pub record MayShow (source : List ℕ) (tables tables' : Tables) (nodes : List (
   pub first_is : link_to found.children ≡ Some (first_shown shown)
   pub piped : IsShownAfterPipe source shown
 
-pub may_show : {source : List ℕ} {nodes : List (Node Item)} {first closer : ℕ} {left : List (Entry ℕ)} {w : Around} {c : Closing ℕ}
-    {becomes : Becomes ℕ} (held held' : Allocated) (opener : Opener) (name : Bor (List ℕ)) (has_pothole : Bool) (shown : ShownNodes)
+pub may_show : {source : List ℕ} {nodes : List (Node Item)} {first closer : ℕ} {left : List (Entry ℕ)} {w : Around}
+    {c : Closing ℕ}
+    {becomes : Becomes ℕ} (held held' : Allocated) (opener : Opener) (name : Bor (List ℕ)) (has_pothole : Bool)
+    (shown : ShownNodes)
     (end : ℕ) (link : LinkParts) (number : LinkIndex) (begin : Item) (b : ItemBody)
     → ClosesAt source (tables_of held) nodes first closer left w c becomes
-    → IsBecome w becomes (Wikilinked opener name has_pothole shown end) → held' ≡ with_link held link → number.0 ≡ length held.links
+    → IsBecome w becomes (Wikilinked opener name has_pothole shown end) → held' ≡ with_link held link → number.0
+    ≡ length held.links
     → origin_of link.1 ≡ sliced → link_view link ≡ record {
       kind = kind.WikiLink has_pothole;
       destination = name.now;
@@ -283,7 +316,8 @@ pub may_show : {source : List ℕ} {nodes : List (Node Item)} {first closer : �
     } → begin ≡ item_at nodes opener.node → b ≡ (if opener.is_image then body.Image number else body.Link number)
     → MayShow source (tables_of held) (tables_of held') nodes first closer left w c becomes opener shown number end
     (item_over begin.start end b)
-may_show {source} {nodes} {first} {closer} {left} {w} {c} {becomes} held held' opener name has_pothole shown end link number begin b closes
+may_show {source} {nodes} {first} {closer} {left} {w} {c} {becomes} held held' opener name has_pothole shown end link
+    number begin b closes
     h put last origin view begins body_is =
     let tables = tables_of held in
     let tables' = tables_of held' in
@@ -295,8 +329,10 @@ may_show {source} {nodes} {first} {closer} {left} {w} {c} {becomes} held held' o
     (name_from source start end (link_origins link) i.found origin
     (name_in_range source tables nodes first closer i.split end i.found.name at so.ends.2))
     (view ∙ target_is has_pothole name.now i.found i.pothole_is i.name_is) in
-    let can = can_wikilink source tables tables' nodes first closer left w c i.split opener number i.found end so i.opener_is there in
-    let item : item_over begin.start end b ≡ link_from nodes opener number end = link_item nodes opener number end begin b begins body_is in
+    let can = can_wikilink source tables tables' nodes first closer left w c i.split opener number i.found end so
+    i.opener_is there in
+    let item : item_over begin.start end b ≡ link_from nodes opener number end = link_item nodes opener number end begin
+    b begins body_is in
     record {
       split = i.split;
       found = i.found;
@@ -313,7 +349,8 @@ may_show {source} {nodes} {first} {closer} {left} {w} {c} {becomes} held held' o
     }
 
 -- its name, as a Text in the second node inside
-pub record CanName (source : List ℕ) (tables tables' : Tables) (w : Around) (o : Split ℕ) (v : Wikilink ℕ) (first start end : ℕ) : Type 0
+pub record CanName (source : List ℕ) (tables tables' : Tables) (w : Around) (o : Split ℕ) (v : Wikilink ℕ)
+    (first start end : ℕ) : Type 0
   where
     pub skipped : List ℕ
     pub shown : List ℕ
@@ -322,16 +359,19 @@ pub record CanName (source : List ℕ) (tables tables' : Tables) (w : Around) (o
     pub label : Label ℕ
     pub children_are : v.children ≡ node (text_from w label start end) nil nil
 
-first_text : (w : Around) (body children : Forest (Label ℕ)) (first start end : ℕ) → shown_of w body (Over first start end) ≡ children
+first_text : (w : Around) (body children : Forest (Label ℕ)) (first start end : ℕ)
+    → shown_of w body (Over first start end) ≡ children
     → link_to children ≡ Some first
-    → (a : Label ℕ) × (below : Forest (Label ℕ)) × (after : Forest (Label ℕ)) × (body ≡ node a below after) × (a.tag ≡ first)
+    → (a : Label ℕ) × (below : Forest (Label ℕ)) × (after : Forest (Label ℕ)) × (body ≡ node a below after)
+    × (a.tag ≡ first)
     × (children ≡ node (text_from w a start end) nil nil)
 first_text w nil children first start end so e = cc (so, e)
 first_text w (node a below after) children first start end so e =
     let tag : Some a.tag ≡ Some first = ap link_to so ∙ e in
     (a, below, after, refl, (cc tag), sym so)
 
-second_numbers : (f : Forest (Label ℕ)) (a : Label ℕ) (below after : Forest (Label ℕ)) (first : ℕ) → past_second f ≡ node a below after
+second_numbers : (f : Forest (Label ℕ)) (a : Label ℕ) (below after : Forest (Label ℕ)) (first : ℕ) → past_second f
+    ≡ node a below after
     → a.tag ≡ first
     → (skipped : List ℕ) × (shown : List ℕ) × (roots (numbers_of f) ≡ skipped ++ first ∷ shown)
 second_numbers nil a below after first e tag = cc e
@@ -342,7 +382,8 @@ second_numbers (node b under rest) a below after first e tag = (
       ∙ ap (λ (n : ℕ). b.tag ∷ n ∷ roots (numbers_of after)) tag,
 )
 
-can_name : (source : List ℕ) (tables tables' : Tables) (nodes : List (Node Item)) (first closer : ℕ) (left : List (Entry ℕ))
+can_name : (source : List ℕ) (tables tables' : Tables) (nodes : List (Node Item)) (first closer : ℕ)
+    (left : List (Entry ℕ))
     (w : Around) (c : Closing ℕ) (o : Split ℕ) (v : Wikilink ℕ)
     (end n from to : ℕ) → ClosesAt source tables nodes first closer left w c (a_wikilink o v end)
     → shown_of w (past_second (inside o)) (Over n from to) ≡ v.children → link_to v.children ≡ Some n
@@ -350,7 +391,8 @@ can_name : (source : List ℕ) (tables tables' : Tables) (nodes : List (Node Ite
 can_name source tables tables' nodes first closer left w c o v end n from to closes so e =
     let t = first_text w (past_second (inside o)) v.children n from to so e in
     let parts = second_numbers (inside o) t.0 t.1 t.2 n t.3 t.4 in
-    let lies : FirstLies source (node (text_from w t.0 from to) nil nil) = subst (FirstLies source) t.5 closes.ends.1.lies in
+    let lies : FirstLies source (node (text_from w t.0 from to) nil nil) = subst (FirstLies source) t.5
+    closes.ends.1.lies in
     record {
       skipped = parts.0;
       shown = parts.1;
@@ -360,13 +402,17 @@ can_name source tables tables' nodes first closer left w c o v end n from to clo
       children_are = t.5;
     }
 
-pub named_over : {source : List ℕ} {tables tables' : Tables} {nodes : List (Node Item)} {first closer : ℕ} {left : List (Entry ℕ)}
-    {w : Around} {c : Closing ℕ} {becomes : Becomes ℕ} {opener : Opener} {shown : ShownNodes} {number : LinkIndex} {end : ℕ} {item : Item}
+pub named_over : {source : List ℕ} {tables tables' : Tables} {nodes : List (Node Item)} {first closer : ℕ}
+    {left : List (Entry ℕ)}
+    {w : Around} {c : Closing ℕ} {becomes : Becomes ℕ} {opener : Opener} {shown : ShownNodes} {number : LinkIndex}
+    {end : ℕ} {item : Item}
     {n from to : ℕ} (r : MayShow source tables tables' nodes first closer left w c becomes opener shown number end item)
     → shown ≡ Over n from to → CanName source tables tables' w r.split r.found n from to
-named_over {source} {tables} {tables'} {nodes} {first} {closer} {left} {w} {c} {end = end} {n = n} {from = from} {to = to} r is =
+named_over {source} {tables} {tables'} {nodes} {first} {closer} {left} {w} {c} {end = end} {n = n} {from = from}
+    {to = to} r is =
     can_name source tables tables' nodes first closer left w c r.split r.found end n from to r.closes
-    (subst (λ (s : ShownNodes). shown_of w (past_second (inside r.split)) s ≡ r.found.children) is r.shown_is) (r.first_is
+    (subst (λ (s : ShownNodes). shown_of w (past_second (inside r.split)) s ≡ r.found.children) is r.shown_is)
+    (r.first_is
     ∙ ap (λ (s : ShownNodes). Some (first_shown s)) is)
 
 -- so the wikilink is in the left list
@@ -374,11 +420,13 @@ by_name : (source : List ℕ) (tables tables' : Tables) (old new : List (Node It
     (left : List (Entry ℕ)) (w : Around) (c : Closing ℕ) (o : Split ℕ)
     (opener : Opener) (number : LinkIndex) (v : Wikilink ℕ) (end n from to : ℕ)
     → ClosesAt source tables old first closer left w c (a_wikilink o v end) → opener ≡ opener_of o
-    → PutsLink source (item_at old o.opener.tag).start end tables tables' number (wikilink_target v) → CanName source tables tables' w o v n from to
+    → PutsLink source (item_at old o.opener.tag).start end tables tables' number (wikilink_target v)
+    → CanName source tables tables' w o v n from to
     → PutsOver source opener.node closer (inside_numbers o) (over_text source tables' (link_from old opener number end)
     (text_item_over from to)) end (opener.node ∷ []) rest old new tables tables'
     → PutsClosed source first closer rest left w c (a_wikilink o v end) old new tables tables'
-by_name source tables tables' old new first closer rest left w c o opener number v end n from to closes is put can over =
+by_name source tables tables' old new first closer rest left w c o opener number v end n from to closes is put can over
+    =
     let at = opener_at source tables old first closer left o closes.stands closes.splits in
     let what : Forest (Label ℕ) = node (linked o (wikilink_target v) end) v.children nil in
     let shows : node (label_of source tables' (text_item_over from to)) nil nil ≡ without_numbers v.children =
@@ -391,34 +439,42 @@ by_name source tables tables' old new first closer rest left w c o opener number
     (node (label_of source tables' (text_item_over from to)) nil nil) nil ≡ without_numbers what =
     ap (λ (a : Plain). node a (node (label_of source tables' (text_item_over from to)) nil nil) nil)
     (linked_label source tables tables' old o number (wikilink_target v) end at.around.label_is put)
-    ∙ ap (λ (f : Forest Plain). node (record { tag = tt; part = (linked o (wikilink_target v) end).part }) f nil) shows in
+    ∙ ap (λ (f : Forest Plain). node (record { tag = tt; part = (linked o (wikilink_target v) end).part }) f nil) shows
+    in
     let quiet : IsQuiet v.children = subst IsQuiet (sym can.children_are) (refl, refl, tt, tt) in
-    puts_closed source first closer rest left w c (a_wikilink o v end) o old new tables tables' (before_wikilink o.before)
+    puts_closed source first closer rest left w c (a_wikilink o v end) o old new tables tables'
+    (before_wikilink o.before)
     (over_text source tables' (link_from old (opener_of o) number end) (text_item_over from to)) what
     end (o.opener.tag ∷ []) closes at (wikilink_stands source tables old first (Some o.opener.tag) o.before at.stands)
     (record { left_is = λ p e. refl; goes = λ p. refl }) reads
     (refl, refl, quiet, tt) (λ a i. refl) here
 
-pub name_closed : {source : List ℕ} {tables tables' : Tables} {old new : List (Node Item)} {first closer : ℕ} {rest : Rest}
-    {left : List (Entry ℕ)} {w : Around} {c : Closing ℕ} {becomes : Becomes ℕ} {opener : Opener} {shown : ShownNodes} {number : LinkIndex}
+pub name_closed : {source : List ℕ} {tables tables' : Tables} {old new : List (Node Item)} {first closer : ℕ}
+    {rest : Rest}
+    {left : List (Entry ℕ)} {w : Around} {c : Closing ℕ} {becomes : Becomes ℕ} {opener : Opener} {shown : ShownNodes}
+    {number : LinkIndex}
     {end : ℕ} {item inner : Item} {n from to : ℕ}
     (r : MayShow source tables tables' old first closer left w c becomes opener shown number end item)
     → CanName source tables tables' w r.split r.found n from to → inner ≡ text_item_over from to
-    → PutsOver source opener.node closer (inside_numbers r.split) (over_text source tables' item inner) end (opener.node ∷ []) rest old new
+    → PutsOver source opener.node closer (inside_numbers r.split) (over_text source tables' item inner) end
+    (opener.node ∷ []) rest old new
     tables tables'
     → PutsClosed source first closer rest left w c becomes old new tables tables'
-name_closed {source} {tables} {tables'} {old} {new} {first} {closer} {rest} {left} {w} {c} {becomes} {opener} {shown} {number} {end} {item}
+name_closed {source} {tables} {tables'} {old} {new} {first} {closer} {rest} {left} {w} {c} {becomes} {opener} {shown}
+    {number} {end} {item}
     {inner} {n} {from} {to} r can text over =
     subst (λ (b : Becomes ℕ). PutsClosed source first closer rest left w c b old new tables tables') (sym r.is)
-    (by_name source tables tables' old new first closer rest left w c r.split opener number r.found end n from to r.closes r.opener_is r.put
+    (by_name source tables tables' old new first closer rest left w c r.split opener number r.found end n from to
+    r.closes r.opener_is r.put
     can (rw (text, r.item_is) at over))
 
 -- what is inside from a byte offset on
-pub record ShowsFrom (source : List ℕ) (nodes : List (Node Item)) (o : Split ℕ) (v : Wikilink ℕ) (n from : ℕ) : Type 0 where
-  pub skipped : List ℕ
-  pub can : CanShow source nodes (inside_numbers o) skipped n from
-  pub reads : past_byte from (trees_past (length skipped) (without_numbers (inside o))) ≡ without_numbers v.children
-  pub quiet : IsQuiet v.children
+pub record ShowsFrom (source : List ℕ) (nodes : List (Node Item)) (o : Split ℕ) (v : Wikilink ℕ) (n from : ℕ) : Type 0
+  where
+    pub skipped : List ℕ
+    pub can : CanShow source nodes (inside_numbers o) skipped n from
+    pub reads : past_byte from (trees_past (length skipped) (without_numbers (inside o))) ≡ without_numbers v.children
+    pub quiet : IsQuiet v.children
 
 is_past : (w : Around) (body : Forest (Label ℕ)) (n at : ℕ) → shown_of w body (From n at) ≡ past_byte at body
 is_past w nil n at = refl
@@ -431,11 +487,13 @@ begins_there source at a below after lies before =
     let same : max (start_of a) at ≡ at = omega arith in
     subst (IsCharBoundary source) same lies.1
 
-second_shows : (source : List ℕ) (tables : Tables) (nodes : List (Node Item)) (n from : ℕ) (f children : Forest (Label ℕ)) (g : Forest ℕ)
+second_shows : (source : List ℕ) (tables : Tables) (nodes : List (Node Item)) (n from : ℕ)
+    (f children : Forest (Label ℕ)) (g : Forest ℕ)
     → f ≡ relabelled (numbered_label source tables nodes) g
     → past_byte from (past_second f) ≡ children → link_to children ≡ Some n → FirstLies source children
     → NoneOpenAround from (past_second f) → follows_pipe source from ≡ true
-    → (skipped : List ℕ) × CanShow source nodes (roots g) skipped n from × (past_byte from (trees_past (length skipped) f) ≡ children)
+    → (skipped : List ℕ) × CanShow source nodes (roots g) skipped n from
+    × (past_byte from (trees_past (length skipped) f) ≡ children)
 second_shows source tables nodes n from f children nil is so e lies none_open_there piped =
     let none : link_to (past_byte from (past_second (relabelled (numbered_label source tables nodes) nil)))
     ≡ Some n = ap (λ (x : Forest (Label ℕ)). link_to (past_byte from (past_second x))) (sym is)
@@ -446,7 +504,8 @@ second_shows source tables nodes n from f children (node b under g) is so e lies
     let rest : past_second f ≡ relabelled label g = ap past_second is in
     let left : past_byte from (relabelled label g) ≡ children = ap (past_byte from) (sym rest) ∙ so in
     let shown = shown_at source tables nodes from n g (ap link_to left ∙ e) in
-    let here : FirstLies source (node (begun_at from (label n)) shown.below shown.after) = subst (FirstLies source) (sym left
+    let here : FirstLies source (node (begun_at from (label n)) shown.below shown.after) = subst (FirstLies source)
+    (sym left
     ∙ shown.begins) lies in (
       b ∷ shown.skipped,
       record {
@@ -455,7 +514,8 @@ second_shows source tables nodes n from f children (node b under g) is so e lies
         boundary = begins_there source from (label n) shown.below shown.after here;
         ends_past = shown.ends_past;
         piped = piped;
-        not_cut = none_open source tables nodes from n g (subst (NoneOpenAround from) rest none_open_there) shown.first_is;
+        not_cut = none_open source tables nodes from n g (subst (NoneOpenAround from) rest none_open_there)
+            shown.first_is;
       },
       ap (λ (x : Forest (Label ℕ)). past_byte from (trees_past (suc (length shown.skipped)) x)) is ∙ shown.reads ∙ left,
     )
@@ -466,7 +526,8 @@ without_trees zero f = refl
 without_trees (suc k) nil = refl
 without_trees (suc k) (node a below after) = without_trees k after
 
-shows_from_byte : (source : List ℕ) (tables : Tables) (nodes : List (Node Item)) (first closer : ℕ) (left : List (Entry ℕ)) (w : Around)
+shows_from_byte : (source : List ℕ) (tables : Tables) (nodes : List (Node Item)) (first closer : ℕ)
+    (left : List (Entry ℕ)) (w : Around)
     (c : Closing ℕ) (o : Split ℕ) (v : Wikilink ℕ)
     (end n from : ℕ) → ClosesAt source tables nodes first closer left w c (a_wikilink o v end)
     → shown_of w (past_second (inside o)) (From n from) ≡ v.children → link_to v.children ≡ Some n
@@ -474,25 +535,31 @@ shows_from_byte : (source : List ℕ) (tables : Tables) (nodes : List (Node Item
 shows_from_byte source tables nodes first closer left w c o v end n from closes so e piped =
     let at = opener_at source tables nodes first closer left o closes.stands closes.splits in
     let i = inside_is source tables nodes first closer o at in
-    let is : past_byte from (past_second (inside o)) ≡ v.children = sym (is_past w (past_second (inside o)) n from) ∙ so in
+    let is : past_byte from (past_second (inside o)) ≡ v.children = sym (is_past w (past_second (inside o)) n from)
+    ∙ so in
     let well = closes.ends.1 in
-    let s = second_shows source tables nodes n from (inside o) v.children i.numbers i.is is e well.lies (well.not_cut from is) piped in
+    let s = second_shows source tables nodes n from (inside o) v.children i.numbers i.is is e well.lies
+    (well.not_cut from is) piped in
     let k = length s.0 in
     record {
       skipped = s.0;
       can = subst (λ (l : List ℕ). CanShow source nodes l s.0 n from) (sym i.listed) s.1;
-      reads = ap (past_byte from) (without_trees k (inside o)) ∙ without_past from (trees_past k (inside o)) ∙ ap without_numbers s.2;
+      reads = ap (past_byte from) (without_trees k (inside o)) ∙ without_past from (trees_past k (inside o))
+          ∙ ap without_numbers s.2;
       quiet = subst IsQuiet is (quiet_left from (past_second (inside o))
           (quiet_second (inside o) (quiet_inside left o closes.splits closes.stands.quiet)));
     }
 
-pub shows_over : {source : List ℕ} {tables tables' : Tables} {nodes : List (Node Item)} {first closer : ℕ} {left : List (Entry ℕ)}
-    {w : Around} {c : Closing ℕ} {becomes : Becomes ℕ} {opener : Opener} {shown : ShownNodes} {number : LinkIndex} {end : ℕ} {item : Item}
+pub shows_over : {source : List ℕ} {tables tables' : Tables} {nodes : List (Node Item)} {first closer : ℕ}
+    {left : List (Entry ℕ)}
+    {w : Around} {c : Closing ℕ} {becomes : Becomes ℕ} {opener : Opener} {shown : ShownNodes} {number : LinkIndex}
+    {end : ℕ} {item : Item}
     {n from : ℕ} (r : MayShow source tables tables' nodes first closer left w c becomes opener shown number end item)
     → shown ≡ From n from → ShowsFrom source nodes r.split r.found n from
 shows_over {source} {tables} {tables'} {nodes} {first} {closer} {left} {w} {c} {end = end} {n = n} {from = from} r is =
     shows_from_byte source tables nodes first closer left w c r.split r.found end n from r.closes
-    (subst (λ (s : ShownNodes). shown_of w (past_second (inside r.split)) s ≡ r.found.children) is r.shown_is) (r.first_is
+    (subst (λ (s : ShownNodes). shown_of w (past_second (inside r.split)) s ≡ r.found.children) is r.shown_is)
+    (r.first_is
     ∙ ap (λ (s : ShownNodes). Some (first_shown s)) is)
     (subst (IsShownAfterPipe source) is r.piped)
 
@@ -500,8 +567,10 @@ by_shown : (source : List ℕ) (tables tables' : Tables) (old new : List (Node I
     (left : List (Entry ℕ)) (w : Around) (c : Closing ℕ) (o : Split ℕ)
     (opener : Opener) (number : LinkIndex) (v : Wikilink ℕ) (end n from : ℕ)
     → ClosesAt source tables old first closer left w c (a_wikilink o v end) → opener ≡ opener_of o
-    → PutsLink source (item_at old o.opener.tag).start end tables tables' number (wikilink_target v) → (s : ShowsFrom source old o v n from)
-    → PutsOver source opener.node closer (inside_numbers o) (over_shown source tables' (link_from old opener number end) (length s.skipped)
+    → PutsLink source (item_at old o.opener.tag).start end tables tables' number (wikilink_target v)
+    → (s : ShowsFrom source old o v n from)
+    → PutsOver source opener.node closer (inside_numbers o)
+    (over_shown source tables' (link_from old opener number end) (length s.skipped)
     from) end (opener.node ∷ []) rest old new tables tables'
     → PutsClosed source first closer rest left w c (a_wikilink o v end) old new tables tables'
 by_shown source tables tables' old new first closer rest left w c o opener number v end n from closes is put s over =
@@ -514,23 +583,30 @@ by_shown source tables tables' old new first closer rest left w c o opener numbe
     (past_byte from (trees_past (length s.skipped) (without_numbers (inside o)))) nil ≡ without_numbers what =
     ap (λ (a : Plain). node a (past_byte from (trees_past (length s.skipped) (without_numbers (inside o)))) nil)
     (linked_label source tables tables' old o number (wikilink_target v) end at.around.label_is put)
-    ∙ ap (λ (f : Forest Plain). node (record { tag = tt; part = (linked o (wikilink_target v) end).part }) f nil) s.reads in
-    puts_closed source first closer rest left w c (a_wikilink o v end) o old new tables tables' (before_wikilink o.before)
+    ∙ ap (λ (f : Forest Plain). node (record { tag = tt; part = (linked o (wikilink_target v) end).part }) f nil)
+    s.reads in
+    puts_closed source first closer rest left w c (a_wikilink o v end) o old new tables tables'
+    (before_wikilink o.before)
     (over_shown source tables' (link_from old (opener_of o) number end) (length s.skipped) from) what
     end (o.opener.tag ∷ []) closes at (wikilink_stands source tables old first (Some o.opener.tag) o.before at.stands)
     (record { left_is = λ p e. refl; goes = λ p. refl }) reads
     (refl, refl, s.quiet, tt) (λ a i. refl) here
 
-pub shown_closed : {source : List ℕ} {tables tables' : Tables} {old new : List (Node Item)} {first closer : ℕ} {rest : Rest}
-    {left : List (Entry ℕ)} {w : Around} {c : Closing ℕ} {becomes : Becomes ℕ} {opener : Opener} {shown : ShownNodes} {number : LinkIndex}
+pub shown_closed : {source : List ℕ} {tables tables' : Tables} {old new : List (Node Item)} {first closer : ℕ}
+    {rest : Rest}
+    {left : List (Entry ℕ)} {w : Around} {c : Closing ℕ} {becomes : Becomes ℕ} {opener : Opener} {shown : ShownNodes}
+    {number : LinkIndex}
     {end : ℕ} {item : Item} {n from : ℕ}
     (r : MayShow source tables tables' old first closer left w c becomes opener shown number end item)
     (s : ShowsFrom source old r.split r.found n from)
-    → PutsOver source opener.node closer (inside_numbers r.split) (over_shown source tables' item (length s.skipped) from) end
+    → PutsOver source opener.node closer (inside_numbers r.split)
+    (over_shown source tables' item (length s.skipped) from) end
     (opener.node ∷ []) rest old new tables tables'
     → PutsClosed source first closer rest left w c becomes old new tables tables'
-shown_closed {source} {tables} {tables'} {old} {new} {first} {closer} {rest} {left} {w} {c} {becomes} {opener} {shown} {number} {end} {item}
+shown_closed {source} {tables} {tables'} {old} {new} {first} {closer} {rest} {left} {w} {c} {becomes} {opener} {shown}
+    {number} {end} {item}
     {n} {from} r s over =
     subst (λ (b : Becomes ℕ). PutsClosed source first closer rest left w c b old new tables tables') (sym r.is)
-    (by_shown source tables tables' old new first closer rest left w c r.split opener number r.found end n from r.closes r.opener_is r.put
+    (by_shown source tables tables' old new first closer rest left w c r.split opener number r.found end n from r.closes
+    r.opener_is r.put
     s (rw r.item_is at over))

@@ -1,14 +1,16 @@
 -- From what was decided and put in place for a `]` to how far the chain was read: the left list holds what it became,
 -- the stacks the openers that still wait, and what is left of the chain is what follows what it became.
 use Rattle.markdown_base.specs.declared.item.ItemBody.TheVariants as body
-use Rattle.std.proofs.Common.{◌≡◌, ℕ, ◌+◌, Bool, not, ◌&&◌, List, [], ◌++◌, Option, Some, None, refl, sym, ap, ◌∙◌, arith}
+use Rattle.std.proofs.Common.{◌≡◌, ℕ, ◌+◌, Bool, not, ◌&&◌, List, [], ◌++◌, Option, Some, None, refl, sym, ap, ◌∙◌}
+use Rattle.std.proofs.Common.{arith}
 use Rattle.std.specs.Prelude.{slice_range}
 use Rattle.markdown_base.specs.Arena.{child_of, sibling_of}
 use Rattle.markdown_base.specs.BlockTree.{item_at}
 use Rattle.markdown_base.specs.Forest.{Forest}
 use Rattle.markdown_base.specs.Questions.{Question, Answer, Answers}
 use Rattle.markdown_base.specs.declared.item.ItemBody.{ItemBody}
-use Rattle.markdown_brackets.specs.BracketDecision.{Around, Becomes, Closing, Decision, Progress, a_footnote, a_link, a_text, a_wikilink}
+use Rattle.markdown_brackets.specs.BracketDecision.{Around, Becomes, Closing, Decision, Progress, a_footnote, a_link}
+use Rattle.markdown_brackets.specs.BracketDecision.{a_text, a_wikilink}
 use Rattle.markdown_brackets.specs.BracketTags.{retag_progress}
 use Rattle.markdown_brackets.specs.ClosingBracket.{closed, put, put_decided}
 use Rattle.markdown_brackets.specs.Decides.{Decides}
@@ -29,7 +31,8 @@ use Rattle.markdown_document.proofs.PlaceLemmas.{shape-open}
 use Rattle.markdown_resolver.specs.declared.rest.Rest.{Rest}
 use Rattle.markdown_resolver.specs.Closes.{PutsClosed, closing_at}
 use Rattle.markdown_resolver.specs.PassOne.{around}
-use Rattle.markdown_resolver.specs.ReadOn.{AreSpent, ReadsOn, StandsTo, StopsOn, all_read, at_left, left_without_numbers}
+use Rattle.markdown_resolver.specs.ReadOn.{AreSpent, ReadsOn, StandsTo, StopsOn, all_read, at_left}
+use Rattle.markdown_resolver.specs.ReadOn.{left_without_numbers}
 use Rattle.markdown_resolver.proofs.FollowersLemmas.{opens_chain}
 use Rattle.markdown_resolver.proofs.PassOneLemmas.{reads_closer}
 use Rattle.markdown_resolver.proofs.ReadOnLemmas.{trees_unnumbered}
@@ -45,7 +48,8 @@ put_keeps w c (a_footnote o name) p = refl
 put_keeps w c (a_wikilink o found end) p = refl
 
 -- two stacks hold the openers of the left list in which that was put
-pub record HoldsPut (w : Around) (c : Closing ℕ) (becomes : Becomes ℕ) (left : List (Entry ℕ)) (brackets wikilinks : List Waiting) : Type 0
+pub record HoldsPut (w : Around) (c : Closing ℕ) (becomes : Becomes ℕ) (left : List (Entry ℕ))
+    (brackets wikilinks : List Waiting) : Type 0
   where
     pub holds : (p : Progress ℕ) → p.left ≡ left → (brackets ≡ brackets_of (put w c becomes p).left)
         × (wikilinks ≡ wikilinks_of (put w c becomes p).left)
@@ -58,12 +62,21 @@ module _ {C : Type 0} (step : C → Question → Option Answer → C → Type 0)
 
   -- it was decided what becomes of it
   abbrev pub IsDecided : Type 0
-  IsDecided = Decides step (around s above) the_closing left old.limit new.limit old.uses new.uses spent spent' old.callback new.callback
+  IsDecided = Decides step (around s above) the_closing left old.limit new.limit old.uses new.uses spent spent'
+      old.callback new.callback
       brackets wikilinks found
 
   -- how far the chain was read by numbers, before that and after it
   abbrev numbered : (p : Progress (Unit {0})) → Answers → Progress ℕ
-  numbered p answers = record { left = left; goes_on = None; spent = p.spent; asked = p.asked; known = known_at old answers; made = p.made }
+  numbered p answers = record {
+    left = left;
+    goes_on = None;
+    spent = p.spent;
+    asked = p.asked;
+    known = known_at old
+        answers;
+    made = p.made;
+  }
 
   abbrev after_decision : IsDecided → Progress (Unit {0}) → Answers → Progress ℕ
   after_decision d p later = record {
@@ -78,15 +91,18 @@ module _ {C : Type 0} (step : C → Question → Option Answer → C → Type 0)
   -- a `]` is closed as it was decided
   closed_is : (d : IsDecided)
       → (p : Progress (Unit {0})) (later : Answers)
-      → closed (around s above) the_closing (numbered p (d.answers ++ later)) ≡ put (around s above) the_closing d.becomes
+      → closed (around s above) the_closing (numbered p (d.answers ++ later))
+      ≡ put (around s above) the_closing d.becomes
       (after_decision d p later)
   unfolding closed
-  closed_is d p later = ap (λ (x : Decision ℕ). put_decided (around s above) the_closing x) (d.decides (numbered p (d.answers ++ later))
+  closed_is d p later = ap (λ (x : Decision ℕ). put_decided (around s above) the_closing x)
+      (d.decides (numbered p (d.answers ++ later))
       later)
 
   -- so the chain from it on is read: from what was put on
   closer_reads : (d : IsDecided)
-      → StandsTo s.text old.tables old.nodes first (Some ix) left → (item_at old.nodes ix).body ≡ body.MaybeLinkClose could_be
+      → StandsTo s.text old.tables old.nodes first (Some ix) left → (item_at old.nodes ix).body
+      ≡ body.MaybeLinkClose could_be
       → (p : Progress (Unit {0})) (later : Answers) → AreSpent spent p.spent
       → all_read s above (chain_at s.text old (Some ix)) (at_left left old (d.answers ++ later) p)
       ≡ (let r : Progress ℕ = put (around s above) the_closing d.becomes (after_decision d p later) in
@@ -109,9 +125,11 @@ module _ {C : Type 0} (step : C → Question → Option Answer → C → Type 0)
       let from : Progress (Unit {0}) = at_left left old (d.answers ++ later) p in
       let by_number : Progress ℕ = numbered p (d.answers ++ later) in
       let same : closing_of could_be c.label c.rest by_number ≡ c =
-      ap (λ (x : Bool). let k : Closing ℕ = record { label = c.label; could_be_reference = could_be && not x; rest = c.rest } in k)
+      ap (λ (x : Bool). let k : Closing ℕ = record
+      { label = c.label; could_be_reference = could_be && not x; rest = c.rest } in k)
       (sym (are (end_of c.label))) in
-      let closes : closed w (closing_of could_be a rest from) from ≡ retag_progress (λ n. tt) (put w c d.becomes (after_decision d p later)) =
+      let closes : closed w (closing_of could_be a rest from) from
+      ≡ retag_progress (λ n. tt) (put w c d.becomes (after_decision d p later)) =
       ap (λ (f : Forest Plain). closed w (closing_of could_be a f from) from)
       (sym (trees_unnumbered s.text old.tables old.nodes (sibling_of old.nodes ix)))
       ∙ closing_retag (λ n. tt) w could_be c.label c.rest by_number
@@ -120,30 +138,37 @@ module _ {C : Type 0} (step : C → Question → Option Answer → C → Type 0)
       ap (λ (f : Forest Plain). all_read s above f from) (opens_chain s.text old.tables old.nodes ix ready).trees
       ∙ reads_closer s plain_tags above could_be a below rest from refl (closer_is (item_at old.nodes ix).body is)
       ∙ ap (λ (x : Progress (Unit {0})). all_read s above (past x.goes_on rest) (record x { goes_on = None })) closes
-      ∙ ap (λ (x : Progress ℕ). all_read s above (past x.goes_on rest) (record (retag_progress (λ n. tt) x) { goes_on = None }))
+      ∙ ap (λ (x : Progress ℕ). all_read s above (past x.goes_on rest)
+      (record (retag_progress (λ n. tt) x) { goes_on = None }))
       (put_keeps w c d.becomes (after_decision d p later))
     where
       closer_is : (b : ItemBody) → b ≡ body.MaybeLinkClose could_be
-          → open_body (shape_of old.tables (slice_range s.text (item_at old.nodes ix).start (item_at old.nodes ix).end) b)
+          → open_body (shape_of old.tables (slice_range s.text (item_at old.nodes ix).start (item_at old.nodes ix).end)
+          b)
           ≡ body.MaybeLinkClose could_be
       closer_is b e =
-          ap (λ (b : ItemBody). open_body (shape_of old.tables (slice_range s.text (item_at old.nodes ix).start (item_at old.nodes ix).end)
+          ap (λ (b : ItemBody). open_body
+          (shape_of old.tables (slice_range s.text (item_at old.nodes ix).start (item_at old.nodes ix).end)
           b)) e
-          ∙ ap open_body (shape-open old.tables (slice_range s.text (item_at old.nodes ix).start (item_at old.nodes ix).end)
+          ∙ ap open_body (shape-open old.tables
+          (slice_range s.text (item_at old.nodes ix).start (item_at old.nodes ix).end)
           (body.MaybeLinkClose could_be) refl)
 
   -- what it became was put
   pub reads_on_closer : (rest : Rest) (brackets' wikilinks' : List Waiting)
       → (d : IsDecided)
-      → StandsTo s.text old.tables old.nodes first (Some ix) left → (item_at old.nodes ix).body ≡ body.MaybeLinkClose could_be
-      → PutsClosed s.text first ix rest d.left_then (around s above) the_closing d.becomes old.nodes new.nodes old.tables new.tables
+      → StandsTo s.text old.tables old.nodes first (Some ix) left → (item_at old.nodes ix).body
+      ≡ body.MaybeLinkClose could_be
+      → PutsClosed s.text first ix rest d.left_then (around s above) the_closing d.becomes old.nodes new.nodes
+      old.tables new.tables
       → HoldsPut (around s above) the_closing d.becomes d.left_then brackets' wikilinks'
       → ReadsOn step s above first (Some ix) rest.next left old new spent spent' brackets' wikilinks'
   reads_on_closer rest brackets' wikilinks' d stands is puts held =
       let next = rest.next in
       let w = around s above in
       let c = the_closing in
-      let some : Progress ℕ = record { left = d.left_then; goes_on = None; spent = []; asked = []; known = known_at new []; made = 0 } in
+      let some : Progress ℕ = record
+      { left = d.left_then; goes_on = None; spent = []; asked = []; known = known_at new []; made = 0 } in
       let holds = held.holds some refl in
       record {
         changes = puts.changes;
@@ -174,16 +199,25 @@ module _ {C : Type 0} (step : C → Question → Option Answer → C → Type 0)
             }))
             (sym (puts.rest_is q refl))
             ∙ ap (λ (l : List (Entry (Unit {0}))). all_read s above (chain_at s.text new next)
-            (record p { left = l; goes_on = None; spent = d.more ++ p.spent; asked = p.asked ++ d.questions; known = known_at new later }))
+            (record p {
+              left = l;
+              goes_on = None;
+              spent = d.more ++ p.spent;
+              asked = p.asked ++ d.questions;
+              known
+                  = known_at new later;
+            }))
             (sym (puts.puts q refl))
             ∙ ap (λ (made : ℕ). all_read s above (chain_at s.text new next)
-            (at_left puts.left_then new later (record p { spent = d.more ++ p.spent; asked = p.asked ++ d.questions; made = made })))
+            (at_left puts.left_then new later
+            (record p { spent = d.more ++ p.spent; asked = p.asked ++ d.questions; made = made })))
             made;
       }
 
   -- memory was refused before it was put
   pub stops_at_closer : (d : IsDecided)
-      → StandsTo s.text old.tables old.nodes first (Some ix) left → (item_at old.nodes ix).body ≡ body.MaybeLinkClose could_be
+      → StandsTo s.text old.tables old.nodes first (Some ix) left → (item_at old.nodes ix).body
+      ≡ body.MaybeLinkClose could_be
       → StopsOn step s above (Some ix) left old spent new.callback
   stops_at_closer d stands is = record {
     answers = d.answers;
@@ -191,7 +225,8 @@ module _ {C : Type 0} (step : C → Question → Option Answer → C → Type 0)
     asked = d.asked;
     begins = λ p later are.
         let r : Progress ℕ = put (around s above) the_closing d.becomes (after_decision d p later) in
-        let then_asks = all_asks s above (past r.goes_on (trees_from s.text old.tables old.nodes (sibling_of old.nodes ix)))
+        let then_asks = all_asks s above
+        (past r.goes_on (trees_from s.text old.tables old.nodes (sibling_of old.nodes ix)))
         (record p {
           left = left_without_numbers r.left;
           goes_on = None;
@@ -199,6 +234,9 @@ module _ {C : Type 0} (step : C → Question → Option Answer → C → Type 0)
           asked = p.asked
               ++ d.questions;
           known = known_at new later;
-        }) in
-        (then_asks.more, ap (λ (q : Progress (Unit {0})). q.asked) (closer_reads d stands is p later are) ∙ then_asks.asked);
+        }) in (
+          then_asks.more,
+          ap (λ (q : Progress (Unit {0})). q.asked) (closer_reads d stands is p later are)
+              ∙ then_asks.asked,
+        );
   }

@@ -1,11 +1,13 @@
 -- The runs of a well-formed block result are whole in the tree of its labels: a label is a run's character just where
 -- its item is one, and begins and ends where that does.
-use Rattle.std.proofs.Common.{◌≡◌, ℕ, zero, suc, Bool, true, false, List, Option, Some, None, refl, sym, subst, ◌∙◌, ◌==◌}
+use Rattle.std.proofs.Common.{◌≡◌, ℕ, zero, suc, Bool, true, false, List, Option, Some, None, refl, sym, subst, ◌∙◌}
+use Rattle.std.proofs.Common.{◌==◌}
 use Rattle.std.specs.Prelude.{IfSome}
 use Rattle.std.specs.Option.{option_map}
 use Rattle.markdown_base.specs.BlockTree.{Numbered, tree_of}
 use Rattle.markdown_base.specs.Forest.{Forest, nil, node, relabelled, first_root}
-use Rattle.markdown_base.specs.WellFormed.{AllKeepRules, IsWellFormed, PartCounts, RunCharacter, run_character, EndsRun, RunGoesOn}
+use Rattle.markdown_base.specs.WellFormed.{AllKeepRules, IsWellFormed, PartCounts, RunCharacter, run_character, EndsRun}
+use Rattle.markdown_base.specs.WellFormed.{RunGoesOn}
 use Rattle.markdown_base.specs.WellFormed.{StandsInRun, RunsAreWhole, byte_of, counts_of}
 use Rattle.markdown_base.specs.declared.block_parts.BlockParts.{BlockParts}
 use Rattle.markdown_base.specs.declared.item.Item.{Item}
@@ -18,7 +20,8 @@ use Rattle.markdown_document.specs.Tables.{Tables}
 use Rattle.markdown_resolver.specs.Laws.{RunsStandWhole, by_place}
 
 -- a label is a run's character where its item is one
-run_seen : (tables : Tables) (source : List ℕ) (b : ItemBody) → run_character (open_body (shape_of tables source b)) ≡ run_character b
+run_seen : (tables : Tables) (source : List ℕ) (b : ItemBody) → run_character (open_body (shape_of tables source b))
+    ≡ run_character b
 run_seen tables source (body.HardBreak true) = refl
 run_seen tables source (body.HardBreak false) = refl
 run_seen tables source other = refl
@@ -36,7 +39,8 @@ module _ (source : List ℕ) (tables : Tables) where
 
   -- a run ends where it ended, and continues where it continued
   ends : (a b : Numbered) → EndsRun source a (Some b) → EndsRun source (placed a) (Some (placed b))
-  ends a b h = subst (λ o. IfSome o (λ c. (byte_of source b.item == byte_of source a.item) ≡ false)) (sym (run_placed b)) h
+  ends a b h = subst (λ o. IfSome o (λ c. (byte_of source b.item == byte_of source a.item) ≡ false))
+      (sym (run_placed b)) h
 
   goes_on : (a : Numbered) (next : Option Numbered) (count : ℕ) (opens closes : Bool) → a.item.end ≡ suc a.item.start
       → RunGoesOn source a count opens closes next
@@ -64,15 +68,18 @@ module _ (source : List ℕ) (tables : Tables) where
 
   whole_placed : (a : Numbered) (next : Option Numbered) → RunsAreWhole source a next
       → RunsAreWhole source (placed a) (option_map placed next)
-  whole_placed a next h = subst (λ o. IfSome o (StandsInRun source (placed a) (option_map placed next))) (sym (run_placed a))
+  whole_placed a next h = subst (λ o. IfSome o (StandsInRun source (placed a) (option_map placed next)))
+      (sym (run_placed a))
       (run_if a next (run_character a.item.body) h)
 
   -- what follows a label is the label of what follows
-  first_placed : (f : Forest Numbered) → option_map placed (first_root f) ≡ option_map by_place (first_root (relabelled seen f))
+  first_placed : (f : Forest Numbered) → option_map placed (first_root f)
+      ≡ option_map by_place (first_root (relabelled seen f))
   first_placed nil = refl
   first_placed (node a below after) = refl
 
-  forest-whole : (counts : PartCounts) (f : Forest Numbered) → AllKeepRules source counts f → RunsStandWhole source (relabelled seen f)
+  forest-whole : (counts : PartCounts) (f : Forest Numbered) → AllKeepRules source counts f
+      → RunsStandWhole source (relabelled seen f)
   forest-whole counts nil h = tt
   forest-whole counts (node a below after) h = (
     subst (RunsAreWhole source (placed a)) (first_placed after) (whole_placed a (first_root after) h.0.runs_are_whole),
@@ -80,6 +87,8 @@ module _ (source : List ℕ) (tables : Tables) where
     forest-whole counts after h.2,
   )
 
-pub document-whole : (source : List ℕ) (nodes : List (Node Item)) (parts : BlockParts) (tables : Tables) → IsWellFormed source nodes parts
+pub document-whole : (source : List ℕ) (nodes : List (Node Item)) (parts : BlockParts) (tables : Tables)
+    → IsWellFormed source nodes parts
     → RunsStandWhole source (document source tables nodes)
-document-whole source nodes parts tables formed = forest-whole source tables (counts_of parts) (tree_of nodes) formed.rules
+document-whole source nodes parts tables formed = forest-whole source tables (counts_of parts) (tree_of nodes)
+    formed.rules

@@ -1,5 +1,6 @@
 -- What is between an opener and its closer goes below the opener's node: the chain as it is then.
-use Rattle.std.proofs.Common.{◌≡◌, ℕ, zero, suc, ◌+◌, ◌<◌, ◌≤◌, Bool, true, false, List, [], ◌∷◌, ◌++◌, length, Option, Some, None, refl}
+use Rattle.std.proofs.Common.{◌≡◌, ℕ, zero, suc, ◌+◌, ◌<◌, ◌≤◌, Bool, true, false, List, [], ◌∷◌, ◌++◌, length, Option}
+use Rattle.std.proofs.Common.{Some, None, refl}
 use Rattle.std.proofs.Common.{sym, ap, ◌∙◌, subst, ⊎_elim, arith}
 use Rattle.std.proofs.lemmas.Bool.{cases_eq, cases_lt}
 use Rattle.std.specs.Prelude.{IfSome}
@@ -33,7 +34,8 @@ use Rattle.markdown_resolver.proofs.PutLemmas.{no_run_here}
 use Rattle.markdown_resolver.proofs.PutPairLemmas.{past_at}
 
 -- a sum over a forest is that over its first trees and over those past them
-pub total_parts : (count : ℕ → ℕ) (k : ℕ) (f : Forest ℕ) → total count f ≡ total count (first_trees k f) + total count (trees_past k f)
+pub total_parts : (count : ℕ → ℕ) (k : ℕ) (f : Forest ℕ) → total count f ≡ total count (first_trees k f) + total count
+    (trees_past k f)
 total_parts count zero f = omega arith
 total_parts count (suc k) nil = omega arith
 total_parts count (suc k) (node ix below after) = omega (arith, total_parts count k after)
@@ -43,12 +45,14 @@ total_equal g h nil e = refl
 total_equal g h (node n below after) e = rw (e n, total_equal g h below e, total_equal g h after e) refl
 
 -- they read as the first trees of what is read, and those past them
-pub read_first : {A : Type 0} (g : ℕ → A) (k : ℕ) (f : Forest ℕ) → relabelled g (first_trees k f) ≡ first_trees k (relabelled g f)
+pub read_first : {A : Type 0} (g : ℕ → A) (k : ℕ) (f : Forest ℕ) → relabelled g (first_trees k f)
+    ≡ first_trees k (relabelled g f)
 read_first g zero f = refl
 read_first g (suc k) nil = refl
 read_first g (suc k) (node ix below after) = ap (λ t. node (g ix) (relabelled g below) t) (read_first g k after)
 
-pub read_past : {A : Type 0} (g : ℕ → A) (k : ℕ) (f : Forest ℕ) → relabelled g (trees_past k f) ≡ trees_past k (relabelled g f)
+pub read_past : {A : Type 0} (g : ℕ → A) (k : ℕ) (f : Forest ℕ) → relabelled g (trees_past k f)
+    ≡ trees_past k (relabelled g f)
 read_past g zero f = refl
 read_past g (suc k) nil = refl
 read_past g (suc k) (node ix below after) = read_past g k after
@@ -120,7 +124,8 @@ spelled_past nodes [] after closer l (node n below rest) e s =
     let is : n ≡ closer = cc e in
     subst (λ (m : ℕ). Spells (links_of nodes) (Some m) (node n below rest)) is (rw s.0 at s)
 spelled_past nodes (x ∷ inside) after closer l nil e s = cc e
-spelled_past nodes (x ∷ inside) after closer l (node n below rest) e s = spelled_past nodes inside after closer (sibling_of nodes n) rest
+spelled_past nodes (x ∷ inside) after closer l (node n below rest) e s = spelled_past nodes inside after closer
+    (sibling_of nodes n) rest
     (cc e) s.3
 
 -- a chain is cut after a node: the links lead through the trees up to there, and the next is the closer
@@ -133,7 +138,8 @@ cut_behind : (old new : List (Node Item)) (last closer x : ℕ) (inside after : 
     → length old ≤ length new
     → child_of new last ≡ child_of old last → sibling_of new last ≡ None → last_inside x inside ≡ last
     → roots f ≡ x ∷ (inside ++ closer ∷ after)
-    → ((n : ℕ) → total (same n) f ≤ 1) → ((n : ℕ) → 0 < total (same n) f → (n ≡ last → ⊥) → IsSameAt old new n) → Spells (links_of old) l f
+    → ((n : ℕ) → total (same n) f ≤ 1) → ((n : ℕ) → 0 < total (same n) f → (n ≡ last → ⊥) → IsSameAt old new n)
+    → Spells (links_of old) l f
     → CutBehind old new l last closer (suc (length inside)) f
 cut_behind old new last closer x [] after l nil more child next is e once kept s = cc e
 cut_behind old new last closer x [] after l (node n below rest) more child next is e once kept s =
@@ -148,7 +154,8 @@ cut_behind old new last closer x [] after l (node n below rest) more child next 
         omega (arith, s.1, more),
         rw (subst (λ (m : ℕ). child_of new m ≡ child_of old m) (sym here) child)
             (spelled_kept old new (child_of old n) below more
-            (λ m l. kept m (omega (arith, l)) (λ q. let z : 0 < total (same n) below = subst (λ (p : ℕ). 0 < total (same p) below) (q
+            (λ m l. kept m (omega (arith, l))
+            (λ q. let z : 0 < total (same n) below = subst (λ (p : ℕ). 0 < total (same p) below) (q
             ∙ sym here) l in absurd (omega (arith, one, self, z)))) s.2),
         subst (λ (m : ℕ). sibling_of new m ≡ None) (sym here) next,
       );
@@ -156,17 +163,20 @@ cut_behind old new last closer x [] after l (node n below rest) more child next 
       next = subst (λ (m : ℕ). sibling_of old m ≡ Some closer) here first;
     }
   where
-    leads : (g : Forest ℕ) → roots g ≡ closer ∷ after → Spells (links_of old) (sibling_of old n) g → sibling_of old n ≡ Some closer
+    leads : (g : Forest ℕ) → roots g ≡ closer ∷ after → Spells (links_of old) (sibling_of old n) g → sibling_of old n
+        ≡ Some closer
     leads nil q t = cc q
     leads (node m b a) q t = let is' : m ≡ closer = cc q in t.0 ∙ ap (λ i. Some i) is'
 cut_behind old new last closer x (y ∷ inside) after l nil more child next is e once kept s = cc e
 cut_behind old new last closer x (y ∷ inside) after l (node n below rest) more child next is e once kept s =
-    let r = cut_behind old new last closer y inside after (sibling_of old n) rest more child next is (cc e) (λ m. let z = once m
+    let r = cut_behind old new last closer y inside after (sibling_of old n) rest more child next is (cc e)
+    (λ m. let z = once m
     in omega arith) (λ m l d. kept m (omega (arith, l)) d) s.3 in
     let in_rest = total_parts (same last) (suc (length inside)) rest in
     let there = r.there in
     let one = once last in
-    let other : n ≡ last → ⊥ = λ q. let self : same last n ≡ 1 = subst (λ (m : ℕ). same last m ≡ 1) (sym q) (same-refl last)
+    let other : n ≡ last → ⊥ = λ q. let self : same last n ≡ 1 = subst (λ (m : ℕ). same last m ≡ 1) (sym q)
+    (same-refl last)
     in absurd (omega (arith, one, self, in_rest, there)) in
     let at = kept n (omega (arith, same-refl n)) other in
     record {
@@ -174,7 +184,8 @@ cut_behind old new last closer x (y ∷ inside) after l (node n below rest) more
         s.0,
         omega (arith, s.1, more),
         rw at.child (spelled_kept old new (child_of old n) below more
-            (λ m l. kept m (omega (arith, l)) (λ q. let z : 0 < total (same last) below = subst (λ (p : ℕ). 0 < total (same p) below) q l
+            (λ m l. kept m (omega (arith, l))
+            (λ q. let z : 0 < total (same last) below = subst (λ (p : ℕ). 0 < total (same p) below) q l
             in absurd (omega (arith, one, in_rest, there, z)))) s.2),
         rw at.next r.spelled,
       );
@@ -182,7 +193,8 @@ cut_behind old new last closer x (y ∷ inside) after l (node n below rest) more
       next = r.next;
     }
 
-last_there : (x : ℕ) (inside later : List ℕ) (f : Forest ℕ) → roots f ≡ x ∷ (inside ++ later) → 0 < total (same (last_inside x inside)) f
+last_there : (x : ℕ) (inside later : List ℕ) (f : Forest ℕ) → roots f ≡ x ∷ (inside ++ later)
+    → 0 < total (same (last_inside x inside)) f
 last_there x [] later nil e = cc e
 last_there x [] later (node n below rest) e =
     let is : n ≡ x = cc e in subst (λ (m : ℕ). 0 < total (same m) (node n below rest)) is (omega (arith, same-refl n))
@@ -212,13 +224,16 @@ cuts_at old new opener last closer [] after f v is e s once =
           absurd (let z = once last in omega (arith, one, here));
     }
 cuts_at old new opener last closer (x ∷ inside) after f v is e s once =
-    let there : 0 < total (same last) f = subst (λ (m : ℕ). 0 < total (same m) f) is (last_there x inside (closer ∷ after) f e) in
-    let d : last ≡ opener → ⊥ = λ q. let one : same last opener ≡ 1 = subst (λ (m : ℕ). same last m ≡ 1) q (same-refl last)
+    let there : 0 < total (same last) f = subst (λ (m : ℕ). 0 < total (same m) f) is
+    (last_there x inside (closer ∷ after) f e) in
+    let d : last ≡ opener → ⊥ = λ q. let one : same last opener ≡ 1 = subst (λ (m : ℕ). same last m ≡ 1) q
+    (same-refl last)
     in absurd (let z = once last in omega (arith, one, there)) in
     let other : (n : ℕ) → 0 < total (same n) f → n ≡ opener → ⊥ = λ n l q. let one : same n opener
     ≡ 1 = subst (λ (m : ℕ). same n m ≡ 1) q (same-refl n) in absurd (let z = once n in omega (arith, one, l)) in
     let size = v.size in
-    let r = cut_behind old new last closer x inside after (sibling_of old opener) f (omega (arith, size)) (v.last_child d) (v.last_next d)
+    let r = cut_behind old new last closer x inside after (sibling_of old opener) f (omega (arith, size))
+    (v.last_child d) (v.last_next d)
     is e
     (λ n. let z = once n in omega arith) (λ n l q. v.others n (other n l) q) s in
     let held = r.there in
@@ -229,7 +244,8 @@ cuts_at old new opener last closer (x ∷ inside) after f v is e s once =
       apart = λ n l q.
           let here : 0 < total (same last) (trees_past (suc (length inside)) f) =
           subst (λ (m : ℕ). 0 < total (same m) (trees_past (suc (length inside)) f)) q l in
-          absurd (let z = once last in let parts = total_parts (same last) (suc (length inside)) f in omega (arith, here, held));
+          absurd (let z = once last in let parts = total_parts (same last) (suc (length inside)) f in omega
+          (arith, here, held));
     }
 
 -- a run whose next item is not a character of a run is complete, so nothing has to follow it
@@ -254,7 +270,8 @@ following_is old new None h = refl
 following_is old new (Some n) h = rw (h n) refl
 
 -- the chain then
-module _ (source : List ℕ) (tables : Tables) (old new : List (Node Item)) (opener last closer : ℕ) (inside : List ℕ) (byte : ℕ)
+module _ (source : List ℕ) (tables : Tables) (old new : List (Node Item)) (opener last closer : ℕ) (inside : List ℕ)
+    (byte : ℕ)
     (can : CanClose source tables old opener closer inside byte)
     (is : last_inside opener inside ≡ last) (v : IsEnclosed old new opener last closer) where
   abbrev f : Forest ℕ
@@ -288,7 +305,8 @@ module _ (source : List ℕ) (tables : Tables) (old new : List (Node Item)) (ope
   rest_spelled : Spells (links_of new) (Some closer) (trees_past k f)
   rest_spelled =
       let size = v.size in
-      spelled_kept old new (Some closer) (trees_past k f) (omega (arith, size)) rest_kept (spelled_past old inside can.after closer
+      spelled_kept old new (Some closer) (trees_past k f) (omega (arith, size)) rest_kept
+      (spelled_past old inside can.after closer
       (sibling_of old opener) f can.follows opened.after.spelled)
 
   abbrev now : Forest ℕ
@@ -302,7 +320,8 @@ module _ (source : List ℕ) (tables : Tables) (old new : List (Node Item)) (ope
   now_total count = let parts = total_parts count k f in omega arith
 
   now_here : forest_at (links_of new) (Some opener) ≡ now
-  now_here = found (links_of new) (Some opener) now now_spelled (λ n. let z = whole_once n in let t = now_total (same n) in omega arith)
+  now_here = found (links_of new) (Some opener) now now_spelled
+      (λ n. let z = whole_once n in let t = now_total (same n) in omega arith)
 
   pub inside_forest : forest_at (links_of new) (child_of new opener) ≡ first_trees k f
   inside_forest = found (links_of new) (child_of new opener) (first_trees k f) cuts.inside (λ n. let z = whole_once n
@@ -319,7 +338,8 @@ module _ (source : List ℕ) (tables : Tables) (old new : List (Node Item)) (ope
   pub inside_reads : trees_from source tables new (child_of new opener)
       ≡ first_trees k (trees_from source tables old (sibling_of old opener))
   inside_reads =
-      ap (λ (g : Forest ℕ). relabelled (label_at source tables new) g) inside_forest ∙ read_equal (label_at source tables old)
+      ap (λ (g : Forest ℕ). relabelled (label_at source tables new) g) inside_forest
+      ∙ read_equal (label_at source tables old)
       (label_at source tables new) (first_trees k f) labels
       ∙ read_first (label_at source tables old) k f
 
@@ -339,7 +359,8 @@ module _ (source : List ℕ) (tables : Tables) (old new : List (Node Item)) (ope
         numbers = closer_past.number;
       });
       markup_is_there = rw (v.items opener) p.keeps.markup_is_there;
-      runs_are_whole = no_run_here source (numbered new opener) (next_at new opener) (rw (v.items opener) can.opener_closed);
+      runs_are_whole = no_run_here source (numbered new opener) (next_at new opener)
+          (rw (v.items opener) can.opener_closed);
       childless = λ e. absurd (let no : true ≡ false = sym e ∙ (rw (v.items opener) can.opener_closed) in cc no);
     };
   }
@@ -356,7 +377,8 @@ module _ (source : List ℕ) (tables : Tables) (old new : List (Node Item)) (ope
           in_order = rw (v.last_next d) tt;
           markup_is_there = rw (v.items last) p.keeps.markup_is_there;
           runs_are_whole = rw (v.last_next d, v.items last)
-              (run_none source (numbered old last) (numbered old closer) (run_character (item_at old last).body) can.closer_no_run
+              (run_none source (numbered old last) (numbered old closer) (run_character (item_at old last).body)
+              can.closer_no_run
               (rw before at p.keeps.runs_are_whole));
           childless = rw (v.items last, v.last_child d) p.keeps.childless;
         };
@@ -372,9 +394,11 @@ module _ (source : List ℕ) (tables : Tables) (old new : List (Node Item)) (ope
 
   placed_new : (n : ℕ) → IsPlaced source tables old n → IsPlaced source tables new n
   placed_new n p = ⊎_elim
-      (λ (e : n ≡ opener). subst (IsPlaced source tables new) (sym e) (placed_opener (subst (IsPlaced source tables old) e p)))
+      (λ (e : n ≡ opener). subst (IsPlaced source tables new) (sym e)
+      (placed_opener (subst (IsPlaced source tables old) e p)))
       (λ (d : n ≡ opener → ⊥). ⊎_elim
-      (λ (e : n ≡ last). subst (IsPlaced source tables new) (sym e) (placed_last (λ q. d (e ∙ q)) (subst (IsPlaced source tables old) e p)))
+      (λ (e : n ≡ last). subst (IsPlaced source tables new) (sym e)
+      (placed_last (λ q. d (e ∙ q)) (subst (IsPlaced source tables old) e p)))
       (λ (d' : n ≡ last → ⊥). placed_other n (v.others n d d') p)
       (cases_eq n last))
       (cases_eq n opener)
@@ -399,7 +423,8 @@ module _ (source : List ℕ) (tables : Tables) (old new : List (Node Item)) (ope
         stands = record {
           reaches = record { spelled = rw now_here now_spelled; each = rw now_here now_placed };
           once = λ n. rw now_here (let z = whole_once n in let t = now_total (same n) in omega arith);
-          named_once = λ n. rw now_here (let z = rw whole_is at (can.ready.named_once n) in let t = named n in omega arith);
+          named_once = λ n. rw now_here
+              (let z = rw whole_is at (can.ready.named_once n) in let t = named n in omega arith);
         };
         of_chain = λ n l. rw (now_here, whole_is) (let t = now_total (same n) in omega arith);
         more_nodes = omega (arith, size);
@@ -407,8 +432,10 @@ module _ (source : List ℕ) (tables : Tables) (old new : List (Node Item)) (ope
             let none : same n opener + total (same n) f ≡ 0 = (let x = rw whole_is at z in omega arith) in
             let held = cuts.last_held in
             v.others n
-            (λ q. let one : same n opener ≡ 1 = subst (λ (m : ℕ). same n m ≡ 1) q (same-refl n) in absurd (omega (arith, one, none)))
-            (λ q. let here : 0 < same n opener + total (same n) f = subst (λ (m : ℕ). 0 < same m opener + total (same m) f) (sym q) held
+            (λ q. let one : same n opener ≡ 1 = subst (λ (m : ℕ). same n m ≡ 1) q (same-refl n) in absurd
+            (omega (arith, one, none)))
+            (λ q. let here : 0 < same n opener + total (same n) f = subst
+            (λ (m : ℕ). 0 < same m opener + total (same m) f) (sym q) held
             in absurd (omega (arith, here, none)));
         grown = grown-nothing tables;
         named = λ n l. rw (now_here, whole_is) (let t = named n in omega arith);
@@ -416,7 +443,8 @@ module _ (source : List ℕ) (tables : Tables) (old new : List (Node Item)) (ope
       }
 
 -- the writes that do so
-next_items : (nodes : List (Node Item)) (jx : ℕ) (next : Option ℕ) (n : ℕ) → item_at (changed_at jx (λ m. record m { next = next }) nodes) n
+next_items : (nodes : List (Node Item)) (jx : ℕ) (next : Option ℕ) (n : ℕ)
+    → item_at (changed_at jx (λ m. record m { next = next }) nodes) n
     ≡ item_at nodes n
 next_items [] jx next n = refl
 next_items (m ∷ nodes) zero next zero = refl
@@ -438,9 +466,11 @@ with_next ix next nodes = changed_at ix (λ n. record n { next = next }) nodes
 abbrev pub with_child : ℕ → Option ℕ → List (Node Item) → List (Node Item)
 with_child ix child nodes = changed_at ix (λ n. record n { child = child }) nodes
 
-pub enclosed_nodes : (old : List (Node Item)) (opener last closer : ℕ) (inside : Option ℕ) → opener < length old → last < length old
+pub enclosed_nodes : (old : List (Node Item)) (opener last closer : ℕ) (inside : Option ℕ) → opener < length old
+    → last < length old
     → inside ≡ sibling_of (with_next last None old) opener
-    → IsEnclosed old (with_next opener (Some closer) (with_child opener inside (with_next last None old))) opener last closer
+    → IsEnclosed old (with_next opener (Some closer) (with_child opener inside (with_next last None old))) opener last
+    closer
 enclosed_nodes old opener last closer inside within last_within inside_is =
     let a = with_next last None old in
     let b = with_child opener inside a in
@@ -461,12 +491,15 @@ enclosed_nodes old opener last closer inside within last_within inside_is =
       none_inside = λ e. r.child ∙ q.child ∙ inside_is ∙ subst (λ (m : ℕ). sibling_of a m ≡ None) e p.next;
       inside_is = λ d. r.child ∙ q.child ∙ inside_is ∙ (changed_other old last ends opener (λ e. d (sym e))).next;
       last_next = λ d. (changed_other b opener leads last d).next ∙ (changed_other a opener hangs last d).next ∙ p.next;
-      last_child = λ d. (changed_other b opener leads last d).child ∙ (changed_other a opener hangs last d).child ∙ p.child;
-      others = λ n d e. same_trans old b c n (same_trans old a b n (changed_other old last ends n e) (changed_other a opener hangs n d))
+      last_child = λ d. (changed_other b opener leads last d).child ∙ (changed_other a opener hangs last d).child
+          ∙ p.child;
+      others = λ n d e. same_trans old b c n
+          (same_trans old a b n (changed_other old last ends n e) (changed_other a opener hangs n d))
           (changed_other b opener leads n d);
     }
 
-pub enclosed_tree : (s t u w : Arena Item) (opener last closer : ℕ) (inside : Option ℕ) → opener < length s.nodes → last < length s.nodes
+pub enclosed_tree : (s t u w : Arena Item) (opener last closer : ℕ) (inside : Option ℕ) → opener < length s.nodes
+    → last < length s.nodes
     → inside ≡ sibling_of t.nodes opener
     → t ≡ record s { nodes = with_next last None s.nodes } → u ≡ record t { nodes = with_child opener inside t.nodes }
     → w ≡ record u { nodes = with_next opener (Some closer) u.nodes }
@@ -483,11 +516,13 @@ enclosed_tree s t u w opener last closer inside within last_within inside_is e1 
 -- they keep its size
 pub size_next : (s t : Arena Item) (ix : ℕ) (next : Option ℕ) → t ≡ record s { nodes = with_next ix next s.nodes }
     → length t.nodes ≡ length s.nodes
-size_next s t ix next e = ap (λ (a : Arena Item). length a.nodes) e ∙ length-changed_at ix (λ n. record n { next = next }) s.nodes
+size_next s t ix next e = ap (λ (a : Arena Item). length a.nodes) e
+    ∙ length-changed_at ix (λ n. record n { next = next }) s.nodes
 
 pub size_child : (s t : Arena Item) (ix : ℕ) (child : Option ℕ) → t ≡ record s { nodes = with_child ix child s.nodes }
     → length t.nodes ≡ length s.nodes
-size_child s t ix child e = ap (λ (a : Arena Item). length a.nodes) e ∙ length-changed_at ix (λ n. record n { child = child }) s.nodes
+size_child s t ix child e = ap (λ (a : Arena Item). length a.nodes) e
+    ∙ length-changed_at ix (λ n. record n { child = child }) s.nodes
 
 -- the nodes that are written are there
 pub record AreWithin (nodes : List (Node Item)) (opener last closer : ℕ) : Type 0 where
@@ -495,7 +530,8 @@ pub record AreWithin (nodes : List (Node Item)) (opener last closer : ℕ) : Typ
   pub inner : last < length nodes
   pub end : closer < length nodes
 
-last_within : (nodes : List (Node Item)) (opener closer : ℕ) (inside after : List ℕ) (l : Option ℕ) (f : Forest ℕ) → opener < length nodes
+last_within : (nodes : List (Node Item)) (opener closer : ℕ) (inside after : List ℕ) (l : Option ℕ) (f : Forest ℕ)
+    → opener < length nodes
     → roots f ≡ inside ++ closer ∷ after
     → Spells (links_of nodes) l f → last_inside opener inside < length nodes
 last_within nodes opener closer [] after l f within e s = within
@@ -504,7 +540,8 @@ last_within nodes opener closer (x ∷ inside) after l f within e s =
     ⊎_elim (λ h. h) (λ h. absurd (omega (arith, times-past (links_of nodes) l f (last_inside x inside) s h, there)))
     (cases_lt (last_inside x inside) (length nodes))
 
-pub closer_within : (source : List ℕ) (tables : Tables) (nodes : List (Node Item)) (opener closer : ℕ) (inside : List ℕ) (byte : ℕ)
+pub closer_within : (source : List ℕ) (tables : Tables) (nodes : List (Node Item)) (opener closer : ℕ) (inside : List ℕ)
+    (byte : ℕ)
     → CanClose source tables nodes opener closer inside byte
     → closer < length nodes
 closer_within source tables nodes opener closer inside byte can =
@@ -515,7 +552,8 @@ closer_within source tables nodes opener closer inside byte can =
     rw at.is at (spelled_past nodes inside can.after closer (sibling_of nodes opener) f can.follows o.after.spelled) in
     spelled.1
 
-pub are_within : (source : List ℕ) (tables : Tables) (nodes : List (Node Item)) (opener last closer : ℕ) (inside : List ℕ) (byte : ℕ)
+pub are_within : (source : List ℕ) (tables : Tables) (nodes : List (Node Item)) (opener last closer : ℕ)
+    (inside : List ℕ) (byte : ℕ)
     → CanClose source tables nodes opener closer inside byte
     → last_inside opener inside ≡ last → AreWithin nodes opener last closer
 are_within source tables nodes opener last closer inside byte can is =
@@ -523,7 +561,8 @@ are_within source tables nodes opener last closer inside byte can is =
     let f = forest_at (links_of nodes) (sibling_of nodes opener) in
     record {
       first = o.within;
-      inner = subst (λ (n : ℕ). n < length nodes) is (last_within nodes opener closer inside can.after (sibling_of nodes opener) f o.within
+      inner = subst (λ (n : ℕ). n < length nodes) is
+          (last_within nodes opener closer inside can.after (sibling_of nodes opener) f o.within
           can.follows o.after.spelled);
       end = closer_within source tables nodes opener closer inside byte can;
     }

@@ -1,7 +1,8 @@
 -- What a `]` becomes ends well, case by case: after the `)` of a tail, where the `]` of a label that follows ends,
 -- after the `]` itself, or, for a wikilink, where the next `]` ends; and what a wikilink shows starts and ends between
 -- characters.
-use Rattle.std.proofs.Common.{◌≡◌, ◌⊎◌, ⊎_elim, ℕ, ◌+◌, ◌-◌, ◌<◌, ◌≤◌, Bool, true, false, ◌&&◌, List, [], ◌∷◌, Option, Some, None, IsUtf8, ◌==◌, length}
+use Rattle.std.proofs.Common.{◌≡◌, ◌⊎◌, ⊎_elim, ℕ, ◌+◌, ◌-◌, ◌<◌, ◌≤◌, Bool, true, false, ◌&&◌, List, [], ◌∷◌, Option}
+use Rattle.std.proofs.Common.{Some, None, IsUtf8, ◌==◌, length}
 use Rattle.std.proofs.Common.{drop, get_or, refl, sym, ap, ◌∙◌, subst, arith}
 use Rattle.std.specs.Prelude.{IfSome, if◌then◌else◌, unwrap_or}
 use Rattle.std.specs.Option.{option_map}
@@ -18,9 +19,12 @@ use Rattle.markdown_base.specs.Questions.{Question, Answer, Answers}
 use Rattle.markdown_base.specs.declared.block_parts.LinkDef.{LinkDef}
 use Rattle.markdown_base.specs.declared.tag.LinkType.{LinkType}
 use Rattle.markdown_base.specs.declared.tag.LinkType.TheVariants as kind
-use Rattle.markdown_brackets.specs.BracketDecision.{Around, Becomes, Closing, Decision, Written, LinkReference, Progress, Wikilink, a_link, a_text}
-use Rattle.markdown_brackets.specs.BracketDecision.{block_text, carried_out, closer_ends_at, decided, form_of, found, left_for_one, lines}
-use Rattle.markdown_brackets.specs.BracketDecision.{past_second, question_at, second_end, start_of_first_past, wikilink_in}
+use Rattle.markdown_brackets.specs.BracketDecision.{Around, Becomes, Closing, Decision, Written, LinkReference}
+use Rattle.markdown_brackets.specs.BracketDecision.{Progress, Wikilink, a_link, a_text}
+use Rattle.markdown_brackets.specs.BracketDecision.{block_text, carried_out, closer_ends_at, decided, form_of, found}
+use Rattle.markdown_brackets.specs.BracketDecision.{left_for_one, lines}
+use Rattle.markdown_brackets.specs.BracketDecision.{past_second, question_at, second_end, start_of_first_past}
+use Rattle.markdown_brackets.specs.BracketDecision.{wikilink_in}
 use Rattle.markdown_brackets.proofs.ClosingBracketLemmas.{IsFull, IsOwn, either, found_cases}
 use Rattle.markdown_base.specs.EnabledOptions.{wikilinks_on}
 use Rattle.markdown_brackets.specs.BracketOptions.{footnote_style}
@@ -28,7 +32,8 @@ use Rattle.markdown_brackets.specs.LeftList.{Entry, Split, bracket_taken, inside
 use Rattle.markdown_brackets.specs.LeftList.{trees_onto, without_bracket, without_wikilink}
 use Rattle.markdown_brackets.specs.LinkTail.{LinkTail, link_tail}
 use Rattle.markdown_brackets.specs.Lookup.{answered, asked, defined_or_asked, finds_nothing, look_up, unknown}
-use Rattle.markdown_brackets.specs.Reference.{FoundLabel, collapsed, form_at, form_by_label, is_closer, is_opener, bracket_label}
+use Rattle.markdown_brackets.specs.Reference.{FoundLabel, collapsed, form_at, form_by_label, is_closer, is_opener}
+use Rattle.markdown_brackets.specs.Reference.{bracket_label}
 use Rattle.markdown_brackets.specs.Reference.{reference, shortcut, stands_at}
 use Rattle.markdown_brackets.specs.declared.footnote.FootnoteStyle.{FootnoteStyle}
 use Rattle.markdown_brackets.proofs.OpenerHeldLemmas.{trees_stay}
@@ -44,7 +49,8 @@ use Rattle.markdown_resolver.specs.Closes.{CanGoOn, EndsWell, IsNamedIn, ShowsWe
 use Rattle.markdown_resolver.specs.PutsTrees.{numbered_from, numbered_label}
 use Rattle.markdown_resolver.specs.ReadOn.{StandsTo}
 use Rattle.markdown_resolver.proofs.FollowersLemmas.{InOrder, opens_chain}
-use Rattle.markdown_resolver.proofs.GoesOnLemmas.{EndsThere, StandsBehind, ends_there, goes_on_closed, goes_on_here, goes_on_there}
+use Rattle.markdown_resolver.proofs.GoesOnLemmas.{EndsThere, StandsBehind, ends_there, goes_on_closed, goes_on_here}
+use Rattle.markdown_resolver.proofs.GoesOnLemmas.{goes_on_there}
 use Rattle.markdown_resolver.proofs.GoesOnLemmas.{second_ends}
 use Rattle.markdown_resolver.proofs.StandsToLemmas.{stands_rest}
 use Rattle.markdown_resolver.proofs.TailEndLemmas.{tail_closes}
@@ -54,19 +60,22 @@ use Rattle.markdown_resolver.proofs.WikilinkShowsLemmas.{AllLie, inside_lies, le
 collapsed_stands : (style : FootnoteStyle) (skipped : List ℕ → Option ℕ) (in_table : Bool) (text : List ℕ) (p : ℕ)
     (next after : Option Item)
     → form_at style skipped in_table text p next after ≡ collapsed → stands_at (p + 1) is_closer after ≡ true
-collapsed_stands style skipped in_table text p next after = by (stands_at p is_opener next) (stands_at (p + 1) is_closer after)
+collapsed_stands style skipped in_table text p next after = by (stands_at p is_opener next)
+    (stands_at (p + 1) is_closer after)
     (stands_at p (λ b. true) next)
   where
     labelled : (found : Option FoundLabel) → form_by_label p found ≡ collapsed → ⊥
     labelled None e = cc e
     labelled (Some l) e = in_style l.is_footnote e
       where
-        in_style : (is_footnote : Bool) → (if is_footnote then shortcut else reference l.name (p + l.length)) ≡ collapsed → ⊥
+        in_style : (is_footnote : Bool) → (if is_footnote then shortcut else reference l.name (p + l.length))
+            ≡ collapsed → ⊥
         in_style true e = cc e
         in_style false e = cc e
 
     by : (opens closes follows : Bool)
-        → (if opens && closes then collapsed else if follows then form_by_label p (bracket_label style skipped in_table (drop p text))
+        → (if opens && closes then collapsed else if follows then form_by_label p
+        (bracket_label style skipped in_table (drop p text))
         else shortcut) ≡ collapsed → closes ≡ true
     by true true follows e = refl
     by true false true e = absurd (labelled (bracket_label style skipped in_table (drop p text)) e)
@@ -77,11 +86,13 @@ collapsed_stands style skipped in_table text p next after = by (stands_at p is_o
 -- the byte offsets at which the chain after a `]` can continue
 pub record MayGoOn (source : List ℕ) (w : Around) (c : Closing ℕ) : Type 0 where
   pub here : CanGoOn source c (end_of c.label)
-  pub closed : (t : LinkTail) → link_tail (lines w) (start_of_first_past c.rest) (block_text w) (end_of c.label) ≡ Some t
+  pub closed : (t : LinkTail) → link_tail (lines w) (start_of_first_past c.rest) (block_text w) (end_of c.label)
+      ≡ Some t
       → CanGoOn source c t.ends
   pub labelled : (i : ℕ) → closer_ends_at i c.rest ≡ true → CanGoOn source c i
   pub emptied : form_of w c ≡ collapsed → CanGoOn source c (end_of c.label + 2)
-  pub doubled : (a : Label ℕ) (below after : Forest (Label ℕ)) → c.rest ≡ node a below after → CanGoOn source c (end_of a)
+  pub doubled : (a : Label ℕ) (below after : Forest (Label ℕ)) → c.rest ≡ node a below after
+      → CanGoOn source c (end_of a)
   -- a wikilink of a body before it shows what can be shown, and its name is a slice of the source there
   pub shows : (f : Forest (Label ℕ)) (v : Wikilink ℕ) → AllLie source f → wikilink_in w f (start_of c.label) ≡ Some v
       → ShowsWell source f v.children
@@ -89,17 +100,20 @@ pub record MayGoOn (source : List ℕ) (w : Around) (c : Closing ℕ) : Type 0 w
       → IsNamedIn source f (end_of c.label) v.name
 
 -- a name that ends before a byte offset ends before a later one
-named_later : (source : List ℕ) (f : Forest (Label ℕ)) (end end' : ℕ) (name : List ℕ) → end ≤ end' → IsNamedIn source f end name
+named_later : (source : List ℕ) (f : Forest (Label ℕ)) (end end' : ℕ) (name : List ℕ) → end ≤ end'
+    → IsNamedIn source f end name
     → IsNamedIn source f end' name
 named_later source nil end end' name le h = h
-named_later source (node a below after) end end' name le h = slice_wider source (start_of a) end (start_of a) end' name (omega arith) le h
+named_later source (node a below after) end end' name le h = slice_wider source (start_of a) end (start_of a) end' name
+    (omega arith) le h
 
 -- what is written ends like this
 abbrev EndsSo : List ℕ → Closing ℕ → (end next : ℕ) → Type 0
 EndsSo source c end next = CanGoOn source c next × IsCharBoundary source end × (end_of c.label ≤ end) × (end ≤ next)
 
 -- the link that a look-up finds is of the label's type, or of the one whose label a callback knew
-unknown_made : (link_type : LinkType) → destination_origin link_type ≡ made → destination_origin (unknown link_type) ≡ made
+unknown_made : (link_type : LinkType) → destination_origin link_type ≡ made → destination_origin (unknown link_type)
+    ≡ made
 unknown_made kind.Reference e = refl
 unknown_made kind.Collapsed e = refl
 unknown_made kind.Shortcut e = refl
@@ -123,7 +137,8 @@ looked_up_made defined asks limit answers q e = by_limit (limit == 0)
     by_answers [] = by_answer [] None
     by_answers (a ∷ later) = by_answer later a
 
-    by_asking : (asking : Bool) → IsNoSlice (if asking then asked limit answers q else finds_nothing limit answers []).target
+    by_asking : (asking : Bool)
+        → IsNoSlice (if asking then asked limit answers q else finds_nothing limit answers []).target
     by_asking true = by_answers answers
     by_asking false = tt
 
@@ -146,13 +161,16 @@ module _ (source : List ℕ) (w : Around) (c : Closing ℕ) (may : MayGoOn sourc
       → EndsSo source c r.end r.next × (destination_origin r.link_type ≡ made)
   reference_so r way = ⊎_elim
       (λ (h : IsFull w c r). (
-        subst (EndsSo source c r.end) (sym (ap (λ (r : LinkReference). r.next) h.is)) (ends_so r.end (may.labelled r.end h.closes)),
+        subst (EndsSo source c r.end) (sym (ap (λ (r : LinkReference). r.next) h.is))
+            (ends_so r.end (may.labelled r.end h.closes)),
         ap (λ (r : LinkReference). destination_origin r.link_type) h.is,
       ))
-      (λ (h : IsOwn w c r). subst (λ end. EndsSo source c end r.next × (destination_origin r.link_type ≡ made)) (sym h.end)
+      (λ (h : IsOwn w c r). subst (λ end. EndsSo source c end r.next × (destination_origin r.link_type ≡ made))
+      (sym h.end)
       (⊎_elim
       (λ (f : (r.link_type ≡ kind.Collapsed) × (r.next ≡ end_of c.label + 2) × (form_of w c ≡ collapsed)). (
-        subst (EndsSo source c (end_of c.label)) (sym f.1) (may.emptied f.2, may.here.between, omega arith, omega arith),
+        subst (EndsSo source c (end_of c.label)) (sym f.1)
+            (may.emptied f.2, may.here.between, omega arith, omega arith),
         ap destination_origin f.0,
       ))
       (λ (f : (r.link_type ≡ kind.Shortcut) × (r.next ≡ end_of c.label)). (
@@ -160,7 +178,8 @@ module _ (source : List ℕ) (w : Around) (c : Closing ℕ) (may : MayGoOn sourc
         ap destination_origin f.0,
       )) h.form)) way
 
-  target_well : (o : Split ℕ) (r : LinkReference) (target : Option LinkView) → EndsSo source c r.end r.next → IsNoSlice target
+  target_well : (o : Split ℕ) (r : LinkReference) (target : Option LinkView) → EndsSo source c r.end r.next
+      → IsNoSlice target
       → EndsWell source c (unwrap_or (option_map (λ t. a_link o t r.end r.next) target) a_text)
   unfolding IsNoSlice
   target_well o r None h k = tt
@@ -169,7 +188,8 @@ module _ (source : List ℕ) (w : Around) (c : Closing ℕ) (may : MayGoOn sourc
   -- the second `]` is the first item after the first one
   second_on : (rest : Forest (Label ℕ)) (end : ℕ) → c.rest ≡ rest → second_end w rest ≡ Some end → CanGoOn source c end
   second_on nil end e s = absurd (cc s)
-  second_on (node a below after) end e s = by (wikilinks_on w.setting.rules.options && is_closer (open_body a.part.shape)) s
+  second_on (node a below after) end e s = by
+      (wikilinks_on w.setting.rules.options && is_closer (open_body a.part.shape)) s
     where
       by : (b : Bool) → (if b then Some (end_of a) else None) ≡ Some end → CanGoOn source c end
       by true s = let same : end_of a ≡ end = cc in subst (CanGoOn source c) same (may.doubled a below after e)
@@ -191,7 +211,8 @@ module _ (source : List ℕ) (w : Around) (c : Closing ℕ) (may : MayGoOn sourc
         inline = λ t is. let so = ends_so t.ends (may.closed t is) in (so.0, so.1, so.2, so.3, refl);
         refers = λ r way.
             let so = reference_so r way in
-            target_well o r (look_up rules.definitions rules.asks p.known.limit p.known.answers (question_at o r)).target so.0
+            target_well o r (look_up rules.definitions rules.asks p.known.limit p.known.answers
+            (question_at o r)).target so.0
             (looked_up_made rules.definitions rules.asks p.known.limit p.known.answers (question_at o r) so.1);
         footnote = λ name. may.here;
       })
@@ -199,13 +220,15 @@ module _ (source : List ℕ) (w : Around) (c : Closing ℕ) (may : MayGoOn sourc
       let on = second_on c.rest end refl s in (
         on,
         may.shows (past_second (inside o)) v (inside_lies source opens_wikilink left o h e) is,
-        named_later source (past_second (inside o)) (end_of c.label) end v.name on.behind (may.names (past_second (inside o)) v is),
+        named_later source (past_second (inside o)) (end_of c.label) end v.name on.behind
+            (may.names (past_second (inside o)) v is),
       )) p.left lies)
 
 -- the chain after a `]` can continue at each of these byte offsets
 may_go_on : (source : List ℕ) (tables : Tables) (nodes : List (Node Item)) (w : Around) (c : Closing ℕ) (f : Forest ℕ)
     → StandsBehind source tables nodes c f
-    → IsCharBoundary source (start_of c.label) → start_of c.label ≤ end_of c.label → w.setting.text ≡ source → IsUtf8 source
+    → IsCharBoundary source (start_of c.label) → start_of c.label ≤ end_of c.label → w.setting.text ≡ source
+    → IsUtf8 source
     → MayGoOn source w c
 may_go_on source tables nodes w c f k starts ordered text utf8 = record {
   here = goes_on_here source tables nodes c f k;
@@ -220,11 +243,14 @@ may_go_on source tables nodes w c f k starts ordered text utf8 = record {
       ∙ (sym (get_or-take w.above.block_end w.setting.text (t.ends - 1) 0 below) ∙ closes.closed) in
       goes_on_closed source tables nodes c f k t.ends utf8 closes.after inside_text byte;
   labelled = λ i h. goes_on_there source tables nodes c f k i
-      (ends_there source tables nodes i f (subst (λ (rest : Forest (Label ℕ)). closer_ends_at i rest ≡ true) k.rest_is h));
+      (ends_there source tables nodes i f
+      (subst (λ (rest : Forest (Label ℕ)). closer_ends_at i rest ≡ true) k.rest_is h));
   emptied = λ e.
-      let stands = collapsed_stands (footnote_style w.setting.rules.options) (lines w) w.above.in_table (block_text w) (end_of c.label)
+      let stands = collapsed_stands (footnote_style w.setting.rules.options) (lines w) w.above.in_table (block_text w)
+      (end_of c.label)
       (option_map as_item (first_root c.rest)) (option_map as_item (first_root (past_second c.rest))) e in
-      let closes = subst (λ (rest : Forest (Label ℕ)). stands_at (end_of c.label + 1) is_closer (option_map as_item (first_root (past_second rest))) ≡ true) k.rest_is
+      let closes = subst (λ (rest : Forest (Label ℕ)). stands_at (end_of c.label + 1) is_closer
+      (option_map as_item (first_root (past_second rest))) ≡ true) k.rest_is
       stands
       in
       let there = second_ends source tables nodes (end_of c.label + 1) f closes k.placed in
@@ -237,7 +263,8 @@ may_go_on source tables nodes w c f k starts ordered text utf8 = record {
       (λ u l b. shows_well w g (start_of c.label) v u l b e) utf8 lies starts;
   names = λ g v e.
       named_later source g (start_of c.label) (end_of c.label) v.name ordered
-      (subst (λ (bytes : List ℕ). IsNamedIn bytes g (start_of c.label) v.name) text (names_slice w g (start_of c.label) v e));
+      (subst (λ (bytes : List ℕ). IsNamedIn bytes g (start_of c.label) v.name) text
+      (names_slice w g (start_of c.label) v e));
 }
   where
     first_ends : (g : Forest ℕ) (a : Label ℕ) (below after : Forest (Label ℕ)) → StandsBehind source tables nodes c g
@@ -253,15 +280,19 @@ may_go_on source tables nodes w c f k starts ordered text utf8 = record {
           follows = refl;
           ends = refl;
         } in
-        subst (λ (b : Label ℕ). CanGoOn source c (end_of b)) same (goes_on_there source tables nodes c (node ix inner later) k
+        subst (λ (b : Label ℕ). CanGoOn source c (end_of b)) same
+        (goes_on_there source tables nodes c (node ix inner later) k
         (item_at nodes ix).end there)
 
 -- what a `]` becomes after a left list ends well
-pub ends_well : (source : List ℕ) (tables : Tables) (nodes : List (Node Item)) (first closer : ℕ) (left : List (Entry ℕ)) (w : Around)
+pub ends_well : (source : List ℕ) (tables : Tables) (nodes : List (Node Item)) (first closer : ℕ)
+    (left : List (Entry ℕ)) (w : Around)
     (c : Closing ℕ)
     (p : Progress ℕ) (becomes : Becomes ℕ) (q : Progress ℕ) → StandsTo source tables nodes first (Some closer) left
-    → c.label ≡ numbered_label source tables nodes closer → c.rest ≡ numbered_from source tables nodes (sibling_of nodes closer)
-    → w.setting.text ≡ source → IsUtf8 source → p.left ≡ left → decided w c p ≡ record { becomes = becomes; progress = q }
+    → c.label ≡ numbered_label source tables nodes closer → c.rest
+    ≡ numbered_from source tables nodes (sibling_of nodes closer)
+    → w.setting.text ≡ source → IsUtf8 source → p.left ≡ left → decided w c p
+    ≡ record { becomes = becomes; progress = q }
     → EndsWell source c becomes
 ends_well source tables nodes first closer left w c p becomes q h label rest text utf8 stands e =
     let o = opens_chain source tables nodes closer (stands_rest source tables nodes first (Some closer) left h) in
@@ -276,6 +307,7 @@ ends_well source tables nodes first closer left w c p becomes q h label rest tex
     } in
     let may = may_go_on source tables nodes w c f k (subst (IsCharBoundary source) start o.placed.lies.start)
     (rw label o.placed.lies.ordered) text utf8 in
-    let lies : AllLie source (trees_onto p.left nil) = subst (λ (l : List (Entry ℕ)). AllLie source (trees_onto l nil)) (sym stands)
+    let lies : AllLie source (trees_onto p.left nil) = subst (λ (l : List (Entry ℕ)). AllLie source (trees_onto l nil))
+    (sym stands)
     (left_lies source tables nodes first (Some closer) left h) in
     subst (λ (d : Decision ℕ). EndsWell source c d.becomes) e (decided_well source w c may p lies)

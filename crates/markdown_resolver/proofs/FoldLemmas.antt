@@ -1,6 +1,7 @@
 -- What was inside went below the opener's node in some form, and the closer follows that: the chain as it is then. What
 -- is below the opener is no more than was inside.
-use Rattle.std.proofs.Common.{◌≡◌, ℕ, zero, suc, ◌+◌, ◌<◌, ◌≤◌, true, false, List, [], ◌∷◌, ◌++◌, length, Some, refl, sym, ap, ◌∙◌, arith}
+use Rattle.std.proofs.Common.{◌≡◌, ℕ, zero, suc, ◌+◌, ◌<◌, ◌≤◌, true, false, List, [], ◌∷◌, ◌++◌, length, Some, refl}
+use Rattle.std.proofs.Common.{sym, ap, ◌∙◌, arith}
 use Rattle.std.proofs.Common.{nat_le}
 use Rattle.std.proofs.lemmas.Bool.Decides.{nat_tests}
 use Rattle.markdown_base.specs.Arena.{child_of, sibling_of}
@@ -26,27 +27,30 @@ use Rattle.markdown_resolver.specs.ClosedOver.{first_trees, trees_past, last_ins
 use Rattle.markdown_resolver.specs.Rewritten.{first_past}
 use Rattle.markdown_resolver.proofs.ChainOrderLemmas.{AllPast, StandsPast, rest_past}
 use Rattle.markdown_resolver.proofs.ComposeLemmas.{Stands, Moves}
-use Rattle.markdown_resolver.proofs.EncloseLemmas.{OpensAt, opens_at, enclosed_moves, inside_forest, read_past, rest_kept, spelled_past}
+use Rattle.markdown_resolver.proofs.EncloseLemmas.{OpensAt, opens_at, enclosed_moves, inside_forest, read_past}
+use Rattle.markdown_resolver.proofs.EncloseLemmas.{rest_kept, spelled_past}
 use Rattle.markdown_resolver.proofs.EncloseLemmas.{total_equal, total_parts}
 use Rattle.markdown_resolver.proofs.PutLemmas.{first_kept, first_there, no_run_here}
 use Rattle.markdown_resolver.proofs.PutPairLemmas.{past_at}
 
 -- the chain after an opener's node, of which the first k trees are inside
-pub record IsFolded (source : List ℕ) (tables : Tables) (old new : List (Node Item)) (opener closer k : ℕ) : Type 0 where
-  pub size : length new ≡ length old
-  pub item_is : item_at new opener ≡ item_at old opener
-  pub next_is : sibling_of new opener ≡ Some closer
-  -- what is below it then
-  pub below : Stands source tables new (child_of new opener)
-  pub below_of : (n : ℕ) → times_in new (child_of new opener) n ≤ total (same n)
-      (first_trees k (forest_at (links_of old) (sibling_of old opener)))
-  pub below_named : (n : Named) → named_in new (child_of new opener) n ≤ total (naming old n)
-      (first_trees k (forest_at (links_of old) (sibling_of old opener)))
-  pub below_weight : weight_in new (child_of new opener) ≤ total (weight_at old)
-      (first_trees k (forest_at (links_of old) (sibling_of old opener)))
-  -- from the closer on all is unchanged, and so is what is not of the chain
-  pub behind : (n : ℕ) → 0 < total (same n) (trees_past k (forest_at (links_of old) (sibling_of old opener))) → IsSameAt old new n
-  pub outside : (n : ℕ) → n < length old → times_in old (Some opener) n ≡ 0 → IsSameAt old new n
+pub record IsFolded (source : List ℕ) (tables : Tables) (old new : List (Node Item)) (opener closer k : ℕ) : Type 0
+  where
+    pub size : length new ≡ length old
+    pub item_is : item_at new opener ≡ item_at old opener
+    pub next_is : sibling_of new opener ≡ Some closer
+    -- what is below it then
+    pub below : Stands source tables new (child_of new opener)
+    pub below_of : (n : ℕ) → times_in new (child_of new opener) n ≤ total (same n)
+        (first_trees k (forest_at (links_of old) (sibling_of old opener)))
+    pub below_named : (n : Named) → named_in new (child_of new opener) n ≤ total (naming old n)
+        (first_trees k (forest_at (links_of old) (sibling_of old opener)))
+    pub below_weight : weight_in new (child_of new opener) ≤ total (weight_at old)
+        (first_trees k (forest_at (links_of old) (sibling_of old opener)))
+    -- from the closer on all is unchanged, and so is what is not of the chain
+    pub behind : (n : ℕ) → 0 < total (same n) (trees_past k (forest_at (links_of old) (sibling_of old opener)))
+        → IsSameAt old new n
+    pub outside : (n : ℕ) → n < length old → times_in old (Some opener) n ≡ 0 → IsSameAt old new n
 
 each_past : (p : ℕ → Type 0) (k : ℕ) (f : Forest ℕ) → Each p f → Each p (trees_past k f)
 each_past p zero f e = e
@@ -54,29 +58,34 @@ each_past p (suc k) nil e = e
 each_past p (suc k) (node ix below after) e = each_past p k after e.2
 
 -- the first nodes of a chain; each counts in a sum over it
-pub first_roots : (inside rest : List ℕ) (f : Forest ℕ) → roots f ≡ inside ++ rest → roots (first_trees (length inside) f) ≡ inside
+pub first_roots : (inside rest : List ℕ) (f : Forest ℕ) → roots f ≡ inside ++ rest
+    → roots (first_trees (length inside) f) ≡ inside
 first_roots [] rest f e = refl
 first_roots (x ∷ inside) rest nil e = cc e
 first_roots (x ∷ inside) rest (node n below after) e =
     let is : n ≡ x = cc e in
     rw is (ap (λ (ns : List ℕ). x ∷ ns) (first_roots inside rest after (cc e)))
 
-pub counted_among : (count : ℕ → ℕ) (n : ℕ) (before after : List ℕ) (f : Forest ℕ) → roots f ≡ before ++ n ∷ after → count n ≤ total count f
+pub counted_among : (count : ℕ → ℕ) (n : ℕ) (before after : List ℕ) (f : Forest ℕ) → roots f ≡ before ++ n ∷ after
+    → count n ≤ total count f
 counted_among count n [] after nil e = cc e
 counted_among count n [] after (node m below rest) e =
     let is : m ≡ n = cc e in
     let one : count n ≡ count m = ap count (sym is) in
     omega (arith, one)
 counted_among count n (x ∷ before) after nil e = cc e
-counted_among count n (x ∷ before) after (node m below rest) e = omega (arith, counted_among count n before after rest (cc e))
+counted_among count n (x ∷ before) after (node m below rest) e = omega
+    (arith, counted_among count n before after rest (cc e))
 
 -- of numbers past a number, those after others; and those whose items stay
-past_behind : (nodes : List (Node Item)) (low byte : ℕ) (before after : List ℕ) → AllPast nodes low byte (before ++ after)
+past_behind : (nodes : List (Node Item)) (low byte : ℕ) (before after : List ℕ)
+    → AllPast nodes low byte (before ++ after)
     → AllPast nodes low byte after
 past_behind nodes low byte [] after h = h
 past_behind nodes low byte (n ∷ before) after h = past_behind nodes low byte before after h.1
 
-past_kept : (old new : List (Node Item)) (low byte : ℕ) (f : Forest ℕ) → ((n : ℕ) → 0 < total (same n) f → item_at new n ≡ item_at old n)
+past_kept : (old new : List (Node Item)) (low byte : ℕ) (f : Forest ℕ)
+    → ((n : ℕ) → 0 < total (same n) f → item_at new n ≡ item_at old n)
     → AllPast old low byte (roots f)
     → AllPast new low byte (roots f)
 past_kept old new low byte nil kept all = tt
@@ -146,28 +155,34 @@ module _ (source : List ℕ) (tables : Tables) (old : List (Node Item)) (opener 
   pub behind_is : forest_at (links_of old) (sibling_of old closer) ≡ trees_past (suc k) f
   behind_is = let both = sym behind_opened.here ∙ closer_forest ∙ closer_opens.is in cc both
 
-  pub next_behind : first_past old byte can.after ≡ first_past old byte (roots (forest_at (links_of old) (sibling_of old closer)))
+  pub next_behind : first_past old byte can.after
+      ≡ first_past old byte (roots (forest_at (links_of old) (sibling_of old closer)))
   next_behind = ap (λ (ns : List ℕ). first_past old byte ns)
       (sym closer_opens.follow ∙ ap (λ (g : Forest ℕ). roots g) (sym behind_is))
 
   -- where all from the closer on stays, it reads as it did
-  module _ (new : List (Node Item)) (size : length new ≡ length old) (behind : (n : ℕ) → 0 < total (same n) (trees_past k f)
+  module _ (new : List (Node Item)) (size : length new ≡ length old)
+      (behind : (n : ℕ) → 0 < total (same n) (trees_past k f)
       → IsSameAt old new n) where
     pub behind_framed : Framed source tables tables old new (Some closer)
     behind_framed =
-        framed source tables tables old new (Some closer) (omega (arith, size)) (grown-longer tables tables (grown-nothing tables))
+        framed source tables tables old new (Some closer) (omega (arith, size))
+        (grown-longer tables tables (grown-nothing tables))
         closer_reaches
-        (rw closer_forest (stay_throughout tables tables old new (trees_past k f) refl behind (λ n l. same_entry-refl tables n)))
+        (rw closer_forest (stay_throughout tables tables old new (trees_past k f) refl behind
+        (λ n l. same_entry-refl tables n)))
 
     pub behind_forest : forest_at (links_of new) (Some closer) ≡ trees_past k f
     behind_forest = behind_framed.forest ∙ closer_forest
 
-    pub behind_reads : trees_from source tables new (Some closer) ≡ trees_past k (trees_from source tables old (sibling_of old opener))
+    pub behind_reads : trees_from source tables new (Some closer)
+        ≡ trees_past k (trees_from source tables old (sibling_of old opener))
     behind_reads = behind_framed.trees ∙ ap (λ (g : Forest ℕ). relabelled (label_at source tables old) g) closer_forest
         ∙ read_past (label_at source tables old) k f
 
     -- the first past a byte offset after the closer is the same
-    pub first_behind : first_past new byte (roots (forest_at (links_of new) (Some closer))) ≡ first_past old byte can.after
+    pub first_behind : first_past new byte (roots (forest_at (links_of new) (Some closer)))
+        ≡ first_past old byte can.after
     first_behind =
         let ends = can.closer_ends in
         let test : nat_le (item_at old closer).end byte ≡ true = grind (arith, nat_tests, ends) in
@@ -183,11 +198,13 @@ module _ (source : List ℕ) (tables : Tables) (old : List (Node Item)) (opener 
         (rest_past source tables old opener can.ready) in
         let some : AllPast old opener (item_at old opener).end (roots (trees_past k f)) = rw closer_roots
         (past_behind old opener (item_at old opener).end inside (closer ∷ can.after) all) in
-        rw behind_forest (past_kept old new opener (item_at old opener).end (trees_past k f) (λ n l. (behind n l).item) some)
+        rw behind_forest (past_kept old new opener (item_at old opener).end (trees_past k f) (λ n l. (behind n l).item)
+        some)
 
     pub item_behind : (n : ℕ) → first_past old byte can.after ≡ Some n → item_at new n ≡ item_at old n
     item_behind n e =
-        let there : first_past new byte (roots (trees_past k f)) ≡ Some n = ap (λ (g : Forest ℕ). first_past new byte (roots g))
+        let there : first_past new byte (roots (trees_past k f))
+        ≡ Some n = ap (λ (g : Forest ℕ). first_past new byte (roots g))
         (sym behind_forest) ∙ first_behind ∙ e in
         (behind n (first_there new byte n (trees_past k f) there)).item
 
@@ -207,12 +224,14 @@ module _ (source : List ℕ) (tables : Tables) (old : List (Node Item)) (opener 
     now_times n =
         let below = v.below_of n in
         let parts = total_parts (same n) k f in
-        let behind : times_in new (Some closer) n ≡ total (same n) (trees_past k f) = ap (λ (g : Forest ℕ). total (same n) g)
+        let behind : times_in new (Some closer) n
+        ≡ total (same n) (trees_past k f) = ap (λ (g : Forest ℕ). total (same n) g)
         (behind_forest new v.size v.behind) in
         omega (arith, below, parts, behind)
 
     now_here : forest_at (links_of new) (Some opener) ≡ now
-    now_here = found (links_of new) (Some opener) now now_spelled (λ n. let z = stands_once n in let t = now_times n in omega arith)
+    now_here = found (links_of new) (Some opener) now now_spelled
+        (λ n. let z = stands_once n in let t = now_times n in omega arith)
 
     now_named : (n : Named) → total (naming new n) now ≤ total (naming old n) (node opener nil f)
     now_named n =
@@ -239,9 +258,11 @@ module _ (source : List ℕ) (tables : Tables) (old : List (Node Item)) (opener 
           named = rw v.item_is p.named;
           slices = rw v.item_is p.slices;
           keeps = record {
-            in_order = rw v.next_is (λ x y. record { ends = rw (v.item_is, at.item) closer_past.start; numbers = closer_past.number });
+            in_order = rw v.next_is
+                (λ x y. record { ends = rw (v.item_is, at.item) closer_past.start; numbers = closer_past.number });
             markup_is_there = rw v.item_is p.keeps.markup_is_there;
-            runs_are_whole = no_run_here source (numbered new opener) (next_at new opener) (rw v.item_is can.opener_closed);
+            runs_are_whole = no_run_here source (numbered new opener) (next_at new opener)
+                (rw v.item_is can.opener_closed);
             childless = λ e. absurd (let no : true ≡ false = sym e ∙ (rw v.item_is can.opener_closed) in cc no);
           };
         }
@@ -269,7 +290,8 @@ module _ (source : List ℕ) (tables : Tables) (old : List (Node Item)) (opener 
         }
 
 -- what is enclosed is folded
-pub enclosed_folds : (source : List ℕ) (tables : Tables) (old new : List (Node Item)) (opener last closer : ℕ) (inside : List ℕ) (byte : ℕ)
+pub enclosed_folds : (source : List ℕ) (tables : Tables) (old new : List (Node Item)) (opener last closer : ℕ)
+    (inside : List ℕ) (byte : ℕ)
     → CanClose source tables old opener closer inside byte
     → last_inside opener inside ≡ last → IsEnclosed old new opener last closer
     → IsFolded source tables old new opener closer (length inside)
@@ -288,9 +310,11 @@ enclosed_folds source tables old new opener last closer inside byte can is v =
         named_once = λ n. let x = rw o.here at (m.stands.named_once n) in omega arith;
       };
       below_of = λ n. rw here (omega arith);
-      below_named = λ n. rw here (let e = total_equal (naming old n) (naming new n) g (λ m. ap (λ (x : Item). times_named n x.body)
+      below_named = λ n. rw here
+          (let e = total_equal (naming old n) (naming new n) g (λ m. ap (λ (x : Item). times_named n x.body)
           (v.items m)) in omega (arith, e));
-      below_weight = rw here (let e = total_equal (weight_at old) (weight_at new) g (λ m. ap (λ (x : Item). weight_if (is_open x.body))
+      below_weight = rw here
+          (let e = total_equal (weight_at old) (weight_at new) g (λ m. ap (λ (x : Item). weight_if (is_open x.body))
           (v.items m)) in omega (arith, e));
       behind = rest_kept source tables old new opener last closer inside byte can is v;
       outside = m.outside;

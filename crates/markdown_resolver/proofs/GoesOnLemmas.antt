@@ -1,13 +1,15 @@
 -- The byte offsets at which the chain after a `]` can continue, as its items are in an arena: after the `]` itself,
 -- where a later item ends, and after a `)`. Each is between characters, and no open item has bytes on both sides of it:
 -- items are one after the other, and an open item covers its markup, in which there is no `)`.
-use Rattle.std.proofs.Common.{◌≡◌, ℕ, ◌+◌, ◌-◌, ◌<◌, ◌≤◌, Bool, true, false, ◌==◌, ◌&&◌, List, [], ◌∷◌, ◌++◌, Option, Some, None, IsUtf8}
+use Rattle.std.proofs.Common.{◌≡◌, ℕ, ◌+◌, ◌-◌, ◌<◌, ◌≤◌, Bool, true, false, ◌==◌, ◌&&◌, List, [], ◌∷◌, ◌++◌, Option}
+use Rattle.std.proofs.Common.{Some, None, IsUtf8}
 use Rattle.std.proofs.Common.{length, drop, get_or, refl, sym, ap, ◌∙◌, subst, arith}
 use Rattle.std.specs.Prelude.{IfSome, if◌then◌else◌, nat_le, nat_lt, slice_range}
 use Rattle.std.specs.Str.{IsCharBoundary}
 use Rattle.std.proofs.lemmas.Bool.{eqb-true}
 use Rattle.std.proofs.lemmas.Bool.Decides.{nat_tests}
-use Rattle.std.proofs.lemmas.List.{get_or-drop, get_or-replicate, get_or-take, length-drop, length-replicate, length-take}
+use Rattle.std.proofs.lemmas.List.{get_or-drop, get_or-replicate, get_or-take, length-drop, length-replicate}
+use Rattle.std.proofs.lemmas.List.{length-take}
 use Rattle.std.proofs.lemmas.Str.{IsCharBoundary-after_ascii}
 use Rattle.markdown_base.specs.ArenaRules.{next_at}
 use Rattle.markdown_base.specs.BlockTree.{Numbered, numbered, item_at}
@@ -22,7 +24,8 @@ use Rattle.markdown_base.specs.declared.node.Node.{Node}
 use Rattle.markdown_brackets.specs.BracketDecision.{Closing, closer_ends_at, past_second}
 use Rattle.markdown_brackets.specs.Reference.{is_closer, stands_at}
 use Rattle.markdown_document.specs.ChainRest.{as_item, end_of, open_body}
-use Rattle.markdown_document.specs.Document.{Shape, backslash_break, enclosed, is_unresolved, leaf, plain, shape_of, unresolved}
+use Rattle.markdown_document.specs.Document.{Shape, backslash_break, enclosed, is_unresolved, leaf, plain, shape_of}
+use Rattle.markdown_document.specs.Document.{unresolved}
 use Rattle.markdown_document.specs.PlacedNodes.{IsPlaced}
 use Rattle.markdown_document.specs.Tables.{Tables}
 use Rattle.markdown_document.proofs.PlaceLemmas.{open-unresolved, shape-open}
@@ -32,18 +35,22 @@ use Rattle.markdown_resolver.specs.Rewritten.{first_past}
 use Rattle.markdown_resolver.proofs.FollowersLemmas.{InOrder, each_root, nothing_around, order_around}
 
 -- an open item with these bytes has no `)` before its last one
-none_open : (bytes : List ℕ) (k : ℕ) (b : ItemBody) → k + 1 < length bytes → get_or bytes k 0 ≡ 41 → StandsOverMarkup bytes b
+none_open : (bytes : List ℕ) (k : ℕ) (b : ItemBody) → k + 1 < length bytes → get_or bytes k 0 ≡ 41
+    → StandsOverMarkup bytes b
     → IfSome (run_character b) (λ c. length bytes ≡ 1) → is_open b ≡ false
 none_open bytes k (body.MaybeEmphasis count opens closes) within closed markup run = absurd (omega (arith, run, within))
-none_open bytes k (body.MaybeMath opens closes context) within closed markup run = absurd (omega (arith, ap length markup, within))
-none_open bytes k (body.MaybeSmartQuote quote opens closes) within closed markup run = absurd (omega (arith, ap length markup.0, within))
+none_open bytes k (body.MaybeMath opens closes context) within closed markup run = absurd
+    (omega (arith, ap length markup, within))
+none_open bytes k (body.MaybeSmartQuote quote opens closes) within closed markup run = absurd
+    (omega (arith, ap length markup.0, within))
 none_open bytes k (body.MaybeCode count escaped) within closed markup run =
     let size : length bytes ≡ count = ap length markup.0 ∙ length-replicate count 96 in
     let here : k < count = omega (arith, size, within) in
     absurd (omega (arith, closed, ap (λ (xs : List ℕ). get_or xs k 0) markup.0 ∙ get_or-replicate count k 96 0 here))
 none_open bytes k body.MaybeHtml within closed markup run = absurd (omega (arith, ap length markup, within))
 none_open bytes k body.MaybeLinkOpen within closed markup run = absurd (omega (arith, ap length markup, within))
-none_open bytes k (body.MaybeLinkClose could_be) within closed markup run = absurd (omega (arith, ap length markup, within))
+none_open bytes k (body.MaybeLinkClose could_be) within closed markup run = absurd
+    (omega (arith, ap length markup, within))
 none_open bytes k body.MaybeImage within closed markup run =
     let size : length bytes ≡ 2 = ap length markup in
     let first : k ≡ 0 = omega (arith, size, within) in
@@ -59,12 +66,15 @@ one_byte source a next None bytes e h = tt
 one_byte source a next (Some c) bytes e h = omega (arith, e, h.one_byte)
 
 -- an item has as many bytes as its range is long
-pub size_there : (source : List ℕ) (start end : ℕ) → end ≤ length source → length (slice_range source start end) ≡ end - start
-size_there source start end within = omega (arith, length-take (end - start) (drop start source), length-drop start source, within)
+pub size_there : (source : List ℕ) (start end : ℕ) → end ≤ length source → length (slice_range source start end)
+    ≡ end - start
+size_there source start end within = omega
+    (arith, length-take (end - start) (drop start source), length-drop start source, within)
 
 -- so no open item has bytes both before and after an offset that follows a `)`
 none_cut : (source : List ℕ) (tables : Tables) (nodes : List (Node Item)) (n i : ℕ) → IsPlaced source tables nodes n
-    → get_or source (i - 1) 0 ≡ 41 → (item_at nodes n).start < i → i < (item_at nodes n).end → is_open (item_at nodes n).body ≡ false
+    → get_or source (i - 1) 0 ≡ 41 → (item_at nodes n).start < i → i < (item_at nodes n).end
+    → is_open (item_at nodes n).body ≡ false
 none_cut source tables nodes n i placed closed starts ends =
     let item = item_at nodes n in
     let bytes = slice_range source item.start item.end in
@@ -76,19 +86,23 @@ none_cut source tables nodes n i placed closed starts ends =
     get_or-take (item.end - item.start) (drop item.start source) k 0 below
     ∙ (get_or-drop item.start source k 0 ∙ (ap (λ j. get_or source j 0) place ∙ closed)) in
     none_open bytes k item.body (omega (arith, size, starts, ends)) byte placed.keeps.markup_is_there
-    (one_byte source (numbered nodes n) (next_at nodes n) (run_character item.body) bytes size placed.keeps.runs_are_whole)
+    (one_byte source (numbered nodes n) (next_at nodes n) (run_character item.body) bytes size
+    placed.keeps.runs_are_whole)
 
 -- the first that ends past a byte offset after which all start there or later
-first_starts : (nodes : List (Node Item)) (i j n : ℕ) (xs : List ℕ) → i ≤ j → InOrder nodes j xs → first_past nodes i xs ≡ Some n
+first_starts : (nodes : List (Node Item)) (i j n : ℕ) (xs : List ℕ) → i ≤ j → InOrder nodes j xs → first_past nodes i xs
+    ≡ Some n
     → i ≤ (item_at nodes n).start
 first_starts nodes i j n [] le h first = cc first
 first_starts nodes i j n (x ∷ after) le h first =
-    by (nat_le (item_at nodes x).end i) first (first_starts nodes i (item_at nodes x).end n after (omega (arith, le, h.0, h.1)) h.2)
+    by (nat_le (item_at nodes x).end i) first
+    (first_starts nodes i (item_at nodes x).end n after (omega (arith, le, h.0, h.1)) h.2)
   where
     by : (ended : Bool) → (if ended then first_past nodes i after else Some x) ≡ Some n
         → (first_past nodes i after ≡ Some n → i ≤ (item_at nodes n).start) → i ≤ (item_at nodes n).start
     by true found later = later found
-    by false found later = let same : x ≡ n = cc found in let here : i ≤ (item_at nodes x).start = omega (arith, le, h.0)
+    by false found later = let same : x ≡ n = cc found in let here : i ≤ (item_at nodes x).start = omega
+        (arith, le, h.0)
         in subst (λ m. i ≤ (item_at nodes m).start) same here
 
 -- and it is one of them
@@ -99,7 +113,8 @@ first_placed source tables nodes i n nil p e = cc e
 first_placed source tables nodes i n (node ix below after) p e = by (nat_le (item_at nodes ix).end i) refl e
     (first_placed source tables nodes i n after p.2)
   where
-    by : (ended : Bool) → nat_le (item_at nodes ix).end i ≡ ended → (if ended then first_past nodes i (roots after) else Some ix) ≡ Some n
+    by : (ended : Bool) → nat_le (item_at nodes ix).end i ≡ ended
+        → (if ended then first_past nodes i (roots after) else Some ix) ≡ Some n
         → (first_past nodes i (roots after) ≡ Some n → IsPlaced source tables nodes n × (i < (item_at nodes n).end))
         → IsPlaced source tables nodes n × (i < (item_at nodes n).end)
     by true t e later = later e
@@ -109,7 +124,8 @@ first_placed source tables nodes i n (node ix below after) p e = by (nat_le (ite
         (subst (IsPlaced source tables nodes) same p.0, subst (λ (m : ℕ). i < (item_at nodes m).end) same past)
 
 -- what is not open reads as no open item
-closed_shape : (tables : Tables) (bytes : List ℕ) (b : ItemBody) → is_open b ≡ false → is_unresolved (shape_of tables bytes b) ≡ false
+closed_shape : (tables : Tables) (bytes : List ℕ) (b : ItemBody) → is_open b ≡ false
+    → is_unresolved (shape_of tables bytes b) ≡ false
 closed_shape tables bytes b closed = by (is_unresolved (shape_of tables bytes b)) refl
   where
     by : (open_there : Bool) → is_unresolved (shape_of tables bytes b) ≡ open_there → open_there ≡ false
@@ -124,7 +140,8 @@ shows_open plain h = cc h
 shows_open backslash_break h = cc h
 shows_open (unresolved b) h = refl
 
-shows_closer : (tables : Tables) (bytes : List ℕ) (b : ItemBody) → is_closer (open_body (shape_of tables bytes b)) ≡ true
+shows_closer : (tables : Tables) (bytes : List ℕ) (b : ItemBody) → is_closer (open_body (shape_of tables bytes b))
+    ≡ true
     → is_closer b ≡ true
 shows_closer tables bytes b h =
     let opens = open-unresolved tables bytes b (shows_open (shape_of tables bytes b) h) in
@@ -136,7 +153,8 @@ closer_long bytes (body.MaybeLinkClose could_be) h markup = ap length markup
 closer_long bytes other h markup = absurd (cc h)
 
 -- the chain after a `]`: its items follow it, one after the other
-pub record StandsBehind (source : List ℕ) (tables : Tables) (nodes : List (Node Item)) (c : Closing ℕ) (f : Forest ℕ) : Type 0 where
+pub record StandsBehind (source : List ℕ) (tables : Tables) (nodes : List (Node Item)) (c : Closing ℕ) (f : Forest ℕ)
+    : Type 0 where
   pub rest_is : c.rest ≡ relabelled (numbered_label source tables nodes) f
   pub placed : Each (IsPlaced source tables nodes) f
   pub ordered : InOrder nodes (end_of c.label) (roots f)
@@ -152,20 +170,24 @@ pub record EndsThere (nodes : List (Node Item)) (i : ℕ) (f : Forest ℕ) : Typ
 
 module _ (source : List ℕ) (tables : Tables) (nodes : List (Node Item)) where
   -- what is required of labels, by numbers
-  pub none_open_around : (i : ℕ) (f : Forest ℕ) → ((n : ℕ) → first_past nodes i (roots f) ≡ Some n → (item_at nodes n).start < i
+  pub none_open_around : (i : ℕ) (f : Forest ℕ)
+      → ((n : ℕ) → first_past nodes i (roots f) ≡ Some n → (item_at nodes n).start < i
       → is_open (item_at nodes n).body ≡ false)
       → NoneOpenAround i (relabelled (numbered_label source tables nodes) f)
   none_open_around i nil h = tt
   none_open_around i (node ix below after) h = by (nat_le (item_at nodes ix).end i) h (none_open_around i after)
     where
-      by : (ended : Bool) → ((n : ℕ) → (if ended then first_past nodes i (roots after) else Some ix) ≡ Some n → (item_at nodes n).start < i
+      by : (ended : Bool) → ((n : ℕ) → (if ended then first_past nodes i (roots after) else Some ix) ≡ Some n
+          → (item_at nodes n).start < i
           → is_open (item_at nodes n).body ≡ false)
-          → (((n : ℕ) → first_past nodes i (roots after) ≡ Some n → (item_at nodes n).start < i → is_open (item_at nodes n).body ≡ false)
+          → (((n : ℕ) → first_past nodes i (roots after) ≡ Some n → (item_at nodes n).start < i
+          → is_open (item_at nodes n).body ≡ false)
           → NoneOpenAround i (relabelled (numbered_label source tables nodes) after))
           → IsNotCut ended i (numbered_label source tables nodes ix)
           (NoneOpenAround i (relabelled (numbered_label source tables nodes) after))
       by true h later = later h
-      by false h later = λ starts. closed_shape tables (slice_range source (item_at nodes ix).start (item_at nodes ix).end)
+      by false h later = λ starts. closed_shape tables
+          (slice_range source (item_at nodes ix).start (item_at nodes ix).end)
           (item_at nodes ix).body (h ix refl starts)
 
   -- a `]` that ends there, by labels
@@ -177,7 +199,8 @@ module _ (source : List ℕ) (tables : Tables) (nodes : List (Node Item)) where
       ((item_at nodes ix).end == i) refl h (ends_there i after)
     where
       by : (before closes here : Bool) → ((item_at nodes ix).end == i) ≡ here
-          → (if before then closer_ends_at i (relabelled (numbered_label source tables nodes) after) else closes && here) ≡ true
+          → (if before then closer_ends_at i (relabelled (numbered_label source tables nodes) after) else closes &&
+          here) ≡ true
           → (closer_ends_at i (relabelled (numbered_label source tables nodes) after) ≡ true → EndsThere nodes i after)
           → EndsThere nodes i (node ix below after)
       by true closes here same h later =
@@ -209,7 +232,8 @@ module _ (source : List ℕ) (tables : Tables) (nodes : List (Node Item)) where
   second_ends p nil h placed = cc h
   second_ends p (node ix below nil) h placed = cc h
   second_ends p (node ix below (node n inner after)) h placed =
-      by ((item_at nodes n).start == p) (is_closer (open_body (numbered_label source tables nodes n).part.shape)) refl refl h
+      by ((item_at nodes n).start == p) (is_closer (open_body (numbered_label source tables nodes n).part.shape)) refl
+      refl h
     where
       by : (starts closes : Bool) → ((item_at nodes n).start == p) ≡ starts
           → is_closer (open_body (numbered_label source tables nodes n).part.shape) ≡ closes → (starts && closes) ≡ true
@@ -221,7 +245,14 @@ module _ (source : List ℕ) (tables : Tables) (nodes : List (Node Item)) where
           let size = size_there source item.start item.end at.lies.end.0 in
           let long = closer_long bytes item.body (shows_closer tables bytes item.body t) at.keeps.markup_is_there in
           let starts = eqb-true item.start p s in
-          record { before = ix ∷ []; item = n; after = roots after; follows = refl; ends = omega (arith, size, long, starts) }
+          record {
+            before = ix ∷ [];
+            item = n;
+            after = roots after;
+            follows = refl;
+            ends = omega
+                (arith, size, long, starts);
+          }
       by true false s t h = cc h
       by false closes s t h = cc h
 
@@ -244,15 +275,18 @@ module _ (source : List ℕ) (tables : Tables) (nodes : List (Node Item)) where
     -- where a later item ends
     pub goes_on_there : (i : ℕ) → EndsThere nodes i f → CanGoOn source c i
     goes_on_there i there =
-        let order : InOrder nodes (end_of c.label) (there.before ++ there.item ∷ there.after) = subst (InOrder nodes (end_of c.label))
+        let order : InOrder nodes (end_of c.label) (there.before ++ there.item ∷ there.after) = subst
+        (InOrder nodes (end_of c.label))
         there.follows k.ordered in
         let o = order_around nodes (end_of c.label) there.before there.item there.after order in
-        let placed = each_root (IsPlaced source tables nodes) f there.before there.item there.after k.placed there.follows in
+        let placed = each_root (IsPlaced source tables nodes) f there.before there.item there.after k.placed
+        there.follows in
         record {
           behind = omega (arith, o.from, o.ordered, there.ends);
           between = subst (IsCharBoundary source) there.ends placed.lies.end;
           none_around = around_here i (λ n first starts.
-              let e : first_past nodes (item_at nodes there.item).end (there.before ++ there.item ∷ there.after) ≡ Some n =
+              let e : first_past nodes (item_at nodes there.item).end (there.before ++ there.item ∷ there.after)
+              ≡ Some n =
               ap (λ (j : ℕ). first_past nodes j (there.before ++ there.item ∷ there.after)) there.ends
               ∙ ap (first_past nodes i) (sym there.follows) ∙ first in
               let from = nothing_around nodes (end_of c.label) there.before there.item there.after n order e in
@@ -268,7 +302,8 @@ module _ (source : List ℕ) (tables : Tables) (nodes : List (Node Item)) where
         let low : get_or source (i - 1) 0 < 128 = omega (arith, closed) in
         record {
           behind = omega (arith, after);
-          between = subst (IsCharBoundary source) place (IsCharBoundary-after_ascii source (i - 1) utf8 inside_text low);
+          between = subst (IsCharBoundary source) place
+              (IsCharBoundary-after_ascii source (i - 1) utf8 inside_text low);
           none_around = around_here i (λ n first starts.
               let found = first_placed source tables nodes i n f k.placed first in
               none_cut source tables nodes n i found.0 closed starts found.1);

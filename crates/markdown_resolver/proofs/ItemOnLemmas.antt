@@ -1,6 +1,7 @@
 -- From what was put in place for an item that is not a bracket to how far the chain was read: the trees there follow
 -- the left list, no question was asked, and what is left is what the rule for the item leaves.
-use Rattle.std.proofs.Common.{◌≡◌, ℕ, ◌+◌, Bool, true, false, List, [], ◌∷◌, Option, Some, None, refl, sym, ap, ◌∙◌, append-nil}
+use Rattle.std.proofs.Common.{◌≡◌, ℕ, ◌+◌, Bool, true, false, List, [], ◌∷◌, Option, Some, None, refl, sym, ap, ◌∙◌}
+use Rattle.std.proofs.Common.{append-nil}
 use Rattle.markdown_base.specs.Arena.{child_of, sibling_of}
 use Rattle.markdown_base.specs.BlockTree.{item_at}
 use Rattle.markdown_base.specs.Forest.{Forest, nil, node}
@@ -23,7 +24,8 @@ use Rattle.markdown_spans.specs.Finds.{Passed}
 use Rattle.markdown_delims.proofs.PairingLemmas.{closed_shape}
 use Rattle.markdown_resolver.specs.declared.rest.Rest.{Rest}
 use Rattle.markdown_resolver.specs.PutsTrees.{without_numbers}
-use Rattle.markdown_resolver.specs.ReadOn.{AreHeld, PutsBehind, ReadsOn, StandsTo, all_read, at_left, left_without_numbers}
+use Rattle.markdown_resolver.specs.ReadOn.{AreHeld, PutsBehind, ReadsOn, StandsTo, all_read, at_left}
+use Rattle.markdown_resolver.specs.ReadOn.{left_without_numbers}
 use Rattle.markdown_resolver.specs.ReadsItem.{ReadsItem, read_at}
 use Rattle.markdown_resolver.proofs.BehindLemmas.{puts_behind}
 use Rattle.markdown_resolver.proofs.FollowersLemmas.{opens_chain}
@@ -31,7 +33,8 @@ use Rattle.markdown_resolver.proofs.PassOneLemmas.{NoBracket, closed_no_bracket,
 use Rattle.markdown_resolver.proofs.StandsToLemmas.{stands_rest}
 
 -- the shape of an item that is not a bracket is not that of one
-pub shape_no_bracket : (tables : Tables) (source : List ℕ) (b : ItemBody) → NoBracket b → NoBracket (open_body (shape_of tables source b))
+pub shape_no_bracket : (tables : Tables) (source : List ℕ) (b : ItemBody) → NoBracket b
+    → NoBracket (open_body (shape_of tables source b))
 shape_no_bracket tables source b h = by_open (is_open b) refl
   where
     by_open : (x : Bool) → is_open b ≡ x → NoBracket (open_body (shape_of tables source b))
@@ -44,15 +47,18 @@ pub done_unnumbered : (trees : Forest (Label ℕ)) (left : List (Entry ℕ)) →
 done_unnumbered nil left = refl
 done_unnumbered (node a below after) left = done_unnumbered after (done a below ∷ left)
 
-done_brackets : (trees : Forest (Label ℕ)) (left : List (Entry ℕ)) → brackets_of (all_done trees left) ≡ brackets_of left
+done_brackets : (trees : Forest (Label ℕ)) (left : List (Entry ℕ)) → brackets_of (all_done trees left)
+    ≡ brackets_of left
 done_brackets nil left = refl
 done_brackets (node a below after) left = done_brackets after (done a below ∷ left)
 
-done_wikilinks : (trees : Forest (Label ℕ)) (left : List (Entry ℕ)) → wikilinks_of (all_done trees left) ≡ wikilinks_of left
+done_wikilinks : (trees : Forest (Label ℕ)) (left : List (Entry ℕ)) → wikilinks_of (all_done trees left)
+    ≡ wikilinks_of left
 done_wikilinks nil left = refl
 done_wikilinks (node a below after) left = done_wikilinks after (done a below ∷ left)
 
-pub held_done : (trees : Forest (Label ℕ)) (left : List (Entry ℕ)) (brackets wikilinks : List Waiting) → AreHeld brackets wikilinks left
+pub held_done : (trees : Forest (Label ℕ)) (left : List (Entry ℕ)) (brackets wikilinks : List Waiting)
+    → AreHeld brackets wikilinks left
     → AreHeld brackets wikilinks (all_done trees left)
 held_done trees left brackets wikilinks held = record {
   brackets_are = held.brackets_are ∙ sym (done_brackets trees left);
@@ -60,10 +66,13 @@ held_done trees left brackets wikilinks held = record {
 }
 
 -- an item that is not a bracket was read
-pub reads_on_item : {C : Type 0} (step : C → Question → Option Answer → C → Type 0) (s : Setting) (above : Above) (first ix : ℕ)
+pub reads_on_item : {C : Type 0} (step : C → Question → Option Answer → C → Type 0) (s : Setting) (above : Above)
+    (first ix : ℕ)
     (rest : Rest) (left : List (Entry ℕ)) (old new : Stage C)
-    (spent : SpentEnds) (brackets wikilinks : List Waiting) → new ≡ record old { nodes = new.nodes; tables = new.tables }
-    → StandsTo s.text old.tables old.nodes first (Some ix) left → AreHeld brackets wikilinks left → NoBracket (item_at old.nodes ix).body
+    (spent : SpentEnds) (brackets wikilinks : List Waiting) → new
+    ≡ record old { nodes = new.nodes; tables = new.tables }
+    → StandsTo s.text old.tables old.nodes first (Some ix) left → AreHeld brackets wikilinks left
+    → NoBracket (item_at old.nodes ix).body
     → ReadsItem s above ix rest old.nodes new.nodes old.tables new.tables
     → ReadsOn step s above first (Some ix) rest.next left old new spent spent brackets wikilinks
 reads_on_item {C} step s above first ix rest left old new spent brackets wikilinks same stands held other reads =
@@ -74,11 +83,14 @@ reads_on_item {C} step s above first ix rest left old new spent brackets wikilin
     let next = rest.next in
     let behind = trees_from s.text old.tables old.nodes (sibling_of old.nodes ix) in
     let r : Passed (Unit {0}) = read_at s above old.tables old.nodes ix in
-    let b : PutsBehind s.text first next left r.trees (past r.goes_on behind) old.nodes new.nodes old.tables new.tables =
-    puts_behind s.text first ix next left r.trees (past r.goes_on behind) old.nodes new.nodes old.tables new.tables stands reads.puts in
+    let b : PutsBehind s.text first next left r.trees (past r.goes_on behind) old.nodes new.nodes old.tables new.tables
+    =
+    puts_behind s.text first ix next left r.trees (past r.goes_on behind) old.nodes new.nodes old.tables new.tables
+    stands reads.puts in
     let then = all_done b.standing left in
     let lefts : all_done r.trees (left_without_numbers left) ≡ left_without_numbers then =
-    ap (λ (f : Forest Plain). all_done f (left_without_numbers left)) (sym b.reads) ∙ sym (done_unnumbered b.standing left) in
+    ap (λ (f : Forest Plain). all_done f (left_without_numbers left)) (sym b.reads)
+    ∙ sym (done_unnumbered b.standing left) in
     record {
       changes = b.changes;
       left_then = then;
@@ -93,7 +105,8 @@ reads_on_item {C} step s above first ix rest left old new spent brackets wikilin
       reads = λ p later are.
           let k : known_at old later ≡ known_at new later = ap (λ (t : Stage C). known_at t later) (sym same) in
           ap (λ (f : Forest Plain). all_read s above f (at_left left old later p)) o.trees
-          ∙ reads_other s above a below behind (at_left left old later p) refl (shape_no_bracket old.tables _ (item_at old.nodes ix).body
+          ∙ reads_other s above a below behind (at_left left old later p) refl
+          (shape_no_bracket old.tables _ (item_at old.nodes ix).body
           other)
           ∙ ap (λ (f : Forest Plain). all_read s above f (record p {
             left = all_done r.trees (left_without_numbers left);

@@ -1,5 +1,6 @@
 -- The walk from an opener to the last node inside: the closer is ahead of it, so that it is met before the chain ends.
-use Rattle.std.proofs.Common.{◌≡◌, ℕ, ◌<◌, ◌≤◌, List, [], ◌∷◌, ◌++◌, Option, Some, None, refl, sym, ap, ◌∙◌, subst, arith}
+use Rattle.std.proofs.Common.{◌≡◌, ℕ, ◌<◌, ◌≤◌, List, [], ◌∷◌, ◌++◌, Option, Some, None, refl, sym, ap, ◌∙◌, subst}
+use Rattle.std.proofs.Common.{arith}
 use Rattle.markdown_base.specs.Arena.{child_of, sibling_of}
 use Rattle.markdown_base.specs.ArenaForest.{Spells, forest_at, links_of}
 use Rattle.markdown_base.specs.Forest.{Forest, nil, node, roots}
@@ -22,7 +23,8 @@ pub record IsAhead (nodes : List (Node Item)) (opener closer last : ℕ) (inside
   pub once : total (same closer) (forest_at (links_of nodes) (sibling_of nodes last)) ≤ 1
 
 -- at the opener it is so
-pub ahead_first : (source : List ℕ) (tables : Tables) (nodes : List (Node Item)) (opener closer : ℕ) (inside : List ℕ) (byte : ℕ)
+pub ahead_first : (source : List ℕ) (tables : Tables) (nodes : List (Node Item)) (opener closer : ℕ) (inside : List ℕ)
+    (byte : ℕ)
     → CanClose source tables nodes opener closer inside byte
     → IsAhead nodes opener closer opener inside
 ahead_first source tables nodes opener closer inside byte can =
@@ -35,15 +37,18 @@ ahead_first source tables nodes opener closer inside byte can =
       once = let x = rw o.here at (can.ready.once closer) in omega arith;
     }
 
-pub first_spelled : (source : List ℕ) (tables : Tables) (nodes : List (Node Item)) (opener closer : ℕ) (inside : List ℕ) (byte : ℕ)
+pub first_spelled : (source : List ℕ) (tables : Tables) (nodes : List (Node Item)) (opener closer : ℕ) (inside : List ℕ)
+    (byte : ℕ)
     → CanClose source tables nodes opener closer inside byte
     → Spells (links_of nodes) (sibling_of nodes opener) (forest_at (links_of nodes) (sibling_of nodes opener))
-first_spelled source tables nodes opener closer inside byte can = (opens (links_of nodes) (IsPlaced source tables nodes) opener
+first_spelled source tables nodes opener closer inside byte can
+    = (opens (links_of nodes) (IsPlaced source tables nodes) opener
     can.ready.reaches).after.spelled
 
 -- the first of a chain, and what follows it
 follow_roots : (nodes : List (Node Item)) (last next : ℕ) → sibling_of nodes last ≡ Some next → SpelledAt nodes next
-    → roots (forest_at (links_of nodes) (sibling_of nodes last)) ≡ next ∷ roots (forest_at (links_of nodes) (sibling_of nodes next))
+    → roots (forest_at (links_of nodes) (sibling_of nodes last))
+    ≡ next ∷ roots (forest_at (links_of nodes) (sibling_of nodes next))
 follow_roots nodes last next link s = ap (λ (l : Option ℕ). roots (forest_at (links_of nodes) l)) link
     ∙ ap (λ (f : Forest ℕ). roots f) s.here
 
@@ -58,17 +63,22 @@ stands_among n (x ∷ before) after nil e = cc e
 stands_among n (x ∷ before) after (node m below rest) e = omega (arith, stands_among n before after rest (cc e))
 
 -- at the next node that is not the closer
-next_ahead : (nodes : List (Node Item)) (opener closer last next : ℕ) (inside ahead after : List ℕ) → sibling_of nodes last ≡ Some next
+next_ahead : (nodes : List (Node Item)) (opener closer last next : ℕ) (inside ahead after : List ℕ)
+    → sibling_of nodes last ≡ Some next
     → SpelledAt nodes next → (next ≡ closer → ⊥)
-    → last_inside opener inside ≡ last_inside last ahead → next ∷ roots (forest_at (links_of nodes) (sibling_of nodes next)) ≡ ahead
+    → last_inside opener inside ≡ last_inside last ahead
+    → next ∷ roots (forest_at (links_of nodes) (sibling_of nodes next)) ≡ ahead
     ++ closer ∷ after
-    → total (same closer) (forest_at (links_of nodes) (sibling_of nodes last)) ≤ 1 → IsAhead nodes opener closer next inside
-next_ahead nodes opener closer last next inside [] after link s other ends follows once = let is : next ≡ closer = cc follows
+    → total (same closer) (forest_at (links_of nodes) (sibling_of nodes last)) ≤ 1
+    → IsAhead nodes opener closer next inside
+next_ahead nodes opener closer last next inside [] after link s other ends follows once = let is : next
+    ≡ closer = cc follows
     in absurd (other is)
 next_ahead nodes opener closer last next inside (x ∷ ahead) after link s other ends follows once =
     let is : x ≡ next = cc follows in
     let whole : forest_at (links_of nodes) (sibling_of nodes last)
-    ≡ node next (forest_at (links_of nodes) (child_of nodes next)) (forest_at (links_of nodes) (sibling_of nodes next)) =
+    ≡ node next (forest_at (links_of nodes) (child_of nodes next)) (forest_at (links_of nodes) (sibling_of nodes next))
+    =
     ap (λ (l : Option ℕ). forest_at (links_of nodes) l) link ∙ s.here in
     record {
       ahead = ahead;
@@ -78,35 +88,42 @@ next_ahead nodes opener closer last next inside (x ∷ ahead) after link s other
       once = let y = rw whole at once in omega (arith, y);
     }
 
-pub ahead_next : (nodes : List (Node Item)) (opener closer last next : ℕ) (inside : List ℕ) → sibling_of nodes last ≡ Some next
+pub ahead_next : (nodes : List (Node Item)) (opener closer last next : ℕ) (inside : List ℕ) → sibling_of nodes last
+    ≡ Some next
     → SpelledAt nodes next → (next ≡ closer → ⊥)
     → IsAhead nodes opener closer last inside → IsAhead nodes opener closer next inside
 ahead_next nodes opener closer last next inside link s other h =
-    next_ahead nodes opener closer last next inside h.ahead h.after link s other h.ends (sym (follow_roots nodes last next link s)
+    next_ahead nodes opener closer last next inside h.ahead h.after link s other h.ends
+    (sym (follow_roots nodes last next link s)
     ∙ h.follows) h.once
 
 -- before the closer is the last node inside
-closer_ahead : (nodes : List (Node Item)) (opener closer last : ℕ) (inside ahead after : List ℕ) → sibling_of nodes last ≡ Some closer
+closer_ahead : (nodes : List (Node Item)) (opener closer last : ℕ) (inside ahead after : List ℕ) → sibling_of nodes last
+    ≡ Some closer
     → SpelledAt nodes closer
-    → last_inside opener inside ≡ last_inside last ahead → closer ∷ roots (forest_at (links_of nodes) (sibling_of nodes closer)) ≡ ahead
+    → last_inside opener inside ≡ last_inside last ahead
+    → closer ∷ roots (forest_at (links_of nodes) (sibling_of nodes closer)) ≡ ahead
     ++ closer ∷ after
     → total (same closer) (forest_at (links_of nodes) (sibling_of nodes last)) ≤ 1 → last_inside opener inside ≡ last
 closer_ahead nodes opener closer last inside [] after link s ends follows once = ends
 closer_ahead nodes opener closer last inside (x ∷ ahead) after link s ends follows once =
-    let again : 0 < total (same closer) (forest_at (links_of nodes) (sibling_of nodes closer)) = stands_among closer ahead after
+    let again : 0 < total (same closer) (forest_at (links_of nodes) (sibling_of nodes closer)) = stands_among closer
+    ahead after
     (forest_at (links_of nodes) (sibling_of nodes closer)) (cc follows) in
     let whole : forest_at (links_of nodes) (sibling_of nodes last) ≡ forest_at (links_of nodes) (Some closer) =
     ap (λ (l : Option ℕ). forest_at (links_of nodes) l) link in
     let y = rw (whole, s.here) at once in
     absurd (omega (arith, y, again, same-refl closer))
 
-pub ahead_here : (nodes : List (Node Item)) (opener closer last next : ℕ) (inside : List ℕ) → sibling_of nodes last ≡ Some next
+pub ahead_here : (nodes : List (Node Item)) (opener closer last next : ℕ) (inside : List ℕ) → sibling_of nodes last
+    ≡ Some next
     → SpelledAt nodes next → next ≡ closer
     → IsAhead nodes opener closer last inside → last_inside opener inside ≡ last
 ahead_here nodes opener closer last next inside link s is h =
     let link' : sibling_of nodes last ≡ Some closer = link ∙ ap (λ (n : ℕ). Some n) is in
     let s' : SpelledAt nodes closer = subst (λ (n : ℕ). SpelledAt nodes n) is s in
-    closer_ahead nodes opener closer last inside h.ahead h.after link' s' h.ends (sym (follow_roots nodes last closer link' s') ∙ h.follows)
+    closer_ahead nodes opener closer last inside h.ahead h.after link' s' h.ends
+    (sym (follow_roots nodes last closer link' s') ∙ h.follows)
     h.once
 
 -- the chain does not end before it

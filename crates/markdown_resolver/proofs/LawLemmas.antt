@@ -20,7 +20,8 @@ none_left : (l : Answers) → length l ≡ 0 → (later : Answers) → l ++ late
 none_left [] e later = refl
 none_left (a ∷ l) e later = absurd (omega (arith, e))
 
-pub answers_handed_on : {A : Type 0} (s : Setting) (tags : Tags A) (above : Above) (chain : Forest (Label A)) (known : Known)
+pub answers_handed_on : {A : Type 0} (s : Setting) (tags : Tags A) (above : Above) (chain : Forest (Label A))
+    (known : Known)
     (answers later : Answers)
     → length (resolved s tags above chain (with_answers answers known)).questions ≡ length answers
     → resolved s tags above chain (with_answers (answers ++ later) known) ≡ record {
@@ -35,7 +36,8 @@ answers_handed_on {A} s tags above chain known answers later e =
     let read = read_hands_on s tags above chain p in
     let none : length q.known.answers ≡ 0 = omega (arith, read.takes, e) in
     ap (λ (q : Progress A). then_paired s (outcome q)) (read.hands_on later (omega (arith, e)))
-    ∙ ap (λ l. then_paired s (outcome (record q { known = record q.known { answers = l } }))) (none_left q.known.answers none later)
+    ∙ ap (λ l. then_paired s (outcome (record q { known = record q.known { answers = l } })))
+    (none_left q.known.answers none later)
 
 -- neither pass makes a chain heavier
 pub no_heavier : {A : Type 0} (s : Setting) (tags : Tags A) (above : Above) (chain : Forest (Label A)) (known : Known)
@@ -59,5 +61,6 @@ unfolding resolved
 same_tags {B = B} f s tags tags' follows above chain known =
     let r = pass_one s tags above chain known in
     ap (then_paired s) (pass_one-retag f s tags tags' follows above chain known)
-    ∙ ap (λ (g : Forest (Label B)). let o : Outcome B = record { questions = r.questions; forest = g; known = r.known } in o)
+    ∙ ap (λ (g : Forest (Label B)). let o : Outcome B = record { questions = r.questions; forest = g; known = r.known }
+    in o)
     (tag-law f s r.forest)

@@ -19,16 +19,19 @@ use Rattle.markdown_resolver.specs.Kept.{IsQuiet, IsQuietBelow}
 use Rattle.markdown_resolver.specs.ReadOn.{EachWaits}
 
 -- two chains, one after the other, with other labels
-pub relabelled_joined : {A B : Type 0} (h : A → B) (f g : Forest A) → relabelled h (joined_chains f g) ≡ joined_chains (relabelled h f) (relabelled h g)
+pub relabelled_joined : {A B : Type 0} (h : A → B) (f g : Forest A) → relabelled h (joined_chains f g)
+    ≡ joined_chains (relabelled h f) (relabelled h g)
 relabelled_joined h nil g = refl
-relabelled_joined h (node a below after) g = ap (λ rest. node (h a) (relabelled h below) rest) (relabelled_joined h after g)
+relabelled_joined h (node a below after) g = ap (λ rest. node (h a) (relabelled h below) rest)
+    (relabelled_joined h after g)
 
 total_joined : (count : ℕ → ℕ) (f g : Forest ℕ) → total count (joined_chains f g) ≡ total count f + total count g
 total_joined count nil g = omega arith
 total_joined count (node ix below after) g = omega (arith, total_joined count after g)
 
 -- the trees of a left list precede those that are put onto it
-pub onto_split : (left : List (Entry ℕ)) (later : Forest (Label ℕ)) → trees_onto left later ≡ joined_chains (trees_onto left nil) later
+pub onto_split : (left : List (Entry ℕ)) (later : Forest (Label ℕ)) → trees_onto left later
+    ≡ joined_chains (trees_onto left nil) later
 onto_split left later = onto_joined left nil later
 
 pub times_joined : (n : ℕ) (f g : Forest (Label ℕ)) → times_of n (joined_chains f g) ≡ times_of n f + times_of n g
@@ -37,10 +40,12 @@ times_joined n f g = ap (λ (h : Forest ℕ). total (same n) h) (relabelled_join
 
 pub times_onto : (n : ℕ) (left : List (Entry ℕ)) (later : Forest (Label ℕ)) → times_of n (trees_onto left later)
     ≡ times_of n (trees_onto left nil) + times_of n later
-times_onto n left later = ap (λ (h : Forest (Label ℕ)). times_of n h) (onto_split left later) ∙ times_joined n (trees_onto left nil) later
+times_onto n left later = ap (λ (h : Forest (Label ℕ)). times_of n h) (onto_split left later)
+    ∙ times_joined n (trees_onto left nil) later
 
 -- trees that are done are put before what is put onto them
-pub done_onto : (trees : Forest (Label ℕ)) (left : List (Entry ℕ)) (later : Forest (Label ℕ)) → trees_onto (all_done trees left) later
+pub done_onto : (trees : Forest (Label ℕ)) (left : List (Entry ℕ)) (later : Forest (Label ℕ))
+    → trees_onto (all_done trees left) later
     ≡ trees_onto left (joined_chains trees later)
 done_onto nil left later = refl
 done_onto (node a below after) left later = done_onto after (done a below ∷ left) later
@@ -58,7 +63,8 @@ pub quiet_is_below : {A : Type 0} (f : Forest (Label A)) → IsQuiet f → IsQui
 quiet_is_below nil h = tt
 quiet_is_below (node a below after) h = (h.1, h.2, quiet_is_below after h.3)
 
-pub below_joined : {A : Type 0} (f g : Forest (Label A)) → IsQuietBelow f → IsQuietBelow g → IsQuietBelow (joined_chains f g)
+pub below_joined : {A : Type 0} (f g : Forest (Label A)) → IsQuietBelow f → IsQuietBelow g
+    → IsQuietBelow (joined_chains f g)
 below_joined nil g h k = k
 below_joined (node a below after) g h k = (h.0, h.1, below_joined after g h.2 k)
 
@@ -84,15 +90,18 @@ below_untagged f nil h = tt
 below_untagged f (node a below after) h = (h.0, quiet_untagged f below h.1, below_untagged f after h.2)
 
 -- trees that are done hold no opener
-pub waits_done : (p : ℕ → Type 0) (trees : Forest (Label ℕ)) (left : List (Entry ℕ)) → EachWaits p left → EachWaits p (all_done trees left)
+pub waits_done : (p : ℕ → Type 0) (trees : Forest (Label ℕ)) (left : List (Entry ℕ)) → EachWaits p left
+    → EachWaits p (all_done trees left)
 waits_done p nil left h = h
 waits_done p (node a below after) left h = waits_done p after (done a below ∷ left) h
 
 -- a property of each opener, and of what is in the left list, implies another one
-pub waits_mapped : (p q : ℕ → Type 0) (left : List (Entry ℕ)) → ((n : ℕ) → 0 < times_of n (trees_onto left nil) → p n → q n)
+pub waits_mapped : (p q : ℕ → Type 0) (left : List (Entry ℕ))
+    → ((n : ℕ) → 0 < times_of n (trees_onto left nil) → p n → q n)
     → EachWaits p left → EachWaits q left
 waits_mapped p q [] h w = tt
-waits_mapped p q (done a below ∷ left) h w = waits_mapped p q left (λ n l. h n (let e = times_onto n left (node a below nil)
+waits_mapped p q (done a below ∷ left) h w = waits_mapped p q left
+    (λ n l. h n (let e = times_onto n left (node a below nil)
     in omega (arith, e, l))) w
 waits_mapped p q (waits m a ∷ left) h w = (
   h a.tag (let e = times_onto a.tag left (node a nil nil) in let one = same-refl a.tag in omega (arith, e, one)) w.0,
@@ -100,7 +109,8 @@ waits_mapped p q (waits m a ∷ left) h w = (
 )
 
 -- an opener, and those before it
-pub waits_here : (p : ℕ → Type 0) (after before : List (Entry ℕ)) (m : Mark) (a : Label ℕ) → EachWaits p (after ++ waits m a ∷ before)
+pub waits_here : (p : ℕ → Type 0) (after before : List (Entry ℕ)) (m : Mark) (a : Label ℕ)
+    → EachWaits p (after ++ waits m a ∷ before)
     → p a.tag × EachWaits p before
 waits_here p [] before m a h = h
 waits_here p (done b below ∷ after) before m a h = waits_here p after before m a h
@@ -113,18 +123,21 @@ onto_appended (done b below ∷ after) before m a later = onto_appended after be
 onto_appended (waits k b ∷ after) before m a later = onto_appended after before m a (node b nil later)
 
 -- other marks: the same trees, and the same openers
-pub marked_trees : (f : Mark → Mark) (left : List (Entry ℕ)) (later : Forest (Label ℕ)) → trees_onto (on_marks f left) later
+pub marked_trees : (f : Mark → Mark) (left : List (Entry ℕ)) (later : Forest (Label ℕ))
+    → trees_onto (on_marks f left) later
     ≡ trees_onto left later
 marked_trees f [] later = refl
 marked_trees f (done a below ∷ left) later = marked_trees f left (node a below later)
 marked_trees f (waits m a ∷ left) later = marked_trees f left (node a nil later)
 
-pub marked_waits : (p : ℕ → Type 0) (f : Mark → Mark) (left : List (Entry ℕ)) → EachWaits p left → EachWaits p (on_marks f left)
+pub marked_waits : (p : ℕ → Type 0) (f : Mark → Mark) (left : List (Entry ℕ)) → EachWaits p left
+    → EachWaits p (on_marks f left)
 marked_waits p f [] h = h
 marked_waits p f (done a below ∷ left) h = marked_waits p f left h
 marked_waits p f (waits m a ∷ left) h = (h.0, marked_waits p f left h.1)
 
-pub folded_trees : (left : List (Entry ℕ)) (later : Forest (Label ℕ)) → trees_onto (second_folded left) later ≡ trees_onto left later
+pub folded_trees : (left : List (Entry ℕ)) (later : Forest (Label ℕ)) → trees_onto (second_folded left) later
+    ≡ trees_onto left later
 folded_trees [] later = refl
 folded_trees (done a below ∷ left) later = refl
 folded_trees (waits m a ∷ left) later = refl
@@ -135,7 +148,8 @@ folded_waits p (done a below ∷ left) h = h
 folded_waits p (waits m a ∷ left) h = h
 
 -- stacks hold no other openers than those that wait
-held_where : (p : ℕ → Type 0) (number : ℕ) (is_image : Bool) (flag : Flag) (held : List Waiting) → p number → EachOpener p held
+held_where : (p : ℕ → Type 0) (number : ℕ) (is_image : Bool) (flag : Flag) (held : List Waiting) → p number
+    → EachOpener p held
     → EachOpener p (held_as number is_image flag held)
 held_where p number is_image live held h k = (h, k)
 held_where p number is_image disabled held h k = (h, k)
@@ -144,12 +158,14 @@ held_where p number is_image gone held h k = k
 pub each_bracket : (p : ℕ → Type 0) (left : List (Entry ℕ)) → EachWaits p left → EachOpener p (brackets_of left)
 each_bracket p [] h = tt
 each_bracket p (done a below ∷ left) h = each_bracket p left h
-each_bracket p (waits m a ∷ left) h = held_where p a.tag m.is_image m.bracket (brackets_of left) h.0 (each_bracket p left h.1)
+each_bracket p (waits m a ∷ left) h = held_where p a.tag m.is_image m.bracket (brackets_of left) h.0
+    (each_bracket p left h.1)
 
 pub each_wikilink : (p : ℕ → Type 0) (left : List (Entry ℕ)) → EachWaits p left → EachOpener p (wikilinks_of left)
 each_wikilink p [] h = tt
 each_wikilink p (done a below ∷ left) h = each_wikilink p left h
-each_wikilink p (waits m a ∷ left) h = held_where p a.tag m.is_image m.wikilink (wikilinks_of left) h.0 (each_wikilink p left h.1)
+each_wikilink p (waits m a ∷ left) h = held_where p a.tag m.is_image m.wikilink (wikilinks_of left) h.0
+    (each_wikilink p left h.1)
 
 -- numbers that come after a number come after a smaller one too, and so do those of a beginning of a chain
 pub behind_all : (n m : ℕ) (numbers : List ℕ) → n < m → AreBehind m numbers → AreBehind n numbers

@@ -1,13 +1,15 @@
 -- What is found at a `<` ends with `>`, and so between two characters; no open item has bytes both before and after its
 -- end.
 use Rattle.markdown_base.specs.declared.item.ItemBody.TheVariants as body
-use Rattle.std.proofs.Common.{◌≡◌, ℕ, zero, suc, ◌+◌, ◌-◌, ◌<◌, ◌≤◌, Bool, true, false, ◌==◌, ◌&&◌, ◌⊎◌, inl, inr, List, [], ◌∷◌, Option}
+use Rattle.std.proofs.Common.{◌≡◌, ℕ, zero, suc, ◌+◌, ◌-◌, ◌<◌, ◌≤◌, Bool, true, false, ◌==◌, ◌&&◌, ◌⊎◌, inl, inr, List}
+use Rattle.std.proofs.Common.{[], ◌∷◌, Option}
 use Rattle.std.proofs.Common.{Some, None, length, take, drop, get_or, refl, sym, ap, ◌∙◌, subst, arith}
 use Rattle.std.specs.Prelude.{IfSome, if◌then◌else◌, slice_index, slice_range, nat_le}
 use Rattle.std.specs.Option.{option_map, option_map_or, option_or}
 use Rattle.std.proofs.lemmas.Bool.{cases_lt, eqb-true}
 use Rattle.std.proofs.lemmas.Bool.Decides.{nat_tests}
-use Rattle.std.proofs.lemmas.List.{drop-drop, drop_all, get_or-drop, get_or-replicate, get_or-take, get_or_past, length-drop}
+use Rattle.std.proofs.lemmas.List.{drop-drop, drop_all, get_or-drop, get_or-replicate, get_or-take, get_or_past}
+use Rattle.std.proofs.lemmas.List.{length-drop}
 use Rattle.std.proofs.lemmas.List.{length-replicate, length-take}
 use Rattle.std.proofs.lemmas.Option.{same_Some}
 use Rattle.markdown_base.specs.Arena.{sibling_of}
@@ -38,7 +40,8 @@ use Rattle.markdown_raw_html.specs.TagText.{source_after, source_after_byte, tex
 use Rattle.markdown_raw_html.proofs.RawHtmlLemmas.{EndsWith, comment-ends, cdata_section-ends, declaration-ends}
 use Rattle.markdown_raw_html.proofs.RawHtmlLemmas.{processing_instruction-ends}
 use Rattle.markdown_raw_html.proofs.TagSourceLemmas.{Closes-html_tag}
-use Rattle.markdown_raw_html.proofs.TagTextLemmas.{source_after-more, source_after-nil, text_in-cons, text_in-source_after}
+use Rattle.markdown_raw_html.proofs.TagTextLemmas.{source_after-more, source_after-nil, text_in-cons}
+use Rattle.markdown_raw_html.proofs.TagTextLemmas.{text_in-source_after}
 use Rattle.markdown_resolver.specs.Chains.{CanResolve}
 use Rattle.markdown_resolver.specs.Rewritten.{IsFoundAt, first_past}
 use Rattle.markdown_resolver.proofs.UnreadLemmas.{first_cut, unmade_after}
@@ -58,16 +61,22 @@ is_end : (skipped : List ℕ → Option ℕ) (n : ℕ) (source : List ℕ) → I
 unfolding IsEnd
 is_end skipped zero source = (0, refl)
 is_end skipped (suc n) [] = (0, refl)
-is_end skipped (suc n) (b ∷ source) = later (prefix_after skipped b source) (is_end skipped n (source_after_byte skipped b source))
+is_end skipped (suc n) (b ∷ source) = later (prefix_after skipped b source)
+    (is_end skipped n (source_after_byte skipped b source))
   where
     later : (o : Option ℕ) → IsEnd (option_map_or (λ n. drop n source) o [])
         (source_after skipped n (option_map_or (λ n. drop n source) o []))
         → IsEnd (b ∷ source) (source_after skipped n (option_map_or (λ n. drop n source) o []))
-    later None h = (length (b ∷ source), source_after-nil skipped n ∙ sym (drop_all (length (b ∷ source)) (b ∷ source) (omega arith)))
+    later None h = (
+      length (b ∷ source),
+      source_after-nil skipped n
+          ∙ sym (drop_all (length (b ∷ source)) (b ∷ source) (omega arith)),
+    )
     later (Some k) h = (suc (k + h.0), h.1 ∙ drop-drop h.0 k source)
 
 -- where a text continues with `>`, so does its source
-closes_here : (skipped : List ℕ → Option ℕ) (source : List ℕ) → 1 ≤ length (text_in skipped source) → get_or (text_in skipped source) 0 0
+closes_here : (skipped : List ℕ → Option ℕ) (source : List ℕ) → 1 ≤ length (text_in skipped source)
+    → get_or (text_in skipped source) 0 0
     ≡ 62
     → source ≡ 62 ∷ source_after skipped 1 source
 closes_here skipped [] some is = absurd (omega (arith, some))
@@ -88,20 +97,26 @@ tag_closed skipped text place n within is =
     let mid = source_after skipped (n - 1) source in
     let sum : n - 1 + 1 ≡ n = omega (arith, closes.some) in
     let of_mid = text_in-source_after skipped (n - 1) source in
-    let some : 1 ≤ length (text_in skipped mid) = omega (arith, ap length of_mid, length-drop (n - 1) read, closes.within, closes.some) in
+    let some : 1 ≤ length (text_in skipped mid) = omega
+    (arith, ap length of_mid, length-drop (n - 1) read, closes.within, closes.some) in
     let zero_more : n - 1 + 0 ≡ n - 1 = omega arith in
     let last : get_or (text_in skipped mid) 0 0 ≡ 62 =
-    ap (λ bytes. get_or bytes 0 0) of_mid ∙ (get_or-drop (n - 1) read 0 0 ∙ (ap (λ i. get_or read i 0) zero_more ∙ closes.last)) in
-    let after : source_after skipped 1 mid ≡ rest = source_after-more skipped (n - 1) 1 source ∙ ap (λ k. source_after skipped k source) sum
+    ap (λ bytes. get_or bytes 0 0) of_mid
+    ∙ (get_or-drop (n - 1) read 0 0 ∙ (ap (λ i. get_or read i 0) zero_more ∙ closes.last)) in
+    let after : source_after skipped 1 mid ≡ rest = source_after-more skipped (n - 1) 1 source
+    ∙ ap (λ k. source_after skipped k source) sum
     in
     let split : mid ≡ 62 ∷ rest = closes_here skipped mid some last ∙ ap (λ bytes. 62 ∷ bytes) after in
     let end = is_end skipped (n - 1) source in
     let at_end : drop (place + end.0) text ≡ 62 ∷ rest = sym (drop-drop end.0 place text) ∙ (sym end.1 ∙ split) in
-    let longer : length text - (place + end.0) ≡ 1 + length rest = omega (arith, ap length at_end, length-drop (place + end.0) text) in
+    let longer : length text - (place + end.0)
+    ≡ 1 + length rest = omega (arith, ap length at_end, length-drop (place + end.0) text) in
     let here : place + end.0 + 0 ≡ place + end.0 = omega arith in
     let byte : get_or text (place + end.0) 0 ≡ 62 =
-    ap (λ i. get_or text i 0) (sym here) ∙ (sym (get_or-drop (place + end.0) text 0 0) ∙ ap (λ bytes. get_or bytes 0 0) at_end) in
-    let place_is : place + end.0 ≡ place + (length source - length rest) - 1 = omega (arith, longer, length-drop place text) in
+    ap (λ i. get_or text i 0) (sym here)
+    ∙ (sym (get_or-drop (place + end.0) text 0 0) ∙ ap (λ bytes. get_or bytes 0 0) at_end) in
+    let place_is : place + end.0 ≡ place + (length source - length rest) - 1 = omega
+    (arith, longer, length-drop place text) in
     record {
       after = omega (arith, longer, length-drop place text);
       within = omega (arith, longer, length-drop place text);
@@ -112,15 +127,18 @@ tag_closed skipped text place n within is =
 abbrev EndsAt : List ℕ → ℕ → Option (ℕ × Option (List ℕ)) → Type 0
 EndsAt text start found = IfSome found (λ tag. EndsClosed text start tag.0)
 
-tag_ends : (skipped : List ℕ → Option ℕ) (text : List ℕ) (place : ℕ) → place ≤ length text → EndsAt text place (tag_at skipped text place)
+tag_ends : (skipped : List ℕ → Option ℕ) (text : List ℕ) (place : ℕ) → place ≤ length text
+    → EndsAt text place (tag_at skipped text place)
 tag_ends skipped text place within = cases (html_tag (text_in skipped (drop place text))) refl
   where
     cases : (found : Option ℕ) → html_tag (text_in skipped (drop place text)) ≡ found
-        → EndsAt text place (option_map (λ n. tag_of skipped place (drop place text) (tag_lengths skipped (drop place text) n)) found)
+        → EndsAt text place (option_map
+        (λ n. tag_of skipped place (drop place text) (tag_lengths skipped (drop place text) n)) found)
     cases None e = tt
     cases (Some n) e = tag_closed skipped text place n within e
 
-scanned_ends : (scan : List ℕ → Option ℕ) (text : List ℕ) (start from : ℕ) → ((bytes : List ℕ) → IfSome (scan bytes) (EndsWith 62 bytes))
+scanned_ends : (scan : List ℕ → Option ℕ) (text : List ℕ) (start from : ℕ)
+    → ((bytes : List ℕ) → IfSome (scan bytes) (EndsWith 62 bytes))
     → start < from → from ≤ length text
     → EndsAt text start (unbroken (end_from scan text from))
 scanned_ends scan text start from ends later within = cases (scan (drop from text)) (ends (drop from text))
@@ -136,7 +154,8 @@ scanned_ends scan text start from ends later within = cases (scan (drop from tex
           closed = ap (λ i. get_or text i 0) (sym place) ∙ sym (get_or-drop from text (n - 1) 0) ∙ h.last;
         }
 
-first_ends : (text : List ℕ) (start : ℕ) (first other : Option ℕ) → EndsAt text start (unbroken first) → EndsAt text start (unbroken other)
+first_ends : (text : List ℕ) (start : ℕ) (first other : Option ℕ) → EndsAt text start (unbroken first)
+    → EndsAt text start (unbroken other)
     → EndsAt text start (unbroken (option_or first other))
 first_ends text start None other h k = k
 first_ends text start (Some n) other h k = h
@@ -166,7 +185,8 @@ html_ends skipped text start at later within = by_byte (slice_index text at == 3
         (scanned_ends cdata_section text start (at + 1) cdata_section-ends after_byte h)
         (scanned_ends declaration text start (at + 1) declaration-ends after_byte h))
 
-    by_byte : (is_declared is_instruction : Bool) → (slice_index text at == 33) ≡ is_declared → (slice_index text at == 63) ≡ is_instruction
+    by_byte : (is_declared is_instruction : Bool) → (slice_index text at == 33) ≡ is_declared
+        → (slice_index text at == 63) ≡ is_instruction
         → EndsAt text start (if is_declared then unbroken (declared_end text (at + 1)) else if is_instruction
         then unbroken (end_from processing_instruction text (at + 1)) else tag_at skipped text start)
     by_byte true is_instruction e f = declared (omega (arith, byte_there text at 32 e))
@@ -177,7 +197,8 @@ html_ends skipped text start at later within = by_byte (slice_index text at == 3
 
 -- an autolink
 uri_ends : (text : List ℕ) (at : ℕ) → IfSome (uri_autolink text at) (λ found. EndsClosed text at found.0)
-uri_ends text at = by_byte (begins_scheme (drop at text)) (slice_index (drop at text) (uri_length (drop at text)) == 62) refl
+uri_ends text at = by_byte (begins_scheme (drop at text)) (slice_index (drop at text) (uri_length (drop at text)) == 62)
+    refl
   where
     by_byte : (begins closes : Bool) → (slice_index (drop at text) (uri_length (drop at text)) == 62) ≡ closes
         → IfSome {T = ℕ × List ℕ} (option_map (λ n. (at + n + 1, take n (drop at text))) (if begins && closes
@@ -190,7 +211,8 @@ uri_ends text at = by_byte (begins_scheme (drop at text)) (slice_index (drop at 
         record {
           after = omega arith;
           within = omega (arith, byte_there (drop at text) n 61 e, length-drop at text);
-          closed = ap (λ i. get_or text i 0) (sym place) ∙ (sym (get_or-drop at text n 0) ∙ eqb-true (slice_index (drop at text) n) 62 e);
+          closed = ap (λ i. get_or text i 0) (sym place)
+              ∙ (sym (get_or-drop at text n 0) ∙ eqb-true (slice_index (drop at text) n) 62 e);
         }
 
 -- the URI of an autolink is a slice of the text, before its end
@@ -216,37 +238,49 @@ pub record MarkupEnds (text : List ℕ) (start at : ℕ) (m : Markup) : Type 0 w
   pub address : EndsPast text at m
 
 -- what is found from a `<` on ends so
-pub markup_ends : (skipped : List ℕ → Option ℕ) (text : List ℕ) (start at : ℕ) (m : Markup) → start < at → at ≤ length text
+pub markup_ends : (skipped : List ℕ → Option ℕ) (text : List ℕ) (start at : ℕ) (m : Markup) → start < at
+    → at ≤ length text
     → markup_at skipped text start at ≡ Some m → MarkupEnds text start at m
 unfolding markup_at
 markup_ends skipped text start at m later within e =
-    subst (λ (o : Option Markup). IfSome o (MarkupEnds text start at)) e (first_of (uri_autolink text at) (html_at skipped text start at)
+    subst (λ (o : Option Markup). IfSome o (MarkupEnds text start at)) e
+    (first_of (uri_autolink text at) (html_at skipped text start at)
     (uri_ends text at) (uri_slice text at)
     (html_ends skipped text start at later within))
   where
-    first_of : (uri : Option (ℕ × List ℕ)) (tag : Option (ℕ × Option (List ℕ))) → IfSome uri (λ found. EndsClosed text at found.0)
+    first_of : (uri : Option (ℕ × List ℕ)) (tag : Option (ℕ × Option (List ℕ)))
+        → IfSome uri (λ found. EndsClosed text at found.0)
         → IfSome uri (λ found. IsSliceWithin text at found.0 found.1)
         → EndsAt text start tag
-        → IfSome (option_or (option_map (λ found. autolink found.0 found.1) uri) (option_map (λ found. html_markup found.0 found.1) tag))
+        → IfSome (option_or (option_map (λ found. autolink found.0 found.1) uri)
+        (option_map (λ found. html_markup found.0 found.1) tag))
         (MarkupEnds text start at)
     first_of (Some found) tag h u k =
-        record { ends = record { after = omega (arith, h.after, later); within = h.within; closed = h.closed }; address = (h.after, u) }
+        record {
+          ends = record { after = omega (arith, h.after, later); within = h.within; closed = h.closed };
+          address
+              = (h.after, u);
+        }
     first_of None (Some found) h u k = record { ends = k; address = tt }
     first_of None None h u k = tt
 
 -- an open item with these bytes has none of them before its last one that is `>`
-none_open : (bytes : List ℕ) (k : ℕ) (b : ItemBody) → k + 1 < length bytes → get_or bytes k 0 ≡ 62 → StandsOverMarkup bytes b
+none_open : (bytes : List ℕ) (k : ℕ) (b : ItemBody) → k + 1 < length bytes → get_or bytes k 0 ≡ 62
+    → StandsOverMarkup bytes b
     → IfSome (run_character b) (λ c. length bytes ≡ 1) → is_open b ≡ false
 none_open bytes k (body.MaybeEmphasis count opens closes) within closed markup run = absurd (omega (arith, run, within))
-none_open bytes k (body.MaybeMath opens closes context) within closed markup run = absurd (omega (arith, ap length markup, within))
-none_open bytes k (body.MaybeSmartQuote quote opens closes) within closed markup run = absurd (omega (arith, ap length markup.0, within))
+none_open bytes k (body.MaybeMath opens closes context) within closed markup run = absurd
+    (omega (arith, ap length markup, within))
+none_open bytes k (body.MaybeSmartQuote quote opens closes) within closed markup run = absurd
+    (omega (arith, ap length markup.0, within))
 none_open bytes k (body.MaybeCode count escaped) within closed markup run =
     let size : length bytes ≡ count = ap length markup.0 ∙ length-replicate count 96 in
     let inside : k < count = omega (arith, size, within) in
     absurd (omega (arith, closed, ap (λ (xs : List ℕ). get_or xs k 0) markup.0 ∙ get_or-replicate count k 96 0 inside))
 none_open bytes k body.MaybeHtml within closed markup run = absurd (omega (arith, ap length markup, within))
 none_open bytes k body.MaybeLinkOpen within closed markup run = absurd (omega (arith, ap length markup, within))
-none_open bytes k (body.MaybeLinkClose reference) within closed markup run = absurd (omega (arith, ap length markup, within))
+none_open bytes k (body.MaybeLinkClose reference) within closed markup run = absurd
+    (omega (arith, ap length markup, within))
 none_open bytes k body.MaybeImage within closed markup run =
     let size : length bytes ≡ 2 = ap length markup in
     let first : k ≡ 0 = omega (arith, size, within) in
@@ -261,8 +295,10 @@ one_byte source a next None bytes e h = tt
 one_byte source a next (Some c) bytes e h = omega (arith, e, h.one_byte)
 
 -- so no open item has bytes both before and after an offset that follows a `>`
-pub none_around : (source : List ℕ) (tables : Tables) (nodes : List (Node Item)) (next end : ℕ) → IsPlaced source tables nodes next
-    → get_or source (end - 1) 0 ≡ 62 → (item_at nodes next).start < end → end < (item_at nodes next).end → is_open (item_at nodes next).body
+pub none_around : (source : List ℕ) (tables : Tables) (nodes : List (Node Item)) (next end : ℕ)
+    → IsPlaced source tables nodes next
+    → get_or source (end - 1) 0 ≡ 62 → (item_at nodes next).start < end → end < (item_at nodes next).end
+    → is_open (item_at nodes next).body
     ≡ false
 none_around source tables nodes next end placed closed starts ends =
     let item = item_at nodes next in
@@ -281,7 +317,8 @@ none_around source tables nodes next end placed closed starts ends =
     get_or-take (item.end - item.start) (drop item.start source) k 0 below
     ∙ (get_or-drop item.start source k 0 ∙ (ap (λ i. get_or source i 0) place ∙ closed)) in
     none_open bytes k item.body (omega (arith, size, starts, ends)) byte placed.keeps.markup_is_there
-    (one_byte source (numbered nodes next) (next_at nodes next) (run_character item.body) bytes size placed.keeps.runs_are_whole)
+    (one_byte source (numbered nodes next) (next_at nodes next) (run_character item.body) bytes size
+    placed.keeps.runs_are_whole)
 
 -- the first item that ends past a byte is one of the chain
 first_is : (source : List ℕ) (tables : Tables) (nodes : List (Node Item)) (end next : ℕ) (f : Forest ℕ)
@@ -291,9 +328,11 @@ first_is source tables nodes end next nil p e = cc
 first_is source tables nodes end next (node ix below after) p e =
     by_end (nat_le (item_at nodes ix).end end) refl e (λ later. first_is source tables nodes end next after p.2 later)
   where
-    by_end : (ended : Bool) → nat_le (item_at nodes ix).end end ≡ ended → (if ended then first_past nodes end (roots after) else Some ix)
+    by_end : (ended : Bool) → nat_le (item_at nodes ix).end end ≡ ended
+        → (if ended then first_past nodes end (roots after) else Some ix)
         ≡ Some next
-        → (first_past nodes end (roots after) ≡ Some next → IsPlaced source tables nodes next × (end < (item_at nodes next).end))
+        → (first_past nodes end (roots after) ≡ Some next → IsPlaced source tables nodes next
+        × (end < (item_at nodes next).end))
         → IsPlaced source tables nodes next × (end < (item_at nodes next).end)
     by_end true t e later = later e
     by_end false t e later =
@@ -302,8 +341,10 @@ first_is source tables nodes end next (node ix below after) p e =
         (subst (IsPlaced source tables nodes) same p.0, rw same at past)
 
 -- the node of a `<`, at which something was found that ends with `>`
-pub found_at : (source : List ℕ) (tables : Tables) (nodes : List (Node Item)) (ix end : ℕ) → CanResolve source tables nodes (Some ix)
-    → IsUnread (trees_from source tables nodes (Some ix)) → (item_at nodes ix).body ≡ body.MaybeHtml → get_or source (end - 1) 0 ≡ 62
+pub found_at : (source : List ℕ) (tables : Tables) (nodes : List (Node Item)) (ix end : ℕ)
+    → CanResolve source tables nodes (Some ix)
+    → IsUnread (trees_from source tables nodes (Some ix)) → (item_at nodes ix).body ≡ body.MaybeHtml
+    → get_or source (end - 1) 0 ≡ 62
     → IsFoundAt source tables nodes ix end
 found_at source tables nodes ix end ready unread is closed =
     let after = (opens (links_of nodes) (IsPlaced source tables nodes) ix ready.reaches).after in
@@ -312,7 +353,8 @@ found_at source tables nodes ix end ready unread is closed =
       was_open = rw is refl;
       no_run = rw is refl;
       between = λ next e starts.
-          let found = first_is source tables nodes end next (forest_at (links_of nodes) (sibling_of nodes ix)) after.each e in
+          let found = first_is source tables nodes end next (forest_at (links_of nodes) (sibling_of nodes ix))
+          after.each e in
           first_cut source tables nodes end next (forest_at (links_of nodes) (sibling_of nodes ix))
           (unmade_after source tables nodes ix ready (rw is refl) (rw is refl) unread) e
           (none_around source tables nodes next end found.0 closed starts found.1);

@@ -1,6 +1,7 @@
 -- The items that are put in place where markup was found can be put there, and read as the trees that replace the `<`.
 use Rattle.markdown_base.specs.declared.item.ItemBody.TheVariants as body
-use Rattle.std.proofs.Common.{◌≡◌, ℕ, zero, suc, ◌+◌, ◌-◌, ◌<◌, ◌≤◌, ◌⊎◌, inl, inr, false, List, [], ◌∷◌, ◌++◌, Option, Some, None, length}
+use Rattle.std.proofs.Common.{◌≡◌, ℕ, zero, suc, ◌+◌, ◌-◌, ◌<◌, ◌≤◌, ◌⊎◌, inl, inr, false, List, [], ◌∷◌, ◌++◌, Option}
+use Rattle.std.proofs.Common.{Some, None, length}
 use Rattle.std.proofs.Common.{take, drop, get_or, refl, sym, ap, ◌∙◌, subst, arith, append-nil, length-append}
 use Rattle.std.specs.Prelude.{IfSome, codes, slice_index, slice_range}
 use Rattle.std.specs.Option.{option_map}
@@ -57,7 +58,8 @@ boundary_before text end i at before = (
 )
 
 -- a boundary of a text's beginning up to another boundary is one of the text
-pub boundary_after : (text : List ℕ) (end i : ℕ) → IsCharBoundary text end → IsCharBoundary (take end text) i → IsCharBoundary text i
+pub boundary_after : (text : List ℕ) (end i : ℕ) → IsCharBoundary text end → IsCharBoundary (take end text) i
+    → IsCharBoundary text i
 boundary_after text end i last at = cases (cases_lt i end)
   where
     cases : (i < end) ⊎ (end ≤ i) → IsCharBoundary text i
@@ -73,7 +75,8 @@ boundary_after text end i last at = cases (cases_lt i end)
         rw same last
 
 -- a `<` is one byte
-pub one_byte_long : (source : List ℕ) (tables : Tables) (nodes : List (Node Item)) (ix : ℕ) → CanResolve source tables nodes (Some ix)
+pub one_byte_long : (source : List ℕ) (tables : Tables) (nodes : List (Node Item)) (ix : ℕ)
+    → CanResolve source tables nodes (Some ix)
     → (item_at nodes ix).body ≡ body.MaybeHtml
     → (item_at nodes ix).end ≡ (item_at nodes ix).start + 1
 one_byte_long source tables nodes ix ready is =
@@ -91,20 +94,25 @@ one_byte_long source tables nodes ix ready is =
     )
 
 -- the item of a node that may be read lies in the text
-pub lies_at : (source : List ℕ) (tables : Tables) (nodes : List (Node Item)) (ix : ℕ) → CanResolve source tables nodes (Some ix)
+pub lies_at : (source : List ℕ) (tables : Tables) (nodes : List (Node Item)) (ix : ℕ)
+    → CanResolve source tables nodes (Some ix)
     → LiesIn source (item_at nodes ix)
-lies_at source tables nodes ix ready = (opens (links_of nodes) (IsPlaced source tables nodes) ix ready.reaches).holds.lies
+lies_at source tables nodes ix ready
+    = (opens (links_of nodes) (IsPlaced source tables nodes) ix ready.reaches).holds.lies
 
 -- the node is there, and so is the one after it
-pub within_at : (source : List ℕ) (tables : Tables) (nodes : List (Node Item)) (ix : ℕ) → CanResolve source tables nodes (Some ix)
+pub within_at : (source : List ℕ) (tables : Tables) (nodes : List (Node Item)) (ix : ℕ)
+    → CanResolve source tables nodes (Some ix)
     → ix < length nodes
 within_at source tables nodes ix ready = (opens (links_of nodes) (IsPlaced source tables nodes) ix ready.reaches).within
 
 -- past the end of a text nothing is found
-no_tag : (skipped : List ℕ → Option ℕ) (text : List ℕ) (start : ℕ) → length text ≤ start → tag_at skipped text start ≡ None
+no_tag : (skipped : List ℕ → Option ℕ) (text : List ℕ) (start : ℕ) → length text ≤ start → tag_at skipped text start
+    ≡ None
 no_tag skipped text start past = rw (drop_all start text past) (cases (html_tag []) (Closes-html_tag.is []))
   where
-    cases : (found : Option ℕ) → IfSome found (EndsWith 62 []) → option_map (λ n. tag_of skipped start [] (tag_lengths skipped [] n)) found
+    cases : (found : Option ℕ) → IfSome found (EndsWith 62 [])
+        → option_map (λ n. tag_of skipped start [] (tag_lengths skipped [] n)) found
         ≡ None
     cases None h = refl
     cases (Some n) h = absurd (omega (arith, h.some, h.within))
@@ -119,13 +127,15 @@ none_past_end skipped text start at past later =
     rw (drop_all at text beyond, byte, tag) refl
 
 -- a link that was put into its table is found there
-link_pushed : (links : List LinkParts) (link : LinkParts) (n : ℕ) → n ≡ length links → link_at (links ++ link ∷ []) n ≡ link_view link
+link_pushed : (links : List LinkParts) (link : LinkParts) (n : ℕ) → n ≡ length links → link_at (links ++ link ∷ []) n
+    ≡ link_view link
 link_pushed [] link n e = rw e refl
 link_pushed (c ∷ links) link zero e = cc e
 link_pushed (c ∷ links) link (suc n) e = link_pushed links link n (omega (arith, e))
 
 -- and comes from where it came from
-from_pushed : (source : List ℕ) (start end : ℕ) (links : List LinkParts) (link : LinkParts) (n : ℕ) (view : LinkView) → n ≡ length links
+from_pushed : (source : List ℕ) (start end : ℕ) (links : List LinkParts) (link : LinkParts) (n : ℕ) (view : LinkView)
+    → n ≡ length links
     → link_view link ≡ view → IsLinkFrom source start end (link_origins link) view
     → IsLinkFrom source start end (link_origins_at (links ++ link ∷ []) n) (link_at (links ++ link ∷ []) n)
 from_pushed source start end [] link n view e same h =
@@ -134,14 +144,16 @@ from_pushed source start end (c ∷ links) link zero view e same h = cc e
 from_pushed source start end (c ∷ links) link (suc n) view e same h =
     from_pushed source start end links link n view (omega (arith, e)) same h
 
-pub record PutsLink (source : List ℕ) (start end : ℕ) (tables tables' : Tables) (ix : LinkIndex) (link : LinkView) : Type 0 where
+pub record PutsLink (source : List ℕ) (start end : ℕ) (tables tables' : Tables) (ix : LinkIndex) (link : LinkView)
+    : Type 0 where
   pub grown : HasGrown tables tables'
   pub found : link_at tables'.links ix.0 ≡ link
   pub within : ix.0 < length tables'.links
   pub number : ix.0 ≡ length tables.links
   pub slices : HasSliceLink source tables' start end ix.0
 
-pub link_put : (source : List ℕ) (start end : ℕ) (held held' : Allocated) (link : LinkParts) (number : LinkIndex) (view : LinkView)
+pub link_put : (source : List ℕ) (start end : ℕ) (held held' : Allocated) (link : LinkParts) (number : LinkIndex)
+    (view : LinkView)
     → held' ≡ with_link held link → number.0 ≡ length held.links
     → IsLinkFrom source start end (link_origins link) view → link_view link ≡ view
     → PutsLink source start end (tables_of held) (tables_of held') number view
@@ -154,7 +166,8 @@ link_put source start end held held' link number view put last from same = rw pu
 })
 
 -- the entry of an autolink leads to its URI in the source
-pub address_from : (source : List ℕ) (start end : ℕ) (title : Origin) (uri : List ℕ) → IsSliceWithin source start end uri
+pub address_from : (source : List ℕ) (start end : ℕ) (title : Origin) (uri : List ℕ)
+    → IsSliceWithin source start end uri
     → IsLinkFrom source start end (record { destination = sliced; title = title }) (address uri)
 address_from source start end title uri slice = record {
   leads = λ e. record { destination = slice; no_title = refl; no_label = refl };
@@ -180,7 +193,8 @@ can_put_html source tables nodes ix end lies = record {
     none (some_alignments n) h = refl
 
 -- raw HTML without the prefixes of lines
-pub can_put_owned : (source : List ℕ) (tables tables' : Tables) (number : CowIndex) (bytes : List ℕ) (nodes : List (Node Item)) (ix end : ℕ)
+pub can_put_owned : (source : List ℕ) (tables tables' : Tables) (number : CowIndex) (bytes : List ℕ)
+    (nodes : List (Node Item)) (ix end : ℕ)
     → PutsText tables tables' number bytes
     → LiesIn source (item_to nodes ix end (body.Text false))
     → CanPut source tables tables' (item_to nodes ix end (body.OwnedInlineHtml number))
@@ -199,7 +213,8 @@ can_put_owned source tables tables' number bytes nodes ix end put lies = record 
     none (some_alignments n) h = refl
 
 -- an autolink, with its text below it
-pub can_put_autolink : (source : List ℕ) (tables tables' : Tables) (number : LinkIndex) (uri : List ℕ) (nodes : List (Node Item))
+pub can_put_autolink : (source : List ℕ) (tables tables' : Tables) (number : LinkIndex) (uri : List ℕ)
+    (nodes : List (Node Item))
     (ix end : ℕ) → PutsLink source (item_at nodes ix).start end tables tables' number (address uri)
     → LiesIn source (item_to nodes ix end (body.Text false)) → IsAddress source nodes ix end uri
     → CanPutParent source tables tables' nodes ix (item_to nodes ix end (body.Link number)) (address_to nodes ix end)
@@ -241,19 +256,24 @@ ReadsFor source rules tables nodes ix trees m =
     ≡ standing_for source rules m (label_at source tables nodes ix) (trees_from source tables nodes (child_of nodes ix))
 
 pub html_trees : (source : List ℕ) (rules : Rules) (tables tables' : Tables) (nodes : List (Node Item)) (ix end : ℕ)
-    → ReadsFor source rules tables nodes ix (one_item source tables' (item_to nodes ix end body.InlineHtml)) (html_markup end None)
+    → ReadsFor source rules tables nodes ix (one_item source tables' (item_to nodes ix end body.InlineHtml))
+    (html_markup end None)
 html_trees source rules tables tables' nodes ix end = refl
 
 pub owned_trees : (source : List ℕ) (rules : Rules) (tables tables' : Tables) (number : CowIndex) (bytes : List ℕ)
     (nodes : List (Node Item)) (ix end : ℕ) → PutsText tables tables' number bytes
-    → ReadsFor source rules tables nodes ix (one_item source tables' (item_to nodes ix end (body.OwnedInlineHtml number)))
+    → ReadsFor source rules tables nodes ix
+    (one_item source tables' (item_to nodes ix end (body.OwnedInlineHtml number)))
     (html_markup end (Some bytes))
 owned_trees source rules tables tables' number bytes nodes ix end put =
-    ap (λ (xs : List ℕ). markup_trees (setting_of source rules) tt (label_at source tables nodes ix) (html_markup end (Some xs))) put.found
+    ap (λ (xs : List ℕ). markup_trees (setting_of source rules) tt (label_at source tables nodes ix)
+    (html_markup end (Some xs))) put.found
 
 pub autolink_trees : (source : List ℕ) (rules : Rules) (tables tables' : Tables) (number : LinkIndex) (uri : List ℕ)
-    (nodes : List (Node Item)) (ix end : ℕ) → PutsLink source (item_at nodes ix).start end tables tables' number (address uri)
-    → ReadsFor source rules tables nodes ix (parent source tables' (item_to nodes ix end (body.Link number)) (address_to nodes ix end))
+    (nodes : List (Node Item)) (ix end : ℕ) → PutsLink source (item_at nodes ix).start end tables tables' number
+    (address uri)
+    → ReadsFor source rules tables nodes ix
+    (parent source tables' (item_to nodes ix end (body.Link number)) (address_to nodes ix end))
     (autolink end uri)
 autolink_trees source rules tables tables' number uri nodes ix end put = rw put.found refl
 
@@ -265,7 +285,8 @@ one_markup source rules (html_markup end None) a below = refl
 one_markup source rules (html_markup end (Some bytes)) a below = refl
 
 -- so what was put in place replaces it
-pub puts_standing : (source : List ℕ) (rules : Rules) (m : Markup) (ix : ℕ) (trees : Standing) (goes_on : Option ℕ) (rest : Rest)
+pub puts_standing : (source : List ℕ) (rules : Rules) (m : Markup) (ix : ℕ) (trees : Standing) (goes_on : Option ℕ)
+    (rest : Rest)
     (old new : List (Node Item)) (tables tables' : Tables)
     → CanResolve source tables old (Some ix) → ReadsFor source rules tables old ix trees m
     → Puts source ix trees goes_on rest old new tables tables'
@@ -291,13 +312,16 @@ puts_standing source rules m ix trees goes_on rest old new tables tables' ready 
     alike rule =
         let after = trees_from source tables old (sibling_of old ix) in
         let first = (opens_chain source tables old ix ready).trees in
-        ap (replaced trees goes_on rule) first ∙ ap (λ (f : Forest Plain). joined_chains f (rule (past goes_on after))) same
+        ap (replaced trees goes_on rule) first ∙ ap (λ (f : Forest Plain). joined_chains f (rule (past goes_on after)))
+        same
         ∙ ap (replaced (standing_for source rules m) goes_on rule) (sym first)
 
 -- what was found lies in the text
-pub lies_to : (source : List ℕ) (tables : Tables) (nodes : List (Node Item)) (ix last end : ℕ) → CanResolve source tables nodes (Some ix)
+pub lies_to : (source : List ℕ) (tables : Tables) (nodes : List (Node Item)) (ix last end : ℕ)
+    → CanResolve source tables nodes (Some ix)
     → IsCharBoundary source last
-    → (item_at nodes ix).start < end → IsCharBoundary (take last source) end → LiesIn source (item_to nodes ix end (body.Text false))
+    → (item_at nodes ix).start < end → IsCharBoundary (take last source) end
+    → LiesIn source (item_to nodes ix end (body.Text false))
 lies_to source tables nodes ix last end ready boundary after at =
     let lies = lies_at source tables nodes ix ready in
     record { ordered = omega (arith, after); start = lies.start; end = boundary_after source last end boundary at }
@@ -319,7 +343,8 @@ address_lies source tables nodes ix last end ready ends =
     }
 
 -- the byte before its end is `>` in the whole text
-pub closed_in : (source : List ℕ) (last start end : ℕ) → EndsClosed (take last source) start end → get_or source (end - 1) 0 ≡ 62
+pub closed_in : (source : List ℕ) (last start end : ℕ) → EndsClosed (take last source) start end
+    → get_or source (end - 1) 0 ≡ 62
 closed_in source last start end ends =
     let inside : end - 1 < last = omega (arith, ends.within, ends.after, length-take last source) in
     sym (get_or-take last source (end - 1) 0 inside) ∙ ends.closed

@@ -3,7 +3,8 @@
 use Rattle.std.specs.Option.{option_map_or}
 use Rattle.std.specs.Prelude.{IfOk, slice_range}
 use Rattle.std.specs.declared.result.Result.{Result}
-use Rattle.std.proofs.Common.{Bool, Err, IsUtf8, List, None, Ok, Option, Some, ap, arith, false, length, refl, subst, sym, take, true, ℕ, ◌+◌}
+use Rattle.std.proofs.Common.{Bool, Err, IsUtf8, List, None, Ok, Option, Some, ap, arith, false, length, refl, subst}
+use Rattle.std.proofs.Common.{sym, take, true, ℕ, ◌+◌}
 use Rattle.std.proofs.Common.{◌-◌, ◌<◌, ◌==◌, ◌∙◌, ◌≡◌, ◌≤◌}
 use Rattle.std.proofs.Math.Path.{fun_ext}
 use Rattle.std.proofs.lemmas.List.{length-take}
@@ -43,7 +44,8 @@ use Rattle.markdown_resolver.specs.ReadsItem.{ReadsItem}
 use Rattle.markdown_document.specs.declared.chain_place.ChainPlace.{ChainPlace}
 use Rattle.markdown_resolver.proofs.ChainPlaceLemmas.{prefix_is}
 use Rattle.markdown_resolver.proofs.MarkupEndLemmas.{MarkupEnds, found_at, markup_ends}
-use Rattle.markdown_resolver.proofs.MarkupItemLemmas.{address_lies, boundary_before, closed_in, lies_at, lies_to, none_past_end}
+use Rattle.markdown_resolver.proofs.MarkupItemLemmas.{address_lies, boundary_before, closed_in, lies_at, lies_to}
+use Rattle.markdown_resolver.proofs.MarkupItemLemmas.{none_past_end}
 use Rattle.markdown_resolver.proofs.MarkupItemLemmas.{one_byte_long}
 use Rattle.markdown_resolver.proofs.ReadsItemLemmas.{ReadsAs, opener_unquiet, read_opener, reads_item}
 use Rattle.markdown_resolver.proofs.FollowersLemmas.{opens_chain}
@@ -60,7 +62,8 @@ settled_reads s above tables nodes ix is none =
     let waits = opener_unquiet s tables nodes ix body.MaybeHtml is refl refl in
     record {
       standing = ap (λ (p : Passed (Unit {0})). p.trees) r
-          ∙ ap (λ (quiet : Bool). text_unless quiet s.text a (trees_from s.text tables nodes (child_of nodes ix))) (sym waits);
+          ∙ ap (λ (quiet : Bool). text_unless quiet s.text a (trees_from s.text tables nodes (child_of nodes ix)))
+          (sym waits);
       ends = ap (λ (p : Passed (Unit {0})). p.goes_on) r;
     }
 
@@ -71,52 +74,65 @@ found_reads : (s : Setting) (above : Above) (tables : Tables) (nodes : List (Nod
     (next_starts_at (item_at nodes ix).end (trees_from s.text tables nodes (sibling_of nodes ix))) ≡ markup m
     → ReadsAs s above tables nodes ix (standing_for s.text s.rules m) (Some (end_of_markup m))
 found_reads s above tables nodes ix m is found =
-    let r = read_opener s above tables nodes ix body.MaybeHtml is refl refl ∙ ap (passed s plain_tags 0 (label_at s.text tables nodes ix))
+    let r = read_opener s above tables nodes ix body.MaybeHtml is refl refl
+    ∙ ap (passed s plain_tags 0 (label_at s.text tables nodes ix))
     found in
     record { standing = ap (λ (p : Passed (Unit {0})). p.trees) r; ends = ap (λ (p : Passed (Unit {0})). p.goes_on) r }
 
 -- whether the next item starts at a byte
 starts_in : (source : List ℕ) (tables : Tables) (nodes : List (Node Item)) (i : ℕ) (l : Option ℕ) (f : Forest ℕ)
     → Spells (links_of nodes) l f
-    → option_map_or (λ ix. (item_at nodes ix).start == i) l false ≡ next_starts_at i (relabelled (label_at source tables nodes) f)
+    → option_map_or (λ ix. (item_at nodes ix).start == i) l false
+    ≡ next_starts_at i (relabelled (label_at source tables nodes) f)
 starts_in source tables nodes i l nil s = rw s refl
 starts_in source tables nodes i l (node ix below after) s = rw s.0 refl
 
-pub next_starts : (source : List ℕ) (tables : Tables) (nodes : List (Node Item)) (i ix : ℕ) → CanResolve source tables nodes (Some ix)
+pub next_starts : (source : List ℕ) (tables : Tables) (nodes : List (Node Item)) (i ix : ℕ)
+    → CanResolve source tables nodes (Some ix)
     → option_map_or (λ n. (item_at nodes n).start == i) (sibling_of nodes ix) false
     ≡ next_starts_at i (trees_from source tables nodes (sibling_of nodes ix))
 next_starts source tables nodes i ix ready =
     let after = (opens (links_of nodes) (IsPlaced source tables nodes) ix ready.reaches).after in
-    starts_in source tables nodes i (sibling_of nodes ix) (forest_at (links_of nodes) (sibling_of nodes ix)) after.spelled
+    starts_in source tables nodes i (sibling_of nodes ix) (forest_at (links_of nodes) (sibling_of nodes ix))
+    after.spelled
 
 -- what was scanned with the prefix of all nodes that were entered is what is found below the blocks
-pub scanned_is : (place : ChainPlace) (prefix : ContainerPrefix) (tree : Arena Item) (rules : Rules) (start at : ℕ) (found : Option Markup)
+pub scanned_is : (place : ChainPlace) (prefix : ContainerPrefix) (tree : Arena Item) (rules : Rules) (start at : ℕ)
+    (found : Option Markup)
     → prefix.tree.now ≡ tree
-    → prefix.gfm_footnotes ≡ gfm_footnotes_on place.options → gfm_footnotes_on rules.options ≡ gfm_footnotes_on place.options → IsPlaceOf place tree
+    → prefix.gfm_footnotes ≡ gfm_footnotes_on place.options → gfm_footnotes_on rules.options
+    ≡ gfm_footnotes_on place.options → IsPlaceOf place tree
     → found ≡ markup_at (λ rest. Some (length_by prefix rest)) (take place.block_end place.text.now) start at
-    → markup_at (λ bytes. Some (prefix_below (setting_of place.text.now rules) (above_cursor place.text.now tree) bytes))
+    → markup_at (λ bytes. Some
+    (prefix_below (setting_of place.text.now rules) (above_cursor place.text.now tree) bytes))
     (take (above_cursor place.text.now tree).block_end place.text.now) start at ≡ found
 scanned_is place prefix tree rules start at found here gfm same stands is =
     let s = setting_of place.text.now rules in
     let above = above_cursor place.text.now tree in
     let by : (bytes : List ℕ) → length_by prefix bytes ≡ prefix_below s above bytes = λ bytes.
-    prefix_is prefix s (gfm ∙ sym same) bytes ∙ ap (λ (t : Arena Item). prefix_below s (above_cursor place.text.now t) bytes) here in
+    prefix_is prefix s (gfm ∙ sym same) bytes
+    ∙ ap (λ (t : Arena Item). prefix_below s (above_cursor place.text.now t) bytes) here in
     let rule : (λ rest. Some (length_by prefix rest)) ≡ (λ rest. Some (prefix_below s above rest)) =
     fun_ext (λ bytes. ap (λ (n : ℕ). Some n) (by bytes)) in
-    sym (is ∙ (ap (λ (skipped : List ℕ → Option ℕ). markup_at skipped (take place.block_end place.text.now) start at) rule
-    ∙ ap (λ (end : ℕ). markup_at (λ bytes. Some (prefix_below s above bytes)) (take end place.text.now) start at) stands.block_end))
+    sym (is ∙ (ap (λ (skipped : List ℕ → Option ℕ). markup_at skipped (take place.block_end place.text.now) start at)
+    rule
+    ∙ ap (λ (end : ℕ). markup_at (λ bytes. Some (prefix_below s above bytes)) (take end place.text.now) start at)
+    stands.block_end))
 
 -- a `<` before the block's end that the next item follows was scanned, and this was found
-pub record IsScanned (place : ChainPlace) (tree : Arena Item) (held : Allocated) (ix : ℕ) (prefix : ContainerPrefix) (found : Option Markup)
+pub record IsScanned (place : ChainPlace) (tree : Arena Item) (held : Allocated) (ix : ℕ) (prefix : ContainerPrefix)
+    (found : Option Markup)
     : Type 0 where
   pub can : CanReadItem place tree held ix
   pub opener : (item_at tree.nodes ix).body ≡ body.MaybeHtml
   pub inside : (item_at tree.nodes ix).end ≤ place.block_end
-  pub follows : option_map_or (λ n. (item_at tree.nodes n).start == (item_at tree.nodes ix).end) (sibling_of tree.nodes ix) false ≡ true
+  pub follows : option_map_or (λ n. (item_at tree.nodes n).start == (item_at tree.nodes ix).end)
+      (sibling_of tree.nodes ix) false ≡ true
   pub here : prefix.tree.now ≡ tree
   pub gfm : prefix.gfm_footnotes ≡ gfm_footnotes_on place.options
   pub utf8 : IsUtf8 (take place.block_end place.text.now)
-  pub value : found ≡ markup_at (λ rest. Some (length_by prefix rest)) (take place.block_end place.text.now) (item_at tree.nodes ix).start
+  pub value : found ≡ markup_at (λ rest. Some (length_by prefix rest)) (take place.block_end place.text.now)
+      (item_at tree.nodes ix).start
       (item_at tree.nodes ix).end
 
 -- a text up to a byte
@@ -124,14 +140,17 @@ pub text_up_to : (text : List ℕ) (end : ℕ) → slice_range text 0 end ≡ ta
 text_up_to text end = let all : end - 0 ≡ end = omega arith in ap (λ (n : ℕ). take n text) all
 
 -- so it is where the item was copied, and the text cut
-pub is_scanned : (place : ChainPlace) (tree : Arena Item) (held : Allocated) (ix : ℕ) (prefix : ContainerPrefix) (found : Option Markup)
+pub is_scanned : (place : ChainPlace) (tree : Arena Item) (held : Allocated) (ix : ℕ) (prefix : ContainerPrefix)
+    (found : Option Markup)
     (item : Item) (next : Option ℕ) (text : List ℕ)
     → CanReadItem place tree held ix → (item_at tree.nodes ix).body ≡ body.MaybeHtml → item ≡ item_at tree.nodes ix
     → item.end ≤ place.block_end
     → next ≡ sibling_of tree.nodes ix → true ≡ option_map_or (λ n. (item_at tree.nodes n).start == item.end) next false
-    → prefix.tree.now ≡ tree → prefix.gfm_footnotes ≡ gfm_footnotes_on place.options → text ≡ slice_range place.text.now 0 place.block_end
+    → prefix.tree.now ≡ tree → prefix.gfm_footnotes ≡ gfm_footnotes_on place.options → text
+    ≡ slice_range place.text.now 0 place.block_end
     → IsUtf8 text
-    → found ≡ markup_at (λ rest. Some (length_by prefix rest)) text item.start item.end → IsScanned place tree held ix prefix found
+    → found ≡ markup_at (λ rest. Some (length_by prefix rest)) text item.start item.end
+    → IsScanned place tree held ix prefix found
 is_scanned place tree held ix prefix found item next text can opener same inside after follows here gfm cut utf8 value =
     let whole : text ≡ take place.block_end place.text.now = cut ∙ text_up_to place.text.now place.block_end in
     record {
@@ -139,13 +158,17 @@ is_scanned place tree held ix prefix found item next text can opener same inside
       opener = opener;
       inside = rw same at inside;
       follows =
-          ap (λ (o : Option ℕ). option_map_or (λ n. (item_at tree.nodes n).start == (item_at tree.nodes ix).end) o false) (sym after)
-          ∙ (ap (λ (i : Item). option_map_or (λ n. (item_at tree.nodes n).start == i.end) next false) (sym same) ∙ sym follows);
+          ap (λ (o : Option ℕ). option_map_or (λ n. (item_at tree.nodes n).start == (item_at tree.nodes ix).end) o
+          false) (sym after)
+          ∙ (ap (λ (i : Item). option_map_or (λ n. (item_at tree.nodes n).start == i.end) next false) (sym same)
+          ∙ sym follows);
       here = here;
       gfm = gfm;
       utf8 = subst IsUtf8 whole utf8;
-      value = value ∙ (ap (λ (xs : List ℕ). markup_at (λ rest. Some (length_by prefix rest)) xs item.start item.end) whole
-          ∙ ap (λ (i : Item). markup_at (λ rest. Some (length_by prefix rest)) (take place.block_end place.text.now) i.start i.end) same);
+      value = value ∙ (ap (λ (xs : List ℕ). markup_at (λ rest. Some (length_by prefix rest)) xs item.start item.end)
+          whole
+          ∙ ap (λ (i : Item). markup_at (λ rest. Some (length_by prefix rest)) (take place.block_end place.text.now)
+          i.start i.end) same);
     }
 
 -- the markup that was found, or nothing
@@ -155,23 +178,30 @@ markup_or_nothing found = option_map_or markup found nothing
 -- what pass one finds there
 abbrev pub found_by : ChainPlace → Arena Item → Allocated → ℕ → Rules → Find (Unit {0})
 found_by place tree held ix rules =
-    markup_found (setting_of place.text.now rules) (above_cursor place.text.now tree) (label_at place.text.now (tables_of held) tree.nodes
+    markup_found (setting_of place.text.now rules) (above_cursor place.text.now tree)
+    (label_at place.text.now (tables_of held) tree.nodes
     ix)
-    (next_starts_at (item_at tree.nodes ix).end (trees_from place.text.now (tables_of held) tree.nodes (sibling_of tree.nodes ix)))
+    (next_starts_at (item_at tree.nodes ix).end
+    (trees_from place.text.now (tables_of held) tree.nodes (sibling_of tree.nodes ix)))
 
 -- it is what was scanned
-pub scan_finds : (place : ChainPlace) (tree : Arena Item) (held : Allocated) (ix : ℕ) (prefix : ContainerPrefix) (found : Option Markup)
+pub scan_finds : (place : ChainPlace) (tree : Arena Item) (held : Allocated) (ix : ℕ) (prefix : ContainerPrefix)
+    (found : Option Markup)
     (rules : Rules) → IsScanned place tree held ix prefix found
-    → gfm_footnotes_on rules.options ≡ gfm_footnotes_on place.options → found_by place tree held ix rules ≡ markup_or_nothing found
+    → gfm_footnotes_on rules.options ≡ gfm_footnotes_on place.options → found_by place tree held ix rules
+    ≡ markup_or_nothing found
 scan_finds place tree held ix prefix found rules is gfm =
     let s = setting_of place.text.now rules in
     let item = item_at tree.nodes ix in
     let after = sym (next_starts place.text.now (tables_of held) tree.nodes item.end ix is.can.ready) ∙ is.follows in
-    ap (markup_found s (above_cursor place.text.now tree) (label_at place.text.now (tables_of held) tree.nodes ix)) after
-    ∙ ap markup_or_nothing (scanned_is place prefix tree rules item.start item.end found is.here is.gfm gfm is.can.stands is.value)
+    ap (markup_found s (above_cursor place.text.now tree) (label_at place.text.now (tables_of held) tree.nodes ix))
+    after
+    ∙ ap markup_or_nothing
+    (scanned_is place prefix tree rules item.start item.end found is.here is.gfm gfm is.can.stands is.value)
 
 -- nothing is found where no item follows directly
-pub none_follows : (place : ChainPlace) (tree : Arena Item) (held : Allocated) (ix : ℕ) (rules : Rules) (item : Item) (next : Option ℕ)
+pub none_follows : (place : ChainPlace) (tree : Arena Item) (held : Allocated) (ix : ℕ) (rules : Rules) (item : Item)
+    (next : Option ℕ)
     → CanReadItem place tree held ix
     → item ≡ item_at tree.nodes ix → next ≡ sibling_of tree.nodes ix
     → false ≡ option_map_or (λ n. (item_at tree.nodes n).start == item.end) next false
@@ -179,9 +209,12 @@ pub none_follows : (place : ChainPlace) (tree : Arena Item) (held : Allocated) (
 none_follows place tree held ix rules item next can same after none =
     let follows =
     sym (next_starts place.text.now (tables_of held) tree.nodes (item_at tree.nodes ix).end ix can.ready)
-    ∙ (ap (λ (o : Option ℕ). option_map_or (λ n. (item_at tree.nodes n).start == (item_at tree.nodes ix).end) o false) (sym after)
-    ∙ (ap (λ (i : Item). option_map_or (λ n. (item_at tree.nodes n).start == i.end) next false) (sym same) ∙ sym none)) in
-    ap (markup_found (setting_of place.text.now rules) (above_cursor place.text.now tree) (label_at place.text.now (tables_of held)
+    ∙ (ap (λ (o : Option ℕ). option_map_or (λ n. (item_at tree.nodes n).start == (item_at tree.nodes ix).end) o false)
+    (sym after)
+    ∙ (ap (λ (i : Item). option_map_or (λ n. (item_at tree.nodes n).start == i.end) next false) (sym same) ∙ sym none))
+    in
+    ap (markup_found (setting_of place.text.now rules) (above_cursor place.text.now tree)
+    (label_at place.text.now (tables_of held)
     tree.nodes ix)) follows
 
 -- nor where the `<` is not before the block's end
@@ -190,12 +223,14 @@ pub none_past_block : (place : ChainPlace) (tree : Arena Item) (held : Allocated
     → (item_at tree.nodes ix).body ≡ body.MaybeHtml → item ≡ item_at tree.nodes ix → place.block_end < item.end
     → found_by place tree held ix rules ≡ nothing
 none_past_block place tree held ix rules item can opener same past =
-    by_next (next_starts_at (item_at tree.nodes ix).end (trees_from place.text.now (tables_of held) tree.nodes (sibling_of tree.nodes ix)))
+    by_next (next_starts_at (item_at tree.nodes ix).end
+    (trees_from place.text.now (tables_of held) tree.nodes (sibling_of tree.nodes ix)))
   where
     start : ℕ
     start = (item_at tree.nodes ix).start
 
-    none : markup_at (λ bytes. Some (prefix_below (setting_of place.text.now rules) (above_cursor place.text.now tree) bytes))
+    none : markup_at (λ bytes. Some
+        (prefix_below (setting_of place.text.now rules) (above_cursor place.text.now tree) bytes))
         (take (above_cursor place.text.now tree).block_end place.text.now) start (item_at tree.nodes ix).end ≡ None
     none =
         let last = can.stands.block_end in
@@ -203,7 +238,8 @@ none_past_block place tree held ix rules item can opener same past =
         let end : item.end ≡ (item_at tree.nodes ix).end = ap (λ (i : Item). i.end) same in
         let beyond : length (take (above_cursor place.text.now tree).block_end place.text.now) ≤ start =
         omega (arith, length-take (above_cursor place.text.now tree).block_end place.text.now, last, long, end, past) in
-        none_past_end (λ bytes. Some (prefix_below (setting_of place.text.now rules) (above_cursor place.text.now tree) bytes))
+        none_past_end (λ bytes. Some
+        (prefix_below (setting_of place.text.now rules) (above_cursor place.text.now tree) bytes))
         (take (above_cursor place.text.now tree).block_end place.text.now) start (item_at tree.nodes ix).end beyond
         (omega (arith, long))
 
@@ -220,13 +256,16 @@ scan_ends place tree held ix prefix m is =
     let item = item_at tree.nodes ix in
     let long = one_byte_long place.text.now (tables_of held) tree.nodes ix is.can.ready is.opener in
     let lies = lies_at place.text.now (tables_of held) tree.nodes ix is.can.ready in
-    let before : item.end ≤ length (take place.block_end place.text.now) = (boundary_before place.text.now place.block_end item.end lies.end
+    let before : item.end ≤ length (take place.block_end place.text.now)
+    = (boundary_before place.text.now place.block_end item.end lies.end
     is.inside).0 in
-    markup_ends (λ rest. Some (length_by prefix rest)) (take place.block_end place.text.now) item.start item.end m (omega (arith, long))
+    markup_ends (λ rest. Some (length_by prefix rest)) (take place.block_end place.text.now) item.start item.end m
+    (omega (arith, long))
     before (sym is.value)
 
 -- so it can be put in place
-has_address : (place : ChainPlace) (tree : Arena Item) (held : Allocated) (ix : ℕ) (m : Markup) → CanReadItem place tree held ix
+has_address : (place : ChainPlace) (tree : Arena Item) (held : Allocated) (ix : ℕ) (m : Markup)
+    → CanReadItem place tree held ix
     → MarkupEnds (take place.block_end place.text.now) (item_at tree.nodes ix).start (item_at tree.nodes ix).end m
     → HasAddress place.text.now tree.nodes ix m
 has_address place tree held ix (html_markup end bytes) can ends = tt
@@ -237,13 +276,15 @@ has_address place tree held ix (autolink end uri) can ends = record {
   slice =
       let item = item_at tree.nodes ix in
       slice_wider place.text.now (0 + item.end) (0 + end) item.start end uri
-      (omega (arith, (opens_chain place.text.now (tables_of held) tree.nodes ix can.ready).placed.lies.ordered)) (omega arith)
+      (omega (arith, (opens_chain place.text.now (tables_of held) tree.nodes ix can.ready).placed.lies.ordered))
+      (omega arith)
       (slice_of_slice place.text.now 0 place.block_end item.end end uri
       (subst (λ (text : List ℕ). IsSliceWithin text item.end end uri) (sym (text_up_to place.text.now place.block_end))
       ends.address.1));
 }
 
-pub markup_stands : (place : ChainPlace) (tree : Arena Item) (held : Allocated) (ix : ℕ) (prefix : ContainerPrefix) (m : Markup)
+pub markup_stands : (place : ChainPlace) (tree : Arena Item) (held : Allocated) (ix : ℕ) (prefix : ContainerPrefix)
+    (m : Markup)
     → IsScanned place tree held ix prefix (Some m)
     → IsMarkupAt place.text.now (tables_of held) tree.nodes ix m
 markup_stands place tree held ix prefix m is =
@@ -253,7 +294,8 @@ markup_stands place tree held ix prefix m is =
     record {
       found = found_at source (tables_of held) tree.nodes ix end is.can.ready is.can.unread is.opener
           (closed_in source place.block_end (item_at tree.nodes ix).start end at.ends);
-      lies = lies_to source (tables_of held) tree.nodes ix place.block_end end is.can.ready is.can.stands.boundary at.ends.after
+      lies = lies_to source (tables_of held) tree.nodes ix place.block_end end is.can.ready is.can.stands.boundary
+          at.ends.after
           (closed_boundary (take place.block_end source) end is.utf8 at.ends.within at.ends.closed);
       address = has_address place tree held ix m is.can at;
     }
@@ -263,7 +305,8 @@ pub reads_text : (place : ChainPlace) (tree : Arena Item) (held : Allocated) (ix
     (new : List (Node Item)) → CanReadItem place tree held ix
     → (item_at tree.nodes ix).body ≡ body.MaybeHtml → found_by place tree held ix rules ≡ nothing
     → Puts place.text.now ix (settled place.text.now) None rest tree.nodes new (tables_of held) (tables_of held)
-    → ReadsItem (setting_of place.text.now rules) (above_cursor place.text.now tree) ix rest tree.nodes new (tables_of held)
+    → ReadsItem (setting_of place.text.now rules) (above_cursor place.text.now tree) ix rest tree.nodes new
+    (tables_of held)
     (tables_of held)
 reads_text place tree held ix rules rest new can opener none p =
     let s = setting_of place.text.now rules in
@@ -271,11 +314,14 @@ reads_text place tree held ix rules rest new can opener none p =
     reads_item can.ready (settled_reads s above (tables_of held) tree.nodes ix opener none) p
 
 -- where markup is found, the item is read as the trees that replace it
-pub reads_found : (place : ChainPlace) (tree : Arena Item) (held : Allocated) (ix : ℕ) (prefix : ContainerPrefix) (m : Markup)
+pub reads_found : (place : ChainPlace) (tree : Arena Item) (held : Allocated) (ix : ℕ) (prefix : ContainerPrefix)
+    (m : Markup)
     (rules : Rules) (rest : Rest) (new : List (Node Item)) (tables' : Tables)
     → IsScanned place tree held ix prefix (Some m) → gfm_footnotes_on rules.options ≡ gfm_footnotes_on place.options
-    → Puts place.text.now ix (standing_for place.text.now rules m) (Some (end_of_markup m)) rest tree.nodes new (tables_of held) tables'
-    → ReadsItem (setting_of place.text.now rules) (above_cursor place.text.now tree) ix rest tree.nodes new (tables_of held) tables'
+    → Puts place.text.now ix (standing_for place.text.now rules m) (Some (end_of_markup m)) rest tree.nodes new
+    (tables_of held) tables'
+    → ReadsItem (setting_of place.text.now rules) (above_cursor place.text.now tree) ix rest tree.nodes new
+    (tables_of held) tables'
 reads_found place tree held ix prefix m rules rest new tables' is gfm p =
     let s = setting_of place.text.now rules in
     let above = above_cursor place.text.now tree in

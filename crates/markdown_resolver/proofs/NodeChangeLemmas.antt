@@ -17,7 +17,8 @@ changed_other (m ∷ nodes) zero change zero h = absurd (h refl)
 changed_other (m ∷ nodes) zero change (suc n) h = record { child = refl; next = refl; item = refl }
 changed_other (m ∷ nodes) (suc ix) change zero h = record { child = refl; next = refl; item = refl }
 changed_other (m ∷ nodes) (suc ix) change (suc n) h =
-    let s = changed_other nodes ix change n (λ e. h (ap suc e)) in record { child = s.child; next = s.next; item = s.item }
+    let s = changed_other nodes ix change n (λ e. h (ap suc e)) in record
+    { child = s.child; next = s.next; item = s.item }
 
 -- the node of a number
 abbrev pub node_at : List (Node Item) → ℕ → Node Item
@@ -29,7 +30,8 @@ pub record IsChanged (change : Node Item → Node Item) (nodes : List (Node Item
   pub child : child_of (changed_at ix change nodes) ix ≡ (change (node_at nodes ix)).child
   pub next : sibling_of (changed_at ix change nodes) ix ≡ (change (node_at nodes ix)).next
 
-pub changed_here : (nodes : List (Node Item)) (ix : ℕ) (change : Node Item → Node Item) → ix < length nodes → IsChanged change nodes ix
+pub changed_here : (nodes : List (Node Item)) (ix : ℕ) (change : Node Item → Node Item) → ix < length nodes
+    → IsChanged change nodes ix
 changed_here [] ix change l = absurd (omega (arith, l))
 changed_here (n ∷ nodes) zero change l = record { item = refl; child = refl; next = refl }
 changed_here (n ∷ nodes) (suc ix) change l =
@@ -37,14 +39,16 @@ changed_here (n ∷ nodes) (suc ix) change l =
     record { item = rest.item; child = rest.child; next = rest.next }
 
 -- an item that is written again
-pub item_again : (nodes : List (Node Item)) (ix : ℕ) → changed_at ix (λ n. record n { item = item_at nodes ix }) nodes ≡ nodes
+pub item_again : (nodes : List (Node Item)) (ix : ℕ) → changed_at ix (λ n. record n { item = item_at nodes ix }) nodes
+    ≡ nodes
 item_again [] ix = refl
 item_again (m ∷ nodes) zero = refl
 item_again (m ∷ nodes) (suc ix) = ap (λ (rest : List (Node Item)). m ∷ rest) (item_again nodes ix)
 
 -- a node whose item and then whose link was changed is written
 pub written_nodes : (nodes : List (Node Item)) (ix : ℕ) (item : Item) (next : Option ℕ) → ix < length nodes
-    → IsWritten nodes (changed_at ix (λ n. record n { next = next }) (changed_at ix (λ n. record n { item = item }) nodes)) ix item next
+    → IsWritten nodes (changed_at ix (λ n. record n { next = next })
+    (changed_at ix (λ n. record n { item = item }) nodes)) ix item next
 written_nodes nodes ix item next l =
     let mid = changed_at ix (λ n. record n { item = item }) nodes in
     let size = length-changed_at ix (λ n. record n { item = item }) nodes in
@@ -64,13 +68,17 @@ written_nodes nodes ix item next l =
 
 pub written_tree : (s t u : Arena Item) (ix : ℕ) (item : Item) (next : Option ℕ) → ix < length s.nodes
     → t ≡ record s { nodes = changed_at ix (λ n. record n { item = item }) s.nodes }
-    → u ≡ record t { nodes = changed_at ix (λ n. record n { next = next }) t.nodes } → IsWritten s.nodes u.nodes ix item next
+    → u ≡ record t { nodes = changed_at ix (λ n. record n { next = next }) t.nodes }
+    → IsWritten s.nodes u.nodes ix item next
 written_tree s t u ix item next l e f =
     let nodes : t.nodes ≡ changed_at ix (λ n. record n { item = item }) s.nodes = ap (λ (a : Arena Item). a.nodes) e in
-    let nodes' : u.nodes ≡ changed_at ix (λ n. record n { next = next }) (changed_at ix (λ n. record n { item = item }) s.nodes) =
-    ap (λ (a : Arena Item). a.nodes) f ∙ ap (λ (ns : List (Node Item)). changed_at ix (λ n. record n { next = next }) ns) nodes in
+    let nodes' : u.nodes ≡ changed_at ix (λ n. record n { next = next })
+    (changed_at ix (λ n. record n { item = item }) s.nodes) =
+    ap (λ (a : Arena Item). a.nodes) f
+    ∙ ap (λ (ns : List (Node Item)). changed_at ix (λ n. record n { next = next }) ns) nodes in
     rw nodes' (written_nodes s.nodes ix item next l)
 
 pub size_written : (s t : Arena Item) (ix : ℕ) (item : Item)
     → t ≡ record s { nodes = changed_at ix (λ n. record n { item = item }) s.nodes } → length t.nodes ≡ length s.nodes
-size_written s t ix item e = ap (λ (a : Arena Item). length a.nodes) e ∙ length-changed_at ix (λ n. record n { item = item }) s.nodes
+size_written s t ix item e = ap (λ (a : Arena Item). length a.nodes) e
+    ∙ length-changed_at ix (λ n. record n { item = item }) s.nodes

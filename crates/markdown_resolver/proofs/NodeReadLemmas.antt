@@ -14,8 +14,10 @@ use Rattle.markdown_spans.specs.SpanClosers.{HoldsFrom, Learned, has_failed}
 use Rattle.markdown_spans.specs.declared.span_text.SpanKind.{SpanKind}
 use Rattle.markdown_resolver.specs.BracketKinds.{kind_of}
 use Rattle.markdown_resolver.specs.ReadOn.{ReadsOn, StandsTo}
-use Rattle.markdown_resolver.specs.ReadsBracket.{CanReadNode, ChangesForBracket, ChangesForNode, ReadsBracket, ReadsNode}
-use Rattle.markdown_resolver.specs.ReadsBracket.{StopsLooking, WasReadTo, setting_by, stage_by, ChangesForOther, HasLearned, Looked, ReadsOther, CanReadOther}
+use Rattle.markdown_resolver.specs.ReadsBracket.{CanReadNode, ChangesForBracket, ChangesForNode, ReadsBracket}
+use Rattle.markdown_resolver.specs.ReadsBracket.{ReadsNode}
+use Rattle.markdown_resolver.specs.ReadsBracket.{StopsLooking, WasReadTo, setting_by, stage_by, ChangesForOther}
+use Rattle.markdown_resolver.specs.ReadsBracket.{HasLearned, Looked, ReadsOther, CanReadOther}
 use Rattle.markdown_resolver.specs.ReadsItem.{ReadsItem, read_at}
 use Rattle.markdown_resolver.specs.declared.rest.Rest.{Rest}
 use Rattle.markdown_document.specs.declared.chain_place.ChainPlace.{ChainPlace}
@@ -39,7 +41,8 @@ module _ {C : Type 0} {step : C → Question → Option Answer → C → Type 0}
   pub bracket_read : ChangesForBracket old new → ReadsBracket step place ix rest tree tree' old new
       → ReadsNode step place ix rest tree tree' old new
   bracket_read changes r =
-      let leads = chain_leads place.text.now (tables_of old.lookup.tables) tree.nodes (Some ix) (ready_here can.was_read) in
+      let leads = chain_leads place.text.now (tables_of old.lookup.tables) tree.nodes (Some ix)
+      (ready_here can.was_read) in
       let holds : (kind : SpanKind) (learned : Learned) → HoldsFrom kind learned tree.nodes (Some ix)
       → HoldsFrom kind learned tree'.nodes rest.next =
       λ kind learned h. r.holds kind learned (holds_next kind learned tree.nodes ix leads h) in
@@ -52,13 +55,16 @@ module _ {C : Type 0} {step : C → Question → Option Answer → C → Type 0}
           math = holds SpanKind.Math old.math_closers can.learned.math;
         });
         looked = subst (λ (x : Resolver C). Looked ix rest.next tree tree' old x) (sym changes.kept) (record {
-          code = looks_at_none (has_failed old.code_closers) old.work.code_visits before rest.passed after r.goes_on.passes;
-          math = looks_at_none (has_failed old.math_closers) old.work.math_visits before rest.passed after r.goes_on.passes;
+          code = looks_at_none (has_failed old.code_closers) old.work.code_visits before rest.passed after
+              r.goes_on.passes;
+          math = looks_at_none (has_failed old.math_closers) old.work.math_visits before rest.passed after
+              r.goes_on.passes;
         });
       }
 
 -- so it does where memory is refused
-pub bracket_stops : {C : Type 0} (ix : ℕ) (tree : Arena Item) (old new : Resolver C) → ChangesForBracket old new → StopsLooking ix tree old new
+pub bracket_stops : {C : Type 0} (ix : ℕ) (tree : Arena Item) (old new : Resolver C) → ChangesForBracket old new
+    → StopsLooking ix tree old new
 bracket_stops {C} ix tree old new changes =
     subst (λ (x : Resolver C). StopsLooking ix tree old x) (sym changes.kept) (record {
       code_looks = stops_at_none (has_failed old.code_closers) old.work.code_visits _;
@@ -66,17 +72,22 @@ bracket_stops {C} ix tree old new changes =
     })
 
 -- another item was read, after any left list
-pub other_on : {C : Type 0} (step : C → Question → Option Answer → C → Type 0) (place : ChainPlace) (ix : ℕ) (rest : Rest)
-    (tree tree' : Arena Item) (old new : Resolver C) → CanReadNode place tree old ix → kind_of (item_at tree.nodes ix).body ≡ None
+pub other_on : {C : Type 0} (step : C → Question → Option Answer → C → Type 0) (place : ChainPlace) (ix : ℕ)
+    (rest : Rest)
+    (tree tree' : Arena Item) (old new : Resolver C) → CanReadNode place tree old ix
+    → kind_of (item_at tree.nodes ix).body ≡ None
     → ChangesForOther old new
-    → ReadsItem (setting_by old) (above_cursor old.text.now tree) ix rest tree.nodes tree'.nodes (tables_of old.lookup.tables)
+    → ReadsItem (setting_by old) (above_cursor old.text.now tree) ix rest tree.nodes tree'.nodes
+    (tables_of old.lookup.tables)
     (tables_of new.lookup.tables)
     → (first : ℕ) (left : List (Entry ℕ)) → WasReadTo place tree old first ix left
     → ReadsOn step (setting_by old) (above_cursor old.text.now tree) first (Some ix) rest.next left (stage_by tree old)
     (stage_by tree' new) old.waiting.spent new.waiting.spent new.waiting.openers.brackets new.waiting.openers.wikilinks
 other_on {C} step place ix rest tree tree' old new can kind kept r first left was_read =
-    let so_far : StandsTo old.text.now (tables_of old.lookup.tables) tree.nodes first (Some ix) left = rw (← can.text) was_read.so_far in
-    let same : stage_by tree' new ≡ record (stage_by tree old) { nodes = tree'.nodes; tables = tables_of new.lookup.tables } =
+    let so_far : StandsTo old.text.now (tables_of old.lookup.tables) tree.nodes first (Some ix) left = rw (← can.text)
+    was_read.so_far in
+    let same : stage_by tree' new
+    ≡ record (stage_by tree old) { nodes = tree'.nodes; tables = tables_of new.lookup.tables } =
     ap (λ (x : Resolver C). let y : Stage C = record {
       nodes = tree'.nodes;
       tables = tables_of new.lookup.tables;
@@ -84,9 +95,12 @@ other_on {C} step place ix rest tree tree' old new can kind kept r first left wa
       uses = uses_of x.lookup.tables.footdefs;
       callback = x.lookup.callback;
     } in y) kept in
-    subst (λ (x : Resolver C). ReadsOn step (setting_by old) (above_cursor old.text.now tree) first (Some ix) rest.next left
-    (stage_by tree old) (stage_by tree' new) old.waiting.spent x.waiting.spent x.waiting.openers.brackets x.waiting.openers.wikilinks) (sym kept)
-    (reads_on_item step (setting_by old) (above_cursor old.text.now tree) first ix rest left (stage_by tree old) (stage_by tree' new)
+    subst (λ (x : Resolver C). ReadsOn step (setting_by old) (above_cursor old.text.now tree) first (Some ix) rest.next
+    left
+    (stage_by tree old) (stage_by tree' new) old.waiting.spent x.waiting.spent x.waiting.openers.brackets
+    x.waiting.openers.wikilinks) (sym kept)
+    (reads_on_item step (setting_by old) (above_cursor old.text.now tree) first ix rest left (stage_by tree old)
+    (stage_by tree' new)
     old.waiting.spent old.waiting.openers.brackets old.waiting.openers.wikilinks same so_far was_read.openers
     (other_kind (item_at tree.nodes ix).body kind) r)
 
@@ -133,22 +147,28 @@ other_changes {C} {old} {new} kept = record {
 }
 
 -- what is left after it was not read
-unread_read : (s : Setting) (above : Above) (ix : ℕ) (rest : Rest) (old new : List (Node Item)) (tables tables' : Tables)
+unread_read : (s : Setting) (above : Above) (ix : ℕ) (rest : Rest) (old new : List (Node Item))
+    (tables tables' : Tables)
     → CanResolve s.text tables old (Some ix) → ReadsItem s above ix rest old new tables tables'
     → IsUnread (trees_from s.text tables old (Some ix)) → IsUnread (trees_from s.text tables' new rest.next)
 unread_read s above ix rest old new tables tables' ready reads h =
-    rw reads.puts.rest_is (unread_past (read_at s above tables old ix).goes_on (trees_from s.text tables old (sibling_of old ix))
+    rw reads.puts.rest_is
+    (unread_past (read_at s above tables old ix).goes_on (trees_from s.text tables old (sibling_of old ix))
     (unread_after s.text tables old ix ready h))
 
-ready_before : {C : Type 0} {place : ChainPlace} {tree : Arena Item} {old : Resolver C} {ix : ℕ} (can : CanReadNode place tree old ix)
+ready_before : {C : Type 0} {place : ChainPlace} {tree : Arena Item} {old : Resolver C} {ix : ℕ}
+    (can : CanReadNode place tree old ix)
     → CanResolve old.text.now (tables_of old.lookup.tables) tree.nodes (Some ix)
-ready_before {C} {place} {tree} {old} {ix} can = subst (λ (text : List ℕ). CanResolve text (tables_of old.lookup.tables) tree.nodes (Some ix)) can.text
+ready_before {C} {place} {tree} {old} {ix} can = subst
+    (λ (text : List ℕ). CanResolve text (tables_of old.lookup.tables) tree.nodes (Some ix)) can.text
     (ready_here can.was_read)
 
 -- an item that is not a bracket was read, unless memory was refused
-pub other_read : {C E : Type 0} (r : Result Rest E) (step : C → Question → Option Answer → C → Type 0) (place : ChainPlace)
+pub other_read : {C E : Type 0} (r : Result Rest E) (step : C → Question → Option Answer → C → Type 0)
+    (place : ChainPlace)
     (ix : ℕ) (tree tree' : Arena Item) (old new : Resolver C) → CanReadNode place tree old ix
-    → kind_of (item_at tree.nodes ix).body ≡ None → ChangesForOther old new → IfOk r (λ rest. ReadsOther ix rest tree tree' old new)
+    → kind_of (item_at tree.nodes ix).body ≡ None → ChangesForOther old new
+    → IfOk r (λ rest. ReadsOther ix rest tree tree' old new)
     → IfOk r (λ rest. ReadsNode step place ix rest tree tree' old new)
 other_read (Ok rest) step place ix tree tree' old new can kind kept reads = record {
   goes_on = record {
@@ -164,7 +184,8 @@ other_read (Ok rest) step place ix tree tree' old new can kind kept reads = reco
 other_read (Err fault) step place ix tree tree' old new can kind kept reads = tt
 
 -- an item was read without a search, by any rules with the footnotes of its place
-pub only_reads : {C E : Type 0} (r : Result Rest E) (place : ChainPlace) (tree : Arena Item) (old new : Resolver C) (ix : ℕ)
+pub only_reads : {C E : Type 0} (r : Result Rest E) (place : ChainPlace) (tree : Arena Item) (old new : Resolver C)
+    (ix : ℕ)
     (tree' : Arena Item) → CanReadOther place tree old ix → IfOk r (λ rest. tree' ≡ record tree { nodes = tree'.nodes })
     → IfOk r (λ rest. (rules : Rules) → gfm_footnotes_on rules.options ≡ gfm_footnotes_on place.options
     → ReadsItem (setting_of place.text.now rules) (above_cursor place.text.now tree) ix rest tree.nodes tree'.nodes
@@ -173,8 +194,10 @@ pub only_reads : {C E : Type 0} (r : Result Rest E) (place : ChainPlace) (tree :
     → IfOk r (λ rest. ReadsOther ix rest tree tree' old new)
 only_reads (Ok rest) place tree old new ix tree' can place_is reads code math work =
     let result : Result Rest Fault = Ok rest in
-    let read = reads_by_rules result place old.text.now (rules_from old.options old.lookup.tables (is_some old.lookup.callback)) tree ix
-    tree'.nodes (tables_of old.lookup.tables) (tables_of new.lookup.tables) can.chain.ready can.text (ap gfm_footnotes_on can.options)
+    let read = reads_by_rules result place old.text.now
+    (rules_from old.options old.lookup.tables (is_some old.lookup.callback)) tree ix
+    tree'.nodes (tables_of old.lookup.tables) (tables_of new.lookup.tables) can.chain.ready can.text
+    (ap gfm_footnotes_on can.options)
     reads in
     record {
       item = read.reads;

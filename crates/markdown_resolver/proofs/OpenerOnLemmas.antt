@@ -1,7 +1,8 @@
 -- From what was put in place for an opener to how far the chain was read: it is a Text that waits, the nearest of the
 -- left list, and the stacks hold it.
 use Rattle.markdown_base.specs.declared.item.ItemBody.TheVariants as body
-use Rattle.std.proofs.Common.{◌≡◌, ℕ, zero, suc, ◌+◌, ◌-◌, ◌<◌, ◌≤◌, Bool, true, false, ◌&&◌, List, [], ◌∷◌, ◌++◌, Option, Some, None}
+use Rattle.std.proofs.Common.{◌≡◌, ℕ, zero, suc, ◌+◌, ◌-◌, ◌<◌, ◌≤◌, Bool, true, false, ◌&&◌, List, [], ◌∷◌, ◌++◌}
+use Rattle.std.proofs.Common.{Option, Some, None}
 use Rattle.std.proofs.Common.{length, drop, get_or, refl, sym, ap, ◌∙◌, subst, append-nil, arith}
 use Rattle.std.specs.Prelude.{if◌then◌else◌, is_some, slice_range}
 use Rattle.std.specs.Option.{option_map_or}
@@ -29,7 +30,8 @@ use Rattle.markdown_brackets.specs.declared.spent_ends.SpentEnds.{SpentEnds}
 use Rattle.markdown_base.proofs.ArenaForestLemmas.{forest_at-none}
 use Rattle.markdown_document.specs.Above.{Above}
 use Rattle.markdown_document.specs.ChainRest.{joined_chains, open_body}
-use Rattle.markdown_document.specs.Document.{Label, Part, Plain, Shape, as_text, is_unresolved, plain_tags, shape_of, text_over, unresolved}
+use Rattle.markdown_document.specs.Document.{Label, Part, Plain, Shape, as_text, is_unresolved, plain_tags, shape_of}
+use Rattle.markdown_document.specs.Document.{text_over, unresolved}
 use Rattle.markdown_document.specs.Labels.{retag}
 use Rattle.markdown_document.specs.Places.{label_at, trees_from}
 use Rattle.markdown_document.specs.Setting.{Known, Setting}
@@ -42,7 +44,8 @@ use Rattle.markdown_resolver.specs.declared.rest.Rest.{Rest}
 use Rattle.markdown_resolver.specs.Chains.{CanResolve, ChangesChain}
 use Rattle.markdown_resolver.specs.Kept.{IsQuiet, IsQuietBelow}
 use Rattle.markdown_resolver.specs.PutsTrees.{PutsTrees, numbered_from, numbered_label, without_numbers}
-use Rattle.markdown_resolver.specs.ReadOn.{AreHeld, EachWaits, IsOpener, PutsBehind, ReadsOn, StandsTo, all_read, at_left}
+use Rattle.markdown_resolver.specs.ReadOn.{AreHeld, EachWaits, IsOpener, PutsBehind, ReadsOn, StandsTo, all_read}
+use Rattle.markdown_resolver.specs.ReadOn.{at_left}
 use Rattle.markdown_resolver.specs.ReadOn.{left_without_numbers}
 use Rattle.markdown_resolver.specs.Rewritten.{Puts, settled, text_unless}
 use Rattle.markdown_resolver.proofs.BehindLemmas.{behind, puts_behind}
@@ -52,7 +55,8 @@ use Rattle.markdown_resolver.proofs.LeftTreesLemmas.{onto_split, quiet_joined}
 use Rattle.markdown_resolver.proofs.PassOneLemmas.{opener_body, reads_opener}
 use Rattle.markdown_resolver.proofs.PutPairLemmas.{ready_next}
 use Rattle.markdown_resolver.proofs.PutsTreesLemmas.{put_trees}
-use Rattle.markdown_resolver.proofs.StandsToLemmas.{numbered_none, numbered_opens, rest_of, same_link, some_nodes, stands_from, stands_rest}
+use Rattle.markdown_resolver.proofs.StandsToLemmas.{numbered_none, numbered_opens, rest_of, same_link, some_nodes}
+use Rattle.markdown_resolver.proofs.StandsToLemmas.{stands_from, stands_rest}
 
 -- an opener ends with its `[`, and begins with a byte that is a character
 pub record EndsWithBracket (source : List ℕ) (item : Item) : Type 0 where
@@ -61,10 +65,12 @@ pub record EndsWithBracket (source : List ℕ) (item : Item) : Type 0 where
   pub mark : IsCharBoundary source (item.start + 1)
 
 -- a byte of an item's text
-byte_at : (source : List ℕ) (start end k : ℕ) → k < end - start → get_or (slice_range source start end) k 0 ≡ get_or source (start + k) 0
+byte_at : (source : List ℕ) (start end k : ℕ) → k < end - start → get_or (slice_range source start end) k 0
+    ≡ get_or source (start + k) 0
 byte_at source start end k l = get_or-take (end - start) (drop start source) k 0 l ∙ get_or-drop start source k 0
 
-size_of : (source : List ℕ) (item : Item) → LiesIn source item → length (slice_range source item.start item.end) ≡ item.end - item.start
+size_of : (source : List ℕ) (item : Item) → LiesIn source item → length (slice_range source item.start item.end)
+    ≡ item.end - item.start
 size_of source item lies = omega (
   arith,
   length-take (item.end - item.start) (drop item.start source),
@@ -77,7 +83,8 @@ size_of source item lies = omega (
 with_bracket : (source : List ℕ) (item : Item) (k : ℕ) → LiesIn source item → item.end ≡ item.start + k + 1 → k ≤ 1
     → get_or (slice_range source item.start item.end) k 0 ≡ 91 → EndsWithBracket source item
 with_bracket source item k lies size one last =
-    let byte : get_or source (item.start + k) 0 ≡ 91 = sym (byte_at source item.start item.end k (omega (arith, size))) ∙ last in
+    let byte : get_or source (item.start + k) 0 ≡ 91 = sym (byte_at source item.start item.end k (omega (arith, size)))
+    ∙ last in
     let before : IsCharBoundary source (item.start + k) = IsCharBoundary-before_ascii source (item.start + k)
     (omega (arith, lies.end.0, size)) (omega (arith, byte)) in
     let place : item.start + k ≡ item.end - 1 = omega (arith, size) in
@@ -87,7 +94,8 @@ with_bracket source item k lies size one last =
       mark = by k size one before;
     }
   where
-    by : (k : ℕ) → item.end ≡ item.start + k + 1 → k ≤ 1 → IsCharBoundary source (item.start + k) → IsCharBoundary source (item.start + 1)
+    by : (k : ℕ) → item.end ≡ item.start + k + 1 → k ≤ 1 → IsCharBoundary source (item.start + k)
+        → IsCharBoundary source (item.start + 1)
     by zero size one before =
         let place : item.end ≡ item.start + 1 = omega (arith, size) in
         subst (λ (n : ℕ). IsCharBoundary source n) place lies.end
@@ -95,7 +103,8 @@ with_bracket source item k lies size one last =
         let place : item.start + suc k ≡ item.start + 1 = omega (arith, one) in
         subst (λ (n : ℕ). IsCharBoundary source n) place before
 
-pub ends_with_bracket : (source : List ℕ) (item : Item) (is_image : Bool) → LiesIn source item → MarkupIsThere source item
+pub ends_with_bracket : (source : List ℕ) (item : Item) (is_image : Bool) → LiesIn source item
+    → MarkupIsThere source item
     → item.body ≡ opener_body is_image → EndsWithBracket source item
 ends_with_bracket source item true lies markup is =
     let over : StandsOverMarkup (slice_range source item.start item.end) body.MaybeImage =
@@ -119,9 +128,11 @@ record OneTree (f : Forest (Label ℕ)) (t : Plain) : Type 0 where
 one_tree : (f : Forest (Label ℕ)) (t : Plain) → without_numbers f ≡ node t nil nil → OneTree f t
 one_tree nil t e = cc e
 one_tree (node b nil nil) t e = record { label = b; is = refl; reads = cc e }
-one_tree (node b (node c below after) rest) t e = let no : node (retag (λ n. tt) c) (without_numbers below) (without_numbers after)
+one_tree (node b (node c below after) rest) t e = let no : node (retag (λ n. tt) c) (without_numbers below)
+    (without_numbers after)
     ≡ nil = cc e in cc no
-one_tree (node b nil (node c below after)) t e = let no : node (retag (λ n. tt) c) (without_numbers below) (without_numbers after)
+one_tree (node b nil (node c below after)) t e = let no : node (retag (λ n. tt) c) (without_numbers below)
+    (without_numbers after)
     ≡ nil = cc e in cc no
 
 -- what is not open is not an opener
@@ -133,19 +144,25 @@ closed_no_opener : (b : ItemBody) → is_open b ≡ false → is_opener b ≡ fa
 closed_no_opener body.MaybeLinkOpen h = cc h
 closed_no_opener other h = refl
 
-opener_shape : (tables : Tables) (source : List ℕ) (b : ItemBody) → is_opener (open_body (shape_of tables source b)) ≡ is_opener b
+opener_shape : (tables : Tables) (source : List ℕ) (b : ItemBody) → is_opener (open_body (shape_of tables source b))
+    ≡ is_opener b
 opener_shape tables source b = by_open (is_open b) refl
   where
     by_open : (x : Bool) → is_open b ≡ x → is_opener (open_body (shape_of tables source b)) ≡ is_opener b
     by_open true e = rw (shape-open tables source b e) refl
-    by_open false e = closed_opener (shape_of tables source b) (closed_shape tables source b e) ∙ sym (closed_no_opener b e)
+    by_open false e = closed_opener (shape_of tables source b) (closed_shape tables source b e)
+        ∙ sym (closed_no_opener b e)
 
 -- whether an opener follows
-pub opener_next : (source : List ℕ) (tables : Tables) (nodes : List (Node Item)) (l : Option ℕ) → CanResolve source tables nodes l
-    → is_next is_opener (trees_from source tables nodes l) ≡ option_map_or (λ n. is_opener (item_at nodes n).body) l false
-opener_next source tables nodes None ready = ap (λ (f : Forest Plain). is_next is_opener f) (no_trees source tables nodes)
+pub opener_next : (source : List ℕ) (tables : Tables) (nodes : List (Node Item)) (l : Option ℕ)
+    → CanResolve source tables nodes l
+    → is_next is_opener (trees_from source tables nodes l) ≡ option_map_or (λ n. is_opener (item_at nodes n).body) l
+    false
+opener_next source tables nodes None ready = ap (λ (f : Forest Plain). is_next is_opener f)
+    (no_trees source tables nodes)
   where
-    no_trees : (source : List ℕ) (tables : Tables) (nodes : List (Node Item)) → trees_from source tables nodes None ≡ nil
+    no_trees : (source : List ℕ) (tables : Tables) (nodes : List (Node Item)) → trees_from source tables nodes None
+        ≡ nil
     no_trees source tables nodes = rw (forest_at-none (links_of nodes)) refl
 opener_next source tables nodes (Some n) ready =
     ap (λ (f : Forest Plain). is_next is_opener f) (opens_chain source tables nodes n ready).trees
@@ -153,13 +170,15 @@ opener_next source tables nodes (Some n) ready =
 
 -- a stack holds an opener that is live
 held_if : (b : Bool) (ix : ℕ) (is_image : Bool) (held : List Waiting)
-    → (if b then waiting.live_opener (record { node = ix; is_image = is_image }) ∷ held else held) ≡ held_as ix is_image (if b then live else gone)
+    → (if b then waiting.live_opener (record { node = ix; is_image = is_image }) ∷ held else held)
+    ≡ held_as ix is_image (if b then live else gone)
     held
 held_if true ix is_image held = refl
 held_if false ix is_image held = refl
 
 -- an opener is open, and does not wait for pairing
-opener_settled : (source : List ℕ) (a : Plain) (below : Forest Plain) (is_image : Bool) → a.part.shape ≡ unresolved (opener_body is_image)
+opener_settled : (source : List ℕ) (a : Plain) (below : Forest Plain) (is_image : Bool) → a.part.shape
+    ≡ unresolved (opener_body is_image)
     → settled source a below ≡ node (as_text source a) nil nil
 opener_settled source a below true e = ap (λ (shape : Shape). text_unless (is_quiet shape) source a below) e
 opener_settled source a below false e = ap (λ (shape : Shape). text_unless (is_quiet shape) source a below) e
@@ -169,7 +188,8 @@ opener_open true = refl
 opener_open false = refl
 
 -- what reads as a Text is not open
-text_closed : (tables : Tables) (source bytes : List ℕ) (b : ItemBody) → shape_of tables source b ≡ text_over bytes → is_open b ≡ false
+text_closed : (tables : Tables) (source bytes : List ℕ) (b : ItemBody) → shape_of tables source b ≡ text_over bytes
+    → is_open b ≡ false
 text_closed tables source bytes b e = by_open (is_open b) refl
   where
     by_open : (x : Bool) → is_open b ≡ x → is_open b ≡ false
@@ -177,7 +197,8 @@ text_closed tables source bytes b e = by_open (is_open b) refl
     by_open false o = o
 
 -- the node of an opener after it was settled
-pub record IsSettledAt (source : List ℕ) (tables : Tables) (old new : List (Node Item)) (first ix : ℕ) (next : Option ℕ) (left : List (Entry ℕ))
+pub record IsSettledAt (source : List ℕ) (tables : Tables) (old new : List (Node Item)) (first ix : ℕ) (next : Option ℕ)
+    (left : List (Entry ℕ))
     : Type 0 where
   reads : retag (λ n. tt) (numbered_label source tables new ix) ≡ as_text source (label_at source tables old ix)
   pub behind_is : PutsBehind source first next left (node (as_text source (label_at source tables old ix)) nil nil)
@@ -187,10 +208,12 @@ pub record IsSettledAt (source : List ℕ) (tables : Tables) (old new : List (No
   childless : child_of new ix ≡ None
   within : ix < length new
 
-pub settled_at : (source : List ℕ) (tables : Tables) (old new : List (Node Item)) (first ix : ℕ) (rest : Rest) (left : List (Entry ℕ))
+pub settled_at : (source : List ℕ) (tables : Tables) (old new : List (Node Item)) (first ix : ℕ) (rest : Rest)
+    (left : List (Entry ℕ))
     (is_image : Bool)
     → StandsTo source tables old first (Some ix) left → (item_at old ix).body ≡ opener_body is_image
-    → Puts source ix (settled source) None rest old new tables tables → IsSettledAt source tables old new first ix rest.next left
+    → Puts source ix (settled source) None rest old new tables tables → IsSettledAt source tables old new first ix
+    rest.next left
 settled_at source tables old new first ix rest left is_image h is puts =
     let ready = stands_rest source tables old first (Some ix) left h in
     let a = label_at source tables old ix in
@@ -200,15 +223,19 @@ settled_at source tables old new first ix rest left is_image h is puts =
     let t = as_text source a in
     let item = item_at old ix in
     let was_open : is_open item.body ≡ true = ap is_open is ∙ opener_open is_image in
-    let shape : a.part.shape ≡ unresolved (opener_body is_image) = shape-open tables (slice_range source item.start item.end) item.body
+    let shape : a.part.shape ≡ unresolved (opener_body is_image) = shape-open tables
+    (slice_range source item.start item.end) item.body
     was_open ∙ ap unresolved is in
     let text : settled source a below ≡ node t nil nil = opener_settled source a below is_image shape in
     let o = opens_chain source tables old ix ready in
-    let block : is_some a.part.block ≡ false = (subst (λ (f : Forest Plain). IsQuietBelow f) o.trees ready.quiet_below).0 in
+    let block : is_some a.part.block
+    ≡ false = (subst (λ (f : Forest Plain). IsQuietBelow f) o.trees ready.quiet_below).0 in
     let quiet : IsQuiet (node t nil nil) = (refl, block, tt, tt) in
-    let p0 = put_trees source ix (settled source) None rest old new tables tables ready puts (subst (λ (f : Forest Plain). IsQuiet f)
+    let p0 = put_trees source ix (settled source) None rest old new tables tables ready puts
+    (subst (λ (f : Forest Plain). IsQuiet f)
     (sym text) quiet) in
-    let p : PutsTrees source ix next (node t nil nil) behind_it old new tables tables = subst (λ (f : Forest Plain). PutsTrees source ix next f
+    let p : PutsTrees source ix next (node t nil nil) behind_it old new tables tables = subst
+    (λ (f : Forest Plain). PutsTrees source ix next f
     behind_it old new tables tables) text p0 in
     let some = some_nodes source tables old first (Some ix) left h in
     let b = behind source old new tables tables ix (trees_onto left nil) (Some first) some p.changes p.runs
@@ -232,7 +259,8 @@ settled_at source tables old new first ix rest left is_image h is puts =
       reads = ap (λ (c : Label ℕ). retag (λ n. tt) c) (sym label) ∙ one.reads;
       behind_is = puts_behind source first ix next left (node t nil nil) behind_it old new tables tables h p;
       stands =
-          b.trees ∙ ap (λ (f : Forest (Label ℕ)). joined_chains (trees_onto left nil) f) (here ∙ ap (λ (c : Label ℕ). node c nil next_trees) label)
+          b.trees ∙ ap (λ (f : Forest (Label ℕ)). joined_chains (trees_onto left nil) f)
+          (here ∙ ap (λ (c : Label ℕ). node c nil next_trees) label)
           ∙ sym (onto_split left (node (numbered_label source tables new ix) nil next_trees));
       childless = same_link source tables new (child_of new ix) None (omega (arith, some, p.changes.more_nodes)) (child
           ∙ sym (numbered_none source tables new));
@@ -240,18 +268,22 @@ settled_at source tables old new first ix rest left is_image h is puts =
     }
 
 -- an opener was read
-pub reads_on_opener : {C : Type 0} (step : C → Question → Option Answer → C → Type 0) (s : Setting) (above : Above) (first ix : ℕ)
+pub reads_on_opener : {C : Type 0} (step : C → Question → Option Answer → C → Type 0) (s : Setting) (above : Above)
+    (first ix : ℕ)
     (rest : Rest) (left : List (Entry ℕ)) (is_image : Bool) (old new : Stage C)
-    (spent : SpentEnds) (brackets wikilinks brackets' wikilinks' : List Waiting) → new ≡ record old { nodes = new.nodes }
+    (spent : SpentEnds) (brackets wikilinks brackets' wikilinks' : List Waiting) → new
+    ≡ record old { nodes = new.nodes }
     → StandsTo s.text old.tables old.nodes first (Some ix) left → AreHeld brackets wikilinks left
     → (item_at old.nodes ix).body ≡ opener_body is_image
     → Puts s.text ix (settled s.text) None rest old.nodes new.nodes old.tables old.tables
     → brackets' ≡ waiting.live_opener (record { node = ix; is_image = is_image }) ∷ brackets
-    → wikilinks' ≡ (if wikilinks_on s.rules.options && option_map_or (λ n. is_opener (item_at old.nodes n).body) (sibling_of old.nodes ix)
+    → wikilinks' ≡ (if wikilinks_on s.rules.options && option_map_or (λ n. is_opener (item_at old.nodes n).body)
+    (sibling_of old.nodes ix)
     false
     then waiting.live_opener (record { node = ix; is_image = is_image }) ∷ wikilinks else wikilinks)
     → ReadsOn step s above first (Some ix) rest.next left old new spent spent brackets' wikilinks'
-reads_on_opener {C} step s above first ix rest left is_image old new spent brackets wikilinks brackets' wikilinks' same stands held is puts
+reads_on_opener {C} step s above first ix rest left is_image old new spent brackets wikilinks brackets' wikilinks' same
+    stands held is puts
     brackets_are wikilinks_are =
     let ready = stands_rest s.text old.tables old.nodes first (Some ix) left stands in
     let o = opens_chain s.text old.tables old.nodes ix ready in
@@ -261,7 +293,8 @@ reads_on_opener {C} step s above first ix rest left is_image old new spent brack
     let next = rest.next in
     let behind_it = trees_from s.text old.tables old.nodes (sibling_of old.nodes ix) in
     let tables : new.tables ≡ old.tables = ap (λ (t : Stage C). t.tables) same in
-    let at : IsSettledAt s.text old.tables old.nodes new.nodes first ix rest.next left = settled_at s.text old.tables old.nodes new.nodes first
+    let at : IsSettledAt s.text old.tables old.nodes new.nodes first ix rest.next left = settled_at s.text old.tables
+    old.nodes new.nodes first
     ix rest left is_image stands is puts in
     let text = as_text s.text a in
     let b = numbered_label s.text old.tables new.nodes ix in
@@ -271,7 +304,8 @@ reads_on_opener {C} step s above first ix rest left is_image old new spent brack
     let behind_is = at.behind_is in
     let one = one_tree behind_is.standing text behind_is.reads in
     let waiting_then : EachWaits (IsOpener s.text new.nodes) left =
-    subst (λ (f : Forest (Label ℕ)). EachWaits (IsOpener s.text new.nodes) (all_done f left)) one.is behind_is.stands.waiting in
+    subst (λ (f : Forest (Label ℕ)). EachWaits (IsOpener s.text new.nodes) (all_done f left)) one.is
+    behind_is.stands.waiting in
     let ends = ends_with_bracket s.text item is_image o.placed.lies o.placed.keeps.markup_is_there is in
     let part : b.part ≡ text.part = ap (λ (c : Plain). c.part) at.reads in
     let new_end : (item_at new.nodes ix).end ≡ item.end = ap (λ (c : Part). c.range.end) part in
@@ -307,20 +341,25 @@ reads_on_opener {C} step s above first ix rest left is_image old new spent brack
           (quiet_joined (trees_onto left nil) (node b nil nil) stands.quiet label_quiet);
       waiting = (opener, waiting_then);
     } in
-    let is_next_opener = opener_next s.text old.tables old.nodes (sibling_of old.nodes ix) (ready_next s.text old.tables old.nodes ix ready)
+    let is_next_opener = opener_next s.text old.tables old.nodes (sibling_of old.nodes ix)
+    (ready_next s.text old.tables old.nodes ix ready)
     in
     record {
-      changes = subst (λ (t : Tables). ChangesChain s.text (Some first) old.nodes new.nodes old.tables t) (sym tables) behind_is.changes;
+      changes = subst (λ (t : Tables). ChangesChain s.text (Some first) old.nodes new.nodes old.tables t) (sym tables)
+          behind_is.changes;
       left_then = left_then;
       stands = subst (λ (t : Tables). StandsTo s.text t new.nodes first next left_then) (sym tables) stands_then;
       held = record {
-        brackets_are = brackets_are ∙ ap (λ (held : List Waiting). waiting.live_opener (record { node = ix; is_image = is_image }) ∷ held)
+        brackets_are = brackets_are
+            ∙ ap (λ (held : List Waiting). waiting.live_opener (record { node = ix; is_image = is_image }) ∷ held)
             held.brackets_are;
         wikilinks_are =
             wikilinks_are
-            ∙ ap (λ (b : Bool). if wikilinks_on s.rules.options && b then waiting.live_opener (record { node = ix; is_image = is_image })
+            ∙ ap (λ (b : Bool). if wikilinks_on s.rules.options && b then waiting.live_opener
+            (record { node = ix; is_image = is_image })
             ∷ wikilinks else wikilinks) (sym is_next_opener)
-            ∙ ap (λ (held : List Waiting). if follows then waiting.live_opener (record { node = ix; is_image = is_image }) ∷ held else held)
+            ∙ ap (λ (held : List Waiting). if follows then waiting.live_opener
+            (record { node = ix; is_image = is_image }) ∷ held else held)
             held.wikilinks_are
             ∙ held_if follows ix is_image (wikilinks_of left);
       };
@@ -334,11 +373,13 @@ reads_on_opener {C} step s above first ix rest left is_image old new spent brack
           let k : known_at old later ≡ known_at new later = ap (λ (t : Stage C). known_at t later) (sym same) in
           let left_is : waits mark text ∷ left_without_numbers left ≡ left_without_numbers left_then =
           ap (λ (c : Plain). waits mark c ∷ left_without_numbers left) (sym at.reads) in
-          let rest_is : behind_it ≡ chain_at s.text new next = sym behind_is.rest_is ∙ ap (λ (t : Tables). trees_from s.text t new.nodes next)
+          let rest_is : behind_it ≡ chain_at s.text new next = sym behind_is.rest_is
+          ∙ ap (λ (t : Tables). trees_from s.text t new.nodes next)
           (sym tables) in
           let made : p.made ≡ p.made + 0 = omega arith in
           ap (λ (f : Forest Plain). all_read s above f (at_left left old later p)) o.trees
-          ∙ reads_opener s plain_tags above is_image a below behind_it (at_left left old later p) refl (opener_is is_image item.body is)
+          ∙ reads_opener s plain_tags above is_image a below behind_it (at_left left old later p) refl
+          (opener_is is_image item.body is)
           ∙ ap (λ (f : Forest Plain). all_read s above f (record p {
             left = waits mark text ∷ left_without_numbers left;
             goes_on =
@@ -359,7 +400,9 @@ reads_on_opener {C} step s above first ix rest left is_image old new spent brack
         → open_body (shape_of old.tables (slice_range s.text (item_at old.nodes ix).start (item_at old.nodes ix).end) b)
         ≡ opener_body is_image
     opener_is is_image b e =
-        ap (λ (b : ItemBody). open_body (shape_of old.tables (slice_range s.text (item_at old.nodes ix).start (item_at old.nodes ix).end)
+        ap (λ (b : ItemBody). open_body
+        (shape_of old.tables (slice_range s.text (item_at old.nodes ix).start (item_at old.nodes ix).end)
         b)) e
-        ∙ ap open_body (shape-open old.tables (slice_range s.text (item_at old.nodes ix).start (item_at old.nodes ix).end)
+        ∙ ap open_body (shape-open old.tables
+        (slice_range s.text (item_at old.nodes ix).start (item_at old.nodes ix).end)
         (opener_body is_image) (opener_open is_image))

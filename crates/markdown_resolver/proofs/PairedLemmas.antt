@@ -1,5 +1,6 @@
 -- A chain that pass one has read can be paired in place, and then it is resolved.
-use Rattle.std.proofs.Common.{◌≡◌, ℕ, suc, ◌≤◌, Bool, true, false, List, [], ◌++◌, Option, Some, None, refl, sym, ap, ◌∙◌, subst, arith}
+use Rattle.std.proofs.Common.{◌≡◌, ℕ, suc, ◌≤◌, Bool, true, false, List, [], ◌++◌, Option, Some, None, refl, sym, ap}
+use Rattle.std.proofs.Common.{◌∙◌, subst, arith}
 use Rattle.std.proofs.Common.{append-nil}
 use Rattle.std.specs.Prelude.{IfSome, is_some, if◌then◌else◌, slice_range}
 use Rattle.std.specs.Option.{option_map}
@@ -15,7 +16,8 @@ use Rattle.markdown_base.specs.declared.item.ItemBody.{ItemBody}
 use Rattle.markdown_base.specs.declared.item.ItemBody.TheVariants as body
 use Rattle.markdown_base.specs.declared.node.Node.{Node}
 use Rattle.markdown_document.specs.Above.{Above}
-use Rattle.markdown_document.specs.Document.{plain_tags, Plain, Shape, leaf, enclosed, plain, backslash_break, unresolved, is_unresolved}
+use Rattle.markdown_document.specs.Document.{plain_tags, Plain, Shape, leaf, enclosed, plain, backslash_break}
+use Rattle.markdown_document.specs.Document.{unresolved, is_unresolved}
 use Rattle.markdown_document.specs.Document.{shape_of, block_of}
 use Rattle.markdown_document.specs.ItemRules.{ComesBefore}
 use Rattle.markdown_document.specs.Counts.{counts_delimiter, counts_shape, delimiters_in}
@@ -51,9 +53,11 @@ no_block b h = by_block (is_block b) h
 blocks_none : (source : List ℕ) (tables : Tables) (nodes : List (Node Item)) (f : Forest ℕ)
     → IsQuiet (relabelled (label_at source tables nodes) f) → HasNoBlock (relabelled (numbered nodes) f)
 blocks_none source tables nodes nil q = tt
-blocks_none source tables nodes (node ix below after) q = (no_block (item_at nodes ix).body q.1, blocks_none source tables nodes after q.3)
+blocks_none source tables nodes (node ix below after) q
+    = (no_block (item_at nodes ix).body q.1, blocks_none source tables nodes after q.3)
 
-waits_open : (tables : Tables) (source : List ℕ) (b : ItemBody) → is_quiet (shape_of tables source b) ≡ true → is_open b ≡ true
+waits_open : (tables : Tables) (source : List ℕ) (b : ItemBody) → is_quiet (shape_of tables source b) ≡ true → is_open b
+    ≡ true
     → waits_for_pairing b ≡ true
 waits_open tables source b q e = rw (shape-open tables source b e) at q
 
@@ -82,15 +86,18 @@ rises_next : (nodes : List (Node Item)) (ix : ℕ) (l : Option ℕ) (f : Forest 
     → is_block (item_at nodes ix).body ≡ false → HasNoBlock (relabelled (numbered nodes) f)
     → ComesBefore (numbered nodes ix) (option_map (numbered nodes) l) → IfSome l (λ n. suc ix ≤ n)
 rises_next nodes ix l nil s b h stands = rw s tt
-rises_next nodes ix l (node j below after) s b h stands = rw s.0 (let p = (rw s.0 at stands) b h.0 in omega (arith, p.numbers))
+rises_next nodes ix l (node j below after) s b h stands = rw s.0
+    (let p = (rw s.0 at stands) b h.0 in omega (arith, p.numbers))
 
-rises : (source : List ℕ) (tables : Tables) (nodes : List (Node Item)) (lo : ℕ) (l : Option ℕ) (f : Forest ℕ) → Spells (links_of nodes) l f
+rises : (source : List ℕ) (tables : Tables) (nodes : List (Node Item)) (lo : ℕ) (l : Option ℕ) (f : Forest ℕ)
+    → Spells (links_of nodes) l f
     → Each (IsPlaced source tables nodes) f → HasNoBlock (relabelled (numbered nodes) f)
     → IfSome l (λ n. lo ≤ n) → RisesFrom lo (roots f)
 rises source tables nodes lo l nil s p h from = tt
 rises source tables nodes lo l (node ix below after) s p h from = (
   rw s.0 at from,
-  rises source tables nodes (suc ix) (sibling_of nodes ix) after s.3 p.2 h.1 (rises_next nodes ix (sibling_of nodes ix) after s.3 h.0 h.1
+  rises source tables nodes (suc ix) (sibling_of nodes ix) after s.3 p.2 h.1
+      (rises_next nodes ix (sibling_of nodes ix) after s.3 h.0 h.1
       p.0.keeps.in_order),
 )
 
@@ -99,13 +106,15 @@ run_open : (b : ItemBody) (c : RunCharacter) → run_character b ≡ Some c → 
 run_open (body.MaybeEmphasis n opens closes) c h = refl
 run_open other c h = cc
 
-whole_if : (source : List ℕ) (a : Numbered) (below after : Forest Numbered) (next : Option Numbered) (o : Option RunCharacter)
+whole_if : (source : List ℕ) (a : Numbered) (below after : Forest Numbered) (next : Option Numbered)
+    (o : Option RunCharacter)
     → next ≡ first_root after → IfSome o (StandsInRun source a next)
     → ((c : RunCharacter) → o ≡ Some c → below ≡ nil) → IfSome o (StandsWhole source a below after)
 whole_if source a below after next None e h none = tt
 whole_if source a below after next (Some c) e h none = record { stands = rw (← e) h; childless = none c refl }
 
-all_whole : (source : List ℕ) (tables : Tables) (nodes : List (Node Item)) (l : Option ℕ) (f : Forest ℕ) → Spells (links_of nodes) l f
+all_whole : (source : List ℕ) (tables : Tables) (nodes : List (Node Item)) (l : Option ℕ) (f : Forest ℕ)
+    → Spells (links_of nodes) l f
     → Each (IsPlaced source tables nodes) f → HasWholeRuns source (relabelled (numbered nodes) f)
 all_whole source tables nodes l nil s p = tt
 all_whole source tables nodes l (node ix below after) s p =
@@ -113,25 +122,30 @@ all_whole source tables nodes l (node ix below after) s p =
       whole_if source (numbered nodes ix) (relabelled (numbered nodes) below) (relabelled (numbered nodes) after)
           (option_map (numbered nodes) (sibling_of nodes ix)) (run_character (item_at nodes ix).body)
           (first_is nodes (sibling_of nodes ix) after s.3) keeps.runs_are_whole
-          (λ c e. nothing_below nodes (child_of nodes ix) below s.2 (keeps.childless (run_open (item_at nodes ix).body c e))),
+          (λ c e. nothing_below nodes (child_of nodes ix) below s.2
+          (keeps.childless (run_open (item_at nodes ix).body c e))),
       all_whole source tables nodes (sibling_of nodes ix) after s.3 p.2,
     )
 
 -- what pass one leaves of a chain is quiet
-pub read_quiet : {C : Type 0} (step : C → Question → Option Answer → C → Type 0) (s : Setting) (above : Above) (first : ℕ)
+pub read_quiet : {C : Type 0} (step : C → Question → Option Answer → C → Type 0) (s : Setting) (above : Above)
+    (first : ℕ)
     (old mid : Stage C) → IsQuietBelow (chain_at s.text old (Some first))
-    → ResolvesFrom step s.text (pass_one s plain_tags above) (Some first) old mid → IsQuiet (chain_at s.text mid (Some first))
+    → ResolvesFrom step s.text (pass_one s plain_tags above) (Some first) old mid
+    → IsQuiet (chain_at s.text mid (Some first))
 read_quiet step s above first old mid quiet r =
     subst IsQuiet (ap (λ (o : Outcome (Unit {0})). o.forest) (r.resolves []))
     (pass_one-quiet s plain_tags above (chain_at s.text old (Some first)) (known_at old (r.answers ++ [])) quiet)
 
 -- so it can be paired
-pub read_can_pair : {C : Type 0} (step : C → Question → Option Answer → C → Type 0) (s : Setting) (above : Above) (first : ℕ)
+pub read_can_pair : {C : Type 0} (step : C → Question → Option Answer → C → Type 0) (s : Setting) (above : Above)
+    (first : ℕ)
     (old mid : Stage C) → IsQuietBelow (chain_at s.text old (Some first))
     → ResolvesFrom step s.text (pass_one s plain_tags above) (Some first) old mid → CanPair s.text mid.nodes first
 read_can_pair step s above first old mid quiet r =
     let f = forest_at (links_of mid.nodes) (Some first) in
-    let q : IsQuiet (relabelled (label_at s.text mid.tables mid.nodes) f) = read_quiet step s above first old mid quiet r in
+    let q : IsQuiet (relabelled (label_at s.text mid.tables mid.nodes) f) = read_quiet step s above first old mid quiet
+    r in
     record {
       spelled = r.changes.reaches.spelled;
       once = r.changes.once;
@@ -142,20 +156,23 @@ read_can_pair step s above first old mid quiet r =
     }
 
 -- what was changed by reading, and then by pairing, was changed
-pub pair_changes : {C : Type 0} (step : C → Question → Option Answer → C → Type 0) (s : Setting) (above : Above) (first : ℕ)
+pub pair_changes : {C : Type 0} (step : C → Question → Option Answer → C → Type 0) (s : Setting) (above : Above)
+    (first : ℕ)
     (old mid : Stage C) (nodes : List (Node Item)) → IsQuietBelow (chain_at s.text old (Some first))
     → ResolvesFrom step s.text (pass_one s plain_tags above) (Some first) old mid → PairsChain s first mid.nodes nodes
     → ChangesChain s.text (Some first) old.nodes nodes old.tables mid.tables
 pair_changes step s above first old mid nodes quiet r p =
     let f = forest_at (links_of mid.nodes) (Some first) in
-    let q : IsQuiet (relabelled (label_at s.text mid.tables mid.nodes) f) = read_quiet step s above first old mid quiet r in
+    let q : IsQuiet (relabelled (label_at s.text mid.tables mid.nodes) f) = read_quiet step s above first old mid quiet
+    r in
     let c = r.changes in
     record {
       reaches = p.placed mid.tables (blocks_none s.text mid.tables mid.nodes f q) c.reaches;
       once = λ n. omega (arith, p.times n, c.once n);
       of_chain = λ n l. omega (arith, p.times n, c.of_chain n l);
       more_nodes = omega (arith, p.same_size, c.more_nodes);
-      outside = λ n l none. same_trans old.nodes mid.nodes nodes n (c.outside n l none) (p.outside n (omega (arith, c.of_chain n l, none)));
+      outside = λ n l none. same_trans old.nodes mid.nodes nodes n (c.outside n l none)
+          (p.outside n (omega (arith, c.of_chain n l, none)));
       grown = c.grown;
       named_once = λ n. omega (arith, p.named n, c.named_once n);
       named = λ n l. omega (arith, p.named n, c.named n l);
@@ -164,18 +181,28 @@ pair_changes step s above first old mid nodes quiet r p =
     }
 
 -- a chain that was read and then paired is resolved
-pub pair_resolves : {C : Type 0} (step : C → Question → Option Answer → C → Type 0) (s : Setting) (above : Above) (first : ℕ)
+pub pair_resolves : {C : Type 0} (step : C → Question → Option Answer → C → Type 0) (s : Setting) (above : Above)
+    (first : ℕ)
     (old mid : Stage C) (nodes : List (Node Item))
-    → (r : ResolvesFrom step s.text (pass_one s plain_tags above) (Some first) old mid) → PairsChain s first mid.nodes nodes
-    → (later : Answers) → resolved s plain_tags above (chain_at s.text old (Some first)) (known_at old (r.answers ++ later))
-    ≡ record { questions = r.questions; forest = trees_from s.text mid.tables nodes (Some first); known = known_at mid later }
+    → (r : ResolvesFrom step s.text (pass_one s plain_tags above) (Some first) old mid)
+    → PairsChain s first mid.nodes nodes
+    → (later : Answers) → resolved s plain_tags above (chain_at s.text old (Some first))
+    (known_at old (r.answers ++ later))
+    ≡ record {
+      questions = r.questions;
+      forest = trees_from s.text mid.tables nodes (Some first);
+      known = known_at mid
+          later;
+    }
 unfolding resolved
 pair_resolves step s above first old mid nodes r p later =
     ap (then_paired s) (r.resolves later)
-    ∙ ap (λ (g : Forest Plain). let o : Outcome (Unit {0}) = record { questions = r.questions; forest = g; known = known_at mid later }
+    ∙ ap (λ (g : Forest Plain). let o : Outcome (Unit {0}) = record
+    { questions = r.questions; forest = g; known = known_at mid later }
     in o) (sym (p.pairs mid.tables))
 
-abbrev pub then_pairs : {C : Type 0} (step : C → Question → Option Answer → C → Type 0) (s : Setting) (above : Above) (first : ℕ)
+abbrev pub then_pairs : {C : Type 0} (step : C → Question → Option Answer → C → Type 0) (s : Setting) (above : Above)
+    (first : ℕ)
     (old mid : Stage C) (nodes : List (Node Item)) → IsQuietBelow (chain_at s.text old (Some first))
     → ResolvesFrom step s.text (pass_one s plain_tags above) (Some first) old mid → PairsChain s first mid.nodes nodes
     → ResolvesFrom step s.text (resolved s plain_tags above) (Some first) old
@@ -189,7 +216,8 @@ then_pairs step s above first old mid nodes quiet r p = record {
 }
 
 -- where memory is refused to pass one, the questions asked are the first of the chain
-pub stops_resolving : {C : Type 0} (step : C → Question → Option Answer → C → Type 0) (s : Setting) (above : Above) (first : ℕ)
+pub stops_resolving : {C : Type 0} (step : C → Question → Option Answer → C → Type 0) (s : Setting) (above : Above)
+    (first : ℕ)
     (old : Stage C) (callback : Option C) (work work' : Work) (p : StopsInPassOne step s above first old callback)
     → ((later : Answers) → RisesInPart
     (chain_counts s plain_tags above (chain_at s.text old (Some first)) (known_at old (p.answers ++ later))) work work')
@@ -204,7 +232,8 @@ stops_resolving step s above first old callback work work' p counts = record {
 }
 
 -- where memory is refused to pairing, the chain's questions were all asked
-pub stops_in : {C : Type 0} (step : C → Question → Option Answer → C → Type 0) (s : Setting) (above : Above) (first : ℕ) (old mid : Stage C)
+pub stops_in : {C : Type 0} (step : C → Question → Option Answer → C → Type 0) (s : Setting) (above : Above) (first : ℕ)
+    (old mid : Stage C)
     (work work' : Work) (r : ResolvesFrom step s.text (pass_one s plain_tags above) (Some first) old mid)
     → ((later : Answers) → RisesInPart
     (chain_counts s plain_tags above (chain_at s.text old (Some first)) (known_at old (r.answers ++ later))) work work')
@@ -214,12 +243,17 @@ stops_in step s above first old mid work work' r counts = record {
   answers = r.answers;
   questions = r.questions;
   asked = r.asked;
-  begins = λ later. ([], ap (λ (o : Outcome (Unit {0})). o.questions) (r.resolves later) ∙ sym (append-nil r.questions));
+  begins = λ later. (
+    [],
+    ap (λ (o : Outcome (Unit {0})). o.questions) (r.resolves later)
+        ∙ sym (append-nil r.questions),
+  );
   counts = counts;
 }
 
 -- the delimiter characters of a chain are those of its nodes
-counts_open : (tables : Tables) (source : List ℕ) (b : ItemBody) → counts_one (run_character b) ≡ counts_shape (shape_of tables source b)
+counts_open : (tables : Tables) (source : List ℕ) (b : ItemBody) → counts_one (run_character b)
+    ≡ counts_shape (shape_of tables source b)
 counts_open tables source b = by_open (is_open b) refl
   where
     closed_none : (b : ItemBody) → is_open b ≡ false → counts_one (run_character b) ≡ 0
@@ -252,11 +286,13 @@ delimiters_seen source tables nodes (node ix below after) =
     ) refl
 
 -- those of a chain that are counted are the ones that pass one leaves
-pub delimiters_left : {C : Type 0} (step : C → Question → Option Answer → C → Type 0) (s : Setting) (above : Above) (first : ℕ)
+pub delimiters_left : {C : Type 0} (step : C → Question → Option Answer → C → Type 0) (s : Setting) (above : Above)
+    (first : ℕ)
     (old mid : Stage C)
     → (r : ResolvesFrom step s.text (pass_one s plain_tags above) (Some first) old mid) → (later : Answers)
     → delimiters_of (trees_at mid.nodes (Some first))
-    ≡ (chain_counts s plain_tags above (chain_at s.text old (Some first)) (known_at old (r.answers ++ later))).delimiters
+    ≡ (chain_counts s plain_tags above (chain_at s.text old (Some first))
+    (known_at old (r.answers ++ later))).delimiters
 delimiters_left step s above first old mid r later =
     delimiters_seen s.text mid.tables mid.nodes (forest_at (links_of mid.nodes) (Some first))
     ∙ ap (λ (o : Outcome (Unit {0})). delimiters_in o.forest) (sym (r.resolves later))

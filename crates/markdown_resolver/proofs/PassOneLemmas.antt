@@ -2,7 +2,8 @@
 -- chain stays, what is left of any chain is no heavier, it begins with what its first open item became, later answers
 -- are passed on, and tags do not matter: each by the law of brackets, where the rule for what is not a bracket keeps
 -- that law.
-use Rattle.std.proofs.Common.{◌≡◌, ℕ, ◌+◌, ◌≤◌, Bool, true, false, not, List, [], ◌∷◌, Option, Some, None, refl, sym, ap, ◌∙◌, subst}
+use Rattle.std.proofs.Common.{◌≡◌, ℕ, ◌+◌, ◌≤◌, Bool, true, false, not, List, [], ◌∷◌, Option, Some, None, refl, sym}
+use Rattle.std.proofs.Common.{ap, ◌∙◌, subst}
 use Rattle.std.proofs.Common.{nat_le, arith}
 use Rattle.std.specs.Prelude.{if◌then◌else◌}
 use Rattle.markdown_base.specs.Forest.{Forest, nil, node}
@@ -24,7 +25,8 @@ use Rattle.markdown_brackets.proofs.ChainBeginsLemmas.{begins_law, begins_onto}
 use Rattle.markdown_brackets.proofs.QuietItemsLemmas.{all_done_trees, quiet_items_law}
 use Rattle.markdown_document.specs.Above.{Above}
 use Rattle.markdown_document.specs.ChainRest.{begun_at, end_of, open_body, past, past_byte}
-use Rattle.markdown_document.specs.Document.{Tags, Shape, leaf, enclosed, plain, backslash_break, unresolved, Label, Plain, plain_tags}
+use Rattle.markdown_document.specs.Document.{Tags, Shape, leaf, enclosed, plain, backslash_break, unresolved, Label}
+use Rattle.markdown_document.specs.Document.{Plain, plain_tags}
 use Rattle.markdown_document.specs.Document.{is_unresolved}
 use Rattle.markdown_document.specs.Labels.{Begins, GivesFirst, is_plain, weight, retagged}
 use Rattle.markdown_document.specs.Setting.{Setting, Known}
@@ -74,7 +76,8 @@ quiet_no_bracket backslash_break h = refl
 quiet_no_bracket (unresolved b) h = waits_no_bracket b h
 
 -- it is read by the rule for what is not a bracket
-pub read_elsewhere : {A : Type 0} (w : Around) (others : Reader A) (b : ItemBody) (a : Label A) (below rest : Forest (Label A))
+pub read_elsewhere : {A : Type 0} (w : Around) (others : Reader A) (b : ItemBody) (a : Label A)
+    (below rest : Forest (Label A))
     (p : Progress A) → NoBracket b
     → read_as w others b a below rest p ≡ others a below rest p
 read_elsewhere w others body.MaybeLinkOpen a below rest p h = cc h
@@ -95,7 +98,8 @@ module _ {A : Type 0} (s : Setting) (tags : Tags A) (above : Above) where
 
   past_if : (ends : Bool) (i : ℕ) (a : Label A) (below rest : Forest (Label A)) (p : Progress A)
       → whole_read rest (record p { goes_on = Some i }) ≡ whole_read (past_byte i rest) (record p { goes_on = None })
-      → whole_read rest (read_if ends i a below rest p) ≡ whole_read (if ends then past_byte i rest else node (begun_at i a) below rest)
+      → whole_read rest (read_if ends i a below rest p)
+      ≡ whole_read (if ends then past_byte i rest else node (begun_at i a) below rest)
       (record p { goes_on = None })
   unfolding read_chain
   past_if true i a below rest p e = e
@@ -109,32 +113,40 @@ module _ {A : Type 0} (s : Setting) (tags : Tags A) (above : Above) where
   reads_past i (node a below rest) p = past_if (nat_le (end_of a) i) i a below rest p (reads_past i rest p)
 
   pub reads_past_all : (goes_on : Option ℕ) (chain : Forest (Label A)) (p : Progress A)
-      → whole_read chain (record p { goes_on = goes_on }) ≡ whole_read (past goes_on chain) (record p { goes_on = None })
+      → whole_read chain (record p { goes_on = goes_on })
+      ≡ whole_read (past goes_on chain) (record p { goes_on = None })
   reads_past_all None chain p = refl
   reads_past_all (Some i) chain p = reads_past i chain p
 
   -- where no find goes on, the first tree is read as it is
   reads_first : (a : Label A) (below rest : Forest (Label A)) (p : Progress A) → p.goes_on ≡ None
-      → read_on s tags above (node a below rest) p ≡ read_on s tags above rest (read (around s above) (read_other s tags above) a below rest
+      → read_on s tags above (node a below rest) p
+      ≡ read_on s tags above rest (read (around s above) (read_other s tags above) a below rest
       p)
   unfolding read_chain
-  reads_first a below rest p none = ap (λ goes_on. read_on s tags above rest (read_past (around s above) (read_other s tags above) goes_on a
+  reads_first a below rest p none = ap
+      (λ goes_on. read_on s tags above rest (read_past (around s above) (read_other s tags above) goes_on a
       below rest p)) none
 
-  reads_as : (b : ItemBody) (a : Label A) (below rest : Forest (Label A)) (p : Progress A) → p.goes_on ≡ None → open_body a.part.shape ≡ b
-      → read_on s tags above (node a below rest) p ≡ read_on s tags above rest (read_as (around s above) (read_other s tags above) b a below
+  reads_as : (b : ItemBody) (a : Label A) (below rest : Forest (Label A)) (p : Progress A) → p.goes_on ≡ None
+      → open_body a.part.shape ≡ b
+      → read_on s tags above (node a below rest) p
+      ≡ read_on s tags above rest (read_as (around s above) (read_other s tags above) b a below
       rest p)
   reads_as b a below rest p none e =
-      reads_first a below rest p none ∙ ap (λ b. read_on s tags above rest (read_as (around s above) (read_other s tags above) b a below
+      reads_first a below rest p none
+      ∙ ap (λ b. read_on s tags above rest (read_as (around s above) (read_other s tags above) b a below
       rest p)) e
 
   -- an opener is put into the left list
   pub reads_opener : (is_image : Bool) (a : Label A) (below rest : Forest (Label A)) (p : Progress A) → p.goes_on ≡ None
       → open_body a.part.shape ≡ opener_body is_image
       → whole_read (node a below rest) p ≡ whole_read rest (opened (around s above) is_image a rest p)
-  reads_opener true a below rest p none e = ap (λ (q : Progress A). record q { goes_on = None }) (reads_as body.MaybeImage a below rest p
+  reads_opener true a below rest p none e = ap (λ (q : Progress A). record q { goes_on = None })
+      (reads_as body.MaybeImage a below rest p
       none e)
-  reads_opener false a below rest p none e = ap (λ (q : Progress A). record q { goes_on = None }) (reads_as body.MaybeLinkOpen a below rest
+  reads_opener false a below rest p none e = ap (λ (q : Progress A). record q { goes_on = None })
+      (reads_as body.MaybeLinkOpen a below rest
       p none e)
 
   -- a `]` is closed, and the chain goes on where what it became ends
@@ -145,7 +157,8 @@ module _ {A : Type 0} (s : Setting) (tags : Tags A) (above : Above) where
       in whole_read (past q.goes_on rest) (record q { goes_on = None }))
   reads_closer could_be a below rest p none e =
       let q : Progress A = closed (around s above) (closing_of could_be a rest p) p in
-      ap (λ (q : Progress A). record q { goes_on = None }) (reads_as (body.MaybeLinkClose could_be) a below rest p none e)
+      ap (λ (q : Progress A). record q { goes_on = None })
+      (reads_as (body.MaybeLinkClose could_be) a below rest p none e)
       ∙ reads_past_all q.goes_on rest q
 
   -- what is not a bracket is read, and the chain continues where what was found ends
@@ -157,7 +170,8 @@ module _ {A : Type 0} (s : Setting) (tags : Tags A) (above : Above) where
   reads_elsewhere a below rest p none other =
       let r : Passed A = read_tree s tags above p.made a below rest in
       ap (λ (q : Progress A). record q { goes_on = None })
-      (reads_first a below rest p none ∙ ap (read_on s tags above rest) (read_elsewhere (around s above) (read_other s tags above)
+      (reads_first a below rest p none
+      ∙ ap (read_on s tags above rest) (read_elsewhere (around s above) (read_other s tags above)
       (open_body a.part.shape) a below rest p other))
       ∙ reads_past_all r.goes_on rest (put_passed r p)
 
@@ -166,8 +180,10 @@ abbrev from_made : (n : ℕ) → Passed (Unit {0}) → Passed (Unit {0})
 from_made n r = record { trees = r.trees; goes_on = r.goes_on; made = n + r.made }
 
 unless_made : (s : Setting) (above : Above) (n : ℕ) (a : Plain) (below rest : Forest Plain) (quiet : Bool)
-    → read_unless quiet s plain_tags above n a below rest ≡ from_made n (read_unless quiet s plain_tags above 0 a below rest)
-unless_made s above n a below rest true = ap (λ m. let r : Passed (Unit {0}) = record { trees = node a below nil; goes_on = None; made = m }
+    → read_unless quiet s plain_tags above n a below rest
+    ≡ from_made n (read_unless quiet s plain_tags above 0 a below rest)
+unless_made s above n a below rest true = ap
+    (λ m. let r : Passed (Unit {0}) = record { trees = node a below nil; goes_on = None; made = m }
     in r) (omega arith)
 unless_made s above n a below rest false =
     let found = find s above a rest in
@@ -180,15 +196,18 @@ unfolding read_tree
 tree_made s above n a below rest = unless_made s above n a below rest (is_quiet a.part.shape)
 
 -- so what is not a bracket is read the same wherever it is
-pub reads_other : (s : Setting) (above : Above) (a : Plain) (below rest : Forest Plain) (p : Progress (Unit {0})) → p.goes_on ≡ None
+pub reads_other : (s : Setting) (above : Above) (a : Plain) (below rest : Forest Plain) (p : Progress (Unit {0}))
+    → p.goes_on ≡ None
     → NoBracket (open_body a.part.shape)
     → all_read s above (node a below rest) p
     ≡ (let r : Passed (Unit {0}) = read_tree s plain_tags above 0 a below rest in
-    all_read s above (past r.goes_on rest) (record p { left = all_done r.trees p.left; goes_on = None; made = p.made + r.made }))
+    all_read s above (past r.goes_on rest)
+    (record p { left = all_done r.trees p.left; goes_on = None; made = p.made + r.made }))
 reads_other s above a below rest p none other =
     reads_elsewhere s plain_tags above a below rest p none other
     ∙ ap (λ (r : Passed (Unit {0})). all_read s above (past r.goes_on rest)
-    (record p { left = all_done r.trees p.left; goes_on = None; made = r.made })) (tree_made s above p.made a below rest)
+    (record p { left = all_done r.trees p.left; goes_on = None; made = r.made }))
+    (tree_made s above p.made a below rest)
 
 -- what is open does not read as what is below it alone
 open_not_plain : (shape : Shape) → is_unresolved shape ≡ true → not (is_plain shape) ≡ true
@@ -220,7 +239,8 @@ module _ {A : Type 0} where
   waits_at_most (node a below after) q = (q.0, waits_at_most after q.3)
 
   -- the weight of all trees of a list
-  all_done_weight : (trees : Forest (Label A)) (left : List (Entry A)) → weight_left (all_done trees left) ≡ weight trees + weight_left left
+  all_done_weight : (trees : Forest (Label A)) (left : List (Entry A)) → weight_left (all_done trees left)
+      ≡ weight trees + weight_left left
   all_done_weight nil left = omega arith
   all_done_weight (node a below after) left = omega (arith, all_done_weight after (done a below ∷ left))
 
@@ -250,24 +270,29 @@ module _ {A : Type 0} where
         ≡ record { questions = []; forest = chain; known = known }
     unfolding pass_one
     pass_one-stays chain known q =
-        let alone = quiet_items_law (around s above) (read_other s tags above) leaves_quiet chain known (waits_at_most chain q) in
-        ap outcome alone.reads ∙ ap (λ (f : Forest (Label A)). let o : Outcome A = record { questions = []; forest = f; known = known }
+        let alone = quiet_items_law (around s above) (read_other s tags above) leaves_quiet chain known
+        (waits_at_most chain q) in
+        ap outcome alone.reads
+        ∙ ap (λ (f : Forest (Label A)). let o : Outcome A = record { questions = []; forest = f; known = known }
         in o) alone.trees
 
     -- what is left of a chain is no heavier
     other_weight : (a : Label A) (below rest : Forest (Label A)) (p : Progress A)
-        → weight_left (read_other s tags above a below rest p).left ≤ weight_left p.left + (label_weight a + weight below)
+        → weight_left (read_other s tags above a below rest p).left ≤ weight_left p.left +
+        (label_weight a + weight below)
     other_weight a below rest p =
         let put = all_done_weight (read_tree s tags above p.made a below rest).trees p.left in
         let read = read_weight s tags above p.made a below rest in
         omega (arith, put, read)
 
-    pub pass_one-weight : (chain : Forest (Label A)) (known : Known) → weight (pass_one s tags above chain known).forest ≤ weight chain
+    pub pass_one-weight : (chain : Forest (Label A)) (known : Known) → weight (pass_one s tags above chain known).forest
+        ≤ weight chain
     unfolding pass_one
     pass_one-weight chain known = no_heavier (around s above) (read_other s tags above) other_weight chain known
 
     -- what was open gives an event first, or waits for pairing and so does not read as what is below it alone
-    unless_begins : (n : ℕ) (a : Label A) (below rest : Forest (Label A)) (quiet : Bool) → is_unresolved a.part.shape ≡ true
+    unless_begins : (n : ℕ) (a : Label A) (below rest : Forest (Label A)) (quiet : Bool) → is_unresolved a.part.shape
+        ≡ true
         → BeginsWith is_not_plain (read_unless quiet s tags above n a below rest).trees
     unless_begins n a below rest true h = open_not_plain a.part.shape h
     unless_begins n a below rest false h =
@@ -286,7 +311,8 @@ module _ {A : Type 0} where
           subst (BeginsWith is_not_plain) (sym (all_done_trees r.trees [])) (tree_begins 0 a below rest h);
       keeps = λ a below rest p h.
           let r : Passed A = read_tree s tags above p.made a below rest in
-          subst (BeginsWith is_not_plain) (sym (all_done_trees r.trees p.left)) (begins_onto is_not_plain p.left nil r.trees
+          subst (BeginsWith is_not_plain) (sym (all_done_trees r.trees p.left))
+          (begins_onto is_not_plain p.left nil r.trees
           (λ none. absurd none) h);
     }
 
@@ -296,12 +322,15 @@ module _ {A : Type 0} where
     unfolding pass_one
     pass_one-first P a below after known holds h =
         begun_by P (trees_onto (read_on s tags above (node a below after) (begun known)).left nil) holds
-        (begins_law (around s above) (read_other s tags above) is_not_plain (λ e origins. refl) (λ tag. refl) other_begins a below after
+        (begins_law (around s above) (read_other s tags above) is_not_plain (λ e origins. refl) (λ tag. refl)
+        other_begins a below after
         known h)
 
     -- what is not a bracket asks nothing, and brackets pass later answers on
-    other_hands_on : (a : Label A) (below rest : Forest (Label A)) (p : Progress A) → HandsOn (read_other s tags above a below rest) p
-    other_hands_on a below rest p = (asks_none (read_other s tags above a below rest) p refl refl (λ later. refl)).hands_on
+    other_hands_on : (a : Label A) (below rest : Forest (Label A)) (p : Progress A)
+        → HandsOn (read_other s tags above a below rest) p
+    other_hands_on a below rest p
+        = (asks_none (read_other s tags above a below rest) p refl refl (λ later. refl)).hands_on
 
     pub read_hands_on : (chain : Forest (Label A)) (p : Progress A) → HandsOn (read_on s tags above chain) p
     read_hands_on chain p = chain_law (around s above) (read_other s tags above) other_hands_on chain p
@@ -317,14 +346,18 @@ module _ {A B : Type 0} (f : A → B) where
     pub other_retag : RetagsTo f (read_other s tags above) (read_other s tags' above)
     other_retag a below rest p =
         let r : Passed A = read_tree s tags above p.made a below rest in
-        ap (λ (r : Passed B). put_passed r (retag_progress f p)) (read_retag f s tags tags' above p.made (follows.makes p.made) a below
+        ap (λ (r : Passed B). put_passed r (retag_progress f p))
+        (read_retag f s tags tags' above p.made (follows.makes p.made) a below
         rest)
-        ∙ ap (λ (left : List (Entry B)). record (retag_progress f p) { left = left; goes_on = r.goes_on; made = r.made })
+        ∙ ap (λ (left : List (Entry B)). record (retag_progress f p)
+        { left = left; goes_on = r.goes_on; made = r.made })
         (all_done_retag r.trees p.left)
 
-    pub read_on_retag : (chain : Forest (Label A)) (p : Progress A) → read_on s tags' above (retagged f chain) (retag_progress f p)
+    pub read_on_retag : (chain : Forest (Label A)) (p : Progress A) → read_on s tags' above (retagged f chain)
+        (retag_progress f p)
         ≡ retag_progress f (read_on s tags above chain p)
-    read_on_retag chain p = read_chain_retag f (around s above) (read_other s tags above) (read_other s tags' above) other_retag chain p
+    read_on_retag chain p = read_chain_retag f (around s above) (read_other s tags above) (read_other s tags' above)
+        other_retag chain p
 
     pub pass_one-retag : (chain : Forest (Label A)) (known : Known)
         → pass_one s tags' above (retagged f chain) known
@@ -338,5 +371,6 @@ module _ {A B : Type 0} (f : A → B) where
     pass_one-retag chain known =
         let q : Progress A = read_on s tags above chain (begun known) in
         ap outcome (read_on_retag chain (begun known))
-        ∙ ap (λ (g : Forest (Label B)). let o : Outcome B = record { questions = q.asked; forest = g; known = q.known } in o)
+        ∙ ap (λ (g : Forest (Label B)). let o : Outcome B = record { questions = q.asked; forest = g; known = q.known }
+        in o)
         (onto_retag f q.left nil)

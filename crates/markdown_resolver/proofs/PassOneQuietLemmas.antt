@@ -10,7 +10,8 @@ use Rattle.markdown_brackets.specs.ReadChain.{begun}
 use Rattle.markdown_brackets.proofs.KeptLabelsLemmas.{EachBelow, KeepsLabels, each_left}
 use Rattle.markdown_document.specs.Above.{Above}
 use Rattle.markdown_document.specs.ChainRest.{cut_shape, start_of}
-use Rattle.markdown_document.specs.Document.{Tags, Shape, leaf, enclosed, plain, backslash_break, unresolved, Label, is_unresolved}
+use Rattle.markdown_document.specs.Document.{Tags, Shape, leaf, enclosed, plain, backslash_break, unresolved, Label}
+use Rattle.markdown_document.specs.Document.{is_unresolved}
 use Rattle.markdown_document.specs.Setting.{Setting, Known}
 use Rattle.markdown_document.specs.Waiting.{is_quiet}
 use Rattle.markdown_spans.specs.Finds.{read_tree}
@@ -70,14 +71,17 @@ module _ {A : Type 0} where
   quiet_done (node a below after) left h k = quiet_done after (done a below ∷ left) h.2 (h.0, h.1, k)
 
   module _ (s : Setting) (tags : Tags A) (above : Above) where
-    quiet_other : (a : Label A) (below rest : Forest (Label A)) (p : Progress A) → NoBlock a → Each Quiet below → EachLeft Quiet p.left
+    quiet_other : (a : Label A) (below rest : Forest (Label A)) (p : Progress A) → NoBlock a → Each Quiet below
+        → EachLeft Quiet p.left
         → EachLeft Quiet (read_other s tags above a below rest p).left
     quiet_other a below rest p no_block inner h =
-        quiet_done (read_tree s tags above p.made a below rest).trees p.left (read_quiet s tags above p.made a below rest no_block inner) h
+        quiet_done (read_tree s tags above p.made a below rest).trees p.left
+        (read_quiet s tags above p.made a below rest no_block inner) h
 
     pub pass_one-quiet : (chain : Forest (Label A)) (known : Known) → IsQuietBelow chain
         → IsQuiet (pass_one s tags above chain known).forest
     unfolding pass_one
     pass_one-quiet chain known q =
         all_quiet (trees_onto (read_on s tags above chain (begun known)).left nil)
-        (each_left quiet_made (around s above) (read_other s tags above) quiet_other chain known (below_no_block chain q))
+        (each_left quiet_made (around s above) (read_other s tags above) quiet_other chain known
+        (below_no_block chain q))

@@ -1,7 +1,8 @@
 -- What is left of a chain in an arena past a byte offset: items leave it up to there, and the first that is left begins
 -- there.
 use Rattle.markdown_base.specs.declared.item.ItemBody.TheVariants as body
-use Rattle.std.proofs.Common.{[], ◌∷◌, ◌≡◌, ℕ, zero, suc, ◌+◌, ◌-◌, ◌<◌, ◌≤◌, max, Bool, true, false, ⊎_elim, List, length, take, drop, Option, Some}
+use Rattle.std.proofs.Common.{[], ◌∷◌, ◌≡◌, ℕ, zero, suc, ◌+◌, ◌-◌, ◌<◌, ◌≤◌, max, Bool, true, false, ⊎_elim, List}
+use Rattle.std.proofs.Common.{length, take, drop, Option, Some}
 use Rattle.std.proofs.Common.{None, refl, sym, ap, ◌∙◌, subst, arith, if◌then◌else◌, nat_le}
 use Rattle.std.proofs.lemmas.Bool.{cases_lt}
 use Rattle.std.proofs.lemmas.Bool.Decides.{nat_tests}
@@ -33,7 +34,8 @@ use Rattle.markdown_resolver.specs.Rewritten.{IsRestPast, Passes, begun_item, fi
 use Rattle.markdown_resolver.specs.Settling.{begun_from}
 use Rattle.markdown_resolver.specs.declared.rest.Rest.{Rest}
 use Rattle.markdown_resolver.proofs.NodeChangeLemmas.{changed_other, changed_here}
-use Rattle.markdown_resolver.proofs.ComposeLemmas.{Stands, Moves, moves_none, moves_twice, first_leaves, HeadWritten, head_moves}
+use Rattle.markdown_resolver.proofs.ComposeLemmas.{Stands, Moves, moves_none, moves_twice, first_leaves, HeadWritten}
+use Rattle.markdown_resolver.proofs.ComposeLemmas.{head_moves}
 use Rattle.markdown_resolver.proofs.ComposeLemmas.{after_head, below_kept, following_kept}
 
 -- what is left of a chain past a byte, with the first item as it is; and that begun there
@@ -45,7 +47,8 @@ abbrev pub first_begun : {A : Type 0} → ℕ → Forest (Label A) → Forest (L
 first_begun i nil = nil
 first_begun i (node a below after) = node (begun_at i a) below after
 
-past_if : (b : Bool) (i : ℕ) (a : Plain) (below after : Forest Plain) → past_byte i after ≡ first_begun i (left_past i after)
+past_if : (b : Bool) (i : ℕ) (a : Plain) (below after : Forest Plain) → past_byte i after
+    ≡ first_begun i (left_past i after)
     → (if b then past_byte i after else node (begun_at i a) below after) ≡ first_begun i (if b then left_past i after
     else node a below after)
 past_if true i a below after e = e
@@ -56,15 +59,19 @@ past_is i nil = refl
 past_is i (node a below after) = past_if (nat_le (end_of a) i) i a below after (past_is i after)
 
 -- the chain from a link on became what another link leads to, which reads as this
-pub record Dropped (source : List ℕ) (tables : Tables) (nodes : List (Node Item)) (l l' : Option ℕ) (trees : Forest Plain) : Type 0 where
+pub record Dropped (source : List ℕ) (tables : Tables) (nodes : List (Node Item)) (l l' : Option ℕ)
+    (trees : Forest Plain) : Type 0 where
   pub moves : Moves source l l' nodes nodes tables tables
   pub reads : trees_from source tables nodes l' ≡ trees
 
-dropped_if : (b : Bool) (source : List ℕ) (tables : Tables) (nodes : List (Node Item)) (ix : ℕ) (l : Option ℕ) (trees : Forest Plain)
+dropped_if : (b : Bool) (source : List ℕ) (tables : Tables) (nodes : List (Node Item)) (ix : ℕ) (l : Option ℕ)
+    (trees : Forest Plain)
     → Stands source tables nodes (Some ix) → Dropped source tables nodes (Some ix) l trees
-    → Dropped source tables nodes (Some ix) (if b then l else Some ix) (if b then trees else trees_from source tables nodes (Some ix))
+    → Dropped source tables nodes (Some ix) (if b then l else Some ix)
+    (if b then trees else trees_from source tables nodes (Some ix))
 dropped_if true source tables nodes ix l trees s d = d
-dropped_if false source tables nodes ix l trees s d = record { moves = moves_none source (Some ix) nodes tables s; reads = refl }
+dropped_if false source tables nodes ix l trees s d = record
+    { moves = moves_none source (Some ix) nodes tables s; reads = refl }
 
 -- items leave a chain up to a byte
 pub dropped : (source : List ℕ) (tables : Tables) (nodes : List (Node Item)) (i : ℕ) (f : Forest ℕ) (l : Option ℕ)
@@ -86,9 +93,11 @@ dropped source tables nodes i (node ix below after) l e s =
     let leaves = first_leaves source ix nodes tables at in
     let d = dropped source tables nodes i after (sibling_of nodes ix) follows leaves.stands in
     let link = first_past nodes i (roots after) in
-    let first : Dropped source tables nodes (Some ix) link (left_past i (trees_from source tables nodes (sibling_of nodes ix))) =
+    let first : Dropped source tables nodes (Some ix) link
+    (left_past i (trees_from source tables nodes (sibling_of nodes ix))) =
     record {
-      moves = moves_twice source (Some ix) (sibling_of nodes ix) link nodes nodes nodes tables tables tables leaves d.moves;
+      moves = moves_twice source (Some ix) (sibling_of nodes ix) link nodes nodes nodes tables tables tables leaves
+          d.moves;
       reads =
           d.reads;
     } in
@@ -114,15 +123,19 @@ many_begun i (node a below after) = refl
 
 pub passes_past : (source : List ℕ) (tables t : Tables) (old new : List (Node Item)) (ix i : ℕ) (rest : Rest)
     → Stands source tables old (Some ix) → IsRestPast old i (sibling_of old ix) rest
-    → trees_from source t new rest.next ≡ past_byte i (trees_from source tables old (sibling_of old ix)) → Passes ix rest old new
+    → trees_from source t new rest.next ≡ past_byte i (trees_from source tables old (sibling_of old ix))
+    → Passes ix rest old new
 passes_past source tables t old new ix i rest s past reads =
     let l = sibling_of old ix in
     let behind = trees_from source tables old l in
     let o = opens (links_of old) (IsPlaced source tables old) ix s.reaches in
-    let d = dropped source tables old i (forest_at (links_of old) l) l refl (first_leaves source ix old tables s).stands in
-    let left : length (roots (trees_from source t new rest.next)) ≡ length (roots (trees_from source tables old rest.next)) =
+    let d = dropped source tables old i (forest_at (links_of old) l) l refl (first_leaves source ix old tables s).stands
+    in
+    let left : length (roots (trees_from source t new rest.next))
+    ≡ length (roots (trees_from source tables old rest.next)) =
     ap (λ (f : Forest Plain). length (roots f)) (reads ∙ past_is i behind) ∙ many_begun i (left_past i behind)
-    ∙ ap (λ (f : Forest Plain). length (roots f)) (sym d.reads ∙ ap (trees_from source tables old) (sym past.next_is)) in
+    ∙ ap (λ (f : Forest Plain). length (roots f)) (sym d.reads ∙ ap (trees_from source tables old) (sym past.next_is))
+    in
     let many = as_many (label_at source t new) (forest_at (links_of new) rest.next) in
     let many' = as_many (label_at source tables old) (forest_at (links_of old) rest.next) in
     rw o.here (omega (arith, past.counted, left, many, many'))
@@ -171,11 +184,17 @@ label_begun source tables i item le ordered =
     ap (λ shape. let a : Plain = record {
       tag = tt;
       part =
-          record { shape = shape; range = record { start = max item.start i; end = item.end }; block = block_of item.body };
+          record {
+            shape = shape;
+            range = record { start = max item.start i; end = item.end };
+            block = block_of
+                item.body;
+          };
     } in a) e
 
 -- it keeps the rules of items, where it is not cut if it is open
-stands_begun : (ix i : ℕ) (item : Item) (next : Option Numbered) → ComesBefore (record { number = ix; item = item }) next
+stands_begun : (ix i : ℕ) (item : Item) (next : Option Numbered) → ComesBefore (record { number = ix; item = item })
+    next
     → ComesBefore (record { number = ix; item = begun_item i item }) next
 stands_begun ix i item None h = tt
 stands_begun ix i item (Some b) h = λ x y. let p = h x y in record { ends = p.ends; numbers = p.numbers }
@@ -185,10 +204,12 @@ keeps_begun : (source : List ℕ) (ix i : ℕ) (item : Item) (child : Option ℕ
     → KeepsItemRules source (record { number = ix; item = item }) child next
     → KeepsItemRules source (record { number = ix; item = begun_item i item }) child next
 keeps_begun source ix i item child next closed h = ⊎_elim
-    (λ (l : item.start < i). keeps-closed source (record { number = ix; item = begun_item i item }) child next (closed l)
+    (λ (l : item.start < i). keeps-closed source (record { number = ix; item = begun_item i item }) child next
+    (closed l)
     (stands_begun ix i item next h.in_order))
     (λ (l : i ≤ item.start). let e : item.start ≡ max item.start i = omega arith in
-    subst (λ (start : ℕ). KeepsItemRules source (record { number = ix; item = record { start = start; end = item.end; body = item.body } })
+    subst (λ (start : ℕ). KeepsItemRules source
+    (record { number = ix; item = record { start = start; end = item.end; body = item.body } })
     child next) e h)
     (cases_lt item.start i)
 
@@ -204,19 +225,23 @@ pub tree_same : (a b : Plain) (below below' after after' : Forest Plain) → a �
 tree_same a b below below' after after' p q r = rw (p, q, r) refl
 
 -- the first item of a chain begins at a byte
-pub record Begun (source : List ℕ) (tables : Tables) (l : Option ℕ) (i : ℕ) (nodes nodes' : List (Node Item)) : Type 0 where
-  pub moves : Moves source l l nodes nodes' tables tables
-  pub reads : trees_from source tables nodes' l ≡ first_begun i (trees_from source tables nodes l)
+pub record Begun (source : List ℕ) (tables : Tables) (l : Option ℕ) (i : ℕ) (nodes nodes' : List (Node Item)) : Type 0
+  where
+    pub moves : Moves source l l nodes nodes' tables tables
+    pub reads : trees_from source tables nodes' l ≡ first_begun i (trees_from source tables nodes l)
 
 -- what it refers to comes from where it is, if it does where the item is cut
-slices_begun : (source : List ℕ) (tables : Tables) (i : ℕ) (item : Item) → (item.start < i → ComesFromPlace source tables (begun_item i item))
+slices_begun : (source : List ℕ) (tables : Tables) (i : ℕ) (item : Item)
+    → (item.start < i → ComesFromPlace source tables (begun_item i item))
     → ComesFromPlace source tables item → ComesFromPlace source tables (begun_item i item)
 slices_begun source tables i item cut h = ⊎_elim (λ (l : item.start < i). cut l)
     (λ (l : i ≤ item.start). let e : item.start ≡ max item.start i = omega arith in
-    subst (λ (start : ℕ). ComesFromPlace source tables (record { start = start; end = item.end; body = item.body })) e h)
+    subst (λ (start : ℕ). ComesFromPlace source tables (record { start = start; end = item.end; body = item.body })) e
+    h)
     (cases_lt item.start i)
 
-begun_moves : (source : List ℕ) (tables : Tables) (nodes : List (Node Item)) (ix i : ℕ) → Stands source tables nodes (Some ix)
+begun_moves : (source : List ℕ) (tables : Tables) (nodes : List (Node Item)) (ix i : ℕ)
+    → Stands source tables nodes (Some ix)
     → IsCharBoundary source i → i ≤ (item_at nodes ix).end
     → ((item_at nodes ix).start < i → is_open (item_at nodes ix).body ≡ false)
     → ((item_at nodes ix).start < i → ComesFromPlace source tables (begun_item i (item_at nodes ix)))
@@ -248,13 +273,17 @@ begun_moves source tables nodes ix i s boundary le closed cut =
     let a = after_head source ix nodes new tables tables s h in
     let m : Moves source (sibling_of nodes ix) (sibling_of new ix) new new tables tables =
     rw c.next (moves_none source (sibling_of nodes ix) new tables a.stands) in
-    let kept = below_kept source ix nodes new new tables tables tables (sibling_of new ix) s h m c.child (rw c.item (omega arith)) in
+    let kept = below_kept source ix nodes new new tables tables tables (sibling_of new ix) s h m c.child
+    (rw c.item (omega arith)) in
     let follows = following_kept source ix nodes new tables tables s h in
-    let hm = head_moves source ix nodes new new tables tables tables s h m kept.below (rw (c.next, follows, c.item) keeps.in_order)
+    let hm = head_moves source ix nodes new new tables tables tables s h m kept.below
+    (rw (c.next, follows, c.item) keeps.in_order)
     (rw (c.next, follows, c.item) keeps.runs_are_whole) in
-    let label : label_of source tables (item_at new ix) ≡ begun_at i (label_at source tables nodes ix) = ap (λ x. label_of source tables x)
+    let label : label_of source tables (item_at new ix) ≡ begun_at i (label_at source tables nodes ix) = ap
+    (λ x. label_of source tables x)
     c.item ∙ label_begun source tables i item le lies.ordered in
-    let after : trees_from source tables new (sibling_of new ix) ≡ trees_from source tables nodes (sibling_of nodes ix) =
+    let after : trees_from source tables new (sibling_of new ix) ≡ trees_from source tables nodes (sibling_of nodes ix)
+    =
     ap (λ (l : Option ℕ). trees_from source tables new l) c.next ∙ a.rest.trees in
     record {
       moves = hm.moves;
@@ -262,18 +291,21 @@ begun_moves source tables nodes ix i s boundary le closed cut =
     }
 
 -- where there is one
-pub begun_is : (source : List ℕ) (tables : Tables) (nodes : List (Node Item)) (l : Option ℕ) (i : ℕ) → Stands source tables nodes l
+pub begun_is : (source : List ℕ) (tables : Tables) (nodes : List (Node Item)) (l : Option ℕ) (i : ℕ)
+    → Stands source tables nodes l
     → IsCharBoundary source i
     → ((ix : ℕ) → l ≡ Some ix → i ≤ (item_at nodes ix).end) → ((ix : ℕ) → l ≡ Some ix → (item_at nodes ix).start < i
     → is_open (item_at nodes ix).body ≡ false)
-    → ((ix : ℕ) → l ≡ Some ix → (item_at nodes ix).start < i → ComesFromPlace source tables (begun_item i (item_at nodes ix)))
+    → ((ix : ℕ) → l ≡ Some ix → (item_at nodes ix).start < i
+    → ComesFromPlace source tables (begun_item i (item_at nodes ix)))
     → Begun source tables l i nodes (begun_from l i nodes)
 begun_is source tables nodes None i s boundary ends closed cut = record {
   moves = moves_none source None nodes tables s;
   reads =
       rw (forest_at-none (links_of nodes)) refl;
 }
-begun_is source tables nodes (Some ix) i s boundary ends closed cut = begun_moves source tables nodes ix i s boundary (ends ix refl)
+begun_is source tables nodes (Some ix) i s boundary ends closed cut = begun_moves source tables nodes ix i s boundary
+    (ends ix refl)
     (closed ix refl) (cut ix refl)
 
 -- a link to a node, and what follows that
@@ -287,10 +319,12 @@ each_node : (f : Forest ℕ) → Each (λ n. ⊤) f
 each_node nil = tt
 each_node (node ix below after) = (tt, each_node below, each_node after)
 
-pub spelled_at : (nodes : List (Node Item)) (l : Option ℕ) (ix : ℕ) → l ≡ Some ix → Spells (links_of nodes) l (forest_at (links_of nodes) l)
+pub spelled_at : (nodes : List (Node Item)) (l : Option ℕ) (ix : ℕ) → l ≡ Some ix
+    → Spells (links_of nodes) l (forest_at (links_of nodes) l)
     → SpelledAt nodes ix
 spelled_at nodes l ix e s =
-    let o = opens (links_of nodes) (λ n. ⊤) ix (record { spelled = rw e at s; each = each_node (forest_at (links_of nodes) (Some ix)) }) in
+    let o = opens (links_of nodes) (λ n. ⊤) ix
+    (record { spelled = rw e at s; each = each_node (forest_at (links_of nodes) (Some ix)) }) in
     record { within = o.within; here = o.here; after = o.after.spelled }
 
 -- the first that ends past a byte is here, or further on
@@ -307,7 +341,8 @@ first_later nodes i ix s l =
     let test : nat_le (item_at nodes ix).end i ≡ true = grind (arith, nat_tests, l) in
     rw (s.here, test) refl
 
-pub first_none : (nodes : List (Node Item)) (i : ℕ) → first_past nodes i (roots (forest_at (links_of nodes) None)) ≡ None
+pub first_none : (nodes : List (Node Item)) (i : ℕ) → first_past nodes i (roots (forest_at (links_of nodes) None))
+    ≡ None
 first_none nodes i = rw (forest_at-none (links_of nodes)) refl
 
 pub items_fall : (nodes : List (Node Item)) (ix : ℕ) → SpelledAt nodes ix

@@ -1,6 +1,7 @@
 -- A Text for the first byte of an opener is put into its node, and a reference into its closer's: what was inside
 -- leaves the chain.
-use Rattle.std.proofs.Common.{◌≡◌, ℕ, suc, ◌+◌, ◌<◌, ◌≤◌, false, List, [], ◌∷◌, ◌++◌, length, Option, Some, None, refl, sym, ap, ◌∙◌, subst}
+use Rattle.std.proofs.Common.{◌≡◌, ℕ, suc, ◌+◌, ◌<◌, ◌≤◌, false, List, [], ◌∷◌, ◌++◌, length, Option, Some, None, refl}
+use Rattle.std.proofs.Common.{sym, ap, ◌∙◌, subst}
 use Rattle.std.proofs.Common.{arith}
 use Rattle.std.specs.Option.{option_map}
 use Rattle.markdown_base.specs.Arena.{child_of, sibling_of}
@@ -29,23 +30,28 @@ use Rattle.markdown_resolver.specs.Rewritten.{Rewrites, IsRestPast, LeavesRest, 
 use Rattle.markdown_resolver.specs.declared.rest.Rest.{Rest}
 use Rattle.markdown_resolver.specs.Settling.{IsWritten, begun_from}
 use Rattle.markdown_resolver.proofs.ChainOrderLemmas.{rest_past}
-use Rattle.markdown_resolver.proofs.ComposeLemmas.{same_trans, Stands, stands_ready, Moves, moves_change, moves_twice, HeadWritten, After}
+use Rattle.markdown_resolver.proofs.ComposeLemmas.{same_trans, Stands, stands_ready, Moves, moves_change, moves_twice}
+use Rattle.markdown_resolver.proofs.ComposeLemmas.{HeadWritten, After}
 use Rattle.markdown_resolver.proofs.ComposeLemmas.{below_kept, head_moves, head_leaves, after_head}
 use Rattle.markdown_resolver.proofs.EncloseLemmas.{opens_at, total_parts}
 use Rattle.markdown_resolver.proofs.FoldLemmas.{next_behind}
 use Rattle.markdown_resolver.proofs.PastByteLemmas.{tree_same}
 use Rattle.markdown_resolver.proofs.PutFoundLemmas.{closed_head}
-use Rattle.markdown_resolver.proofs.PutLemmas.{rewrites_none, next_from, over_numbers, no_run_here, first_kept, first_there, rest_same}
+use Rattle.markdown_resolver.proofs.PutLemmas.{rewrites_none, next_from, over_numbers, no_run_here, first_kept}
+use Rattle.markdown_resolver.proofs.PutLemmas.{first_there, rest_same}
 use Rattle.markdown_resolver.proofs.PutLemmas.{rest_within}
-use Rattle.markdown_resolver.proofs.PutLinkLemmas.{HeadPut, head_put, HeadStands, head_stands, first_no_block, before_text, runs_text}
+use Rattle.markdown_resolver.proofs.PutLinkLemmas.{HeadPut, head_put, HeadStands, head_stands, first_no_block}
+use Rattle.markdown_resolver.proofs.PutLinkLemmas.{before_text, runs_text}
 use Rattle.markdown_resolver.proofs.PutLinkLemmas.{over_leaves, behind_leads}
 use Rattle.markdown_resolver.proofs.PutPairLemmas.{Skips, skips, past_at, entries_of_none, label_of_none}
 use Rattle.markdown_resolver.proofs.PutReferenceLemmas.{past_inside, first_behind}
 
 -- the mark was written, and is followed by the closer; then the closer was written
-module _ (source : List ℕ) (opener closer : ℕ) (mark item : Item) (inside : List ℕ) (old mid : List (Node Item)) (tables t : Tables)
+module _ (source : List ℕ) (opener closer : ℕ) (mark item : Item) (inside : List ℕ) (old mid : List (Node Item))
+    (tables t : Tables)
     (grown : HasGrown tables t)
-    (can : CanClose source tables old opener closer inside item.end) (over : CanPutMark source tables t old opener closer mark item)
+    (can : CanClose source tables old opener closer inside item.end)
+    (over : CanPutMark source tables t old opener closer mark item)
     (v : IsWritten old mid opener mark (Some closer)) where
   abbrev k : ℕ
   k = length inside
@@ -75,7 +81,8 @@ module _ (source : List ℕ) (opener closer : ℕ) (mark item : Item) (inside : 
       let size = v.size in
       closed_head source opener mark old mid tables tables (grown-nothing tables) puts.closed puts.lies
       (entries_of_none tables t mark.body grown over.names_nothing puts.named)
-      (slices-none source tables mark.start mark.end mark.body over.names_nothing) (λ n x. over.names_nothing n) v.item_is (omega (arith, size))
+      (slices-none source tables mark.start mark.end mark.body over.names_nothing) (λ n x. over.names_nothing n)
+      v.item_is (omega (arith, size))
       (λ n x d. v.others n d)
 
   after_mark_is : After source opener old mid tables tables
@@ -112,7 +119,8 @@ module _ (source : List ℕ) (opener closer : ℕ) (mark item : Item) (inside : 
   closer_childless : child_of mid closer ≡ None
   closer_childless = closer_opened.holds.keeps.childless (rw closer_same.item over.closer_open)
 
-  behind_reads : past_byte item.end (trees_from source tables mid (sibling_of mid closer)) ≡ past_byte item.end (trees_past (suc k) chain)
+  behind_reads : past_byte item.end (trees_from source tables mid (sibling_of mid closer))
+      ≡ past_byte item.end (trees_past (suc k) chain)
   behind_reads =
       sym skipped_there.reads ∙ ap (λ (g : Forest Plain). past_byte item.end g) after_mark_is.rest.trees
       ∙ past_inside source tables old opener closer item.end inside can over.ends
@@ -126,7 +134,8 @@ module _ (source : List ℕ) (opener closer : ℕ) (mark item : Item) (inside : 
     place = begun_from next item.end last
 
     items_same : (n : ℕ) → 0 < total (same n) f → item_at mid n ≡ item_at old n
-    items_same n z = (rest_same source opener old mid tables tables stands head n (rest_within source opener old mid tables tables stands
+    items_same n z = (rest_same source opener old mid tables tables stands head n
+        (rest_within source opener old mid tables tables stands
         head n z) z).item
 
     next_first : first_past old item.end can.after ≡ next
@@ -137,19 +146,23 @@ module _ (source : List ℕ) (opener closer : ℕ) (mark item : Item) (inside : 
 
     link : next ≡ first_past mid item.end (roots (forest_at (links_of mid) (sibling_of mid closer)))
     link =
-        sym next_all ∙ sym (first_kept old mid item.end f items_same) ∙ ap (λ (g : Forest ℕ). first_past mid item.end (roots g))
+        sym next_all ∙ sym (first_kept old mid item.end f items_same)
+        ∙ ap (λ (g : Forest ℕ). first_past mid item.end (roots g))
         (sym after_mark_is.rest.forest) ∙ skipped_there.first
 
     puts : HeadPut source closer item.end item next mid last tables t
     puts =
-        head_put source closer item.end item next mid last tables t grown closer_stands over.puts (omega arith) w (item_at mid closer).end
+        head_put source closer item.end item next mid last tables t grown closer_stands over.puts (omega arith) w
+        (item_at mid closer).end
         (rest_past source tables mid closer skipped_there.ready)
-        link (λ n e. rw (items_same n (first_there old item.end n f (next_all ∙ e))) (can.between n (next_first ∙ e))) can.boundary
+        link (λ n e. rw (items_same n (first_there old item.end n f (next_all ∙ e))) (can.between n (next_first ∙ e)))
+        can.boundary
 
     closer_put : (rule : Forest Plain → Forest Plain) (new : List (Node Item)) (later : Tables)
         → Rewrites source rule next place new t later
         → HeadStands source closer item.end item rule mid last new tables t later
-    closer_put rule new later r = head_stands source closer item.end item next mid last tables t closer_stands w.child_is puts rule new
+    closer_put rule new later r = head_stands source closer item.end item next mid last tables t closer_stands
+        w.child_is puts rule new
         later r
 
     mark_closed : is_open (item_at mid opener).body ≡ false
@@ -157,18 +170,23 @@ module _ (source : List ℕ) (opener closer : ℕ) (mark item : Item) (inside : 
 
     mark_whole : (rule : Forest Plain → Forest Plain) (new : List (Node Item)) (later : Tables)
         → Rewrites source rule next place new t later
-        → Rewrites source (closed_over k (after_mark source t mark item) item.end rule) (Some opener) old new tables later
+        → Rewrites source (closed_over k (after_mark source t mark item) item.end rule) (Some opener) old new tables
+        later
     mark_whole rule new later r =
         let h = closer_put rule new later r in
-        let m = moves_twice source l (Some closer) (Some closer) mid mid new tables tables later skipped_there.moves h.moved.moves in
+        let m = moves_twice source l (Some closer) (Some closer) mid mid new tables tables later skipped_there.moves
+        h.moved.moves in
         let kept = below_kept source opener old mid new tables tables later (Some closer) stands head m v.child_is
         (rw mark_closed (some_weight (is_open (item_at old opener).body))) in
         let follows : ComesBefore (numbered mid opener) (Some (numbered new closer)) =
         λ x y. record { ends = rw (v.item_is, h.moved.item, w.item_is) over.in_order; numbers = number } in
-        let hm = head_moves source opener old mid new tables tables later stands head (rw v.next_is m) kept.below (rw v.next_is follows)
+        let hm = head_moves source opener old mid new tables tables later stands head (rw v.next_is m) kept.below
+        (rw v.next_is follows)
         (no_run_here source (numbered mid opener) (option_map (numbered new) (sibling_of mid opener)) mark_closed) in
-        let none : trees_from source tables old (child_of old opener) ≡ nil = rw (can.childless, forest_at-none (links_of old)) refl in
-        let none' : trees_from source tables mid (child_of mid closer) ≡ nil = rw (closer_childless, forest_at-none (links_of mid)) refl in
+        let none : trees_from source tables old (child_of old opener)
+        ≡ nil = rw (can.childless, forest_at-none (links_of old)) refl in
+        let none' : trees_from source tables mid (child_of mid closer)
+        ≡ nil = rw (closer_childless, forest_at-none (links_of mid)) refl in
         let label = label_of_none source tables t mid opener grown (rw v.item_is over.names_nothing)
         ∙ ap (λ x. label_of source t x) v.item_is in
         let after = ap (λ (x : Option ℕ). trees_from source later new x) v.next_is ∙ h.reads
@@ -176,7 +194,8 @@ module _ (source : List ℕ) (opener closer : ℕ) (mark item : Item) (inside : 
         let item_is : item_at new opener ≡ mark = hm.item ∙ v.item_is in
         record {
           changes = moves_change source (Some opener) old new tables later hm.moves
-              (λ a before. before_text opener old new a (first_no_block source tables old opener can.ready) (rw item_is over.starts)
+              (λ a before. before_text opener old new a (first_no_block source tables old opener can.ready)
+              (rw item_is over.starts)
               before);
           runs = runs_text source opener old new can.opener_closed (rw item_is over.puts_mark.closed);
           rewritten = hm.trees ∙ tree_same _ _ _ _ _ _ label (kept.trees ∙ none) after ∙ rw whole_old refl;
@@ -185,11 +204,13 @@ module _ (source : List ℕ) (opener closer : ℕ) (mark item : Item) (inside : 
     left_from : Moves source l next mid place tables t
     left_from =
         moves_twice source l (Some closer) next mid mid place tables tables t skipped_there.moves
-        (moves_twice source (Some closer) (sibling_of mid closer) next mid last place tables t t (head_leaves source closer mid last tables
+        (moves_twice source (Some closer) (sibling_of mid closer) next mid last place tables t t
+        (head_leaves source closer mid last tables
         t closer_stands puts.head) puts.rest.moves)
 
     left_moves : Moves source (Some opener) next old place tables t
-    left_moves = moves_twice source (Some opener) l next old mid place tables tables t (head_leaves source opener old mid tables tables
+    left_moves = moves_twice source (Some opener) l next old mid place tables tables t
+        (head_leaves source opener old mid tables tables
         stands head) left_from
 
     mark_leaves : LeavesRest source opener next old place t
@@ -198,13 +219,15 @@ module _ (source : List ℕ) (opener closer : ℕ) (mark item : Item) (inside : 
         let all : weight_in old (Some opener) ≡ weight_at old opener
         + (0 + weight_in old l) = ap (λ (g : Forest ℕ). total (weight_at old) g) whole_old in
         let rest : weight_in place next ≤ weight_in old l = rw (← after_mark_is.rest.weight) left_from.no_heavier in
-        over_leaves source opener (suc k) item.end next old place tables t f can.ready whole_old left_moves (omega (arith, two, all, rest))
+        over_leaves source opener (suc k) item.end next old place tables t f can.ready whole_old left_moves
+        (omega (arith, two, all, rest))
         (puts.rest.reads ∙ behind_reads)
 
     behind_same : (n : ℕ) → 0 < total (same n) (trees_past (suc k) f) → IsSameAt old last n
     behind_same n x =
         let o = opens_at inside can.after closer f can.follows in
-        let one : total (same n) (trees_past k f) ≡ same n closer + (total (same n) o.below + total (same n) (trees_past (suc k) f)) =
+        let one : total (same n) (trees_past k f)
+        ≡ same n closer + (total (same n) o.below + total (same n) (trees_past (suc k) f)) =
         ap (λ (g : Forest ℕ). total (same n) g) o.is in
         let parts = total_parts (same n) k f in
         let once : same n opener + total (same n) f ≤ 1 = (let z = rw whole_old at (can.ready.once n) in omega arith) in
@@ -219,10 +242,12 @@ module _ (source : List ℕ) (opener closer : ℕ) (mark item : Item) (inside : 
     mark_leads =
         let size = v.size in
         let size' = w.size in
-        behind_leads old last opener closer item.end inside can.after next f can.follows opened.after.spelled (omega (arith, size, size'))
+        behind_leads old last opener closer item.end inside can.after next f can.follows opened.after.spelled
+        (omega (arith, size, size'))
         behind_same next_first
 
-    mark_numbers : roots (forest_at (links_of place) (Some opener)) ≡ opener ∷ closer ∷ roots (forest_at (links_of place) next)
+    mark_numbers : roots (forest_at (links_of place) (Some opener))
+        ≡ opener ∷ closer ∷ roots (forest_at (links_of place) next)
     mark_numbers =
         let r = mark_whole (λ g. g) place t (rewrites_none source next place t left_moves.stands) in
         let h = closer_put (λ g. g) place t (rewrites_none source next place t left_moves.stands) in
@@ -233,6 +258,14 @@ module _ (source : List ℕ) (opener closer : ℕ) (mark item : Item) (inside : 
         (next_from last next item.end closer ∙ w.next_is))
 
     -- so both replace what was found
-    pub mark_puts : PutsOver source opener closer inside (after_mark source t mark item) item.end (opener ∷ closer ∷ []) rest old place
+    pub mark_puts : PutsOver source opener closer inside (after_mark source t mark item) item.end (opener ∷ closer ∷ [])
+        rest old place
         tables t
-    mark_puts = record { whole = mark_whole; leaves = mark_leaves; past = past; leads = mark_leads; numbers = mark_numbers }
+    mark_puts = record {
+      whole = mark_whole;
+      leaves = mark_leaves;
+      past = past;
+      leads = mark_leads;
+      numbers
+          = mark_numbers;
+    }

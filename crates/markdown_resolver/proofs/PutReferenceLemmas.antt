@@ -1,5 +1,6 @@
 -- A footnote reference is put into the node of its opener, which is a Text by now: what was inside leaves the chain.
-use Rattle.std.proofs.Common.{◌≡◌, ℕ, suc, ◌+◌, ◌<◌, ◌≤◌, List, [], ◌∷◌, length, Option, Some, refl, sym, ap, ◌∙◌, subst, arith}
+use Rattle.std.proofs.Common.{◌≡◌, ℕ, suc, ◌+◌, ◌<◌, ◌≤◌, List, [], ◌∷◌, length, Option, Some, refl, sym, ap, ◌∙◌}
+use Rattle.std.proofs.Common.{subst, arith}
 use Rattle.markdown_base.specs.Arena.{child_of, sibling_of}
 use Rattle.markdown_base.specs.ArenaForest.{forest_at, links_of}
 use Rattle.markdown_base.specs.BlockTree.{Numbered, item_at}
@@ -24,12 +25,14 @@ use Rattle.markdown_resolver.specs.Rewritten.{Rewrites, IsRestPast, LeavesRest, 
 use Rattle.markdown_resolver.specs.declared.rest.Rest.{Rest}
 use Rattle.markdown_resolver.specs.Settling.{IsWritten, begun_from}
 use Rattle.markdown_resolver.proofs.ChainOrderLemmas.{rest_past}
-use Rattle.markdown_resolver.proofs.ComposeLemmas.{Stands, stands_ready, Moves, moves_change, moves_twice, head_leaves, after_head}
+use Rattle.markdown_resolver.proofs.ComposeLemmas.{Stands, stands_ready, Moves, moves_change, moves_twice, head_leaves}
+use Rattle.markdown_resolver.proofs.ComposeLemmas.{after_head}
 use Rattle.markdown_resolver.proofs.EncloseLemmas.{read_past, total_parts}
 use Rattle.markdown_resolver.proofs.FoldLemmas.{behind_is, next_behind, stands_once, whole_childless}
 use Rattle.markdown_resolver.proofs.PastByteLemmas.{tree_same}
 use Rattle.markdown_resolver.proofs.PutLemmas.{rewrites_none, next_from, over_numbers}
-use Rattle.markdown_resolver.proofs.PutLinkLemmas.{HeadPut, head_put, head_stands, first_no_block, before_text, runs_text, over_leaves}
+use Rattle.markdown_resolver.proofs.PutLinkLemmas.{HeadPut, head_put, head_stands, first_no_block, before_text}
+use Rattle.markdown_resolver.proofs.PutLinkLemmas.{runs_text, over_leaves}
 use Rattle.markdown_resolver.proofs.PutLinkLemmas.{behind_leads}
 use Rattle.markdown_resolver.proofs.PutPairLemmas.{Skips, skips, ready_next}
 
@@ -61,9 +64,11 @@ module _ (source : List ℕ) (tables : Tables) (old : List (Node Item)) (opener 
   first_behind = skipped_there.first ∙ sym (next_behind source tables old opener closer inside byte can)
 
 -- an opener is written in place of what is inside
-module _ (source : List ℕ) (opener closer : ℕ) (item : Item) (inside : List ℕ) (old : List (Node Item)) (tables t : Tables)
+module _ (source : List ℕ) (opener closer : ℕ) (item : Item) (inside : List ℕ) (old : List (Node Item))
+    (tables t : Tables)
     (grown : HasGrown tables t)
-    (can : CanClose source tables old opener closer inside item.end) (over : CanPutOver source tables t old opener item item.end)
+    (can : CanClose source tables old opener closer inside item.end)
+    (over : CanPutOver source tables t old opener item item.end)
     (ends : item.end ≡ (item_at old closer).end) where
   abbrev k : ℕ
   k = length inside
@@ -96,9 +101,11 @@ module _ (source : List ℕ) (opener closer : ℕ) (item : Item) (inside : List 
 
     puts : HeadPut source opener item.end item next old mid tables t
     puts =
-        head_put source opener item.end item next old mid tables t grown stands over.puts over.ends w (item_at old opener).end
+        head_put source opener item.end item next old mid tables t grown stands over.puts over.ends w
+        (item_at old opener).end
         (rest_past source tables old opener can.ready)
-        (sym (first_behind source tables old opener closer item.end inside can ends ∙ next_first)) (λ n e. can.between n (next_first ∙ e))
+        (sym (first_behind source tables old opener closer item.end inside can ends ∙ next_first))
+        (λ n e. can.between n (next_first ∙ e))
         can.boundary
 
     none_inside : trees_from source tables old (child_of old opener) ≡ nil
@@ -112,7 +119,8 @@ module _ (source : List ℕ) (opener closer : ℕ) (item : Item) (inside : List 
         let item_is : item_at new opener ≡ item = h.moved.item ∙ puts.item_is in
         record {
           changes = moves_change source (Some opener) old new tables later h.moved.moves
-              (λ a before. before_text opener old new a (first_no_block source tables old opener can.ready) (rw item_is over.starts)
+              (λ a before. before_text opener old new a (first_no_block source tables old opener can.ready)
+              (rw item_is over.starts)
               before);
           runs = runs_text source opener old new can.opener_closed (rw item_is puts.closed);
           rewritten = h.reads ∙ tree_same _ _ _ _ _ _ refl none_inside (ap rule behind_reads) ∙ rw whole refl;
@@ -128,8 +136,10 @@ module _ (source : List ℕ) (opener closer : ℕ) (item : Item) (inside : List 
         let two : 2 ≤ weight_at old opener = some_weight (is_open (item_at old opener).body) in
         let all : weight_in old (Some opener) ≡ weight_at old opener + (0 + weight_in old (sibling_of old opener)) =
         ap (λ (g : Forest ℕ). total (weight_at old) g) whole in
-        let rest : weight_in place next ≤ weight_in old (sibling_of old opener) = rw (← a.rest.weight) puts.rest.moves.no_heavier in
-        over_leaves source opener (suc k) item.end next old place tables t f can.ready whole left_moves (omega (arith, two, all, rest))
+        let rest : weight_in place next ≤ weight_in old (sibling_of old opener) = rw (← a.rest.weight)
+        puts.rest.moves.no_heavier in
+        over_leaves source opener (suc k) item.end next old place tables t f can.ready whole left_moves
+        (omega (arith, two, all, rest))
         (puts.rest.reads ∙ behind_reads)
 
     behind_same : (n : ℕ) → 0 < total (same n) (trees_past (suc k) f) → IsSameAt old mid n
@@ -143,16 +153,26 @@ module _ (source : List ℕ) (opener closer : ℕ) (item : Item) (inside : List 
         → LeadsThrough place low next (numbered_past_byte item.end after)
     reference_leads =
         let size = w.size in
-        behind_leads old mid opener closer item.end inside can.after next f can.follows (opens (links_of old) (IsPlaced source tables old)
+        behind_leads old mid opener closer item.end inside can.after next f can.follows
+        (opens (links_of old) (IsPlaced source tables old)
         opener can.ready.reaches).after.spelled
         (omega (arith, size)) behind_same next_first
 
-    reference_numbers : roots (forest_at (links_of place) (Some opener)) ≡ opener ∷ roots (forest_at (links_of place) next)
+    reference_numbers : roots (forest_at (links_of place) (Some opener))
+        ≡ opener ∷ roots (forest_at (links_of place) next)
     reference_numbers =
         let r = reference_whole (λ g. g) place t (rewrites_none source next place t left_moves.stands) in
         over_numbers source opener next place t r.changes.reaches (next_from mid next item.end opener ∙ w.next_is)
 
     -- so the item replaces what was found
-    pub reference_puts : PutsOver source opener closer inside (in_place_of source t item) item.end (opener ∷ []) rest old place tables t
+    pub reference_puts : PutsOver source opener closer inside (in_place_of source t item) item.end (opener ∷ []) rest
+        old place tables t
     reference_puts =
-        record { whole = reference_whole; leaves = reference_leaves; past = past; leads = reference_leads; numbers = reference_numbers }
+        record {
+          whole = reference_whole;
+          leaves = reference_leaves;
+          past = past;
+          leads = reference_leads;
+          numbers
+              = reference_numbers;
+        }

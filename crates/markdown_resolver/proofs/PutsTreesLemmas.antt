@@ -39,17 +39,21 @@ past_joined nil g = refl
 past_joined (node a below after) g = past_joined after g
 
 -- so it is with other labels
-pub relabelled_first : {A B : Type 0} (h : A → B) (k : ℕ) (f : Forest A) → relabelled h (first_trees k f) ≡ first_trees k (relabelled h f)
+pub relabelled_first : {A B : Type 0} (h : A → B) (k : ℕ) (f : Forest A) → relabelled h (first_trees k f)
+    ≡ first_trees k (relabelled h f)
 relabelled_first h zero f = refl
 relabelled_first h (suc k) nil = refl
-relabelled_first h (suc k) (node a below after) = ap (λ t. node (h a) (relabelled h below) t) (relabelled_first h k after)
+relabelled_first h (suc k) (node a below after) = ap (λ t. node (h a) (relabelled h below) t)
+    (relabelled_first h k after)
 
-pub relabelled_past : {A B : Type 0} (h : A → B) (k : ℕ) (f : Forest A) → relabelled h (trees_past k f) ≡ trees_past k (relabelled h f)
+pub relabelled_past : {A B : Type 0} (h : A → B) (k : ℕ) (f : Forest A) → relabelled h (trees_past k f)
+    ≡ trees_past k (relabelled h f)
 relabelled_past h zero f = refl
 relabelled_past h (suc k) nil = refl
 relabelled_past h (suc k) (node a below after) = relabelled_past h k after
 
-pub relabelled_joined : {A B : Type 0} (h : A → B) (f g : Forest A) → relabelled h (joined_chains f g) ≡ joined_chains (relabelled h f) (relabelled h g)
+pub relabelled_joined : {A B : Type 0} (h : A → B) (f g : Forest A) → relabelled h (joined_chains f g)
+    ≡ joined_chains (relabelled h f) (relabelled h g)
 relabelled_joined h nil g = refl
 relabelled_joined h (node a below after) g = ap (λ t. node (h a) (relabelled h below) t) (relabelled_joined h after g)
 
@@ -57,7 +61,8 @@ relabelled_joined h (node a below after) g = ap (λ t. node (h a) (relabelled h 
 plain_labels : (source : List ℕ) (tables : Tables) (nodes : List (Node Item)) (f : Forest ℕ)
     → without_numbers (relabelled (numbered_label source tables nodes) f) ≡ relabelled (label_at source tables nodes) f
 plain_labels source tables nodes nil = refl
-plain_labels source tables nodes (node ix below after) = rw (plain_labels source tables nodes below, plain_labels source tables nodes after)
+plain_labels source tables nodes (node ix below after) = rw
+    (plain_labels source tables nodes below, plain_labels source tables nodes after)
     refl
 
 pub plain_from : (source : List ℕ) (tables : Tables) (nodes : List (Node Item)) (l : Option ℕ)
@@ -71,7 +76,8 @@ roots_none [] (node n below after) e = cc e
 roots_none (x ∷ standing) nil e = refl
 roots_none (x ∷ standing) (node n below after) e = roots_none standing after (cc e)
 
-past_is_next : (nodes : List (Node Item)) (standing : List ℕ) (l next : Option ℕ) (f g : Forest ℕ) → roots f ≡ standing ++ roots g
+past_is_next : (nodes : List (Node Item)) (standing : List ℕ) (l next : Option ℕ) (f g : Forest ℕ) → roots f
+    ≡ standing ++ roots g
     → Spells (links_of nodes) l f → Spells (links_of nodes) next g → trees_past (length standing) f ≡ g
 past_is_next nodes standing l next f nil e s t = roots_none standing f e
 past_is_next nodes standing l next f (node c below after) e s t =
@@ -80,27 +86,33 @@ past_is_next nodes standing l next f (node c below after) e s t =
 
 -- so a chain is the nodes that stand there first, and what the link leads to
 pub past_chain : (source : List ℕ) (tables : Tables) (nodes : List (Node Item)) (l next : Option ℕ) (standing : List ℕ)
-    → Spells (links_of nodes) l (forest_at (links_of nodes) l) → Spells (links_of nodes) next (forest_at (links_of nodes) next)
+    → Spells (links_of nodes) l (forest_at (links_of nodes) l)
+    → Spells (links_of nodes) next (forest_at (links_of nodes) next)
     → roots (forest_at (links_of nodes) l) ≡ standing ++ roots (forest_at (links_of nodes) next)
     → trees_past (length standing) (numbered_from source tables nodes l) ≡ numbered_from source tables nodes next
 past_chain source tables nodes l next standing s t e =
     let f = forest_at (links_of nodes) l in
     let g = forest_at (links_of nodes) next in
     sym (relabelled_past (numbered_label source tables nodes) (length standing) f)
-    ∙ ap (λ (h : Forest ℕ). relabelled (numbered_label source tables nodes) h) (past_is_next nodes standing l next f g e s t)
+    ∙ ap (λ (h : Forest ℕ). relabelled (numbered_label source tables nodes) h)
+    (past_is_next nodes standing l next f g e s t)
 
 pub split_chain : (source : List ℕ) (tables : Tables) (nodes : List (Node Item)) (l next : Option ℕ) (standing : List ℕ)
-    → Spells (links_of nodes) l (forest_at (links_of nodes) l) → Spells (links_of nodes) next (forest_at (links_of nodes) next)
+    → Spells (links_of nodes) l (forest_at (links_of nodes) l)
+    → Spells (links_of nodes) next (forest_at (links_of nodes) next)
     → roots (forest_at (links_of nodes) l) ≡ standing ++ roots (forest_at (links_of nodes) next)
     → numbered_from source tables nodes l
-    ≡ joined_chains (first_trees (length standing) (numbered_from source tables nodes l)) (numbered_from source tables nodes next)
+    ≡ joined_chains (first_trees (length standing) (numbered_from source tables nodes l))
+    (numbered_from source tables nodes next)
 split_chain source tables nodes l next standing s t e =
     let all = numbered_from source tables nodes l in
-    first_and_past (length standing) all ∙ ap (λ (h : Forest (Label ℕ)). joined_chains (first_trees (length standing) all) h)
+    first_and_past (length standing) all
+    ∙ ap (λ (h : Forest (Label ℕ)). joined_chains (first_trees (length standing) all) h)
     (past_chain source tables nodes l next standing s t e)
 
 -- trees are in the place of a node, one for each of these nodes, and the chain continues with what is left
-pub puts_trees : (source : List ℕ) (ix : ℕ) (next : Option ℕ) (trees rest : Forest Plain) (standing : List ℕ) (old new : List (Node Item))
+pub puts_trees : (source : List ℕ) (ix : ℕ) (next : Option ℕ) (trees rest : Forest Plain) (standing : List ℕ)
+    (old new : List (Node Item))
     (tables tables' : Tables)
     → ChangesChain source (Some ix) old new tables tables' → RunsGoOn source old new (Some ix)
     → trees_from source tables' new (Some ix) ≡ joined_chains trees rest
@@ -131,18 +143,23 @@ puts_trees source ix next trees rest standing old new tables tables' changes run
     }
 
 -- so it is with what was put for the first item of a chain
-pub put_trees : (source : List ℕ) (ix : ℕ) (trees : Standing) (goes_on : Option ℕ) (rest : Rest) (old new : List (Node Item))
+pub put_trees : (source : List ℕ) (ix : ℕ) (trees : Standing) (goes_on : Option ℕ) (rest : Rest)
+    (old new : List (Node Item))
     (tables tables' : Tables)
     → CanResolve source tables old (Some ix) → Puts source ix trees goes_on rest old new tables tables'
     → IsQuiet (trees (label_at source tables old ix) (trees_from source tables old (child_of old ix)))
-    → PutsTrees source ix rest.next (trees (label_at source tables old ix) (trees_from source tables old (child_of old ix)))
+    → PutsTrees source ix rest.next
+    (trees (label_at source tables old ix) (trees_from source tables old (child_of old ix)))
     (past goes_on (trees_from source tables old (sibling_of old ix))) old new tables tables'
 put_trees source ix trees goes_on rest old new tables tables' ready puts quiet =
     let o = opens_chain source tables old ix ready in
     let a = label_at source tables old ix in
     let below = trees_from source tables old (child_of old ix) in
     let after = trees_from source tables old (sibling_of old ix) in
-    let w = puts.whole (λ f. f) new tables' (rewrites_none source rest.next new tables' (stands_ready source tables' new rest.next puts.leaves.ready))
+    let w = puts.whole (λ f. f) new tables'
+    (rewrites_none source rest.next new tables' (stands_ready source tables' new rest.next puts.leaves.ready))
     in
-    puts_trees source ix rest.next (trees a below) (past goes_on after) puts.standing old new tables tables' w.changes w.runs
-    (w.rewritten ∙ ap (replaced trees goes_on (λ f. f)) o.trees) puts.numbers (puts.as_many a below) quiet puts.leaves.ready
+    puts_trees source ix rest.next (trees a below) (past goes_on after) puts.standing old new tables tables' w.changes
+    w.runs
+    (w.rewritten ∙ ap (replaced trees goes_on (λ f. f)) o.trees) puts.numbers (puts.as_many a below) quiet
+    puts.leaves.ready

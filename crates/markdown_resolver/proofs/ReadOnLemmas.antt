@@ -1,6 +1,7 @@
 -- How far a chain in an arena was read: at first none of it, then one stretch after another, and in the end all of it,
 -- which resolves it by pass one. Where memory is refused after a stretch, it is refused on the way.
-use Rattle.std.proofs.Common.{◌≡◌, ℕ, ◌+◌, Bool, true, false, ◌||◌, ◌==◌, List, [], ◌∷◌, ◌++◌, Option, Some, None, refl, sym, ap, ◌∙◌}
+use Rattle.std.proofs.Common.{◌≡◌, ℕ, ◌+◌, Bool, true, false, ◌||◌, ◌==◌, List, [], ◌∷◌, ◌++◌, Option, Some, None, refl}
+use Rattle.std.proofs.Common.{sym, ap, ◌∙◌}
 use Rattle.std.proofs.Common.{arith, append-nil, append_assoc}
 use Rattle.markdown_base.specs.ArenaForest.{links_of, forest_at}
 use Rattle.markdown_base.specs.Forest.{Forest, nil}
@@ -27,14 +28,17 @@ use Rattle.markdown_document.proofs.CallbackLemmas.{Asks-append}
 use Rattle.markdown_resolver.specs.Chains.{CanResolve, ChangesChain, ResolvesFrom}
 use Rattle.markdown_resolver.specs.PassOne.{Outcome, outcome, pass_one}
 use Rattle.markdown_resolver.specs.PutsTrees.{numbered_from, numbered_label, without_numbers}
-use Rattle.markdown_resolver.specs.ReadOn.{AreSpent, ReadsOn, StandsTo, StopsInPassOne, StopsOn, all_read, at_left, left_without_numbers}
+use Rattle.markdown_resolver.specs.ReadOn.{AreSpent, ReadsOn, StandsTo, StopsInPassOne, StopsOn, all_read, at_left}
+use Rattle.markdown_resolver.specs.ReadOn.{left_without_numbers}
 use Rattle.markdown_resolver.proofs.ComposeLemmas.{changes_move, moves_change, moves_none, moves_twice, stands_ready}
 
 -- one change, and then another, of the chain from one link on
-changes_twice : (source : List ℕ) (l : Option ℕ) (a b c : List (Node Item)) (t u v : Tables) → ChangesChain source l a b t u
+changes_twice : (source : List ℕ) (l : Option ℕ) (a b c : List (Node Item)) (t u v : Tables)
+    → ChangesChain source l a b t u
     → ChangesChain source l b c u v → ChangesChain source l a c t v
 changes_twice source l a b c t u v p q =
-    moves_change source l a c t v (moves_twice source l l l a b c t u v (changes_move source l a b t u p) (changes_move source l b c u v q))
+    moves_change source l a c t v
+    (moves_twice source l l l a b c t u v (changes_move source l a b t u p) (changes_move source l b c u v q))
     (λ x stands. q.before x (p.before x stands))
 
 -- the trees from a link on are those with numbers, without them
@@ -50,20 +54,24 @@ or_assoc false b c = refl
 -- an end is among those of two lists
 among_append : (n : ℕ) (xs ys : List ℕ) → among n (xs ++ ys) ≡ (among n xs || among n ys)
 among_append n [] ys = refl
-among_append n (m ∷ xs) ys = ap (λ b. (n == m) || b) (among_append n xs ys) ∙ or_assoc (n == m) (among n xs) (among n ys)
+among_append n (m ∷ xs) ys = ap (λ b. (n == m) || b) (among_append n xs ys)
+    ∙ or_assoc (n == m) (among n xs) (among n ys)
 
 -- the ends that were used up are still all held
 pub spent_more : (spent spent' : SpentEnds) (ends before : List ℕ)
-    → ((end : ℕ) → is_spent spent' end ≡ (among end ends || is_spent spent end)) → AreSpent spent before → AreSpent spent' (ends ++ before)
+    → ((end : ℕ) → is_spent spent' end ≡ (among end ends || is_spent spent end)) → AreSpent spent before
+    → AreSpent spent' (ends ++ before)
 spent_more spent spent' ends before spends are end = spends end ∙ ap (λ b. among end ends || b) (are end)
     ∙ sym (among_append end ends before)
 
 -- nothing was read yet
-pub reads_on_none : {C : Type 0} (step : C → Question → Option Answer → C → Type 0) (s : Setting) (above : Above) (first : ℕ)
+pub reads_on_none : {C : Type 0} (step : C → Question → Option Answer → C → Type 0) (s : Setting) (above : Above)
+    (first : ℕ)
     (old : Stage C) (spent : SpentEnds) → CanResolve s.text old.tables old.nodes (Some first)
     → ReadsOn step s above first (Some first) (Some first) [] old old spent spent [] []
 reads_on_none step s above first old spent ready = record {
-  changes = moves_change s.text (Some first) old.nodes old.nodes old.tables old.tables (moves_none s.text (Some first) old.nodes old.tables
+  changes = moves_change s.text (Some first) old.nodes old.nodes old.tables old.tables
+      (moves_none s.text (Some first) old.nodes old.tables
       (stands_ready s.text old.tables old.nodes (Some first) ready)) (λ a stands. stands);
   left_then = [];
   stands = record { ready = ready; stands = refl; quiet = tt; waiting = tt };
@@ -82,9 +90,11 @@ reads_on_none step s above first old spent ready = record {
 }
 
 -- one stretch was read, and then another
-module _ {C : Type 0} (step : C → Question → Option Answer → C → Type 0) (s : Setting) (above : Above) (first : ℕ) (at mid : Option ℕ)
+module _ {C : Type 0} (step : C → Question → Option Answer → C → Type 0) (s : Setting) (above : Above) (first : ℕ)
+    (at mid : Option ℕ)
     (left : List (Entry ℕ)) (old now : Stage C) (spent spent1 : SpentEnds)
-    (brackets wikilinks : List Waiting) (r : ReadsOn step s above first at mid left old now spent spent1 brackets wikilinks) where
+    (brackets wikilinks : List Waiting)
+    (r : ReadsOn step s above first at mid left old now spent spent1 brackets wikilinks) where
   abbrev after_first : Progress (Unit {0}) → Progress (Unit {0})
   after_first p = record p { spent = r.ends ++ p.spent; asked = p.asked ++ r.questions; made = p.made + r.made }
 
@@ -93,23 +103,27 @@ module _ {C : Type 0} (step : C → Question → Option Answer → C → Type 0)
       → all_read s above (chain_at s.text old at) (at_left left old ((r.answers ++ answers) ++ later) p)
       ≡ all_read s above (chain_at s.text now mid) (at_left r.left_then now (answers ++ later) (after_first p))
   first_reads p answers later are =
-      ap (λ (a : Answers). all_read s above (chain_at s.text old at) (at_left left old a p)) (append_assoc r.answers answers later)
+      ap (λ (a : Answers). all_read s above (chain_at s.text old at) (at_left left old a p))
+      (append_assoc r.answers answers later)
       ∙ r.reads p (answers ++ later) are
 
   pub reads_on_twice : (next : Option ℕ) (new : Stage C) (spent2 : SpentEnds) (brackets2 wikilinks2 : List Waiting)
       → ReadsOn step s above first mid next r.left_then now new spent1 spent2 brackets2 wikilinks2
       → ReadsOn step s above first at next left old new spent spent2 brackets2 wikilinks2
   reads_on_twice next new spent2 brackets2 wikilinks2 q = record {
-    changes = changes_twice s.text (Some first) old.nodes now.nodes new.nodes old.tables now.tables new.tables r.changes q.changes;
+    changes = changes_twice s.text (Some first) old.nodes now.nodes new.nodes old.tables now.tables new.tables r.changes
+        q.changes;
     left_then = q.left_then;
     stands = q.stands;
     held = q.held;
     answers = r.answers ++ q.answers;
     questions = r.questions ++ q.questions;
-    asked = Asks-append step old.callback now.callback new.callback r.questions q.questions r.answers q.answers r.asked q.asked;
+    asked = Asks-append step old.callback now.callback new.callback r.questions q.questions r.answers q.answers r.asked
+        q.asked;
     ends = q.ends ++ r.ends;
     spends = λ end.
-        q.spends end ∙ ap (λ b. among end q.ends || b) (r.spends end) ∙ or_assoc (among end q.ends) (among end r.ends) (is_spent spent end)
+        q.spends end ∙ ap (λ b. among end q.ends || b) (r.spends end) ∙ or_assoc (among end q.ends) (among end r.ends)
+        (is_spent spent end)
         ∙ ap (λ b. b || is_spent spent end) (sym (among_append end q.ends r.ends));
     made = r.made + q.made;
     reads = λ p later are.
@@ -119,10 +133,18 @@ module _ {C : Type 0} (step : C → Question → Option Answer → C → Type 0)
         (record p { spent = q.ends ++ (r.ends ++ p.spent); asked = asked; made = (p.made + r.made) + q.made })))
         (append_assoc p.asked r.questions q.questions)
         ∙ ap (λ (ends : List ℕ). all_read s above (chain_at s.text new next) (at_left q.left_then new later
-        (record p { spent = ends; asked = p.asked ++ (r.questions ++ q.questions); made = (p.made + r.made) + q.made })))
+        (record p {
+          spent = ends;
+          asked = p.asked ++ (r.questions ++ q.questions);
+          made = (p.made + r.made) + q.made;
+        })))
         (sym (append_assoc q.ends r.ends p.spent))
         ∙ ap (λ (made : ℕ). all_read s above (chain_at s.text new next) (at_left q.left_then new later
-        (record p { spent = (q.ends ++ r.ends) ++ p.spent; asked = p.asked ++ (r.questions ++ q.questions); made = made }))) (omega arith);
+        (record p {
+          spent = (q.ends ++ r.ends) ++ p.spent;
+          asked = p.asked ++ (r.questions ++ q.questions);
+          made = made;
+        }))) (omega arith);
   }
 
   -- one was read, and memory was refused in the next
@@ -131,7 +153,8 @@ module _ {C : Type 0} (step : C → Question → Option Answer → C → Type 0)
   stops_later callback' q = record {
     answers = r.answers ++ q.answers;
     questions = r.questions ++ q.questions;
-    asked = Asks-append step old.callback now.callback callback' r.questions q.questions r.answers q.answers r.asked q.asked;
+    asked = Asks-append step old.callback now.callback callback' r.questions q.questions r.answers q.answers r.asked
+        q.asked;
     begins = λ p later are.
         let b = q.begins (after_first p) later (spent_more spent spent1 r.ends p.spent r.spends are) in (
           b.0,
@@ -142,7 +165,8 @@ module _ {C : Type 0} (step : C → Question → Option Answer → C → Type 0)
   }
 
 -- a chain that was read to its end was resolved by pass one
-read_to_end : {C : Type 0} (s : Setting) (above : Above) (first : ℕ) (left : List (Entry ℕ)) (new : Stage C) (later : Answers)
+read_to_end : {C : Type 0} (s : Setting) (above : Above) (first : ℕ) (left : List (Entry ℕ)) (new : Stage C)
+    (later : Answers)
     (p : Progress (Unit {0})) → StandsTo s.text new.tables new.nodes first None left
     → outcome (all_read s above (chain_at s.text new None) (at_left left new later p))
     ≡ record { questions = p.asked; forest = chain_at s.text new (Some first); known = known_at new later }
@@ -150,14 +174,17 @@ unfolding read_chain
 read_to_end s above first left new later p stands =
     let ended : numbered_from s.text new.tables new.nodes None ≡ nil = rw (forest_at-none (links_of new.nodes)) refl in
     let all : chain_at s.text new (Some first) ≡ trees_onto (left_without_numbers left) nil =
-    sym (trees_unnumbered s.text new.tables new.nodes (Some first)) ∙ ap without_numbers (stands.stands ∙ ap (trees_onto left) ended)
+    sym (trees_unnumbered s.text new.tables new.nodes (Some first))
+    ∙ ap without_numbers (stands.stands ∙ ap (trees_onto left) ended)
     ∙ sym (onto_retag (λ n. tt) left nil) in
     ap (λ (f : Forest Plain). outcome (all_read s above f (at_left left new later p)))
     (sym (trees_unnumbered s.text new.tables new.nodes None) ∙ ap without_numbers ended)
-    ∙ ap (λ (f : Forest Plain). let o : Outcome (Unit {0}) = record { questions = p.asked; forest = f; known = known_at new later } in o)
+    ∙ ap (λ (f : Forest Plain). let o : Outcome (Unit {0}) = record
+    { questions = p.asked; forest = f; known = known_at new later } in o)
     (sym all)
 
-pub reads_on_all : {C : Type 0} (step : C → Question → Option Answer → C → Type 0) (s : Setting) (above : Above) (first : ℕ)
+pub reads_on_all : {C : Type 0} (step : C → Question → Option Answer → C → Type 0) (s : Setting) (above : Above)
+    (first : ℕ)
     (old new : Stage C) (spent spent' : SpentEnds) (brackets wikilinks : List Waiting)
     → AreSpent spent [] → ReadsOn step s above first (Some first) None [] old new spent spent' brackets wikilinks
     → ResolvesFrom step s.text (pass_one s plain_tags above) (Some first) old new
@@ -170,12 +197,14 @@ reads_on_all step s above first old new spent spent' brackets wikilinks none r =
   resolves = λ later.
       let p : Progress (Unit {0}) = begun (known_at old later) in
       ap outcome (r.reads p later none)
-      ∙ read_to_end s above first r.left_then new later (record p { spent = r.ends ++ []; asked = r.questions; made = 0 + r.made })
+      ∙ read_to_end s above first r.left_then new later
+      (record p { spent = r.ends ++ []; asked = r.questions; made = 0 + r.made })
       r.stands;
 }
 
 -- where memory was refused on the way, it was in pass one
-pub stops_pass_one : {C : Type 0} (step : C → Question → Option Answer → C → Type 0) (s : Setting) (above : Above) (first : ℕ)
+pub stops_pass_one : {C : Type 0} (step : C → Question → Option Answer → C → Type 0) (s : Setting) (above : Above)
+    (first : ℕ)
     (old : Stage C) (spent : SpentEnds) (callback' : Option C) → AreSpent spent []
     → StopsOn step s above (Some first) [] old spent callback' → StopsInPassOne step s above first old callback'
 unfolding pass_one

@@ -16,7 +16,8 @@ use Rattle.markdown_base.proofs.ArenaForestLemmas.{opens, forest_at-none}
 use Rattle.markdown_document.specs.Above.{Above}
 use Rattle.markdown_document.specs.ChainRest.{open_body}
 use Rattle.markdown_document.specs.Counts.{risen}
-use Rattle.markdown_document.specs.Document.{Plain, plain_tags, Shape, leaf, enclosed, plain, backslash_break, unresolved, is_unresolved}
+use Rattle.markdown_document.specs.Document.{Plain, plain_tags, Shape, leaf, enclosed, plain, backslash_break}
+use Rattle.markdown_document.specs.Document.{unresolved, is_unresolved}
 use Rattle.markdown_document.specs.Document.{shape_of}
 use Rattle.markdown_document.specs.Places.{label_at, trees_from}
 use Rattle.markdown_document.specs.PlacedNodes.{IsPlaced}
@@ -70,7 +71,8 @@ counted_more old now new all rest n more c r e = record {
 
 -- so in the end all were counted
 pub counted_all : (old now all rest : ℕ) → Counted old now all rest → rest ≡ 0 → now ≡ risen all old
-counted_all old now all rest c r = let whole : c.done ≡ all = omega (arith, c.is_all, r) in c.count ∙ ap (λ n. risen n old) whole
+counted_all old now all rest c r = let whole : c.done ≡ all = omega (arith, c.is_all, r) in c.count
+    ∙ ap (λ n. risen n old) whole
 
 -- nothing is found at an item with this body
 pub record FindsNothing (b : ItemBody) : Type 0 where
@@ -78,14 +80,16 @@ pub record FindsNothing (b : ItemBody) : Type 0 where
 
 -- so it is where it is no opener of code or math and no `<`
 pub finds_nothing : (b : ItemBody) → ((count : ℕ) (escaped : Bool) → b ≡ body.MaybeCode count escaped → ⊥)
-    → ((opens closes : Bool) (context : ℕ) → b ≡ body.MaybeMath opens closes context → ⊥) → (b ≡ body.MaybeHtml → ⊥) → FindsNothing b
+    → ((opens closes : Bool) (context : ℕ) → b ≡ body.MaybeMath opens closes context → ⊥) → (b ≡ body.MaybeHtml → ⊥)
+    → FindsNothing b
 finds_nothing (body.MaybeCode count escaped) code math html = absurd (code count escaped refl)
 finds_nothing (body.MaybeMath opens closes context) code math html = absurd (math opens closes context refl)
 finds_nothing body.MaybeHtml code math html = absurd (html refl)
 finds_nothing other code math html = record { finds = λ s above a after. refl }
 
 -- nothing is found either at a label that has the shape of such a body
-finds_in_shape : (s : Setting) (above : Above) (a : Plain) (after : Forest Plain) (tables : Tables) (source : List ℕ) (b : ItemBody)
+finds_in_shape : (s : Setting) (above : Above) (a : Plain) (after : Forest Plain) (tables : Tables) (source : List ℕ)
+    (b : ItemBody)
     → FindsNothing b
     → find_by s above (open_body (shape_of tables source b)) a after ≡ nothing
 finds_in_shape s above a after tables source b h = by_open (is_open b) refl
@@ -103,12 +107,14 @@ finds_in_shape s above a after tables source b h = by_open (is_open b) refl
 
 -- a tree at which nothing is found is settled
 reads_settled : (s : Setting) (above : Above) (a : Plain) (below after : Forest Plain) → find s above a after ≡ nothing
-    → (let r : Passed (Unit {0}) = read_tree s plain_tags above 0 a below after in (r.trees ≡ settled s.text a below) × (r.goes_on ≡ None))
+    → (let r : Passed (Unit {0}) = read_tree s plain_tags above 0 a below after in (r.trees ≡ settled s.text a below)
+    × (r.goes_on ≡ None))
 unfolding read_tree
 reads_settled s above a below after none = by_quiet (is_quiet a.part.shape) refl
   where
     by_quiet : (quiet : Bool) → is_quiet a.part.shape ≡ quiet
-        → (let r : Passed (Unit {0}) = read_tree s plain_tags above 0 a below after in (r.trees ≡ settled s.text a below)
+        → (let r : Passed (Unit {0}) = read_tree s plain_tags above 0 a below after in
+        (r.trees ≡ settled s.text a below)
         × (r.goes_on ≡ None))
     by_quiet true e = rw e (refl, refl)
     by_quiet false e = rw (e, none) (refl, refl)
@@ -121,7 +127,8 @@ settled_reads s above ix rest old new tables ready nothing_there puts =
     let item = item_at old ix in
     let a = label_at s.text tables old ix in
     let after = trees_from s.text tables old (sibling_of old ix) in
-    let none : find s above a after ≡ nothing = finds_in_shape s above a after tables (slice_range s.text item.start item.end) item.body
+    let none : find s above a after ≡ nothing = finds_in_shape s above a after tables
+    (slice_range s.text item.start item.end) item.body
     nothing_there in
     let reads = reads_settled s above a (trees_from s.text tables old (child_of old ix)) after none in
     reads_item ready (record { standing = reads.0; ends = reads.1 }) puts
@@ -149,7 +156,8 @@ stops_at_none failed visits items = record {
 
 -- an item was read, unless memory was refused: what other searches have learned is true of what is left, and they have
 -- examined no item
-pub record ReadsAlone {E : Type 0} (r : Result Rest E) (s : Setting) (above : Above) (ix : ℕ) (old new : List (Node Item))
+pub record ReadsAlone {E : Type 0} (r : Result Rest E) (s : Setting) (above : Above) (ix : ℕ)
+    (old new : List (Node Item))
     (tables tables' : Tables) : Type 0 where
   pub reads : IfOk r (λ rest. ReadsItem s above ix rest old new tables tables')
   pub holds : (kind : SpanKind) (learned : Learned) → HoldsFrom kind learned old (Some ix)
@@ -164,7 +172,8 @@ reads_alone (Ok rest) s above ix old new tables tables' ready reads = record {
   reads = reads;
   holds = λ kind learned h.
       reads.holds kind learned (holds_next kind learned old ix (chain_leads s.text tables old (Some ix) ready) h);
-  looks = λ failed visits. looks_at_none failed visits (items_from old (Some ix)) rest.passed (items_from new rest.next) reads.passes;
+  looks = λ failed visits. looks_at_none failed visits (items_from old (Some ix)) rest.passed (items_from new rest.next)
+      reads.passes;
 }
 reads_alone (Err fault) s above ix old new tables tables' ready reads = record {
   reads = tt;
@@ -173,15 +182,19 @@ reads_alone (Err fault) s above ix old new tables tables' ready reads = record {
 }
 
 -- so it is by the rules of a setting, where it is so by any rules with its footnotes
-pub reads_by_rules : {E : Type 0} (r : Result Rest E) (place : ChainPlace) (source : List ℕ) (rules : Rules) (tree : Arena Item)
+pub reads_by_rules : {E : Type 0} (r : Result Rest E) (place : ChainPlace) (source : List ℕ) (rules : Rules)
+    (tree : Arena Item)
     (ix : ℕ) (new : List (Node Item)) (tables tables' : Tables) → CanResolve place.text.now tables tree.nodes (Some ix)
     → place.text.now ≡ source → gfm_footnotes_on place.options ≡ gfm_footnotes_on rules.options
     → IfOk r (λ rest. (rules : Rules) → gfm_footnotes_on rules.options ≡ gfm_footnotes_on place.options
-    → ReadsItem (setting_of place.text.now rules) (above_cursor place.text.now tree) ix rest tree.nodes new tables tables')
+    → ReadsItem (setting_of place.text.now rules) (above_cursor place.text.now tree) ix rest tree.nodes new tables
+    tables')
     → ReadsAlone r (setting_of source rules) (above_cursor source tree) ix tree.nodes new tables tables'
 reads_by_rules r place source rules tree ix new tables tables' ready same gfm reads =
-    subst (λ (t : List ℕ). ReadsAlone r (setting_of t rules) (above_cursor t tree) ix tree.nodes new tables tables') same
-    (reads_alone r (setting_of place.text.now rules) (above_cursor place.text.now tree) ix tree.nodes new tables tables' ready
+    subst (λ (t : List ℕ). ReadsAlone r (setting_of t rules) (above_cursor t tree) ix tree.nodes new tables tables')
+    same
+    (reads_alone r (setting_of place.text.now rules) (above_cursor place.text.now tree) ix tree.nodes new tables tables'
+    ready
     (IfOk-weaker r _ _ (λ rest by_any. by_any rules (sym gfm)) reads))
 
 -- the bytes up to an offset

@@ -28,7 +28,13 @@ use Rattle.markdown_resolver.specs.Resolved.{all_paired, resolved}
 -- nothing is defined; the chain is a paragraph's
 abbrev setting_by : (options : ℕ) → (asks : Bool) → List ℕ → Setting
 setting_by options asks source =
-    setting_of source (record { options = record { 0 = options }; definitions = []; is_footnote = λ name. false; asks = asks })
+    setting_of source (record {
+      options = record { 0 = options };
+      definitions = [];
+      is_footnote = λ name. false;
+      asks
+          = asks;
+    })
 
 -- footnotes are enabled in GitHub's style, and there is no callback
 abbrev setting : List ℕ → Setting
@@ -87,7 +93,10 @@ resolved_below source items known = all_paired (setting source) (resolved_to sou
 
 -- labels: over bytes i up to j; the text of a span that is a slice of the source
 abbrev over : ℕ → ℕ → Shape → Plain
-over i j shape = record { tag = tt; part = record { shape = shape; range = record { start = i; end = j }; block = None } }
+over i j shape = record {
+  tag = tt;
+  part = record { shape = shape; range = record { start = i; end = j }; block = None };
+}
 
 abbrev sliced_at : EventView → ℕ → ℕ → Plain
 sliced_at e i j = over i j (leaf e (sliced ∷ []))
@@ -104,7 +113,8 @@ wikilink_to name = record { kind = kind.WikiLink false; destination = name; titl
 
 -- backticks, and others of the same length further on: what is between them is code, including other backticks
 row_code : (known : Known)
-    → left_by_pass_one (codes "``a`b``") (ticks 0 2 ∷ plain_text 2 3 ∷ ticks 3 1 ∷ plain_text 4 5 ∷ ticks 5 2 ∷ []) known
+    → left_by_pass_one (codes "``a`b``") (ticks 0 2 ∷ plain_text 2 3 ∷ ticks 3 1 ∷ plain_text 4 5 ∷ ticks 5 2 ∷ [])
+    known
     ≡ node (sliced_at (code (codes "a`b")) 0 7) nil nil
 unfolding pass_one read_chain read_tree replaced_past is_sliced
 row_code known = refl
@@ -120,7 +130,8 @@ row_no_closer known = refl
 -- two finds, with a text between them that belongs to neither
 row_two_finds : (known : Known)
     → left_by_pass_one (codes "`a`-$b$")
-    (ticks 0 1 ∷ plain_text 1 2 ∷ ticks 2 1 ∷ plain_text 3 4 ∷ dollar 4 true false ∷ plain_text 5 6 ∷ dollar 6 false true ∷ []) known
+    (ticks 0 1 ∷ plain_text 1 2 ∷ ticks 2 1 ∷ plain_text 3 4 ∷ dollar 4 true false ∷ plain_text 5 6 ∷ dollar 6 false
+    true ∷ []) known
     ≡ node (sliced_at (code (codes "a")) 0 3) nil
     (node (over 3 4 (text_over (codes "-"))) nil (node (sliced_at (inline_math (codes "b")) 4 7) nil nil))
 unfolding pass_one read_chain read_tree replaced_past is_sliced
@@ -129,7 +140,8 @@ row_two_finds known = refl
 -- an autolink, with its address as a text below it; the text that reaches past it is cut
 row_autolink : (known : Known)
     → left_by_pass_one (codes "<http://a.b> c") (less 0 ∷ plain_text 1 14 ∷ []) known
-    ≡ node (over 0 12 (enclosed (link (address (codes "http://a.b"))))) (node (over 1 11 (text_over (codes "http://a.b"))) nil nil)
+    ≡ node (over 0 12 (enclosed (link (address (codes "http://a.b")))))
+    (node (over 1 11 (text_over (codes "http://a.b"))) nil nil)
     (node (over 12 14 (text_over (codes " c"))) nil nil)
 unfolding pass_one read_chain read_tree markup_at all both either nonempty often often_past one optional
 row_autolink known = refl
@@ -137,7 +149,8 @@ row_autolink known = refl
 -- raw HTML that ends inside a text, of which the rest is left; backticks in it open nothing
 row_tag : (known : Known)
     → left_by_pass_one (codes "<b c=\"`\">d") (less 0 ∷ plain_text 1 6 ∷ ticks 6 1 ∷ plain_text 7 10 ∷ []) known
-    ≡ node (over 0 9 (leaf (inline_html (codes "<b c=\"`\">")) (sliced ∷ []))) nil (node (over 9 10 (text_over (codes "d"))) nil nil)
+    ≡ node (over 0 9 (leaf (inline_html (codes "<b c=\"`\">")) (sliced ∷ []))) nil
+    (node (over 9 10 (text_over (codes "d"))) nil nil)
 unfolding pass_one read_chain read_tree markup_at all both either nonempty often often_past one optional
 row_tag known = refl
 
@@ -158,16 +171,20 @@ row_waits known = refl
 
 -- until they enclose what is between them: here code
 row_emphasis : (known : Known)
-    → resolved_to (codes "*`a`*") (star 0 true false ∷ ticks 1 1 ∷ plain_text 2 3 ∷ ticks 3 1 ∷ star 4 false true ∷ []) known
+    → resolved_to (codes "*`a`*") (star 0 true false ∷ ticks 1 1 ∷ plain_text 2 3 ∷ ticks 3 1 ∷ star 4 false true ∷ [])
+    known
     ≡ node (over 0 5 (enclosed emphasis)) (node (sliced_at (code (codes "a")) 1 4) nil nil) nil
-unfolding resolved pass_one read_chain read_tree replaced_past is_sliced paired runs_paired reads_from closed_by with_quotes
+unfolding resolved pass_one read_chain read_tree replaced_past is_sliced paired runs_paired reads_from closed_by
+    with_quotes
 row_emphasis known = refl
 
 -- code is found first: a run in it pairs with nothing
 row_code_first : (known : Known)
-    → resolved_to (codes "*`a*`") (star 0 true false ∷ ticks 1 1 ∷ plain_text 2 3 ∷ star 3 false true ∷ ticks 4 1 ∷ []) known
+    → resolved_to (codes "*`a*`") (star 0 true false ∷ ticks 1 1 ∷ plain_text 2 3 ∷ star 3 false true ∷ ticks 4 1 ∷ [])
+    known
     ≡ node (over 0 1 (text_over (codes "*"))) nil (node (sliced_at (code (codes "a*")) 1 5) nil nil)
-unfolding resolved pass_one read_chain read_tree replaced_past is_sliced paired runs_paired reads_from closed_by with_quotes
+unfolding resolved pass_one read_chain read_tree replaced_past is_sliced paired runs_paired reads_from closed_by
+    with_quotes
 row_code_first known = refl
 
 -- a link, and an image; what is in the destination is left out
@@ -185,7 +202,8 @@ unfolding pass_one read_chain read_tree closed decided
 row_image known = refl
 
 row_destination : (known : Known)
-    → left_by_pass_one (codes "[a](`b`)") (opener 0 ∷ plain_text 1 2 ∷ closer 2 ∷ plain_text 3 4 ∷ ticks 4 1 ∷ plain_text 5 6 ∷ ticks 6 1
+    → left_by_pass_one (codes "[a](`b`)")
+    (opener 0 ∷ plain_text 1 2 ∷ closer 2 ∷ plain_text 3 4 ∷ ticks 4 1 ∷ plain_text 5 6 ∷ ticks 6 1
     ∷ plain_text 7 8 ∷ []) known
     ≡ node (over 0 8 (enclosed (link (inline_to (codes "`b`"))))) (node (text_at (codes "[a](`b`)") 1 2) nil nil) nil
 unfolding pass_one read_chain read_tree closed decided
@@ -193,7 +211,8 @@ row_destination known = refl
 
 -- but code that begins before the `]` is found before it
 row_code_in_brackets : (known : Known)
-    → left_by_pass_one (codes "[`a](b`)") (opener 0 ∷ ticks 1 1 ∷ plain_text 2 3 ∷ closer 3 ∷ plain_text 4 6 ∷ ticks 6 1 ∷ plain_text 7 8
+    → left_by_pass_one (codes "[`a](b`)")
+    (opener 0 ∷ ticks 1 1 ∷ plain_text 2 3 ∷ closer 3 ∷ plain_text 4 6 ∷ ticks 6 1 ∷ plain_text 7 8
     ∷ []) known
     ≡ node (text_at (codes "[`a](b`)") 0 1) nil
     (node (sliced_at (code (codes "a](b")) 1 7) nil (node (text_at (codes "[`a](b`)") 7 8) nil nil))
@@ -202,16 +221,19 @@ row_code_in_brackets known = refl
 
 -- a link holds the run inside it, which is paired when its chain is reached; one that closes outside stays open
 row_emphasis_in_link : (known : Known)
-    → resolved_below (codes "[a *b*](c)") (opener 0 ∷ plain_text 1 3 ∷ star 3 true false ∷ plain_text 4 5 ∷ star 5 false true ∷ closer 6
+    → resolved_below (codes "[a *b*](c)")
+    (opener 0 ∷ plain_text 1 3 ∷ star 3 true false ∷ plain_text 4 5 ∷ star 5 false true ∷ closer 6
     ∷ plain_text 7 10 ∷ []) known
     ≡ node (over 0 10 (enclosed (link (inline_to (codes "c")))))
-    (node (text_at (codes "[a *b*](c)") 1 3) nil (node (over 3 6 (enclosed emphasis)) (node (text_at (codes "[a *b*](c)") 4 5) nil nil)
+    (node (text_at (codes "[a *b*](c)") 1 3) nil
+    (node (over 3 6 (enclosed emphasis)) (node (text_at (codes "[a *b*](c)") 4 5) nil nil)
     nil)) nil
 unfolding resolved pass_one read_chain read_tree closed decided paired runs_paired reads_from closed_by with_quotes
 row_emphasis_in_link known = refl
 
 row_run_into_link : (known : Known)
-    → resolved_below (codes "*a [b*](c)") (star 0 true false ∷ plain_text 1 3 ∷ opener 3 ∷ plain_text 4 5 ∷ star 5 false true ∷ closer 6
+    → resolved_below (codes "*a [b*](c)")
+    (star 0 true false ∷ plain_text 1 3 ∷ opener 3 ∷ plain_text 4 5 ∷ star 5 false true ∷ closer 6
     ∷ plain_text 7 10 ∷ []) known
     ≡ node (text_at (codes "*a [b*](c)") 0 1) nil
     (node (text_at (codes "*a [b*](c)") 1 3) nil
@@ -235,7 +257,8 @@ asks_one =
     (chain_of (codes "[a]") (opener 0 ∷ plain_text 1 2 ∷ closer 2 ∷ []))
     (record { limit = 100; answers = Some (record { destination = codes "u"; title = [] }) ∷ []; uses = λ name. 0 })
 
-row_asked : asks_one.questions ≡ record { span = record { start = 0; end = 3 }; link_type = kind.Shortcut; reference = codes "a" } ∷ []
+row_asked : asks_one.questions
+    ≡ record { span = record { start = 0; end = 3 }; link_type = kind.Shortcut; reference = codes "a" } ∷ []
 unfolding pass_one read_chain read_tree closed decided
 row_asked = refl
 
@@ -244,9 +267,15 @@ unfolding pass_one read_chain read_tree closed decided
 row_answer_is_taken = refl
 
 -- two `*` that touch are one run, which is whole; without the second it is not, nor where each is a run of its own
-row_whole : RunsStandWhole (codes "**a") (chain_of (codes "**a") (star_of 2 0 true false ∷ star 1 true false ∷ plain_text 2 3 ∷ []))
+row_whole : RunsStandWhole (codes "**a")
+    (chain_of (codes "**a") (star_of 2 0 true false ∷ star 1 true false ∷ plain_text 2 3 ∷ []))
 row_whole = (
-  record { one_byte = refl; delimiter = refl; goes_on = record { body = refl; same = refl; touches = refl; number = refl } },
+  record {
+    one_byte = refl;
+    delimiter = refl;
+    goes_on = record
+        { body = refl; same = refl; touches = refl; number = refl };
+  },
   tt,
   (record { one_byte = refl; delimiter = refl; goes_on = tt }, tt, (tt, tt, tt)),
 )
@@ -254,5 +283,6 @@ row_whole = (
 row_broken : RunsStandWhole (codes "**a") (chain_of (codes "**a") (star_of 2 0 true false ∷ plain_text 2 3 ∷ [])) → ⊥
 row_broken w = let none = w.0.goes_on.body in cc
 
-row_apart : RunsStandWhole (codes "**a") (chain_of (codes "**a") (star 0 true false ∷ star 1 true false ∷ plain_text 2 3 ∷ [])) → ⊥
+row_apart : RunsStandWhole (codes "**a")
+    (chain_of (codes "**a") (star 0 true false ∷ star 1 true false ∷ plain_text 2 3 ∷ [])) → ⊥
 row_apart w = cc w.0.goes_on

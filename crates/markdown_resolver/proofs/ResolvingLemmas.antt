@@ -21,30 +21,37 @@ use Rattle.markdown_resolver.proofs.PassOneQuietLemmas.{all_quiet, closed_quiet,
 
 module _ {A : Type 0} where
   -- what is made of a label that may occur in a quiet chain may occur there
-  made_stands : (a b : Label A) → IsQuietLabel a → b.part.block ≡ a.part.block → is_unresolved b.part.shape ≡ false → IsQuietLabel b
+  made_stands : (a b : Label A) → IsQuietLabel a → b.part.block ≡ a.part.block → is_unresolved b.part.shape ≡ false
+      → IsQuietLabel b
   made_stands a b h e closed = (closed_quiet b.part.shape closed, rw e h.1)
 
   -- a chain of which all open items wait for pairing is paired, and keeps what is known
-  pub resolved-quiet : (s : Setting) (tags : Tags A) (above : Above) (chain : Forest (Label A)) (known : Known) → IsQuiet chain
+  pub resolved-quiet : (s : Setting) (tags : Tags A) (above : Above) (chain : Forest (Label A)) (known : Known)
+      → IsQuiet chain
       → resolved s tags above chain known ≡ record { questions = []; forest = paired s chain; known = known }
   unfolding resolved
   resolved-quiet s tags above chain known q = ap (then_paired s) (pass_one-stays s tags above chain known q)
 
   -- to pair each chain below is to change what is below the trees
-  all_below : (s : Setting) (f : Forest (Label A)) → all_paired s f ≡ below_trees (λ g. paired_if_open s (all_paired s g)) f
+  all_below : (s : Setting) (f : Forest (Label A)) → all_paired s f
+      ≡ below_trees (λ g. paired_if_open s (all_paired s g)) f
   all_below s nil = refl
-  all_below s (node a below after) = ap (λ (g : Forest (Label A)). node a (paired_if_open s (all_paired s below)) g) (all_below s after)
+  all_below s (node a below after) = ap (λ (g : Forest (Label A)). node a (paired_if_open s (all_paired s below)) g)
+      (all_below s after)
 
   -- pairing a chain in which nothing is open does so too
-  closed_stays : (s : Setting) (f : Forest (Label A)) → NothingOpen f → paired_if_open s (all_paired s f) ≡ all_paired s f
+  closed_stays : (s : Setting) (f : Forest (Label A)) → NothingOpen f → paired_if_open s (all_paired s f)
+      ≡ all_paired s f
   closed_stays s nil h = refl
   closed_stays s (node a below after) h = rw (h.0, closed_stays s after h.1) refl
 
   -- pairing a chain and pairing the chains below it can be done in either order
-  pub all_paired-paired : (s : Setting) (chain : Forest (Label A)) → all_paired s (paired s chain) ≡ paired s (all_paired s chain)
+  pub all_paired-paired : (s : Setting) (chain : Forest (Label A)) → all_paired s (paired s chain)
+      ≡ paired s (all_paired s chain)
   all_paired-paired s chain =
       all_below s (paired s chain)
-      ∙ sym (order-law s (λ g. paired_if_open s (all_paired s g)) refl (λ f h. closed_stays s f h ∙ all_below s f) chain)
+      ∙ sym (order-law s (λ g. paired_if_open s (all_paired s g)) refl (λ f h. closed_stays s f h ∙ all_below s f)
+      chain)
       ∙ ap (paired s) (sym (all_below s chain))
 
   quiet_below : (f : Forest (Label A)) → IsQuiet f → IsQuietBelow f
@@ -67,7 +74,8 @@ module _ {A : Type 0} where
 
   pub IsKept-from_IsSettled : (f : Forest (Label A)) → IsSettled f → IsKept f
   IsKept-from_IsSettled nil h = tt
-  IsKept-from_IsSettled (node a below after) h = (λ e. cc (e, h.0), IsKept-from_IsQuiet below h.1, IsKept-from_IsSettled after h.2)
+  IsKept-from_IsSettled (node a below after) h
+      = (λ e. cc (e, h.0), IsKept-from_IsQuiet below h.1, IsKept-from_IsSettled after h.2)
 
   -- a chain in which nothing is open is settled, where each label may occur in a quiet one
   settled_if_closed : (f : Forest (Label A)) → NothingOpen f → Each IsQuietLabel f → IsSettled f
@@ -76,19 +84,23 @@ module _ {A : Type 0} where
 
   -- so is a quiet chain once it is paired
   paired-settled : (s : Setting) (chain : Forest (Label A)) → IsQuiet chain → IsSettled (paired s chain)
-  paired-settled s chain q = settled_if_closed (paired s chain) (closed-law s chain) (paired-keeps IsQuietLabel made_stands s chain
+  paired-settled s chain q = settled_if_closed (paired s chain) (closed-law s chain)
+      (paired-keeps IsQuietLabel made_stands s chain
       (each_quiet chain q))
 
   -- and a resolved one
-  pub resolved-settled : (s : Setting) (tags : Tags A) (above : Above) (chain : Forest (Label A)) (known : Known) → IsQuietBelow chain
+  pub resolved-settled : (s : Setting) (tags : Tags A) (above : Above) (chain : Forest (Label A)) (known : Known)
+      → IsQuietBelow chain
       → IsSettled (resolved s tags above chain known).forest
   unfolding resolved
   resolved-settled s tags above chain known q = paired-settled s (pass_one s tags above chain known).forest
       (pass_one-quiet s tags above chain known q)
 
   -- a chain whose first item is open gives an event at once, after its questions
-  pub resolved-begins : (s : Setting) (tags : Tags A) (above : Above) (a : Label A) (below after : Forest (Label A)) (known : Known)
+  pub resolved-begins : (s : Setting) (tags : Tags A) (above : Above) (a : Label A) (below after : Forest (Label A))
+      (known : Known)
       → is_unresolved a.part.shape ≡ true → Begins (resolved s tags above (node a below after) known).forest
   unfolding resolved
-  resolved-begins s tags above a below after known h = pass_one-first s tags above (λ f. Begins (paired s f)) a below after known
+  resolved-begins s tags above a below after known h = pass_one-first s tags above (λ f. Begins (paired s f)) a below
+      after known
       (begins-law s) h

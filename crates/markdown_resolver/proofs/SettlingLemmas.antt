@@ -1,6 +1,7 @@
 -- One item of a chain at which nothing is found is settled, in one node of an arena.
 use Rattle.markdown_base.specs.declared.item.ItemBody.TheVariants as body
-use Rattle.std.proofs.Common.{◌≡◌, ℕ, zero, suc, ◌<◌, ◌≤◌, Bool, true, false, List, [], ◌∷◌, length, Option, Some, None, refl, sym, ap, ◌∙◌}
+use Rattle.std.proofs.Common.{◌≡◌, ℕ, zero, suc, ◌<◌, ◌≤◌, Bool, true, false, List, [], ◌∷◌, length, Option, Some, None}
+use Rattle.std.proofs.Common.{refl, sym, ap, ◌∙◌}
 use Rattle.std.proofs.Common.{arith}
 use Rattle.std.specs.Prelude.{not, ◌&&◌, slice_range, IfSome}
 use Rattle.std.specs.Option.{option_map}
@@ -18,7 +19,8 @@ use Rattle.markdown_base.specs.declared.node.Node.{Node}
 use Rattle.markdown_base.proofs.ArenaForestLemmas.{opens, forest_at-none}
 use Rattle.markdown_base.proofs.ArenaLemmas.{length-changed_at}
 use Rattle.markdown_document.specs.ChainRest.{joined_chains}
-use Rattle.markdown_document.specs.Document.{Plain, Shape, leaf, enclosed, plain, backslash_break, unresolved, is_unresolved, shape_of}
+use Rattle.markdown_document.specs.Document.{Plain, Shape, leaf, enclosed, plain, backslash_break, unresolved}
+use Rattle.markdown_document.specs.Document.{is_unresolved, shape_of}
 use Rattle.markdown_document.specs.Document.{label_of}
 use Rattle.markdown_document.specs.ItemRules.{ComesBefore, KeepsItemRules}
 use Rattle.markdown_document.specs.Places.{trees_from, origin_start}
@@ -37,14 +39,16 @@ use Rattle.markdown_resolver.specs.Chains.{CanResolve}
 use Rattle.markdown_resolver.specs.Rewritten.{Puts, Rewrites, replaced, text_unless, settled}
 use Rattle.markdown_resolver.specs.Settling.{becomes_text, settled_if, settled_item, settled_at}
 use Rattle.markdown_resolver.proofs.ChainOrderLemmas.{leads_kept}
-use Rattle.markdown_resolver.proofs.ComposeLemmas.{Stands, stands_ready, changes_move, moves_none, HeadWritten, head_moves, after_head}
+use Rattle.markdown_resolver.proofs.ComposeLemmas.{Stands, stands_ready, changes_move, moves_none, HeadWritten}
+use Rattle.markdown_resolver.proofs.ComposeLemmas.{head_moves, after_head}
 use Rattle.markdown_resolver.proofs.ComposeLemmas.{below_kept, following_kept}
 use Rattle.markdown_resolver.proofs.NodeChangeLemmas.{changed_other, changed_here, item_again}
 use Rattle.markdown_resolver.proofs.PastByteLemmas.{tree_same}
 use Rattle.markdown_resolver.proofs.PutLemmas.{rest_same, leaves_rest, whole_put, rewrites_none, over_numbers}
 
 -- an item that is written as a Text where it becomes one is settled, and another is settled as it is
-pub settled_open : (tree tree' : Arena Item) (ix : ℕ) (item : Item) → item ≡ item_at tree.nodes ix → becomes_text item.body ≡ true
+pub settled_open : (tree tree' : Arena Item) (ix : ℕ) (item : Item) → item ≡ item_at tree.nodes ix
+    → becomes_text item.body ≡ true
     → tree' ≡ record tree {
       nodes = changed_at ix
           (λ n. record n { item = record { start = item.start; end = item.end; body = body.Text false } }) tree.nodes;
@@ -52,17 +56,22 @@ pub settled_open : (tree tree' : Arena Item) (ix : ℕ) (item : Item) → item �
     → tree' ≡ record tree { nodes = settled_at ix tree.nodes }
 settled_open tree tree' ix item same is made =
     let text : Item = record { start = item.start; end = item.end; body = body.Text false } in
-    let e : text ≡ settled_item item = ap (λ x. let t : Item = record item { body = settled_if x item.body } in t) (sym is) in
-    made ∙ ap (λ (x : Item). let t : Arena Item = record tree { nodes = changed_at ix (λ n. record n { item = x }) tree.nodes } in t) (e
+    let e : text ≡ settled_item item = ap (λ x. let t : Item = record item { body = settled_if x item.body } in t)
+    (sym is) in
+    made ∙ ap (λ (x : Item). let t : Arena Item = record tree
+    { nodes = changed_at ix (λ n. record n { item = x }) tree.nodes } in t) (e
     ∙ ap settled_item same)
 
 pub settled_closed : (tree : Arena Item) (ix : ℕ) → becomes_text (item_at tree.nodes ix).body ≡ false
     → tree ≡ record tree { nodes = settled_at ix tree.nodes }
 settled_closed tree ix is =
     let item = item_at tree.nodes ix in
-    let e : item ≡ settled_item item = ap (λ x. let t : Item = record item { body = settled_if x item.body } in t) (sym is) in
-    ap (λ (nodes : List (Node Item)). let t : Arena Item = record tree { nodes = nodes } in t) (sym (item_again tree.nodes ix))
-    ∙ ap (λ (x : Item). let t : Arena Item = record tree { nodes = changed_at ix (λ n. record n { item = x }) tree.nodes } in t) e
+    let e : item ≡ settled_item item = ap (λ x. let t : Item = record item { body = settled_if x item.body } in t)
+    (sym is) in
+    ap (λ (nodes : List (Node Item)). let t : Arena Item = record tree { nodes = nodes } in t)
+    (sym (item_again tree.nodes ix))
+    ∙ ap (λ (x : Item). let t : Arena Item = record tree
+    { nodes = changed_at ix (λ n. record n { item = x }) tree.nodes } in t) e
 
 -- what a settled item refers to, and its weight
 names_nothing : (n : Named) → times_named n (body.Text false) ≡ 0
@@ -74,11 +83,13 @@ named_settled : (is : Bool) (b : ItemBody) (n : Named) → times_named n (settle
 named_settled true b n = omega (arith, names_nothing n)
 named_settled false b n = omega arith
 
-in_table_settled : (is : Bool) (b : ItemBody) (tables : Tables) → NamesEntries tables b → NamesEntries tables (settled_if is b)
+in_table_settled : (is : Bool) (b : ItemBody) (tables : Tables) → NamesEntries tables b
+    → NamesEntries tables (settled_if is b)
 in_table_settled true b tables h = record { text = tt; link = tt; alignments = tt; attributes = tt }
 in_table_settled false b tables h = h
 
-slices_settled : (source : List ℕ) (is : Bool) (start end : ℕ) (b : ItemBody) (tables : Tables) → HasSlices source tables start end b
+slices_settled : (source : List ℕ) (is : Bool) (start end : ℕ) (b : ItemBody) (tables : Tables)
+    → HasSlices source tables start end b
     → HasSlices source tables start end (settled_if is b)
 slices_settled source true start end b tables h = tt
 slices_settled source false start end b tables h = h
@@ -115,7 +126,8 @@ closed_quiet plain h = refl
 closed_quiet backslash_break h = refl
 closed_quiet (unresolved b) h = cc h
 
-quiet_shape : (tables : Tables) (source : List ℕ) (b : ItemBody) → is_quiet (shape_of tables source b) ≡ not (becomes_text b)
+quiet_shape : (tables : Tables) (source : List ℕ) (b : ItemBody) → is_quiet (shape_of tables source b)
+    ≡ not (becomes_text b)
 quiet_shape tables source b = by_open (is_open b) refl
   where
     not_twice : (x : Bool) → x ≡ not (not x)
@@ -127,7 +139,8 @@ quiet_shape tables source b = by_open (is_open b) refl
     by_open false e = closed_quiet (shape_of tables source b) (closed_shape tables source b e)
 
 -- it reads as what replaces the label of what it was, where nothing is below what becomes a Text
-reads_settled : (source : List ℕ) (tables : Tables) (item : Item) (below rest : Forest Plain) (is : Bool) → becomes_text item.body ≡ is
+reads_settled : (source : List ℕ) (tables : Tables) (item : Item) (below rest : Forest Plain) (is : Bool)
+    → becomes_text item.body ≡ is
     → (is_open item.body ≡ true → below ≡ nil)
     → node (label_of source tables (record item { body = settled_if is item.body })) below rest
     ≡ joined_chains (text_unless (not is) source (label_of source tables item) below) rest
@@ -138,24 +151,30 @@ reads_settled source tables item below rest true e childless = rw (
 ) refl
 reads_settled source tables item below rest false e childless = refl
 
-settled_reads : (source : List ℕ) (tables : Tables) (item : Item) (below rest : Forest Plain) → (is_open item.body ≡ true → below ≡ nil)
-    → node (label_of source tables (settled_item item)) below rest ≡ joined_chains (settled source (label_of source tables item) below) rest
+settled_reads : (source : List ℕ) (tables : Tables) (item : Item) (below rest : Forest Plain)
+    → (is_open item.body ≡ true → below ≡ nil)
+    → node (label_of source tables (settled_item item)) below rest
+    ≡ joined_chains (settled source (label_of source tables item) below) rest
 settled_reads source tables item below rest childless =
     reads_settled source tables item below rest (becomes_text item.body) refl childless
     ∙ ap (λ quiet. joined_chains (text_unless quiet source (label_of source tables item) below) rest)
     (sym (quiet_shape tables (slice_range source item.start item.end) item.body))
 
 -- the node is there
-pub node_within : (source : List ℕ) (tables : Tables) (nodes : List (Node Item)) (ix : ℕ) → CanResolve source tables nodes (Some ix)
+pub node_within : (source : List ℕ) (tables : Tables) (nodes : List (Node Item)) (ix : ℕ)
+    → CanResolve source tables nodes (Some ix)
     → ix < length nodes
-node_within source tables nodes ix ready = (opens (links_of nodes) (IsPlaced source tables nodes) ix ready.reaches).within
+node_within source tables nodes ix ready
+    = (opens (links_of nodes) (IsPlaced source tables nodes) ix ready.reaches).within
 
 -- what a settled item precedes and follows, and the rules that it keeps
-block_settled : (is : Bool) (b : ItemBody) → becomes_text b ≡ is → is_block (settled_if is b) ≡ false → is_block b ≡ false
+block_settled : (is : Bool) (b : ItemBody) → becomes_text b ≡ is → is_block (settled_if is b) ≡ false → is_block b
+    ≡ false
 block_settled true b e h = open-no-block b (text_open b e)
 block_settled false b e h = h
 
-before_settled : (a : Numbered) (nodes nodes' : List (Node Item)) (ix : ℕ) → item_at nodes' ix ≡ settled_item (item_at nodes ix)
+before_settled : (a : Numbered) (nodes nodes' : List (Node Item)) (ix : ℕ) → item_at nodes' ix
+    ≡ settled_item (item_at nodes ix)
     → ComesBefore a (Some (numbered nodes ix)) → ComesBefore a (Some (numbered nodes' ix))
 before_settled a nodes nodes' ix e stands = rw e (λ x y.
     let p = stands x (block_settled (becomes_text (item_at nodes ix).body) (item_at nodes ix).body refl y) in
@@ -179,12 +198,15 @@ keeps_settled source ix item child next true e h =
 keeps_settled source ix item child next false e h = h
 
 -- a run that an item continues still does where that item is settled, which changes no run's character
-goes_on_settled : (source : List ℕ) (a b : Numbered) (count : ℕ) (opens closes is : Bool) → becomes_text b.item.body ≡ is
+goes_on_settled : (source : List ℕ) (a b : Numbered) (count : ℕ) (opens closes is : Bool) → becomes_text b.item.body
+    ≡ is
     → RunGoesOn source a count opens closes (Some b)
-    → RunGoesOn source a count opens closes (Some (record { number = b.number; item = record b.item { body = settled_if is b.item.body } }))
+    → RunGoesOn source a count opens closes
+    (Some (record { number = b.number; item = record b.item { body = settled_if is b.item.body } }))
 goes_on_settled source a b zero opens closes is e h = h
 goes_on_settled source a b (suc zero) opens closes true e h = tt
-goes_on_settled source a b (suc (suc n)) opens closes true e h = let none = text_no_run b.item.body e in cc (none, h.body)
+goes_on_settled source a b (suc (suc n)) opens closes true e h = let none = text_no_run b.item.body e in cc
+    (none, h.body)
 goes_on_settled source a b (suc zero) opens closes false e h = h
 goes_on_settled source a b (suc (suc n)) opens closes false e h = h
 
@@ -198,7 +220,8 @@ run_settled source a b (Some c) h = record {
 }
 
 -- the node of an item is written
-head_settled : (source : List ℕ) (tables : Tables) (nodes : List (Node Item)) (ix : ℕ) → Stands source tables nodes (Some ix)
+head_settled : (source : List ℕ) (tables : Tables) (nodes : List (Node Item)) (ix : ℕ)
+    → Stands source tables nodes (Some ix)
     → HeadWritten source ix nodes (settled_at ix nodes) tables tables
 head_settled source tables nodes ix s =
     let o = opens (links_of nodes) (IsPlaced source tables nodes) ix s.reaches in
@@ -206,13 +229,15 @@ head_settled source tables nodes ix s =
     let c = changed_here nodes ix (λ n. record n { item = settled_item item }) o.within in
     let lies = o.holds.lies in
     let size = length-changed_at ix (λ n. record n { item = settled_item item }) nodes in
-    let keeps = keeps_settled source ix item (child_of nodes ix) (next_at nodes ix) (becomes_text item.body) refl o.holds.keeps in
+    let keeps = keeps_settled source ix item (child_of nodes ix) (next_at nodes ix) (becomes_text item.body) refl
+    o.holds.keeps in
     record {
       others = λ n l d. changed_other nodes ix (λ n. record n { item = settled_item item }) n d;
       more = omega (arith, size);
       grown = grown-nothing tables;
       lies = rw c.item (record { ordered = lies.ordered; start = lies.start; end = lies.end });
-      slices = rw c.item (slices_settled source (becomes_text item.body) (origin_start source item.start) item.end item.body tables
+      slices = rw c.item (slices_settled source (becomes_text item.body) (origin_start source item.start) item.end
+          item.body tables
           o.holds.slices);
       entries = rw c.item (in_table_settled (becomes_text item.body) item.body tables o.holds.named);
       markup = rw c.item keeps.markup_is_there;
@@ -221,13 +246,16 @@ head_settled source tables nodes ix s =
     }
 
 -- one tree replaces it
-one_settled : (quiet : Bool) (source : List ℕ) (a : Plain) (below : Forest Plain) → length (roots (text_unless quiet source a below)) ≡ 1
+one_settled : (quiet : Bool) (source : List ℕ) (a : Plain) (below : Forest Plain)
+    → length (roots (text_unless quiet source a below)) ≡ 1
 one_settled true source a below = refl
 one_settled false source a below = refl
 
 -- what replaces it is put in place
-pub settle_puts : (source : List ℕ) (tables : Tables) (nodes : List (Node Item)) (ix : ℕ) → CanResolve source tables nodes (Some ix)
-    → Puts source ix (settled source) None (record { next = sibling_of nodes ix; passed = 0 }) nodes (settled_at ix nodes) tables tables
+pub settle_puts : (source : List ℕ) (tables : Tables) (nodes : List (Node Item)) (ix : ℕ)
+    → CanResolve source tables nodes (Some ix)
+    → Puts source ix (settled source) None (record { next = sibling_of nodes ix; passed = 0 }) nodes
+    (settled_at ix nodes) tables tables
 settle_puts source tables nodes ix ready =
     let s = stands_ready source tables nodes (Some ix) ready in
     let item = item_at nodes ix in
@@ -236,10 +264,12 @@ settle_puts source tables nodes ix ready =
     let c = changed_here nodes ix (λ n. record n { item = settled_item item }) o.within in
     let h = head_settled source tables nodes ix s in
     let a = after_head source ix nodes mid tables tables s h in
-    let keeps = keeps_settled source ix item (child_of nodes ix) (next_at nodes ix) (becomes_text item.body) refl o.holds.keeps in
+    let keeps = keeps_settled source ix item (child_of nodes ix) (next_at nodes ix) (becomes_text item.body) refl
+    o.holds.keeps in
     let following = following_kept source ix nodes mid tables tables s h in
     let l = sibling_of nodes ix in
-    let whole : (rule : Forest Plain → Forest Plain) (new : List (Node Item)) (later : Tables) → Rewrites source rule l mid new tables later
+    let whole : (rule : Forest Plain → Forest Plain) (new : List (Node Item)) (later : Tables)
+    → Rewrites source rule l mid new tables later
     → Rewrites source (replaced (settled source) None rule) (Some ix) nodes new tables later = λ rule new later r.
     let m = changes_move source l mid new tables later r.changes in
     let kept = below_kept source ix nodes mid new tables tables later l s h m c.child
@@ -247,7 +277,8 @@ settle_puts source tables nodes ix ready =
     let follows : ComesBefore (numbered mid ix) (option_map (numbered new) l) = r.changes.before (numbered mid ix)
     (rw (following, c.item) keeps.in_order) in
     let goes_on = r.runs (numbered mid ix) (rw (following, c.item) keeps.runs_are_whole) in
-    let hm = head_moves source ix nodes mid new tables tables later s h (rw c.next m) kept.below (rw c.next follows) (rw c.next goes_on) in
+    let hm = head_moves source ix nodes mid new tables tables later s h (rw c.next m) kept.below (rw c.next follows)
+    (rw c.next goes_on) in
     let none : is_open item.body ≡ true → trees_from source tables nodes (child_of nodes ix)
     ≡ nil = λ e. rw (o.holds.keeps.childless e, forest_at-none (links_of nodes)) refl in
     let rest : trees_from source later new (sibling_of mid ix) ≡ rule (trees_from source tables nodes l) =
@@ -256,12 +287,14 @@ settle_puts source tables nodes ix ready =
     (λ b stands. before_settled b nodes mid ix c.item stands)
     (λ b whole. rw c.item (run_settled source b (numbered nodes ix) (run_character b.item.body) whole))
     (tree_same _ _ _ _ _ _ (ap (λ x. label_of source tables x) c.item) kept.trees rest
-    ∙ settled_reads source tables item (trees_from source tables nodes (child_of nodes ix)) (rule (trees_from source tables nodes l)) none)
+    ∙ settled_reads source tables item (trees_from source tables nodes (child_of nodes ix))
+    (rule (trees_from source tables nodes l)) none)
     in
     let all = whole (λ f. f) mid tables (rewrites_none source l mid tables a.stands) in
     record {
       whole = whole;
-      leaves = leaves_rest source ix nodes mid mid tables tables tables l None ready h (moves_none source l mid tables a.stands)
+      leaves = leaves_rest source ix nodes mid mid tables tables tables l None ready h
+          (moves_none source l mid tables a.stands)
           a.rest.trees;
       passes = rw (o.here, a.rest.forest) (omega arith);
       leads = λ low chain k. leads_kept nodes mid l (forest_at (links_of nodes) l) low chain a.after.spelled h.more

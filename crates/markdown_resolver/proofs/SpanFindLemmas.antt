@@ -1,6 +1,7 @@
 -- What closes a code span or a math span among the nodes of a chain is what closes it among the labels that the chain
 -- reads as, and where that is.
-use Rattle.std.proofs.Common.{◌≡◌, ℕ, Bool, true, false, not, ◌&&◌, ◌==◌, List, [], ◌∷◌, ◌++◌, map, Option, Some, None, refl, sym, ap, ◌∙◌}
+use Rattle.std.proofs.Common.{◌≡◌, ℕ, Bool, true, false, not, ◌&&◌, ◌==◌, List, [], ◌∷◌, ◌++◌, map, Option, Some, None}
+use Rattle.std.proofs.Common.{refl, sym, ap, ◌∙◌}
 use Rattle.std.specs.Prelude.{if◌then◌else◌, drop, is_some, slice_range}
 use Rattle.std.specs.Option.{option_map}
 use Rattle.markdown_base.specs.BlockTree.{numbered, item_at}
@@ -10,11 +11,13 @@ use Rattle.markdown_base.specs.declared.item.ItemBody.{ItemBody}
 use Rattle.markdown_base.specs.declared.item.ItemBody.TheVariants as body
 use Rattle.markdown_base.specs.declared.node.Node.{Node}
 use Rattle.markdown_document.specs.ChainRest.{as_item, open_body}
-use Rattle.markdown_document.specs.Document.{Shape, leaf, enclosed, plain, backslash_break, unresolved, is_unresolved, shape_of}
+use Rattle.markdown_document.specs.Document.{Shape, leaf, enclosed, plain, backslash_break, unresolved, is_unresolved}
+use Rattle.markdown_document.specs.Document.{shape_of}
 use Rattle.markdown_document.specs.Places.{label_at}
 use Rattle.markdown_document.specs.Tables.{Tables}
 use Rattle.markdown_document.proofs.PlaceLemmas.{shape-open}
-use Rattle.markdown_spans.specs.Closers.{Dollar, MathClose, can_close, can_open, math_closed_by, closing_count, code_close, code_closer}
+use Rattle.markdown_spans.specs.Closers.{Dollar, MathClose, can_close, can_open, math_closed_by, closing_count}
+use Rattle.markdown_spans.specs.Closers.{code_close, code_closer}
 use Rattle.markdown_spans.specs.Closers.{context_of, display_close, dollar_next, first_dollar, inline_close, is_code_of}
 use Rattle.markdown_spans.specs.Closers.{is_dollar, is_dollar_of, math_close, math_close_from}
 use Rattle.markdown_spans.specs.CloserSearches.{searched_for_math}
@@ -31,7 +34,8 @@ pub record LooksAlike (shown item : Item) : Type 0 where
   pub closes : can_close shown.body ≡ can_close item.body
 
 -- so it is with a label, which counts as a Text where its item is not open
-body_open : (tables : Tables) (source : List ℕ) (b : ItemBody) → is_open b ≡ true → open_body (shape_of tables source b) ≡ b
+body_open : (tables : Tables) (source : List ℕ) (b : ItemBody) → is_open b ≡ true → open_body (shape_of tables source b)
+    ≡ b
 body_open tables source b h = ap open_body (shape-open tables source b h)
 
 open_closed : (shape : Shape) → is_unresolved shape ≡ false → open_body shape ≡ body.Text false
@@ -61,9 +65,11 @@ pub label_alike : (source : List ℕ) (tables : Tables) (nodes : List (Node Item
     → LooksAlike (as_item (label_at source tables nodes n)) (item_at nodes n)
 label_alike source tables nodes n = by_open (is_open (item_at nodes n).body) refl
   where
-    by_open : (x : Bool) → is_open (item_at nodes n).body ≡ x → LooksAlike (as_item (label_at source tables nodes n)) (item_at nodes n)
+    by_open : (x : Bool) → is_open (item_at nodes n).body ≡ x → LooksAlike (as_item (label_at source tables nodes n))
+        (item_at nodes n)
     by_open true h =
-        let e = body_open tables (slice_range source (item_at nodes n).start (item_at nodes n).end) (item_at nodes n).body h in
+        let e = body_open tables (slice_range source (item_at nodes n).start (item_at nodes n).end)
+        (item_at nodes n).body h in
         record {
           start = refl;
           end = refl;
@@ -75,7 +81,8 @@ label_alike source tables nodes n = by_open (is_open (item_at nodes n).body) ref
     by_open false h =
         let b = (item_at nodes n).body in
         let shape = shape_of tables (slice_range source (item_at nodes n).start (item_at nodes n).end) b in
-        let e = open_closed shape (closed_shape tables (slice_range source (item_at nodes n).start (item_at nodes n).end) b h) in
+        let e = open_closed shape
+        (closed_shape tables (slice_range source (item_at nodes n).start (item_at nodes n).end) b h) in
         record {
           start = refl;
           end = refl;
@@ -87,7 +94,15 @@ label_alike source tables nodes n = by_open (is_open (item_at nodes n).body) ref
 
 -- and of a numbered item
 pub number_alike : (nodes : List (Node Item)) (n : ℕ) → LooksAlike (item_in (numbered nodes n)) (item_at nodes n)
-number_alike nodes n = record { start = refl; end = refl; code = λ k. refl; dollar = refl; context = λ k. refl; closes = refl }
+number_alike nodes n = record {
+  start = refl;
+  end = refl;
+  code = λ k. refl;
+  dollar = refl;
+  context = λ k. refl;
+  closes
+      = refl;
+}
 
 -- what closes math, of numbers shown as something else
 abbrev pub shown_close : {A : Type 0} → (ℕ → A) → MathClose ℕ → MathClose A
@@ -99,12 +114,15 @@ shown_dollar g d = record { dollar = g d.dollar; after = map g d.after }
 module _ {A : Type 0} (item_of : A → Item) (g : ℕ → A) (nodes : List (Node Item)) (alike : (n : ℕ)
     → LooksAlike (item_of (g n)) (item_at nodes n)) where
   -- code
-  code_closer_shown : (n : ℕ) (xs : List ℕ) → code_closer item_of n (map g xs) ≡ option_map g (code_closer (item_at nodes) n xs)
+  code_closer_shown : (n : ℕ) (xs : List ℕ) → code_closer item_of n (map g xs)
+      ≡ option_map g (code_closer (item_at nodes) n xs)
   code_closer_shown n [] = refl
-  code_closer_shown n (x ∷ after) = by (is_code_of n (item_of (g x)).body) (is_code_of n (item_at nodes x).body) ((alike x).code n)
+  code_closer_shown n (x ∷ after) = by (is_code_of n (item_of (g x)).body) (is_code_of n (item_at nodes x).body)
+      ((alike x).code n)
       (code_closer_shown n after)
     where
-      by : (b b' : Bool) → b ≡ b' → code_closer item_of n (map g after) ≡ option_map g (code_closer (item_at nodes) n after)
+      by : (b b' : Bool) → b ≡ b' → code_closer item_of n (map g after)
+          ≡ option_map g (code_closer (item_at nodes) n after)
           → (if b then Some (g x) else code_closer item_of n (map g after))
           ≡ option_map g (if b' then Some x else code_closer (item_at nodes) n after)
       by true true e h = refl
@@ -125,7 +143,8 @@ module _ {A : Type 0} (item_of : A → Item) (g : ℕ → A) (nodes : List (Node
   -- math
   pub dollar_next_shown : (xs : List ℕ) → dollar_next item_of (map g xs) ≡ option_map g (dollar_next (item_at nodes) xs)
   dollar_next_shown [] = refl
-  dollar_next_shown (x ∷ after) = by (is_dollar (item_of (g x)).body) (is_dollar (item_at nodes x).body) (alike x).dollar
+  dollar_next_shown (x ∷ after) = by (is_dollar (item_of (g x)).body) (is_dollar (item_at nodes x).body)
+      (alike x).dollar
     where
       by : (b b' : Bool) → b ≡ b' → (if b then Some (g x) else None) ≡ option_map g (if b' then Some x else None)
       by true true e = refl
@@ -136,20 +155,24 @@ module _ {A : Type 0} (item_of : A → Item) (g : ℕ → A) (nodes : List (Node
   pub first_dollar_shown : (context : ℕ) (xs : List ℕ) → first_dollar item_of context (map g xs)
       ≡ option_map (shown_dollar g) (first_dollar (item_at nodes) context xs)
   first_dollar_shown context [] = refl
-  first_dollar_shown context (x ∷ after) = by (is_dollar_of context (item_of (g x)).body) (is_dollar_of context (item_at nodes x).body)
+  first_dollar_shown context (x ∷ after) = by (is_dollar_of context (item_of (g x)).body)
+      (is_dollar_of context (item_at nodes x).body)
       ((alike x).context context) (first_dollar_shown context after)
     where
       by : (b b' : Bool) → b ≡ b' → first_dollar item_of context (map g after)
           ≡ option_map (shown_dollar g) (first_dollar (item_at nodes) context after)
-          → (if b then Some (record { dollar = g x; after = map g after }) else first_dollar item_of context (map g after))
-          ≡ option_map (shown_dollar g) (if b' then Some (record { dollar = x; after = after }) else first_dollar (item_at nodes) context
+          → (if b then Some (record { dollar = g x; after = map g after }) else first_dollar item_of context
+          (map g after))
+          ≡ option_map (shown_dollar g)
+          (if b' then Some (record { dollar = x; after = after }) else first_dollar (item_at nodes) context
           after)
       by true true e h = refl
       by true false e h = cc e
       by false true e h = cc e
       by false false e h = h
 
-  inline_shown : (opener_end : ℕ) (d : Option (Dollar ℕ)) → inline_close item_of opener_end (option_map (shown_dollar g) d)
+  inline_shown : (opener_end : ℕ) (d : Option (Dollar ℕ))
+      → inline_close item_of opener_end (option_map (shown_dollar g) d)
       ≡ option_map (shown_close g) (inline_close (item_at nodes) opener_end d)
   inline_shown opener_end None = refl
   inline_shown opener_end (Some d) =
@@ -157,7 +180,8 @@ module _ {A : Type 0} (item_of : A → Item) (g : ℕ → A) (nodes : List (Node
       && not (opener_end == (item_at nodes d.dollar).start)))
     where
       by : (b : Bool) → (if b then Some (record { display = false; closer = g d.dollar; last = g d.dollar }) else None)
-          ≡ option_map (shown_close g) (if b then Some (record { display = false; closer = d.dollar; last = d.dollar }) else None)
+          ≡ option_map (shown_close g)
+          (if b then Some (record { display = false; closer = d.dollar; last = d.dollar }) else None)
       by true = refl
       by false = refl
 
@@ -169,16 +193,19 @@ module _ {A : Type 0} (item_of : A → Item) (g : ℕ → A) (nodes : List (Node
   display_shown : (d : Option (Dollar ℕ)) → display_close item_of (option_map (shown_dollar g) d)
       ≡ option_map (shown_close g) (display_close (item_at nodes) d)
   display_shown None = refl
-  display_shown (Some d) = rw (dollar_next_shown d.after) (closed_by_shown d.dollar (dollar_next (item_at nodes) d.after))
+  display_shown (Some d) = rw (dollar_next_shown d.after)
+      (closed_by_shown d.dollar (dollar_next (item_at nodes) d.after))
 
   drop_shown : (xs : List ℕ) → drop 1 (map g xs) ≡ map g (drop 1 xs)
   drop_shown [] = refl
   drop_shown (x ∷ xs) = refl
 
-  pub searched_shown : (xs : List ℕ) → searched_for_math item_of (map g xs) ≡ map g (searched_for_math (item_at nodes) xs)
+  pub searched_shown : (xs : List ℕ) → searched_for_math item_of (map g xs)
+      ≡ map g (searched_for_math (item_at nodes) xs)
   searched_shown xs = rw (dollar_next_shown xs) (by (dollar_next (item_at nodes) xs))
     where
-      by : (o : Option ℕ) → (if is_some (option_map g o) then drop 1 (map g xs) else map g xs) ≡ map g (if is_some o then drop 1 xs else xs)
+      by : (o : Option ℕ) → (if is_some (option_map g o) then drop 1 (map g xs) else map g xs)
+          ≡ map g (if is_some o then drop 1 xs else xs)
       by None = refl
       by (Some second) = drop_shown xs
 
@@ -206,7 +233,8 @@ module _ {A : Type 0} (item_of : A → Item) (g : ℕ → A) (nodes : List (Node
   math_from_shown opener xs = by (can_open opener.body)
     where
       by : (b : Bool) → (if b then math_close item_of opener.end (context_of opener.body) (map g xs) else None)
-          ≡ option_map (shown_close g) (if b then math_close (item_at nodes) opener.end (context_of opener.body) xs else None)
+          ≡ option_map (shown_close g)
+          (if b then math_close (item_at nodes) opener.end (context_of opener.body) xs else None)
       by true = math_shown opener.end (context_of opener.body) xs
       by false = refl
 
@@ -229,7 +257,8 @@ code_closer_among : (nodes : List (Node Item)) (n : ℕ) (xs : List ℕ) (x : �
 code_closer_among nodes n [] x e = cc e
 code_closer_among nodes n (y ∷ xs) x e = by (is_code_of n (item_at nodes y).body) refl (code_closer_among nodes n xs x)
   where
-    by : (b : Bool) → is_code_of n (item_at nodes y).body ≡ b → (code_closer (item_at nodes) n xs ≡ Some x → CodeCloses nodes xs n x)
+    by : (b : Bool) → is_code_of n (item_at nodes y).body ≡ b
+        → (code_closer (item_at nodes) n xs ≡ Some x → CodeCloses nodes xs n x)
         → CodeCloses nodes (y ∷ xs) n x
     by true is later =
         let same : y ≡ x = let found = rw is at e in cc in

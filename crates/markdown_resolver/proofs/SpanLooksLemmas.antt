@@ -1,5 +1,6 @@
 -- How many items a search of a chain examines, where the chain is read on past what it found.
-use Rattle.std.proofs.Common.{◌≡◌, ℕ, suc, ◌+◌, ◌≤◌, Bool, true, false, not, ◌==◌, List, ◌∷◌, ◌++◌, map, length, Option, Some, None, refl}
+use Rattle.std.proofs.Common.{◌≡◌, ℕ, suc, ◌+◌, ◌≤◌, Bool, true, false, not, ◌==◌, List, ◌∷◌, ◌++◌, map, length, Option}
+use Rattle.std.proofs.Common.{Some, None, refl}
 use Rattle.std.proofs.Common.{sym, ap, ◌∙◌, arith, subst}
 use Rattle.std.specs.Prelude.{if◌then◌else◌, is_some}
 use Rattle.std.specs.Option.{option_map}
@@ -15,7 +16,8 @@ use Rattle.markdown_spans.specs.Closers.{Dollar, can_open, closing_count, code_c
 use Rattle.markdown_spans.specs.Closers.{math_close_from}
 use Rattle.markdown_spans.specs.CloserSearches.{looked_for_code, looked_for_code_close, looked_for_math_from}
 use Rattle.markdown_spans.specs.CloserSearches.{opens_code, searched_for_math}
-use Rattle.markdown_spans.specs.SpanClosers.{ClosesCode, ClosesMath, Learned, LooksForCode, LooksForMath, RisesBy, failed_by_now, has_failed}
+use Rattle.markdown_spans.specs.SpanClosers.{ClosesCode, ClosesMath, Learned, LooksForCode, LooksForMath, RisesBy}
+use Rattle.markdown_spans.specs.SpanClosers.{failed_by_now, has_failed}
 use Rattle.markdown_spans.specs.SpanClosers.{LooksForCodeAtMost, LooksForMathAtMost, item_in, unless_failed}
 use Rattle.markdown_spans.specs.declared.span_closers.FoundMath.{FoundMath}
 use Rattle.markdown_spans.proofs.VisitLemmas.{code_visit_law, math_visit_law}
@@ -26,7 +28,8 @@ use Rattle.markdown_resolver.specs.ReadsItem.{LooksAt, LooksAtMost}
 use Rattle.markdown_resolver.proofs.FollowersLemmas.{InOrder, fewer_left, followers, items_led, opens_chain}
 use Rattle.markdown_resolver.proofs.CodeSpanLemmas.{closed_code, closes_by_number}
 use Rattle.markdown_resolver.proofs.MathSpanLemmas.{MathStands, close_of, math_by_number, stands_of}
-use Rattle.markdown_resolver.proofs.SpanFindLemmas.{StandsAmong, code_close_shown, first_dollar_shown, math_from_shown, number_alike}
+use Rattle.markdown_resolver.proofs.SpanFindLemmas.{StandsAmong, code_close_shown, first_dollar_shown, math_from_shown}
+use Rattle.markdown_resolver.proofs.SpanFindLemmas.{number_alike}
 use Rattle.markdown_resolver.proofs.SpanFindLemmas.{searched_shown, shown_close, shown_dollar}
 use Rattle.markdown_document.specs.Counts.{RisesAtMost}
 
@@ -56,20 +59,23 @@ looks_at (Some known) after searched found looked old new items items' rises fai
 }
 
 -- the number of items that are left of a chain
-pub items_put : (source : List ℕ) (ix : ℕ) (trees : Standing) (goes_on : Option ℕ) (rest : Rest) (old new : List (Node Item))
+pub items_put : (source : List ℕ) (ix : ℕ) (trees : Standing) (goes_on : Option ℕ) (rest : Rest)
+    (old new : List (Node Item))
     (tables tables' : Tables) → CanResolve source tables old (Some ix)
     → Puts source ix trees goes_on rest old new tables tables'
     → items_from new rest.next ≡ length (numbered_past goes_on (map (numbered old) (followers old ix)))
 items_put source ix trees goes_on rest old new tables tables' ready puts =
     let o = opens_chain source tables old ix ready in
     let chain = map (numbered old) (followers old ix) in
-    items_led source tables' new rest.next (suc ix) (numbered_past goes_on chain) puts.leaves.ready (puts.leads (suc ix) chain o.leads)
+    items_led source tables' new rest.next (suc ix) (numbered_past goes_on chain) puts.leaves.ready
+    (puts.leads (suc ix) chain o.leads)
 
 -- no search is made for backticks that open nothing
 unless_code : (b : ItemBody) (chain : List Numbered) → opens_code b ≡ false → looked_for_code_close item_in b chain ≡ 0
 unless_code (body.MaybeCode count escaped) chain h = by (closing_count count escaped == 0) h
   where
-    by : (none : Bool) → not none ≡ false → (if none then 0 else looked_for_code item_in (closing_count count escaped) chain) ≡ 0
+    by : (none : Bool) → not none ≡ false
+        → (if none then 0 else looked_for_code item_in (closing_count count escaped) chain) ≡ 0
     by true h = refl
     by false h = cc h
 unless_code other chain h = refl
@@ -80,15 +86,18 @@ pub nothing_looks : {source : List ℕ} {tables tables' : Tables} {old new : Lis
     → CanResolve source tables old (Some ix) → LooksForCode learned old ix visits visits'
     → has_failed after ≡ failed_by_now learned (opens_code (item_at old ix).body) (is_some found) → found ≡ None
     → Puts source ix trees None rest old new tables tables'
-    → LooksAt (has_failed learned) (has_failed after) visits visits' (items_from old (Some ix)) (items_from new rest.next)
-nothing_looks {source} {tables} {tables'} {old} {new} {ix} {trees} {rest} learned after visits visits' ready counted failed none puts =
+    → LooksAt (has_failed learned) (has_failed after) visits visits' (items_from old (Some ix))
+    (items_from new rest.next)
+nothing_looks {source} {tables} {tables'} {old} {new} {ix} {trees} {rest} learned after visits visits' ready counted
+    failed none puts =
     let o = opens_chain source tables old ix ready in
     let chain = map (numbered old) (followers old ix) in
     let looked = looked_for_code_close item_in (item_at old ix).body chain in
     let size = length-map (followers old ix) (numbered old) in
     let left = items_put source ix trees None rest old new tables tables' ready puts in
     let within = code_visit_law.within (item_at old ix).body chain in
-    looks_at learned (has_failed after) (opens_code (item_at old ix).body) false looked visits visits' (items_from old (Some ix))
+    looks_at learned (has_failed after) (opens_code (item_at old ix).body) false looked visits visits'
+    (items_from old (Some ix))
     (items_from new rest.next)
     (counted (suc ix) chain o.leads)
     (failed ∙ ap (λ (f : Option ℕ). failed_by_now learned (opens_code (item_at old ix).body) (is_some f)) none)
@@ -98,7 +107,8 @@ nothing_looks {source} {tables} {tables'} {old} {new} {ix} {trees} {rest} learne
 -- and where something does
 up_to_closer : (nodes : List (Node Item)) (count : ℕ) (escaped : Bool) (xs : List ℕ) (x : ℕ) (among : StandsAmong xs x)
     → code_close (item_at nodes) (body.MaybeCode count escaped) xs ≡ Some x
-    → looked_for_code_close item_in (body.MaybeCode count escaped) (map (numbered nodes) xs) + length among.after ≤ length xs
+    → looked_for_code_close item_in (body.MaybeCode count escaped) (map (numbered nodes) xs) + length among.after ≤
+    length xs
 up_to_closer nodes count escaped xs x among closes =
     let b = body.MaybeCode count escaped in
     let before = map (numbered nodes) among.before in
@@ -106,7 +116,8 @@ up_to_closer nodes count escaped xs x among closes =
     let parts : map (numbered nodes) xs ≡ before ++ numbered nodes x ∷ later = ap (map (numbered nodes)) among.parts
     ∙ map-append (numbered nodes) among.before (x ∷ among.after) in
     let found : code_close item_in b (before ++ numbered nodes x ∷ later) ≡ Some (numbered nodes x) =
-    ap (code_close item_in b) (sym parts) ∙ code_close_shown item_in (numbered nodes) nodes (number_alike nodes) count escaped xs
+    ap (code_close item_in b) (sym parts) ∙ code_close_shown item_in (numbered nodes) nodes (number_alike nodes) count
+    escaped xs
     ∙ ap (option_map (numbered nodes)) closes in
     let law = code_visit_law.before b before later (numbered nodes x) found in
     let size = length-map xs (numbered nodes) in
@@ -114,14 +125,18 @@ up_to_closer nodes count escaped xs x among closes =
     let all = ap length parts in
     rw parts (omega (arith, law, size, rest, all))
 
-pub code_looks : {source : List ℕ} {tables tables' : Tables} {old new : List (Node Item)} {ix : ℕ} {x count : ℕ} {escaped : Bool}
+pub code_looks : {source : List ℕ} {tables tables' : Tables} {old new : List (Node Item)} {ix : ℕ} {x count : ℕ}
+    {escaped : Bool}
     {trees : Standing} {rest : Rest} {found : Option ℕ} (learned after : Learned) (visits visits' : ℕ)
-    → CanResolve source tables old (Some ix) → (item_at old ix).body ≡ body.MaybeCode count escaped → ClosesCode old ix (Some x)
+    → CanResolve source tables old (Some ix) → (item_at old ix).body ≡ body.MaybeCode count escaped
+    → ClosesCode old ix (Some x)
     → LooksForCode learned old ix visits visits'
     → has_failed after ≡ failed_by_now learned (opens_code (item_at old ix).body) (is_some found) → found ≡ Some x
     → Puts source ix trees (Some (item_at old x).end) rest old new tables tables'
-    → LooksAt (has_failed learned) (has_failed after) visits visits' (items_from old (Some ix)) (items_from new rest.next)
-code_looks {source} {tables} {tables'} {old} {new} {ix} {x} {count} {escaped} {trees} {rest} learned after visits visits' ready is
+    → LooksAt (has_failed learned) (has_failed after) visits visits' (items_from old (Some ix))
+    (items_from new rest.next)
+code_looks {source} {tables} {tables'} {old} {new} {ix} {x} {count} {escaped} {trees} {rest} learned after visits
+    visits' ready is
     closes counted failed some puts =
     let o = opens_chain source tables old ix ready in
     let xs = followers old ix in
@@ -130,17 +145,22 @@ code_looks {source} {tables} {tables'} {old} {new} {ix} {x} {count} {escaped} {t
     let there = (closed_code source tables old ix x count escaped ready is closes).1 in
     let among = there.among in
     let looked = looked_for_code_close item_in (item_at old ix).body chain in
-    let ordered : InOrder old (item_at old ix).end (among.before ++ x ∷ among.after) = subst (InOrder old (item_at old ix).end) among.parts
+    let ordered : InOrder old (item_at old ix).end (among.before ++ x ∷ among.after) = subst
+    (InOrder old (item_at old ix).end) among.parts
     o.ordered in
-    let left : items_from new rest.next ≡ length (numbered_past (Some end) chain) = items_put source ix trees (Some end) rest old new tables
+    let left : items_from new rest.next ≡ length (numbered_past (Some end) chain) = items_put source ix trees (Some end)
+    rest old new tables
     tables' ready puts in
     let fewer : length (numbered_past (Some end) chain) ≤ length among.after =
-    subst (λ (xs : List ℕ). length (numbered_past (Some end) (map (numbered old) xs)) ≤ length among.after) (sym among.parts)
+    subst (λ (xs : List ℕ). length (numbered_past (Some end) (map (numbered old) xs)) ≤ length among.after)
+    (sym among.parts)
     (fewer_left old (item_at old ix).end end among.before x among.after ordered (omega arith)) in
     let up_to : looked + length among.after ≤ length xs =
     subst (λ (b : ItemBody). looked_for_code_close item_in b chain + length among.after ≤ length xs) (sym is)
-    (up_to_closer old count escaped xs x among (closes_by_number source tables old ix count escaped (Some x) ready is closes)) in
-    looks_at learned (has_failed after) (opens_code (item_at old ix).body) true looked visits visits' (items_from old (Some ix))
+    (up_to_closer old count escaped xs x among
+    (closes_by_number source tables old ix count escaped (Some x) ready is closes)) in
+    looks_at learned (has_failed after) (opens_code (item_at old ix).body) true looked visits visits'
+    (items_from old (Some ix))
     (items_from new rest.next)
     (counted (suc ix) chain o.leads)
     (failed ∙ ap (λ (f : Option ℕ). failed_by_now learned (opens_code (item_at old ix).body) (is_some f)) some)
@@ -148,7 +168,8 @@ code_looks {source} {tables} {tables'} {old} {new} {ix} {x} {count} {escaped} {t
     (unless_code (item_at old ix).body chain) (λ found. omega (arith, up_to, left, fewer, o.items))
 
 -- no search is made for a `$` that opens nothing
-unless_math : (opener : Item) (chain : List Numbered) → can_open opener.body ≡ false → looked_for_math_from item_in opener chain ≡ 0
+unless_math : (opener : Item) (chain : List Numbered) → can_open opener.body ≡ false
+    → looked_for_math_from item_in opener chain ≡ 0
 unless_math opener chain h = rw h refl
 
 -- where nothing closes math
@@ -157,15 +178,18 @@ pub no_math_looks : {source : List ℕ} {tables tables' : Tables} {old new : Lis
     → CanResolve source tables old (Some ix) → LooksForMath learned old ix visits visits'
     → has_failed after ≡ failed_by_now learned (can_open (item_at old ix).body) (is_some found) → found ≡ None
     → Puts source ix trees None rest old new tables tables'
-    → LooksAt (has_failed learned) (has_failed after) visits visits' (items_from old (Some ix)) (items_from new rest.next)
-no_math_looks {source} {tables} {tables'} {old} {new} {ix} {trees} {rest} learned after visits visits' ready counted failed none puts =
+    → LooksAt (has_failed learned) (has_failed after) visits visits' (items_from old (Some ix))
+    (items_from new rest.next)
+no_math_looks {source} {tables} {tables'} {old} {new} {ix} {trees} {rest} learned after visits visits' ready counted
+    failed none puts =
     let o = opens_chain source tables old ix ready in
     let chain = map (numbered old) (followers old ix) in
     let looked = looked_for_math_from item_in (item_at old ix) chain in
     let size = length-map (followers old ix) (numbered old) in
     let left = items_put source ix trees None rest old new tables tables' ready puts in
     let within = math_visit_law.within (item_at old ix) chain in
-    looks_at learned (has_failed after) (can_open (item_at old ix).body) false looked visits visits' (items_from old (Some ix))
+    looks_at learned (has_failed after) (can_open (item_at old ix).body) false looked visits visits'
+    (items_from old (Some ix))
     (items_from new rest.next)
     (counted (suc ix) chain o.leads)
     (failed ∙ ap (λ (f : Option FoundMath). failed_by_now learned (can_open (item_at old ix).body) (is_some f)) none)
@@ -173,7 +197,8 @@ no_math_looks {source} {tables} {tables'} {old} {new} {ix} {trees} {rest} learne
     (unless_math (item_at old ix) chain) (λ found. cc found)
 
 -- and where something does
-up_to_dollar : (nodes : List (Node Item)) (opener : Item) (xs : List ℕ) (m : FoundMath) → math_close_from (item_at nodes) opener xs
+up_to_dollar : (nodes : List (Node Item)) (opener : Item) (xs : List ℕ) (m : FoundMath)
+    → math_close_from (item_at nodes) opener xs
     ≡ Some (close_of m)
     → (stands : MathStands nodes opener.end (context_of opener.body) xs m)
     → looked_for_math_from item_in opener (map (numbered nodes) xs) + length stands.after ≤ length xs
@@ -186,7 +211,8 @@ up_to_dollar nodes opener xs m closes stands =
     ∙ ap (option_map (shown_close (numbered nodes))) closes) in
     let first : first_dollar item_in context (searched_for_math item_in chain) ≡ Some d =
     ap (first_dollar item_in context) (searched_shown item_in (numbered nodes) nodes (number_alike nodes) xs)
-    ∙ first_dollar_shown item_in (numbered nodes) nodes (number_alike nodes) context (searched_for_math (item_at nodes) xs)
+    ∙ first_dollar_shown item_in (numbered nodes) nodes (number_alike nodes) context
+    (searched_for_math (item_at nodes) xs)
     ∙ ap (option_map (shown_dollar (numbered nodes))) stands.first in
     let law = math_visit_law.before opener chain d found first in
     omega (arith, law, length-map xs (numbered nodes), length-map stands.after (numbered nodes))
@@ -197,8 +223,10 @@ pub math_looks : {source : List ℕ} {tables tables' : Tables} {old new : List (
     → LooksForMath learned old ix visits visits'
     → has_failed after ≡ failed_by_now learned (can_open (item_at old ix).body) (is_some found) → found ≡ Some m
     → Puts source ix trees (Some (item_at old m.last).end) rest old new tables tables'
-    → LooksAt (has_failed learned) (has_failed after) visits visits' (items_from old (Some ix)) (items_from new rest.next)
-math_looks {source} {tables} {tables'} {old} {new} {ix} {m} {trees} {rest} learned after visits visits' ready closes counted failed
+    → LooksAt (has_failed learned) (has_failed after) visits visits' (items_from old (Some ix))
+    (items_from new rest.next)
+math_looks {source} {tables} {tables'} {old} {new} {ix} {m} {trees} {rest} learned after visits visits' ready closes
+    counted failed
     some puts =
     let o = opens_chain source tables old ix ready in
     let xs = followers old ix in
@@ -206,15 +234,20 @@ math_looks {source} {tables} {tables'} {old} {new} {ix} {m} {trees} {rest} learn
     let end = (item_at old m.last).end in
     let there = stands_of source tables old ix m ready closes in
     let looked = looked_for_math_from item_in (item_at old ix) chain in
-    let ordered : InOrder old (item_at old ix).end (there.before ++ m.closer ∷ there.after) = subst (InOrder old (item_at old ix).end)
+    let ordered : InOrder old (item_at old ix).end (there.before ++ m.closer ∷ there.after) = subst
+    (InOrder old (item_at old ix).end)
     there.parts o.ordered in
-    let left : items_from new rest.next ≡ length (numbered_past (Some end) chain) = items_put source ix trees (Some end) rest old new tables
+    let left : items_from new rest.next ≡ length (numbered_past (Some end) chain) = items_put source ix trees (Some end)
+    rest old new tables
     tables' ready puts in
     let fewer : length (numbered_past (Some end) chain) ≤ length there.after =
-    subst (λ (xs : List ℕ). length (numbered_past (Some end) (map (numbered old) xs)) ≤ length there.after) (sym there.parts)
+    subst (λ (xs : List ℕ). length (numbered_past (Some end) (map (numbered old) xs)) ≤ length there.after)
+    (sym there.parts)
     (fewer_left old (item_at old ix).end end there.before m.closer there.after ordered there.to_last) in
-    let up_to = up_to_dollar old (item_at old ix) xs m (math_by_number source tables old ix (Some m) ready closes) there in
-    looks_at learned (has_failed after) (can_open (item_at old ix).body) true looked visits visits' (items_from old (Some ix))
+    let up_to = up_to_dollar old (item_at old ix) xs m (math_by_number source tables old ix (Some m) ready closes) there
+    in
+    looks_at learned (has_failed after) (can_open (item_at old ix).body) true looked visits visits'
+    (items_from old (Some ix))
     (items_from new rest.next)
     (counted (suc ix) chain o.leads)
     (failed ∙ ap (λ (f : Option FoundMath). failed_by_now learned (can_open (item_at old ix).body) (is_some f)) some)
@@ -248,7 +281,8 @@ module _ {source : List ℕ} {tables : Tables} {old : List (Node Item)} {ix : �
       let chain = map (numbered old) (followers old ix) in
       let size = length-map (followers old ix) (numbered old) in
       let within = code_visit_law.within (item_at old ix).body chain in
-      refused_at learned (looked_for_code_close item_in (item_at old ix).body chain) visits visits' (items_from old (Some ix))
+      refused_at learned (looked_for_code_close item_in (item_at old ix).body chain) visits visits'
+      (items_from old (Some ix))
       (at_most (suc ix) chain o.leads) (omega (arith, within, size, o.items))
 
   pub math_refused : LooksForMathAtMost learned old ix visits visits'

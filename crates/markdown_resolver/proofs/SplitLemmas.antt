@@ -56,7 +56,8 @@ pub record OpensNumbered (source : List ℕ) (tables : Tables) (nodes : List (No
       (trees_from source tables nodes (child_of nodes ix))
       (trees_from source tables nodes (sibling_of nodes ix))
 
-pub opens_numbered : (source : List ℕ) (tables : Tables) (nodes : List (Node Item)) (ix : ℕ) → CanResolve source tables nodes (Some ix)
+pub opens_numbered : (source : List ℕ) (tables : Tables) (nodes : List (Node Item)) (ix : ℕ)
+    → CanResolve source tables nodes (Some ix)
     → OpensNumbered source tables nodes ix
 opens_numbered source tables nodes ix ready =
     let o = opens (links_of nodes) (IsPlaced source tables nodes) ix ready.reaches in
@@ -69,16 +70,19 @@ opens_numbered source tables nodes ix ready =
     }
 
 -- what there is from an opener on
-pub record InsideOf (source : List ℕ) (tables : Tables) (nodes : List (Node Item)) (closer : ℕ) (o : Split ℕ) : Type 0 where
-  pub label_is : o.opener ≡ numbered_label source tables nodes o.opener.tag
-  pub follows : roots (forest_at (links_of nodes) (sibling_of nodes o.opener.tag)) ≡ inside_numbers o
-      ++ closer ∷ roots (forest_at (links_of nodes) (sibling_of nodes closer))
-  pub numbered : numbered_from source tables nodes (sibling_of nodes o.opener.tag)
-      ≡ joined_chains (inside o) (numbered_from source tables nodes (Some closer))
-  pub inside_is : first_trees (length (inside_numbers o)) (trees_from source tables nodes (sibling_of nodes o.opener.tag))
-      ≡ without_numbers (inside o)
-  pub behind_is : trees_past (suc (length (inside_numbers o))) (trees_from source tables nodes (sibling_of nodes o.opener.tag))
-      ≡ trees_from source tables nodes (sibling_of nodes closer)
+pub record InsideOf (source : List ℕ) (tables : Tables) (nodes : List (Node Item)) (closer : ℕ) (o : Split ℕ) : Type 0
+  where
+    pub label_is : o.opener ≡ numbered_label source tables nodes o.opener.tag
+    pub follows : roots (forest_at (links_of nodes) (sibling_of nodes o.opener.tag)) ≡ inside_numbers o
+        ++ closer ∷ roots (forest_at (links_of nodes) (sibling_of nodes closer))
+    pub numbered : numbered_from source tables nodes (sibling_of nodes o.opener.tag)
+        ≡ joined_chains (inside o) (numbered_from source tables nodes (Some closer))
+    pub inside_is : first_trees (length (inside_numbers o))
+        (trees_from source tables nodes (sibling_of nodes o.opener.tag))
+        ≡ without_numbers (inside o)
+    pub behind_is : trees_past (suc (length (inside_numbers o)))
+        (trees_from source tables nodes (sibling_of nodes o.opener.tag))
+        ≡ trees_from source tables nodes (sibling_of nodes closer)
 
 node_label : {A : Type 0} (a b : A) (x y u v : Forest A) → node a x y ≡ node b u v → a ≡ b
 node_label a b x y u v e = cc
@@ -90,16 +94,19 @@ pub inside_of : (source : List ℕ) (tables : Tables) (nodes : List (Node Item))
     → CanResolve source tables nodes (Some o.opener.tag)
     → CanResolve source tables nodes (Some closer)
     → numbered_from source tables nodes (Some o.opener.tag)
-    ≡ node o.opener nil (trees_onto o.after (numbered_from source tables nodes (Some closer))) → InsideOf source tables nodes closer o
+    ≡ node o.opener nil (trees_onto o.after (numbered_from source tables nodes (Some closer)))
+    → InsideOf source tables nodes closer o
 inside_of source tables nodes closer o ready ready' is =
     let first = opens_numbered source tables nodes o.opener.tag ready in
     let last = opens_numbered source tables nodes closer ready' in
     let next = sibling_of nodes o.opener.tag in
     let rest = numbered_from source tables nodes (Some closer) in
-    let whole : node (numbered_label source tables nodes o.opener.tag) (numbered_from source tables nodes (child_of nodes o.opener.tag))
+    let whole : node (numbered_label source tables nodes o.opener.tag)
+    (numbered_from source tables nodes (child_of nodes o.opener.tag))
     (numbered_from source tables nodes next)
     ≡ node o.opener nil (trees_onto o.after rest) = sym first.numbered ∙ is in
-    let numbered : numbered_from source tables nodes next ≡ joined_chains (inside o) rest = node_after _ _ _ _ _ _ whole ∙ onto_split o.after rest
+    let numbered : numbered_from source tables nodes next ≡ joined_chains (inside o) rest = node_after _ _ _ _ _ _ whole
+    ∙ onto_split o.after rest
     in
     let at = forest_at (links_of nodes) (Some closer) in
     let numbers : forest_at (links_of nodes) next ≡ joined_chains (numbers_of (inside o)) at =
@@ -108,18 +115,22 @@ inside_of source tables nodes closer o ready ready' is =
     ∙ ap (joined_chains (numbers_of (inside o))) (numbers_are source tables nodes at) in
     let untagged : Label ℕ → Plain = λ a. record { tag = tt; part = a.part } in
     let within : Forest Plain = without_numbers (inside o) in
-    let reads : trees_from source tables nodes next ≡ joined_chains within (trees_from source tables nodes (Some closer)) =
+    let reads : trees_from source tables nodes next
+    ≡ joined_chains within (trees_from source tables nodes (Some closer)) =
     sym (plain_from source tables nodes next) ∙ ap without_numbers numbered ∙ relabelled_joined untagged (inside o) rest
     ∙ ap (joined_chains within) (plain_from source tables nodes (Some closer)) in
     let opened : trees_from source tables nodes next
-    ≡ joined_chains within (node (label_at source tables nodes closer) (trees_from source tables nodes (child_of nodes closer))
+    ≡ joined_chains within
+    (node (label_at source tables nodes closer) (trees_from source tables nodes (child_of nodes closer))
     (trees_from source tables nodes (sibling_of nodes closer))) =
     reads ∙ ap (joined_chains within) last.trees in
-    let many : length (inside_numbers o) ≡ length (roots within) = relabelled_as_many (λ (a : Label ℕ). a.tag) (inside o)
+    let many : length (inside_numbers o) ≡ length (roots within) = relabelled_as_many (λ (a : Label ℕ). a.tag)
+    (inside o)
     ∙ sym (relabelled_as_many untagged (inside o)) in
     record {
       label_is = sym (node_label _ _ _ _ _ _ whole);
-      follows = ap roots numbers ∙ roots_joined (numbers_of (inside o)) at ∙ ap (λ (f : Forest ℕ). inside_numbers o ++ roots f) last.forest;
+      follows = ap roots numbers ∙ roots_joined (numbers_of (inside o)) at
+          ∙ ap (λ (f : Forest ℕ). inside_numbers o ++ roots f) last.forest;
       numbered = numbered;
       inside_is = ap (first_trees (length (inside_numbers o))) reads ∙ first_so (length (inside_numbers o)) within
           (trees_from source tables nodes (Some closer)) many;

@@ -14,14 +14,16 @@ use Rattle.markdown_document.specs.Stages.{Stage, chain_at}
 use Rattle.markdown_resolver.specs.PassOne.{around, read_other}
 use Rattle.markdown_resolver.specs.ReadOn.{StopsOn, all_read, at_left}
 
-pub all_asks : (s : Setting) (above : Above) (chain : Forest Plain) (p : Progress (Unit {0})) → AsksMore (all_read s above chain p) p
+pub all_asks : (s : Setting) (above : Above) (chain : Forest Plain) (p : Progress (Unit {0}))
+    → AsksMore (all_read s above chain p) p
 all_asks s above chain p =
     let r = read_asks (around s above) (read_other s plain_tags above)
     (λ a below rest q. asks_nothing (read_other s plain_tags above a below rest q) q refl) chain p in
     record { more = r.more; asked = r.asked }
 
 -- no question was asked
-pub stops_here : {C : Type 0} (step : C → Question → Option Answer → C → Type 0) (s : Setting) (above : Above) (at : Option ℕ)
+pub stops_here : {C : Type 0} (step : C → Question → Option Answer → C → Type 0) (s : Setting) (above : Above)
+    (at : Option ℕ)
     (left : List (Entry ℕ)) (old : Stage C) (spent : SpentEnds)
     (callback' : Option C) → callback' ≡ old.callback → StopsOn step s above at left old spent callback'
 stops_here step s above at left old spent callback' same = record {

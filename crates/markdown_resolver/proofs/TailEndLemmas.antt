@@ -3,7 +3,8 @@ use Rattle.std.proofs.Common.{◌≡◌, ℕ, ◌+◌, ◌-◌, ◌<◌, ◌≤�
 use Rattle.std.proofs.Common.{get_or, refl, ap, ◌∙◌, subst, arith}
 use Rattle.std.specs.Prelude.{IfSome, if◌then◌else◌, slice_index}
 use Rattle.std.proofs.lemmas.Bool.{eqb-true}
-use Rattle.markdown_brackets.specs.LinkTail.{LinkTail, after_destination, after_title, closed_at, link_tail, past_separator}
+use Rattle.markdown_brackets.specs.LinkTail.{LinkTail, after_destination, after_title, closed_at, link_tail}
+use Rattle.markdown_brackets.specs.LinkTail.{past_separator}
 use Rattle.markdown_brackets.proofs.TailTitleLemmas.{IsTitleAt, title_is_at}
 use Rattle.markdown_document.specs.LinkTitle.{Title, title_at}
 use Rattle.markdown_resolver.proofs.MarkupEndLemmas.{byte_there}
@@ -22,7 +23,8 @@ closes_at : (text : List ℕ) (at i : ℕ) (written title : List ℕ) (joined : 
 closes_at text at i written title joined le = by (slice_index text i == 41) refl
   where
     by : (closes : Bool) → (slice_index text i == 41) ≡ closes
-        → Closes text at (if closes then Some (record { ends = i + 1; destination = written; title = title; is_joined = joined }) else None)
+        → Closes text at (if closes then Some
+        (record { ends = i + 1; destination = written; title = title; is_joined = joined }) else None)
     by true e =
         let place : i + 1 - 1 ≡ i = omega arith in
         let inside = byte_there text i 40 e in
@@ -34,13 +36,16 @@ closes_at text at i written title joined le = by (slice_index text i == 41) refl
         }
     by false e = tt
 
-closes_titled : (skipped : List ℕ → Option ℕ) (text : List ℕ) (at i : ℕ) (written : List ℕ) (found : Option Title) → at ≤ i
+closes_titled : (skipped : List ℕ → Option ℕ) (text : List ℕ) (at i : ℕ) (written : List ℕ) (found : Option Title)
+    → at ≤ i
     → IsTitleAt text i found → Closes text at (after_title skipped text i written found)
 closes_titled skipped text at i written None le h = closes_at text at i written [] false le
-closes_titled skipped text at i written (Some t) le h = closes_at text at (past_separator skipped text t.ends) written t.text t.is_joined
+closes_titled skipped text at i written (Some t) le h = closes_at text at (past_separator skipped text t.ends) written
+    t.text t.is_joined
     (omega (arith, le, h.0))
 
-closes_found : (skipped : List ℕ → Option ℕ) (starts : ℕ → Option ℕ) (text : List ℕ) (at i : ℕ) (found : Option (ℕ × List ℕ)) → at ≤ i
+closes_found : (skipped : List ℕ → Option ℕ) (starts : ℕ → Option ℕ) (text : List ℕ) (at i : ℕ)
+    (found : Option (ℕ × List ℕ)) → at ≤ i
     → Closes text at (after_destination skipped starts text i found)
 closes_found skipped starts text at i None le = tt
 closes_found skipped starts text at i (Some d) le =
@@ -54,7 +59,8 @@ tail_ends : (skipped : List ℕ → Option ℕ) (starts : ℕ → Option ℕ) (t
 tail_ends skipped starts text at = by (slice_index text at == 40) _
   where
     by : (opens : Bool) (found : Option (ℕ × List ℕ))
-        → Closes text at (if opens then after_destination skipped starts text (past_separator skipped text (at + 1)) found else None)
+        → Closes text at (if opens then after_destination skipped starts text (past_separator skipped text (at + 1))
+        found else None)
     by true found = closes_found skipped starts text at (past_separator skipped text (at + 1)) found (omega arith)
     by false found = tt
 

@@ -40,30 +40,37 @@ first_cut source tables nodes i n (node ix below after) h first closed =
     by (nat_le (item_at nodes ix).end i) first (λ later. first_cut source tables nodes i n after h.1 later closed)
   where
     by : (ended : Bool) → (if ended then first_past nodes i (roots after) else Some ix) ≡ Some n
-        → (first_past nodes i (roots after) ≡ Some n → MayBeCut (item_at nodes n).body) → MayBeCut (item_at nodes n).body
+        → (first_past nodes i (roots after) ≡ Some n → MayBeCut (item_at nodes n).body)
+        → MayBeCut (item_at nodes n).body
     by true first further = further first
     by false first further =
         let same : ix ≡ n = cc first in
         let item = item_at nodes ix in
         record {
           closed = closed;
-          no_slices = subst (λ m. (source : List ℕ) (tables : Tables) (start end : ℕ) → HasSlices source tables start end (item_at nodes m).body)
+          no_slices = subst (λ m. (source : List ℕ) (tables : Tables) (start end : ℕ)
+              → HasSlices source tables start end (item_at nodes m).body)
               same (unmade_slices tables (slice_range source item.start item.end) item.body h.0);
         }
 
 -- what follows the first item of a chain
-pub unread_after : (source : List ℕ) (tables : Tables) (nodes : List (Node Item)) (ix : ℕ) → CanResolve source tables nodes (Some ix)
-    → IsUnread (trees_from source tables nodes (Some ix)) → IsUnread (trees_from source tables nodes (sibling_of nodes ix))
+pub unread_after : (source : List ℕ) (tables : Tables) (nodes : List (Node Item)) (ix : ℕ)
+    → CanResolve source tables nodes (Some ix)
+    → IsUnread (trees_from source tables nodes (Some ix))
+    → IsUnread (trees_from source tables nodes (sibling_of nodes ix))
 unread_after source tables nodes ix ready h =
     (subst (λ (f : Forest Plain). IsUnread f) (opens_chain source tables nodes ix ready).trees h).1
 
-pub unmade_after : (source : List ℕ) (tables : Tables) (nodes : List (Node Item)) (ix : ℕ) → CanResolve source tables nodes (Some ix)
+pub unmade_after : (source : List ℕ) (tables : Tables) (nodes : List (Node Item)) (ix : ℕ)
+    → CanResolve source tables nodes (Some ix)
     → is_open (item_at nodes ix).body ≡ true → waits_for_pairing (item_at nodes ix).body ≡ false
-    → IsUnread (trees_from source tables nodes (Some ix)) → IsUnmade (trees_from source tables nodes (sibling_of nodes ix))
+    → IsUnread (trees_from source tables nodes (Some ix))
+    → IsUnmade (trees_from source tables nodes (sibling_of nodes ix))
 unmade_after source tables nodes ix ready opens waits h =
     let item = item_at nodes ix in
     let shape = shape-open tables (slice_range source item.start item.end) item.body opens in
-    (subst (λ (f : Forest Plain). IsUnread f) (opens_chain source tables nodes ix ready).trees h).0 (ap is_quiet shape ∙ waits)
+    (subst (λ (f : Forest Plain). IsUnread f) (opens_chain source tables nodes ix ready).trees h).0
+    (ap is_quiet shape ∙ waits)
 
 -- what is left of a chain past a byte offset
 quiet_cut : (n : ℕ) (shape : Shape) → is_quiet (cut_shape n shape) ≡ is_quiet shape
@@ -75,7 +82,8 @@ module _ {A : Type 0} where
   unread_past_byte i nil h = tt
   unread_past_byte i (node a below after) h = by (nat_le (end_of a) i) (unread_past_byte i after h.1)
     where
-      by : (ended : Bool) → IsUnread (past_byte i after) → IsUnread (if ended then past_byte i after else node (begun_at i a) below after)
+      by : (ended : Bool) → IsUnread (past_byte i after)
+          → IsUnread (if ended then past_byte i after else node (begun_at i a) below after)
       by true later = later
       by false later = (λ read. h.0 (sym (quiet_cut (i - a.part.range.start) a.part.shape) ∙ read), h.1)
 

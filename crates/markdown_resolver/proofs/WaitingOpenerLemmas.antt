@@ -1,6 +1,7 @@
 -- An opener of a left list in an arena can be tried at the `]` after that: the chain from it on can be read, it
 -- precedes the `]`, and what is read of the text starts and ends between characters.
-use Rattle.std.proofs.Common.{◌≡◌, ℕ, ◌<◌, ◌≤◌, Bool, true, false, ◌==◌, List, [], ◌∷◌, ◌++◌, Option, Some, None, refl, sym, ap, ◌∙◌, subst}
+use Rattle.std.proofs.Common.{◌≡◌, ℕ, ◌<◌, ◌≤◌, Bool, true, false, ◌==◌, List, [], ◌∷◌, ◌++◌, Option, Some, None, refl}
+use Rattle.std.proofs.Common.{sym, ap, ◌∙◌, subst}
 use Rattle.std.proofs.Common.{append_assoc, nat_lt, arith}
 use Rattle.std.specs.Prelude.{⊤, IfSome, if◌then◌else◌}
 use Rattle.std.specs.Option.{option_and_then}
@@ -31,7 +32,8 @@ use Rattle.markdown_resolver.proofs.ComposeLemmas.{stands_ready}
 use Rattle.markdown_resolver.proofs.FollowersLemmas.{InOrder, opens_chain, order_around}
 use Rattle.markdown_resolver.proofs.LeftTreesLemmas.{onto_split, relabelled_joined}
 use Rattle.markdown_resolver.proofs.PutPairLemmas.{ready_next}
-use Rattle.markdown_resolver.proofs.StandsToLemmas.{AtOpener, numbered_opens, numbers_are, stands_at_opener, stands_rest}
+use Rattle.markdown_resolver.proofs.StandsToLemmas.{AtOpener, numbered_opens, numbers_are, stands_at_opener}
+use Rattle.markdown_resolver.proofs.StandsToLemmas.{stands_rest}
 
 -- an opener that precedes a `]`
 pub record StandsOpen (source : List ℕ) (tables : Tables) (nodes : List (Node Item)) (closer n : ℕ) : Type 0 where
@@ -60,7 +62,8 @@ at_opener source tables nodes first closer o closes at =
     let c = numbered_opens source tables nodes closer (stands_ready source tables nodes (Some closer) closes) in
     let after = numbers_of (numbered_from source tables nodes (sibling_of nodes closer)) in
     let follows : roots f ≡ roots inside ++ closer ∷ roots after =
-    ap (λ (g : Forest ℕ). roots g) (sym (numbers_are source tables nodes f) ∙ ap (λ (g : Forest (Label ℕ)). numbers_of g) (rest
+    ap (λ (g : Forest ℕ). roots g)
+    (sym (numbers_are source tables nodes f) ∙ ap (λ (g : Forest (Label ℕ)). numbers_of g) (rest
     ∙ onto_split o.after later) ∙ relabelled_joined (λ a. a.tag) (trees_onto o.after nil) later)
     ∙ roots_joined inside (numbers_of later) ∙ ap (λ (g : Forest (Label ℕ)). roots inside ++ roots (numbers_of g)) c in
     record {
@@ -71,7 +74,8 @@ at_opener source tables nodes first closer o closes at =
     }
 
 -- so it is with each opener of a left list
-waits_open : (source : List ℕ) (tables : Tables) (nodes : List (Node Item)) (first closer : ℕ) (whole after left : List (Entry ℕ))
+waits_open : (source : List ℕ) (tables : Tables) (nodes : List (Node Item)) (first closer : ℕ)
+    (whole after left : List (Entry ℕ))
     → CanResolve source tables nodes (Some closer)
     → StandsTo source tables nodes first (Some closer) whole → whole ≡ after ++ left
     → EachWaits (StandsOpen source tables nodes closer) left
@@ -81,24 +85,29 @@ waits_open source tables nodes first closer whole after (done a below ∷ left) 
     ∙ sym (append_assoc after (done a below ∷ []) left))
 waits_open source tables nodes first closer whole after (waits m a ∷ left) closes h e =
     let o : Split ℕ = record { mark = m; opener = a; after = after; before = left } in
-    let split : IsSplit whole o = record { after_then = after; mark_then = m; left_is = e; same_trees = λ later. refl } in (
-      at_opener source tables nodes first closer o closes (stands_at_opener source tables nodes first (Some closer) whole o h split),
+    let split : IsSplit whole o = record { after_then = after; mark_then = m; left_is = e; same_trees = λ later. refl }
+    in (
+      at_opener source tables nodes first closer o closes
+          (stands_at_opener source tables nodes first (Some closer) whole o h split),
       waits_open source tables nodes first closer whole (after ++ waits m a ∷ []) left closes h (e
           ∙ sym (append_assoc after (waits m a ∷ []) left)),
     )
 
-pub each_open : (source : List ℕ) (tables : Tables) (nodes : List (Node Item)) (first closer : ℕ) (left : List (Entry ℕ))
+pub each_open : (source : List ℕ) (tables : Tables) (nodes : List (Node Item)) (first closer : ℕ)
+    (left : List (Entry ℕ))
     → StandsTo source tables nodes first (Some closer) left
     → EachWaits (StandsOpen source tables nodes closer) left
 each_open source tables nodes first closer left h =
-    waits_open source tables nodes first closer left [] left (stands_rest source tables nodes first (Some closer) left h) h refl
+    waits_open source tables nodes first closer left [] left
+    (stands_rest source tables nodes first (Some closer) left h) h refl
 
 -- a chain that may be read is one
 each_at_all : (p : ℕ → Type 0) (f : Forest ℕ) → Each p f → Each (λ ix. ⊤) f
 each_at_all p nil h = tt
 each_at_all p (node ix below after) h = (tt, each_at_all p below h.1, each_at_all p after h.2)
 
-pub is_chain : (source : List ℕ) (tables : Tables) (nodes : List (Node Item)) (l : Option ℕ) → CanResolve source tables nodes l
+pub is_chain : (source : List ℕ) (tables : Tables) (nodes : List (Node Item)) (l : Option ℕ)
+    → CanResolve source tables nodes l
     → IsChain nodes l
 is_chain source tables nodes l ready = record {
   spelled = ready.reaches.spelled;
@@ -115,14 +124,16 @@ start_between source tables nodes (node ix below after) n s h e = by (nat_lt n (
   where
     by : (b : Bool) → first_start nodes (if b then node ix below after else numbers_past nodes n after) ≡ Some s
         → (first_start nodes (numbers_past nodes n after) ≡ Some s → IsCharBoundary source s) → IsCharBoundary source s
-    by true found later = let here : (item_at nodes ix).start ≡ s = cc found in subst (λ (i : ℕ). IsCharBoundary source i) here
+    by true found later = let here : (item_at nodes ix).start
+        ≡ s = cc found in subst (λ (i : ℕ). IsCharBoundary source i) here
         h.0.lies.start
     by false found later = later found
 
 -- it can be tried
 pub can_try : (tables : Tables) (nodes : List (Node Item)) (place : ChainPlace) (closer n : ℕ)
     → CanResolve place.text.now tables nodes (Some closer) → 0 < (item_at nodes closer).end
-    → IsCharBoundary place.text.now place.block_end → StandsOpen place.text.now tables nodes closer n → CanTry nodes place closer n
+    → IsCharBoundary place.text.now place.block_end → StandsOpen place.text.now tables nodes closer n
+    → CanTry nodes place closer n
 can_try tables nodes place closer n closes some block o =
     let source = place.text.now in
     let c = opens_chain source tables nodes closer closes in
@@ -134,7 +145,8 @@ can_try tables nodes place closer n closes some block o =
         within = c.within;
         chain = is_chain source tables nodes (sibling_of nodes closer) next;
         block = block;
-        later = λ k s e. start_between source tables nodes (forest_at (links_of nodes) (sibling_of nodes closer)) k s next.reaches.each e;
+        later = λ k s e. start_between source tables nodes (forest_at (links_of nodes) (sibling_of nodes closer)) k s
+            next.reaches.each e;
         some = some;
         opens = o.opener.bracket;
         closes = c.placed.lies.end;
@@ -151,13 +163,15 @@ unless_some closer (Some n) ix e = by (n == closer) e
     by true e = cc e
     by false e = e
 
-starts_body : (source : List ℕ) (tables : Tables) (nodes : List (Node Item)) (l : Option ℕ) → CanResolve source tables nodes l
+starts_body : (source : List ℕ) (tables : Tables) (nodes : List (Node Item)) (l : Option ℕ)
+    → CanResolve source tables nodes l
     → IfSome l (λ first. IsChain nodes (Some first) × IsCharBoundary source (item_at nodes first).start)
 starts_body source tables nodes None ready = tt
 starts_body source tables nodes (Some first) ready =
     (is_chain source tables nodes (Some first) ready, (opens_chain source tables nodes first ready).placed.lies.start)
 
-unless_ready : (source : List ℕ) (tables : Tables) (nodes : List (Node Item)) (closer : ℕ) (l : Option ℕ) → CanResolve source tables nodes l
+unless_ready : (source : List ℕ) (tables : Tables) (nodes : List (Node Item)) (closer : ℕ) (l : Option ℕ)
+    → CanResolve source tables nodes l
     → IfSome (unless_is closer l) (λ ix. CanResolve source tables nodes (Some ix))
 unless_ready source tables nodes closer l ready = by (unless_is closer l) refl
   where
@@ -177,10 +191,12 @@ body_start_some : (source : List ℕ) (tables : Tables) (nodes : List (Node Item
     × IsCharBoundary source (item_at nodes first).start)
 body_start_some source tables nodes closer None h = tt
 body_start_some source tables nodes closer (Some ix) h =
-    body_of_some source tables nodes closer (unless_is closer (sibling_of nodes ix)) (unless_ready source tables nodes closer
+    body_of_some source tables nodes closer (unless_is closer (sibling_of nodes ix))
+    (unless_ready source tables nodes closer
     (sibling_of nodes ix) (ready_next source tables nodes ix h))
 
-pub can_find : (source : List ℕ) (tables : Tables) (nodes : List (Node Item)) (closer n : ℕ) → CanResolve source tables nodes (Some closer)
+pub can_find : (source : List ℕ) (tables : Tables) (nodes : List (Node Item)) (closer n : ℕ)
+    → CanResolve source tables nodes (Some closer)
     → StandsOpen source tables nodes closer n
     → CanFindWikilink nodes source n closer
 can_find source tables nodes closer n closes o =
@@ -188,12 +204,14 @@ can_find source tables nodes closer n closes o =
     record {
       opens = o.opener.within;
       closes = c.within;
-      starts = body_start_some source tables nodes closer (unless_is closer (sibling_of nodes n)) (unless_ready source tables nodes closer
+      starts = body_start_some source tables nodes closer (unless_is closer (sibling_of nodes n))
+          (unless_ready source tables nodes closer
           (sibling_of nodes n) (ready_next source tables nodes n o.ready));
       stops = c.placed.lies.start;
     }
 
 -- what follows from a fact of each opener is a fact of each
-pub each_follows : (p q : ℕ → Type 0) (held : List Waiting) → ((n : ℕ) → p n → q n) → EachOpener p held → EachOpener q held
+pub each_follows : (p q : ℕ → Type 0) (held : List Waiting) → ((n : ℕ) → p n → q n) → EachOpener p held
+    → EachOpener q held
 each_follows p q [] f h = tt
 each_follows p q (t ∷ held) f h = (f t.opener.node h.0, each_follows p q held f h.1)

@@ -1,6 +1,7 @@
 -- Runs stay whole in pass one: what waits for pairing stays as it is, what replaces a find or an opener is not a run's
 -- character, and what is left of a chain past a byte offset begins with a whole character of a run or with none.
-use Rattle.std.proofs.Common.{◌≡◌, ℕ, zero, suc, ◌+◌, ◌-◌, ◌<◌, Bool, true, false, List, Option, Some, None, max, refl, sym, ap, subst, ◌∙◌}
+use Rattle.std.proofs.Common.{◌≡◌, ℕ, zero, suc, ◌+◌, ◌-◌, ◌<◌, Bool, true, false, List, Option, Some, None, max, refl}
+use Rattle.std.proofs.Common.{sym, ap, subst, ◌∙◌}
 use Rattle.std.proofs.Common.{nat_le, arith}
 use Rattle.std.proofs.lemmas.Bool.{leb-false}
 use Rattle.std.specs.Prelude.{IfSome, if◌then◌else◌, [], ◌∷◌, ⊤}
@@ -11,17 +12,23 @@ use Rattle.markdown_base.specs.WellFormed.{RunCharacter, run_character, RunGoesO
 use Rattle.markdown_base.specs.declared.item.ItemBody.{ItemBody}
 use Rattle.markdown_base.specs.declared.item.ItemBody.TheVariants as body
 use Rattle.markdown_base.specs.Event.{LinkView}
-use Rattle.markdown_brackets.specs.BracketDecision.{Around, Closing, Progress, Wikilink, past_second, text_from, wikilink_in}
-use Rattle.markdown_brackets.specs.ClosingBracket.{closed, footnote_from, footnote_onto, linked, tag_for, wikilink_target}
-use Rattle.markdown_brackets.specs.LeftList.{Entry, Mark, Split, before_footnote, before_link, behind, change_nearest, disabled_mark, done}
-use Rattle.markdown_brackets.specs.LeftList.{inside, nearest, on_marks, opens_bracket, opens_wikilink, second_folded, trees_onto, waits}
+use Rattle.markdown_brackets.specs.BracketDecision.{Around, Closing, Progress, Wikilink, past_second, text_from}
+use Rattle.markdown_brackets.specs.BracketDecision.{wikilink_in}
+use Rattle.markdown_brackets.specs.ClosingBracket.{closed, footnote_from, footnote_onto, linked, tag_for}
+use Rattle.markdown_brackets.specs.ClosingBracket.{wikilink_target}
+use Rattle.markdown_brackets.specs.LeftList.{Entry, Mark, Split, before_footnote, before_link, behind, change_nearest}
+use Rattle.markdown_brackets.specs.LeftList.{disabled_mark, done}
+use Rattle.markdown_brackets.specs.LeftList.{inside, nearest, on_marks, opens_bracket, opens_wikilink, second_folded}
+use Rattle.markdown_brackets.specs.LeftList.{trees_onto, waits}
 use Rattle.markdown_brackets.specs.LeftList.{without_bracket, without_wikilink, all_done}
 use Rattle.markdown_brackets.specs.ReadChain.{begun, closing_of, opened, read, read_as, read_chain, read_past}
 use Rattle.markdown_brackets.proofs.ClosingBracketLemmas.{Cases, in_each_case, some_of}
 use Rattle.markdown_brackets.proofs.NoLinkLemmas.{wikilink_keeps}
 use Rattle.markdown_document.specs.Above.{Above}
-use Rattle.markdown_document.specs.ChainRest.{begun_at, cut_shape, end_of, joined_chains, open_body, past, past_byte, start_of}
-use Rattle.markdown_document.specs.Document.{Tags, Shape, leaf, enclosed, plain, backslash_break, unresolved, Label, as_text, is_unresolved}
+use Rattle.markdown_document.specs.ChainRest.{begun_at, cut_shape, end_of, joined_chains, open_body, past, past_byte}
+use Rattle.markdown_document.specs.ChainRest.{start_of}
+use Rattle.markdown_document.specs.Document.{Tags, Shape, leaf, enclosed, plain, backslash_break, unresolved, Label}
+use Rattle.markdown_document.specs.Document.{as_text, is_unresolved}
 use Rattle.markdown_document.specs.Labels.{Begins}
 use Rattle.markdown_document.specs.Setting.{Setting, Known}
 use Rattle.markdown_document.specs.Waiting.{is_quiet, waits_for_pairing}
@@ -96,7 +103,8 @@ module _ {A : Type 0} where
   IsWholeAt source a after = RunsAreWhole source (by_place a) (option_map by_place (first_root after))
 
   -- so it is where the label is not a run's character
-  whole_other : (source : List ℕ) (a : Label A) (after : Forest (Label A)) → run_character (open_body a.part.shape) ≡ None
+  whole_other : (source : List ℕ) (a : Label A) (after : Forest (Label A)) → run_character (open_body a.part.shape)
+      ≡ None
       → IsWholeAt source a after
   whole_other source a after none = rw none tt
 
@@ -144,7 +152,8 @@ module _ {A : Type 0} where
       } in p)
       (cut_run (i - start_of a) a.part.shape)
 
-  begun_whole : (source : List ℕ) (i : ℕ) (a : Label A) (after : Forest (Label A)) → i < end_of a → (o : Option RunCharacter)
+  begun_whole : (source : List ℕ) (i : ℕ) (a : Label A) (after : Forest (Label A)) → i < end_of a
+      → (o : Option RunCharacter)
       → run_character (open_body a.part.shape) ≡ o
       → IsWholeAt source a after → IsWholeAt source (begun_at i a) after
   begun_whole source i a after past None e w = whole_other source (begun_at i a) after
@@ -156,7 +165,8 @@ module _ {A : Type 0} where
       (sym (begun_place i a (same_start (start_of a) (end_of a) i whole.one_byte past))) w
 
   -- what is left of a chain past a byte offset is whole
-  past_byte_whole : (source : List ℕ) (i : ℕ) (f : Forest (Label A)) → RunsStandWhole source f → RunsStandWhole source (past_byte i f)
+  past_byte_whole : (source : List ℕ) (i : ℕ) (f : Forest (Label A)) → RunsStandWhole source f
+      → RunsStandWhole source (past_byte i f)
   past_byte_whole source i nil w = tt
   past_byte_whole source i (node a below after) w = by (nat_le (end_of a) i) refl (past_byte_whole source i after w.2)
     where
@@ -175,7 +185,8 @@ module _ {A : Type 0} where
   past_whole source (Some i) f w = past_byte_whole source i f w
 
   -- an item that is not a run's character can be replaced by another such item, or by none
-  before_other : (source : List ℕ) (b d : Label A) (x y f g : Forest (Label A)) → run_character (open_body b.part.shape) ≡ None
+  before_other : (source : List ℕ) (b d : Label A) (x y f g : Forest (Label A)) → run_character (open_body b.part.shape)
+      ≡ None
       → run_character (open_body d.part.shape) ≡ None
       → (a : Label A) → IsWholeAt source a (node b x f) → IsWholeAt source a (node d y g)
   before_other source b d x y f g was is a h = run_other source (by_place a) (by_place b) (by_place d)
@@ -183,23 +194,28 @@ module _ {A : Type 0} where
 
   before_none : (source : List ℕ) (b : Label A) (x f : Forest (Label A)) → run_character (open_body b.part.shape) ≡ None
       → (a : Label A) → IsWholeAt source a (node b x f) → IsWholeAt source a nil
-  before_none source b x f was a h = run_none source (by_place a) (by_place b) (run_character (open_body a.part.shape)) was h
+  before_none source b x f was a h = run_none source (by_place a) (by_place b) (run_character (open_body a.part.shape))
+      was h
 
-  before_closed : (source : List ℕ) (b : Label A) (below rest trees others : Forest (Label A)) → Begins trees → AllClosed trees
+  before_closed : (source : List ℕ) (b : Label A) (below rest trees others : Forest (Label A)) → Begins trees
+      → AllClosed trees
       → run_character (open_body b.part.shape) ≡ None
       → (a : Label A) → IsWholeAt source a (node b below rest) → IsWholeAt source a (joined_chains trees others)
   before_closed source b below rest nil others begins closed none a w = absurd begins
   before_closed source b below rest (node d inner after) others begins closed none a w =
-      before_other source b d below inner rest (joined_chains after others) none (closed_no_run d.part.shape closed.0) a w
+      before_other source b d below inner rest (joined_chains after others) none (closed_no_run d.part.shape closed.0) a
+      w
 
   -- something else can follow a left list, if runs are whole in it and continue as they did
-  behind_whole : (source : List ℕ) (left : List (Entry A)) (f : Forest (Label A)) → RunsStandWhole source (trees_onto left f)
+  behind_whole : (source : List ℕ) (left : List (Entry A)) (f : Forest (Label A))
+      → RunsStandWhole source (trees_onto left f)
       → RunsStandWhole source f
   behind_whole source [] f w = w
   behind_whole source (done a below ∷ left) f w = (behind_whole source left (node a below f) w).2
   behind_whole source (waits m a ∷ left) f w = (behind_whole source left (node a nil f) w).2
 
-  other_whole : (source : List ℕ) (left : List (Entry A)) (f g : Forest (Label A)) → RunsStandWhole source (trees_onto left f)
+  other_whole : (source : List ℕ) (left : List (Entry A)) (f g : Forest (Label A))
+      → RunsStandWhole source (trees_onto left f)
       → RunsStandWhole source g
       → ((a : Label A) → IsWholeAt source a f → IsWholeAt source a g) → RunsStandWhole source (trees_onto left g)
   other_whole source [] f g w whole goes = whole
@@ -251,7 +267,8 @@ module _ {A : Type 0} where
   closed_marks f (done a below ∷ left) h = closed_marks f left h
   closed_marks f (waits m a ∷ left) h = (h.0, closed_marks f left h.1)
 
-  same_second : (left : List (Entry A)) (later : Forest (Label A)) → trees_onto (second_folded left) later ≡ trees_onto left later
+  same_second : (left : List (Entry A)) (later : Forest (Label A)) → trees_onto (second_folded left) later
+      ≡ trees_onto left later
   same_second [] later = refl
   same_second (done a below ∷ left) later = refl
   same_second (waits m a ∷ left) later = refl
@@ -261,7 +278,8 @@ module _ {A : Type 0} where
   closed_second (done a below ∷ left) h = h
   closed_second (waits m a ∷ left) h = h
 
-  same_link : (is_image : Bool) (left : List (Entry A)) (later : Forest (Label A)) → trees_onto (before_link is_image left) later
+  same_link : (is_image : Bool) (left : List (Entry A)) (later : Forest (Label A))
+      → trees_onto (before_link is_image left) later
       ≡ trees_onto left later
   same_link true left later = same_second left later
   same_link false left later = same_marks disabled_mark (second_folded left) later ∙ same_second left later
@@ -272,7 +290,8 @@ module _ {A : Type 0} where
 
   -- a left list at an opener
   record SplitWhole (left : List (Entry A)) (o : Split A) : Type 0 where
-    splits : (later : Forest (Label A)) → trees_onto left later ≡ trees_onto o.before (node o.opener nil (trees_onto o.after later))
+    splits : (later : Forest (Label A)) → trees_onto left later
+        ≡ trees_onto o.before (node o.opener nil (trees_onto o.after later))
     closed : is_unresolved o.opener.part.shape ≡ false
     before : WaitsClosed o.before
 
@@ -285,9 +304,11 @@ module _ {A : Type 0} where
     before =
         h.before;
   }
-  split_behind (waits m a) left (Some o) h = record { splits = λ later. h.splits (node a nil later); closed = h.closed; before = h.before }
+  split_behind (waits m a) left (Some o) h = record
+      { splits = λ later. h.splits (node a nil later); closed = h.closed; before = h.before }
 
-  split_at : (opens : Mark → Bool) (left : List (Entry A)) → WaitsClosed left → IfSome (nearest opens left) (SplitWhole left)
+  split_at : (opens : Mark → Bool) (left : List (Entry A)) → WaitsClosed left
+      → IfSome (nearest opens left) (SplitWhole left)
   split_at opens [] h = tt
   split_at opens (done a below ∷ left) h = split_behind (done a below) left (nearest opens left) (split_at opens left h)
   split_at opens (waits m a ∷ left) h = by (opens m) (split_at opens left h.1)
@@ -298,7 +319,8 @@ module _ {A : Type 0} where
       by true k = record { splits = λ later. refl; closed = h.0; before = h.1 }
       by false k = split_behind (waits m a) left (nearest opens left) k
 
-  past_second_whole : (source : List ℕ) (f : Forest (Label A)) → RunsStandWhole source f → RunsStandWhole source (past_second f)
+  past_second_whole : (source : List ℕ) (f : Forest (Label A)) → RunsStandWhole source f
+      → RunsStandWhole source (past_second f)
   past_second_whole source nil w = tt
   past_second_whole source (node a below after) w = w.2
 
@@ -311,30 +333,36 @@ module _ {A : Type 0} where
     whole : (later : Forest (Label A)) → RunsStandWhole source later → RunsStandWhole source (trees_onto left later)
     waiting : WaitsClosed left
 
-  module _ (w : Around) (c : Closing A) (rest : Forest (Label A)) (closer : run_character (open_body c.label.part.shape) ≡ None) where
+  module _ (w : Around) (c : Closing A) (rest : Forest (Label A)) (closer : run_character (open_body c.label.part.shape)
+      ≡ None) where
     abbrev source : List ℕ
     source = w.setting.text
 
     -- an opener at which something is put, which is not open, over what is inside
-    module _ (left : List (Entry A)) (o : Split A) (q : WholeBefore source c.label rest left) (s : SplitWhole left o) where
-      around_opener : RunsStandWhole source (trees_onto o.before (node o.opener nil (trees_onto o.after (node c.label nil rest))))
-      around_opener = subst (RunsStandWhole source) (s.splits (node c.label nil rest)) q.whole
+    module _ (left : List (Entry A)) (o : Split A) (q : WholeBefore source c.label rest left) (s : SplitWhole left o)
+      where
+        around_opener : RunsStandWhole source
+            (trees_onto o.before (node o.opener nil (trees_onto o.after (node c.label nil rest))))
+        around_opener = subst (RunsStandWhole source) (s.splits (node c.label nil rest)) q.whole
 
-      inside_whole : RunsStandWhole source (inside o)
-      inside_whole =
-          let here = behind_whole source o.before (node o.opener nil (trees_onto o.after (node c.label nil rest))) around_opener in
-          other_whole source o.after (node c.label nil rest) nil here.2 tt (before_none source c.label nil rest closer)
+        inside_whole : RunsStandWhole source (inside o)
+        inside_whole =
+            let here = behind_whole source o.before (node o.opener nil (trees_onto o.after (node c.label nil rest)))
+            around_opener in
+            other_whole source o.after (node c.label nil rest) nil here.2 tt (before_none source c.label nil rest closer)
 
-      put_whole : (d : Label A) (below later : Forest (Label A)) → run_character (open_body d.part.shape) ≡ None
-          → RunsStandWhole source below → RunsStandWhole source later
-          → RunsStandWhole source (trees_onto o.before (node d below later))
-      put_whole d below later none inner outer =
-          other_whole source o.before (node o.opener nil (trees_onto o.after (node c.label nil rest))) (node d below later) around_opener
-          (whole_other source d later none, inner, outer)
-          (before_other source o.opener d nil below (trees_onto o.after (node c.label nil rest)) later
-          (closed_no_run o.opener.part.shape s.closed) none)
+        put_whole : (d : Label A) (below later : Forest (Label A)) → run_character (open_body d.part.shape) ≡ None
+            → RunsStandWhole source below → RunsStandWhole source later
+            → RunsStandWhole source (trees_onto o.before (node d below later))
+        put_whole d below later none inner outer =
+            other_whole source o.before (node o.opener nil (trees_onto o.after (node c.label nil rest)))
+            (node d below later) around_opener
+            (whole_other source d later none, inner, outer)
+            (before_other source o.opener d nil below (trees_onto o.after (node c.label nil rest)) later
+            (closed_no_run o.opener.part.shape s.closed) none)
 
-    footnote_whole : (i : Bool) (left : List (Entry A)) (o : Split A) (name : List ℕ) → WholeBefore source c.label rest left
+    footnote_whole : (i : Bool) (left : List (Entry A)) (o : Split A) (name : List ℕ)
+        → WholeBefore source c.label rest left
         → SplitWhole left o
         → WholeAfter source (footnote_onto w c i o.opener name (before_footnote o.before))
     footnote_whole false left o name q s = record {
@@ -357,20 +385,24 @@ module _ {A : Type 0} where
     whole_cases : Cases w c (WholeBefore source c.label rest) (WholeAfter source)
     whole_cases = record {
       bracket_goes = λ left q. record {
-        whole = subst (RunsStandWhole source) (sym (same_change opens_bracket without_bracket left (node c.label nil rest))) q.whole;
+        whole = subst (RunsStandWhole source)
+            (sym (same_change opens_bracket without_bracket left (node c.label nil rest))) q.whole;
         waiting = closed_change opens_bracket without_bracket left q.waiting;
       };
       wikilink_goes = λ left q. record {
-        whole = subst (RunsStandWhole source) (sym (same_change opens_wikilink without_wikilink left (node c.label nil rest))) q.whole;
+        whole = subst (RunsStandWhole source)
+            (sym (same_change opens_wikilink without_wikilink left (node c.label nil rest))) q.whole;
         waiting = closed_change opens_wikilink without_wikilink left q.waiting;
       };
       text = λ left q. record {
-        whole = λ later k. other_whole source left (node c.label nil rest) (node (as_text source c.label) nil later) q.whole (tt, tt, k)
+        whole = λ later k. other_whole source left (node c.label nil rest) (node (as_text source c.label) nil later)
+            q.whole (tt, tt, k)
             (before_other source c.label (as_text source c.label) nil nil rest later closer refl);
         waiting = q.waiting;
       };
       link = λ left o target end q found live.
-          let s = some_of (nearest opens_bracket left) o (SplitWhole left) found (split_at opens_bracket left q.waiting) in
+          let s = some_of (nearest opens_bracket left) o (SplitWhole left) found (split_at opens_bracket left q.waiting)
+          in
           record {
             whole = λ later k. subst (RunsStandWhole source)
                 (sym (same_link o.mark.is_image o.before (node (linked o target end) (inside o) later)))
@@ -381,27 +413,34 @@ module _ {A : Type 0} where
           footnote_whole o.mark.is_image left o name q (some_of (nearest opens_bracket left) o (SplitWhole left) found
           (split_at opens_bracket left q.waiting));
       wikilink = λ left o v end q found live is.
-          let s = some_of (nearest opens_wikilink left) o (SplitWhole left) found (split_at opens_wikilink left q.waiting) in
-          let children = some_of (wikilink_in w (past_second (inside o)) (start_of c.label)) v (λ (v : Wikilink A). RunsStandWhole source
+          let s = some_of (nearest opens_wikilink left) o (SplitWhole left) found
+          (split_at opens_wikilink left q.waiting) in
+          let children = some_of (wikilink_in w (past_second (inside o)) (start_of c.label)) v
+          (λ (v : Wikilink A). RunsStandWhole source
           v.children) is
-          (wikilink_keeps w (RunsStandWhole source) (λ a x y. (tt, tt, tt)) (λ i f h. past_byte_whole source i f h) (past_second (inside o))
+          (wikilink_keeps w (RunsStandWhole source) (λ a x y. (tt, tt, tt)) (λ i f h. past_byte_whole source i f h)
+          (past_second (inside o))
           (start_of c.label)
           (past_second_whole source (inside o) (inside_whole left o q s))) in
           record {
             whole = λ later k. subst (RunsStandWhole source)
-                (sym (same_marks without_wikilink (on_marks disabled_mark o.before) _ ∙ same_marks disabled_mark o.before _))
+                (sym (same_marks without_wikilink (on_marks disabled_mark o.before) _
+                ∙ same_marks disabled_mark o.before _))
                 (put_whole left o q s (linked o (wikilink_target v) end) v.children later refl children k);
-            waiting = closed_marks without_wikilink (on_marks disabled_mark o.before) (closed_marks disabled_mark o.before s.before);
+            waiting = closed_marks without_wikilink (on_marks disabled_mark o.before)
+                (closed_marks disabled_mark o.before s.before);
           };
     }
 
   -- trees put onto a left list
-  onto_done : (trees : Forest (Label A)) (left : List (Entry A)) (later : Forest (Label A)) → trees_onto (all_done trees left) later
+  onto_done : (trees : Forest (Label A)) (left : List (Entry A)) (later : Forest (Label A))
+      → trees_onto (all_done trees left) later
       ≡ trees_onto left (joined_chains trees later)
   onto_done nil left later = refl
   onto_done (node a below after) left later = onto_done after (done a below ∷ left) later
 
-  closed_done : (trees : Forest (Label A)) (left : List (Entry A)) → WaitsClosed left → WaitsClosed (all_done trees left)
+  closed_done : (trees : Forest (Label A)) (left : List (Entry A)) → WaitsClosed left
+      → WaitsClosed (all_done trees left)
   closed_done nil left h = h
   closed_done (node a below after) left h = closed_done after (done a below ∷ left) h
 
@@ -429,8 +468,10 @@ module _ {A : Type 0} where
             record {
               whole = subst (RunsStandWhole s.text) (sym (onto_done trees p.left later))
                   (other_whole s.text p.left (node a below rest) (joined_chains trees later) w
-                  (joined_whole s.text trees later (closed_trees s fresh a found) (past_whole s.text (end_of_find found) rest here.2))
-                  (before_closed s.text a below rest trees later (begins_trees s fresh a found) (closed_trees s fresh a found)
+                  (joined_whole s.text trees later (closed_trees s fresh a found)
+                  (past_whole s.text (end_of_find found) rest here.2))
+                  (before_closed s.text a below rest trees later (begins_trees s fresh a found)
+                  (closed_trees s fresh a found)
                   (quiet_no_run a.part.shape q)));
               waiting = closed_done trees p.left waiting;
             }
@@ -449,7 +490,8 @@ module _ {A : Type 0} where
           waiting = (refl, waiting);
         }
 
-    closed_step : (could : Bool) (a : Label A) (below rest : Forest (Label A)) (p : Progress A) → run_character (open_body a.part.shape)
+    closed_step : (could : Bool) (a : Label A) (below rest : Forest (Label A)) (p : Progress A)
+        → run_character (open_body a.part.shape)
         ≡ None
         → RunsStandWhole s.text (trees_onto p.left (node a below rest)) → WaitsClosed p.left
         → WholeSoFar s.text (closed (around s above) (closing_of could a rest p) p) rest
@@ -463,38 +505,49 @@ module _ {A : Type 0} where
         let after = in_each_case (around s above) c (WholeBefore s.text a rest) (WholeAfter s.text)
         (whole_cases (around s above) c rest no_run) p before in
         record {
-          whole = after.whole (past (closed (around s above) c p).goes_on rest) (past_whole s.text (closed (around s above) c p).goes_on
+          whole = after.whole (past (closed (around s above) c p).goes_on rest)
+              (past_whole s.text (closed (around s above) c p).goes_on
               rest here.2);
           waiting = after.waiting;
         }
 
-    step : (b : ItemBody) (a : Label A) (below rest : Forest (Label A)) (p : Progress A) → open_body a.part.shape ≡ b → p.goes_on ≡ None
+    step : (b : ItemBody) (a : Label A) (below rest : Forest (Label A)) (p : Progress A) → open_body a.part.shape ≡ b
+        → p.goes_on ≡ None
         → RunsStandWhole s.text (trees_onto p.left (node a below rest)) → WaitsClosed p.left
         → WholeSoFar s.text (read_as (around s above) (read_other s tags above) b a below rest p) rest
-    step body.MaybeLinkOpen a below rest p is none w waiting = opened_step false a below rest p none (ap run_character is) w waiting
-    step body.MaybeImage a below rest p is none w waiting = opened_step true a below rest p none (ap run_character is) w waiting
-    step (body.MaybeLinkClose could) a below rest p is none w waiting = closed_step could a below rest p (ap run_character is) w waiting
+    step body.MaybeLinkOpen a below rest p is none w waiting = opened_step false a below rest p none
+        (ap run_character is) w waiting
+    step body.MaybeImage a below rest p is none w waiting = opened_step true a below rest p none (ap run_character is) w
+        waiting
+    step (body.MaybeLinkClose could) a below rest p is none w waiting = closed_step could a below rest p
+        (ap run_character is) w waiting
     step other a below rest p is none w waiting = other_step a below rest p w waiting
 
-    past_step : (goes_on : Option ℕ) (a : Label A) (below rest : Forest (Label A)) (p : Progress A) → p.goes_on ≡ goes_on
+    past_step : (goes_on : Option ℕ) (a : Label A) (below rest : Forest (Label A)) (p : Progress A) → p.goes_on
+        ≡ goes_on
         → WholeSoFar s.text p (node a below rest)
         → WholeSoFar s.text (read_past (around s above) (read_other s tags above) goes_on a below rest p) rest
     past_step None a below rest p is so =
         step (open_body a.part.shape) a below rest p refl is
-        (subst (λ (o : Option ℕ). RunsStandWhole s.text (trees_onto p.left (past o (node a below rest)))) is so.whole) so.waiting
+        (subst (λ (o : Option ℕ). RunsStandWhole s.text (trees_onto p.left (past o (node a below rest)))) is so.whole)
+        so.waiting
     past_step (Some i) a below rest p is so =
-        by (nat_le (end_of a) i) (subst (λ (o : Option ℕ). RunsStandWhole s.text (trees_onto p.left (past o (node a below rest)))) is
+        by (nat_le (end_of a) i)
+        (subst (λ (o : Option ℕ). RunsStandWhole s.text (trees_onto p.left (past o (node a below rest)))) is
         so.whole)
       where
-        by : (ends : Bool) → RunsStandWhole s.text (trees_onto p.left (if ends then past_byte i rest else node (begun_at i a) below rest))
-            → WholeSoFar s.text (if ends then p else read (around s above) (read_other s tags above) (begun_at i a) below rest
+        by : (ends : Bool) → RunsStandWhole s.text
+            (trees_onto p.left (if ends then past_byte i rest else node (begun_at i a) below rest))
+            → WholeSoFar s.text (if ends then p else read (around s above) (read_other s tags above) (begun_at i a)
+            below rest
             (record p { goes_on = None })) rest
         by true w = record {
           whole = subst (λ (o : Option ℕ). RunsStandWhole s.text (trees_onto p.left (past o rest))) (sym is) w;
           waiting =
               so.waiting;
         }
-        by false w = step (open_body (begun_at i a).part.shape) (begun_at i a) below rest (record p { goes_on = None }) refl refl w
+        by false w = step (open_body (begun_at i a).part.shape) (begun_at i a) below rest (record p { goes_on = None })
+            refl refl w
             so.waiting
 
     chain_whole : (chain : Forest (Label A)) (p : Progress A) → WholeSoFar s.text p chain
@@ -505,7 +558,8 @@ module _ {A : Type 0} where
         chain_whole rest (read_past (around s above) (read_other s tags above) p.goes_on a below rest p)
         (past_step p.goes_on a below rest p refl so)
 
-    nothing_left : (left : List (Entry A)) (goes_on : Option ℕ) → RunsStandWhole s.text (trees_onto left (past goes_on nil))
+    nothing_left : (left : List (Entry A)) (goes_on : Option ℕ)
+        → RunsStandWhole s.text (trees_onto left (past goes_on nil))
         → RunsStandWhole s.text (trees_onto left nil)
     nothing_left left None w = w
     nothing_left left (Some i) w = w

@@ -1,7 +1,8 @@
 -- What a wikilink shows begins and ends between characters, as the items before its `]` do, and so does a text after a
 -- `|`, which is one byte. No byte offset cuts an open item of its body: only characters of runs and quotation marks are
 -- open there, of one byte each.
-use Rattle.std.proofs.Common.{◌≡◌, ℕ, ◌+◌, ◌-◌, ◌<◌, ◌≤◌, ◌⊎◌, inl, inr, Bool, true, false, ◌==◌, List, [], ◌∷◌, Option, Some, None, IsUtf8}
+use Rattle.std.proofs.Common.{◌≡◌, ℕ, ◌+◌, ◌-◌, ◌<◌, ◌≤◌, ◌⊎◌, inl, inr, Bool, true, false, ◌==◌, List, [], ◌∷◌, Option}
+use Rattle.std.proofs.Common.{Some, None, IsUtf8}
 use Rattle.std.proofs.Common.{length, take, drop, get_or, max, refl, sym, ap, ◌∙◌, subst, arith}
 use Rattle.std.specs.Prelude.{IfSome, if◌then◌else◌, nat_le, nat_lt, position, slice_range, ⊤}
 use Rattle.std.specs.List.{position_or_len}
@@ -21,9 +22,11 @@ use Rattle.markdown_base.specs.declared.item.Item.{Item}
 use Rattle.markdown_base.specs.declared.item.ItemBody.{ItemBody}
 use Rattle.markdown_base.specs.declared.item.ItemBody.TheVariants as body
 use Rattle.markdown_base.specs.declared.node.Node.{Node}
-use Rattle.markdown_brackets.specs.BracketDecision.{Around, Wikilink, shown_children, if_some, past_second, wikilink_by, wikilink_in}
+use Rattle.markdown_brackets.specs.BracketDecision.{Around, Wikilink, shown_children, if_some, past_second, wikilink_by}
+use Rattle.markdown_brackets.specs.BracketDecision.{wikilink_in}
 use Rattle.markdown_brackets.specs.LeftList.{Mark, Entry, Split, inside, nearest, trees_onto}
-use Rattle.markdown_brackets.specs.Wikilink.{Shows, WikilinkBody, cut_at, has_pothole, named, shown_from, shows_from, shows_name}
+use Rattle.markdown_brackets.specs.Wikilink.{Shows, WikilinkBody, cut_at, has_pothole, named, shown_from, shows_from}
+use Rattle.markdown_brackets.specs.Wikilink.{shows_name}
 use Rattle.markdown_brackets.specs.Wikilink.{shows_nothing, wikilink_body}
 use Rattle.markdown_brackets.proofs.OpenerHeldLemmas.{splits_at}
 use Rattle.markdown_brackets.proofs.WikilinkPipeLemmas.{some_in_block}
@@ -71,8 +74,10 @@ waiting_long bytes (body.MaybeSmartQuote quote opens closes) waits markup run = 
 waiting_long bytes other waits markup run = absurd (cc waits)
 
 -- so it is of an item of an arena that is quiet
-numbered_lies : (source : List ℕ) (tables : Tables) (nodes : List (Node Item)) (ix : ℕ) → IsPlaced source tables nodes ix
-    → is_quiet (numbered_label source tables nodes ix).part.shape ≡ true → LabelLies source (numbered_label source tables nodes ix)
+numbered_lies : (source : List ℕ) (tables : Tables) (nodes : List (Node Item)) (ix : ℕ)
+    → IsPlaced source tables nodes ix
+    → is_quiet (numbered_label source tables nodes ix).part.shape ≡ true
+    → LabelLies source (numbered_label source tables nodes ix)
 numbered_lies source tables nodes ix placed quiet =
     let item = item_at nodes ix in
     let bytes = slice_range source item.start item.end in
@@ -84,7 +89,8 @@ numbered_lies source tables nodes ix placed quiet =
       short = λ opens.
           let shape = shape-open tables bytes item.body (open-unresolved tables bytes item.body opens) in
           let waits : waits_for_pairing item.body ≡ true = sym (ap is_quiet shape) ∙ quiet in
-          let run = one_byte source (numbered nodes ix) (next_at nodes ix) (run_character item.body) bytes size placed.keeps.runs_are_whole
+          let run = one_byte source (numbered nodes ix) (next_at nodes ix) (run_character item.body) bytes size
+          placed.keeps.runs_are_whole
           in
           let long = waiting_long bytes item.body waits placed.keeps.markup_is_there run in
           omega (arith, size, long);
@@ -97,7 +103,8 @@ first_lies source tables nodes f nil h placed e quiet = tt
 first_lies source tables nodes nil (node a below after) h placed e quiet = absurd (cc e)
 first_lies source tables nodes (node ix inner later) (node a below after) h placed e quiet =
     let same : numbered_label source tables nodes ix ≡ a = cc e in
-    let shape : is_quiet (numbered_label source tables nodes ix).part.shape ≡ true = ap (λ (b : Label ℕ). is_quiet b.part.shape) same
+    let shape : is_quiet (numbered_label source tables nodes ix).part.shape
+    ≡ true = ap (λ (b : Label ℕ). is_quiet b.part.shape) same
     ∙ quiet.0 in
     let rest : relabelled (numbered_label source tables nodes) later ≡ joined_chains after h = cc e in (
       subst (LabelLies source) same (numbered_lies source tables nodes ix placed.0 shape),
@@ -106,24 +113,29 @@ first_lies source tables nodes (node ix inner later) (node a below after) h plac
     )
 
 -- the trees of a left list that stands in an arena
-pub left_lies : (source : List ℕ) (tables : Tables) (nodes : List (Node Item)) (first : ℕ) (at : Option ℕ) (left : List (Entry ℕ))
+pub left_lies : (source : List ℕ) (tables : Tables) (nodes : List (Node Item)) (first : ℕ) (at : Option ℕ)
+    (left : List (Entry ℕ))
     → StandsTo source tables nodes first at left
     → AllLie source (trees_onto left nil)
 left_lies source tables nodes first at left h =
     let r = rest_of source tables nodes first at left h in
-    first_lies source tables nodes (forest_at (links_of nodes) (Some first)) (trees_onto left nil) _ h.ready.reaches.each r.whole h.quiet
+    first_lies source tables nodes (forest_at (links_of nodes) (Some first)) (trees_onto left nil) _
+    h.ready.reaches.each r.whole h.quiet
 
 -- and those inside an opener of it, past the second
-pub inside_lies : (source : List ℕ) (test : Mark → Bool) (left : List (Entry ℕ)) (o : Split ℕ) → AllLie source (trees_onto left nil)
+pub inside_lies : (source : List ℕ) (test : Mark → Bool) (left : List (Entry ℕ)) (o : Split ℕ)
+    → AllLie source (trees_onto left nil)
     → nearest test left ≡ Some o
     → AllLie source (past_second (inside o))
 inside_lies source test left o h found =
     let splits = subst (λ (s : Option (Split ℕ)). IfSome s (λ o. (later : Forest (Label ℕ))
     → trees_onto left later ≡ trees_onto o.before (node o.opener nil (trees_onto o.after later))))
     found (splits_at test left) in
-    let whole : trees_onto left nil ≡ joined_chains (trees_onto o.before nil) (node o.opener nil (inside o)) = splits nil
+    let whole : trees_onto left nil ≡ joined_chains (trees_onto o.before nil) (node o.opener nil (inside o)) = splits
+    nil
     ∙ onto_split o.before (node o.opener nil (inside o)) in
-    let all = second_lies source (trees_onto o.before nil) (node o.opener nil (inside o)) (subst (AllLie source) whole h) in
+    let all = second_lies source (trees_onto o.before nil) (node o.opener nil (inside o))
+    (subst (AllLie source) whole h) in
     past_second_lies source (inside o) all.1
 
 -- no byte offset cuts one of them that is open
@@ -135,20 +147,24 @@ none_cut source i (node a below after) h = by (nat_le (end_of a) i) refl (none_c
     by_shape true e starts ends = let short = h.0.short e in absurd (omega (arith, short, starts, ends))
     by_shape false e starts ends = refl
 
-    by : (ended : Bool) → nat_le (end_of a) i ≡ ended → NoneOpenAround i after → IsNotCut ended i a (NoneOpenAround i after)
+    by : (ended : Bool) → nat_le (end_of a) i ≡ ended → NoneOpenAround i after
+        → IsNotCut ended i a (NoneOpenAround i after)
     by true e later = later
-    by false e later = λ starts. let ends : i < end_of a = grind (arith, nat_tests) in by_shape (is_unresolved a.part.shape) refl starts
+    by false e later = λ starts. let ends : i < end_of a = grind (arith, nat_tests) in by_shape
+        (is_unresolved a.part.shape) refl starts
         ends
 
 -- what is left of them past a byte offset between characters begins and ends between characters
-max_between : (source : List ℕ) (s i : ℕ) → IsCharBoundary source s → IsCharBoundary source i → IsCharBoundary source (max s i)
+max_between : (source : List ℕ) (s i : ℕ) → IsCharBoundary source s → IsCharBoundary source i
+    → IsCharBoundary source (max s i)
 max_between source s i hs hi = by (cases_lt s i)
   where
     by : (s < i) ⊎ (i ≤ s) → IsCharBoundary source (max s i)
     by (inl l) = let same : i ≡ max s i = omega (arith, l) in subst (IsCharBoundary source) same hi
     by (inr l) = let same : s ≡ max s i = omega (arith, l) in subst (IsCharBoundary source) same hs
 
-past_lies : (source : List ℕ) (i : ℕ) (f : Forest (Label ℕ)) → AllLie source f → IsCharBoundary source i → FirstLies source (past_byte i f)
+past_lies : (source : List ℕ) (i : ℕ) (f : Forest (Label ℕ)) → AllLie source f → IsCharBoundary source i
+    → FirstLies source (past_byte i f)
 past_lies source i nil h between = tt
 past_lies source i (node a below after) h between = by (nat_le (end_of a) i) refl (past_lies source i after h.1 between)
   where
@@ -178,10 +194,12 @@ shown_cut text start end at h = by (nat_lt at end)
     by true = h
     by false = h
 
-cut_is : (text : List ℕ) (start end : ℕ) (found : Option (ℕ × List ℕ)) → start < end → IfSome found (λ pipe. IsCharBoundary text pipe.0)
+cut_is : (text : List ℕ) (start end : ℕ) (found : Option (ℕ × List ℕ)) → start < end
+    → IfSome found (λ pipe. IsCharBoundary text pipe.0)
     → IfSome (cut_at text start end found) (λ b. IsCut text start end b.shows)
 cut_is text start end None order h = named_cut text start end (slice_range text start end) shows_name order
-cut_is text start end (Some pipe) order h = named_cut text start end pipe.1 (shown_from pipe.0 end) (shown_cut text start end pipe.0 h)
+cut_is text start end (Some pipe) order h = named_cut text start end pipe.1 (shown_from pipe.0 end)
+    (shown_cut text start end pipe.0 h)
 
 -- after a `|`
 pipe_between : (text : List ℕ) (start size : ℕ) → IsUtf8 text
@@ -200,10 +218,13 @@ pipe_between text start size utf8 = by (nat_lt n (length part)) refl
         (λ pipe. IsCharBoundary text pipe.0)
     by true e =
         let inside_part : n < length part = grind (arith, nat_tests) in
-        let is : get_or part n 0 ≡ 124 = eqb-true (get_or part n 0) 124 (passes_at_first (λ b. b == 124) part 0 inside_part) in
+        let is : get_or part n 0
+        ≡ 124 = eqb-true (get_or part n 0) 124 (passes_at_first (λ b. b == 124) part 0 inside_part) in
         let cut : n < size = omega (arith, inside_part, length-take size (drop start text)) in
-        let there : start + n < length text = omega (arith, inside_part, length-take size (drop start text), length-drop start text) in
-        let byte : get_or text (start + n) 0 ≡ 124 = sym (get_or-take size (drop start text) n 0 cut ∙ get_or-drop start text n 0) ∙ is in
+        let there : start + n < length text = omega
+        (arith, inside_part, length-take size (drop start text), length-drop start text) in
+        let byte : get_or text (start + n) 0
+        ≡ 124 = sym (get_or-take size (drop start text) n 0 cut ∙ get_or-drop start text n 0) ∙ is in
         let low : get_or text (start + n) 0 < 128 = omega (arith, byte) in
         IsCharBoundary-after_ascii text (start + n) utf8 there low
     by false e = tt
@@ -211,9 +232,11 @@ pipe_between text start size utf8 = by (nat_lt n (length part)) refl
 body_cut : (text : List ℕ) (block_end start end : ℕ) → IsUtf8 text
     → IfSome (wikilink_body text block_end start end) (λ b. IsCut text start end b.shows)
 body_cut text block_end start end utf8 = by (nat_lt start end) refl _
-    (some_in_block text block_end start (end - start) (λ pipe. IsCharBoundary text pipe.0) (pipe_between text start (end - start) utf8))
+    (some_in_block text block_end start (end - start) (λ pipe. IsCharBoundary text pipe.0)
+    (pipe_between text start (end - start) utf8))
   where
-    by : (order : Bool) → nat_lt start end ≡ order → (found : Option (ℕ × List ℕ)) → IfSome found (λ pipe. IsCharBoundary text pipe.0)
+    by : (order : Bool) → nat_lt start end ≡ order → (found : Option (ℕ × List ℕ))
+        → IfSome found (λ pipe. IsCharBoundary text pipe.0)
         → IfSome (if order then cut_at text start end found else None) (λ b. IsCut text start end b.shows)
     by true e found h = let before : start < end = grind (arith, nat_tests) in cut_is text start end found before h
     by false e found h = tt
@@ -232,8 +255,10 @@ children_lie w first f end (shows_nothing at) all starts ends cut = (omega arith
 children_lie w first f end (shows_from at) all starts ends cut = some_lies w.setting.text (past_byte at f)
     (past_lies w.setting.text at f all cut)
 
-made_lies : (source : List ℕ) (b : WikilinkBody) (children : Option (Forest (Label ℕ))) → IfSome children (FirstLies source)
-    → IfSome {T = Wikilink ℕ} (option_map (λ children. record { name = b.name; has_pothole = has_pothole b.shows; children = children })
+made_lies : (source : List ℕ) (b : WikilinkBody) (children : Option (Forest (Label ℕ)))
+    → IfSome children (FirstLies source)
+    → IfSome {T = Wikilink ℕ}
+    (option_map (λ children. record { name = b.name; has_pothole = has_pothole b.shows; children = children })
     children) (λ v. FirstLies source v.children)
 made_lies source b None h = tt
 made_lies source b (Some children) h = h
@@ -242,18 +267,21 @@ wikilink_lies : (w : Around) (f : Forest (Label ℕ)) (end : ℕ) → IsUtf8 w.s
     → IsCharBoundary w.setting.text end
     → IfSome (wikilink_in w f end) (λ v. FirstLies w.setting.text v.children)
 wikilink_lies w nil end utf8 all ends = tt
-wikilink_lies w (node first below after) end utf8 all ends = by (wikilink_body w.setting.text w.above.block_end (start_of first) end)
+wikilink_lies w (node first below after) end utf8 all ends = by
+    (wikilink_body w.setting.text w.above.block_end (start_of first) end)
     (body_cut w.setting.text w.above.block_end (start_of first) end utf8)
   where
     by : (found : Option WikilinkBody) → IfSome found (λ b. IsCut w.setting.text (start_of first) end b.shows)
-        → IfSome (option_and_then (wikilink_by w first (node first below after) end) found) (λ v. FirstLies w.setting.text v.children)
+        → IfSome (option_and_then (wikilink_by w first (node first below after) end) found)
+        (λ v. FirstLies w.setting.text v.children)
     by None cut = tt
     by (Some b) cut =
         made_lies w.setting.text b (shown_children w first (node first below after) end b.shows)
         (children_lie w first (node first below after) end b.shows all all.0.starts ends cut)
 
 -- so a wikilink of this body shows what can be shown
-pub shows_well : (w : Around) (f : Forest (Label ℕ)) (end : ℕ) (v : Wikilink ℕ) → IsUtf8 w.setting.text → AllLie w.setting.text f
+pub shows_well : (w : Around) (f : Forest (Label ℕ)) (end : ℕ) (v : Wikilink ℕ) → IsUtf8 w.setting.text
+    → AllLie w.setting.text f
     → IsCharBoundary w.setting.text end
     → wikilink_in w f end ≡ Some v → ShowsWell w.setting.text f v.children
 shows_well w f end v utf8 all ends e = record {
@@ -277,13 +305,16 @@ pipe_slice text start end order = by (position (λ b. b == 124) body)
     body = slice_range text start end
 
     by : (found : Option ℕ)
-        → IfSome {T = ℕ × List ℕ} (option_map (λ n. (start + n + 1, take n body)) found) (λ pipe. IsSliceWithin text start end pipe.1)
+        → IfSome {T = ℕ × List ℕ} (option_map (λ n. (start + n + 1, take n body)) found)
+        (λ pipe. IsSliceWithin text start end pipe.1)
     by None = tt
     by (Some n) =
         let size : n ≡ n - 0 = omega arith in
-        slice_inside text start end n (take n body) order (slice_between body 0 n (take n body) (ap (λ k. take k body) size))
+        slice_inside text start end n (take n body) order
+        (slice_between body 0 n (take n body) (ap (λ k. take k body) size))
 
-cut_slice : (text : List ℕ) (start end : ℕ) (found : Option (ℕ × List ℕ)) → IfSome found (λ pipe. IsSliceWithin text start end pipe.1)
+cut_slice : (text : List ℕ) (start end : ℕ) (found : Option (ℕ × List ℕ))
+    → IfSome found (λ pipe. IsSliceWithin text start end pipe.1)
     → IfSome (cut_at text start end found) (λ b. IsSliceWithin text start end b.name)
 cut_slice text start end None h = named_slice text start end (slice_range text start end) shows_name
     (slice_between text start end (slice_range text start end) refl)
@@ -309,8 +340,10 @@ name_slice w nil end = tt
 name_slice w (node first below after) end = by (wikilink_body w.setting.text w.above.block_end (start_of first) end)
     (body_slice w.setting.text w.above.block_end (start_of first) end)
   where
-    made : (b : WikilinkBody) (children : Option (Forest (Label ℕ))) → IsSliceWithin w.setting.text (start_of first) end b.name
-        → IfSome {T = Wikilink ℕ} (option_map (λ children. record { name = b.name; has_pothole = has_pothole b.shows; children = children })
+    made : (b : WikilinkBody) (children : Option (Forest (Label ℕ))) → IsSliceWithin w.setting.text (start_of first) end
+        b.name
+        → IfSome {T = Wikilink ℕ}
+        (option_map (λ children. record { name = b.name; has_pothole = has_pothole b.shows; children = children })
         children) (λ v. IsSliceWithin w.setting.text (start_of first) end v.name)
     made b None h = tt
     made b (Some children) h = h
@@ -323,5 +356,6 @@ name_slice w (node first below after) end = by (wikilink_body w.setting.text w.a
 
 pub names_slice : (w : Around) (f : Forest (Label ℕ)) (end : ℕ) (v : Wikilink ℕ) → wikilink_in w f end ≡ Some v
     → IsNamedIn w.setting.text f end v.name
-names_slice w f end v e = subst (λ (found : Option (Wikilink ℕ)). IfSome found (λ v. IsNamedIn w.setting.text f end v.name)) e
+names_slice w f end v e = subst
+    (λ (found : Option (Wikilink ℕ)). IfSome found (λ v. IsNamedIn w.setting.text f end v.name)) e
     (name_slice w f end)

@@ -10,7 +10,8 @@ use Rattle.markdown_base.specs.declared.item.Item.{Item}
 use Rattle.markdown_base.specs.declared.node.Node.{Node}
 use Rattle.markdown_base.proofs.ForestLemmas.{roots-relabelled}
 use Rattle.markdown_document.specs.Above.{Above}
-use Rattle.markdown_document.specs.Counts.{ChainCounts, RisesAtLeast, RisesAtMost, risen, WorkRises, comparisons_per_delimiter}
+use Rattle.markdown_document.specs.Counts.{ChainCounts, RisesAtLeast, RisesAtMost, risen, WorkRises}
+use Rattle.markdown_document.specs.Counts.{comparisons_per_delimiter}
 use Rattle.markdown_document.specs.Document.{plain_tags}
 use Rattle.markdown_document.specs.Places.{label_at, trees_from}
 use Rattle.markdown_document.specs.Setting.{Known, Setting}
@@ -33,8 +34,14 @@ chain_items source tables nodes l =
     ∙ length-map (roots (forest_at (links_of nodes) l)) (label_at source tables nodes)
 
 -- the same rise
-same_rise : (most most' old new new' : ℕ) → most' ≡ most → new' ≡ new → RisesAtMost most old new → RisesAtMost most' old new'
-same_rise most most' old new new' e e' r = record { more = r.more; within = omega (arith, e, r.within); counted = e' ∙ r.counted }
+same_rise : (most most' old new new' : ℕ) → most' ≡ most → new' ≡ new → RisesAtMost most old new
+    → RisesAtMost most' old new'
+same_rise most most' old new new' e e' r = record {
+  more = r.more;
+  within = omega (arith, e, r.within);
+  counted = e'
+      ∙ r.counted;
+}
 
 -- what pairing makes of the counts, with these numbers of delimiter characters and of searches that find
 pub record PairCounts (delimiters found : ℕ) (old new : Work) : Type 0 where
@@ -46,7 +53,8 @@ found_by : (f f' old old' new : ℕ) → f ≡ f' → old ≡ old' → RisesAtLe
 found_by f f' old old' new e e' h = rw (sym e, sym e') h
 
 -- where a chain was read, the counts rose by those of a part of it: of its items, and of no delimiter character
-pub read_in_part : {C : Type 0} (s : Setting) (above : Above) (first : ℕ) (old : Stage C) (known : Known) (work new : Work)
+pub read_in_part : {C : Type 0} (s : Setting) (above : Above) (first : ℕ) (old : Stage C) (known : Known)
+    (work new : Work)
     → ReadCounts (items_from old.nodes (Some first)) work new
     → RisesInPart (chain_counts s plain_tags above (chain_at s.text old (Some first)) known) work new
 read_in_part s above first old known work new read =
@@ -61,9 +69,11 @@ read_in_part s above first old known work new read =
         delimiters = read.same_delimiters;
         examined = record { more = 0; within = omega arith; counted = read.same_examined };
         found = omega (arith, read.same_examined);
-        code_visits = same_rise (items_from old.nodes (Some first)) n.items work.code_visits new.code_visits new.code_visits items refl
+        code_visits = same_rise (items_from old.nodes (Some first)) n.items work.code_visits new.code_visits
+            new.code_visits items refl
             read.code;
-        math_visits = same_rise (items_from old.nodes (Some first)) n.items work.math_visits new.math_visits new.math_visits items refl
+        math_visits = same_rise (items_from old.nodes (Some first)) n.items work.math_visits new.math_visits
+            new.math_visits items refl
             read.math;
       };
     }
@@ -74,7 +84,8 @@ module _ {C : Type 0} (step : C → Question → Option Answer → C → Type 0)
     (r : ResolvesFrom step s.text (pass_one s plain_tags above) (Some first) old mid)
     (read : ReadCounts (items_from old.nodes (Some first)) work then) where
   abbrev counts_of : (later : Answers) → ChainCounts
-  counts_of later = chain_counts s plain_tags above (chain_at s.text old (Some first)) (known_at old (r.answers ++ later))
+  counts_of later = chain_counts s plain_tags above (chain_at s.text old (Some first))
+      (known_at old (r.answers ++ later))
 
   counts_paired : (found : ℕ) → PairCounts (delimiters_of (trees_at mid.nodes (Some first))) found then new
       → (later : Answers) → WorkRises (record (counts_of later) { found = found }) work new
@@ -84,7 +95,8 @@ module _ {C : Type 0} (step : C → Question → Option Answer → C → Type 0)
       let items = chain_items s.text old.tables old.nodes (Some first) in
       let left = delimiters_left step s above first old mid r later in
       record {
-        items = ap (λ (w : Work). w.items) paired.counted ∙ read.items_counted ∙ ap (λ k. risen k work.items) (sym items);
+        items = ap (λ (w : Work). w.items) paired.counted ∙ read.items_counted
+            ∙ ap (λ k. risen k work.items) (sym items);
         delimiters = ap (λ (w : Work). w.delimiters) paired.counted ∙ ap (risen d) read.same_delimiters
             ∙ ap (λ k. risen k work.delimiters) left;
         examined = record {
@@ -93,13 +105,16 @@ module _ {C : Type 0} (step : C → Question → Option Answer → C → Type 0)
           counted = paired.compared.counted ∙ ap (risen paired.compared.more) read.same_examined;
         };
         found = found_by found found then.examined work.examined new.examined refl read.same_examined paired.finds;
-        code_visits = same_rise (items_from old.nodes (Some first)) n.items work.code_visits then.code_visits new.code_visits items
+        code_visits = same_rise (items_from old.nodes (Some first)) n.items work.code_visits then.code_visits
+            new.code_visits items
             (ap (λ (w : Work). w.code_visits) paired.counted) read.code;
-        math_visits = same_rise (items_from old.nodes (Some first)) n.items work.math_visits then.math_visits new.math_visits items
+        math_visits = same_rise (items_from old.nodes (Some first)) n.items work.math_visits then.math_visits
+            new.math_visits items
             (ap (λ (w : Work). w.math_visits) paired.counted) read.math;
       }
 
-  pub counts_rise : PairCounts (delimiters_of (trees_at mid.nodes (Some first))) (finds_in s (chain_at s.text mid (Some first))) then new
+  pub counts_rise : PairCounts (delimiters_of (trees_at mid.nodes (Some first)))
+      (finds_in s (chain_at s.text mid (Some first))) then new
       → (later : Answers) → WorkRises (counts_of later) work new
   counts_rise paired later =
       subst (λ k. WorkRises (record (counts_of later) { found = k }) work new)

@@ -17,7 +17,8 @@ use Rattle.markdown_document.specs.Tables.{Tables}
 use Rattle.markdown_document.specs.NamedEntries.{Named, times_named}
 use Rattle.markdown_spans.specs.ChainInArena.{LeadsThrough}
 use Rattle.markdown_resolver.specs.Chains.{CanResolve}
-use Rattle.markdown_resolver.specs.Rewritten.{CanPut, IsRestPast, LeavesRest, MayBeCut, Rewrites, first_past, numbered_past_byte}
+use Rattle.markdown_resolver.specs.Rewritten.{CanPut, IsRestPast, LeavesRest, MayBeCut, Rewrites, first_past}
+use Rattle.markdown_resolver.specs.Rewritten.{numbered_past_byte}
 use Rattle.markdown_resolver.specs.declared.rest.Rest.{Rest}
 
 -- the first k trees of a chain

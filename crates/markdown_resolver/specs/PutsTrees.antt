@@ -34,7 +34,8 @@ pub record PutsTrees (source : List ℕ) (ix : ℕ) (next : Option ℕ) (trees r
   pub runs : RunsGoOn source old new (Some ix)
   -- the trees are in the arena, and what is left follows them
   pub standing : Forest (Label ℕ)
-  pub stands : numbered_from source tables' new (Some ix) ≡ joined_chains standing (numbered_from source tables' new next)
+  pub stands : numbered_from source tables' new (Some ix)
+      ≡ joined_chains standing (numbered_from source tables' new next)
   pub reads : without_numbers standing ≡ trees
   pub rest_is : trees_from source tables' new next ≡ rest
   -- nothing is open in the trees except what waits for pairing, and what is left can be resolved

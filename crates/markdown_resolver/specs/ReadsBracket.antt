@@ -76,8 +76,10 @@ pub record DecidesClosing {C : Type 0} (step : C → Question → Option Answer 
 pub record GoesOnTo {C : Type 0} (step : C → Question → Option Answer → C → Type 0) (place : ChainPlace) (ix : ℕ)
     (rest : Rest) (tree tree' : Arena Item) (old new : Resolver C) : Type 0 where
   pub reads : (first : ℕ) (left : List (Entry ℕ)) → WasReadTo place tree old first ix left
-      → ReadsOn step (setting_by old) (above_cursor old.text.now tree) first (Some ix) rest.next left (stage_by tree old)
-      (stage_by tree' new) old.waiting.spent new.waiting.spent new.waiting.openers.brackets new.waiting.openers.wikilinks
+      → ReadsOn step (setting_by old) (above_cursor old.text.now tree) first (Some ix) rest.next left
+      (stage_by tree old)
+      (stage_by tree' new) old.waiting.spent new.waiting.spent new.waiting.openers.brackets
+      new.waiting.openers.wikilinks
   pub passes : Passes ix rest tree.nodes tree'.nodes
   pub unread : IsUnread (chain_at old.text.now (stage_by tree old) (Some ix))
       → IsUnread (chain_at old.text.now (stage_by tree' new) rest.next)
@@ -121,7 +123,8 @@ abbrev pub StopsAtNode : {C : Type 0} → (C → Question → Option Answer → 
     → Arena Item → (old : Resolver C) → (callback' : Option C) → Type 0
 StopsAtNode step place ix tree old callback' = (first : ℕ) (left : List (Entry ℕ))
     → WasReadTo place tree old first ix left
-    → StopsOn step (setting_by old) (above_cursor old.text.now tree) (Some ix) left (stage_by tree old) old.waiting.spent
+    → StopsOn step (setting_by old) (above_cursor old.text.now tree) (Some ix) left (stage_by tree old)
+    old.waiting.spent
     callback'
 
 -- and searches have looked at no more items than there are from that node on

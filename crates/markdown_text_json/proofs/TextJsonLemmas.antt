@@ -80,7 +80,8 @@ module _ {F : Type 0} (step : F → Question → Option Answer → F → Type 0)
 
   -- so they are those of the text, where all of its reading was left
   events_of_text : (p : Parser F) (o : OffsetIter F) (text : List ℕ) (options : Options) (given : List PlacedEvent)
-      → offset_parser o ≡ p → (reads : ReadsText text options p) → parser_callback p ≡ None → Drains Steps o (placed_items given)
+      → offset_parser o ≡ p → (reads : ReadsText text options p) → parser_callback p ≡ None
+      → Drains Steps o (placed_items given)
       → (answers : Answers) → map ranged_view given ≡ ranged (events_of (reading_of reads.blocks false answers))
   events_of_text p o text options given is reads none all answers =
       let left = reads.left answers ∙ ap (λ (c : Option F). reading_of reads.blocks (is_some c) answers) none in
@@ -103,7 +104,8 @@ module _ {F : Type 0} (step : F → Question → Option Answer → F → Type 0)
   }
 
   -- and the entries of them are those of the text
-  pub outline_of_text : (p : Parser F) (o : OffsetIter F) (text old new : List ℕ) (entries : List EntryView) (options : Options)
+  pub outline_of_text : (p : Parser F) (o : OffsetIter F) (text old new : List ℕ) (entries : List EntryView)
+      (options : Options)
       → IsUtf8 text → offset_parser o ≡ p → ReadsText text options p → parser_callback p ≡ None → old ≡ []
       → IsOutlineOfAll Steps o entries → new ≡ old ++ outline_lines entries → IsOutlineJsonOf text options new
   outline_of_text p o text old new entries options utf8 is reads none empty all stands = record {

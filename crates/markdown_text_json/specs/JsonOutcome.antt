@@ -11,20 +11,21 @@ use Rattle.markdown_text_json.specs.TextJson.{IsJsonOf}
 
 -- what is left of the reader before a run and after it, where that is known; and the writer before and after, with what
 -- it holds, where that is known
-module _ {W : Type 0} (held : W → Option (List ℕ)) (options : Options) (unread left : Option (List ℕ)) (old new : W) where
-  -- everything was read, and what the writer held is followed by its lines with these options, whole or in part
-  pub record JsonIsWritten (stands : Option (List ℕ) → Option (List ℕ) → List ℕ → Type 0) : Type 0 where
-    pub all_read : IsAtEnd left
-    pub written : IfSome unread (λ bytes. (json : List ℕ) × IsJsonOf bytes options json
-        × stands (held old) (held new) json)
+module _ {W : Type 0} (held : W → Option (List ℕ)) (options : Options) (unread left : Option (List ℕ)) (old new : W)
+  where
+    -- everything was read, and what the writer held is followed by its lines with these options, whole or in part
+    pub record JsonIsWritten (stands : Option (List ℕ) → Option (List ℕ) → List ℕ → Type 0) : Type 0 where
+      pub all_read : IsAtEnd left
+      pub written : IfSome unread (λ bytes. (json : List ℕ) × IsJsonOf bytes options json
+          × stands (held old) (held new) json)
 
-  -- Where nothing failed, all lines have been written. Nothing is written before everything has been read and parsed;
-  -- where an allocation was refused, it may have been before that, or while writing.
-  abbrev pub LeavesJson : Result (Unit {0}) Failure → Type 0
-  LeavesJson (Ok done) = JsonIsWritten Appends
-  LeavesJson (Err ReadFailed) = new ≡ old
-  LeavesJson (Err NotText) = (new ≡ old) × IfSome unread (λ bytes. IsUtf8 bytes → ⊥)
-  LeavesJson (Err (Fault Memory)) = (new ≡ old) ⊎ JsonIsWritten AppendsKnownPrefix
-  LeavesJson (Err (Fault Depth)) = ⊥
-  LeavesJson (Err (Fault Blocks)) = ⊥
-  LeavesJson (Err WriteFailed) = JsonIsWritten AppendsKnownPrefix
+    -- Where nothing failed, all lines have been written. Nothing is written before everything has been read and parsed;
+    -- where an allocation was refused, it may have been before that, or while writing.
+    abbrev pub LeavesJson : Result (Unit {0}) Failure → Type 0
+    LeavesJson (Ok done) = JsonIsWritten Appends
+    LeavesJson (Err ReadFailed) = new ≡ old
+    LeavesJson (Err NotText) = (new ≡ old) × IfSome unread (λ bytes. IsUtf8 bytes → ⊥)
+    LeavesJson (Err (Fault Memory)) = (new ≡ old) ⊎ JsonIsWritten AppendsKnownPrefix
+    LeavesJson (Err (Fault Depth)) = ⊥
+    LeavesJson (Err (Fault Blocks)) = ⊥
+    LeavesJson (Err WriteFailed) = JsonIsWritten AppendsKnownPrefix

@@ -10,7 +10,8 @@ use Rattle.markdown.specs.EventWords.{Event, event_view}
 use Rattle.markdown.specs.OptionWords.{no_options}
 use Rattle.markdown.specs.ReadingWords.{GaveRest, IsPlacedOf, OffsetIter, Parser, Ranged, ReadsText, elements}
 use Rattle.markdown.specs.ReadingWords.{offset_parser, parser_callback, questions_of, viewed}
-use Rattle.markdown_uses.specs.LinkChecker.{CountsQuestion, CountsQuestions, event_target, greatest_count, link_target, targets_of}
+use Rattle.markdown_uses.specs.LinkChecker.{CountsQuestion, CountsQuestions, event_target, greatest_count, link_target}
+use Rattle.markdown_uses.specs.LinkChecker.{targets_of}
 use Rattle.markdown_uses.proofs.TextReadingLemmas.{are_questions}
 use Rattle.markdown_uses.specs.declared.link_checker.Link.{Link}
 use Rattle.markdown_uses.specs.declared.link_checker.UndefinedLabels.{UndefinedLabels}
@@ -41,12 +42,14 @@ pub none_left : {A : Type 0} (left : List A) → length left ≡ 0 → left ≡ 
 none_left [] h = refl
 none_left (x ∷ xs) h = absurd (omega arith)
 
-pub one_less : {A : Type 0} (n m : ℕ) (left left' : List A) (item : A) → n ≡ length left → left ≡ item ∷ left' → m + 1 ≡ n
+pub one_less : {A : Type 0} (n m : ℕ) (left left' : List A) (item : A) → n ≡ length left → left ≡ item ∷ left' → m + 1
+    ≡ n
     → m ≡ length left'
 one_less n m left left' item is next fewer = let shorter = ap length next in omega arith
 
 -- questions led from one count to another: none was answered, and each counted
-pub record Counted (old : UndefinedLabels) (questions : List Question) (answers : Answers) (after : Option UndefinedLabels)
+pub record Counted (old : UndefinedLabels) (questions : List Question) (answers : Answers)
+    (after : Option UndefinedLabels)
     : Type 0 where
   pub new : UndefinedLabels
   pub is : after ≡ Some new
@@ -78,7 +81,8 @@ counts_questions text p o given old after reads holds zero begun all =
     let rest : GaveRest IsPlacedOf CountsQuestion p given after = rw begun at all in
     let questions : List Question = questions_of (elements p rest.answers) in
     let c = counted old questions rest.answers after (omega arith)
-    (subst (λ (b : Option UndefinedLabels). Asks CountsQuestion b (questions_of (elements p rest.answers)) rest.answers after) holds
+    (subst (λ (b : Option UndefinedLabels). Asks CountsQuestion b (questions_of (elements p rest.answers)) rest.answers
+    after) holds
     rest.asked) in (
       c.new,
       c.is,

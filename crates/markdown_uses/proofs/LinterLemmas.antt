@@ -1,12 +1,14 @@
 -- The place after one more byte.
-use Rattle.std.proofs.Common.{◌≡◌, ℕ, suc, ◌+◌, ◌<◌, ◌∙◌, cond, List, [], ◌∷◌, ◌++◌, Bool, true, false, add-one, ap, append-nil, arith, get_or, length, map, refl, sym, take}
+use Rattle.std.proofs.Common.{◌≡◌, ℕ, suc, ◌+◌, ◌<◌, ◌∙◌, cond, List, [], ◌∷◌, ◌++◌, Bool, true, false, add-one, ap}
+use Rattle.std.proofs.Common.{append-nil, arith, get_or, length, map, refl, sym, take}
 use Rattle.std.specs.Prelude.{filter}
 use Rattle.std.specs.declared.ops.Range.{Range}
 use Rattle.std.proofs.lemmas.List.{map-append, take_more}
 use Rattle.std.proofs.lemmas.List.Sums.{sum_by-cons}
 use Rattle.markdown.specs.EventWords.{Event, event_view}
 use Rattle.markdown.specs.ReadingWords.{Ranged, viewed}
-use Rattle.markdown_uses.specs.Linter.{bytes_before_in_line, ends_line_at, html_places, is_html, lines_before, offsets_before, place_at}
+use Rattle.markdown_uses.specs.Linter.{bytes_before_in_line, ends_line_at, html_places, is_html, lines_before}
+use Rattle.markdown_uses.specs.Linter.{offsets_before, place_at}
 use Rattle.markdown_uses.specs.declared.linter.Place.{Place}
 
 -- the place after a byte, from the number of lines that end before it, and of the bytes of its line before it
@@ -39,7 +41,8 @@ html_if : (text : List ℕ) (es : List Ranged) (e x : Ranged) (b : Bool)
     → html_places text (es ++ e ∷ []) ≡ html_places text es ++ html_places text (e ∷ [])
     → map (λ (y : Ranged). place_at text y.1.start)
     (cond b (x ∷ filter (λ y. is_html y.0) (es ++ e ∷ [])) (filter (λ y. is_html y.0) (es ++ e ∷ [])))
-    ≡ map (λ (y : Ranged). place_at text y.1.start) (cond b (x ∷ filter (λ y. is_html y.0) es) (filter (λ y. is_html y.0) es))
+    ≡ map (λ (y : Ranged). place_at text y.1.start)
+    (cond b (x ∷ filter (λ y. is_html y.0) es) (filter (λ y. is_html y.0) es))
     ++ html_places text (e ∷ [])
 html_if text es e x true more = ap (λ (ps : List Place). place_at text x.1.start ∷ ps) more
 html_if text es e x false more = more
@@ -60,7 +63,8 @@ see e = (event_view e.0, e.1)
 
 -- one more event adds its place, if it is raw HTML
 module _ (text : List ℕ) (items : List (Event × Range ℕ)) (i : ℕ) (x : Event × Range ℕ) (places : List Place) where
-  taken_one : i < length items → x ≡ get_or items i x → viewed (take (i + 1) items) ≡ viewed (take i items) ++ see x ∷ []
+  taken_one : i < length items → x ≡ get_or items i x → viewed (take (i + 1) items)
+      ≡ viewed (take i items) ++ see x ∷ []
   taken_one l is = ap viewed (take_more items i x l) ∙ map-append see (take i items) (get_or items i x ∷ [])
       ∙ ap (λ (y : Event × Range ℕ). viewed (take i items) ++ see y ∷ []) (sym is)
 

@@ -1,5 +1,6 @@
 -- What is written of a mapped parser: the events of the parser, as a page has them.
-use Rattle.std.proofs.Common.{◌≡◌, ℕ, List, [], ◌∷◌, map, Ok, Err, Option, Some, None, Result, false, ap, refl, subst, sym, ◌∙◌}
+use Rattle.std.proofs.Common.{◌≡◌, ℕ, List, [], ◌∷◌, map, Ok, Err, Option, Some, None, Result, false, ap, refl, subst}
+use Rattle.std.proofs.Common.{sym, ◌∙◌}
 use Rattle.std.specs.Iterator.{Drains}
 use Rattle.std.specs.Prelude.{is_some}
 use Rattle.markdown.specs.DefsWords.{Question, Answer}
@@ -22,9 +23,11 @@ module _ {S : Type 0} (reads : S → Option Item → S → Type 0) where
       × (map event_view given ≡ map event_on_page (map event_view read))
 
   -- with one more before them
-  before : (s t : S) (x : Item) (e : Event) (given : List Event) → reads s (Some x) t → IsItemOnPage x (Ok e) → AreOnPage t given
+  before : (s t : S) (x : Item) (e : Event) (given : List Event) → reads s (Some x) t → IsItemOnPage x (Ok e)
+      → AreOnPage t given
       → AreOnPage s (e ∷ given)
-  before s t (Ok read) e given h made (others, (u, (v, y, z)), are) = (read ∷ others, (u, (v, (t, h, y), z)), rw (made, are) refl)
+  before s t (Ok read) e given h made (others, (u, (v, y, z)), are)
+      = (read ∷ others, (u, (v, (t, h, y), z)), rw (made, are) refl)
   before s t (Err fault) e given h made rest = cc made
 
   module _ {M : Type 0} (steps : M → Option Item → M → Type 0) (source : M → S)
@@ -40,14 +43,16 @@ module _ {S : Type 0} (reads : S → Option Item → S → Type 0) where
 
   -- where an iterator returns each item of its source as a page has it, and None at None, the events written are those
   -- of the source
-  pub on_page : {M : Type 0} {steps : M → Option Item → M → Type 0} {m : M} {old html : List ℕ} (r : IsRendered steps m old html)
+  pub on_page : {M : Type 0} {steps : M → Option Item → M → Type 0} {m : M} {old html : List ℕ}
+      (r : IsRendered steps m old html)
       (source : M → S) → ((s t : M) → steps s None t → reads (source s) None (source t))
       → ((s t : M) (y : Item) → steps s (Some y) t
       → (x : Item) × reads (source s) (Some x) (source t) × IsItemOnPage x y) → AreOnPage (source m) r.events
   on_page {steps = steps} {m = m} r source ends maps = all_on_page steps source ends maps m r.events r.read
 
 -- so what is written of a new parser without a callback is the page
-pub page : {F M : Type 0} (step : F → Question → Option Answer → F → Type 0) {steps : M → Option Item → M → Type 0} {m : M}
+pub page : {F M : Type 0} (step : F → Question → Option Answer → F → Type 0) {steps : M → Option Item → M → Type 0}
+    {m : M}
     {text old html : List ℕ} {options : Options} {p q : Parser F} (r : IsRendered steps m old html) → old ≡ []
     → ReadsText text options p → parser_callback p ≡ None → q ≡ p → AreOnPage (NextGives step IsEventOf) q r.events
     → IsPageOf text options html

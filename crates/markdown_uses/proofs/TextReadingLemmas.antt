@@ -1,12 +1,14 @@
 -- What a new parser of a text returns is the reading of the text.
-use Rattle.std.proofs.Common.{◌≡◌, ℕ, List, [], ◌∷◌, ◌++◌, map, Ok, Err, Result, Option, None, Some, false, true, refl, ap, subst, sym, ◌∙◌}
+use Rattle.std.proofs.Common.{◌≡◌, ℕ, List, [], ◌∷◌, ◌++◌, map, Ok, Err, Result, Option, None, Some, false, true, refl}
+use Rattle.std.proofs.Common.{ap, subst, sym, ◌∙◌}
 use Rattle.std.specs.Iterator.{Drains, Yields}
 use Rattle.std.specs.Prelude.{is_some}
 use Rattle.std.specs.declared.ops.Range.{Range}
 use Rattle.markdown.specs.DefsWords.{Answer, Answers, Asks, Question}
 use Rattle.markdown.specs.EventWords.{Event, Fault, event_view}
 use Rattle.markdown.specs.OptionWords.{no_options}
-use Rattle.markdown.specs.ReadingWords.{AreOf, GaveRest, IsPlacedOf, NextGives, OffsetIter, Parser, Placed, Ranged, ReadsText}
+use Rattle.markdown.specs.ReadingWords.{AreOf, GaveRest, IsPlacedOf, NextGives, OffsetIter, Parser, Placed, Ranged}
+use Rattle.markdown.specs.ReadingWords.{ReadsText}
 use Rattle.markdown.specs.ReadingWords.{elements, event, events_of, offset_parser, parser_callback, parser_text}
 use Rattle.markdown.specs.ReadingWords.{questions_of, ranged, reading_of, viewed}
 use Rattle.markdown.proofs.CallerLemmas.{events_of-questions}
@@ -38,7 +40,8 @@ module _ {F : Type 0} (step : F → Question → Option Answer → F → Type 0)
       let rest : GaveRest IsPlacedOf step p given after = rw begun at all in
       let silent : rest.answers ≡ [] =
       unasked (questions_of (elements p rest.answers)) rest.answers after
-      (subst (λ (c : Option F). Asks step c (questions_of (elements p rest.answers)) rest.answers after) none rest.asked) in
+      (subst (λ (c : Option F). Asks step c (questions_of (elements p rest.answers)) rest.answers after) none
+      rest.asked) in
       record {
         blocks = reads.blocks;
         of_text = reads.of_text;
@@ -46,12 +49,14 @@ module _ {F : Type 0} (step : F → Question → Option Answer → F → Type 0)
             let left : events_of (elements p answers) ≡ rest.events =
             subst (λ (a : Answers). events_of (elements p (a ++ answers)) ≡ rest.events) silent (rest.left answers) in
             let read : elements p answers ≡ reading_of reads.blocks false answers =
-            subst (λ (c : Option F). elements p answers ≡ reading_of reads.blocks (is_some c) answers) none (reads.left answers) in
+            subst (λ (c : Option F). elements p answers ≡ reading_of reads.blocks (is_some c) answers) none
+            (reads.left answers) in
             viewed-placed (parser_text p) given rest.events rest.are ∙ ap ranged (sym left ∙ ap events_of read);
       }
 
   -- and there is no callback afterwards
-  nobody_after : (questions : List Question) (answers : Answers) (after : Option F) → Asks step None questions answers after
+  nobody_after : (questions : List Question) (answers : Answers) (after : Option F)
+      → Asks step None questions answers after
       → after ≡ None
   nobody_after [] [] after asks = sym asks
   nobody_after [] (answer ∷ answers) after asks = absurd asks
@@ -69,14 +74,20 @@ module _ {F : Type 0} (step : F → Question → Option Answer → F → Type 0)
   all-given o [] (u, (t, y, z)) none later = rw (y, z.gives.none_left later) refl
   all-given o (e ∷ given) (u, (t, (j, h, y), z)) none later =
       let g = h.gives in
-      let asked = subst (λ (c : Option F). Asks step c g.questions g.answers (parser_callback (offset_parser j))) none g.asked in
+      let asked = subst (λ (c : Option F). Asks step c g.questions g.answers (parser_callback (offset_parser j))) none
+      g.asked in
       let silent : g.answers ≡ [] = unasked g.questions g.answers (parser_callback (offset_parser j)) asked in
-      let before : events_of (elements (offset_parser o) (g.answers ++ later)) ≡ g.placed ∷ events_of (elements (offset_parser j) later) =
-      ap events_of (g.left later) ∙ events_of-questions g.questions (event g.placed ∷ elements (offset_parser j) later) in
-      let first : events_of (elements (offset_parser o) later) ≡ g.placed ∷ events_of (elements (offset_parser j) later) =
-      subst (λ (a : Answers). events_of (elements (offset_parser o) (a ++ later)) ≡ g.placed ∷ events_of (elements (offset_parser j) later))
+      let before : events_of (elements (offset_parser o) (g.answers ++ later))
+      ≡ g.placed ∷ events_of (elements (offset_parser j) later) =
+      ap events_of (g.left later) ∙ events_of-questions g.questions (event g.placed ∷ elements (offset_parser j) later)
+      in
+      let first : events_of (elements (offset_parser o) later) ≡ g.placed ∷ events_of (elements (offset_parser j) later)
+      =
+      subst (λ (a : Answers). events_of (elements (offset_parser o) (a ++ later))
+      ≡ g.placed ∷ events_of (elements (offset_parser j) later))
       silent before in
-      let rest = all-given j given (u, (t, y, z)) (nobody_after g.questions g.answers (parser_callback (offset_parser j)) asked) later in
+      let rest = all-given j given (u, (t, y, z))
+      (nobody_after g.questions g.answers (parser_callback (offset_parser j)) asked) later in
       rw (first, g.is_item.is_event.view, g.is_item.range, rest) refl
 
   -- so these are the events of the text, for any answers
@@ -88,7 +99,8 @@ module _ {F : Type 0} (step : F → Question → Option Answer → F → Type 0)
     of_text = reads.of_text;
     are = λ answers.
         let read : elements p answers ≡ reading_of reads.blocks false answers =
-        subst (λ (c : Option F). elements p answers ≡ reading_of reads.blocks (is_some c) answers) none (reads.left answers) in
+        subst (λ (c : Option F). elements p answers ≡ reading_of reads.blocks (is_some c) answers) none
+        (reads.left answers) in
         sym (all-given o given all (ap parser_callback begun ∙ none) answers)
         ∙ ap (λ (q : Parser F). ranged (events_of (elements q answers))) begun
         ∙ ap (λ es. ranged (events_of es)) read;
@@ -106,7 +118,8 @@ module _ {F : Type 0} (step : F → Question → Option Answer → F → Type 0)
       → AreQuestionsOf text (questions_of (elements p answers))
   are_questions text p callback answers reads holds refused =
       let read : elements p answers ≡ reading_of reads.blocks true answers =
-      subst (λ (c : Option F). elements p answers ≡ reading_of reads.blocks (is_some c) answers) holds (reads.left answers) in
+      subst (λ (c : Option F). elements p answers ≡ reading_of reads.blocks (is_some c) answers) holds
+      (reads.left answers) in
       record {
         blocks = reads.blocks;
         of_text = reads.of_text;

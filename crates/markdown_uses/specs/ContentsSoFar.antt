@@ -37,6 +37,7 @@ module _ {Y : Type 0} where
   Counts times anchors = (anchor : List ℕ) → times_of times anchor ≡ count_by (λ other. bytes_eq other anchor) anchors
 
   -- the state after these headings
-  pub record AreReadyAfter (open_levels : List ℕ) (times : BTreeMap (String Y) ℕ) (before : List EntryView) : Type 0 where
-    pub levels : AreOpen open_levels (reverse (map (λ b. b.level) before))
-    pub anchors : Counts times (map plain_anchor (map (λ b. b.text) before))
+  pub record AreReadyAfter (open_levels : List ℕ) (times : BTreeMap (String Y) ℕ) (before : List EntryView) : Type 0
+    where
+      pub levels : AreOpen open_levels (reverse (map (λ b. b.level) before))
+      pub anchors : Counts times (map plain_anchor (map (λ b. b.text) before))

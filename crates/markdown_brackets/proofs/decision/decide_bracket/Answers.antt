@@ -16,11 +16,13 @@ pub returns-in-Some-clause-decides : goal.returns-in-Some-clause-decides
 returns-in-Some-clause-decides g c bodies skipped left cl goes s could brackets wikilinks =
     let lookup = c.args.lookup.now in
     let w = around_by c.args.at.now.place.now skipped bodies lookup in
-    decides_wikilink g.F.BrokenLinkCallback.answers w cl left lookup c.args.waiting.now.spent c.take_nearest-bracket.result
+    decides_wikilink g.F.BrokenLinkCallback.answers w cl left lookup c.args.waiting.now.spent
+    c.take_nearest-bracket.result
     c.args.waiting.now.openers.brackets c.take_nearest-bracket.new.self c.take_wikilink.new.wikilinks brackets
     c.take_nearest-bracket.ensures c.in-Some.found
     (subst (λ r. TakesWikilink w cl left c.take_wikilink.new.wikilinks r) c.in-Some.is
-    (c.take_wikilink.ensures skipped bodies lookup.tables.refdefs lookup.tables.footdefs (is_some lookup.callback) left cl s wikilinks))
+    (c.take_wikilink.ensures skipped bodies lookup.tables.refdefs lookup.tables.footdefs (is_some lookup.callback) left
+    cl s wikilinks))
 
 pub returns-clause-decides : goal.returns-clause-decides
 returns-clause-decides g c =
@@ -36,12 +38,16 @@ returns-clause-decides g c =
     (λ found tries bodies skipped left cl goes s could brackets wikilinks.
     let w = around_by c.args.at.now.place.now skipped bodies lookup in
     let t = subst (λ r. TakesWikilink w cl left held r) c.in_default.is
-    (c.take_wikilink.ensures skipped bodies lookup.tables.refdefs lookup.tables.footdefs (is_some lookup.callback) left cl s wikilinks) in
-    let ends : (item_at nodes closer).end ≡ end_of cl.label = subst (λ n. (item_at nodes n).end ≡ end_of cl.label) s.number
+    (c.take_wikilink.ensures skipped bodies lookup.tables.refdefs lookup.tables.footdefs (is_some lookup.callback) left
+    cl s wikilinks) in
+    let ends : (item_at nodes closer).end ≡ end_of cl.label = subst (λ n. (item_at nodes n).end ≡ end_of cl.label)
+    s.number
     (same_end s.source s.tables nodes cl.label (closer_found nodes closer left cl s).holds.2) in
     let could_be : cl.could_be_reference ≡ could_be_at nodes closer spent =
     could ∙ ap (λ end. could_be_reference (item_at nodes closer).body && not (is_spent spent end)) (sym ends) in
-    decides_one step w cl left lookup spent c.take_nearest-bracket.result old new held brackets c.take_nearest-bracket.ensures found _ _ t
+    decides_one step w cl left lookup spent c.take_nearest-bracket.result old new held brackets
+    c.take_nearest-bracket.ensures found _ _ t
     (tries bodies skipped cl (nearest opens_bracket t.left_then) goes
-    (tries_nearest step w cl left lookup spent c.take_nearest-bracket.result old new held brackets c.take_nearest-bracket.ensures found
+    (tries_nearest step w cl left lookup spent c.take_nearest-bracket.result old new held brackets
+    c.take_nearest-bracket.ensures found
     nodes closer (could_be_at nodes closer spent) s could_be t)))

@@ -11,13 +11,15 @@ use Rattle.markdown_brackets.proofs.decision.take_wikilink.Goals as goal
 
 pub returns-then-not-wikilinks_on : goal.returns-then-not-wikilinks_on
 returns-then-not-wikilinks_on g c skipped bodies definitions footnotes asks left cl s h =
-    none_by_off c.args.at.now.tree.now.nodes c.args.at.now.node left cl s (around_at c.args.at.now.place.now skipped bodies definitions footnotes asks)
+    none_by_off c.args.at.now.tree.now.nodes c.args.at.now.node left cl s
+    (around_at c.args.at.now.place.now skipped bodies definitions footnotes asks)
     c.args.wikilinks.now h (sym c.wikilinks_on.ensures ∙ c.if-not-wikilinks_on.true)
 
 pub returns-in_default : goal.returns-in_default
 returns-in_default g c skipped bodies definitions footnotes asks left cl s h =
     let nodes = c.args.at.now.tree.now.nodes in
-    none_by_next nodes c.args.at.now.node left cl s (around_at c.args.at.now.place.now skipped bodies definitions footnotes asks)
+    none_by_next nodes c.args.at.now.node left cl s
+    (around_at c.args.at.now.place.now skipped bodies definitions footnotes asks)
     c.args.wikilinks.now h
     (subst (λ l. MatchOption l (Unit {0}) (λ next. is_closer (item_at nodes next).body ≡ false))
     (sym (sym c.next.ensures.value ∙ c.in_default.is)) tt)
@@ -26,8 +28,10 @@ pub returns-then-not-is_closer : goal.returns-then-not-is_closer
 returns-then-not-is_closer g c skipped bodies definitions footnotes asks left cl s h =
     let nodes = c.args.at.now.tree.now.nodes in
     let other : is_closer (item_at nodes c.in-Some.next).body ≡ false =
-    ap (λ (i : Item). is_closer i.body) (sym (c.item-second.ensures no_item)) ∙ (sym c.is_closer.ensures ∙ c.if-not-is_closer.true) in
-    none_by_next nodes c.args.at.now.node left cl s (around_at c.args.at.now.place.now skipped bodies definitions footnotes asks)
+    ap (λ (i : Item). is_closer i.body) (sym (c.item-second.ensures no_item))
+    ∙ (sym c.is_closer.ensures ∙ c.if-not-is_closer.true) in
+    none_by_next nodes c.args.at.now.node left cl s
+    (around_at c.args.at.now.place.now skipped bodies definitions footnotes asks)
     c.args.wikilinks.now h
     (subst (λ l. MatchOption l (Unit {0}) (λ next. is_closer (item_at nodes next).body ≡ false))
     (sym (sym c.next.ensures.value ∙ c.in-Some.is)) other)
@@ -37,8 +41,10 @@ returns g c skipped bodies definitions footnotes asks left cl s h =
     let nodes = c.args.at.now.tree.now.nodes in
     let w = around_at c.args.at.now.place.now skipped bodies definitions footnotes asks in
     takes nodes c.args.at.now.node left cl s w c.in-Some.next (sym c.next.ensures.value ∙ c.in-Some.is)
-    (ap (λ (i : Item). is_closer i.body) (sym (c.item-second.ensures no_item)) ∙ (sym c.is_closer.ensures ∙ c.if-not-is_closer.false))
+    (ap (λ (i : Item). is_closer i.body) (sym (c.item-second.ensures no_item))
+    ∙ (sym c.is_closer.ensures ∙ c.if-not-is_closer.false))
     (sym c.wikilinks_on.ensures ∙ c.if-not-wikilinks_on.false)
-    c.take_nearest-taken.result c.args.wikilinks.now c.take_nearest-taken.new.self h c.take_nearest-taken.ensures c.try_wikilink.result
+    c.take_nearest-taken.result c.args.wikilinks.now c.take_nearest-taken.new.self h c.take_nearest-taken.ensures
+    c.try_wikilink.result
     (λ o t. subst (λ (i : Item). FindsWikilink w i.end cl o c.try_wikilink.result) (c.item-second.ensures no_item)
     (c.try_wikilink.ensures w cl o refl refl t))

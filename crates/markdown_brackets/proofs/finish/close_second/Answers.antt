@@ -8,6 +8,7 @@ pub leads_to-requires : goal.leads_to-requires
 leads_to-requires c =
     let size : ℕ = length c.args.tree.now.nodes in
     let each : EachOpener (λ n. n < size) c.drop_from.new.self =
-    subst (EachOpener (λ n. n < size)) (sym c.drop_from.ensures) (each_before (λ n. n < size) c.args.node c.args.openers.now.wikilinks
+    subst (EachOpener (λ n. n < size)) (sym c.drop_from.ensures)
+    (each_before (λ n. n < size) c.args.node c.args.openers.now.wikilinks
     c.requires) in
     first_each (λ n. n < size) c.drop_from.new.self c.in-Some.nearest (sym c.nearest.ensures ∙ c.in-Some.is) each

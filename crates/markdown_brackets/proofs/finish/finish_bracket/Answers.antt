@@ -13,8 +13,11 @@ returns-in-Link c w cl closer left becomes p s rises split is eb ew ep =
     let then = c.close_second.ensures in
     let finish = c.finish_link.ensures in
     finished nodes c.args.found.now old.brackets old.wikilinks new.brackets new.wikilinks
-    (subst (λ f. Finishes nodes f old.brackets old.wikilinks new.brackets new.wikilinks) (sym c.in-Link.is)
-    (finish.brackets ∙ ap (waiting_before_link opener) then.brackets, finish.wikilinks ∙ ap (waiting_before_link opener) then.wikilinks))
+    (subst (λ f. Finishes nodes f old.brackets old.wikilinks new.brackets new.wikilinks) (sym c.in-Link.is) (
+      finish.brackets ∙ ap (waiting_before_link opener) then.brackets,
+      finish.wikilinks
+          ∙ ap (waiting_before_link opener) then.wikilinks,
+    ))
     w cl closer left becomes p s rises split is eb ew ep
 
 pub returns-in-Footnote : goal.returns-in-Footnote

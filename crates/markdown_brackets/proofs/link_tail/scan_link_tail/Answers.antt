@@ -13,7 +13,8 @@ past_separator-start-requires g c =
 
 pub returns-then-not-stands_at : goal.returns-then-not-stands_at
 returns-then-not-stands_at g c =
-    let none = tail_closed (g.R.LineRule.skipped c.args.rules.now.rule.now) (g.I.ItemsAfter.starts c.args.items.now) c.args.text.now c.args.at
+    let none = tail_closed (g.R.LineRule.skipped c.args.rules.now.rule.now) (g.I.ItemsAfter.starts c.args.items.now)
+    c.args.text.now c.args.at
     (sym c.stands_at.ensures.value ∙ c.if-not-stands_at.true) in
     record {
       value = subst (λ (t : Option tail.LinkTail). ReadsTail c.args.rules.now.in_table t None) (sym none) tt;
@@ -24,7 +25,8 @@ pub returns-then-not-stands_at-2 : goal.returns-then-not-stands_at-2
 returns-then-not-stands_at-2 g c =
     let start = c.past_separator-start.ensures.value in
     let next = c.past_separator-next.ensures.value in
-    let none = tail_open c.args.rules.now.in_table (g.R.LineRule.skipped c.args.rules.now.rule.now) (g.I.ItemsAfter.starts c.args.items.now) c.args.text.now
+    let none = tail_open c.args.rules.now.in_table (g.R.LineRule.skipped c.args.rules.now.rule.now)
+    (g.I.ItemsAfter.starts c.args.items.now) c.args.text.now
     c.args.at c.in_ok-close.close c.in-Some.written.now c.in_ok-close.title
     (sym c.stands_at-2.ensures.value ∙ c.if-not-stands_at-2.true) c.in-Some.length
     (sym c.stands_at.ensures.value ∙ c.if-not-stands_at.false)
@@ -42,8 +44,10 @@ returns-clause-value g c =
     let closes = sym c.stands_at-2.ensures.value ∙ c.if-not-stands_at-2.false in
     let written = rw start at (sym c.in-Some.ensures.value) in
     let part = rw start at (rw next at c.in_ok-close.ensures.value) in
-    (tail_reads c.args.rules.now.in_table (g.R.LineRule.skipped c.args.rules.now.rule.now) (g.I.ItemsAfter.starts c.args.items.now) c.args.text.now c.args.at
-    c.in_ok-close.close c.in-Some.written.now c.in_ok-destination.destination c.in_ok-close.title closes c.in_ok-destination.ensures.value
+    (tail_reads c.args.rules.now.in_table (g.R.LineRule.skipped c.args.rules.now.rule.now)
+    (g.I.ItemsAfter.starts c.args.items.now) c.args.text.now c.args.at
+    c.in_ok-close.close c.in-Some.written.now c.in_ok-destination.destination c.in_ok-close.title closes
+    c.in_ok-destination.ensures.value
     c.in_ok-destination.ensures.borrowed c.in-Some.length opens written part).reads
 
 pub returns-clause-borrowed : goal.returns-clause-borrowed
@@ -54,6 +58,8 @@ returns-clause-borrowed g c =
     let closes = sym c.stands_at-2.ensures.value ∙ c.if-not-stands_at-2.false in
     let written = rw start at (sym c.in-Some.ensures.value) in
     let part = rw start at (rw next at c.in_ok-close.ensures.value) in
-    (tail_reads c.args.rules.now.in_table (g.R.LineRule.skipped c.args.rules.now.rule.now) (g.I.ItemsAfter.starts c.args.items.now) c.args.text.now c.args.at
-    c.in_ok-close.close c.in-Some.written.now c.in_ok-destination.destination c.in_ok-close.title closes c.in_ok-destination.ensures.value
+    (tail_reads c.args.rules.now.in_table (g.R.LineRule.skipped c.args.rules.now.rule.now)
+    (g.I.ItemsAfter.starts c.args.items.now) c.args.text.now c.args.at
+    c.in_ok-close.close c.in-Some.written.now c.in_ok-destination.destination c.in_ok-close.title closes
+    c.in_ok-destination.ensures.value
     c.in_ok-destination.ensures.borrowed c.in-Some.length opens written part).borrows

@@ -14,7 +14,8 @@ invariant-title g l = record {
   plain : l.title.is_joined ≡ false → string_bytes l.title.joined ≡ [];
   later : (n : ℕ) → l.at ≤ n → g.I.ItemsAfter.starts l.items n ≡ g.I.ItemsAfter.starts l.initial.items n;
   read : ReadTo (g.I.ItemsAfter.starts l.initial.items) l.bytes l.from.closer
-      (title_in l.from.closer false (joined_lines (g.I.ItemsAfter.starts l.initial.items) l.from.start 0 l.text)) l.at l.escaped
+      (title_in l.from.closer false (joined_lines (g.I.ItemsAfter.starts l.initial.items) l.from.start 0 l.text)) l.at
+      l.escaped
       (so_far l.title l.at) l.title.is_joined;
 }
 

@@ -9,4 +9,5 @@ returns-then-lookup-eq0-clause-looks_up g c = rw (← c.lookup.view_is) (LooksUp
 pub returns-clause-looks_up : goal.returns-clause-looks_up
 returns-clause-looks_up g c =
     rw (← c.lookup.view_is)
-    (LooksUp-found _ _ _ _ _ (omega (arith, c.if-lookup-eq0.false)) c.limit_after-lookup-inside.ensures c.in_ok-target.ensures.finds)
+    (LooksUp-found _ _ _ _ _ (omega (arith, c.if-lookup-eq0.false)) c.limit_after-lookup-inside.ensures
+    c.in_ok-target.ensures.finds)

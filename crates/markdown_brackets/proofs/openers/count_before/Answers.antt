@@ -10,6 +10,7 @@ returns-then-openers-left-clause-value c n =
 pub openers-preserved : goal.openers-preserved
 openers-preserved c = record {
   within = omega arith;
-  same = λ n. c.openers.invariant.same n ∙ nearest_goes c.args.node n c.openers.left c.args.openers.now _ c.openers-test.true
+  same = λ n. c.openers.invariant.same n ∙ nearest_goes c.args.node n c.openers.left c.args.openers.now _
+      c.openers-test.true
       c.openers.invariant.within c.if-openers-left.false;
 }

@@ -7,7 +7,8 @@ use Rattle.markdown_brackets.proofs.openers.count_before.Given as goal
 abbrev pub invariant-openers : goal.invariant-openers
 invariant-openers l = record {
   within : l.left ≤ length l.openers;
-  same : (n : ℕ) → before l.node (waiting_openers n l.openers) ≡ before l.node (waiting_openers n (take l.left l.openers));
+  same : (n : ℕ) → before l.node (waiting_openers n l.openers)
+      ≡ before l.node (waiting_openers n (take l.left l.openers));
 }
 
 abbrev pub decreases-openers : goal.decreases-openers

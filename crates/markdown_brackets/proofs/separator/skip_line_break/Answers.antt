@@ -1,7 +1,8 @@
 use Rattle.std.proofs.Common.{sym}
 use Rattle.std.proofs.lemmas.Str.{IsCharBoundary-start}
 use Rattle.std.proofs.lemmas.List.{take_rest}
-use Rattle.markdown_brackets.proofs.SeparatorLemmas.{line_ending_is_ascii, if_some, after_ascii, after_more_ascii, BeginsAscii}
+use Rattle.markdown_brackets.proofs.SeparatorLemmas.{line_ending_is_ascii, if_some, after_ascii, after_more_ascii}
+use Rattle.markdown_brackets.proofs.SeparatorLemmas.{BeginsAscii}
 use Rattle.markdown_brackets.proofs.separator.skip_line_break.Goals as goal
 
 pub returns-in_default-clause-boundary : goal.returns-in_default-clause-boundary

@@ -27,8 +27,10 @@ returns-clause-comes g c =
     subst (λ l. reaches_closer nodes end l ≡ true) c.next.ensures.value
     (sym c.reaches_closer.ensures ∙ c.if-not-reaches_closer.false) in
     ok_map c.find_reference.result _ _ c.find_reference.ensures.comes (λ found comes skipped bodies o opener start.
-    let by : Bool → Option (Written ℕ) = λ b. if b then Some (link_reference o (full (text_of c.args.about.reference) end)) else None in
+    let by : Bool → Option (Written ℕ) = λ b. if b then Some
+    (link_reference o (full (text_of c.args.about.reference) end)) else None in
     found_as (ap (λ k. Some (link_reference o (record (full (text_of c.args.about.reference) end) { link_type = k })))
     c.requires.full.kind_is ∙ ap by (sym one))
-    (comes (end ∷ []) c.args.spent.now c.insert.new.self (spends_end end c.args.spent.now c.insert.new.self c.in_ok-insert.ensures.put)
+    (comes (end ∷ []) c.args.spent.now c.insert.new.self
+    (spends_end end c.args.spent.now c.insert.new.self c.in_ok-insert.ensures.put)
     skipped bodies o opener start))

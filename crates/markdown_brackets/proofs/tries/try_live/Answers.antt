@@ -31,13 +31,17 @@ returns-in-Some-clause-comes g c skipped bodies o opener start =
     let rule = g.R.LineRule.skipped at.rule.now in
     let w = around_by place skipped bodies c.args.lookup.now in
     let low : start_of o.opener ≤ (item_at nodes at.node).end =
-    subst (λ n. n ≤ (item_at nodes at.node).end) start (omega (arith, c.requires.ready.opens, c.requires.ready.reads.order)) in
+    subst (λ n. n ≤ (item_at nodes at.node).end) start
+    (omega (arith, c.requires.ready.opens, c.requires.ready.reads.order)) in
     comes_to_tail g.F.BrokenLinkCallback.answers w c.args.lookup.now c.args.spent.now o
-    (reference_at nodes place rule at.node w o (could_be_at nodes at.node c.args.spent.now) ((item_at nodes c.args.opener.node).end - 1))
+    (reference_at nodes place rule at.node w o (could_be_at nodes at.node c.args.spent.now)
+    ((item_at nodes c.args.opener.node).end - 1))
     (tail_ahead nodes place rule at.node) c.in-Some.tail c.inline_link.result
     (subst (ReadsTail place.in_table (tail_ahead nodes place rule at.node)) c.in-Some.is c.in_ok-tail.ensures.value)
-    (λ t is. c.inline_link.ensures w o t opener is (tail_wider place.text.now (item_at nodes at.node).end (start_of o.opener) c.in-Some.tail
-    low (subst (λ found. IfSome found (IsTailFrom place.text.now (item_at nodes at.node).end)) c.in-Some.is c.in_ok-tail.ensures.from)))
+    (λ t is. c.inline_link.ensures w o t opener is
+    (tail_wider place.text.now (item_at nodes at.node).end (start_of o.opener) c.in-Some.tail
+    low (subst (λ found. IfSome found (IsTailFrom place.text.now (item_at nodes at.node).end)) c.in-Some.is
+    c.in_ok-tail.ensures.from)))
 
 pub returns-in-None-clause-comes : goal.returns-in-None-clause-comes
 returns-in-None-clause-comes g c =
@@ -48,7 +52,8 @@ returns-in-None-clause-comes g c =
     ok_map c.try_reference.result _ _ c.try_reference.ensures.comes (λ found comes skipped bodies o opener start.
     let w = around_by place skipped bodies c.args.lookup.now in
     found_as (other_written place.in_table o
-    (reference_at nodes place rule at.node w o (could_be_at nodes at.node c.args.spent.now) ((item_at nodes c.args.opener.node).end - 1))
+    (reference_at nodes place rule at.node w o (could_be_at nodes at.node c.args.spent.now)
+    ((item_at nodes c.args.opener.node).end - 1))
     (tail_ahead nodes place rule at.node)
     (subst (ReadsTail place.in_table (tail_ahead nodes place rule at.node)) c.in-None.is c.in_ok-tail.ensures.value))
     (comes skipped bodies o opener start))

@@ -5,7 +5,8 @@ use Rattle.std.specs.Prelude.{if◌then◌else◌}
 use Rattle.markdown_base.specs.BlockTree.{item_at, no_item}
 use Rattle.markdown_base.specs.CowText.{text_of}
 use Rattle.markdown_base.specs.declared.item.Item.{Item}
-use Rattle.markdown_brackets.specs.BracketDecision.{Written, LinkReference, footnote_written, link_reference, own_written}
+use Rattle.markdown_brackets.specs.BracketDecision.{Written, LinkReference, footnote_written, link_reference}
+use Rattle.markdown_brackets.specs.BracketDecision.{own_written}
 use Rattle.markdown_brackets.specs.Reference.{FoundLabel}
 use Rattle.markdown_brackets.specs.ReferenceView.{label_view}
 use Rattle.markdown_brackets.specs.WrittenView.{own_label_at}
@@ -18,9 +19,11 @@ pub returns-in_default-clause-comes : goal.returns-in_default-clause-comes
 returns-in_default-clause-comes g c spent skipped bodies o opener start =
     let at = c.args.at.now in
     let nodes = at.tree.now.nodes in
-    let label_from : ℕ → Option FoundLabel = own_label_at nodes at.place.now (g.R.LineRule.skipped at.rule.now) at.node in
+    let label_from : ℕ → Option FoundLabel = own_label_at nodes at.place.now (g.R.LineRule.skipped at.rule.now) at.node
+    in
     let own : option_map label_view c.in_ok-label.field-0 ≡ label_from ((item_at nodes c.args.opener.node).end - 1) =
-    subst (λ (i : Item). option_map label_view c.in_ok-label.field-0 ≡ label_from (i.end - 1)) (c.item-3.ensures no_item)
+    subst (λ (i : Item). option_map label_view c.in_ok-label.field-0 ≡ label_from (i.end - 1))
+    (c.item-3.ensures no_item)
     c.in_ok-label.ensures in
     let w = around_by at.place.now skipped bodies c.args.lookup.now in
     found_as (ap (option_and_then (own_written w o c.args.link_type (item_at nodes at.node).end c.args.next))
@@ -32,17 +35,21 @@ returns-then-label-clause-comes g c =
     let at = c.args.at.now in
     let nodes = at.tree.now.nodes in
     let end = (item_at nodes at.node).end in
-    let label_from : ℕ → Option FoundLabel = own_label_at nodes at.place.now (g.R.LineRule.skipped at.rule.now) at.node in
+    let label_from : ℕ → Option FoundLabel = own_label_at nodes at.place.now (g.R.LineRule.skipped at.rule.now) at.node
+    in
     let own : option_map label_view c.in_ok-label.field-0 ≡ label_from ((item_at nodes c.args.opener.node).end - 1) =
-    subst (λ (i : Item). option_map label_view c.in_ok-label.field-0 ≡ label_from (i.end - 1)) (c.item-3.ensures no_item)
+    subst (λ (i : Item). option_map label_view c.in_ok-label.field-0 ≡ label_from (i.end - 1))
+    (c.item-3.ensures no_item)
     c.in_ok-label.ensures in
     let name = text_of c.in-Some.label.name in
     ok_map c.find_footnote.result _ _ c.find_footnote.ensures.comes (λ found comes spent skipped bodies o opener start.
     let w = around_by at.place.now skipped bodies c.args.lookup.now in
-    let link : LinkReference = record { link_type = c.args.link_type; label = name; end = end; next = c.args.next; spends = [] } in
+    let link : LinkReference = record
+    { link_type = c.args.link_type; label = name; end = end; next = c.args.next; spends = [] } in
     let by : Bool → Option (Written ℕ) = λ b. if b then footnote_written w o name else Some (link_reference o link) in
     found_as (ap by (sym c.if-label.true)
-    ∙ ap (option_and_then (own_written w o c.args.link_type end c.args.next)) (sym (ap (option_map label_view) c.in-Some.is) ∙ own))
+    ∙ ap (option_and_then (own_written w o c.args.link_type end c.args.next))
+    (sym (ap (option_map label_view) c.in-Some.is) ∙ own))
     (comes spent skipped bodies o opener start))
 
 pub returns-clause-comes : goal.returns-clause-comes
@@ -50,16 +57,22 @@ returns-clause-comes g c =
     let at = c.args.at.now in
     let nodes = at.tree.now.nodes in
     let end = (item_at nodes at.node).end in
-    let label_from : ℕ → Option FoundLabel = own_label_at nodes at.place.now (g.R.LineRule.skipped at.rule.now) at.node in
+    let label_from : ℕ → Option FoundLabel = own_label_at nodes at.place.now (g.R.LineRule.skipped at.rule.now) at.node
+    in
     let own : option_map label_view c.in_ok-label.field-0 ≡ label_from ((item_at nodes c.args.opener.node).end - 1) =
-    subst (λ (i : Item). option_map label_view c.in_ok-label.field-0 ≡ label_from (i.end - 1)) (c.item-3.ensures no_item)
+    subst (λ (i : Item). option_map label_view c.in_ok-label.field-0 ≡ label_from (i.end - 1))
+    (c.item-3.ensures no_item)
     c.in_ok-label.ensures in
     let name = text_of c.in-Some.label.name in
-    let link : ℕ → LinkReference = λ end. record { link_type = c.args.link_type; label = name; end = end; next = c.args.next; spends = [] } in
-    ok_map c.find_reference.result _ _ c.find_reference.ensures.comes (λ found comes spent skipped bodies o opener start.
+    let link : ℕ → LinkReference = λ end. record
+    { link_type = c.args.link_type; label = name; end = end; next = c.args.next; spends = [] } in
+    ok_map c.find_reference.result _ _ c.find_reference.ensures.comes
+    (λ found comes spent skipped bodies o opener start.
     let w = around_by at.place.now skipped bodies c.args.lookup.now in
-    let by : Bool → Option (Written ℕ) = λ b. if b then footnote_written w o name else Some (link_reference o (link end)) in
+    let by : Bool → Option (Written ℕ) = λ b. if b then footnote_written w o name else Some
+    (link_reference o (link end)) in
     found_as (ap (λ (i : Item). Some (link_reference o (link i.end))) (c.item-2.ensures no_item)
     ∙ (ap by (sym c.if-label.false)
-    ∙ ap (option_and_then (own_written w o c.args.link_type end c.args.next)) (sym (ap (option_map label_view) c.in-Some.is) ∙ own)))
+    ∙ ap (option_and_then (own_written w o c.args.link_type end c.args.next))
+    (sym (ap (option_map label_view) c.in-Some.is) ∙ own)))
     (comes [] spent spent (λ end. refl) skipped bodies o opener start))

@@ -28,7 +28,12 @@ try_full-requires g c k =
       (
         can,
         (
-          record { some = some; kind_is = refl; starts = ap (λ (i : Item). i.start) (c.item-in-Reference.ensures no_item) },
+          record {
+            some = some;
+            kind_is = refl;
+            starts = ap (λ (i : Item). i.start)
+                (c.item-in-Reference.ensures no_item);
+          },
           c.requires.asks,
         ),
       ),
@@ -38,21 +43,27 @@ pub returns-in-Reference-clause-comes : goal.returns-in-Reference-clause-comes
 returns-in-Reference-clause-comes g c =
     let at = c.args.at.now in
     let nodes = at.tree.now.nodes in
-    let own = own_label_at nodes at.place.now (g.R.LineRule.skipped at.rule.now) at.node ((item_at nodes c.args.opener.node).end - 1) in
+    let own = own_label_at nodes at.place.now (g.R.LineRule.skipped at.rule.now) at.node
+    ((item_at nodes c.args.opener.node).end - 1) in
     ok_map c.try_full.result _ _ c.try_full.ensures.comes (λ found comes skipped bodies o opener start.
-    let by : Form → Option (Written ℕ) = reference_written (around_by at.place.now skipped bodies c.args.lookup.now) o (item_at nodes at.node).end
-    (λ i. reaches_closer nodes i (sibling_of nodes at.node)) (if could_be_at nodes at.node c.args.spent.now then own else None) in
-    found_as (ap by (sym (ap form_view c.in-Reference.is) ∙ c.in_ok-label.ensures.form)) (comes skipped bodies o opener start))
+    let by : Form → Option (Written ℕ) = reference_written (around_by at.place.now skipped bodies c.args.lookup.now) o
+    (item_at nodes at.node).end
+    (λ i. reaches_closer nodes i (sibling_of nodes at.node))
+    (if could_be_at nodes at.node c.args.spent.now then own else None) in
+    found_as (ap by (sym (ap form_view c.in-Reference.is) ∙ c.in_ok-label.ensures.form))
+    (comes skipped bodies o opener start))
 
 pub returns-then-not-could_be_reference-clause-comes : goal.returns-then-not-could_be_reference-clause-comes
 returns-then-not-could_be_reference-clause-comes g c skipped bodies o opener start =
     let at = c.args.at.now in
     let nodes = at.tree.now.nodes in
-    let own = own_label_at nodes at.place.now (g.R.LineRule.skipped at.rule.now) at.node ((item_at nodes c.args.opener.node).end - 1) in
+    let own = own_label_at nodes at.place.now (g.R.LineRule.skipped at.rule.now) at.node
+    ((item_at nodes c.args.opener.node).end - 1) in
     let w = around_by at.place.now skipped bodies c.args.lookup.now in
     let by : Bool → Form → Option (Written ℕ) = λ could form. reference_written w o (item_at nodes at.node).end
     (λ i. reaches_closer nodes i (sibling_of nodes at.node)) (if could then own else None) form in
-    let could : could_be_at nodes at.node c.args.spent.now ≡ false = sym c.could_be_reference.ensures ∙ c.if-not-could_be_reference.true in
+    let could : could_be_at nodes at.node c.args.spent.now ≡ false = sym c.could_be_reference.ensures
+    ∙ c.if-not-could_be_reference.true in
     let form = c.in_ok-label.ensures.form in
     let none : None ≡ by (could_be_at nodes at.node c.args.spent.now) _ = elim c.match-branch-2.branch [
       | in-Collapsed w ↦ ap (λ b. by b collapsed) (sym could) ∙ ap (by _) (sym (ap form_view w.in-Collapsed.is) ∙ form)
@@ -65,8 +76,10 @@ returns-clause-comes g c =
     let at = c.args.at.now in
     let nodes = at.tree.now.nodes in
     let end = (item_at nodes at.node).end in
-    let own = own_label_at nodes at.place.now (g.R.LineRule.skipped at.rule.now) at.node ((item_at nodes c.args.opener.node).end - 1) in
-    let could : could_be_at nodes at.node c.args.spent.now ≡ true = sym c.could_be_reference.ensures ∙ c.if-not-could_be_reference.false in
+    let own = own_label_at nodes at.place.now (g.R.LineRule.skipped at.rule.now) at.node
+    ((item_at nodes c.args.opener.node).end - 1) in
+    let could : could_be_at nodes at.node c.args.spent.now ≡ true = sym c.could_be_reference.ensures
+    ∙ c.if-not-could_be_reference.false in
     let form = c.in_ok-label.ensures.form in
     let ends : c.item.result.now.end ≡ end = ap (λ (i : Item). i.end) (c.item.ensures no_item) in
     let link = c.match-branch-2.link_type in

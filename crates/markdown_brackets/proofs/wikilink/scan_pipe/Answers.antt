@@ -9,10 +9,12 @@ returns-in_err-after c =
 
 pub returns-then-after-block_end : goal.returns-then-after-block_end
 returns-then-after-block_end c =
-    pipe_past_block c.args.text.now c.args.block_end c.args.start c.args.length (c.in_ok-after.after, c.in_ok-after.name.now)
+    pipe_past_block c.args.text.now c.args.block_end c.args.start c.args.length
+    (c.in_ok-after.after, c.in_ok-after.name.now)
     c.in_ok-after.ensures.value c.if-after-block_end.true
 
 pub returns : goal.returns
 returns c =
-    pipe_before_end c.args.text.now c.args.block_end c.args.start c.args.length (c.in_ok-after.after, c.in_ok-after.name.now)
+    pipe_before_end c.args.text.now c.args.block_end c.args.start c.args.length
+    (c.in_ok-after.after, c.in_ok-after.name.now)
     c.in_ok-after.ensures.value c.if-after-block_end.false

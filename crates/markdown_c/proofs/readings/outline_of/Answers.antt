@@ -5,10 +5,13 @@ use Rattle.markdown_c.proofs.OutcomeLemmas.{lines_of_text, lines_refused}
 use Rattle.markdown_c.proofs.readings.outline_of.Goals as goal
 
 pub returns : goal.returns
-returns c = lines_of_text _ c.args.bytes.now _ _ c.in_ok-text.ensures.text c.options_of.ensures IsOutlineJsonOf _ c.in_ok-outline_json.ensures.json
+returns c = lines_of_text _ c.args.bytes.now _ _ c.in_ok-text.ensures.text c.options_of.ensures IsOutlineJsonOf _
+    c.in_ok-outline_json.ensures.json
 
 pub returns-in_err-outline_json : goal.returns-in_err-outline_json
 returns-in_err-outline_json c =
-    let p = err_from_is_err_and c.from_residual-in_err-outline_json.result c.from_residual-in_err-outline_json.ensures.1 in
+    let p = err_from_is_err_and c.from_residual-in_err-outline_json.result c.from_residual-in_err-outline_json.ensures.1
+    in
     rw (p.1, p.2)
-    (lines_refused _ c.args.bytes.now _ _ c.in_ok-text.ensures.text c.options_of.ensures IsOutlineJsonOf _ c.in_err-outline_json.ensures.refused)
+    (lines_refused _ c.args.bytes.now _ _ c.in_ok-text.ensures.text c.options_of.ensures IsOutlineJsonOf _
+    c.in_err-outline_json.ensures.refused)

@@ -6,10 +6,12 @@ use Rattle.markdown_inline.proofs.TakingLemmas.{leads_from, link_at-read}
 use Rattle.markdown_inline.proofs.bodies.image_tag.Goals as goal
 
 pub returns-clause-tag : goal.returns-clause-tag
-returns-clause-tag c = ap image (sym (link_at-read c.args.tables.now.links c.args.ix.0 c.take_link-link_type.result c.requires
+returns-clause-tag c = ap image
+    (sym (link_at-read c.args.tables.now.links c.args.ix.0 c.take_link-link_type.result c.requires
     c.take_link-link_type.ensures.taken))
 
 pub returns-clause-from : goal.returns-clause-from
 returns-clause-from c source start end slices =
-    leads_from source start end (tables_of c.args.tables.now) c.args.ix.0 c.take_link-link_type.result c.requires c.take_link-link_type.ensures.taken
+    leads_from source start end (tables_of c.args.tables.now) c.args.ix.0 c.take_link-link_type.result c.requires
+    c.take_link-link_type.ensures.taken
     slices

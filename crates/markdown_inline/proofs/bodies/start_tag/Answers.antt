@@ -2,7 +2,8 @@
 use Rattle.std.proofs.Common.{refl, sym, ap}
 use Rattle.markdown_document.specs.Document.{container_of, enclosed}
 use Rattle.markdown_document.specs.Tables.{tables_of}
-use Rattle.markdown_inline.proofs.TakingLemmas.{text_at-read, alignments_at-read, heading_named, some_container, container_shape}
+use Rattle.markdown_inline.proofs.TakingLemmas.{text_at-read, alignments_at-read, heading_named, some_container}
+use Rattle.markdown_inline.proofs.TakingLemmas.{container_shape}
 use Rattle.markdown_inline.proofs.TakingLemmas.{takes_text, takes_link, takes_alignments, takes_nothing}
 use Rattle.markdown_inline.proofs.bodies.start_tag.Goals as goal
 
@@ -41,14 +42,16 @@ returns-in-Table-clause-tag c over = rw (
 ) refl
 
 pub returns-in-Table-clause-taken : goal.returns-in-Table-clause-taken
-returns-in-Table-clause-taken c = rw c.in-Table.is (takes_alignments _ c.args.tables.now c.take_alignment.new.self c.in-Table.ix refl
+returns-in-Table-clause-taken c = rw c.in-Table.is
+    (takes_alignments _ c.args.tables.now c.take_alignment.new.self c.in-Table.ix refl
     c.take_alignment.ensures.left)
 
 pub returns-in-Link-clause-tag : goal.returns-in-Link-clause-tag
 returns-in-Link-clause-tag c over = rw c.in-Link.is (ap enclosed (sym c.link_tag.ensures.tag))
 
 pub returns-in-Link-clause-from : goal.returns-in-Link-clause-from
-returns-in-Link-clause-from c source start end slices = c.link_tag.ensures.from source start end (rw c.in-Link.is at slices)
+returns-in-Link-clause-from c source start end slices = c.link_tag.ensures.from source start end
+    (rw c.in-Link.is at slices)
 
 pub returns-in-Link-clause-taken : goal.returns-in-Link-clause-taken
 returns-in-Link-clause-taken c = rw c.in-Link.is (takes_link _ c.args.tables.now c.link_tag.new.tables c.in-Link.ix refl
@@ -58,17 +61,20 @@ pub returns-in-Image-clause-tag : goal.returns-in-Image-clause-tag
 returns-in-Image-clause-tag c over = rw c.in-Image.is (ap enclosed (sym c.image_tag.ensures.tag))
 
 pub returns-in-Image-clause-from : goal.returns-in-Image-clause-from
-returns-in-Image-clause-from c source start end slices = c.image_tag.ensures.from source start end (rw c.in-Image.is at slices)
+returns-in-Image-clause-from c source start end slices = c.image_tag.ensures.from source start end
+    (rw c.in-Image.is at slices)
 
 pub returns-in-Image-clause-taken : goal.returns-in-Image-clause-taken
-returns-in-Image-clause-taken c = rw c.in-Image.is (takes_link _ c.args.tables.now c.image_tag.new.tables c.in-Image.ix refl
+returns-in-Image-clause-taken c = rw c.in-Image.is
+    (takes_link _ c.args.tables.now c.image_tag.new.tables c.in-Image.ix refl
     c.image_tag.ensures.left)
 
 pub returns-in_default-clause-tag : goal.returns-in_default-clause-tag
 returns-in_default-clause-tag c over =
     container_shape (tables_of c.args.tables.now) over c.args.body _ (container_of c.args.body) refl
     (some_container c.args.body c.requires.start c.in_default.not-Heading c.in_default.not-FencedCodeBlock
-    c.in_default.not-FootnoteDefinition c.in_default.not-Table c.in_default.not-Link c.in_default.not-Image) c.container_tag.ensures.tag
+    c.in_default.not-FootnoteDefinition c.in_default.not-Table c.in_default.not-Link c.in_default.not-Image)
+    c.container_tag.ensures.tag
 
 pub returns-in_default-clause-from : goal.returns-in_default-clause-from
 returns-in_default-clause-from c source start end slices = c.container_tag.ensures.from source start end

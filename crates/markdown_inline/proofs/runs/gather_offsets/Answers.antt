@@ -5,5 +5,6 @@ use Rattle.markdown_inline.proofs.RunLemmas.{collected}
 use Rattle.markdown_inline.proofs.runs.gather_offsets.Goals as goal
 
 pub returns : goal.returns
-returns g c = collected g.F.BrokenLinkCallback.answers IsPlacedOf (offset_parser {F = g.row.F.Denot}) c.args.iter c.collect.result
+returns g c = collected g.F.BrokenLinkCallback.answers IsPlacedOf (offset_parser {F = g.row.F.Denot}) c.args.iter
+    c.collect.result
     c.collect.ensures.ran

@@ -36,7 +36,8 @@ pub returns-in_ok-push-in-Plain : goal.returns-in_ok-push-in-Plain
 returns-in_ok-push-in-Plain c source held w =
     let went = c.in_ok-push-in-Plain.ensures.goes in
     let e : c.in_ok-push-in-Plain.field-0 ≡ c.args.ix = cc (went.0, c.requires.at_ix) in
-    passed_plain source c.args.tree.now c.push-in-Plain.new.self held c.args.ix c.item-item.result.now w c.requires.at_ix
+    passed_plain source c.args.tree.now c.push-in-Plain.new.self held c.args.ix c.item-item.result.now w
+    c.requires.at_ix
     (c.item-item.ensures no_item) c.in-Plain.ensures (rw e at went.1)
 
 pub returns-in_err-push-in-Start : goal.returns-in_err-push-in-Start

@@ -9,7 +9,8 @@ returns-in-None-close_item c source held w =
     let popped = c.in-Some.ensures.goes in
     went_out_plain source c.args.tree.now c.next_sibling.new.self held c.in-Some.ix c.item-item.result.now popped.0
     w c.requires popped.1
-    (rw popped.2 at (c.item-item.ensures no_item)) c.in-None-close_item.ensures (rw popped.2 at c.next_sibling.ensures.goes)
+    (rw popped.2 at (c.item-item.ensures no_item)) c.in-None-close_item.ensures
+    (rw popped.2 at c.next_sibling.ensures.goes)
 
 pub returns-in-Some-close_item : goal.returns-in-Some-close_item
 returns-in-Some-close_item c source held w =
@@ -20,5 +21,6 @@ returns-in-Some-close_item c source held w =
       start = tt;
       went = went_out_end source c.args.tree.now c.next_sibling.new.self held c.in-Some.ix c.item-item.result.now
           popped.0 _ w c.requires popped.1
-          (rw popped.2 at (c.item-item.ensures no_item)) c.in-Some-close_item.ensures (rw popped.2 at c.next_sibling.ensures.goes);
+          (rw popped.2 at (c.item-item.ensures no_item)) c.in-Some-close_item.ensures
+          (rw popped.2 at c.next_sibling.ensures.goes);
     }

@@ -9,7 +9,8 @@ pub returns-clause-entries : goal.returns-clause-entries
 returns-clause-entries c =
     IfOk-weaker c.outline.result _ _
     (λ entries h apart. entries_of_blocks _ c.args.blocks c.into_offset_iter.result _
-    (rw c.into_offset_iter.ensures c.in_ok-parser.ensures.left) (rw c.into_offset_iter.ensures c.in_ok-parser.ensures.callback)
+    (rw c.into_offset_iter.ensures c.in_ok-parser.ensures.left)
+    (rw c.into_offset_iter.ensures c.in_ok-parser.ensures.callback)
     h apart) c.outline.ensures.entries
 
 pub returns-clause-refused : goal.returns-clause-refused

@@ -1,7 +1,8 @@
 -- Where the loop is left: at an error item, at a refused allocation, and at the end.
 use Rattle.std.proofs.Common.{refl, inl, inr}
 use Rattle.std.proofs.lemmas.Result.{err_from_is_err_and, IfOk-weaker, IfErr-weaker}
-use Rattle.markdown_outline.proofs.OutlineReadLemmas.{TookIn-none, TookIn-more, MeetsError-from, NeedsMemory-event, NeedsMemory-end}
+use Rattle.markdown_outline.proofs.OutlineReadLemmas.{TookIn-none, TookIn-more, MeetsError-from, NeedsMemory-event}
+use Rattle.markdown_outline.proofs.OutlineReadLemmas.{NeedsMemory-end}
 use Rattle.markdown_outline.proofs.OutlineReadLemmas.{IsOutlineOfAll-from}
 use Rattle.markdown_outline.proofs.OutlineSoFarLemmas.{some-view}
 use Rattle.markdown_outline.proofs.read.outline.Goals as goal
@@ -11,7 +12,8 @@ loop-item-init g c = TookIn-none _ _ c.new-entries.ensures refl
 
 pub loop-item-preserved : goal.loop-item-preserved
 loop-item-preserved g c =
-    TookIn-more (c.in_ok-event.event, c.in_ok-event.range) c.loop-item.invariant c.in_ok-event.was c.in_ok-take_in.ensures.ok
+    TookIn-more (c.in_ok-event.event, c.in_ok-event.range) c.loop-item.invariant c.in_ok-event.was
+    c.in_ok-take_in.ensures.ok
 
 pub returns-in_err-event-clause-fault : goal.returns-in_err-event-clause-fault
 returns-in_err-event-clause-fault g c =
@@ -28,7 +30,8 @@ returns-in_err-take_in-clause-fault g c =
     let read = rw c.into_iter-item-iterator.ensures.into_iter_gives at c.loop-item.yielded_by in
     let refused = c.in_err-take_in.ensures.refused in
     let needs = NeedsMemory-event g.I.Iterator.next_gives _ _ _ (c.in_ok-event.event, c.in_ok-event.range) read
-    c.in-Some.ensures.steps c.in_ok-event.was c.loop-item.invariant (some-view c.loop-item.entries.open_entry refused.1) in
+    c.in-Some.ensures.steps c.in_ok-event.was c.loop-item.invariant (some-view c.loop-item.entries.open_entry refused.1)
+    in
     rw (p.1, p.2) (inr (refused.0, needs))
 
 pub returns-clause-entries : goal.returns-clause-entries

@@ -9,7 +9,8 @@ pub returns-clause-rest : goal.returns-clause-rest
 returns-clause-rest g c old new rendered = of_all g.F.BrokenLinkCallback.answers c.args.parser.now old new rendered
 
 pub returns-clause-error : goal.returns-clause-error
-returns-clause-error g c old new fault stopped = of_first g.F.BrokenLinkCallback.answers c.args.parser.now old new fault stopped
+returns-clause-error g c old new fault stopped = of_first g.F.BrokenLinkCallback.answers c.args.parser.now old new fault
+    stopped
 
 pub returns-clause-deep : goal.returns-clause-deep
 returns-clause-deep g c old new deep = of_deep g.F.BrokenLinkCallback.answers c.args.parser.now old new deep

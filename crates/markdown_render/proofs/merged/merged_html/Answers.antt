@@ -12,4 +12,5 @@ pub returns-in_err-push_items-clause-faults : goal.returns-in_err-push_items-cla
 returns-in_err-push_items-clause-faults g c =
     let p = err_from_is_err_and c.from_residual.result c.from_residual.ensures.1 in
     rw (p.1, p.2)
-    (merged_faults g.F.BrokenLinkCallback.answers _ _ c.new.result c.args.parser _ _ _ c.new.ensures c.in_err-push_items.ensures.err)
+    (merged_faults g.F.BrokenLinkCallback.answers _ _ c.new.result c.args.parser _ _ _ c.new.ensures
+    c.in_err-push_items.ensures.err)

@@ -5,7 +5,8 @@ use Rattle.markdown_render.proofs.rendering.render.Goals as goal
 
 pub returns-clause-html : goal.returns-clause-html
 returns-clause-html g c =
-    let law = c.html_of_a_parser_is_that_of_its_reading.ensures.document c.args.text.now c.args.options _ _ c.in_ok-parser.ensures.left
+    let law = c.html_of_a_parser_is_that_of_its_reading.ensures.document c.args.text.now c.args.options _ _
+    c.in_ok-parser.ensures.left
     c.in_ok-push_items.ensures.ok in
     rendering g.F.BrokenLinkCallback.answers c.args.text.now _ _ c.args.options c.args.callback c.in_ok-parser.parser
     c.new-html.ensures.bytes c.in_ok-parser.ensures.callback law

@@ -17,8 +17,12 @@ use Rattle.markdown_resolver.proofs.brackets.put_closed.Goals as goal
 pub settle-requires : goal.settle-requires
 settle-requires c =
     let source = c.requires.0 in
-    let tables = tables_of c.args.tables.now in
-    (source, tables, stands_rest source tables c.args.tree.now.nodes c.requires.1 (Some c.args.closer) c.requires.2 c.requires.6.stands)
+    let tables = tables_of c.args.tables.now in (
+      source,
+      tables,
+      stands_rest source tables c.args.tree.now.nodes c.requires.1 (Some c.args.closer) c.requires.2
+          c.requires.6.stands,
+    )
 
 pub returns-in-Text-clause-puts : goal.returns-in-Text-clause-puts
 returns-in-Text-clause-puts c source first left w closing becomes closes is =
@@ -44,8 +48,10 @@ returns-in-Link-clause-puts c =
     let b = becomes_link w becomes c.in-Link.opener c.in-Link.target c.in-Link.end c.in-Link.next
     (subst (λ (found : ClosedBracket). IsBecome w becomes found) c.in-Link.is is) in
     subst (λ (x : Becomes ℕ). PutsClosed source first closer next left w closing x old new tables tables') (sym b.is)
-    (puts source first left w closing b.split (subst (ClosesAt source tables old first closer left w closing) b.is closes) b.opener_is
-    (subst (λ (bytes : List ℕ). IsTargetFrom bytes (start_of b.split.opener) c.in-Link.end c.in-Link.target) closes.text_is b.from)))
+    (puts source first left w closing b.split
+    (subst (ClosesAt source tables old first closer left w closing) b.is closes) b.opener_is
+    (subst (λ (bytes : List ℕ). IsTargetFrom bytes (start_of b.split.opener) c.in-Link.end c.in-Link.target)
+    closes.text_is b.from)))
     c.put_target.ensures.puts
 
 pub returns-in-Footnote-clause-puts : goal.returns-in-Footnote-clause-puts
@@ -56,14 +62,17 @@ returns-in-Footnote-clause-puts c =
     let old = c.args.tree.now.nodes in
     let new = c.put_reference.new.tree.nodes in
     let closer = c.args.closer in
-    let b = becomes_footnote w becomes c.in-Footnote.opener c.in-Footnote.name (subst (λ (found : ClosedBracket). IsBecome w becomes found)
+    let b = becomes_footnote w becomes c.in-Footnote.opener c.in-Footnote.name
+    (subst (λ (found : ClosedBracket). IsBecome w becomes found)
     c.in-Footnote.is is) in
     subst (λ (x : Becomes ℕ). PutsClosed source first closer next left w closing x old new tables tables') (sym b.is)
-    (puts source first left w closing b.split (subst (ClosesAt source tables old first closer left w closing) b.is closes) b.opener_is))
+    (puts source first left w closing b.split
+    (subst (ClosesAt source tables old first closer left w closing) b.is closes) b.opener_is))
     c.put_reference.ensures.puts
 
 pub returns-in-Wikilinked-clause-puts : goal.returns-in-Wikilinked-clause-puts
 returns-in-Wikilinked-clause-puts c =
     if_ok c.put_wikilink.result _ _ (λ next puts. λ source first left w closing becomes closes is.
-    puts source first left w closing becomes closes (subst (λ (found : ClosedBracket). IsBecome w becomes found) c.in-Wikilinked.is is))
+    puts source first left w closing becomes closes
+    (subst (λ (found : ClosedBracket). IsBecome w becomes found) c.in-Wikilinked.is is))
     c.put_wikilink.ensures.puts

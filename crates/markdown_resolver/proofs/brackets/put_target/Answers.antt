@@ -10,7 +10,8 @@ use Rattle.markdown_resolver.proofs.brackets.put_target.Goals as goal
 pub item-requires : goal.item-requires
 item-requires c =
     let closes = c.requires.6 in
-    let at = opener_at c.requires.0 (tables_of c.args.tables.now) c.args.tree.now.nodes c.requires.1 c.args.closer c.requires.2 c.requires.5
+    let at = opener_at c.requires.0 (tables_of c.args.tables.now) c.args.tree.now.nodes c.requires.1 c.args.closer
+    c.requires.2 c.requires.5
     closes.stands closes.splits in
     rw c.requires.7 at.opener.within
 
@@ -20,7 +21,8 @@ put_link-requires c =
     let tables = tables_of c.args.tables.now in
     let inside = inside_numbers c.requires.5 in
     let r = may_link c.args.tables.now c.allocate_link.new.self _ c.in_ok-link.link c.item.result.now c.link_body.result
-    c.requires.6 c.requires.7 c.requires.8 c.in_ok-link.ensures.put c.in_ok-link.ensures.number refl (c.item.ensures no_item) c.link_body.ensures in (
+    c.requires.6 c.requires.7 c.requires.8 c.in_ok-link.ensures.put c.in_ok-link.ensures.number refl
+    (c.item.ensures no_item) c.link_body.ensures in (
       source,
       tables,
       tables_of c.allocate_link.new.self,
@@ -34,6 +36,8 @@ pub returns-clause-puts : goal.returns-clause-puts
 returns-clause-puts c source first left w closing o closes is from =
     let tables = tables_of c.args.tables.now in
     let inside = inside_numbers o in
-    let r = may_link c.args.tables.now c.allocate_link.new.self _ c.in_ok-link.link c.item.result.now c.link_body.result closes is from
+    let r = may_link c.args.tables.now c.allocate_link.new.self _ c.in_ok-link.link c.item.result.now c.link_body.result
+    closes is from
     c.in_ok-link.ensures.put c.in_ok-link.ensures.number refl (c.item.ensures no_item) c.link_body.ensures in
-    link_closed closes is r (c.put_link.ensures.puts source tables (tables_of c.allocate_link.new.self) inside r.put.grown r.close r.over)
+    link_closed closes is r
+    (c.put_link.ensures.puts source tables (tables_of c.allocate_link.new.self) inside r.put.grown r.close r.over)

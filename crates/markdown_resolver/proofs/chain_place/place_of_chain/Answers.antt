@@ -7,7 +7,8 @@ use Rattle.markdown_resolver.proofs.chain_place.place_of_chain.Goals.{then-is_bl
 
 pub above-init : goal.above-init
 above-init c = record {
-  read = nothing_read c.args.text.now _ c.args.tree.now.nodes c.args.tree.now.spine 0 refl refl (ap length c.as_bytes.ensures.value) refl;
+  read = nothing_read c.args.text.now _ c.args.tree.now.nodes c.args.tree.now.spine 0 refl refl
+      (ap length c.as_bytes.ensures.value) refl;
   options = refl;
 }
 
@@ -28,7 +29,8 @@ above-preserved c =
     ∙ ap (λ (ixs : List ℕ). item_at tree.nodes (get_or ixs i 0)) spine in
     elim c.if-is_block.branch [
       | then-is_block w ↦ record {
-        read = rw w.place-is (block_read c.args.text.now c.above.place _ tree.nodes c.requires.0 tree.spine i item c.requires.1 within same
+        read = rw w.place-is (block_read c.args.text.now c.above.place _ tree.nodes c.requires.0 tree.spine i item
+            c.requires.1 within same
             (sym c.is_block.ensures ∙ w.if-is_block.true) refl refl w.is_table_cell.ensures c.above.invariant.read);
         options = rw w.place-is c.above.invariant.options;
       }

@@ -12,5 +12,6 @@ settle_node-requires c = node_within c.requires.0 c.requires.1 c.args.tree.now.n
 
 pub returns-clause-puts : goal.returns-clause-puts
 returns-clause-puts c source tables ready =
-    let nodes : c.settle_node.new.tree.nodes ≡ settled_at c.args.ix c.args.tree.now.nodes = ap (λ t. t.nodes) c.settle_node.ensures in
+    let nodes : c.settle_node.new.tree.nodes ≡ settled_at c.args.ix c.args.tree.now.nodes = ap (λ t. t.nodes)
+    c.settle_node.ensures in
     rw (c.next-next.ensures.value, nodes) (settle_puts source tables c.args.tree.now.nodes c.args.ix ready)

@@ -11,15 +11,18 @@ inside-init c =
     let nodes = c.args.tree.now.nodes in
     record {
       within = node_within c.requires.0 c.requires.1 nodes c.args.opener c.requires.4.ready;
-      spelled = first_spelled c.requires.0 c.requires.1 nodes c.args.opener c.args.closer c.requires.2 c.requires.3 c.requires.4;
-      ahead = λ source tables inside byte can. ahead_first source tables nodes c.args.opener c.args.closer inside byte can;
+      spelled = first_spelled c.requires.0 c.requires.1 nodes c.args.opener c.args.closer c.requires.2 c.requires.3
+          c.requires.4;
+      ahead = λ source tables inside byte can. ahead_first source tables nodes c.args.opener c.args.closer inside byte
+          can;
     }
 
 pub returns-then-next-closer : goal.returns-then-next-closer
 returns-then-next-closer c source tables inside byte can =
     let nodes = c.args.tree.now.nodes in
     let link = sym c.next.ensures.value ∙ c.in-Some.is in
-    ahead_here nodes c.args.opener c.args.closer c.inside.last c.in-Some.next inside link (spelled_at nodes (sibling_of nodes c.inside.last)
+    ahead_here nodes c.args.opener c.args.closer c.inside.last c.in-Some.next inside link
+    (spelled_at nodes (sibling_of nodes c.inside.last)
     c.in-Some.next link c.inside.invariant.spelled)
     c.if-next-closer.true (c.inside.invariant.ahead source tables inside byte can)
 
@@ -46,5 +49,6 @@ inside-preserved c =
 
 pub returns : goal.returns
 returns c source tables inside byte can =
-    absurd (ahead_none c.args.tree.now.nodes c.args.opener c.args.closer c.inside.last inside (sym c.next.ensures.value ∙ c.in_default.is)
+    absurd (ahead_none c.args.tree.now.nodes c.args.opener c.args.closer c.inside.last inside
+    (sym c.next.ensures.value ∙ c.in_default.is)
     (c.inside.invariant.ahead source tables inside byte can))

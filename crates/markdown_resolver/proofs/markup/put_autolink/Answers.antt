@@ -9,7 +9,8 @@ use Rattle.markdown_spans.specs.AfterLess.{autolink}
 use Rattle.markdown_spans.specs.Finds.{address}
 use Rattle.markdown_resolver.specs.MarkupItems.{address_to, item_to}
 use Rattle.markdown_resolver.specs.Rewritten.{CanPutParent, Puts, parent}
-use Rattle.markdown_resolver.proofs.MarkupItemLemmas.{PutsLink, address_from, autolink_trees, can_put_autolink, link_put, puts_standing}
+use Rattle.markdown_resolver.proofs.MarkupItemLemmas.{PutsLink, address_from, autolink_trees, can_put_autolink}
+use Rattle.markdown_resolver.proofs.MarkupItemLemmas.{link_put, puts_standing}
 use Rattle.markdown_resolver.proofs.markup.put_autolink.Goals as goal
 
 pub put_parent-requires : goal.put_parent-requires
@@ -30,7 +31,8 @@ put_parent-requires c =
     c.in_ok-link.ensures.put c.in_ok-link.ensures.number
     (address_from source (item_at nodes ix).start end sliced uri at.address.slice) refl in
     let can = can_put_autolink source (tables_of held) (tables_of held') link uri nodes ix end put at.lies at.address in
-    let here = subst (λ (item : Item). CanPutParent source (tables_of held) (tables_of held') nodes ix (over item) (inside item))
+    let here = subst (λ (item : Item). CanPutParent source (tables_of held) (tables_of held') nodes ix (over item)
+    (inside item))
     (sym (c.item-item.ensures no_item)) can in
     (source, tables_of held, tables_of held', put.grown, at.found, here)
 
@@ -57,7 +59,9 @@ returns-clause-puts c = λ source rules at.
     let puts =
     subst (λ (item : Item). CanPutParent source tables tables' old ix (over item) (inside item)
     → Puts source ix (parent source tables' (over item) (inside item)) (Some end) rest old new tables tables')
-    (c.item-item.ensures no_item) (λ h. c.in_ok-put_parent.ensures.puts source tables tables' put.grown at.found h) can in
-    puts_standing source rules (autolink end uri) ix (parent source tables' (item_to old ix end (body.Link link)) (address_to old ix end))
+    (c.item-item.ensures no_item) (λ h. c.in_ok-put_parent.ensures.puts source tables tables' put.grown at.found h) can
+    in
+    puts_standing source rules (autolink end uri) ix
+    (parent source tables' (item_to old ix end (body.Link link)) (address_to old ix end))
     (Some end) rest old new tables tables' at.found.ready
     (autolink_trees source rules tables tables' link uri old ix end put) puts

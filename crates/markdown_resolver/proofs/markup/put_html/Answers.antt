@@ -10,7 +10,9 @@ returns-clause-puts c = λ source tables tables' grown found can.
     let old = c.args.tree.now.nodes in
     let new = c.put_found.new.tree.nodes in
     let from : ℕ → Item = λ start. record { start = start; end = c.args.end; body = c.args.body } in
-    let same : c.item.result.now.start ≡ (item_at old c.args.ix).start = ap (λ (item : Item). item.start) (c.item.ensures no_item) in
+    let same : c.item.result.now.start ≡ (item_at old c.args.ix).start = ap (λ (item : Item). item.start)
+    (c.item.ensures no_item) in
     subst (λ (start : ℕ). CanPut source tables tables' (from start)
-    → Puts source c.args.ix (one_item source tables' (from start)) (Some c.args.end) c.put_found.result old new tables tables') same
+    → Puts source c.args.ix (one_item source tables' (from start)) (Some c.args.end) c.put_found.result old new tables
+    tables') same
     (λ can. c.put_found.ensures.puts source tables tables' grown found can same) can

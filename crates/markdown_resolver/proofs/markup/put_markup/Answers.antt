@@ -15,15 +15,18 @@ use Rattle.markdown_resolver.specs.MarkupItems.{IsMarkupAt, item_to, standing_fo
 use Rattle.markdown_resolver.specs.Rewritten.{Puts, one_item}
 use Rattle.markdown_resolver.specs.declared.rest.Rest.{Rest}
 use Rattle.markdown_resolver.proofs.CodeSpanLemmas.{PutsText, text_put}
-use Rattle.markdown_resolver.proofs.MarkupItemLemmas.{can_put_html, can_put_owned, html_trees, owned_trees, puts_standing}
+use Rattle.markdown_resolver.proofs.MarkupItemLemmas.{can_put_html, can_put_owned, html_trees, owned_trees}
+use Rattle.markdown_resolver.proofs.MarkupItemLemmas.{puts_standing}
 use Rattle.markdown_resolver.proofs.MarkupLemmas.{if_ok}
 use Rattle.markdown_resolver.proofs.markup.put_markup.Goals as goal
 
 -- what is put there if it was found there
-abbrev StandsFor : List ℕ → Rules → (tables tables' : Tables) → (old new : List (Node Item)) → (ix : ℕ) → Rest → MarkupFound → Type 0
+abbrev StandsFor : List ℕ → Rules → (tables tables' : Tables) → (old new : List (Node Item)) → (ix : ℕ) → Rest
+    → MarkupFound → Type 0
 StandsFor source rules tables tables' old new ix rest found =
     IsMarkupAt source tables old ix (markup_of found)
-    → Puts source ix (standing_for source rules (markup_of found)) (Some (end_of_markup (markup_of found))) rest old new tables tables'
+    → Puts source ix (standing_for source rules (markup_of found)) (Some (end_of_markup (markup_of found))) rest old new
+    tables tables'
 
 pub put_html-requires : goal.put_html-requires
 put_html-requires c =
@@ -31,7 +34,8 @@ put_html-requires c =
     let tables = tables_of c.args.tables.now in
     let nodes = c.args.tree.now.nodes in
     let end = c.in-Html.end in
-    let at : IsMarkupAt source tables nodes c.args.ix (html_markup end None) = subst (λ (found : MarkupFound). IsMarkupAt source tables nodes
+    let at : IsMarkupAt source tables nodes c.args.ix (html_markup end None) = subst
+    (λ (found : MarkupFound). IsMarkupAt source tables nodes
     c.args.ix (markup_of found)) c.in-Html.is c.requires.1 in
     (source, tables, tables, grown-nothing tables, at.found, can_put_html source tables nodes c.args.ix end at.lies)
 
@@ -45,8 +49,10 @@ put_html-requires-in-OwnedHtml c =
     let bytes = string_bytes c.in-OwnedHtml.tag in
     let entry = c.in_ok-number-in-OwnedHtml in
     let at : IsMarkupAt source (tables_of held) nodes c.args.ix (html_markup end (Some bytes)) =
-    subst (λ (found : MarkupFound). IsMarkupAt source (tables_of held) nodes c.args.ix (markup_of found)) c.in-OwnedHtml.is c.requires.1 in
-    let put = text_put held held' c.from.result entry.number bytes entry.ensures.put entry.ensures.number c.from.ensures.1 in (
+    subst (λ (found : MarkupFound). IsMarkupAt source (tables_of held) nodes c.args.ix (markup_of found))
+    c.in-OwnedHtml.is c.requires.1 in
+    let put = text_put held held' c.from.result entry.number bytes entry.ensures.put entry.ensures.number
+    c.from.ensures.1 in (
       source,
       tables_of held,
       tables_of held',
@@ -59,7 +65,8 @@ put_html-requires-in-OwnedHtml c =
 pub returns-in-Autolink-clause-puts : goal.returns-in-Autolink-clause-puts
 returns-in-Autolink-clause-puts c =
     if_ok c.put_autolink.result _ _ (λ rest puts. λ source rules.
-    subst (StandsFor source rules (tables_of c.args.tables.now) (tables_of c.put_autolink.new.tables) c.args.tree.now.nodes
+    subst (StandsFor source rules (tables_of c.args.tables.now) (tables_of c.put_autolink.new.tables)
+    c.args.tree.now.nodes
     c.put_autolink.new.tree.nodes c.args.ix rest) (sym c.in-Autolink.is)
     (puts source rules)) c.put_autolink.ensures.puts
 
@@ -72,10 +79,12 @@ returns-in-Html-clause-puts c = λ source rules.
     let end = c.in-Html.end in
     let rest = c.put_html.result in
     subst (StandsFor source rules tables tables old new ix rest) (sym c.in-Html.is) (λ at.
-    puts_standing source rules (html_markup end None) ix (one_item source tables (item_to old ix end body.InlineHtml)) (Some end) rest old new tables
+    puts_standing source rules (html_markup end None) ix (one_item source tables (item_to old ix end body.InlineHtml))
+    (Some end) rest old new tables
     tables at.found.ready
     (html_trees source rules tables tables old ix end)
-    (c.put_html.ensures.puts source tables tables (grown-nothing tables) at.found (can_put_html source tables old ix end at.lies)))
+    (c.put_html.ensures.puts source tables tables (grown-nothing tables) at.found
+    (can_put_html source tables old ix end at.lies)))
 
 pub returns-in_ok-number-in-OwnedHtml-clause-puts : goal.returns-in_ok-number-in-OwnedHtml-clause-puts
 returns-in_ok-number-in-OwnedHtml-clause-puts c = λ source rules.
@@ -90,11 +99,14 @@ returns-in_ok-number-in-OwnedHtml-clause-puts c = λ source rules.
     let bytes = string_bytes c.in-OwnedHtml.tag in
     let entry = c.in_ok-number-in-OwnedHtml in
     let rest = c.put_html-in-OwnedHtml.result in
-    let put : PutsText tables tables' entry.number bytes = text_put held held' c.from.result entry.number bytes entry.ensures.put
+    let put : PutsText tables tables' entry.number bytes = text_put held held' c.from.result entry.number bytes
+    entry.ensures.put
     entry.ensures.number c.from.ensures.1 in
     subst (StandsFor source rules tables tables' old new ix rest) (sym c.in-OwnedHtml.is) (λ at.
-    puts_standing source rules (html_markup end (Some bytes)) ix (one_item source tables' (item_to old ix end (body.OwnedInlineHtml entry.number)))
+    puts_standing source rules (html_markup end (Some bytes)) ix
+    (one_item source tables' (item_to old ix end (body.OwnedInlineHtml entry.number)))
     (Some end) rest old new tables tables' at.found.ready
     (owned_trees source rules tables tables' entry.number bytes old ix end put)
-    (c.put_html-in-OwnedHtml.ensures.puts source tables tables' put.grown at.found (can_put_owned source tables tables' entry.number bytes
+    (c.put_html-in-OwnedHtml.ensures.puts source tables tables' put.grown at.found
+    (can_put_owned source tables tables' entry.number bytes
     old ix end put at.lies)))

@@ -23,7 +23,8 @@ returns-then-not-is_escaped-clause-puts c = λ source tables tables' can.
 -- the span that follows an escaped backtick
 after_backtick : (nodes : List (Node Item)) (ix closer : ℕ) (b : ItemBody) (opener : Item) (end : ℕ)
     → (source : List ℕ) × (tables : Tables) × (tables' : Tables) × CanPutCode source tables tables' nodes ix closer b
-    → opener ≡ item_at nodes ix → end ≡ (item_at nodes closer).end → is_escaped opener.body ≡ true → opener.start + 1 ≤ end
+    → opener ≡ item_at nodes ix → end ≡ (item_at nodes closer).end → is_escaped opener.body ≡ true
+    → opener.start + 1 ≤ end
 after_backtick nodes ix closer b opener end r opens ends escaped =
     let is : is_escaped (item_at nodes ix).body ≡ true = ap (λ (i : Item). is_escaped i.body) (sym opens) ∙ escaped in
     let span : CanPutPair r.0 r.1 r.2 nodes ix closer (first_backtick (item_at nodes ix))
@@ -36,14 +37,16 @@ fits_below n m le fits = omega (arith, le, fits)
 
 pub overflow_add-backtick : goal.overflow_add-backtick
 overflow_add-backtick c =
-    let room = after_backtick c.args.tree.now.nodes c.args.ix c.args.closer c.args.body c.item-item.result.now c.end_of-end.result
+    let room = after_backtick c.args.tree.now.nodes c.args.ix c.args.closer c.args.body c.item-item.result.now
+    c.end_of-end.result
     c.requires
     (c.item-item.ensures no_item) c.end_of-end.ensures (sym c.is_escaped.ensures ∙ c.if-not-is_escaped.false) in
     fits_below (c.item-item.result.now.start + 1) c.end_of-end.result room c.end_of-end.type_inv
 
 pub overflow_add-span : goal.overflow_add-span
 overflow_add-span c =
-    let room = after_backtick c.args.tree.now.nodes c.args.ix c.args.closer c.args.body c.item-item.result.now c.end_of-end.result
+    let room = after_backtick c.args.tree.now.nodes c.args.ix c.args.closer c.args.body c.item-item.result.now
+    c.end_of-end.result
     c.requires
     (c.item-item.ensures no_item) c.end_of-end.ensures (sym c.is_escaped.ensures ∙ c.if-not-is_escaped.false) in
     fits_below (c.item-item.result.now.start + 1) c.end_of-end.result room c.end_of-end.type_inv

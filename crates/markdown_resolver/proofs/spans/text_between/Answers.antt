@@ -32,10 +32,13 @@ pub returns-clause-origin : goal.returns-clause-origin
 returns-clause-origin c =
     c.in_ok-span_text.ensures.origin
     ∙ ap (λ t. span_origin t c.range.result.now) c.requires.place.in_table
-    ∙ ap (λ (b : List ℕ). span_origin (above_cursor c.args.place.now.text.now c.args.tree.now).in_table b) c.range.ensures.value
+    ∙ ap (λ (b : List ℕ). span_origin (above_cursor c.args.place.now.text.now c.args.tree.now).in_table b)
+    c.range.ensures.value
 
 pub returns-clause-slice : goal.returns-clause-slice
 returns-clause-slice c =
     let text = c.in_ok-span_text.field-0 in
-    sliced_inside c.args.place.now.text.now c.args.content.start c.args.content.end _ (origin_of text) (text_of text) c.requires.cut.ordered
-    (subst (λ (b : List ℕ). IsSlicedOf b 0 (length b) (origin_of text) (text_of text)) c.range.ensures.value c.in_ok-span_text.ensures.slice)
+    sliced_inside c.args.place.now.text.now c.args.content.start c.args.content.end _ (origin_of text) (text_of text)
+    c.requires.cut.ordered
+    (subst (λ (b : List ℕ). IsSlicedOf b 0 (length b) (origin_of text) (text_of text)) c.range.ensures.value
+    c.in_ok-span_text.ensures.slice)

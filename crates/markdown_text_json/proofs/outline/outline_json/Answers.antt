@@ -8,8 +8,10 @@ use Rattle.markdown_text_json.proofs.outline.outline_json.Goals as goal
 
 pub returns-clause-json : goal.returns-clause-json
 returns-clause-json c =
-    outline_of_text _ c.in_ok-parser.parser _ c.args.text.now _ _ (map entry_view c.in_ok-entries.entries.items) c.args.options
-    c.utf8.text c.into_offset_iter.ensures c.in_ok-parser.ensures.left c.in_ok-parser.ensures.callback c.new-json.ensures.bytes
+    outline_of_text _ c.in_ok-parser.parser _ c.args.text.now _ _ (map entry_view c.in_ok-entries.entries.items)
+    c.args.options
+    c.utf8.text c.into_offset_iter.ensures c.in_ok-parser.ensures.left c.in_ok-parser.ensures.callback
+    c.new-json.ensures.bytes
     c.in_ok-entries.ensures.entries (rw c.as_slice.ensures.value at c.in_ok-push_outline.ensures.ok)
 
 pub returns-in_err-entries-clause-refused : goal.returns-in_err-entries-clause-refused

@@ -14,7 +14,8 @@ abbrev silent : {F : Type 0} → F → Question → Option Answer → F → Type
 silent old question answer new = (answer ≡ None) × (old ≡ new)
 
 of_memory : {F : Type 0} (step : F → Question → Option Answer → F → Type 0) (o : OffsetIter F) (fault : Fault)
-    → MeetsError (OffsetSteps step) o fault ⊎ (fault ≡ Fault.Memory) × NeedsMemory (OffsetSteps step) o → fault ≡ Fault.Memory
+    → MeetsError (OffsetSteps step) o fault ⊎ (fault ≡ Fault.Memory) × NeedsMemory (OffsetSteps step) o → fault
+    ≡ Fault.Memory
 of_memory step o fault (inl met) = only_memory step o met.left met.events fault met.read
 of_memory step o fault (inr needs) = needs.0
 
@@ -35,4 +36,5 @@ returns-clause-refused c =
     IfErr-weaker c.outline.result
     (λ fault. MeetsError (OffsetSteps silent) c.into_offset_iter.result fault
     ⊎ (fault ≡ Fault.Memory) × NeedsMemory (OffsetSteps silent) c.into_offset_iter.result)
-    (λ fault. fault ≡ Fault.Memory) (λ fault why. of_memory silent c.into_offset_iter.result fault why) c.outline.ensures.fault
+    (λ fault. fault ≡ Fault.Memory) (λ fault why. of_memory silent c.into_offset_iter.result fault why)
+    c.outline.ensures.fault

@@ -8,6 +8,7 @@ use Rattle.markdown_uses.proofs.contents.list_of.Given as goal
 abbrev pub invariant-loop-at : goal.invariant-loop-at
 invariant-loop-at l = record {
   ready : AreReadyAfter (reverse l.open_levels.items) l.times (map entry_view (take l.at l.headings));
-  lines : string_bytes l.list ++ lines_after (map entry_view (take l.at l.headings)) (map entry_view (drop l.at l.headings))
+  lines : string_bytes l.list ++ lines_after (map entry_view (take l.at l.headings))
+      (map entry_view (drop l.at l.headings))
       ≡ contents_of (map entry_view l.headings);
 }

@@ -15,5 +15,7 @@ overflow_add-before c =
 pub returns-clause-counted : goal.returns-clause-counted
 returns-clause-counted c =
     let same : c.unwrap_or-before.result ≡ times_of c.args.times.now (plain_anchor c.args.text.now) = search rules in
-    let sets = btree_map_updates_text (string_bytes c.in_ok-plain.plain) c.args.times.now c.insert.new.self _ c.in_ok-insert.ensures.updates in
-    counts-set c.args.times.now c.insert.new.self (plain_anchor c.args.text.now) (rw (c.in_ok-plain.ensures.anchor, same) at sets)
+    let sets = btree_map_updates_text (string_bytes c.in_ok-plain.plain) c.args.times.now c.insert.new.self _
+    c.in_ok-insert.ensures.updates in
+    counts-set c.args.times.now c.insert.new.self (plain_anchor c.args.text.now)
+    (rw (c.in_ok-plain.ensures.anchor, same) at sets)

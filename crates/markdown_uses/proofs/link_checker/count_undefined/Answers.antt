@@ -9,9 +9,11 @@ use Rattle.markdown_uses.proofs.link_checker.count_undefined.Goals as goal
 
 pub returns-in-Some-clause-count : goal.returns-in-Some-clause-count
 returns-in-Some-clause-count c =
-    let all = counts_questions c.args.source.now c.in_ok-parser.parser c.into_offset_iter.result c.in_ok-events.events.items
+    let all = counts_questions c.args.source.now c.in_ok-parser.parser c.into_offset_iter.result
+    c.in_ok-events.events.items
     (record { count = 0 }) c.in_ok-events.callback
-    (subst (λ (o : Options). ReadsText c.args.source.now o c.in_ok-parser.parser) c.empty.ensures c.in_ok-parser.ensures.left)
+    (subst (λ (o : Options). ReadsText c.args.source.now o c.in_ok-parser.parser) c.empty.ensures
+    c.in_ok-parser.ensures.left)
     c.in_ok-parser.ensures.callback refl c.into_offset_iter.ensures c.in_ok-events.ensures.all in
     let is : Some all.0 ≡ Some c.in-Some.undefined = sym all.1 ∙ c.in-Some.is in
     let same : all.0 ≡ c.in-Some.undefined = cc in
@@ -19,9 +21,11 @@ returns-in-Some-clause-count c =
 
 pub returns-in-None-clause-count : goal.returns-in-None-clause-count
 returns-in-None-clause-count c =
-    let all = counts_questions c.args.source.now c.in_ok-parser.parser c.into_offset_iter.result c.in_ok-events.events.items
+    let all = counts_questions c.args.source.now c.in_ok-parser.parser c.into_offset_iter.result
+    c.in_ok-events.events.items
     (record { count = 0 }) c.in_ok-events.callback
-    (subst (λ (o : Options). ReadsText c.args.source.now o c.in_ok-parser.parser) c.empty.ensures c.in_ok-parser.ensures.left)
+    (subst (λ (o : Options). ReadsText c.args.source.now o c.in_ok-parser.parser) c.empty.ensures
+    c.in_ok-parser.ensures.left)
     c.in_ok-parser.ensures.callback refl c.into_offset_iter.ensures c.in_ok-events.ensures.all in
     let no : None ≡ Some all.0 = sym c.in-None.is ∙ all.1 in
     cc

@@ -7,9 +7,11 @@ pub loop-at-preserved : goal.loop-at-preserved
 loop-at-preserved c =
     elim c.if-is_line_end.branch [
       | then-is_line_end w ↦
-          let came = line_ended c.as_bytes-bytes.result.now c.loop-at.at (sym c.is_line_end.ensures ∙ w.if-is_line_end.true) in
+          let came = line_ended c.as_bytes-bytes.result.now c.loop-at.at
+          (sym c.is_line_end.ensures ∙ w.if-is_line_end.true) in
           record { lines = omega arith; few = omega arith; begins = omega arith }
       | else-is_line_end w ↦
-          let came = line_continued c.as_bytes-bytes.result.now c.loop-at.at (sym c.is_line_end.ensures ∙ w.if-is_line_end.false) in
+          let came = line_continued c.as_bytes-bytes.result.now c.loop-at.at
+          (sym c.is_line_end.ensures ∙ w.if-is_line_end.false) in
           record { lines = omega arith; few = omega arith; begins = omega arith }
     ]

@@ -17,10 +17,13 @@ loop-event-preserved c =
       | then-is_raw_html+in_ok-push w ↦ rw w.places-is (w.in_ok-push.ensures.items
           ∙ ap (λ (p : Place). c.loop-event.places.items ++ p ∷ []) w.place_of.ensures
           ∙ places-more c.args.source.now c.deref-event-items.result.now c.loop-event.event-index
-          c.loop-event-item.result c.loop-event.places.items c.loop-event-test.true c.loop-event-item.is w.if-is_raw_html.ensures
+          c.loop-event-item.result c.loop-event.places.items c.loop-event-test.true c.loop-event-item.is
+          w.if-is_raw_html.ensures
           c.loop-event.invariant)
-      | else-is_raw_html w ↦ rw w.places-is (places-same c.args.source.now c.deref-event-items.result.now c.loop-event.event-index
-          c.loop-event-item.result c.loop-event.places.items c.loop-event-test.true c.loop-event-item.is w.if-is_raw_html.ensures
+      | else-is_raw_html w ↦ rw w.places-is
+          (places-same c.args.source.now c.deref-event-items.result.now c.loop-event.event-index
+          c.loop-event-item.result c.loop-event.places.items c.loop-event-test.true c.loop-event-item.is
+          w.if-is_raw_html.ensures
           c.loop-event.invariant)
     ]
 
@@ -29,8 +32,11 @@ returns-clause-places c =
     let h : length c.deref-event-items.result.now ≤ c.loop-event.event-index = c.loop-event-test.false in
     record {
       events = viewed c.in_ok-events.events.items;
-      read = are_events _ c.args.source.now c.in_ok-parser.parser c.into_offset_iter.result c.in_ok-events.events.items _
-          c.in_ok-parser.ensures.left c.in_ok-parser.ensures.callback c.into_offset_iter.ensures c.in_ok-events.ensures.all;
+      read = are_events _ c.args.source.now c.in_ok-parser.parser c.into_offset_iter.result c.in_ok-events.events.items
+          _
+          c.in_ok-parser.ensures.left c.in_ok-parser.ensures.callback c.into_offset_iter.ensures
+          c.in_ok-events.ensures.all;
       are = (rw take_all at c.loop-event.invariant)
-          ∙ ap (λ (es : List (Event × Range ℕ)). html_places c.args.source.now (viewed es)) c.deref-event-items.ensures.value;
+          ∙ ap (λ (es : List (Event × Range ℕ)). html_places c.args.source.now (viewed es))
+          c.deref-event-items.ensures.value;
     }

@@ -17,7 +17,8 @@ returns-clause-value g c =
     let rules = c.rules.result in
     let text = c.range-text.ensures.value ∙ whole_range at.place.now.text.now at.place.now.block_end in
     let read : IfOk c.scan_link_tail.result (ReadsTail rules.in_table (link_tail (g.R.LineRule.skipped rules.rule.now)
-    (starts_from at.tree.now.nodes c.next.result) c.range-text.result.now c.item.result.now.end)) = c.scan_link_tail.ensures.value in
+    (starts_from at.tree.now.nodes c.next.result) c.range-text.result.now c.item.result.now.end))
+    = c.scan_link_tail.ensures.value in
     rw (c.rules.ensures.in_table, c.rules.ensures.rule, c.next.ensures.value, text, c.item.ensures no_item) at read
 
 pub returns-clause-from : goal.returns-clause-from
@@ -25,8 +26,10 @@ returns-clause-from g c =
     let at = c.args.self.now in
     let place = at.place.now in
     let text = c.range-text.ensures.value ∙ whole_range place.text.now place.block_end in
-    subst (λ (i : Item). IfOk c.scan_link_tail.result (λ found. IfSome found (IsTailFrom place.text.now i.end))) (c.item.ensures no_item)
+    subst (λ (i : Item). IfOk c.scan_link_tail.result (λ found. IfSome found (IsTailFrom place.text.now i.end)))
+    (c.item.ensures no_item)
     (ok_both c.scan_link_tail.result _ _ _ c.scan_link_tail.ensures.value c.scan_link_tail.ensures.borrowed
     (λ found reads borrows.
-    has_title c.rules.result.in_table (g.R.LineRule.skipped c.rules.result.rule.now) (starts_from at.tree.now.nodes c.next.result)
+    has_title c.rules.result.in_table (g.R.LineRule.skipped c.rules.result.rule.now)
+    (starts_from at.tree.now.nodes c.next.result)
     place.text.now c.range-text.result.now place.block_end c.item.result.now.end found text reads borrows))

@@ -6,7 +6,8 @@ pub returns-then-self-left : goal.returns-then-self-left
 returns-then-self-left c =
     let left = c.pop.new.self.items in
     let fits : c.self.inside.live_from ≤ length left = omega arith in
-    rw (← c.self.view_is, c.in_ok-opener.ensures.items) (waiting_live c.self.inside.live_from left c.in_ok-opener.opener fits)
+    rw (← c.self.view_is, c.in_ok-opener.ensures.items)
+    (waiting_live c.self.inside.live_from left c.in_ok-opener.opener fits)
 
 pub returns : goal.returns
 returns c =

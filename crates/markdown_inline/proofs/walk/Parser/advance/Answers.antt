@@ -8,7 +8,8 @@ walk-init g c = record { askable = c.requires; gone = gone_nowhere g.F.BrokenLin
 pub walk-preserved : goal.walk-preserved
 walk-preserved g c = record {
   askable = c.advance_once.ensures.askable;
-  gone = gone_on g.F.BrokenLinkCallback.answers c.args.self.now c.walk.self c.advance_once.new.self c.walk.invariant.gone
+  gone = gone_on g.F.BrokenLinkCallback.answers c.args.self.now c.walk.self c.advance_once.new.self
+      c.walk.invariant.gone
       c.in_default.ensures.moves.0 c.advance_once.ensures.keeps c.in_default.ensures.moves.1;
 }
 

@@ -2,7 +2,8 @@
 use Rattle.markdown_document.specs.Tables.{tables_of}
 use Rattle.std.proofs.Common.{refl}
 use Rattle.markdown_inline.specs.ParserLeft.{parser_setting}
-use Rattle.markdown_inline.proofs.ParserLemmas.{above_chain, before_chain, moved_give, moved_past, moved_skip, stands_chain, unread_chain}
+use Rattle.markdown_inline.proofs.ParserLemmas.{above_chain, before_chain, moved_give, moved_past, moved_skip}
+use Rattle.markdown_inline.proofs.ParserLemmas.{stands_chain, unread_chain}
 use Rattle.markdown_inline.proofs.ParserLemmas.{moved_chain, moved_done, moved_refused, moved_stopped}
 use Rattle.markdown_base.specs.Item.{range_of}
 use Rattle.markdown_inline.proofs.WalkStepsLemmas.{stands_ended, stopped}
@@ -11,15 +12,19 @@ use Rattle.markdown_inline.proofs.walk.Parser.advance_once.Goals as goal
 pub resolve_chain-requires : goal.resolve_chain-requires
 resolve_chain-requires g c κs =
     let s = c.args.self.now in
-    let h = rw c.in-Ok-Chain.field-0-is at (c.in-Ok-Chain.ensures s.resolver.text.now s.resolver.lookup.tables s.stands) in (
+    let h = rw c.in-Ok-Chain.field-0-is at (c.in-Ok-Chain.ensures s.resolver.text.now s.resolver.lookup.tables s.stands)
+    in (
       (refl, tt),
       (
         c.requires,
         (
           record {
-            ready = rw h.1 (before_chain s.resolver.text.now s.tree s.resolver.lookup.tables c.in-Ok-Chain.first s.stands h.0);
-            unread = rw h.1 (unread_chain s.resolver.text.now s.tree s.resolver.lookup.tables c.in-Ok-Chain.first s.stands h.0);
-            above = rw h.1 (above_chain s.resolver.text.now s.tree s.resolver.lookup.tables c.in-Ok-Chain.first s.stands h.0);
+            ready = rw h.1 (before_chain s.resolver.text.now s.tree s.resolver.lookup.tables c.in-Ok-Chain.first
+                s.stands h.0);
+            unread = rw h.1 (unread_chain s.resolver.text.now s.tree s.resolver.lookup.tables c.in-Ok-Chain.first
+                s.stands h.0);
+            above = rw h.1 (above_chain s.resolver.text.now s.tree s.resolver.lookup.tables c.in-Ok-Chain.first s.stands
+                h.0);
           },
           rw h.1 h.0.is_open,
         ),
@@ -29,11 +34,14 @@ resolve_chain-requires g c κs =
 pub invariant_of-self-in-Ok : goal.invariant_of-self-in-Ok
 invariant_of-self-in-Ok g c =
     let s = c.args.self.now in
-    let h = rw c.in-Ok-Chain.field-0-is at (c.in-Ok-Chain.ensures s.resolver.text.now s.resolver.lookup.tables s.stands) in
+    let h = rw c.in-Ok-Chain.field-0-is at (c.in-Ok-Chain.ensures s.resolver.text.now s.resolver.lookup.tables s.stands)
+    in
     record {
-      stands = rw c.in-Ok.ensures.kept.text (stands_chain g.F.BrokenLinkCallback.answers (parser_setting s) s.tree c.resolve_chain.new.tree
+      stands = rw c.in-Ok.ensures.kept.text
+          (stands_chain g.F.BrokenLinkCallback.answers (parser_setting s) s.tree c.resolve_chain.new.tree
           s.resolver.lookup.tables c.resolve_chain.new.self.lookup.tables c.in-Ok-Chain.first
-          s.resolver.lookup.limit c.resolve_chain.new.self.lookup.limit s.resolver.lookup.callback c.resolve_chain.new.self.lookup.callback s.resolver.work
+          s.resolver.lookup.limit c.resolve_chain.new.self.lookup.limit s.resolver.lookup.callback
+          c.resolve_chain.new.self.lookup.callback s.resolver.work
           c.resolve_chain.new.self.work
           s.stands h.0 (rw h.1 at c.in-Ok.ensures.resolves));
     }
@@ -41,64 +49,78 @@ invariant_of-self-in-Ok g c =
 pub invariant_of-self-in-Ok-Skip : goal.invariant_of-self-in-Ok-Skip
 invariant_of-self-in-Ok-Skip g c =
     let s = c.args.self.now in
-    let h = rw c.in-Ok-Skip.field-0-is at (c.in-Ok-Skip.ensures s.resolver.text.now s.resolver.lookup.tables s.stands) in
+    let h = rw c.in-Ok-Skip.field-0-is at (c.in-Ok-Skip.ensures s.resolver.text.now s.resolver.lookup.tables s.stands)
+    in
     record { stands = h.stands }
 
 pub invariant_of-self-in-Err-resolve_chain : goal.invariant_of-self-in-Err-resolve_chain
 invariant_of-self-in-Err-resolve_chain g c =
     record {
-      stands = stands_ended c.resolve_chain.new.self.text.now (tables_of c.resolve_chain.new.self.lookup.tables) c.stop.new.self
+      stands = stands_ended c.resolve_chain.new.self.text.now (tables_of c.resolve_chain.new.self.lookup.tables)
+          c.stop.new.self
           (stopped c.resolve_chain.new.tree c.stop.new.self c.stop.ensures);
     }
 
 pub invariant_of-self-in-Err : goal.invariant_of-self-in-Err
 invariant_of-self-in-Err g c =
     record {
-      stands = stands_ended c.args.self.now.resolver.text.now (tables_of c.args.self.now.resolver.lookup.tables) c.stop-in-Err.new.self
+      stands = stands_ended c.args.self.now.resolver.text.now (tables_of c.args.self.now.resolver.lookup.tables)
+          c.stop-in-Err.new.self
           (stopped c.take_step.new.tree c.stop-in-Err.new.self c.stop-in-Err.ensures);
     }
 
 pub returns-in-Ok-Done-clause-moves : goal.returns-in-Ok-Done-clause-moves
 returns-in-Ok-Done-clause-moves g c =
     let s = c.args.self.now in
-    let h = rw c.in-Ok-Done.field-0-is at (c.in-Ok-Done.ensures s.resolver.text.now s.resolver.lookup.tables s.stands) in
+    let h = rw c.in-Ok-Done.field-0-is at (c.in-Ok-Done.ensures s.resolver.text.now s.resolver.lookup.tables s.stands)
+    in
     moved_done s _ h.0 h.1 refl refl
 
 pub returns-in-Ok-Skip-clause-moves : goal.returns-in-Ok-Skip-clause-moves
 returns-in-Ok-Skip-clause-moves g c =
     let s = c.args.self.now in
-    let h = rw c.in-Ok-Skip.field-0-is at (c.in-Ok-Skip.ensures s.resolver.text.now s.resolver.lookup.tables s.stands) in
-    moved_skip g.F.BrokenLinkCallback.answers s _ (record { text = refl; options = refl; callback = refl; limit = refl; work = refl }) h
+    let h = rw c.in-Ok-Skip.field-0-is at (c.in-Ok-Skip.ensures s.resolver.text.now s.resolver.lookup.tables s.stands)
+    in
+    moved_skip g.F.BrokenLinkCallback.answers s _
+    (record { text = refl; options = refl; callback = refl; limit = refl; work = refl }) h
 
 pub returns-in-Ok-Leaf-clause-moves : goal.returns-in-Ok-Leaf-clause-moves
 returns-in-Ok-Leaf-clause-moves g c =
     let s = c.args.self.now in
-    let h = rw c.in-Ok-Leaf.field-0-is at (c.in-Ok-Leaf.ensures s.resolver.text.now s.resolver.lookup.tables s.stands) in
-    moved_past s _ c.in-Ok-Leaf.item _ (record { text = refl; options = refl; callback = refl; limit = refl; work = refl }) refl h
+    let h = rw c.in-Ok-Leaf.field-0-is at (c.in-Ok-Leaf.ensures s.resolver.text.now s.resolver.lookup.tables s.stands)
+    in
+    moved_past s _ c.in-Ok-Leaf.item _
+    (record { text = refl; options = refl; callback = refl; limit = refl; work = refl }) refl h
 
 pub returns-in-Ok-Start-clause-moves : goal.returns-in-Ok-Start-clause-moves
 returns-in-Ok-Start-clause-moves g c =
     let s = c.args.self.now in
-    let h = rw c.in-Ok-Start.field-0-is at (c.in-Ok-Start.ensures s.resolver.text.now s.resolver.lookup.tables s.stands) in
-    moved_past s _ c.in-Ok-Start.item _ (record { text = refl; options = refl; callback = refl; limit = refl; work = refl }) refl h
+    let h = rw c.in-Ok-Start.field-0-is at (c.in-Ok-Start.ensures s.resolver.text.now s.resolver.lookup.tables s.stands)
+    in
+    moved_past s _ c.in-Ok-Start.item _
+    (record { text = refl; options = refl; callback = refl; limit = refl; work = refl }) refl h
 
 pub returns-in-Ok-End-clause-moves : goal.returns-in-Ok-End-clause-moves
 returns-in-Ok-End-clause-moves g c =
     let s = c.args.self.now in
     let h = rw c.in-Ok-End.field-0-is at (c.in-Ok-End.ensures s.resolver.text.now s.resolver.lookup.tables s.stands) in
-    moved_give s _ _ (range_of c.in-Ok-End.item) (record { text = refl; options = refl; callback = refl; limit = refl; work = refl }) h
+    moved_give s _ _ (range_of c.in-Ok-End.item)
+    (record { text = refl; options = refl; callback = refl; limit = refl; work = refl }) h
 
 pub returns-in-Ok-clause-moves : goal.returns-in-Ok-clause-moves
 returns-in-Ok-clause-moves g c =
     let s = c.args.self.now in
-    let h = rw c.in-Ok-Chain.field-0-is at (c.in-Ok-Chain.ensures s.resolver.text.now s.resolver.lookup.tables s.stands) in
-    moved_chain g.F.BrokenLinkCallback.answers c.args.self.now _ c.in-Ok-Chain.first c.in-Ok.ensures.kept.text c.in-Ok.ensures.kept.options
+    let h = rw c.in-Ok-Chain.field-0-is at (c.in-Ok-Chain.ensures s.resolver.text.now s.resolver.lookup.tables s.stands)
+    in
+    moved_chain g.F.BrokenLinkCallback.answers c.args.self.now _ c.in-Ok-Chain.first c.in-Ok.ensures.kept.text
+    c.in-Ok.ensures.kept.options
     c.args.self.now.stands h.0 (rw h.1 at c.in-Ok.ensures.resolves)
 
 pub returns-in-Err-resolve_chain-clause-moves : goal.returns-in-Err-resolve_chain-clause-moves
 returns-in-Err-resolve_chain-clause-moves g c =
     let s = c.args.self.now in
-    let h = rw c.in-Ok-Chain.field-0-is at (c.in-Ok-Chain.ensures s.resolver.text.now s.resolver.lookup.tables s.stands) in
+    let h = rw c.in-Ok-Chain.field-0-is at (c.in-Ok-Chain.ensures s.resolver.text.now s.resolver.lookup.tables s.stands)
+    in
     moved_stopped g.F.BrokenLinkCallback.answers c.args.self.now _ c.in-Ok-Chain.first c.args.self.now.stands h.0
     (rw h.1 at c.in-Err-resolve_chain.ensures.stops)
     (stopped c.resolve_chain.new.tree c.stop.new.self c.stop.ensures)

@@ -13,7 +13,8 @@ fitting P steps most (Some n) s h = omega (arith, s.1, h)
 pub returns : goal.returns
 returns g c =
     let p = c.args.self.now in
-    let few = steps_of-few p.resolver.text.now (tables_of p.resolver.lookup.tables) p.tree.nodes p.tree.cursor p.tree.spine p.stands in
+    let few = steps_of-few p.resolver.text.now (tables_of p.resolver.lookup.tables) p.tree.nodes p.tree.cursor
+    p.tree.spine p.stands in
     fitting _ _ _ c.checked_add.result c.checked_add.ensures (omega (
       arith,
       few,

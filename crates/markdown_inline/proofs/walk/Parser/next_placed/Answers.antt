@@ -2,17 +2,21 @@
 use Rattle.std.proofs.Common.{refl}
 use Rattle.markdown_base.specs.Item.{range_of}
 use Rattle.markdown_inline.specs.NextGives.{IsPlacedOf}
-use Rattle.markdown_inline.proofs.ParserLemmas.{advances_none, advances_fault, advances_event, begun_event, begun_fault, steps_failed}
+use Rattle.markdown_inline.proofs.ParserLemmas.{advances_none, advances_fault, advances_event, begun_event, begun_fault}
+use Rattle.markdown_inline.proofs.ParserLemmas.{steps_failed}
 use Rattle.markdown_inline.proofs.ParserLemmas.{start_falls, stop_falls}
 use Rattle.markdown_inline.proofs.walk.Parser.next_placed.Goals as goal
 
 pub invariant_of-self : goal.invariant_of-self
-invariant_of-self g c = record { stands = c.in-Leaf.ensures.stops.moved.ready.stands _ c.leaf_event-event.ensures.taken }
+invariant_of-self g c = record {
+  stands = c.in-Leaf.ensures.stops.moved.ready.stands _ c.leaf_event-event.ensures.taken;
+}
 
 pub returns-in-Over-clause-gives : goal.returns-in-Over-clause-gives
 returns-in-Over-clause-gives g c =
     let h = c.in-Over.ensures.stops in
-    advances_none g.F.BrokenLinkCallback.answers IsPlacedOf c.args.self.now h.before c.advance.new.self h.gone h.moved h.keeps
+    advances_none g.F.BrokenLinkCallback.answers IsPlacedOf c.args.self.now h.before c.advance.new.self h.gone h.moved
+    h.keeps
 
 pub returns-in-Leaf-clause-gives : goal.returns-in-Leaf-clause-gives
 returns-in-Leaf-clause-gives g c =
@@ -41,12 +45,14 @@ returns-in-End-clause-gives g c =
 pub returns-in-Refused-clause-gives : goal.returns-in-Refused-clause-gives
 returns-in-Refused-clause-gives g c =
     let h = c.in-Refused.ensures.stops in
-    advances_fault g.F.BrokenLinkCallback.answers IsPlacedOf c.args.self.now h.before c.advance.new.self h.gone h.moved h.keeps
+    advances_fault g.F.BrokenLinkCallback.answers IsPlacedOf c.args.self.now h.before c.advance.new.self h.gone h.moved
+    h.keeps
 
 pub returns-in-Ok-clause-gives : goal.returns-in-Ok-clause-gives
 returns-in-Ok-clause-gives g c =
     let h = c.in-Start.ensures.stops in
-    begun_event g.F.BrokenLinkCallback.answers c.args.self.now h.before c.advance.new.self c.start.new.self c.in-Start.item _
+    begun_event g.F.BrokenLinkCallback.answers c.args.self.now h.before c.advance.new.self c.start.new.self
+    c.in-Start.item _
     c.in-Ok.event h.gone h.keeps h.moved c.in-Ok.ensures.begun
 
 pub returns-in-Err-clause-gives : goal.returns-in-Err-clause-gives
@@ -63,13 +69,15 @@ returns-in-Leaf-clause-falls g c =
 pub returns-in-Ok-clause-falls : goal.returns-in-Ok-clause-falls
 returns-in-Ok-clause-falls g c =
     let h = c.in-Start.ensures.stops in
-    start_falls g.F.BrokenLinkCallback.answers c.args.self.now h.before c.advance.new.self c.start.new.self c.in-Start.item _
+    start_falls g.F.BrokenLinkCallback.answers c.args.self.now h.before c.advance.new.self c.start.new.self
+    c.in-Start.item _
     c.start.result h.gone h.moved c.start.ensures.begun
 
 pub returns-in-Err-clause-falls : goal.returns-in-Err-clause-falls
 returns-in-Err-clause-falls g c =
     let h = c.in-Start.ensures.stops in
-    start_falls g.F.BrokenLinkCallback.answers c.args.self.now h.before c.advance.new.self c.start.new.self c.in-Start.item _
+    start_falls g.F.BrokenLinkCallback.answers c.args.self.now h.before c.advance.new.self c.start.new.self
+    c.in-Start.item _
     c.start.result h.gone h.moved c.start.ensures.begun
 
 pub returns-in-End-clause-falls : goal.returns-in-End-clause-falls

@@ -30,7 +30,8 @@ returns-in-Ok-clause-begun g c = record {
     tables = c.in-Ok.ensures.taken;
   };
   opens = opens_start c.args.self.now.resolver.text.now (range_of c.args.item) _ c.in-Ok.tag (c.in-Ok.ensures.tag _)
-      (c.in-Ok.ensures.from c.args.self.now.resolver.text.now (origin_start c.args.self.now.resolver.text.now c.args.item.start)
+      (c.in-Ok.ensures.from c.args.self.now.resolver.text.now
+      (origin_start c.args.self.now.resolver.text.now c.args.item.start)
       c.args.item.end c.requires.begins.can.slices);
 }
 

@@ -9,7 +9,8 @@ abbrev pub invariant-chain : goal.invariant-chain
 invariant-chain g l = record {
   spelled : Spells (links_of l.tree.nodes) l.at (forest_at (links_of l.tree.nodes) l.at);
   resolver : l.self ≡ record l.fn.self { work = record l.fn.self.work { items = l.self.work.items } };
-  counted : Counted l.fn.self.work.items l.self.work.items (items_from l.tree.nodes (Some l.first)) (items_from l.tree.nodes l.at);
+  counted : Counted l.fn.self.work.items l.self.work.items (items_from l.tree.nodes (Some l.first))
+      (items_from l.tree.nodes l.at);
 }
 
 abbrev pub decreases-chain : goal.decreases-chain

@@ -9,7 +9,8 @@ use Rattle.markdown_resolver.proofs.ReadingLemmas.{node_within}
 use Rattle.markdown_resolver.proofs.resolver.Resolver.decide_closing.Goals as goal
 
 pub new-rule-requires : goal.new-rule-requires
-new-rule-requires g c = has_blocks c.args.place.now.text.now c.args.tree.now (Some c.requires.ready.first) c.requires.ready.was_read.above
+new-rule-requires g c = has_blocks c.args.place.now.text.now c.args.tree.now (Some c.requires.ready.first)
+    c.requires.ready.was_read.above
 
 pub decide_bracket-requires : goal.decide_bracket-requires
 decide_bracket-requires g c κs =
@@ -18,7 +19,8 @@ decide_bracket-requires g c κs =
       (refl, tt),
       (
         record {
-          within = node_within c.args.place.now.text.now (tables_of c.args.self.now.lookup.tables) c.args.tree.now.nodes c.args.ix
+          within = node_within c.args.place.now.text.now (tables_of c.args.self.now.lookup.tables) c.args.tree.now.nodes
+              c.args.ix
               (ready_here can);
           brackets = tries_each can _ is;
           wikilinks = finds_each can _ is;
@@ -34,8 +36,10 @@ returns g c =
       gfm = c.new-rule.ensures.footnotes ∙ c.gfm_footnotes.ensures;
     } in
     record {
-      decides = decides_here g.F.BrokenLinkCallback.answers c.args.place.now c.new-rule.result c.args.tree.now c.args.self.now _ c.args.ix
-          c.decide_bracket.result c.requires.ready.text c.requires.ready.options prefix c.requires.closes c.decide_bracket.ensures.decides;
+      decides = decides_here g.F.BrokenLinkCallback.answers c.args.place.now c.new-rule.result c.args.tree.now
+          c.args.self.now _ c.args.ix
+          c.decide_bracket.result c.requires.ready.text c.requires.ready.options prefix c.requires.closes
+          c.decide_bracket.ensures.decides;
       nothing_asked = c.decide_bracket.ensures.nothing_asked;
       again = c.decide_bracket.ensures.again;
       refused = c.decide_bracket.ensures.refused;

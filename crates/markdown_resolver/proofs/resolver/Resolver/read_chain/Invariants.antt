@@ -12,8 +12,10 @@ use Rattle.markdown_resolver.specs.ReadsBracket.{HasLearned}
 abbrev pub invariant-chain : goal.invariant-chain
 invariant-chain g l = record {
   reads : ReadsUpTo g.F.BrokenLinkCallback.answers
-      (setting_of l.fn.self.text.now (rules_from l.fn.self.options l.fn.self.lookup.tables (is_some l.fn.self.lookup.callback))) l.first l.at
-      l.fn.tree l.tree l.fn.self.lookup.tables l.self.lookup.tables l.fn.self.lookup.limit l.self.lookup.limit l.fn.self.lookup.callback l.self.lookup.callback l.self.waiting.spent
+      (setting_of l.fn.self.text.now
+      (rules_from l.fn.self.options l.fn.self.lookup.tables (is_some l.fn.self.lookup.callback))) l.first l.at
+      l.fn.tree l.tree l.fn.self.lookup.tables l.self.lookup.tables l.fn.self.lookup.limit l.self.lookup.limit
+      l.fn.self.lookup.callback l.self.lookup.callback l.self.waiting.spent
       l.self.waiting.openers.brackets l.self.waiting.openers.wikilinks;
   can_ask : IfSome l.self.lookup.callback g.F.BrokenLinkCallback.can_ask;
   scanner : l.scanner.text.now ≡ take l.place.block_end l.place.text.now;
@@ -22,8 +24,10 @@ invariant-chain g l = record {
       (items_from l.fn.tree.nodes (Some l.first)) (items_from l.tree.nodes l.at);
   math_looks : LookedUpTo (has_failed l.self.math_closers) l.fn.self.work.math_visits l.self.work.math_visits
       (items_from l.fn.tree.nodes (Some l.first)) (items_from l.tree.nodes l.at);
-  counted : Counted l.fn.self.work.items l.self.work.items (items_from l.fn.tree.nodes (Some l.first)) (items_from l.tree.nodes l.at);
-  footnotes : (name : List ℕ) → is_some (footnote_at l.self.lookup.tables.footdefs name) ≡ is_some (footnote_at l.fn.self.lookup.tables.footdefs name);
+  counted : Counted l.fn.self.work.items l.self.work.items (items_from l.fn.tree.nodes (Some l.first))
+      (items_from l.tree.nodes l.at);
+  footnotes : (name : List ℕ) → is_some (footnote_at l.self.lookup.tables.footdefs name)
+      ≡ is_some (footnote_at l.fn.self.lookup.tables.footdefs name);
   kept : l.self ≡ record l.fn.self {
     lookup = record l.fn.self.lookup {
       tables = record l.fn.self.lookup.tables {

@@ -10,14 +10,16 @@ use Rattle.markdown_resolver.specs.BracketKinds.{kind_of}
 use Rattle.markdown_resolver.specs.ReadsBracket.{setting_by, stage_by}
 use Rattle.markdown_resolver.specs.declared.resolver.Resolver.{Resolver}
 use Rattle.markdown_resolver.proofs.ChainReadLemmas.{can_read_item}
-use Rattle.markdown_resolver.proofs.NodeReadLemmas.{bracket_changes, bracket_read, bracket_stops, other_changes, other_read}
+use Rattle.markdown_resolver.proofs.NodeReadLemmas.{bracket_changes, bracket_read, bracket_stops, other_changes}
+use Rattle.markdown_resolver.proofs.NodeReadLemmas.{other_read}
 use Rattle.markdown_resolver.proofs.OpenerReadLemmas.{if_err_both, ready_here}
 use Rattle.markdown_resolver.proofs.ReadingLemmas.{node_within}
 use Rattle.markdown_resolver.proofs.StopsLemmas.{stops_here}
 use Rattle.markdown_resolver.proofs.resolver.Resolver.read_item.Goals as goal
 
 pub item-requires : goal.item-requires
-item-requires g c = node_within c.args.place.now.text.now (tables_of c.args.self.now.lookup.tables) c.args.tree.now.nodes c.args.ix
+item-requires g c = node_within c.args.place.now.text.now (tables_of c.args.self.now.lookup.tables)
+    c.args.tree.now.nodes c.args.ix
     (ready_here c.requires.ready.was_read)
 
 pub read_bracket-requires : goal.read_bracket-requires
@@ -61,16 +63,19 @@ returns-in-None g c =
     let kind : kind_of (item_at t.nodes c.args.ix).body ≡ None =
     ap (λ (item : Item). kind_of item.body) (sym (c.item.ensures no_item)) ∙ sym c.kind_of.ensures ∙ c.in-None.is in
     record {
-      reads = other_read c.read_other.result g.F.BrokenLinkCallback.answers c.args.place.now c.args.ix t new.tree s new.self
+      reads = other_read c.read_other.result g.F.BrokenLinkCallback.answers c.args.place.now c.args.ix t new.tree s
+          new.self
           c.requires.ready kind e.kept e.reads;
       stops = IfErr-weaker c.read_other.result _ _ (λ fault both. record {
         refused = both.0;
         at_node = λ first left was_read.
-            stops_here g.F.BrokenLinkCallback.answers (setting_by s) (above_cursor s.text.now t) (Some c.args.ix) left (stage_by t s)
+            stops_here g.F.BrokenLinkCallback.answers (setting_by s) (above_cursor s.text.now t) (Some c.args.ix) left
+            (stage_by t s)
             s.waiting.spent new.self.lookup.callback (ap (λ (r : Resolver g.row.F.Denot). r.lookup.callback) e.kept);
         looking = both.1;
       }) (if_err_both c.read_other.result _ _ e.refused e.stops);
-      again = subst (λ (r : Resolver g.row.F.Denot). IfSome r.lookup.callback g.F.BrokenLinkCallback.can_ask) (sym e.kept) c.requires.can_ask;
+      again = subst (λ (r : Resolver g.row.F.Denot). IfSome r.lookup.callback g.F.BrokenLinkCallback.can_ask)
+          (sym e.kept) c.requires.can_ask;
       scanner = e.scanner;
       kept = other_changes e.kept;
     }

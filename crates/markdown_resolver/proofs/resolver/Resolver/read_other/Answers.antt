@@ -27,7 +27,8 @@ read_code-requires g c κs =
 
 pub read_math-requires : goal.read_math-requires
 read_math-requires g c κs =
-    let opener = ap (λ (item : Item). is_dollar item.body) (sym (c.item.ensures no_item)) ∙ ap is_dollar c.in-MaybeMath.is in
+    let opener = ap (λ (item : Item). is_dollar item.body) (sym (c.item.ensures no_item))
+    ∙ ap is_dollar c.in-MaybeMath.is in
     ((refl, tt), (c.requires.ready, opener))
 
 pub read_markup-requires : goal.read_markup-requires
@@ -42,9 +43,11 @@ returns-in_default g c =
     let tables = tables_of s.lookup.tables in
     let set = setting_by s in
     let above = above_cursor s.text.now c.args.tree.now in
-    let nothing_there : FindsNothing c.item.result.now.body = finds_nothing c.item.result.now.body c.in_default.not-MaybeCode
+    let nothing_there : FindsNothing c.item.result.now.body = finds_nothing c.item.result.now.body
+    c.in_default.not-MaybeCode
     c.in_default.not-MaybeMath c.in_default.not-MaybeHtml in
-    let ready : CanResolve s.text.now tables nodes (Some c.args.ix) = rw c.requires.ready.text at c.requires.ready.chain.ready in
+    let ready : CanResolve s.text.now tables nodes (Some c.args.ix) = rw c.requires.ready.text at
+    c.requires.ready.chain.ready in
     let result : Result Rest Fault = Ok c.settle.result in
     let read = reads_alone result set above c.args.ix nodes c.settle.new.tree.nodes tables tables ready
     (settled_reads set above c.args.ix c.settle.result nodes c.settle.new.tree.nodes tables ready

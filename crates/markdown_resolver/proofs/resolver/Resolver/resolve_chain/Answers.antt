@@ -24,9 +24,11 @@ pair_chain-requires g c =
     let s = c.args.self.now in
     let rules = rules_from s.options s.lookup.tables (is_some s.lookup.callback) in
     let after = c.read_chain.new.self in
-    let can = read_can_pair g.F.BrokenLinkCallback.answers (setting_of s.text.now rules) (above_cursor s.text.now c.args.tree.now)
+    let can = read_can_pair g.F.BrokenLinkCallback.answers (setting_of s.text.now rules)
+    (above_cursor s.text.now c.args.tree.now)
     c.args.first (stage c.args.tree.now s.lookup.tables s.lookup.limit s.lookup.callback)
-    (stage c.read_chain.new.tree after.lookup.tables after.lookup.limit after.lookup.callback) c.requires.ready.ready.quiet_below c.in_ok-read_chain.ensures.reads.reads in
+    (stage c.read_chain.new.tree after.lookup.tables after.lookup.limit after.lookup.callback)
+    c.requires.ready.ready.quiet_below c.in_ok-read_chain.ensures.reads.reads in
     record { chain = rw c.read_chain.ensures.kept.kept can }
 
 pub returns-in_err-read_chain-clause-stops : goal.returns-in_err-read_chain-clause-stops
@@ -35,8 +37,10 @@ returns-in_err-read_chain-clause-stops g c =
     let rules = rules_from s.options s.lookup.tables (is_some s.lookup.callback) in
     let read = c.read_chain.ensures.counts in
     if_err c.from_residual.result
-    (stops_resolving g.F.BrokenLinkCallback.answers (setting_of s.text.now rules) (above_cursor s.text.now c.args.tree.now) c.args.first
-    (stage c.args.tree.now s.lookup.tables s.lookup.limit s.lookup.callback) c.read_chain.new.self.lookup.callback s.work c.read_chain.new.self.work
+    (stops_resolving g.F.BrokenLinkCallback.answers (setting_of s.text.now rules)
+    (above_cursor s.text.now c.args.tree.now) c.args.first
+    (stage c.args.tree.now s.lookup.tables s.lookup.limit s.lookup.callback) c.read_chain.new.self.lookup.callback
+    s.work c.read_chain.new.self.work
     c.in_err-read_chain.ensures.stops
     (λ later. read_in_part (setting_of s.text.now rules) (above_cursor s.text.now c.args.tree.now) c.args.first
     (stage c.args.tree.now s.lookup.tables s.lookup.limit s.lookup.callback) _ s.work c.read_chain.new.self.work read))
@@ -75,7 +79,8 @@ returns-clause-resolves g c =
     let pairs = rw kept at (c.in_ok-pair_chain.ensures.pairs rules (rw kept refl)) in
     let finds : RisesAtLeast (finds_in setting (chain_at s.text.now mid (Some c.args.first))) after.work.examined
     c.pair_chain.new.work.examined =
-    subst (λ text. RisesAtLeast (finds_in (setting_of text rules) (trees_from text (tables_of after.lookup.tables) c.read_chain.new.tree.nodes
+    subst (λ text. RisesAtLeast
+    (finds_in (setting_of text rules) (trees_from text (tables_of after.lookup.tables) c.read_chain.new.tree.nodes
     (Some c.args.first)))
     after.work.examined c.pair_chain.new.work.examined) (ap (λ (r : Resolver g.row.F.Denot). r.text.now) kept)
     (c.in_ok-pair_chain.ensures.found rules (tables_of after.lookup.tables) (rw kept refl)) in
@@ -85,7 +90,8 @@ returns-clause-resolves g c =
           record t { nodes = c.pair_chain.new.tree.nodes } in u) reads.place_is;
       tables = rw kept refl;
       footnotes = λ name. c.read_chain.ensures.kept.footnotes name;
-      chain = then_pairs step setting above c.args.first old mid c.pair_chain.new.tree.nodes c.requires.ready.ready.quiet_below reads.reads pairs;
+      chain = then_pairs step setting above c.args.first old mid c.pair_chain.new.tree.nodes
+          c.requires.ready.ready.quiet_below reads.reads pairs;
       counted = counts_rise step setting above c.args.first old mid s.work after.work c.pair_chain.new.work
           reads.reads read
           (record { counted = c.pair_chain.ensures.counted; compared = c.pair_chain.ensures.examined; finds = finds });
