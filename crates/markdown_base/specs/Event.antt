@@ -86,6 +86,10 @@ abbrev pub code_block_view : CodeBlockKind → TagView
 code_block_view code_block.Indented = indented_code
 code_block_view (code_block.Fenced info) = fenced_code (text_of info)
 
+-- a link or an image: its type, and its destination, title and label by their texts
+abbrev pub link_view : LinkType × CowStr × CowStr × CowStr → LinkView
+link_view l = record { kind = l.0; destination = text_of l.1; title = text_of l.2; label = text_of l.3 }
+
 -- a tag, by its texts
 abbrev pub tag_view : Tag → TagView
 tag_view opens.Paragraph = paragraph
@@ -113,18 +117,8 @@ tag_view opens.Strong = strong
 tag_view opens.Strikethrough = strikethrough
 tag_view opens.Superscript = superscript
 tag_view opens.Subscript = subscript
-tag_view (opens.Link kind destination title label) = link (record {
-  kind = kind;
-  destination = text_of destination;
-  title = text_of title;
-  label = text_of label;
-})
-tag_view (opens.Image kind destination title label) = image (record {
-  kind = kind;
-  destination = text_of destination;
-  title = text_of title;
-  label = text_of label;
-})
+tag_view (opens.Link kind destination title label) = link (link_view (kind, destination, title, label))
+tag_view (opens.Image kind destination title label) = image (link_view (kind, destination, title, label))
 tag_view (opens.MetadataBlock kind) = metadata_block kind
 
 -- an event, by its texts

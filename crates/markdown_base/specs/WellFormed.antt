@@ -22,10 +22,6 @@ pub record IsReachedOnce (nodes : List (Node Item)) : Type 0 where
   pub finite : Spells (links_of nodes) (child_of nodes 0) (numbers_below nodes)
   pub once : IsDistinct nat_eq (0 ∷ preorder (numbers_below nodes))
 
--- 2. Each range lies in the text, between characters.
-abbrev pub RangesLieIn : List ℕ → Item → Type 0
-RangesLieIn text item = LiesIn text item
-
 -- one item precedes another: in the text, and by its number
 pub record Precedes (a b : Numbered) : Type 0 where
   pub ends : a.item.end ≤ b.item.start
@@ -48,10 +44,6 @@ all_inline chain = list_all (λ n. is_inline n.item.body) (roots chain)
 pub record ChainsAreKept (above : ItemBody) (below : Forest Numbered) : Type 0 where
   pub childless : IsTrue (is_childless above) → below ≡ nil
   pub inline_only : IsTrue (has_open below) → IsTrue (all_inline below)
-
--- 5. Nothing is resolved yet.
-abbrev pub NothingResolved : ItemBody → Type 0
-NothingResolved b = is_resolved b ≡ false
 
 -- the source text of an item
 abbrev pub source_of : List ℕ → Item → List ℕ
@@ -156,10 +148,12 @@ pub record BlocksAreSettled (above : ItemBody) (below : Forest Numbered) : Type 
 -- rules 2 to 9 for one item, with the forest below it and the item after it
 pub record KeepsRules (text : List ℕ) (counts : PartCounts) (a : Numbered) (below : Forest Numbered)
     (next : Option Numbered) : Type 0 where
-  pub ranges_lie_in : RangesLieIn text a.item
+  -- 2. The range lies in the text, between characters.
+  pub ranges_lie_in : LiesIn text a.item
   pub inline_in_order : InlineInOrder a next
   pub chains_are_kept : ChainsAreKept a.item.body below
-  pub nothing_resolved : NothingResolved a.item.body
+  -- 5. Nothing is resolved yet.
+  pub nothing_resolved : is_resolved a.item.body ≡ false
   pub markup_is_there : MarkupIsThere text a.item
   pub runs_are_whole : RunsAreWhole text a next
   pub parts_are_named : PartsAreNamed counts a.item.body

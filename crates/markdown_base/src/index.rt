@@ -1,8 +1,11 @@
 //! Numbers by which an item refers to a part of its block result.
+ghost use Rattle.std.specs.Prelude.{◌≡◌, IfOk};
+
+use std::alloc::AllocError;
 
 /// The number of a text, counted from 0.
 #[derive(Clone, Copy, Debug, PartialEq, Eq)]
-pub struct CowIndex(pub usize);
+pub struct CowIndex(pub u32);
 
 /// The number of a link, counted from 0.
 #[derive(Clone, Copy, Debug, PartialEq, Eq)]
@@ -14,4 +17,32 @@ pub struct AlignmentIndex(pub usize);
 
 /// The number of a heading's attributes, counted from 1.
 #[derive(Clone, Copy, Debug, PartialEq, Eq)]
-pub struct HeadingIndex(pub usize);
+pub struct HeadingIndex(pub u32);
+
+impl CowIndex {
+    /// Returns the index with this number. A number of 2^32 or more is refused, as an allocation is.
+    pub fn of(number: usize) -> Result<CowIndex, AllocError>
+        ensures { IfOk result (λ ix. ix.0 ≡ number) }
+    {
+        Ok(CowIndex(in_32_bits(number)?))
+    }
+}
+
+impl HeadingIndex {
+    /// Returns the index with this number. A number of 2^32 or more is refused, as an allocation is.
+    pub fn of(number: usize) -> Result<HeadingIndex, AllocError>
+        ensures { IfOk result (λ ix. ix.0 ≡ number) }
+    {
+        Ok(HeadingIndex(in_32_bits(number)?))
+    }
+}
+
+/// Returns a number in the width in which items hold it. A number of 2^32 or more is refused, as an allocation is.
+pub fn in_32_bits(number: usize) -> Result<u32, AllocError>
+    ensures { IfOk result (λ held. held ≡ number) }
+{
+    if number > u32::MAX as usize {
+        return Err(AllocError);
+    }
+    Ok(number as u32)
+}

@@ -8,13 +8,13 @@ use crate::tag::{BlockQuoteKind, HeadingLevel, MetadataBlockKind};
 pub enum ItemBody {
     /// A character of a delimiter run: the number of characters from this one to the run's end, whether the run can
     /// open, whether it can close.
-    MaybeEmphasis(usize, bool, bool),
+    MaybeEmphasis(u32, bool, bool),
     /// A `$`: whether it can open, whether it can close, its brace context.
     MaybeMath(bool, bool, u8),
     /// A quotation mark: its byte, whether it can open, whether it can close.
     MaybeSmartQuote(u8, bool, bool),
     /// A run of backticks: its length, whether a backslash precedes it.
-    MaybeCode(usize, bool),
+    MaybeCode(u32, bool),
     /// A `<`.
     MaybeHtml,
     /// A `[`.

@@ -4,6 +4,7 @@ ghost use Rattle.std.specs.Prelude.{IfOk, IfSome, OnErr};
 ghost use Rattle.markdown_base.specs.Arena.{items_of, child_of, sibling_of};
 ghost use Rattle.markdown_base.specs.ArenaChanges.{innermost, single, changed_at, follower, led_to};
 ghost use Rattle.markdown_base.specs.ArenaChanges.{appended};
+ghost use Rattle.markdown_base.specs.StoredNodes.{target_of};
 ghost use Rattle.markdown_base.specs.declared.item.ItemBody.TheVariants as body;
 
 use crate::item::{Item, ItemBody};
@@ -72,11 +73,11 @@ impl Tree<Item> {
 }
 
 impl<T: Drop> Tree<T> {
-    /// Returns the number of nodes, including the root.
+    /// Returns the number of nodes, including the root: less than 2^32.
     pub fn len(&self) -> usize
         ensures count { result ≡ length self.now.nodes }
         ensures rooted { 0 < result }
-        ensures small { result < 2 ^ 63 }
+        ensures small { result < 2 ^ 32 }
     {
         self.nodes.len()
     }
@@ -172,14 +173,14 @@ impl<T: Drop> Tree<T> {
         node.next = Link::to(next);
     }
 
-    /// Adds a node without children, followed by the given node if any, and returns its number. A node beyond the
-    /// limit is refused, as an allocation is; the tree is then unchanged.
-    fn add_node(&mut self, item: T, next: Option<usize>) -> Result<usize, AllocError>
-        requires { IfSome next (λ after. after < length self.old.nodes) }
+    /// Adds a node without children, followed by the node that the link leads to, if any, and returns its number. A
+    /// node beyond the limit is refused, as an allocation is; the tree is then unchanged.
+    fn add_node(&mut self, item: T, next: Link) -> Result<usize, AllocError>
+        requires { IfSome (target_of next) (λ after. after < length self.old.nodes) }
         ensures number { IfOk result (λ ix. ix ≡ length self.old.nodes) }
         ensures made { IfOk result (λ _. self.new ≡ record self.old {
           nodes = self.old.nodes
-              ++ record { item = item; child = None; next = next } ∷ [];
+              ++ record { item = item; child = None; next = target_of next } ∷ [];
         }) }
         ensures refused { OnErr result (self.new ≡ self.old) }
     {
@@ -190,7 +191,7 @@ impl<T: Drop> Tree<T> {
         self.nodes.push(StoredNode {
             item,
             child: Link::to(None),
-            next: Link::to(next),
+            next,
         })?;
         Ok(ix)
     }
@@ -202,7 +203,7 @@ impl<T: Drop> Tree<T> {
             ≡ record self.old { nodes = self.old.nodes ++ single item ∷ [] }) }
         ensures refused { OnErr result (self.new ≡ self.old) }
     {
-        self.add_node(item, None)
+        self.add_node(item, Link::to(None))
     }
 
     /// Returns the node entered last, or the root.
@@ -216,14 +217,14 @@ impl<T: Drop> Tree<T> {
         }
     }
 
-    /// Returns the node that would follow a node appended now, if any.
-    fn follower(&self) -> Option<usize>
-        ensures value { result ≡ follower self.now.nodes self.now.spine self.now.cursor }
-        ensures within { IfSome result (λ after. after < length self.now.nodes) }
+    /// Returns the link to the node that would follow a node appended now, if any.
+    fn follower(&self) -> Link
+        ensures value { target_of result ≡ follower self.now.nodes self.now.spine self.now.cursor }
+        ensures within { IfSome (target_of result) (λ after. after < length self.now.nodes) }
     {
         match self.cur() {
-            Some(before) => self.next(before),
-            None => self.child(self.parent()),
+            Some(before) => self.nodes[before].next,
+            None => self.nodes[self.parent()].child,
         }
     }
 

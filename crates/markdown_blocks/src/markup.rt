@@ -39,7 +39,7 @@ fn is_markup(source: &[u8], body: ItemBody) -> bool
     match body {
         ItemBody::MaybeMath(_, _, _) => source == b"$".as_slice(),
         ItemBody::MaybeSmartQuote(quote, _, _) => is_quote(source, quote),
-        ItemBody::MaybeCode(count, _) => is_backtick_run(source, count),
+        ItemBody::MaybeCode(count, _) => is_backtick_run(source, count as usize),
         ItemBody::MaybeHtml => source == b"<".as_slice(),
         ItemBody::MaybeLinkOpen => source == b"[".as_slice(),
         ItemBody::MaybeLinkClose(_) => source == b"]".as_slice(),

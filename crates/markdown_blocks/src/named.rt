@@ -25,7 +25,7 @@ impl NamedPart {
         match self {
             NamedPart::Text => {
                 let CowIndex(ix) = body.text_named()?;
-                Some(ix)
+                Some(ix as usize)
             }
             NamedPart::Alignments => {
                 let AlignmentIndex(ix) = body.alignments_named()?;

@@ -6,9 +6,9 @@ ghost use Rattle.markdown_base.specs.ArenaForest.{numbers_below};
 ghost use Rattle.markdown_base.specs.ArenaRules.{next_at, NodeKeepsRules};
 ghost use Rattle.markdown_base.specs.BlockTree.{numbered, trees_at, tree_of};
 ghost use Rattle.markdown_base.specs.Forest.{nil, preorder};
-ghost use Rattle.markdown_base.specs.Item.{is_childless, attributes_named};
-ghost use Rattle.markdown_base.specs.WellFormed.{IsReachedOnce, RangesLieIn, Precedes, InlineInOrder, ChainsAreKept};
-ghost use Rattle.markdown_base.specs.WellFormed.{NothingResolved, PartsAreNamed, BlocksAreSettled, IsWellFormed};
+ghost use Rattle.markdown_base.specs.Item.{LiesIn, is_childless, is_resolved, attributes_named};
+ghost use Rattle.markdown_base.specs.WellFormed.{IsReachedOnce, Precedes, InlineInOrder, ChainsAreKept};
+ghost use Rattle.markdown_base.specs.WellFormed.{PartsAreNamed, BlocksAreSettled, IsWellFormed};
 ghost use Rattle.markdown_base.specs.WellFormed.{counts_of, has_open};
 ghost use Rattle.markdown_blocks.specs.NodeRules.{IsReachable, Tells};
 
@@ -25,7 +25,7 @@ use std::alloc::{AllocError, Global};
 /// Returns whether an item keeps rule 2, ranges lie in: its range lies in the text, and its ends are character
 /// boundaries.
 fn ranges_lie_in(text: &str, item: &Item) -> bool
-    ensures { IsTrue result ↔ RangesLieIn text.now item.now }
+    ensures { IsTrue result ↔ LiesIn text.now item.now }
 {
     item.start <= item.end && text.is_char_boundary(item.start) && text.is_char_boundary(item.end)
 }
@@ -97,7 +97,7 @@ fn top_is_closed(tree: &Tree<Item>) -> bool
 
 /// Returns whether a body keeps rule 5, nothing resolved: it is not what an open item becomes.
 fn nothing_resolved(body: ItemBody) -> bool
-    ensures { IsTrue result ↔ NothingResolved body }
+    ensures { IsTrue result ↔ (is_resolved body ≡ false) }
 {
     !body.is_resolved()
 }
@@ -118,7 +118,7 @@ fn is_of_attributes(name: Option<HeadingIndex>, count: usize) -> bool
 {
     match name {
         None => true,
-        Some(HeadingIndex(ix)) => 1 <= ix && ix <= count,
+        Some(HeadingIndex(ix)) => 1 <= ix && ix as usize <= count,
     }
 }
 

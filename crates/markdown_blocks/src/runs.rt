@@ -33,7 +33,7 @@ fn is_character(body: ItemBody, count: usize, can_open: bool, can_close: bool) -
 {
     match body {
         ItemBody::MaybeEmphasis(n, opens, closes) => {
-            n == count && opens == can_open && closes == can_close
+            n as usize == count && opens == can_open && closes == can_close
         }
         _ => false,
     }
@@ -130,7 +130,7 @@ pub fn runs_are_whole(text: &str, tree: &Tree<Item>, ix: usize) -> bool
     match tree.item(ix).body {
         ItemBody::MaybeEmphasis(count, can_open, can_close) => {
             is_run_byte(text, tree.item(ix))
-                && run_goes_on(text, tree, ix, count, can_open, can_close)
+                && run_goes_on(text, tree, ix, count as usize, can_open, can_close)
         }
         _ => true,
     }

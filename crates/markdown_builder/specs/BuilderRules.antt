@@ -9,16 +9,16 @@ use Rattle.markdown_base.specs.ArenaForest.{links_of}
 use Rattle.markdown_base.specs.ArenaRules.{next_at}
 use Rattle.markdown_base.specs.BlockTree.{Numbered, item_at, numbered}
 use Rattle.markdown_base.specs.Forest.{nil, node}
-use Rattle.markdown_base.specs.Item.{is_inline, is_childless, text_named, alignments_named}
+use Rattle.markdown_base.specs.Item.{LiesIn, is_inline, is_childless, is_resolved, text_named, alignments_named}
 use Rattle.markdown_base.specs.WellFormed.{BlocksAreSettled, ChainsAreKept, InlineInOrder, MarkupIsThere}
-use Rattle.markdown_base.specs.WellFormed.{NothingResolved, PartCounts, PartsAreNamed, RangesLieIn, RunsAreWhole}
+use Rattle.markdown_base.specs.WellFormed.{PartCounts, PartsAreNamed, RunsAreWhole}
 use Rattle.markdown_builder.specs.Bodies.{is_leaf}
 use Rattle.markdown_builder.specs.Rising.{link_of, AreRising}
 
 -- the rules of one item by itself, with nothing below it
 pub record ItemFits (text : List ℕ) (counts : PartCounts) (item : Item) : Type 0 where
-  pub ranges_lie_in : RangesLieIn text item
-  pub nothing_resolved : NothingResolved item.body
+  pub ranges_lie_in : LiesIn text item
+  pub nothing_resolved : is_resolved item.body ≡ false
   pub markup_is_there : MarkupIsThere text item
   pub parts_are_named : PartsAreNamed counts item.body
   pub blocks_are_settled : BlocksAreSettled item.body nil

@@ -8,7 +8,7 @@ use crate::tight::tighten_lists;
 use crate::tree_steps::{append_texts, enter, leave, mark_run, push_text, replace_last, rewrite};
 use markdown_base::block_parts::{BlockParts, HeadingAttributes, LinkDef};
 use markdown_base::cow_str::CowStr;
-use markdown_base::index::{AlignmentIndex, HeadingIndex};
+use markdown_base::index::{in_32_bits, AlignmentIndex, HeadingIndex};
 use markdown_base::item::{Item, ItemBody};
 use markdown_base::tag::{Alignment, HeadingLevel};
 use markdown_base::tree::Tree;
@@ -243,8 +243,8 @@ impl<'a> Builder<'a> {
         ensures { IfOk result (λ _. (ix : _)
             × Opens self.old self.new (variant.Heading level (Some ix))) }
     {
+        let ix = HeadingIndex::of(self.headings.len() + 1)?;
         self.headings.push(attributes)?;
-        let ix = HeadingIndex(self.headings.len());
         let body = ItemBody::Heading(level, Some(ix));
         enter(&mut self.tree, &mut self.blocks, self.at, body)?;
         self.leaf = true;
@@ -388,10 +388,11 @@ impl<'a> Builder<'a> {
         requires run { IsRunOf 96 self.old.text self.old.at end }
         ensures { IfOk result (λ _. self.new ≡ record self.old { at = end; run = None }) }
     {
+        let count = in_32_bits(end - self.at)?;
         self.tree.append(Item {
             start: self.at,
             end,
-            body: ItemBody::MaybeCode(end - self.at, escaped),
+            body: ItemBody::MaybeCode(count, escaped),
         })?;
         self.at = end;
         self.run = None;

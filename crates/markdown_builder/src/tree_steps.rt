@@ -102,7 +102,7 @@ pub fn push_text<'a>(texts: &mut Vec<CowStr<'a>>, text: CowStr<'a>) -> Result<Co
     ensures pushed { IfOk result (λ _. texts.new.items ≡ texts.old.items ++ text.entry ∷ []) }
     ensures refused { OnErr result (texts.new.items ≡ texts.old.items) }
 {
-    let ix = CowIndex(texts.len());
+    let ix = CowIndex::of(texts.len())?;
     texts.push(text)?;
     Ok(ix)
 }
@@ -139,7 +139,7 @@ pub fn mark_run(tree: &mut Tree<Item>, stop: usize, count: usize, opens: bool, c
         let item = Item {
             start,
             end: start + 1,
-            body: ItemBody::MaybeEmphasis(marked + 1, opens, closes),
+            body: ItemBody::MaybeEmphasis(marked as u32 + 1, opens, closes),
         };
         tree.set_item(end - marked - 1, item);
     }

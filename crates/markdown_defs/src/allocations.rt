@@ -83,9 +83,9 @@ impl<'a> Allocations<'a> {
         ensures refused { IfErr result (λ fault. fault ≡ Fault.Memory) }
         ensures unchanged { OnErr result (self.new ≡ self.old) }
     {
-        let ix = self.cows.len();
+        let ix = CowIndex::of(self.cows.len())?;
         self.cows.push(cow)?;
-        Ok(CowIndex(ix))
+        Ok(ix)
     }
 
     /// Adds a link and returns its number. The only error is `Fault::Memory`, in which case nothing has changed and the
@@ -132,8 +132,9 @@ impl<'a> Allocations<'a> {
         ensures refused { IfErr result (λ fault. fault ≡ Fault.Memory) }
         ensures unchanged { OnErr result (self.new ≡ self.old) }
     {
+        let ix = HeadingIndex::of(self.headings.len() + 1)?;
         self.headings.push(heading)?;
-        Ok(HeadingIndex(self.headings.len()))
+        Ok(ix)
     }
 
     /// Takes a text out and returns it; an empty text takes its place. Allocates no memory.
@@ -142,7 +143,7 @@ impl<'a> Allocations<'a> {
         ensures taken { result ≡ slice_index_or self.old.cows ix.0 result }
         ensures left { LeavesEmptyCow self.old self.new ix }
     {
-        mem::replace(&mut self.cows[ix.0], CowStr::Borrowed(""))
+        mem::replace(&mut self.cows[ix.0 as usize], CowStr::Borrowed(""))
     }
 
     /// Takes a link out and returns its type, destination, title and id; `ShortcutUnknown` with three empty texts takes
@@ -181,7 +182,7 @@ impl<'a> Index<CowIndex> for Allocations<'a> {
     ghost index_gives = { λ held ix cow. cow ≡ slice_index_or held.cows ix.0 cow };
 
     fn index(&self, ix: CowIndex) -> &CowStr<'a> {
-        &self.cows[ix.0]
+        &self.cows[ix.0 as usize]
     }
 }
 
@@ -222,6 +223,6 @@ impl<'a> Index<HeadingIndex> for Allocations<'a> {
         heading ≡ slice_index_or held.headings (ix.0 - 1) heading };
 
     fn index(&self, ix: HeadingIndex) -> &HeadingAttributes<'a> {
-        &self.headings[ix.0 - 1]
+        &self.headings[ix.0 as usize - 1]
     }
 }

@@ -113,7 +113,7 @@ pub fn run_of(text: &[u8], item: Item) -> Option<Run>
             let delimiter = delimiter_of(byte)?;
             Some(Run {
                 delimiter,
-                length,
+                length: length as usize,
                 can_open,
                 can_close,
             })

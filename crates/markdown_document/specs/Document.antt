@@ -14,7 +14,7 @@ use Rattle.markdown_base.specs.declared.item.Item.{Item}
 use Rattle.markdown_base.specs.declared.item.ItemBody.{ItemBody}
 use Rattle.markdown_base.specs.declared.node.Node.{Node}
 pub use Rattle.markdown_document.specs.Origins.{Origin, sliced, inlined, made, origin_at}
-use Rattle.markdown_document.specs.Tables.{Tables, text_at, link_at, alignments_at, attributes_for, heading_with}
+use Rattle.markdown_document.specs.Tables.{Tables, text_at, link_at, alignments_at, heading_for}
 
 -- how a tree reads: as one event, with the origins of its texts, while what is below it is not read; as a Start, what
 -- is below it, and the matching End; as only what is below it; as a hard break by a backslash, which is a Text where it
@@ -105,8 +105,7 @@ other_shape tables source (body.HardBreak true) = backslash_break
 other_shape tables source (body.HardBreak false) = leaf event.hard_break []
 other_shape tables source body.Rule = leaf event.rule []
 other_shape tables source (body.TaskListMarker done) = leaf (event.task_list_marker done) []
-other_shape tables source (body.Heading level named) =
-    enclosed (event.heading (heading_with level (attributes_for tables.headings named)))
+other_shape tables source (body.Heading level named) = enclosed (event.heading (heading_for level tables.headings named))
 other_shape tables source (body.FencedCodeBlock ix) = enclosed (event.fenced_code (text_at tables.cows ix.0))
 other_shape tables source (body.FootnoteDefinition ix) = enclosed (event.footnote_definition (text_at tables.cows ix.0))
 other_shape tables source (body.Table ix) = enclosed (event.table (alignments_at tables.alignments ix.0))

@@ -4,7 +4,7 @@ use Rattle.std.specs.Option.{option_map}
 use Rattle.std.specs.declared.alloc.Global.{Global}
 use Rattle.std.specs.declared.vec.Vec.{Vec}
 use Rattle.markdown_base.specs.CowText.{text_of}
-use Rattle.markdown_base.specs.Event.{LinkView, HeadingView, attribute_view}
+use Rattle.markdown_base.specs.Event.{LinkView, HeadingView, attribute_view, link_view}
 use Rattle.markdown_base.specs.declared.block_parts.BlockParts.{BlockParts}
 use Rattle.markdown_base.specs.declared.block_parts.HeadingAttributes.{HeadingAttributes}
 use Rattle.markdown_base.specs.declared.cow_str.CowStr.{CowStr}
@@ -46,10 +46,6 @@ text_at [] ix = []
 text_at (c ∷ cows) zero = text_of c
 text_at (c ∷ cows) (suc ix) = text_at cows ix
 
--- a link, with its texts as bytes
-abbrev pub link_view : LinkParts → LinkView
-link_view link = record { kind = link.0; destination = text_of link.1; title = text_of link.2; label = text_of link.3 }
-
 -- the link with this number
 abbrev pub link_at : List LinkParts → ℕ → LinkView
 link_at [] ix = record { kind = ShortcutUnknown; destination = []; title = []; label = [] }
@@ -66,35 +62,26 @@ alignments_at [] ix = []
 alignments_at (a ∷ alignments) zero = a.items
 alignments_at (a ∷ alignments) (suc ix) = alignments_at alignments ix
 
--- the attributes that follow a heading in braces: an id, classes, and others, each with its value where there is one
-pub record AttributesView : Type 0 where
-  pub id : Option (List ℕ)
-  pub classes : List (List ℕ)
-  pub attributes : List (List ℕ × Option (List ℕ))
+-- a heading without attributes
+abbrev pub plain_heading : HeadingLevel → HeadingView
+plain_heading level = record { level = level; id = None; classes = []; attributes = [] }
 
--- the attributes of a heading, with their texts as bytes
-abbrev pub attributes_view : HeadingAttributes → AttributesView
-attributes_view a = record {
+-- a heading with the attributes that follow it in braces: an id, classes, and others, each with its value if it has one
+abbrev pub heading_with : HeadingLevel → HeadingAttributes → HeadingView
+heading_with level a = record {
+  level = level;
   id = option_map text_of a.id;
   classes = map text_of a.classes.items;
   attributes = map attribute_view a.attrs.items;
 }
 
--- the attributes of a heading that has none
-abbrev pub no_attributes : AttributesView
-no_attributes = record { id = None; classes = []; attributes = [] }
+-- a heading with the attributes at this position of the table, from 0
+abbrev pub heading_at : HeadingLevel → List HeadingAttributes → ℕ → HeadingView
+heading_at level [] n = plain_heading level
+heading_at level (a ∷ headings) zero = heading_with level a
+heading_at level (a ∷ headings) (suc n) = heading_at level headings n
 
--- the attributes at this position of the table, from 0
-abbrev pub attributes_at : List HeadingAttributes → ℕ → AttributesView
-attributes_at [] n = no_attributes
-attributes_at (a ∷ headings) zero = attributes_view a
-attributes_at (a ∷ headings) (suc n) = attributes_at headings n
-
--- the attributes that a heading refers to, which are numbered from 1, or none
-abbrev pub attributes_for : List HeadingAttributes → Option HeadingIndex → AttributesView
-attributes_for headings None = no_attributes
-attributes_for headings (Some ix) = attributes_at headings (ix.0 - 1)
-
--- a heading with attributes
-abbrev pub heading_with : HeadingLevel → AttributesView → HeadingView
-heading_with level a = record { level = level; id = a.id; classes = a.classes; attributes = a.attributes }
+-- a heading with the attributes that it refers to, which are numbered from 1, or with none
+abbrev pub heading_for : HeadingLevel → List HeadingAttributes → Option HeadingIndex → HeadingView
+heading_for level headings None = plain_heading level
+heading_for level headings (Some ix) = heading_at level headings (ix.0 - 1)

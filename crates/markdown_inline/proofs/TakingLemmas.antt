@@ -11,7 +11,7 @@ use Rattle.std.specs.declared.ops.Range.{Range}
 use Rattle.std.specs.declared.vec.Vec.{Vec}
 use Rattle.std.proofs.lemmas.List.{length-set}
 use Rattle.markdown_base.specs.CowText.{text_of}
-use Rattle.markdown_base.specs.Event.{EventView, LinkView, TagView, event_view, tag_view, hard_break}
+use Rattle.markdown_base.specs.Event.{EventView, LinkView, TagView, event_view, link_view, tag_view, hard_break}
 use Rattle.markdown_base.specs.Item.{text_named, alignments_named, is_open}
 use Rattle.markdown_base.specs.declared.block_parts.HeadingAttributes.{HeadingAttributes}
 use Rattle.markdown_base.specs.declared.cow_str.CowStr.{CowStr}
@@ -34,8 +34,8 @@ use Rattle.markdown_document.specs.PlacedNodes.{IsSlicedOf, HasSliceLink}
 use Rattle.markdown_document.specs.Document.{Shape, leaf, enclosed, plain, backslash_break, unresolved, sliced, made}
 use Rattle.markdown_document.specs.Document.{container_of, shape_of}
 use Rattle.markdown_document.specs.Places.{origin_start}
-use Rattle.markdown_document.specs.Tables.{Tables, text_at, link_at, link_origins, link_view, alignments_at}
-use Rattle.markdown_document.specs.Tables.{attributes_at, attributes_view, tables_of}
+use Rattle.markdown_document.specs.Tables.{Tables, text_at, link_at, link_origins, alignments_at}
+use Rattle.markdown_document.specs.Tables.{heading_at, heading_with, tables_of}
 use Rattle.markdown_document.specs.NamedEntries.{Named, some_text, some_link, some_alignments, link_origins_at}
 use Rattle.markdown_document.specs.NamedEntries.{link_named, size_for, NamesEntries, IsSameEntry, times_named}
 use Rattle.markdown_document.specs.Totals.{same}
@@ -98,12 +98,11 @@ alignments_at-read [] n c l e = absurd (omega (arith, l))
 alignments_at-read (d ∷ alignments) zero c l e = ap (λ (v : Vec Alignment Global). v.items) (sym e)
 alignments_at-read (d ∷ alignments) (suc n) c l e = alignments_at-read alignments n c (omega (arith, l)) e
 
-pub attributes_at-read : (headings : List HeadingAttributes) (n : ℕ) (c : HeadingAttributes) → n < length headings → c
-    ≡ get_or headings n c
-    → attributes_at headings n ≡ attributes_view c
-attributes_at-read [] n c l e = absurd (omega (arith, l))
-attributes_at-read (d ∷ headings) zero c l e = ap attributes_view (sym e)
-attributes_at-read (d ∷ headings) (suc n) c l e = attributes_at-read headings n c (omega (arith, l)) e
+pub heading_at-read : (level : HeadingLevel) (headings : List HeadingAttributes) (n : ℕ) (c : HeadingAttributes)
+    → n < length headings → c ≡ get_or headings n c → heading_at level headings n ≡ heading_with level c
+heading_at-read level [] n c l e = absurd (omega (arith, l))
+heading_at-read level (d ∷ headings) zero c l e = ap (heading_with level) (sym e)
+heading_at-read level (d ∷ headings) (suc n) c l e = heading_at-read level headings n c (omega (arith, l)) e
 
 -- the attributes that a heading refers to exist
 pub heading_named : (tables : Tables) (level : HeadingLevel) (named : Option HeadingIndex)

@@ -2,6 +2,7 @@
 use Rattle.markdown_base.specs.declared.event.Event.TheVariants as step
 use Rattle.std.specs.Prelude.{ℕ, List, [], ◌∷◌}
 use Rattle.markdown_base.specs.CowText.{IsInlined}
+use Rattle.markdown_base.specs.Event.{link_view}
 use Rattle.markdown_base.specs.declared.cow_str.CowStr.{CowStr}
 use Rattle.markdown_base.specs.declared.cow_str.CowStr.TheVariants.{Borrowed}
 use Rattle.markdown_base.specs.declared.event.Event.{Event}
@@ -11,7 +12,7 @@ use Rattle.markdown_defs.specs.Allocations.{LinkParts}
 use Rattle.markdown_document.specs.LinkOrigins.{IsLinkFrom}
 use Rattle.markdown_document.specs.Origins.{Origin, sliced, inlined, made, IsSliceWithin}
 use Rattle.markdown_document.specs.Places.{origin_start}
-use Rattle.markdown_document.specs.Tables.{link_origins, link_view}
+use Rattle.markdown_document.specs.Tables.{link_origins}
 
 -- a text is borrowed, and is a slice of the source within these byte offsets
 abbrev pub IsSliceOf : List ℕ → (start end : ℕ) → CowStr → Type 0

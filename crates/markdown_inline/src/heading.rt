@@ -5,7 +5,7 @@ ghost use Rattle.std.specs.Option.{option_map};
 ghost use Rattle.markdown_base.specs.CowText.{text_of};
 ghost use Rattle.markdown_base.specs.Event.{attribute_view, heading, tag_view};
 ghost use Rattle.markdown_defs.specs.AllocationCalls.{HasHeading};
-ghost use Rattle.markdown_document.specs.Tables.{attributes_for, attributes_view, heading_with};
+ghost use Rattle.markdown_document.specs.Tables.{heading_for, heading_with};
 ghost use Rattle.markdown_inline.specs.Slices.{TagIsFrom};
 
 use markdown_base::block_parts::HeadingAttributes;
@@ -25,7 +25,7 @@ pub fn heading_start<'a>(
 ) -> Result<Tag<'a>, AllocError>
     requires { IfSome named (HasHeading tables.now) }
     ensures tag { IfOk result (λ tag. tag_view tag
-        ≡ heading (heading_with level (attributes_for tables.now.headings named))) }
+        ≡ heading (heading_for level tables.now.headings named)) }
     ensures from { (source : List ℕ) (start end : ℕ) → IfOk result (TagIsFrom source start end) }
 {
     match named {
@@ -46,7 +46,7 @@ fn heading_copy<'a>(
     attributes: &HeadingAttributes<'a>,
 ) -> Result<Tag<'a>, AllocError>
     ensures tag { IfOk result (λ tag. tag_view tag
-        ≡ heading (heading_with level (attributes_view attributes.now))) }
+        ≡ heading (heading_with level attributes.now)) }
     ensures from { (source : List ℕ) (start end : ℕ) → IfOk result (TagIsFrom source start end) }
 {
     let id = copy_of(alloc, &attributes.id)?;

@@ -4,7 +4,7 @@ use Rattle.std.proofs.Common.{subst, arith}
 use Rattle.std.proofs.Common.{if◌then◌else◌}
 use Rattle.std.specs.Prelude.{IsCharBoundary}
 use Rattle.markdown_base.specs.BlockTree.{item_at}
-use Rattle.markdown_base.specs.Event.{LinkView, image, link}
+use Rattle.markdown_base.specs.Event.{LinkView, image, link, link_view}
 use Rattle.markdown_base.specs.Forest.{Forest, nil, node}
 use Rattle.markdown_base.specs.declared.index.LinkIndex.{LinkIndex}
 use Rattle.markdown_base.specs.declared.item.Item.{Item}
@@ -24,7 +24,7 @@ use Rattle.markdown_document.specs.ChainRest.{start_of, end_of}
 use Rattle.markdown_document.specs.Document.{Label, Plain, enclosed, label_of}
 use Rattle.markdown_document.specs.LinkOrigins.{IsLinkFrom, IsTitleFrom, LinkOrigins, destination_origin}
 use Rattle.markdown_document.specs.Origins.{made, origin_of}
-use Rattle.markdown_document.specs.Tables.{Tables, link_at, link_view, link_origins, tables_of}
+use Rattle.markdown_document.specs.Tables.{Tables, link_at, link_origins, tables_of}
 use Rattle.markdown_document.specs.NamedEntries.{Named, number_of, size_for, some_alignments, some_link, some_text}
 use Rattle.markdown_document.specs.NamedEntries.{times_named}
 use Rattle.markdown_resolver.specs.declared.rest.Rest.{Rest}

@@ -7,6 +7,7 @@ use Rattle.std.specs.Prelude.{IsCharBoundary}
 use Rattle.markdown_base.specs.Arena.{sibling_of}
 use Rattle.markdown_base.specs.ArenaForest.{forest_at, links_of}
 use Rattle.markdown_base.specs.BlockTree.{item_at}
+use Rattle.markdown_base.specs.Event.{link_view}
 use Rattle.markdown_base.specs.Forest.{Forest, nil, node, relabelled, roots}
 use Rattle.markdown_base.specs.declared.index.LinkIndex.{LinkIndex}
 use Rattle.markdown_base.specs.declared.item.Item.{Item}
@@ -30,7 +31,7 @@ use Rattle.markdown_document.specs.Document.{Label, Plain, Shape, backslash_brea
 use Rattle.markdown_document.specs.Document.{unresolved}
 use Rattle.markdown_document.specs.LinkOrigins.{IsLinkFrom, LinkOrigins}
 use Rattle.markdown_document.specs.Origins.{IsSliceWithin, origin_of, sliced}
-use Rattle.markdown_document.specs.Tables.{Tables, link_origins, link_view, tables_of}
+use Rattle.markdown_document.specs.Tables.{Tables, link_origins, tables_of}
 use Rattle.markdown_document.specs.Waiting.{is_quiet}
 use Rattle.markdown_defs.specs.Allocations.{Allocated, LinkParts}
 use Rattle.markdown_defs.specs.AllocationCalls.{with_link}

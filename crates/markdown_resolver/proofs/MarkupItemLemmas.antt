@@ -12,7 +12,7 @@ use Rattle.std.proofs.lemmas.Str.{IsCharBoundary-before_ascii}
 use Rattle.markdown_base.specs.Arena.{child_of, sibling_of}
 use Rattle.markdown_base.specs.ArenaForest.{links_of}
 use Rattle.markdown_base.specs.BlockTree.{item_at}
-use Rattle.markdown_base.specs.Event.{LinkView}
+use Rattle.markdown_base.specs.Event.{LinkView, link_view}
 use Rattle.markdown_base.specs.Forest.{Forest, roots}
 use Rattle.markdown_base.specs.Item.{LiesIn}
 use Rattle.markdown_base.specs.declared.index.CowIndex.{CowIndex}
@@ -27,7 +27,7 @@ use Rattle.markdown_document.specs.Origins.{IsSliceWithin, Origin, sliced}
 use Rattle.markdown_document.specs.Places.{label_at, trees_from}
 use Rattle.markdown_document.specs.PlacedNodes.{HasSliceLink, IsPlaced}
 use Rattle.markdown_document.specs.Setting.{Rules, setting_of}
-use Rattle.markdown_document.specs.Tables.{Tables, link_at, link_view, link_origins, tables_of}
+use Rattle.markdown_document.specs.Tables.{Tables, link_at, link_origins, tables_of}
 use Rattle.markdown_document.specs.NamedEntries.{HasGrown, Named, link_origins_at, number_of, size_for, some_alignments}
 use Rattle.markdown_document.specs.NamedEntries.{some_link, some_text, times_named}
 use Rattle.markdown_spans.specs.AfterLess.{Markup, autolink, html_markup, markup_at}

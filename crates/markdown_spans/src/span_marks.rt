@@ -59,8 +59,8 @@ fn code_mark(number: usize, body: ItemBody) -> Option<SpanMark>
     match body {
         ItemBody::MaybeCode(count, escaped) => Some(SpanMark {
             number,
-            key: count,
-            wanted: closing_count(count, escaped),
+            key: count as usize,
+            wanted: closing_count(count as usize, escaped),
         }),
         _ => None,
     }

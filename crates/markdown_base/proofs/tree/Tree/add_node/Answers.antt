@@ -14,4 +14,4 @@ invariant_of-self-2 g c =
     rw c.in_ok-push.ensures.items
     (within_stored c.self.inside.nodes.items c.self.inside.spine.items c.self.inside.cur _ c.self.invariant few
     (rw c.to.ensures tt)
-    (rw c.to-2.ensures link))
+    link)

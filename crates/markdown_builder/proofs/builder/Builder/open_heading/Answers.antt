@@ -10,11 +10,12 @@ use Rattle.markdown_builder.proofs.builder.Builder.open_heading.Goals as goal
 
 pub invariant_of-self-in_err-enter : goal.invariant_of-self-in_err-enter
 invariant_of-self-in_err-enter c =
-    let ix : HeadingIndex = record { 0 = c.len.result } in
+    let ix : HeadingIndex = c.in_ok-ix.ix in
     let more : length c.push.new.self.items ≡ length c.self.inside.headings.items + 1 = ap length
     c.in_ok-push.ensures.items
     ∙ length-append c.self.inside.headings.items _ in
-    let last : ix.0 ≡ length c.push.new.self.items = omega (arith, c.len.ensures, c.push.new.self.ok.0) in
+    let last : ix.0 ≡ length c.push.new.self.items =
+    omega (arith, more, c.len.ensures, c.self.inside.headings.ok.0, c.in_ok-ix.ensures) in
     rw c.in_err-enter.ensures.stays
     (refused_keeps (standpoint c.args.self.now) _ (body.Heading c.args.level (Some ix)) c.enter.new.tree
     c.self.invariant (ap standpoint c.self.view_is) c.requires
@@ -23,11 +24,12 @@ invariant_of-self-in_err-enter c =
 
 pub invariant_of-self-2 : goal.invariant_of-self-2
 invariant_of-self-2 c =
-    let ix : HeadingIndex = record { 0 = c.len.result } in
+    let ix : HeadingIndex = c.in_ok-ix.ix in
     let more : length c.push.new.self.items ≡ length c.self.inside.headings.items + 1 = ap length
     c.in_ok-push.ensures.items
     ∙ length-append c.self.inside.headings.items _ in
-    let last : ix.0 ≡ length c.push.new.self.items = omega (arith, c.len.ensures, c.push.new.self.ok.0) in
+    let last : ix.0 ≡ length c.push.new.self.items =
+    omega (arith, more, c.len.ensures, c.self.inside.headings.ok.0, c.in_ok-ix.ensures) in
     rw (c.in_ok-enter.ensures.entered, c.in_ok-enter.ensures.opened)
     (placed_keeps (standpoint c.args.self.now) _ (body.Heading c.args.level (Some ix)) c.self.invariant
     (ap standpoint c.self.view_is) c.requires
@@ -35,4 +37,4 @@ invariant_of-self-2 c =
     refl)
 
 pub returns : goal.returns
-returns c = rw (← c.self.view_is) (record { 0 = c.len.result }, rw c.in_ok-enter.ensures.opened refl)
+returns c = rw (← c.self.view_is) (c.in_ok-ix.ix, rw c.in_ok-enter.ensures.opened refl)
