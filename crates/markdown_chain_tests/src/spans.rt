@@ -268,7 +268,7 @@ fn code_in_a_cell(rt: HostRuntime) -> Result<(), Fail> {
 /// Appends a run of backticks, followed by a text.
 fn append_backticks(alloc: Global, over: &mut Grown, count: usize) -> Result<(), AllocError> {
     let mark = "`".repeat(alloc, count)?;
-    over.append(mark.as_str(), ItemBody::MaybeCode(count, false))?;
+    over.append(mark.as_str(), ItemBody::MaybeCode(count as u32, false))?;
     over.append_a()
 }
 

@@ -44,7 +44,7 @@ fn put_alignments(alloc: Global, held: &mut Allocations<'static>) -> Result<usiz
 
 /// Allocates a heading's attributes, and returns their number.
 fn put_attributes(alloc: Global, held: &mut Allocations<'static>) -> Result<usize, Fault> {
-    Ok(held.allocate_heading(no_attributes(alloc))?.0)
+    Ok(held.allocate_heading(no_attributes(alloc))?.0 as usize)
 }
 
 /// Returns whether a key finds the definition.

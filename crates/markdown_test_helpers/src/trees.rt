@@ -18,7 +18,7 @@ pub fn text(start: usize, end: usize) -> Item {
 }
 
 /// Returns a character of a delimiter run, which has `count` characters from this one on.
-pub fn delimiter(start: usize, count: usize, opens: bool, closes: bool) -> Item {
+pub fn delimiter(start: usize, count: u32, opens: bool, closes: bool) -> Item {
     item(
         start,
         start.saturating_add(1),

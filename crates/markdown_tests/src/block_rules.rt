@@ -24,7 +24,7 @@ pub fn is_well_formed(alloc: Global, over: &'static str, tree: Tree<Item>) -> Re
 }
 
 /// Returns a character of a delimiter run that can open and close.
-fn run(start: usize, count: usize) -> Item {
+fn run(start: usize, count: u32) -> Item {
     delimiter(start, count, true, true)
 }
 
