@@ -8,13 +8,12 @@ use Rattle.std.specs.List.{flat_map}
 use Rattle.markdown_base.specs.Bytes.{backslash, double_quote, space, tab, line_feed, form_feed}
 use Rattle.markdown_base.specs.Bytes.{carriage_return}
 use Rattle.markdown_base.specs.Event as event
-use Rattle.markdown_base.specs.Event.{EventView, TagView, HeadingView, LinkView}
+use Rattle.markdown_base.specs.Event.{EventView, TagView, HeadingView, LinkView, tag_end}
 use Rattle.markdown_base.specs.declared.tag.Alignment.{Alignment}
 use Rattle.markdown_base.specs.declared.tag.Alignment.TheVariants as align
 use Rattle.markdown_base.specs.declared.tag.BlockQuoteKind.{BlockQuoteKind}
 use Rattle.markdown_base.specs.declared.tag.BlockQuoteKind.TheVariants as quote
 use Rattle.markdown_base.specs.declared.tag.HeadingLevel.{HeadingLevel}
-use Rattle.markdown_base.specs.declared.tag.HeadingLevel.TheVariants as level
 use Rattle.markdown_base.specs.declared.tag.LinkType.{LinkType}
 use Rattle.markdown_base.specs.declared.tag.LinkType.TheVariants as written
 use Rattle.markdown_base.specs.declared.tag.MetadataBlockKind.{MetadataBlockKind}
@@ -22,6 +21,7 @@ use Rattle.markdown_base.specs.declared.tag.MetadataBlockKind.TheVariants as fen
 use Rattle.markdown_base.specs.declared.tag.TagEnd.{TagEnd}
 use Rattle.markdown_base.specs.declared.tag.TagEnd.TheVariants as closes
 use Rattle.markdown_out.specs.ByteLists.{joined}
+use Rattle.markdown_out.specs.TagHtml.{level_digit}
 
 -- what a control is written as in a string: a letter after a backslash, or four hexadecimal digits
 abbrev pub control_bytes : ℕ → List ℕ
@@ -41,9 +41,13 @@ string_byte b =
     else if nat_lt b space then control_bytes b
     else b ∷ []
 
+-- bytes between double quotes
+abbrev pub quoted : List ℕ → List ℕ
+quoted bytes = joined (codes "\"" ∷ bytes ∷ codes "\"" ∷ [])
+
 -- a text as a string
 abbrev pub string : List ℕ → List ℕ
-string text = joined (codes "\"" ∷ flat_map string_byte text ∷ codes "\"" ∷ [])
+string text = quoted (flat_map string_byte text)
 
 -- a variant with a value
 abbrev pub variant : List ℕ → List ℕ → List ℕ
@@ -69,12 +73,7 @@ boolean true = codes "true"
 boolean false = codes "false"
 
 abbrev pub level_json : HeadingLevel → List ℕ
-level_json level.H1 = codes "\"H1\""
-level_json level.H2 = codes "\"H2\""
-level_json level.H3 = codes "\"H3\""
-level_json level.H4 = codes "\"H4\""
-level_json level.H5 = codes "\"H5\""
-level_json level.H6 = codes "\"H6\""
+level_json level = quoted (codes "H" ++ level_digit level)
 
 abbrev pub quote_json : BlockQuoteKind → List ℕ
 quote_json quote.Note = codes "\"Note\""
@@ -123,32 +122,6 @@ link_json l = joined (codes "{\"link_type\":" ∷ link_type_json l.kind
     ∷ codes ",\"title\":" ∷ string l.title
     ∷ codes ",\"id\":" ∷ string l.label ∷ codes "}" ∷ [])
 
-abbrev pub tag_json : TagView → List ℕ
-tag_json event.paragraph = codes "\"Paragraph\""
-tag_json (event.heading h) = variant (codes "Heading") (heading_json h)
-tag_json (event.block_quote kind) = variant (codes "BlockQuote") (optional_value quote_json kind)
-tag_json event.indented_code = variant (codes "CodeBlock") (codes "\"Indented\"")
-tag_json (event.fenced_code info) = variant (codes "CodeBlock") (variant (codes "Fenced") (string info))
-tag_json event.html_block = codes "\"HtmlBlock\""
-tag_json (event.list first) = variant (codes "List") (optional_value decimal first)
-tag_json event.list_item = codes "\"Item\""
-tag_json (event.footnote_definition name) = variant (codes "FootnoteDefinition") (string name)
-tag_json event.definition_list = codes "\"DefinitionList\""
-tag_json event.definition_list_title = codes "\"DefinitionListTitle\""
-tag_json event.definition_list_definition = codes "\"DefinitionListDefinition\""
-tag_json (event.table alignments) = variant (codes "Table") (array alignment_json alignments)
-tag_json event.table_head = codes "\"TableHead\""
-tag_json event.table_row = codes "\"TableRow\""
-tag_json event.table_cell = codes "\"TableCell\""
-tag_json event.emphasis = codes "\"Emphasis\""
-tag_json event.strong = codes "\"Strong\""
-tag_json event.strikethrough = codes "\"Strikethrough\""
-tag_json event.superscript = codes "\"Superscript\""
-tag_json event.subscript = codes "\"Subscript\""
-tag_json (event.link l) = variant (codes "Link") (link_json l)
-tag_json (event.image l) = variant (codes "Image") (link_json l)
-tag_json (event.metadata_block kind) = variant (codes "MetadataBlock") (metadata_json kind)
-
 abbrev pub tag_end_json : TagEnd → List ℕ
 tag_end_json closes.Paragraph = codes "\"Paragraph\""
 tag_end_json (closes.Heading level) = variant (codes "Heading") (level_json level)
@@ -173,6 +146,18 @@ tag_end_json closes.Subscript = codes "\"Subscript\""
 tag_end_json closes.Link = codes "\"Link\""
 tag_end_json closes.Image = codes "\"Image\""
 tag_end_json (closes.MetadataBlock kind) = variant (codes "MetadataBlock") (metadata_json kind)
+
+-- a tag: with what it holds beside what its End tells
+abbrev pub tag_json : TagView → List ℕ
+tag_json (event.heading h) = variant (codes "Heading") (heading_json h)
+tag_json event.indented_code = variant (codes "CodeBlock") (codes "\"Indented\"")
+tag_json (event.fenced_code info) = variant (codes "CodeBlock") (variant (codes "Fenced") (string info))
+tag_json (event.list first) = variant (codes "List") (optional_value decimal first)
+tag_json (event.footnote_definition name) = variant (codes "FootnoteDefinition") (string name)
+tag_json (event.table alignments) = variant (codes "Table") (array alignment_json alignments)
+tag_json (event.link l) = variant (codes "Link") (link_json l)
+tag_json (event.image i) = variant (codes "Image") (link_json i)
+tag_json tag = tag_end_json (tag_end tag)
 
 abbrev pub event_json : EventView → List ℕ
 event_json (event.start tag) = variant (codes "Start") (tag_json tag)

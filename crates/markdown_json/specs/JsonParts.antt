@@ -2,8 +2,7 @@
 use Rattle.std.specs.Prelude.{ℕ, List, [], ◌∷◌, Option, map, codes}
 use Rattle.std.specs.Option.{option_map}
 use Rattle.markdown_base.specs.CowText.{text_of}
-use Rattle.markdown_base.specs.Event as event
-use Rattle.markdown_base.specs.Event.{TagView, HeadingView, LinkView, attribute_view}
+use Rattle.markdown_base.specs.Event.{HeadingView, LinkView, attribute_view}
 use Rattle.markdown_base.specs.declared.cow_str.CowStr.{CowStr}
 use Rattle.markdown_base.specs.declared.tag.CodeBlockKind.{CodeBlockKind}
 use Rattle.markdown_base.specs.declared.tag.CodeBlockKind.TheVariants as code_block
@@ -49,20 +48,6 @@ link_of l = record {
   title = l.title.now;
   label = l.id.now;
 }
-
--- a tag without a value
-abbrev pub IsFixed : TagView → Type 0
-IsFixed (event.heading h) = ⊥
-IsFixed (event.block_quote kind) = ⊥
-IsFixed event.indented_code = ⊥
-IsFixed (event.fenced_code info) = ⊥
-IsFixed (event.list first) = ⊥
-IsFixed (event.footnote_definition name) = ⊥
-IsFixed (event.table alignments) = ⊥
-IsFixed (event.link l) = ⊥
-IsFixed (event.image i) = ⊥
-IsFixed (event.metadata_block kind) = ⊥
-IsFixed tag = Unit {0}
 
 -- an end without a value
 abbrev pub IsFixedEnd : TagEnd → Type 0

@@ -1,8 +1,6 @@
 //! Tags as JSON.
-ghost use Rattle.std.specs.Prelude.{◌≡◌};
 ghost use Rattle.markdown_base.specs.Event.{tag_view};
 ghost use Rattle.markdown_json.specs.Json.{tag_json};
-ghost use Rattle.markdown_json.specs.JsonParts.{IsFixed};
 
 use crate::heading::Heading;
 use crate::link::Link;
@@ -25,30 +23,6 @@ impl Value for CodeBlockKind<'_> {
     }
 }
 
-/// Returns the JSON of a tag without a value.
-fn fixed_text(tag: &Tag<'_>) -> &'static str
-    requires { IsFixed (tag_view tag.now) }
-    ensures { result.now ≡ tag_json (tag_view tag.now) }
-{
-    match tag {
-        Tag::Paragraph => "\"Paragraph\"",
-        Tag::HtmlBlock => "\"HtmlBlock\"",
-        Tag::Item => "\"Item\"",
-        Tag::DefinitionList => "\"DefinitionList\"",
-        Tag::DefinitionListTitle => "\"DefinitionListTitle\"",
-        Tag::DefinitionListDefinition => "\"DefinitionListDefinition\"",
-        Tag::TableHead => "\"TableHead\"",
-        Tag::TableRow => "\"TableRow\"",
-        Tag::TableCell => "\"TableCell\"",
-        Tag::Emphasis => "\"Emphasis\"",
-        Tag::Strong => "\"Strong\"",
-        Tag::Strikethrough => "\"Strikethrough\"",
-        Tag::Superscript => "\"Superscript\"",
-        Tag::Subscript => "\"Subscript\"",
-        _ => unreachable!(),
-    }
-}
-
 impl Value for Tag<'_> {
     ghost json = { λ tag. tag_json (tag_view tag) };
 
@@ -68,7 +42,6 @@ impl Value for Tag<'_> {
                 };
                 push_variant(s, "Heading", &heading)
             }
-            Tag::BlockQuote(kind) => push_variant(s, "BlockQuote", kind),
             Tag::CodeBlock(kind) => push_variant(s, "CodeBlock", kind),
             Tag::List(first) => push_variant(s, "List", first),
             Tag::FootnoteDefinition(name) => push_variant(s, "FootnoteDefinition", name),
@@ -85,8 +58,7 @@ impl Value for Tag<'_> {
                 title,
                 id,
             } => push_variant(s, "Image", &Link::new(*link_type, dest_url, title, id)),
-            Tag::MetadataBlock(kind) => push_variant(s, "MetadataBlock", kind),
-            fixed => push_raw(s, fixed_text(fixed)),
+            told_by_its_end => told_by_its_end.to_end().push(s),
         }
     }
 }

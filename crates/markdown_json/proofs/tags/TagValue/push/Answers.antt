@@ -14,6 +14,3 @@ returns-in-CodeBlock-clause-ok c =
 pub returns-in-FootnoteDefinition-clause-ok : goal.returns-in-FootnoteDefinition-clause-ok
 returns-in-FootnoteDefinition-clause-ok c = rw c.in-FootnoteDefinition.is
     c.push_variant-in-FootnoteDefinition.ensures.ok
-
-pub returns-in-MetadataBlock-clause-ok : goal.returns-in-MetadataBlock-clause-ok
-returns-in-MetadataBlock-clause-ok c = rw c.in-MetadataBlock.is c.push_variant-in-MetadataBlock.ensures.ok
