@@ -4,16 +4,17 @@ use Rattle.std.specs.Prelude.{ℕ, Bool, true, false, List, [], ◌∷◌, ◌++
 use Rattle.std.specs.Prelude.{Option, Some, None}
 use Rattle.std.specs.Option.{option_map_or}
 use Rattle.std.specs.List.{flat_map, before_first}
+use Rattle.std.specs.Char.{digit_char}
 use Rattle.std.specs.Fmt.{decimal}
 use Rattle.markdown_base.specs.Bytes.{space}
 use Rattle.markdown_base.specs.Event as event
 use Rattle.markdown_base.specs.Event.{TagView, HeadingView}
+use Rattle.markdown_base.specs.HeadingLevels.{level_number}
 use Rattle.markdown_base.specs.declared.tag.Alignment.{Alignment}
 use Rattle.markdown_base.specs.declared.tag.Alignment.TheVariants as align
 use Rattle.markdown_base.specs.declared.tag.BlockQuoteKind.{BlockQuoteKind}
 use Rattle.markdown_base.specs.declared.tag.BlockQuoteKind.TheVariants as quote
 use Rattle.markdown_base.specs.declared.tag.HeadingLevel.{HeadingLevel}
-use Rattle.markdown_base.specs.declared.tag.HeadingLevel.TheVariants as level
 use Rattle.markdown_base.specs.declared.tag.LinkType.{LinkType}
 use Rattle.markdown_base.specs.declared.tag.LinkType.TheVariants as written
 use Rattle.markdown_base.specs.declared.tag.TagEnd.{TagEnd}
@@ -28,12 +29,7 @@ new_line fresh = if fresh then [] else codes "\n"
 
 -- the digit of a heading's level
 abbrev pub level_digit : HeadingLevel → List ℕ
-level_digit level.H1 = codes "1"
-level_digit level.H2 = codes "2"
-level_digit level.H3 = codes "3"
-level_digit level.H4 = codes "4"
-level_digit level.H5 = codes "5"
-level_digit level.H6 = codes "6"
+level_digit level = digit_char (level_number level) ∷ []
 
 -- the `id` attribute of a heading
 abbrev pub id_attribute : Option (List ℕ) → List ℕ
@@ -85,11 +81,10 @@ numbered_list_parts fresh number = new_line fresh ∷ codes "<ol start=\"" ∷ n
 
 -- the alignment of a cell, and the end of its tag
 abbrev pub cell_style : Option Alignment → List ℕ
-cell_style None = codes ">"
-cell_style (Some align.None) = codes ">"
 cell_style (Some align.Left) = codes " style=\"text-align: left\">"
 cell_style (Some align.Center) = codes " style=\"text-align: center\">"
 cell_style (Some align.Right) = codes " style=\"text-align: right\">"
+cell_style alignment = codes ">"
 
 -- the scheme that is written before a link's destination
 abbrev pub link_scheme : LinkType → List ℕ
@@ -129,7 +124,6 @@ start_parts past (event.block_quote kind) =
     new_line past.fresh ∷ codes "<blockquote" ∷ quote_class kind ∷ codes ">\n" ∷ []
 start_parts past event.indented_code = code_block_parts past.fresh []
 start_parts past (event.fenced_code info) = code_block_parts past.fresh (language info)
-start_parts past event.html_block = []
 start_parts past (event.list None) = new_line past.fresh ∷ codes "<ul>\n" ∷ []
 start_parts past (event.list (Some first)) =
     if first == 1 then new_line past.fresh ∷ codes "<ol>\n" ∷ [] else numbered_list_parts past.fresh (decimal first)
@@ -150,7 +144,7 @@ start_parts past event.superscript = codes "<sup>" ∷ []
 start_parts past event.subscript = codes "<sub>" ∷ []
 start_parts past (event.link l) = link_parts l.kind l.destination l.title
 start_parts past (event.image i) = image_parts i.destination
-start_parts past (event.metadata_block kind) = []
+start_parts past tag = []
 
 -- what an End writes outside images
 abbrev pub end_parts : Past → TagEnd → List (List ℕ)
@@ -158,7 +152,6 @@ end_parts past closes.Paragraph = codes "</p>\n" ∷ []
 end_parts past (closes.Heading level) = codes "</h" ∷ level_digit level ∷ codes ">\n" ∷ []
 end_parts past (closes.BlockQuote kind) = codes "</blockquote>\n" ∷ []
 end_parts past closes.CodeBlock = codes "</code></pre>\n" ∷ []
-end_parts past closes.HtmlBlock = []
 end_parts past (closes.List true) = codes "</ol>\n" ∷ []
 end_parts past (closes.List false) = codes "</ul>\n" ∷ []
 end_parts past closes.Item = codes "</li>\n" ∷ []
@@ -176,5 +169,4 @@ end_parts past closes.Strikethrough = codes "</del>" ∷ []
 end_parts past closes.Superscript = codes "</sup>" ∷ []
 end_parts past closes.Subscript = codes "</sub>" ∷ []
 end_parts past closes.Link = codes "</a>" ∷ []
-end_parts past closes.Image = []
-end_parts past (closes.MetadataBlock kind) = []
+end_parts past tag = []
