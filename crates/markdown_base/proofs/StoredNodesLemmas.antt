@@ -1,5 +1,5 @@
--- Laws of the nodes that a tree stores. A read cites `read_item`, `read_child` or `read_next`, a write `arena_changed` and
--- `within_written`, and a new node `within_stored`.
+-- Laws of the nodes that a tree stores. A read cites `read_item`, `read_child` or `read_next`, a write `arena_changed`
+-- and `within_written`, and a new node `within_stored`.
 use Rattle.std.proofs.Common.{◌≡◌, ℕ, zero, suc, ◌<◌, List, [], ◌∷◌, ◌++◌, Option, Some, None, length, get_or, set}
 use Rattle.std.proofs.Common.{refl, ap, ◌∙◌, subst, arith}
 use Rattle.std.specs.Prelude.{IfSome, slice_index_or}

@@ -62,7 +62,8 @@ pub same_presence : {X : Type 0} (p : X → Bool) (i : ℕ) (xs : List X) → is
     ≡ is_some (find p xs)
 same_presence p i [] = refl
 same_presence {X} p i (x ∷ xs) =
-    elim (p x) as (λ b. is_some (cond b (Some i) (position_from p (i + 1) xs)) ≡ is_some (cond b (Some x) (find p xs))) [
+    elim (p x)
+    as (λ b. is_some (cond b (Some i) (position_from p (i + 1) xs)) ≡ is_some (cond b (Some x) (find p xs))) [
       | true ↦ refl
       | false ↦ same_presence p (i + 1) xs
     ]

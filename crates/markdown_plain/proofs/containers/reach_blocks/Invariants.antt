@@ -1,4 +1,5 @@
--- What is reached of the blocks from the depth reached on is what is reached of all, and the stretches ahead are theirs.
+-- What is reached of the blocks from the depth reached on is what is reached of all, and the stretches ahead are
+-- theirs.
 use Rattle.std.proofs.Common.{◌≡◌, ◌≤◌, ◌-◌, true, drop, length}
 use Rattle.markdown_plain.specs.Containers.{reach_from, reach_of, reach_start, whole_line}
 use Rattle.markdown_plain.proofs.StretchesLemmas.{starts_ahead}
