@@ -95,7 +95,8 @@ fn scan_title_text<'t, I: ItemsAfter>(
         ReadsTitle in_table
         (title_in from.closer false (joined_lines (I.starts items.old) from.start 0 text.now))) }
     ensures borrowed { IfOk result (
-        BorrowsTitle (title_in from.closer false (joined_lines (I.starts items.old) from.start 0 text.now))) }
+        BorrowsTitle (title_in from.closer false
+        (joined_lines (I.starts items.old) from.start 0 text.now))) }
     ensures within { IfOk result (λ found. IfSome found (λ t. IsCharBoundary text.now t.0)) }
 {
     let bytes = text.as_bytes();

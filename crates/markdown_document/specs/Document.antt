@@ -105,7 +105,8 @@ other_shape tables source (body.HardBreak true) = backslash_break
 other_shape tables source (body.HardBreak false) = leaf event.hard_break []
 other_shape tables source body.Rule = leaf event.rule []
 other_shape tables source (body.TaskListMarker done) = leaf (event.task_list_marker done) []
-other_shape tables source (body.Heading level named) = enclosed (event.heading (heading_for level tables.headings named))
+other_shape tables source (body.Heading level named) =
+    enclosed (event.heading (heading_for level tables.headings named))
 other_shape tables source (body.FencedCodeBlock ix) = enclosed (event.fenced_code (text_at tables.cows ix.0))
 other_shape tables source (body.FootnoteDefinition ix) = enclosed (event.footnote_definition (text_at tables.cows ix.0))
 other_shape tables source (body.Table ix) = enclosed (event.table (alignments_at tables.alignments ix.0))

@@ -43,8 +43,8 @@ HasSlices source tables start end other = ⊤
 abbrev pub ComesFromPlace : List ℕ → Tables → Item → Type 0
 ComesFromPlace source tables item = HasSlices source tables (origin_start source item.start) item.end item.body
 
--- the item of the node with this number lies in the text, refers to entries that exist and come from the source where it
--- is, and keeps the rules of items
+-- the item of the node with this number lies in the text, refers to entries that exist and come from the source where
+-- it is, and keeps the rules of items
 pub record IsPlaced (source : List ℕ) (tables : Tables) (nodes : List (Node Item)) (ix : ℕ) : Type 0 where
   pub lies : LiesIn source (item_at nodes ix)
   pub named : NamesEntries tables (item_at nodes ix).body

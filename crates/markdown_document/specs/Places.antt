@@ -23,6 +23,7 @@ follows_pipe source zero = false
 follows_pipe source (suc i) = slice_index source i == pipe
 
 -- The byte offset from which on what an item refers to comes from the source, by the item's start: from there on; but
--- from the beginning on where a pipe precedes the item, since the pipe of a wikilink may cut off what an item begins with.
+-- from the beginning on where a pipe precedes the item, since the pipe of a wikilink may cut off what an item begins
+-- with.
 abbrev pub origin_start : List ℕ → (start : ℕ) → ℕ
 origin_start source start = if follows_pipe source start then 0 else start

@@ -134,8 +134,8 @@ pub record StopsLooking {C : Type 0} (ix : ℕ) (tree : Arena Item) (old new : R
   pub math_looks : LooksAtMost (has_failed old.math_closers) (has_failed new.math_closers) old.work.math_visits
       new.work.math_visits (items_from tree.nodes (Some ix))
 
--- the only error is a refusal of memory, with the tree as it was; then the callback was asked, and searches have looked,
--- as they are at the item of a node
+-- the only error is a refusal of memory, with the tree as it was; then the callback was asked, and searches have
+-- looked, as they are at the item of a node
 pub record StopsReading {C : Type 0} (step : C → Question → Option Answer → C → Type 0) (place : ChainPlace) (ix : ℕ)
     (tree tree' : Arena Item) (old new : Resolver C) (fault : Fault) : Type 0 where
   pub refused : IsRefused tree tree' fault

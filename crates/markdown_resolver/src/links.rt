@@ -47,7 +47,8 @@ pub fn put_link(tree: &mut Tree<Item>, brackets: Brackets, item: Item, next_byte
         → HasGrown tables tables'
         → CanClose source tables tree.old.nodes brackets.opener brackets.closer inside next_byte
         → CanPutOver source tables tables' tree.old.nodes brackets.opener item next_byte
-        → PutsOver source brackets.opener brackets.closer inside (over_inside source tables' item) next_byte
+        → PutsOver source brackets.opener brackets.closer inside
+        (over_inside source tables' item) next_byte
         (brackets.opener ∷ []) result
         tree.old.nodes tree.new.nodes tables tables' }
     ensures place { tree.new ≡ record tree.old { nodes = tree.new.nodes } }
@@ -73,7 +74,8 @@ pub fn put_footnote(tree: &mut Tree<Item>, brackets: Brackets, item: Item) -> Re
         → CanClose source tables tree.old.nodes brackets.opener brackets.closer inside item.end
         → CanPutOver source tables tables' tree.old.nodes brackets.opener item item.end
         → item.end ≡ (item_at tree.old.nodes brackets.closer).end
-        → PutsOver source brackets.opener brackets.closer inside (in_place_of source tables' item) item.end
+        → PutsOver source brackets.opener brackets.closer inside
+        (in_place_of source tables' item) item.end
         (brackets.opener ∷ []) result
         tree.old.nodes tree.new.nodes tables tables' }
     ensures place { tree.new ≡ record tree.old { nodes = tree.new.nodes } }
@@ -90,12 +92,14 @@ pub fn put_image_footnote(tree: &mut Tree<Item>, brackets: Brackets, mark: Item,
     requires { (source : List ℕ) × (tables : Tables) × (tables' : Tables) × (inside : List ℕ)
         × HasGrown tables tables'
         × CanClose source tables tree.old.nodes brackets.opener brackets.closer inside item.end
-        × CanPutMark source tables tables' tree.old.nodes brackets.opener brackets.closer mark item }
+        × CanPutMark source tables tables' tree.old.nodes brackets.opener brackets.closer
+        mark item }
     ensures puts { (source : List ℕ) (tables tables' : Tables) (inside : List ℕ)
         → HasGrown tables tables'
         → CanClose source tables tree.old.nodes brackets.opener brackets.closer inside item.end
         → CanPutMark source tables tables' tree.old.nodes brackets.opener brackets.closer mark item
-        → PutsOver source brackets.opener brackets.closer inside (after_mark source tables' mark item) item.end
+        → PutsOver source brackets.opener brackets.closer inside
+        (after_mark source tables' mark item) item.end
         (brackets.opener ∷ brackets.closer ∷ [])
         result tree.old.nodes tree.new.nodes tables tables' }
     ensures place { tree.new ≡ record tree.old { nodes = tree.new.nodes } }
@@ -148,7 +152,8 @@ pub(crate) fn put_wikilink_name(
         → CanPutOver source tables tables' tree.old.nodes brackets.opener item item.end
         → CanPut source tables tables' inside
         → nodes ≡ skipped ++ first ∷ shown → ((n : Named) → times_named n inside.body ≡ 0)
-        → PutsOver source brackets.opener brackets.closer nodes (over_text source tables' item inside) item.end
+        → PutsOver source brackets.opener brackets.closer nodes
+        (over_text source tables' item inside) item.end
         (brackets.opener ∷ []) result
         tree.old.nodes tree.new.nodes tables tables' }
     ensures place { tree.new ≡ record tree.old { nodes = tree.new.nodes } }
@@ -183,8 +188,8 @@ pub(crate) fn put_wikilink_shown(
         → CanClose source tables tree.old.nodes brackets.opener brackets.closer nodes item.end
         → CanPutOver source tables tables' tree.old.nodes brackets.opener item item.end
         → CanShow source tree.old.nodes nodes skipped first from
-        → PutsOver source brackets.opener brackets.closer nodes (over_shown source tables' item (length skipped) from)
-        item.end
+        → PutsOver source brackets.opener brackets.closer nodes
+        (over_shown source tables' item (length skipped) from) item.end
         (brackets.opener ∷ []) result tree.old.nodes tree.new.nodes tables tables' }
     ensures place { tree.new ≡ record tree.old { nodes = tree.new.nodes } }
 {

@@ -258,8 +258,8 @@ impl<'a, F: BrokenLinkCallback<'a>> Resolver<'a, F> {
     /// error is `Fault::Memory`.
     fn read_chain(&mut self, tree: &mut Tree<Item>, first: usize) -> Result<(), Fault>
         requires can_ask { IfSome self.old.lookup.callback F.can_ask }
-        requires ready { CanResolveBelow self.old.text.now (tables_of self.old.lookup.tables) tree.old
-            first }
+        requires ready { CanResolveBelow self.old.text.now (tables_of self.old.lookup.tables)
+            tree.old first }
         ensures reads { IfOk result (λ _.
             ReadsChain F.answers first tree.old tree.new self.old self.new) }
 
@@ -297,13 +297,14 @@ impl<'a, F: BrokenLinkCallback<'a>> Resolver<'a, F> {
     /// only error is `Fault::Memory`; the tree and the tables are then in an unspecified state.
     pub fn resolve_chain(&mut self, tree: &mut Tree<Item>, first: usize) -> Result<(), Fault>
         requires can_ask { IfSome self.old.lookup.callback F.can_ask }
-        requires ready { CanResolveBelow self.old.text.now (tables_of self.old.lookup.tables) tree.old
-            first }
+        requires ready { CanResolveBelow self.old.text.now (tables_of self.old.lookup.tables)
+            tree.old first }
         requires open { is_open (item_at tree.old.nodes first).body ≡ true }
         ensures resolves { IfOk result (λ _. ResolvesChain F.answers
             (setting_of self.old.text.now
             (rules_from self.old.options self.old.lookup.tables (is_some self.old.lookup.callback)))
-            first tree.old tree.new self.old.lookup.tables self.new.lookup.tables self.old.lookup.limit self.new.lookup.limit
+            first tree.old tree.new self.old.lookup.tables self.new.lookup.tables
+            self.old.lookup.limit self.new.lookup.limit
             self.old.lookup.callback self.new.lookup.callback self.old.work self.new.work) }
 
         // on an error, and in any case
@@ -312,7 +313,8 @@ impl<'a, F: BrokenLinkCallback<'a>> Resolver<'a, F> {
             (setting_of self.old.text.now
             (rules_from self.old.options self.old.lookup.tables (is_some self.old.lookup.callback)))
             (above_cursor self.old.text.now tree.old) first
-            (stage tree.old self.old.lookup.tables self.old.lookup.limit self.old.lookup.callback) self.new.lookup.callback
+            (stage tree.old self.old.lookup.tables self.old.lookup.limit
+            self.old.lookup.callback) self.new.lookup.callback
             self.old.work self.new.work) }
         ensures again { IfSome self.new.lookup.callback F.can_ask }
         ensures kept { KeepsInput self.old self.new }
