@@ -4,17 +4,16 @@ use Rattle.std.specs.Prelude.{ℕ, Bool, true, false, List, [], ◌∷◌, ◌++
 use Rattle.std.specs.Prelude.{Option, Some, None}
 use Rattle.std.specs.Option.{option_map_or}
 use Rattle.std.specs.List.{flat_map, before_first}
-use Rattle.std.specs.Char.{digit_char}
 use Rattle.std.specs.Fmt.{decimal}
 use Rattle.markdown_base.specs.Bytes.{space}
 use Rattle.markdown_base.specs.Event as event
 use Rattle.markdown_base.specs.Event.{TagView, HeadingView}
-use Rattle.markdown_base.specs.HeadingLevels.{level_number}
 use Rattle.markdown_base.specs.declared.tag.Alignment.{Alignment}
 use Rattle.markdown_base.specs.declared.tag.Alignment.TheVariants as align
 use Rattle.markdown_base.specs.declared.tag.BlockQuoteKind.{BlockQuoteKind}
 use Rattle.markdown_base.specs.declared.tag.BlockQuoteKind.TheVariants as quote
 use Rattle.markdown_base.specs.declared.tag.HeadingLevel.{HeadingLevel}
+use Rattle.markdown_base.specs.declared.tag.HeadingLevel.TheVariants as level
 use Rattle.markdown_base.specs.declared.tag.LinkType.{LinkType}
 use Rattle.markdown_base.specs.declared.tag.LinkType.TheVariants as written
 use Rattle.markdown_base.specs.declared.tag.TagEnd.{TagEnd}
@@ -29,7 +28,12 @@ new_line fresh = if fresh then [] else codes "\n"
 
 -- the digit of a heading's level
 abbrev pub level_digit : HeadingLevel → List ℕ
-level_digit level = digit_char (level_number level) ∷ []
+level_digit level.H1 = codes "1"
+level_digit level.H2 = codes "2"
+level_digit level.H3 = codes "3"
+level_digit level.H4 = codes "4"
+level_digit level.H5 = codes "5"
+level_digit level.H6 = codes "6"
 
 -- the `id` attribute of a heading
 abbrev pub id_attribute : Option (List ℕ) → List ℕ
@@ -116,7 +120,7 @@ definition_parts fresh name number =
     new_line fresh ∷ codes "<div class=\"footnote-definition\" id=\"" ∷ attribute_escaped name
     ∷ codes "\"><sup class=\"footnote-definition-label\">" ∷ number ∷ codes "</sup>" ∷ []
 
--- what a Start writes outside images
+-- what a Start writes outside images: nothing for HTML blocks and metadata
 abbrev pub start_parts : Past → TagView → List (List ℕ)
 start_parts past event.paragraph = new_line past.fresh ∷ codes "<p>" ∷ []
 start_parts past (event.heading h) = heading_parts past.fresh h
@@ -146,7 +150,7 @@ start_parts past (event.link l) = link_parts l.kind l.destination l.title
 start_parts past (event.image i) = image_parts i.destination
 start_parts past tag = []
 
--- what an End writes outside images
+-- what an End writes outside images: nothing where its Start has written all
 abbrev pub end_parts : Past → TagEnd → List (List ℕ)
 end_parts past closes.Paragraph = codes "</p>\n" ∷ []
 end_parts past (closes.Heading level) = codes "</h" ∷ level_digit level ∷ codes ">\n" ∷ []
