@@ -8,7 +8,7 @@ use crate::tight::tighten_lists;
 use crate::tree_steps::{append_texts, enter, leave, mark_run, push_text, replace_last, rewrite};
 use markdown_base::block_parts::{BlockParts, HeadingAttributes, LinkDef};
 use markdown_base::cow_str::CowStr;
-use markdown_base::index::{in_32_bits, AlignmentIndex, HeadingIndex};
+use markdown_base::index::{AlignmentIndex, HeadingIndex, in_32_bits};
 use markdown_base::item::{Item, ItemBody};
 use markdown_base::tag::{Alignment, HeadingLevel};
 use markdown_base::tree::Tree;

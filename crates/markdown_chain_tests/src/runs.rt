@@ -14,7 +14,10 @@ fn append_run(
     closes: bool,
 ) -> Result<(), AllocError> {
     'marks: for left in 0..count {
-        over.append(mark, ItemBody::MaybeEmphasis((count - left) as u32, opens, closes))?;
+        over.append(
+            mark,
+            ItemBody::MaybeEmphasis((count - left) as u32, opens, closes),
+        )?;
     }
     over.append_a()
 }
