@@ -31,14 +31,7 @@ use Rattle.markdown_brackets.proofs.OpenerHeldLemmas.{TopBracket, SplitsAt, brac
 use Rattle.markdown_brackets.proofs.OpenerHeldLemmas.{wikilinks_stay}
 use Rattle.markdown_brackets.proofs.SplitLemmas.{opener_splits, taken_splits}
 use Rattle.markdown_brackets.proofs.TakeWikilinkLemmas.{closer_found, first_of, opener_holds, rest_brackets, rest_found}
-use Rattle.markdown_brackets.proofs.TakeWikilinkLemmas.{rest_of}
-
--- what is left of a stack whose top was taken off
-pub left_of : (taken : Option (Opener × Bool)) (old new : List Waiting)
-    → MatchOption taken ((old ≡ []) × (new ≡ [])) (λ t. old ≡ record { opener = t.0; is_live = t.1 } ∷ new) → new
-    ≡ rest_of old
-left_of None old new m = m.1 ∙ sym (ap rest_of m.0)
-left_of (Some t) old new m = sym (ap rest_of m)
+use Rattle.markdown_brackets.proofs.TakeWikilinkLemmas.{rest_of, left_of}
 
 module _ {C : Type 0} (step : C → Question → Option Answer → C → Type 0) (w : Around) (c : Closing ℕ)
     (left : List (Entry ℕ))

@@ -1,8 +1,7 @@
 -- What is added to a left list takes openers off the stacks: numbers rise along the list, so that an opener and all
 -- after it are removed, and those before it stay; only the one just before it leads to it.
 use Rattle.std.proofs.Common.{◌≡◌, ℕ, ◌<◌, ◌≤◌, ◌==◌, Bool, true, false, List, [], ◌∷◌, ◌++◌, Option, Some, map, nat_le}
-use Rattle.std.proofs.Common.{refl, sym, ◌∙◌, ap}
-use Rattle.std.proofs.Common.{subst, arith}
+use Rattle.std.proofs.Common.{refl, sym, ◌∙◌, ap, subst, arith}
 use Rattle.std.specs.Prelude.{if◌then◌else◌, ⊤}
 use Rattle.std.proofs.lemmas.Bool.Decides.{nat_tests}
 use Rattle.markdown_base.specs.Arena.{sibling_of}
@@ -19,10 +18,8 @@ use Rattle.markdown_brackets.specs.DecisionView.{IsBecome, opener_of}
 use Rattle.markdown_brackets.specs.Decides.{EachOpener, StandsBefore}
 use Rattle.markdown_brackets.specs.Finish.{AreBehind, AreRising, IsSplit, LeftRises, SplitsAs}
 use Rattle.markdown_brackets.specs.LeftList.{Entry, Flag, Mark, Split, before_footnote, before_link, before_wikilink}
-use Rattle.markdown_brackets.specs.LeftList.{disabled}
-use Rattle.markdown_brackets.specs.LeftList.{disabled_flag, disabled_mark, done, gone, live, on_marks, second_folded}
-use Rattle.markdown_brackets.specs.LeftList.{trees_onto}
-use Rattle.markdown_brackets.specs.LeftList.{waits, without_bracket, without_wikilink}
+use Rattle.markdown_brackets.specs.LeftList.{disabled, disabled_flag, disabled_mark, done, gone, on_marks}
+use Rattle.markdown_brackets.specs.LeftList.{second_folded, trees_onto, waits, without_bracket, without_wikilink}
 use Rattle.markdown_brackets.specs.HeldOpeners.{brackets_of, held_as, wikilinks_of}
 use Rattle.markdown_brackets.specs.Openers.{Waiting, before}
 use Rattle.markdown_brackets.specs.Openers as openers
@@ -32,6 +29,7 @@ use Rattle.markdown_brackets.specs.declared.closing_bracket.ClosedBracket.TheVar
 use Rattle.markdown_brackets.specs.declared.openers.Opener.{Opener}
 use Rattle.markdown_brackets.proofs.HeldTreesLemmas.{Holds-from}
 use Rattle.markdown_brackets.proofs.OpenerLemmas.{le_true, lt_false}
+use Rattle.markdown_brackets.proofs.LeftListLemmas.{onto_append}
 
 -- a fact of each opener that is left
 pub each_before : (P : ℕ → Type 0) (n : ℕ) (held : List Waiting) → EachOpener P held → EachOpener P (before n held)
@@ -136,25 +134,17 @@ links_folded nodes n [] h = tt
 links_folded nodes n (done a below ∷ left) h = h
 links_folded nodes n (waits m a ∷ left) h = h
 
-onto_append : (after left : List (Entry ℕ)) (f : Forest (Label ℕ)) → trees_onto (after ++ left) f
-    ≡ trees_onto left (trees_onto after f)
-onto_append [] left f = refl
-onto_append (done a below ∷ after) left f = onto_append after left (node a below f)
-onto_append (waits m a ∷ after) left f = onto_append after left (node a nil f)
-
 -- an opener of a greater number goes, one of a smaller number stays
 goes : (n number : ℕ) (is_image : Bool) (f : Flag) (held : List Waiting) → n ≤ number
     → before n (held_as number is_image f held)
     ≡ before n held
-goes n number is_image live held le = rw (le_true n number le) refl
-goes n number is_image disabled held le = rw (le_true n number le) refl
 goes n number is_image gone held le = refl
+goes n number is_image other held le = rw (le_true n number le) refl
 
 stays : (n number : ℕ) (is_image : Bool) (f : Flag) (held : List Waiting) → number < n → before n held ≡ held
     → before n (held_as number is_image f held) ≡ held_as number is_image f held
-stays n number is_image live held lt e = rw (lt_false n number lt) refl
-stays n number is_image disabled held lt e = rw (lt_false n number lt) refl
 stays n number is_image gone held lt e = e
+stays n number is_image other held lt e = rw (lt_false n number lt) refl
 
 goes_all : (flag : Mark → Flag) (n : ℕ) (after left : List (Entry ℕ)) → AreAfter n after
     → before n (held_by flag (after ++ left))
@@ -193,9 +183,8 @@ far_one : (nodes : List (Node Item)) (n next number : ℕ) (is_image : Bool) (f 
     → sibling_of nodes number ≡ Some next → next < n
     → without_second nodes n held ≡ held → without_second nodes n (held_as number is_image f held)
     ≡ held_as number is_image f held
-far_one nodes n next number is_image live held e lt rest = rw (e, other_number next n lt) refl
-far_one nodes n next number is_image disabled held e lt rest = rw (e, other_number next n lt) refl
 far_one nodes n next number is_image gone held e lt rest = rest
+far_one nodes n next number is_image other held e lt rest = rw (e, other_number next n lt) refl
 
 far : (flag : Mark → Flag) (nodes : List (Node Item)) (n next : ℕ) (left : List (Entry ℕ)) → LinksOn nodes next left
     → next < n
@@ -211,12 +200,9 @@ near_one : (nodes : List (Node Item)) (n number : ℕ) (is_image : Bool) (f : Fl
     → sibling_of nodes number ≡ Some n
     → before number held ≡ held → without_second nodes n held ≡ held
     → without_second nodes n (held_as number is_image f held) ≡ held
-near_one nodes n number is_image live held e rest none = rw (e, same_number n)
-    (goes number number is_image live held (omega arith) ∙ rest)
-near_one nodes n number is_image disabled held e rest none = rw (e, same_number n)
-    (goes number number is_image disabled held (omega arith)
-    ∙ rest)
 near_one nodes n number is_image gone held e rest none = none
+near_one nodes n number is_image f held e rest none =
+    rw (e, same_number n) (goes number number is_image f held (omega arith) ∙ rest)
 
 second_gone : (nodes : List (Node Item)) (n : ℕ) (left : List (Entry ℕ)) → LinksOn nodes n left
     → without_second nodes n (held_by for_wikilink left) ≡ held_by for_wikilink (second_folded left)
@@ -233,12 +219,10 @@ disabled_held : (number : ℕ) (is_image : Bool) (f : Flag) (held held' : List W
     ≡ map openers.disabled_opener held
     → held_as number is_image (if is_image then f else disabled_flag f) held'
     ≡ map openers.disabled_opener (held_as number is_image f held)
-disabled_held number true live held held' e = ap (held_as number true live) e
-disabled_held number true disabled held held' e = ap (held_as number true disabled) e
 disabled_held number true gone held held' e = e
-disabled_held number false live held held' e = ap (held_as number false disabled) e
-disabled_held number false disabled held held' e = ap (held_as number false disabled) e
+disabled_held number true f held held' e = ap (held_as number true f) e
 disabled_held number false gone held held' e = e
+disabled_held number false f held held' e = ap (held_as number false disabled) e
 
 brackets_disabled : (left : List (Entry ℕ)) → brackets_of (on_marks disabled_mark left)
     ≡ map openers.disabled_opener (brackets_of left)
@@ -251,8 +235,8 @@ brackets_disabled (waits m a ∷ left) = by m.is_image m.bracket m.wikilink (bra
         → brackets_of (on_marks disabled_mark (waits (record { is_image = i; bracket = b; wikilink = w }) a ∷ left))
         ≡ map openers.disabled_opener
         (brackets_of (waits (record { is_image = i; bracket = b; wikilink = w }) a ∷ left))
-    by true b w e = disabled_held a.tag true b (brackets_of left) (brackets_of (on_marks disabled_mark left)) e
-    by false b w e = disabled_held a.tag false b (brackets_of left) (brackets_of (on_marks disabled_mark left)) e
+    by true b w e = disabled_held a.tag true b _ _ e
+    by false b w e = disabled_held a.tag false b _ _ e
 
 wikilinks_disabled : (left : List (Entry ℕ)) → wikilinks_of (on_marks disabled_mark left)
     ≡ map openers.disabled_opener (wikilinks_of left)
@@ -265,8 +249,8 @@ wikilinks_disabled (waits m a ∷ left) = by m.is_image m.bracket m.wikilink (wi
         → wikilinks_of (on_marks disabled_mark (waits (record { is_image = i; bracket = b; wikilink = w }) a ∷ left))
         ≡ map openers.disabled_opener
         (wikilinks_of (waits (record { is_image = i; bracket = b; wikilink = w }) a ∷ left))
-    by true b w e = disabled_held a.tag true w (wikilinks_of left) (wikilinks_of (on_marks disabled_mark left)) e
-    by false b w e = disabled_held a.tag false w (wikilinks_of left) (wikilinks_of (on_marks disabled_mark left)) e
+    by true b w e = disabled_held a.tag true w _ _ e
+    by false b w e = disabled_held a.tag false w _ _ e
 
 brackets_folded : (left : List (Entry ℕ)) → brackets_of (second_folded left) ≡ brackets_of left
 brackets_folded [] = refl

@@ -1,7 +1,6 @@
 -- A stack of openers as the list that it represents.
 use Rattle.std.proofs.Common.{◌≡◌, ℕ, suc, zero, ◌+◌, ◌-◌, ◌<◌, ◌≤◌, Bool, true, false, ◌&&◌, List, [], ◌∷◌, ◌++◌, Some}
-use Rattle.std.proofs.Common.{length, get_or}
-use Rattle.std.proofs.Common.{take, map, min, cond, nat_le, arith, refl, sym, ◌∙◌, ap, reverse, subst}
+use Rattle.std.proofs.Common.{length, get_or, take, map, min, cond, nat_le, arith, refl, sym, ◌∙◌, ap, reverse, subst}
 use Rattle.std.proofs.lemmas.Bool.{leb-true}
 use Rattle.std.proofs.lemmas.Bool.Decides.{nat_tests}
 use Rattle.std.proofs.lemmas.List.{reverse-append, map-append, take_more, take_all}

@@ -1,7 +1,6 @@
 -- A left list before a `]` in an arena: the openers on the stacks are those of the list, and are where the list says.
 use Rattle.std.proofs.Common.{◌≡◌, ℕ, ◌≤◌, Bool, true, false, ◌&&◌, List, [], ◌∷◌, Option, Some, None, length, refl}
-use Rattle.std.proofs.Common.{sym, ◌∙◌, ap, subst}
-use Rattle.std.proofs.Common.{arith}
+use Rattle.std.proofs.Common.{sym, ◌∙◌, ap, subst, arith}
 use Rattle.std.specs.Prelude.{IfSome, MatchOption, if◌then◌else◌}
 use Rattle.markdown_base.specs.Arena.{sibling_of}
 use Rattle.markdown_base.specs.ArenaForest.{links_of}
@@ -15,9 +14,8 @@ use Rattle.markdown_document.specs.Document.{Label}
 use Rattle.markdown_document.specs.Totals.{same}
 use Rattle.markdown_document.proofs.TablesLemmas.{same-refl}
 use Rattle.markdown_brackets.specs.BracketDecision.{Around, Closing, Decision, Written, Progress, Wikilink}
-use Rattle.markdown_brackets.specs.BracketDecision.{bracket_found, carried_out, decided}
-use Rattle.markdown_brackets.specs.BracketDecision.{found, left_for_one, past_second, second_end, wikilink}
-use Rattle.markdown_brackets.specs.BracketDecision.{wikilink_found, wikilink_in}
+use Rattle.markdown_brackets.specs.BracketDecision.{bracket_found, carried_out, decided, found, left_for_one}
+use Rattle.markdown_brackets.specs.BracketDecision.{past_second, second_end, wikilink, wikilink_found, wikilink_in}
 use Rattle.std.specs.Option.{option_and_then, option_map, option_or}
 use Rattle.markdown_base.specs.EnabledOptions.{wikilinks_on}
 use Rattle.markdown_brackets.specs.ChainHeld.{Holds, numbers_of, times_of}
@@ -25,22 +23,22 @@ use Rattle.markdown_brackets.specs.Decides.{StandsBefore}
 use Rattle.markdown_brackets.specs.DecisionView.{opener_of}
 use Rattle.markdown_brackets.specs.Finish.{IsSplit}
 use Rattle.markdown_brackets.specs.LeftList.{Entry, Split, done, inside, is_live, nearest, opens_bracket}
-use Rattle.markdown_brackets.specs.LeftList.{opens_wikilink, waits, without_bracket}
-use Rattle.markdown_brackets.specs.LeftList.{without_wikilink, bracket_taken, wikilink_taken, trees_onto}
+use Rattle.markdown_brackets.specs.LeftList.{opens_wikilink, waits, without_bracket, without_wikilink, bracket_taken}
+use Rattle.markdown_brackets.specs.LeftList.{wikilink_taken, trees_onto}
 use Rattle.markdown_brackets.specs.HeldOpeners.{brackets_of, wikilinks_of}
 use Rattle.markdown_brackets.specs.Openers.{Waiting}
 use Rattle.markdown_brackets.specs.Reference.{is_closer}
 use Rattle.markdown_brackets.specs.StandsAt.{FindsWikilink, IsWikilink, HoldsInside, TriesWikilink, TakesNone}
 use Rattle.markdown_brackets.specs.StandsAt.{TakesWikilink}
 use Rattle.markdown_brackets.specs.declared.closing_bracket.ClosedBracket.{ClosedBracket}
-use Rattle.markdown_brackets.specs.declared.closing_bracket.ClosedBracket.TheVariants.{Text, Link, Footnote, Wikilinked}
+use Rattle.markdown_brackets.specs.declared.closing_bracket.ClosedBracket.TheVariants.{Wikilinked}
 use Rattle.markdown_brackets.specs.declared.openers.Opener.{Opener}
 use Rattle.markdown_brackets.proofs.AheadOfBracketLemmas.{same_start, same_end, same_closer}
 use Rattle.markdown_brackets.proofs.BracketStandsLemmas.{Found, found_after, found_at, height_found}
 use Rattle.markdown_brackets.proofs.HeldTreesLemmas.{Holds-from, height-later, total-onto, total-joined}
 use Rattle.markdown_brackets.proofs.OpenerHeldLemmas.{TopBracket, TopWikilink, top_bracket, top_wikilink}
-use Rattle.markdown_brackets.proofs.OpenerHeldLemmas.{wikilinks_stay, brackets_stay}
-use Rattle.markdown_brackets.proofs.OpenerHeldLemmas.{trees_stay, splits_at, SplitsAt, onto_joined}
+use Rattle.markdown_brackets.proofs.OpenerHeldLemmas.{wikilinks_stay, brackets_stay, trees_stay, splits_at, SplitsAt}
+use Rattle.markdown_brackets.proofs.OpenerHeldLemmas.{onto_joined}
 use Rattle.markdown_brackets.proofs.SplitLemmas.{taken_splits}
 
 -- a stack that was not empty
@@ -51,6 +49,13 @@ rest_of (t ∷ held) = held
 abbrev pub first_of : Waiting → List Waiting → Waiting
 first_of other [] = other
 first_of other (t ∷ held) = t
+
+-- what is left of a stack whose top was taken off
+pub left_of : (taken : Option (Opener × Bool)) (old new : List Waiting)
+    → MatchOption taken ((old ≡ []) × (new ≡ [])) (λ t. old ≡ record { opener = t.0; is_live = t.1 } ∷ new) → new
+    ≡ rest_of old
+left_of None old new m = m.1 ∙ sym (ap rest_of m.0)
+left_of (Some t) old new m = sym (ap rest_of m)
 
 -- without the one on top, a stack holds the list without the nearest opener
 pub rest_wikilinks : (left : List (Entry ℕ)) → rest_of (wikilinks_of left) ≡ wikilinks_of (wikilink_taken left)
@@ -249,13 +254,7 @@ module _ (nodes : List (Node Item)) (closer : ℕ) (left : List (Entry ℕ)) (c 
           (m : MatchOption taken ((old ≡ []) × (new ≡ [])) (λ t. old ≡ record { opener = t.0; is_live = t.1 } ∷ new))
         where
           new_is : new ≡ rest_of (wikilinks_of left)
-          new_is = by taken m ∙ ap rest_of old_is
-            where
-              by : (taken : Option (Opener × Bool))
-                  → MatchOption taken ((old ≡ []) × (new ≡ [])) (λ t. old ≡ record { opener = t.0; is_live = t.1 } ∷ new)
-                  → new ≡ rest_of old
-              by None m = m.1 ∙ sym (ap rest_of m.0)
-              by (Some t) m = sym (ap rest_of m)
+          new_is = left_of taken old new m ∙ ap rest_of old_is
 
           tries_two : (o : Option (Split ℕ)) → wikilink_opener ≡ o → TriesWikilink nodes closer taken c o
           tries_two o e = by taken m o (subst (TopWikilink (bracket_taken left)) e (top_wikilink (bracket_taken left)))
@@ -326,11 +325,6 @@ module _ (nodes : List (Node Item)) (closer : ℕ) (left : List (Entry ℕ)) (c 
                       → (r : Option ClosedBracket) → IsWikilink w (opener_of o) end (past_second (inside o)) x r
                       → TakesWikilink w c left new r
                   inner None e None h = takes_none (all_is None e)
-                  inner None e (Some x) h = absurd h
-                  inner (Some v) e None h = absurd h
-                  inner (Some v) e (Some Text) h = absurd h
-                  inner (Some v) e (Some (Link a b d f)) h = absurd h
-                  inner (Some v) e (Some (Footnote a b)) h = absurd h
                   inner (Some v) e (Some (Wikilinked a b d f g)) h = record {
                     opener = o;
                     wikilink = v;
@@ -340,3 +334,4 @@ module _ (nodes : List (Node Item)) (closer : ℕ) (left : List (Entry ℕ)) (c 
                     decides = decided_as (Some (wikilink o v end)) (all_is (Some v) e);
                     is = h;
                   }
+                  inner x e r h = absurd h

@@ -1,7 +1,6 @@
 -- What a wikilink is in an arena is what the definition makes of the trees between its opener and the `]`.
 use Rattle.std.proofs.Common.{◌≡◌, ℕ, ◌-◌, ◌<◌, ◌≤◌, Bool, true, false, List, [], ◌∷◌, Option, Some, None, length, refl}
-use Rattle.std.proofs.Common.{sym, ◌∙◌, ap}
-use Rattle.std.proofs.Common.{subst, suc, ◌+◌, ◌==◌, arith, drop, get_or, nat_lt, take}
+use Rattle.std.proofs.Common.{sym, ◌∙◌, ap, subst, suc, ◌+◌, ◌==◌, arith, drop, get_or, nat_lt, take}
 use Rattle.std.specs.Prelude.{IfSome, if◌then◌else◌, slice_index, slice_range}
 use Rattle.std.specs.List.{position_or_len}
 use Rattle.std.specs.Option.{option_and_then, option_map}
@@ -25,15 +24,14 @@ use Rattle.markdown_brackets.specs.ChainAhead.{numbers_past}
 use Rattle.markdown_brackets.specs.ChainHeld.{numbers_of, times_of, link_to}
 use Rattle.markdown_brackets.specs.DecisionView.{IsShownAfterPipe, first_shown, shown_of}
 use Rattle.markdown_brackets.specs.Wikilink.{WikilinkBody, Shows, shows_name, shows_nothing, shows_from, cut_at}
-use Rattle.markdown_brackets.specs.Wikilink.{has_pothole, named}
-use Rattle.markdown_brackets.specs.Wikilink.{shown_from, wikilink_body}
+use Rattle.markdown_brackets.specs.Wikilink.{has_pothole, named, shown_from, wikilink_body}
 use Rattle.markdown_base.proofs.ArenaForestLemmas.{height}
 use Rattle.markdown_brackets.specs.LeftList.{Split, inside, is_live}
 use Rattle.markdown_brackets.specs.StandsAt.{FindsWikilink, IsWikilink, IsWikilinkAt, TriesWikilink, wikilink_nodes}
 use Rattle.markdown_brackets.specs.StandsAt.{shown_from_node, shown_in, wikilink_from}
 use Rattle.markdown_brackets.specs.WikilinkNodes.{body_start}
 use Rattle.markdown_brackets.specs.declared.closing_bracket.ClosedBracket.{ClosedBracket}
-use Rattle.markdown_brackets.specs.declared.closing_bracket.ClosedBracket.TheVariants.{Text, Link, Footnote, Wikilinked}
+use Rattle.markdown_brackets.specs.declared.closing_bracket.ClosedBracket.TheVariants.{Wikilinked}
 use Rattle.markdown_brackets.specs.declared.openers.Opener.{Opener}
 use Rattle.markdown_brackets.specs.declared.wikilink_nodes.ShownNodes.{ShownNodes}
 use Rattle.markdown_brackets.specs.declared.wikilink_nodes.ShownNodes.TheVariants.{Over, From}
@@ -115,10 +113,6 @@ module _ (source : List ℕ) (tables : Tables) (nodes : List (Node Item)) (w : A
         → link_to children ≡ Some (first_shown shown) → IsShownAfterPipe w.setting.text shown
         → (r : Option ClosedBracket) → IsWikilinkAt opener end (Some (b, shown)) r
         → IsWikilink w opener end trees (Some (as_wikilink children)) r
-    is_found shown children so first piped None h = absurd h
-    is_found shown children so first piped (Some Text) h = absurd h
-    is_found shown children so first piped (Some (Link a d e f)) h = absurd h
-    is_found shown children so first piped (Some (Footnote a d)) h = absurd h
     is_found shown children so first piped (Some (Wikilinked a d e f g)) h = (
       h.0,
       h.1,
@@ -128,6 +122,7 @@ module _ (source : List ℕ) (tables : Tables) (nodes : List (Node Item)) (w : A
       h.4,
       subst (IsShownAfterPipe w.setting.text) (sym h.3) piped,
     )
+    is_found shown children so first piped r h = absurd h
 
     from_found : (at : ℕ) (children : Forest (Label ℕ)) → ((n : ℕ) → shown_of w trees (From n at) ≡ children)
         → follows_pipe w.setting.text at ≡ true → (r : Option ClosedBracket)
