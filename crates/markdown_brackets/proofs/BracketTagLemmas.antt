@@ -290,7 +290,8 @@ module _ {A B : Type 0} (f : A → B) where
     body_retag first trees end None = refl
     body_retag first trees end (Some b) =
         ap (option_map (shown_as b)) (children_retag first trees end b.shows)
-        ∙ mapped (shown_as b) (retagged f) retag_wikilink (shown_as b) (λ g. refl) (shown_children w first trees end b.shows)
+        ∙ mapped (shown_as b) (retagged f) retag_wikilink (shown_as b) (λ g. refl)
+        (shown_children w first trees end b.shows)
 
     pub wikilink_in_retag : (trees : Forest (Label A)) (end : ℕ) → wikilink_in w (retagged f trees) end
         ≡ option_map retag_wikilink (wikilink_in w trees end)
@@ -325,7 +326,7 @@ module _ {A B : Type 0} (f : A → B) where
     wikilink_retag c end o =
         let found = wikilink_in w (past_second (inside o)) (start_of c.label) in
         if_retag (is_live o.mark.wikilink) _ (option_map (λ v. wikilink o v end) found)
-        (rw (inside_retag o, past_second_retag (inside o), wikilink_in_retag (past_second (inside o)) (start_of c.label))
+        (rw (inside_retag o, past_second_retag (inside o), wikilink_in_retag (past_second (inside o)) _)
         (mapped (λ v. wikilink (retag_split o) v end) retag_wikilink retag_found (λ v. wikilink o v end) (λ v. refl)
         found))
 

@@ -30,6 +30,7 @@ use Rattle.markdown_brackets.specs.declared.openers.Opener.{Opener}
 use Rattle.markdown_brackets.proofs.HeldTreesLemmas.{Holds-from}
 use Rattle.markdown_brackets.proofs.OpenerLemmas.{le_true, lt_false}
 use Rattle.markdown_brackets.proofs.LeftListLemmas.{onto_append}
+use Rattle.markdown_brackets.proofs.OpenerHeldLemmas.{for_bracket, for_wikilink}
 
 -- a fact of each opener that is left
 pub each_before : (P : ℕ → Type 0) (n : ℕ) (held : List Waiting) → EachOpener P held → EachOpener P (before n held)
@@ -51,12 +52,6 @@ abbrev held_by : (Mark → Flag) → List (Entry ℕ) → List Waiting
 held_by flag [] = []
 held_by flag (done a below ∷ left) = held_by flag left
 held_by flag (waits m a ∷ left) = held_as a.tag m.is_image (flag m) (held_by flag left)
-
-abbrev for_bracket : Mark → Flag
-for_bracket m = m.bracket
-
-abbrev for_wikilink : Mark → Flag
-for_wikilink m = m.wikilink
 
 brackets_by : (left : List (Entry ℕ)) → brackets_of left ≡ held_by for_bracket left
 brackets_by [] = refl

@@ -6,8 +6,8 @@ use Rattle.std.specs.Option.{option_map}
 use Rattle.markdown_base.specs.Forest.{Forest, nil, node}
 use Rattle.markdown_document.specs.Document.{Label}
 use Rattle.markdown_brackets.specs.LeftList.{Mark, Entry, done, waits, trees_onto, Split, behind, nearest}
-use Rattle.markdown_brackets.specs.LeftList.{change_nearest, on_marks, second_folded, disabled_mark, without_bracket, without_wikilink}
-use Rattle.markdown_brackets.specs.LeftList.{before_link, before_wikilink, before_footnote}
+use Rattle.markdown_brackets.specs.LeftList.{change_nearest, on_marks, second_folded, disabled_mark, without_bracket}
+use Rattle.markdown_brackets.specs.LeftList.{without_wikilink, before_link, before_wikilink, before_footnote}
 
 pub onto_append : {A : Type 0} (after left : List (Entry A)) (f : Forest (Label A)) → trees_onto (after ++ left) f
     ≡ trees_onto left (trees_onto after f)

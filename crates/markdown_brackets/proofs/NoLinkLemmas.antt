@@ -241,7 +241,8 @@ from_keeps p on i nil h = h
 from_keeps p on i (node a below after) h =
     let r = on i a below after h in by (nat_le a.part.range.end i) r.0 (from_keeps p on i after r.1)
   where
-    by : (b : Bool) → p (node (begun_at i a) below after) → p (past_byte i after) → p (if b then past_byte i after else node (begun_at i a) below after)
+    by : (b : Bool) → p (node (begun_at i a) below after) → p (past_byte i after)
+        → p (if b then past_byte i after else node (begun_at i a) below after)
     by true here more = more
     by false here more = here
 

@@ -106,7 +106,8 @@ module _ {A : Type 0} (w : Around) (others : Reader A) (nothing : AsksNothing ot
         (told_by q) (omega (arith, closers_on a rest, closers_on (begun_at i a) rest, same)) refl h;
   }
 
-  few_more : (chain : Forest (Label A)) (known : Known) → AtMost (closers_among (roots chain)) 0 (told_by (begun {A = A} known))
+  few_more : (chain : Forest (Label A)) (known : Known)
+      → AtMost (closers_among (roots chain)) 0 (told_by (begun {A = A} known))
       (told_by (read_chain w others chain (begun known)))
   few_more chain known =
       let s : Told = told_by (begun {A = A} known) in

@@ -46,7 +46,8 @@ module _ {A : Type 0} {w : Around} {others : Reader A} {holds : Forest (Label A)
       by false = as_keeps (open_body (begun_at i a).part.shape) (begun_at i a) below rest
           (record p { goes_on = None }) refl (k.cuts i a below rest p h)
 
-  pub chain_keeps : (chain : Forest (Label A)) (p : Progress A) → holds chain p → holds nil (read_chain w others chain p)
+  pub chain_keeps : (chain : Forest (Label A)) (p : Progress A) → holds chain p
+      → holds nil (read_chain w others chain p)
   unfolding read_chain
   chain_keeps nil p h = h
   chain_keeps (node a below rest) p h =

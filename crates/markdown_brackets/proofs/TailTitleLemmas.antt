@@ -25,7 +25,8 @@ use Rattle.markdown_brackets.specs.declared.link_tail.LinkTail.{LinkTail}
 use Rattle.markdown_brackets.proofs.ChainAheadLemmas.{is_below}
 use Rattle.markdown_brackets.proofs.TitleLemmas.{after, joined_after}
 
--- a title from the byte i on ends after it, and where no bytes are skipped and no line is joined is the bytes up to its closing mark
+-- a title from the byte i on ends after it, and where no bytes are skipped and no line is joined is the
+-- bytes up to its closing mark
 abbrev IsFrom : (from i : ℕ) → List ℕ → Option Title → Type 0
 IsFrom from i bytes None = ⊤
 IsFrom from i bytes (Some t) = (i < t.ends) × (from ≤ i → t.is_joined ≡ false → t.text ≡ take (t.ends - 1 - i) bytes)
