@@ -105,6 +105,11 @@ module _ (source : List ℕ) (tables : Tables) (nodes : List (Node Item)) (w : A
     (rest : Forest (Label ℕ))
     (reads : (item_at nodes closer.tag).start ≡ start_of closer) (order : start_of closer ≤ end_of closer)
     (opener : Opener) (end : ℕ) where
+  none_at_all : (trees : Forest (Label ℕ)) (r : Option ClosedBracket) → IsWikilinkAt opener end None r
+      → IsWikilink w opener end trees None r
+  none_at_all trees None h = tt
+  none_at_all trees (Some x) h = absurd h
+
   module _ (b : WikilinkBody) (trees : Forest (Label ℕ)) where
     abbrev as_wikilink : Forest (Label ℕ) → Wikilink ℕ
     as_wikilink children = record { name = b.name; has_pothole = has_pothole b.shows; children = children }
@@ -128,11 +133,7 @@ module _ (source : List ℕ) (tables : Tables) (nodes : List (Node Item)) (w : A
         → follows_pipe w.setting.text at ≡ true → (r : Option ClosedBracket)
         → IsWikilinkAt opener end (option_map (λ shown. (b, shown)) (option_map (λ n. From n at) (link_to children))) r
         → IsWikilink w opener end trees (option_map as_wikilink (if_some children)) r
-    from_found at nil so piped r h = none_found r h
-      where
-        none_found : (r : Option ClosedBracket) → IsWikilinkAt opener end None r → IsWikilink w opener end trees None r
-        none_found None h = tt
-        none_found (Some x) h = absurd h
+    from_found at nil so piped r h = none_at_all trees r h
     from_found at (node q below after) so piped r h = is_found (From q.tag at) (node q below after) (so q.tag) refl
         piped r h
 
@@ -164,11 +165,6 @@ module _ (source : List ℕ) (tables : Tables) (nodes : List (Node Item)) (w : A
       ∙ from_is source tables nodes closer nil rest at (omega (arith, behind.0, order)) l trees s.holds apart in
       from_found b trees at (past_byte at trees) (λ n. refl) behind.1 r
       (subst (λ o. IsWikilinkAt opener end (option_map (λ shown. (b, shown)) o) r) is h)
-
-  none_at_all : (trees : Forest (Label ℕ)) (r : Option ClosedBracket) → IsWikilinkAt opener end None r
-      → IsWikilink w opener end trees None r
-  none_at_all trees None h = tt
-  none_at_all trees (Some x) h = absurd h
 
   -- the wikilink of these trees
   pub wikilink_is : (trees : Forest (Label ℕ)) (l : Option ℕ)
