@@ -1,13 +1,12 @@
 -- What a `]` asks about: the label that follows it, whose `]` is used up then, or the label that ends with it, if it
 -- could be a reference; at most one question, and none at a limit of 0.
-use Rattle.std.proofs.Common.{◌≡◌, ◌⊎◌, inl, inr, ⊎_elim, ℕ, ◌+◌, Bool, true, false, ◌&&◌, ◌==◌, List, [], ◌∷◌, ◌++◌}
+use Rattle.std.proofs.Common.{◌≡◌, ◌⊎◌, inl, inr, ⊎_elim, ℕ, ◌+◌, Bool, true, false, ◌&&◌, List, [], ◌∷◌, ◌++◌}
 use Rattle.std.proofs.Common.{Option, Some, None, ap, refl, sym, subst, append-nil, drop, if◌then◌else◌}
 use Rattle.markdown_base.specs.Forest.{first_root}
 use Rattle.std.specs.Option.{option_map}
 use Rattle.markdown_base.specs.Questions.{Question, Answers, Answer}
 use Rattle.markdown_base.specs.declared.item.Item.{Item}
 use Rattle.markdown_document.specs.ChainRest.{as_item, end_of}
-use Rattle.markdown_defs.specs.Definitions as definitions
 use Rattle.markdown_defs.specs.Definitions.{Labelled}
 use Rattle.markdown_brackets.specs.BracketDecision.{Around, Becomes, Closing, Decision, Written, LinkReference}
 use Rattle.markdown_brackets.specs.BracketDecision.{Progress, a_text, block_text, carried_out, decided, form_of, found}
@@ -16,7 +15,7 @@ use Rattle.markdown_brackets.specs.BracketDecision.{second_end}
 use Rattle.markdown_brackets.specs.BracketOptions.{footnote_style}
 use Rattle.markdown_brackets.specs.ClosingBracket.{closed, put}
 use Rattle.markdown_brackets.specs.LeftList.{Split, bracket_taken}
-use Rattle.markdown_brackets.specs.Lookup.{LookedUp, asked, look_up, answered}
+use Rattle.markdown_brackets.specs.Lookup.{LookedUp, look_up, answered}
 use Rattle.markdown_brackets.specs.Reference.{FoundLabel, collapsed, form_by_label, is_closer, is_opener, bracket_label}
 use Rattle.markdown_brackets.specs.Reference.{reference, shortcut, stands_at}
 use Rattle.markdown_brackets.proofs.ClosingBracketLemmas.{IsFull, IsOwn, either, found_cases}

@@ -1,8 +1,7 @@
 -- Brackets do not increase the weight of a chain: each find removes at least as many nodes as it leaves.
 use Rattle.std.proofs.Common.{◌≡◌, ℕ, ◌+◌, ◌-◌, ◌≤◌, Bool, true, false, List, [], ◌∷◌, Some, refl, ◌∙◌, arith, ◌++◌, ap}
-use Rattle.std.specs.Prelude.{IfSome, if◌then◌else◌, ⊤}
+use Rattle.std.specs.Prelude.{IfSome, ⊤}
 use Rattle.markdown_base.specs.Forest.{Forest, nil, node}
-use Rattle.markdown_base.specs.declared.item.ItemBody.TheVariants as body
 use Rattle.markdown_document.specs.Labels.{weight}
 use Rattle.markdown_document.specs.Document.{Shape, plain, Label, is_unresolved}
 use Rattle.markdown_document.specs.Setting.{Known}
@@ -12,7 +11,7 @@ use Rattle.markdown_brackets.specs.ClosingBracket.{footnote_onto, closed}
 use Rattle.markdown_brackets.specs.LeftList.{Mark, Entry, done, waits, trees_onto, Split, inside, nearest}
 use Rattle.markdown_brackets.specs.LeftList.{opens_bracket, opens_wikilink, without_bracket, without_wikilink}
 use Rattle.markdown_brackets.specs.LeftList.{before_footnote}
-use Rattle.markdown_brackets.specs.ReadChain.{Reader, begun, closing_of, read, read_chain}
+use Rattle.markdown_brackets.specs.ReadChain.{Reader, begun, closing_of, read_chain}
 use Rattle.markdown_document.specs.Totals.{weight_if}
 use Rattle.markdown_document.proofs.PlaceLemmas.{some_weight}
 use Rattle.markdown_brackets.proofs.ClosingBracketLemmas.{Cases, in_each_case, some_of}

@@ -2,7 +2,6 @@
 use Rattle.std.proofs.Common.{◌≡◌, List, [], ◌++◌, refl, sym, ◌∙◌, ap, append-nil, append_assoc}
 use Rattle.markdown_base.specs.Forest.{Forest}
 use Rattle.markdown_base.specs.Questions.{Question}
-use Rattle.markdown_base.specs.declared.item.ItemBody.TheVariants as body
 use Rattle.markdown_document.specs.Document.{Label}
 use Rattle.markdown_brackets.specs.BracketDecision.{Around, Progress}
 use Rattle.markdown_brackets.specs.ReadChain.{Reader, closing_of, read_chain}

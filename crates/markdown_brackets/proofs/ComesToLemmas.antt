@@ -17,7 +17,6 @@ use Rattle.markdown_document.specs.Setting.{uses_of}
 use Rattle.markdown_document.specs.declared.chain_place.ChainPlace.{ChainPlace}
 use Rattle.markdown_defs.specs.CallbackViews.{question_of}
 use Rattle.markdown_defs.specs.declared.callback.BrokenLink.{BrokenLink}
-use Rattle.markdown_defs.specs.Definitions as definitions
 use Rattle.markdown_defs.specs.Definitions.{Labelled}
 use Rattle.markdown_defs.specs.Folding.{is_match}
 use Rattle.markdown_defs.specs.Footnotes.{footnote_at}
@@ -32,7 +31,7 @@ use Rattle.markdown_brackets.specs.FootnoteUse.{is_reference}
 use Rattle.markdown_brackets.specs.LeftList.{Split}
 use Rattle.markdown_brackets.specs.LinkTail as scanned
 use Rattle.markdown_brackets.specs.LinkTailView.{IsTail, ReadsTail}
-use Rattle.markdown_brackets.specs.Lookup.{LookedUp, answered, asked, look_up, unknown}
+use Rattle.markdown_brackets.specs.Lookup.{LookedUp, answered, look_up, unknown}
 use Rattle.markdown_brackets.specs.LookupView.{LooksUp}
 use Rattle.markdown_brackets.specs.StandsAt.{Spends, ComesTo, around_by, reference_to}
 use Rattle.markdown_brackets.specs.SpentEnds.{is_spent}

@@ -1,10 +1,9 @@
 -- What holds for each label that brackets make, and for those that the rule for other items makes, holds for each label
 -- that is left of a chain.
 use Rattle.std.proofs.Common.{ℕ, Bool, true, false, List, [], ◌∷◌, Some, ◌≡◌, ◌++◌, subst}
-use Rattle.std.specs.Prelude.{⊤, if◌then◌else◌}
+use Rattle.std.specs.Prelude.{⊤}
 use Rattle.markdown_base.specs.Event.{EventView, TagView}
 use Rattle.markdown_base.specs.Forest.{Forest, nil, node, Each}
-use Rattle.markdown_base.specs.declared.item.ItemBody.TheVariants as body
 use Rattle.markdown_brackets.specs.BracketDecision.{Around, Closing, Progress, over, past_second, wikilink_in}
 use Rattle.markdown_brackets.specs.ClosingBracket.{footnote_onto}
 use Rattle.markdown_brackets.specs.KeptShapes.{EachLeft}

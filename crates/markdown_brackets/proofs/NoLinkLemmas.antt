@@ -5,14 +5,13 @@ use Rattle.std.specs.Prelude.{⊤, ◌⊎◌, IfSome, if◌then◌else◌}
 use Rattle.std.specs.Option.{option_map, option_and_then}
 use Rattle.markdown_base.specs.Event.{LinkView, link, image}
 use Rattle.markdown_base.specs.Forest.{Forest, nil, node}
-use Rattle.markdown_base.specs.declared.item.ItemBody.TheVariants as body
 use Rattle.markdown_document.specs.Document.{Shape, enclosed, Label}
 use Rattle.markdown_document.specs.Setting.{Known}
 use Rattle.markdown_document.specs.ChainRest.{begun_at, past_byte, cut_shape, start_of}
 use Rattle.markdown_brackets.specs.BracketDecision.{Around, Closing, Progress, Wikilink, over, text_from, wikilink_in}
 use Rattle.markdown_brackets.specs.BracketDecision.{wikilink_by, shown_children, if_some, past_second}
 use Rattle.markdown_brackets.specs.ClosingBracket.{footnote_onto, wikilink_target, closed}
-use Rattle.markdown_brackets.specs.LeftList.{Flag, live, gone, Mark, Entry, done, waits, is_live, trees_onto, Split}
+use Rattle.markdown_brackets.specs.LeftList.{Flag, gone, Mark, Entry, done, waits, is_live, trees_onto, Split}
 use Rattle.markdown_brackets.specs.LeftList.{inside, nearest, opens_bracket, opens_wikilink, without_bracket}
 use Rattle.markdown_brackets.specs.LeftList.{without_wikilink, on_marks, disabled_flag, disabled_mark, second_folded}
 use Rattle.markdown_brackets.specs.LeftList.{before_link, before_wikilink, before_footnote}

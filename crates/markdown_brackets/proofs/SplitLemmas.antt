@@ -1,6 +1,6 @@
 -- A left list whose nearest opener was taken off is split at that opener, and so is what a `]` becomes by it.
-use Rattle.std.proofs.Common.{ℕ, Bool, List, [], ◌∷◌, Option, Some, None, refl}
-use Rattle.std.specs.Prelude.{IfSome, if◌then◌else◌, unwrap_or}
+use Rattle.std.proofs.Common.{ℕ, Bool, List, Option, Some, None, refl}
+use Rattle.std.specs.Prelude.{IfSome, unwrap_or}
 use Rattle.std.specs.Option.{option_and_then, option_map}
 use Rattle.markdown_base.specs.Event.{LinkView}
 use Rattle.markdown_brackets.specs.BracketDecision.{Around, Closing, Written, LinkReference, Progress, a_link, a_text}

@@ -1,5 +1,5 @@
 -- The walk steps on node by node.
-use Rattle.std.proofs.Common.{◌<◌, ◌≤◌, sym, ◌∙◌, ap}
+use Rattle.std.proofs.Common.{sym, ◌∙◌, ap}
 use Rattle.markdown_base.specs.BlockTree.{no_item}
 use Rattle.markdown_base.specs.Forest.{first_root}
 use Rattle.markdown_brackets.proofs.ChainAheadLemmas.{past_none, root_none, steps_at}

@@ -1,5 +1,5 @@
 -- There is no label, or that of a footnote, or that of a link.
-use Rattle.std.proofs.Common.{◌≡◌, ℕ, ◌-◌, Option, Some, [], Bool, sym, ◌∙◌, ap, refl}
+use Rattle.std.proofs.Common.{ℕ, Option, Some, [], Bool, sym, ◌∙◌, ap, refl}
 use Rattle.std.specs.Option.{option_and_then, option_map}
 use Rattle.std.specs.Prelude.{if◌then◌else◌}
 use Rattle.markdown_base.specs.BlockTree.{item_at, no_item}
