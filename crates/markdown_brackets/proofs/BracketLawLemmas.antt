@@ -10,9 +10,8 @@ use Rattle.markdown_document.specs.Document.{Label}
 use Rattle.markdown_document.specs.ChainRest.{begun_at, end_of, open_body}
 use Rattle.markdown_brackets.specs.BracketLaws.{with_later, HandsOn, ClosesInOne}
 use Rattle.markdown_brackets.specs.BracketDecision.{Around, Becomes, Closing, Decision, Written, LinkReference}
-use Rattle.markdown_brackets.specs.BracketDecision.{Progress, a_text, carried_out, decided, footnote_label, found}
-use Rattle.markdown_brackets.specs.BracketDecision.{inline_link, left_for_one, link_reference, looked_up, question_at}
-use Rattle.markdown_brackets.specs.BracketDecision.{second_end, wikilink}
+use Rattle.markdown_brackets.specs.BracketDecision.{Progress, a_text, carried_out, decided, found, left_for_one}
+use Rattle.markdown_brackets.specs.BracketDecision.{link_reference, looked_up, question_at, second_end}
 use Rattle.markdown_brackets.specs.ClosingBracket.{closed, put, put_decided}
 use Rattle.markdown_brackets.specs.LeftList.{Split, bracket_taken}
 use Rattle.markdown_brackets.specs.Lookup.{LookedUp, look_up}
@@ -86,14 +85,8 @@ module _ {A : Type 0} (w : Around) (c : Closing A) where
       }
 
   carried_law : (x : Option (Written A)) (p : Progress A) → Asks (carried_out w x) p
-  carried_law None p = asks_none (λ p. put_decided w c (carried_out w None p)) p refl refl (λ later. refl)
-  carried_law (Some (inline_link o t)) p =
-      asks_none (λ p. put_decided w c (carried_out w (Some (inline_link o t)) p)) p refl refl (λ later. refl)
   carried_law (Some (link_reference o r)) p = look_up_law o r p
-  carried_law (Some (footnote_label o name)) p =
-      asks_none (λ p. put_decided w c (carried_out w (Some (footnote_label o name)) p)) p refl refl (λ later. refl)
-  carried_law (Some (wikilink o v end)) p =
-      asks_none (λ p. put_decided w c (carried_out w (Some (wikilink o v end)) p)) p refl refl (λ later. refl)
+  carried_law x p = asks_none (λ p. put_decided w c (carried_out w x p)) p refl refl (λ later. refl)
 
 pub closed_law : {A : Type 0} (w : Around) (c : Closing A) (p : Progress A) → ClosesInOne w c p
 unfolding closed decided

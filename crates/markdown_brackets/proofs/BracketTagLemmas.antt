@@ -124,16 +124,13 @@ module _ {A B : Type 0} (f : A → B) where
   mapped g h g' h' same (Some x) = ap Some (same x)
 
   -- the same opener is nearest
-  behind_retag : (e : Entry A) (o : Option (Split A)) → option_map (behind (retag_entry f e)) (option_map retag_split o)
-      ≡ option_map retag_split (option_map (behind e) o)
-  behind_retag e o = mapped (behind (retag_entry f e)) retag_split retag_split (behind e) (λ o. refl) o
-
   pub nearest_retag : (test : Mark → Bool) (left : List (Entry A))
       → nearest test (retag_left f left) ≡ option_map retag_split (nearest test left)
   nearest_retag test [] = refl
   nearest_retag test (done a below ∷ left) =
       ap (option_map (behind (done (retag f a) (retagged f below)))) (nearest_retag test left)
-      ∙ behind_retag (done a below) (nearest test left)
+      ∙ mapped (behind (done (retag f a) (retagged f below))) retag_split retag_split (behind (done a below)) (λ o. refl)
+      (nearest test left)
   nearest_retag test (waits m a ∷ left) = by (test m) (nearest_retag test left)
     where
       by : (b : Bool) → nearest test (retag_left f left) ≡ option_map retag_split (nearest test left)
@@ -142,7 +139,8 @@ module _ {A B : Type 0} (f : A → B) where
           ≡ option_map retag_split (if b then Some (record { mark = m; opener = a; after = []; before = left })
           else option_map (behind (waits m a)) (nearest test left))
       by true e = refl
-      by false e = ap (option_map (behind (waits m (retag f a)))) e ∙ behind_retag (waits m a) (nearest test left)
+      by false e = ap (option_map (behind (waits m (retag f a)))) e
+          ∙ mapped (behind (waits m (retag f a))) retag_split retag_split (behind (waits m a)) (λ o. refl) (nearest test left)
 
   -- the trees of a left list
   pub onto_retag : (left : List (Entry A)) (later : Forest (Label A))

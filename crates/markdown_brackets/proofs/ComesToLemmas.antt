@@ -46,6 +46,7 @@ use Rattle.markdown_brackets.specs.declared.look_up.Target.{Target}
 use Rattle.markdown_brackets.specs.declared.spent_ends.SpentEnds.{SpentEnds}
 use Rattle.markdown_brackets.proofs.FootnoteUseLemmas.{uses_grow, uses_stay}
 use Rattle.markdown_brackets.proofs.LookupLawsLemmas.{of_look_up}
+use Rattle.std.proofs.Math.Bool.{or-false}
 
 -- a link that was looked up is no inline link
 unknown_looked_up : (link_type : LinkType) → IsLookedUp link_type → IsLookedUp (unknown link_type)
@@ -129,16 +130,10 @@ found_as {step = step} {w = w} {old = old} {new = new} {spent = spent} {spent' =
 -- a full reference uses up the end of its label
 pub spends_end : (end : ℕ) (spent spent' : SpentEnds)
     → ((other : ℕ) → is_spent spent' other ≡ ((end == other) || is_spent spent other)) → Spends (end ∷ []) spent spent'
-spends_end end spent spent' put other = put other ∙ by (end == other) (other == end) (same_test end other)
+spends_end end spent spent' put other = put other ∙ rw (same_test end other, or-false (other == end)) refl
   where
     same_test : (a b : ℕ) → (a == b) ≡ (b == a)
     same_test a b = grind (arith, nat_tests)
-
-    by : (a b : Bool) → a ≡ b → (a || is_spent spent other) ≡ ((b || false) || is_spent spent other)
-    by true true e = refl
-    by false false e = refl
-    by true false e = cc
-    by false true e = cc
 
 module _ {C : Type 0} (step : C → Question → Option Answer → C → Type 0) (place : ChainPlace) (skipped : List ℕ → ℕ)
     (bodies : List ItemBody) (old new : LabelLookup C) (o : Split ℕ) where

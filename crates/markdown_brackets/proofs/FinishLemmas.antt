@@ -219,58 +219,38 @@ disabled_held number true f held held' e = ap (held_as number true f) e
 disabled_held number false gone held held' e = e
 disabled_held number false f held held' e = ap (held_as number false disabled) e
 
-brackets_disabled : (left : List (Entry ℕ)) → brackets_of (on_marks disabled_mark left)
-    ≡ map openers.disabled_opener (brackets_of left)
-brackets_disabled [] = refl
-brackets_disabled (done a below ∷ left) = brackets_disabled left
-brackets_disabled (waits m a ∷ left) = by m.is_image m.bracket m.wikilink (brackets_disabled left)
-  where
-    by : (i : Bool) (b w : Flag) → brackets_of (on_marks disabled_mark left)
-        ≡ map openers.disabled_opener (brackets_of left)
-        → brackets_of (on_marks disabled_mark (waits (record { is_image = i; bracket = b; wikilink = w }) a ∷ left))
-        ≡ map openers.disabled_opener
-        (brackets_of (waits (record { is_image = i; bracket = b; wikilink = w }) a ∷ left))
-    by true b w e = disabled_held a.tag true b _ _ e
-    by false b w e = disabled_held a.tag false b _ _ e
+abbrev Disabled : List (Entry ℕ) → Type 0
+Disabled left = (brackets_of (on_marks disabled_mark left) ≡ map openers.disabled_opener (brackets_of left))
+    × (wikilinks_of (on_marks disabled_mark left) ≡ map openers.disabled_opener (wikilinks_of left))
 
-wikilinks_disabled : (left : List (Entry ℕ)) → wikilinks_of (on_marks disabled_mark left)
-    ≡ map openers.disabled_opener (wikilinks_of left)
-wikilinks_disabled [] = refl
-wikilinks_disabled (done a below ∷ left) = wikilinks_disabled left
-wikilinks_disabled (waits m a ∷ left) = by m.is_image m.bracket m.wikilink (wikilinks_disabled left)
+all_disabled : (left : List (Entry ℕ)) → Disabled left
+all_disabled [] = (refl, refl)
+all_disabled (done a below ∷ left) = all_disabled left
+all_disabled (waits m a ∷ left) = by m.is_image m.bracket m.wikilink (all_disabled left)
   where
-    by : (i : Bool) (b w : Flag) → wikilinks_of (on_marks disabled_mark left)
-        ≡ map openers.disabled_opener (wikilinks_of left)
-        → wikilinks_of (on_marks disabled_mark (waits (record { is_image = i; bracket = b; wikilink = w }) a ∷ left))
-        ≡ map openers.disabled_opener
-        (wikilinks_of (waits (record { is_image = i; bracket = b; wikilink = w }) a ∷ left))
-    by true b w e = disabled_held a.tag true w _ _ e
-    by false b w e = disabled_held a.tag false w _ _ e
+    by : (i : Bool) (b w : Flag) → Disabled left
+        → Disabled (waits (record { is_image = i; bracket = b; wikilink = w }) a ∷ left)
+    by true b w e = (disabled_held a.tag true b _ _ e.0, disabled_held a.tag true w _ _ e.1)
+    by false b w e = (disabled_held a.tag false b _ _ e.0, disabled_held a.tag false w _ _ e.1)
 
 brackets_folded : (left : List (Entry ℕ)) → brackets_of (second_folded left) ≡ brackets_of left
 brackets_folded [] = refl
 brackets_folded (done a below ∷ left) = refl
 brackets_folded (waits m a ∷ left) = refl
 
-no_brackets : (left : List (Entry ℕ)) → brackets_of (on_marks without_bracket left) ≡ []
-no_brackets [] = refl
+no_brackets : (left : List (Entry ℕ)) → (brackets_of (on_marks without_bracket left) ≡ [])
+    × (wikilinks_of (on_marks without_bracket left) ≡ wikilinks_of left)
+no_brackets [] = (refl, refl)
 no_brackets (done a below ∷ left) = no_brackets left
-no_brackets (waits m a ∷ left) = no_brackets left
+no_brackets (waits m a ∷ left) =
+    let r = no_brackets left in (r.0, ap (held_as a.tag m.is_image m.wikilink) r.1)
 
-no_wikilinks : (left : List (Entry ℕ)) → wikilinks_of (on_marks without_wikilink left) ≡ []
-no_wikilinks [] = refl
+no_wikilinks : (left : List (Entry ℕ)) → (wikilinks_of (on_marks without_wikilink left) ≡ [])
+    × (brackets_of (on_marks without_wikilink left) ≡ brackets_of left)
+no_wikilinks [] = (refl, refl)
 no_wikilinks (done a below ∷ left) = no_wikilinks left
-no_wikilinks (waits m a ∷ left) = no_wikilinks left
-
-same_wikilinks : (left : List (Entry ℕ)) → wikilinks_of (on_marks without_bracket left) ≡ wikilinks_of left
-same_wikilinks [] = refl
-same_wikilinks (done a below ∷ left) = same_wikilinks left
-same_wikilinks (waits m a ∷ left) = ap (held_as a.tag m.is_image m.wikilink) (same_wikilinks left)
-
-same_brackets : (left : List (Entry ℕ)) → brackets_of (on_marks without_wikilink left) ≡ brackets_of left
-same_brackets [] = refl
-same_brackets (done a below ∷ left) = same_brackets left
-same_brackets (waits m a ∷ left) = ap (held_as a.tag m.is_image m.bracket) (same_brackets left)
+no_wikilinks (waits m a ∷ left) =
+    let r = no_wikilinks left in (r.0, ap (held_as a.tag m.is_image m.bracket) r.1)
 
 -- the stacks at an opener of the left list
 module _ (nodes : List (Node Item)) (closer : ℕ) (left : List (Entry ℕ)) (c : Closing ℕ)
@@ -330,7 +310,7 @@ module _ (nodes : List (Node Item)) (closer : ℕ) (left : List (Entry ℕ)) (c 
   link_brackets true = brackets_before ∙ sym (brackets_folded o.before)
   link_brackets false =
       ap (map openers.disabled_opener) (brackets_before ∙ sym (brackets_folded o.before))
-      ∙ sym (brackets_disabled (second_folded o.before))
+      ∙ sym (all_disabled (second_folded o.before)).0
 
   link_wikilinks : (i : Bool)
       → (let held = without_second nodes n (before n (wikilinks_of left)) in if i then before n held
@@ -338,28 +318,28 @@ module _ (nodes : List (Node Item)) (closer : ℕ) (left : List (Entry ℕ)) (c 
       ≡ wikilinks_of (before_link i o.before)
   link_wikilinks true = wikilinks_left
   link_wikilinks false = ap (map openers.disabled_opener) wikilinks_left
-      ∙ sym (wikilinks_disabled (second_folded o.before))
+      ∙ sym (all_disabled (second_folded o.before)).1
 
   -- before a footnote reference
   footnote_brackets : (w : Around) (i : Bool) (name : List ℕ)
       → [] ≡ brackets_of (footnote_onto w c i o.opener name (before_footnote o.before))
-  footnote_brackets w true name = sym (no_brackets (second_folded o.before))
-  footnote_brackets w false name = sym (no_brackets (second_folded o.before))
+  footnote_brackets w true name = sym (no_brackets (second_folded o.before)).0
+  footnote_brackets w false name = sym (no_brackets (second_folded o.before)).0
 
   footnote_wikilinks : (w : Around) (i : Bool) (name : List ℕ)
       → before n (without_second nodes n (before n (wikilinks_of left)))
       ≡ wikilinks_of (footnote_onto w c i o.opener name (before_footnote o.before))
-  footnote_wikilinks w true name = wikilinks_left ∙ sym (same_wikilinks (second_folded o.before))
-  footnote_wikilinks w false name = wikilinks_left ∙ sym (same_wikilinks (second_folded o.before))
+  footnote_wikilinks w true name = wikilinks_left ∙ sym (no_brackets (second_folded o.before)).1
+  footnote_wikilinks w false name = wikilinks_left ∙ sym (no_brackets (second_folded o.before)).1
 
   -- before a wikilink
   wikilink_brackets : map openers.disabled_opener (before n (brackets_of left)) ≡ brackets_of (before_wikilink o.before)
   wikilink_brackets =
-      ap (map openers.disabled_opener) brackets_before ∙ sym (brackets_disabled o.before)
-      ∙ sym (same_brackets (on_marks disabled_mark o.before))
+      ap (map openers.disabled_opener) brackets_before ∙ sym (all_disabled o.before).0
+      ∙ sym (no_wikilinks (on_marks disabled_mark o.before)).1
 
   wikilink_wikilinks : [] ≡ wikilinks_of (before_wikilink o.before)
-  wikilink_wikilinks = sym (no_wikilinks (on_marks disabled_mark o.before))
+  wikilink_wikilinks = sym (no_wikilinks (on_marks disabled_mark o.before)).0
 
 -- what each kind leaves of the stacks
 abbrev pub Finishes : List (Node Item) → ClosedBracket → (brackets wikilinks brackets' wikilinks' : List Waiting)

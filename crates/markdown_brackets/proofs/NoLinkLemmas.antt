@@ -11,10 +11,10 @@ use Rattle.markdown_document.specs.ChainRest.{begun_at, past_byte, cut_shape, st
 use Rattle.markdown_brackets.specs.BracketDecision.{Around, Closing, Progress, Wikilink, over, text_from, wikilink_in}
 use Rattle.markdown_brackets.specs.BracketDecision.{wikilink_by, shown_children, if_some, past_second}
 use Rattle.markdown_brackets.specs.ClosingBracket.{footnote_onto, wikilink_target, closed}
-use Rattle.markdown_brackets.specs.LeftList.{Flag, gone, Mark, Entry, done, waits, is_live, trees_onto, Split}
-use Rattle.markdown_brackets.specs.LeftList.{inside, nearest, opens_bracket, opens_wikilink, without_bracket}
-use Rattle.markdown_brackets.specs.LeftList.{without_wikilink, on_marks, disabled_flag, disabled_mark, second_folded}
-use Rattle.markdown_brackets.specs.LeftList.{before_link, before_wikilink, before_footnote}
+use Rattle.markdown_brackets.specs.LeftList.{Flag, gone, Mark, Entry, done, waits, is_live, trees_onto, Split, inside}
+use Rattle.markdown_brackets.specs.LeftList.{nearest, opens_bracket, opens_wikilink, without_bracket, without_wikilink}
+use Rattle.markdown_brackets.specs.LeftList.{on_marks, disabled_flag, disabled_mark, second_folded, before_link}
+use Rattle.markdown_brackets.specs.LeftList.{before_wikilink, before_footnote}
 use Rattle.markdown_brackets.proofs.ClosingBracketLemmas.{Cases, in_each_case, some_of}
 use Rattle.markdown_brackets.specs.NoLinkInLink.{IsNoLink, IsFreeOfLinks, ClosesOverNone, HasNoneBelow, HasNoLinkInLink}
 use Rattle.markdown_brackets.specs.NoLinkInLink.{AreFreeTrees, HasMoreTrees}
@@ -24,14 +24,7 @@ use Rattle.markdown_brackets.specs.Wikilink.{wikilink_body}
 use Rattle.markdown_brackets.proofs.LeftListLemmas.{Marked, same_change, same_marks, same_before_link}
 use Rattle.markdown_brackets.proofs.LeftListLemmas.{same_before_wikilink, same_before_footnote, split_at}
 use Rattle.markdown_brackets.proofs.ReadChainLemmas.{Reads, chain_keeps}
-
-or_left : (a b : Bool) → a ≡ true → (a || b) ≡ true
-or_left true b h = refl
-or_left false b h = cc
-
-or_right : (a b : Bool) → b ≡ true → (a || b) ≡ true
-or_right true b h = refl
-or_right false b h = h
+use Rattle.std.proofs.lemmas.Bool.{or_left, or_right}
 
 or_split : (a b : Bool) → (a || b) ≡ true → (a ≡ true) ⊎ (b ≡ true)
 or_split true b h = inl refl

@@ -90,16 +90,6 @@ pub waiting_past : (n : ℕ) (openers : List Opener) → length openers ≤ n �
     ≡ waiting_openers (length openers) openers
 waiting_past n openers h = ap reverse (marked_past n openers h)
 
--- a nearest one whose number is this one or greater goes
-pub before_goes : (node n : ℕ) (openers : List Opener) (o : Opener) → nat_le node o.node ≡ true
-    → before node (waiting_openers n (openers ++ o ∷ [])) ≡ before node (waiting_openers n openers)
-before_goes node n openers o e = rw (waiting_last n openers o, last_is n openers o, e) refl
-
--- one whose number is smaller stays
-pub before_stays : (node n : ℕ) (openers : List Opener) (o : Opener) → nat_le node o.node ≡ false
-    → before node (waiting_openers n (openers ++ o ∷ [])) ≡ waiting_openers n (openers ++ o ∷ [])
-before_stays node n openers o e = rw (waiting_last n openers o, last_is n openers o, e) refl
-
 -- the last one of all, where all are disabled
 pub waiting_image : (openers : List Opener) (o : Opener) → waiting_openers (suc (length openers)) (openers ++ o ∷ [])
     ≡ record { opener = o; is_live = o.is_image } ∷ waiting_openers (length openers) openers
@@ -110,22 +100,6 @@ waiting_image openers o =
       waiting_past (suc (length openers)) openers (omega arith),
       and-true o.is_image,
     ) refl
-
--- of the first k + 1 openers the last goes
-pub last_goes : (node n k : ℕ) (openers : List Opener) (d : Opener) → k < length openers
-    → node ≤ (get_or openers k d).node
-    → before node (waiting_openers n (take (k + 1) openers)) ≡ before node (waiting_openers n (take k openers))
-last_goes node n k openers d h le = rw (take_more openers k d h)
-    (before_goes node n (take k openers) (get_or openers k d)
-    (le_true node (get_or openers k d).node le))
-
--- or it stays, and all before it
-pub last_stays : (node n k : ℕ) (openers : List Opener) (d : Opener) → k < length openers
-    → (get_or openers k d).node < node
-    → before node (waiting_openers n (take (k + 1) openers)) ≡ waiting_openers n (take (k + 1) openers)
-last_stays node n k openers d h lt = rw (take_more openers k d h)
-    (before_stays node n (take k openers) (get_or openers k d)
-    (lt_false node (get_or openers k d).node lt))
 
 past_of : (a b : ℕ) → nat_le a b ≡ false → b ≤ a
 past_of a b e = grind (arith, nat_tests)
@@ -151,18 +125,31 @@ pub nearest_goes : (node n left : ℕ) (openers : List Opener) (d : Opener) → 
     → node ≤ (get_or openers (left - 1) d).node → before node (waiting_openers n (take left openers))
     ≡ before node (waiting_openers n (take (left - 1) openers))
 nearest_goes node n left openers d some within le =
-    let P : ℕ → Type 0 = λ m. before node (waiting_openers n (take m openers))
-    ≡ before node (waiting_openers n (take (left - 1) openers)) in
+    let rest : List Opener = take (left - 1) openers in
+    let o : Opener = get_or openers (left - 1) d in
+    let P : ℕ → Type 0 = λ m. before node (waiting_openers n (take m openers)) ≡ before node (waiting_openers n rest) in
     let same : left - 1 + 1 ≡ left = omega arith in
-    subst P same (last_goes node n (left - 1) openers d (omega arith) le)
+    subst P same (rw (
+      take_more openers (left - 1) d (omega arith),
+      waiting_last n rest o,
+      last_is n rest o,
+      le_true node o.node le,
+    ) refl)
 
 pub nearest_stays : (node n left : ℕ) (openers : List Opener) (d : Opener) → 0 < left → left ≤ length openers
     → (get_or openers (left - 1) d).node < node → before node (waiting_openers n (take left openers))
     ≡ waiting_openers n (take left openers)
 nearest_stays node n left openers d some within lt =
+    let rest : List Opener = take (left - 1) openers in
+    let o : Opener = get_or openers (left - 1) d in
     let P : ℕ → Type 0 = λ m. before node (waiting_openers n (take m openers)) ≡ waiting_openers n (take m openers) in
     let same : left - 1 + 1 ≡ left = omega arith in
-    subst P same (last_stays node n (left - 1) openers d (omega arith) lt)
+    subst P same (rw (
+      take_more openers (left - 1) d (omega arith),
+      waiting_last n rest o,
+      last_is n rest o,
+      lt_false node o.node lt,
+    ) refl)
 
 -- the nearest is the last
 first_last : (n : ℕ) (openers : List Opener) (o : Opener) → first_opener (waiting_openers n (openers ++ o ∷ []))

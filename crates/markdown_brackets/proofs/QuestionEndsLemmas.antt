@@ -1,6 +1,6 @@
 -- A chain asks at most as many questions as it has `]`, and no two end together: a `]` that ends the label of an
 -- earlier one asks about no label itself, and no two labels that follow a `]` end at the same byte offset.
-use Rattle.std.proofs.Common.{◌≡◌, ◌⊎◌, inl, inr, ⊎_elim, ℕ, ◌+◌, ◌-◌, ◌<◌, ◌≤◌, Bool, true, false, not, ◌&&◌, ◌||◌}
+use Rattle.std.proofs.Common.{◌≡◌, ◌⊎◌, inl, inr, ⊎_elim, ℕ, ◌+◌, ◌-◌, ◌<◌, ◌≤◌, Bool, true, false, not, ◌&&◌}
 use Rattle.std.proofs.Common.{◌==◌, List, [], ◌∷◌, ◌++◌, length, map, Option, Some, None, cond, refl, sym, ap, subst}
 use Rattle.std.proofs.Common.{◌∙◌, arith, append-nil, drop, get_or, take, nat_le, nat_eq, length-append, length-drop}
 use Rattle.std.proofs.Common.{length-take, suc}
@@ -29,6 +29,7 @@ use Rattle.markdown_brackets.proofs.AsksAboutLemmas.{Asks, AsksFull, AsksNone, A
 use Rattle.markdown_brackets.proofs.AsksAboutLemmas.{full_label, told_by}
 use Rattle.markdown_brackets.proofs.LabelPairLemmas.{IsLabelFrom, first_byte, labels_apart}
 use Rattle.markdown_brackets.proofs.ReadChainLemmas.{Reads, chain_keeps}
+use Rattle.std.proofs.lemmas.Bool.{or_right}
 
 -- cutting leaves it open what an item opens or closes
 cut_body : (n : ℕ) (shape : Shape) → open_body (cut_shape n shape) ≡ open_body shape
@@ -143,15 +144,10 @@ all_pushed P (y ∷ xs) x h k = (h.0, all_pushed P xs x h.1 k)
 none_there : (end : ℕ) (questions : List Question) → AllByRecursion (λ q. (end ≡ q.span.end) → ⊥) questions
     → list_any (nat_eq end) (map (λ q. q.span.end) questions) ≡ false
 none_there end [] h = refl
-none_there end (q ∷ questions) h =
-    neither (nat_eq end q.span.end) (list_any (nat_eq end) (map (λ q. q.span.end) questions)) (apart h.0)
-    (none_there end questions h.1)
+none_there end (q ∷ questions) h = rw (apart h.0, none_there end questions h.1) refl
   where
     apart : ((end ≡ q.span.end) → ⊥) → nat_eq end q.span.end ≡ false
     apart h = grind (arith, nat_tests, h)
-
-    neither : (a b : Bool) → a ≡ false → b ≡ false → (a || b) ≡ false
-    neither a b e f = rw (e, f) refl
 
 apart_pushed : (questions : List Question) (q : Question) → EndApart questions
     → AllByRecursion (λ r. (q.span.end ≡ r.span.end) → ⊥) questions → EndApart (questions ++ q ∷ [])
@@ -161,11 +157,7 @@ apart_pushed questions q h k =
     (none_there q.span.end questions k))
 
 among_more : (n m : ℕ) (ms : List ℕ) → among n ms ≡ true → among n (m ∷ ms) ≡ true
-among_more n m ms h = by (n == m)
-  where
-    by : (b : Bool) → (b || among n ms) ≡ true
-    by true = refl
-    by false = h
+among_more n m ms h = or_right (n == m) (among n ms) h
 
 -- a label that follows a `]` by a byte ends there, whose own `]` is used up
 record IsUsedUp (w : Around) (last : ℕ) (spent : List ℕ) (end : ℕ) : Type 0 where
@@ -329,11 +321,8 @@ if_closes text last (body.MaybeLinkClose could) a next h is l =
 if_closes text last other a next h is l = tt
 
 unused_then : (could used : Bool) → (could && not used) ≡ true → used ≡ false
-unused_then could true h = by could h
-  where
-    by : (could : Bool) → (could && not true) ≡ true → true ≡ false
-    by true h = cc h
-    by false h = cc h
+unused_then true true h = cc h
+unused_then false true h = cc h
 unused_then could false h = refl
 
 module _ {A : Type 0} (w : Around) (others : Reader A) (nothing : AsksNothing others) (none : HoldsNoOpener w.skipped)

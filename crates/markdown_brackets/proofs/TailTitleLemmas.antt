@@ -7,7 +7,7 @@ use Rattle.std.specs.Prelude.{slice_index, if◌then◌else◌, ⊤, IfSome}
 use Rattle.markdown_base.specs.CowText.{text_of}
 use Rattle.markdown_base.specs.StoredTexts.{IsBorrowed}
 use Rattle.markdown_base.specs.declared.cow_str.CowStr.{CowStr}
-use Rattle.markdown_base.specs.declared.cow_str.CowStr.TheVariants.{Boxed, Borrowed, Inlined}
+use Rattle.markdown_base.specs.declared.cow_str.CowStr.TheVariants.{Borrowed}
 use Rattle.markdown_base.specs.Bytes.{backslash, line_feed}
 use Rattle.markdown_base.specs.declared.tag.LinkType.TheVariants as kind
 use Rattle.markdown_scan.specs.Backslash.{is_bare}
@@ -96,8 +96,7 @@ title_is_at starts text i = by (closer_of (slice_index text i))
 
 borrowed_sliced : (c : CowStr) → IsBorrowed c → origin_of c ≡ sliced
 borrowed_sliced (Borrowed slice) h = refl
-borrowed_sliced (Boxed boxed) h = absurd h
-borrowed_sliced (Inlined inlined) h = absurd h
+borrowed_sliced other h = absurd h
 
 module _ (in_table : Bool) (skipped : List ℕ → Option ℕ) (starts : ℕ → Option ℕ) (source : List ℕ) (block_end at : ℕ)
     (found : LinkTail) where

@@ -1,5 +1,5 @@
 -- A left list before a `]` in an arena: the openers on the stacks are those of the list, and are where the list says.
-use Rattle.std.proofs.Common.{◌≡◌, ℕ, ◌≤◌, Bool, true, false, ◌&&◌, List, [], ◌∷◌, Option, Some, None, length, refl}
+use Rattle.std.proofs.Common.{◌≡◌, ℕ, ◌≤◌, Bool, true, false, List, [], ◌∷◌, Option, Some, None, length, refl}
 use Rattle.std.proofs.Common.{sym, ◌∙◌, ap, subst, arith}
 use Rattle.std.specs.Prelude.{IfSome, MatchOption, if◌then◌else◌, ⊤}
 use Rattle.markdown_base.specs.Arena.{sibling_of}
@@ -40,6 +40,7 @@ use Rattle.markdown_brackets.proofs.OpenerHeldLemmas.{top_bracket, top_wikilink,
 use Rattle.markdown_brackets.proofs.OpenerHeldLemmas.{trees_stay, splits_at, SplitsAt, onto_joined, Top, for_bracket}
 use Rattle.markdown_brackets.proofs.OpenerHeldLemmas.{for_wikilink}
 use Rattle.markdown_brackets.proofs.SplitLemmas.{taken_splits}
+use Rattle.std.proofs.Math.Bool.{and-false}
 
 -- a stack that was not empty
 abbrev pub rest_of : List Waiting → List Waiting
@@ -206,10 +207,6 @@ module _ (nodes : List (Node Item)) (closer : ℕ) (left : List (Entry ℕ)) (c 
         by nil = refl
         by (node a below after) = rw off refl
 
-    and_false : (b : Bool) → (b && false) ≡ false
-    and_false true = refl
-    and_false false = refl
-
     pub none_by_next : (held : List Waiting) → held ≡ wikilinks_of left
         → MatchOption (sibling_of nodes closer) (Unit {0}) (λ next. is_closer (item_at nodes next).body ≡ false)
         → TakesNone w c left held
@@ -224,7 +221,7 @@ module _ (nodes : List (Node Item)) (closer : ℕ) (left : List (Entry ℕ)) (c 
             let none : is_closer (open_body a.part.shape) ≡ false =
             sym (same_closer s.source s.tables nodes a h.2) ∙ subst (λ n. is_closer (item_at nodes n).body ≡ false) e m
             in
-            rw (none, and_false (wikilinks_on w.setting.rules.options)) refl
+            rw (none, and-false (wikilinks_on w.setting.rules.options)) refl
 
     -- where a wikilink is tried
     module _ (next : ℕ) (is_next : sibling_of nodes closer ≡ Some next) (closes : is_closer (item_at nodes next).body
