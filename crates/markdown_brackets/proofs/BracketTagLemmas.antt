@@ -217,15 +217,16 @@ module _ {A B : Type 0} (f : A → B) where
         by true false = refl
         by false is = refl
 
+    if_retag : (b : Bool) (x : Option (Written B)) (y : Option (Written A)) → x ≡ option_map retag_found y
+        → (if b then x else None) ≡ option_map retag_found (if b then y else None)
+    if_retag true x y e = e
+    if_retag false x y e = refl
+
     reference_retag : (o : Split A) (end : ℕ) (closes : ℕ → Bool) (own : Option FoundLabel) (form : Form)
         → reference_written w (retag_split o) end closes own form
         ≡ option_map retag_found (reference_written w o end closes own form)
-    reference_retag o end closes own (reference label to) = by (closes to)
-      where
-        by : (b : Bool) → (if b then Some (link_reference (retag_split o) (full label to)) else None)
-            ≡ option_map retag_found (if b then Some (link_reference o (full label to)) else None)
-        by true = refl
-        by false = refl
+    reference_retag o end closes own (reference label to) =
+        if_retag (closes to) _ (Some (link_reference o (full label to))) refl
     reference_retag o end closes own collapsed = own_retag o kind.Collapsed end (end + 2) own
     reference_retag o end closes own shortcut = own_retag o kind.Shortcut end end own
 
@@ -308,11 +309,6 @@ module _ {A B : Type 0} (f : A → B) where
         → option_and_then g (option_map retag_split o) ≡ option_map retag_found (option_and_then h o)
     opener_retag g h same None = refl
     opener_retag g h same (Some o) = same o
-
-    if_retag : (b : Bool) (x : Option (Written B)) (y : Option (Written A)) → x ≡ option_map retag_found y
-        → (if b then x else None) ≡ option_map retag_found (if b then y else None)
-    if_retag true x y e = e
-    if_retag false x y e = refl
 
     bracket_retag : (c : Closing A) (o : Split A) → bracket_found w (retag_closing c) (retag_split o)
         ≡ option_map retag_found (bracket_found w c o)
