@@ -129,8 +129,8 @@ module _ {A B : Type 0} (f : A → B) where
   nearest_retag test [] = refl
   nearest_retag test (done a below ∷ left) =
       ap (option_map (behind (done (retag f a) (retagged f below)))) (nearest_retag test left)
-      ∙ mapped (behind (done (retag f a) (retagged f below))) retag_split retag_split (behind (done a below)) (λ o. refl)
-      (nearest test left)
+      ∙ mapped (behind (done (retag f a) (retagged f below))) retag_split retag_split (behind (done a below))
+      (λ o. refl) (nearest test left)
   nearest_retag test (waits m a ∷ left) = by (test m) (nearest_retag test left)
     where
       by : (b : Bool) → nearest test (retag_left f left) ≡ option_map retag_split (nearest test left)
@@ -140,7 +140,8 @@ module _ {A B : Type 0} (f : A → B) where
           else option_map (behind (waits m a)) (nearest test left))
       by true e = refl
       by false e = ap (option_map (behind (waits m (retag f a)))) e
-          ∙ mapped (behind (waits m (retag f a))) retag_split retag_split (behind (waits m a)) (λ o. refl) (nearest test left)
+          ∙ mapped (behind (waits m (retag f a))) retag_split retag_split (behind (waits m a)) (λ o. refl)
+          (nearest test left)
 
   -- the trees of a left list
   pub onto_retag : (left : List (Entry A)) (later : Forest (Label A))
