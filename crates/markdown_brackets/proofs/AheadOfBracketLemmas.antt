@@ -1,7 +1,6 @@
 -- What follows a `]` in an arena, by its links, is what the definition says about the chain that it reads as.
 use Rattle.std.proofs.Common.{◌≡◌, ℕ, ◌+◌, ◌-◌, ◌<◌, Bool, true, false, ◌&&◌, ◌==◌, List, Option, Some, None, refl, sym}
-use Rattle.std.proofs.Common.{◌∙◌, ap, subst}
-use Rattle.std.proofs.Common.{arith, drop, nat_lt}
+use Rattle.std.proofs.Common.{◌∙◌, ap, subst, arith, drop, nat_lt}
 use Rattle.std.specs.Prelude.{if◌then◌else◌}
 use Rattle.std.specs.Option.{option_and_then, option_map}
 use Rattle.markdown_base.specs.Arena.{sibling_of}
@@ -20,25 +19,17 @@ use Rattle.markdown_brackets.specs.ChainAhead.{begins_with_closer, first_start, 
 use Rattle.markdown_brackets.specs.ChainAhead.{starts_from}
 use Rattle.markdown_brackets.specs.ChainHeld.{Holds, numbers_of}
 use Rattle.markdown_brackets.specs.Reference.{FoundLabel, Form, reference, collapsed, shortcut, form_at, form_by_label}
-use Rattle.markdown_brackets.specs.Reference.{is_closer, is_opener}
-use Rattle.markdown_brackets.specs.Reference.{bracket_label, stands_at}
+use Rattle.markdown_brackets.specs.Reference.{is_closer, is_opener, bracket_label, stands_at}
 use Rattle.markdown_brackets.specs.declared.footnote.FootnoteStyle.{FootnoteStyle}
 use Rattle.markdown_brackets.proofs.ChainAheadLemmas.{below_is, not_below_is, is_below, is_not_below}
 
 -- a bracket reads as an open one, and nothing else does
-closer_reads : (tables : Tables) (source : List ℕ) (b : ItemBody) → is_closer (open_body (shape_of tables source b))
-    ≡ is_closer b
-closer_reads tables source body.Paragraph = refl
-closer_reads tables source (body.HardBreak true) = refl
-closer_reads tables source (body.HardBreak false) = refl
-closer_reads tables source other = refl
-
-opener_reads : (tables : Tables) (source : List ℕ) (b : ItemBody) → is_opener (open_body (shape_of tables source b))
-    ≡ is_opener b
-opener_reads tables source body.Paragraph = refl
-opener_reads tables source (body.HardBreak true) = refl
-opener_reads tables source (body.HardBreak false) = refl
-opener_reads tables source other = refl
+brackets_read : (tables : Tables) (source : List ℕ) (b : ItemBody)
+    → (is_closer (open_body (shape_of tables source b)) ≡ is_closer b)
+    × (is_opener (open_body (shape_of tables source b)) ≡ is_opener b)
+brackets_read tables source (body.HardBreak true) = (refl, refl)
+brackets_read tables source (body.HardBreak false) = (refl, refl)
+brackets_read tables source other = (refl, refl)
 
 module _ (source : List ℕ) (tables : Tables) (nodes : List (Node Item)) where
   -- an item as its label
@@ -54,11 +45,11 @@ module _ (source : List ℕ) (tables : Tables) (nodes : List (Node Item)) where
   pub same_closer : (a : Label ℕ) → ReadsAs a → is_closer (item_at nodes a.tag).body
       ≡ is_closer (open_body a.part.shape)
   same_closer a h =
-      sym (closer_reads tables _ (item_at nodes a.tag).body) ∙ ap (λ (p : Part). is_closer (open_body p.shape)) h
+      sym (brackets_read tables _ (item_at nodes a.tag).body).0 ∙ ap (λ (p : Part). is_closer (open_body p.shape)) h
 
   same_opener : (a : Label ℕ) → ReadsAs a → is_opener (item_at nodes a.tag).body ≡ is_opener (open_body a.part.shape)
   same_opener a h =
-      sym (opener_reads tables _ (item_at nodes a.tag).body) ∙ ap (λ (p : Part). is_opener (open_body p.shape)) h
+      sym (brackets_read tables _ (item_at nodes a.tag).body).1 ∙ ap (λ (p : Part). is_opener (open_body p.shape)) h
 
   -- where the first item past a byte starts
   start_ahead : (i : ℕ) (l : Option ℕ) (f : Forest (Label ℕ)) → Holds source tables nodes l f

@@ -1,29 +1,26 @@
 -- What a `]` asks about: the label that follows it, whose `]` is used up then, or the label that ends with it, if it
 -- could be a reference; at most one question, and none at a limit of 0.
-use Rattle.std.proofs.Common.{◌≡◌, ◌⊎◌, inl, inr, ⊎_elim, ℕ, ◌+◌, Bool, true, false, ◌&&◌, ◌==◌, List}
-use Rattle.std.proofs.Common.{[], ◌∷◌, ◌++◌, Option, Some, None, ap, cond, refl, sym, subst, append-nil, drop}
-use Rattle.std.proofs.Common.{if◌then◌else◌}
+use Rattle.std.proofs.Common.{◌≡◌, ◌⊎◌, inl, inr, ⊎_elim, ℕ, ◌+◌, Bool, true, false, ◌&&◌, List, [], ◌∷◌, ◌++◌}
+use Rattle.std.proofs.Common.{Option, Some, None, ap, refl, sym, subst, append-nil, drop, if◌then◌else◌}
 use Rattle.markdown_base.specs.Forest.{first_root}
 use Rattle.std.specs.Option.{option_map}
-use Rattle.markdown_base.specs.Questions.{Question, Answers}
+use Rattle.markdown_base.specs.Questions.{Question, Answers, Answer}
 use Rattle.markdown_base.specs.declared.item.Item.{Item}
 use Rattle.markdown_document.specs.ChainRest.{as_item, end_of}
-use Rattle.markdown_defs.specs.Definitions as definitions
 use Rattle.markdown_defs.specs.Definitions.{Labelled}
-use Rattle.markdown_base.specs.declared.block_parts.LinkDef.{LinkDef}
 use Rattle.markdown_brackets.specs.BracketDecision.{Around, Becomes, Closing, Decision, Written, LinkReference}
-use Rattle.markdown_brackets.specs.BracketDecision.{Progress, a_footnote, a_link}
-use Rattle.markdown_brackets.specs.BracketDecision.{a_text, a_wikilink, block_text, carried_out, decided, form_of}
-use Rattle.markdown_brackets.specs.BracketDecision.{found, left_for_one, lines}
-use Rattle.markdown_brackets.specs.BracketDecision.{link_reference, past_second, question_at, second_end}
+use Rattle.markdown_brackets.specs.BracketDecision.{Progress, a_text, block_text, carried_out, decided, form_of, found}
+use Rattle.markdown_brackets.specs.BracketDecision.{left_for_one, lines, link_reference, past_second, question_at}
+use Rattle.markdown_brackets.specs.BracketDecision.{second_end}
 use Rattle.markdown_brackets.specs.BracketOptions.{footnote_style}
 use Rattle.markdown_brackets.specs.ClosingBracket.{closed, put}
 use Rattle.markdown_brackets.specs.LeftList.{Split, bracket_taken}
-use Rattle.markdown_brackets.specs.Lookup.{LookedUp, asked, defined_or_asked, finds_nothing, look_up}
+use Rattle.markdown_brackets.specs.Lookup.{LookedUp, look_up, answered}
 use Rattle.markdown_brackets.specs.Reference.{FoundLabel, collapsed, form_by_label, is_closer, is_opener, bracket_label}
 use Rattle.markdown_brackets.specs.Reference.{reference, shortcut, stands_at}
 use Rattle.markdown_brackets.proofs.ClosingBracketLemmas.{IsFull, IsOwn, either, found_cases}
 use Rattle.markdown_brackets.proofs.LabelPairLemmas.{IsLabelFrom, label_from}
+use Rattle.markdown_brackets.proofs.LookupLawsLemmas.{of_look_up}
 
 -- one question at most, which ends at a byte
 abbrev pub AtMostOneTo : ℕ → List Question → Type 0
@@ -34,28 +31,12 @@ AtMostOneTo end (q ∷ r ∷ more) = ⊥
 -- a look-up asks at most its own question
 look_up_asks : (defined : List Labelled) (asks : Bool) (limit : ℕ) (answers : Answers) (q : Question)
     → AtMostOneTo q.span.end (look_up defined asks limit answers q).questions
-look_up_asks defined asks limit answers q = by (limit == 0)
+look_up_asks defined asks limit answers q =
+    of_look_up limit answers q (λ l. AtMostOneTo q.span.end l.questions) tt (λ d. tt) by defined asks
   where
-    one : (answers : Answers) → AtMostOneTo q.span.end (asked limit answers q).questions
-    one [] = refl
-    one (None ∷ answers) = refl
-    one (Some a ∷ answers) = refl
-
-    if_asks : (b : Bool) → AtMostOneTo q.span.end
-        (cond b (asked limit answers q) (finds_nothing limit answers [])).questions
-    if_asks true = one answers
-    if_asks false = tt
-
-    or_asked : (o : Option LinkDef) → AtMostOneTo q.span.end (defined_or_asked asks limit answers q o).questions
-    or_asked (Some d) = tt
-    or_asked None = if_asks asks
-
-    by : (b : Bool)
-        → let found : LookedUp = defined_or_asked asks limit answers q (definitions.find_definition q.reference defined)
-        in
-        AtMostOneTo q.span.end (cond b (finds_nothing limit answers []) found).questions
-    by true = tt
-    by false = or_asked (definitions.find_definition q.reference defined)
+    by : (a : Option Answer) (later : Answers) → AtMostOneTo q.span.end (answered limit later q a).questions
+    by None later = refl
+    by (Some a) later = refl
 
 -- what reading asked, which ends it used up, and what is left of the limit
 pub record Told : Type 0 where
@@ -150,9 +131,7 @@ module _ {A : Type 0} (w : Around) (c : Closing A) where
 
   put_told : (becomes : Becomes A) (p : Progress A) → told_by (put w c becomes p) ≡ told_by p
   put_told a_text p = refl
-  put_told (a_link o target end next) p = refl
-  put_told (a_footnote o name) p = refl
-  put_told (a_wikilink o found end) p = refl
+  put_told other p = refl
 
   pub closed_told : (p : Progress A) → Asks (told_by p) (told_by (closed w c p))
   unfolding closed

@@ -11,9 +11,8 @@ use Rattle.markdown_base.specs.declared.item.ItemBody.TheVariants as body
 use Rattle.markdown_base.specs.declared.tag.LinkType.TheVariants as kind
 use Rattle.markdown_document.specs.Document.{Shape, leaf, enclosed, Plain, label_of}
 use Rattle.markdown_document.specs.Tables.{no_tables}
-use Rattle.markdown_brackets.specs.BracketDecision.{Around, Progress, uses_once_more}
+use Rattle.markdown_brackets.specs.BracketDecision.{Around, Progress, uses_once_more, decided}
 use Rattle.markdown_brackets.specs.ClosingBracket.{closed}
-use Rattle.markdown_brackets.specs.BracketDecision.{decided}
 use Rattle.markdown_brackets.specs.LeftList.{done, trees_onto}
 use Rattle.markdown_brackets.specs.ReadChain.{begun, read_chain}
 

@@ -1,7 +1,6 @@
 -- With one answer for each question, what a bracket makes of a chain is the same whatever answers follow.
 use Rattle.std.proofs.Common.{◌≡◌, ℕ, ◌+◌, ◌≤◌, ◌++◌, subst, Bool, true, false, [], Option, Some, None, cond, length}
-use Rattle.std.proofs.Common.{refl, sym}
-use Rattle.std.proofs.Common.{◌∙◌, ap, arith, nat_le}
+use Rattle.std.proofs.Common.{refl, sym, ◌∙◌, ap, arith, nat_le}
 use Rattle.std.proofs.lemmas.List.{length-append}
 use Rattle.markdown_base.specs.Forest.{Forest, nil, node}
 use Rattle.markdown_base.specs.Questions.{Question, Answers}
@@ -11,10 +10,8 @@ use Rattle.markdown_document.specs.Document.{Label}
 use Rattle.markdown_document.specs.ChainRest.{begun_at, end_of, open_body}
 use Rattle.markdown_brackets.specs.BracketLaws.{with_later, HandsOn, ClosesInOne}
 use Rattle.markdown_brackets.specs.BracketDecision.{Around, Becomes, Closing, Decision, Written, LinkReference}
-use Rattle.markdown_brackets.specs.BracketDecision.{Progress, a_footnote, a_link}
-use Rattle.markdown_brackets.specs.BracketDecision.{a_text, a_wikilink, carried_out, decided, footnote_label, found}
-use Rattle.markdown_brackets.specs.BracketDecision.{inline_link, left_for_one}
-use Rattle.markdown_brackets.specs.BracketDecision.{link_reference, looked_up, question_at, second_end, wikilink}
+use Rattle.markdown_brackets.specs.BracketDecision.{Progress, a_text, carried_out, decided, found, left_for_one}
+use Rattle.markdown_brackets.specs.BracketDecision.{link_reference, looked_up, question_at, second_end}
 use Rattle.markdown_brackets.specs.ClosingBracket.{closed, put, put_decided}
 use Rattle.markdown_brackets.specs.LeftList.{Split, bracket_taken}
 use Rattle.markdown_brackets.specs.Lookup.{LookedUp, look_up}
@@ -48,16 +45,12 @@ module _ {A : Type 0} (w : Around) (c : Closing A) where
   -- what is put asks nothing and takes no answer
   put_knows : (b : Becomes A) (p : Progress A) → ((put w c b p).asked ≡ p.asked) × ((put w c b p).known ≡ p.known)
   put_knows a_text p = (refl, refl)
-  put_knows (a_link o target end next) p = (refl, refl)
-  put_knows (a_footnote o name) p = (refl, refl)
-  put_knows (a_wikilink o v end) p = (refl, refl)
+  put_knows other p = (refl, refl)
 
   put_later : (b : Becomes A) (p : Progress A) (later : Answers) → put w c b (with_later later p)
       ≡ with_later later (put w c b p)
   put_later a_text p later = refl
-  put_later (a_link o target end next) p later = refl
-  put_later (a_footnote o name) p later = refl
-  put_later (a_wikilink o v end) p later = refl
+  put_later other p later = refl
 
   abbrev found_by : ℕ → Answers → Question → LookedUp
   found_by limit answers q = look_up w.setting.rules.definitions w.setting.rules.asks limit answers q
@@ -92,14 +85,8 @@ module _ {A : Type 0} (w : Around) (c : Closing A) where
       }
 
   carried_law : (x : Option (Written A)) (p : Progress A) → Asks (carried_out w x) p
-  carried_law None p = asks_none (λ p. put_decided w c (carried_out w None p)) p refl refl (λ later. refl)
-  carried_law (Some (inline_link o t)) p =
-      asks_none (λ p. put_decided w c (carried_out w (Some (inline_link o t)) p)) p refl refl (λ later. refl)
   carried_law (Some (link_reference o r)) p = look_up_law o r p
-  carried_law (Some (footnote_label o name)) p =
-      asks_none (λ p. put_decided w c (carried_out w (Some (footnote_label o name)) p)) p refl refl (λ later. refl)
-  carried_law (Some (wikilink o v end)) p =
-      asks_none (λ p. put_decided w c (carried_out w (Some (wikilink o v end)) p)) p refl refl (λ later. refl)
+  carried_law x p = asks_none (λ p. put_decided w c (carried_out w x p)) p refl refl (λ later. refl)
 
 pub closed_law : {A : Type 0} (w : Around) (c : Closing A) (p : Progress A) → ClosesInOne w c p
 unfolding closed decided

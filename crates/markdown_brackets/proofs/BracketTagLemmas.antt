@@ -11,38 +11,29 @@ use Rattle.markdown_base.specs.declared.item.ItemBody.{ItemBody}
 use Rattle.markdown_base.specs.declared.item.ItemBody.TheVariants as body
 use Rattle.markdown_base.specs.declared.tag.LinkType.{LinkType}
 use Rattle.markdown_base.specs.declared.tag.LinkType.TheVariants as kind
-use Rattle.markdown_base.specs.declared.item.Item.{Item}
-use Rattle.markdown_document.specs.Document.{Label, as_text}
+use Rattle.markdown_document.specs.Document.{Label}
 use Rattle.markdown_document.specs.Labels.{retag, retagged}
 use Rattle.markdown_document.specs.ChainRest.{as_item, begun_at, past_byte, start_of, end_of, open_body}
 use Rattle.markdown_brackets.specs.BracketDecision.{Around, Becomes, Closing, Decision, Written, LinkReference}
-use Rattle.markdown_brackets.specs.BracketDecision.{Progress, Wikilink, a_footnote}
-use Rattle.markdown_brackets.specs.BracketDecision.{a_link, a_text, a_wikilink, block_text, bracket_found, carried_out}
-use Rattle.markdown_brackets.specs.BracketDecision.{closer_ends_at, decided}
+use Rattle.markdown_brackets.specs.BracketDecision.{Progress, Wikilink, a_footnote, a_link, a_text, a_wikilink}
+use Rattle.markdown_brackets.specs.BracketDecision.{block_text, bracket_found, carried_out, closer_ends_at, decided}
 use Rattle.markdown_brackets.specs.BracketDecision.{footnote_label, form_of, found, full, if_some, inline_link}
-use Rattle.markdown_brackets.specs.BracketDecision.{label_of_opener, left_for_one}
-use Rattle.markdown_brackets.specs.BracketDecision.{lines, link_reference, looked_up, own_written, past_second}
-use Rattle.markdown_brackets.specs.BracketDecision.{question_at, reference_written}
+use Rattle.markdown_brackets.specs.BracketDecision.{label_of_opener, left_for_one, lines, link_reference, looked_up}
+use Rattle.markdown_brackets.specs.BracketDecision.{own_written, past_second, question_at, reference_written}
 use Rattle.markdown_brackets.specs.BracketDecision.{second_end, shown_children, start_of_first_past, to_be, wikilink}
-use Rattle.markdown_brackets.specs.BracketDecision.{wikilink_by, wikilink_found}
-use Rattle.markdown_brackets.specs.BracketDecision.{wikilink_in, written}
-use Rattle.markdown_base.specs.EnabledOptions.{wikilinks_on}
+use Rattle.markdown_brackets.specs.BracketDecision.{wikilink_by, wikilink_found, wikilink_in, written}
 use Rattle.markdown_brackets.specs.BracketOptions.{footnote_style}
 use Rattle.markdown_brackets.specs.BracketTags.{ReaderFollows, BracketTagLaw, retag_entry, retag_left, retag_progress}
-use Rattle.markdown_brackets.specs.ClosingBracket.{closed, footnote_onto, linked, put, put_decided, wikilink_target}
+use Rattle.markdown_brackets.specs.ClosingBracket.{closed, footnote_onto, put, put_decided}
 use Rattle.markdown_brackets.specs.FootnoteUse.{is_reference}
 use Rattle.markdown_brackets.specs.LeftList.{Entry, Mark, Split, before_footnote, before_link, before_wikilink, behind}
-use Rattle.markdown_brackets.specs.LeftList.{bracket_taken}
-use Rattle.markdown_brackets.specs.LeftList.{change_nearest, disabled_mark, done, gone, inside, is_live, live, nearest}
-use Rattle.markdown_brackets.specs.LeftList.{on_mark, on_marks}
-use Rattle.markdown_brackets.specs.LeftList.{opens_bracket, opens_wikilink, second_folded, trees_onto, waits}
-use Rattle.markdown_brackets.specs.LeftList.{wikilink_taken}
-use Rattle.markdown_brackets.specs.LeftList.{without_bracket, without_wikilink}
+use Rattle.markdown_brackets.specs.LeftList.{bracket_taken, change_nearest, disabled_mark, done, inside, is_live}
+use Rattle.markdown_brackets.specs.LeftList.{nearest, on_mark, on_marks, opens_bracket, opens_wikilink, second_folded}
+use Rattle.markdown_brackets.specs.LeftList.{trees_onto, waits, wikilink_taken, without_bracket, without_wikilink}
 use Rattle.markdown_brackets.specs.LinkTail.{LinkTail, link_tail}
 use Rattle.markdown_brackets.specs.Lookup.{LookedUp, look_up}
 use Rattle.markdown_brackets.specs.ReadChain.{Reader, closing_of, is_next, opened, read, read_as, read_chain, read_past}
-use Rattle.markdown_brackets.specs.Reference.{FoundLabel, Form, collapsed, form_at, is_closer, is_opener, reference}
-use Rattle.markdown_brackets.specs.Reference.{shortcut}
+use Rattle.markdown_brackets.specs.Reference.{FoundLabel, Form, collapsed, is_closer, is_opener, reference, shortcut}
 use Rattle.markdown_brackets.specs.Wikilink.{Shows, WikilinkBody, has_pothole, shows_from, shows_name, shows_nothing}
 use Rattle.markdown_brackets.specs.Wikilink.{wikilink_body}
 
@@ -52,21 +43,12 @@ shown_as b children = record { name = b.name; has_pothole = has_pothole b.shows;
 module _ {A B : Type 0} (f : A → B) where
   -- the same with other tags
   abbrev pub retag_split : Split A → Split B
-  retag_split o = record {
-    mark = o.mark;
-    opener = retag f o.opener;
-    after = retag_left f o.after;
-    before = retag_left f
-        o.before;
-  }
+  retag_split o = record
+      { mark = o.mark; opener = retag f o.opener; after = retag_left f o.after; before = retag_left f o.before }
 
   abbrev pub retag_closing : Closing A → Closing B
-  retag_closing c = record {
-    label = retag f c.label;
-    could_be_reference = c.could_be_reference;
-    rest = retagged f
-        c.rest;
-  }
+  retag_closing c = record
+      { label = retag f c.label; could_be_reference = c.could_be_reference; rest = retagged f c.rest }
 
   abbrev pub retag_wikilink : Wikilink A → Wikilink B
   retag_wikilink found = record
@@ -135,18 +117,20 @@ module _ {A B : Type 0} (f : A → B) where
   before_footnote_retag left = ap (on_marks without_bracket) (second_retag left)
       ∙ on_marks_retag without_bracket (second_folded left)
 
-  -- the same opener is nearest
-  behind_retag : (e : Entry A) (o : Option (Split A)) → option_map (behind (retag_entry f e)) (option_map retag_split o)
-      ≡ option_map retag_split (option_map (behind e) o)
-  behind_retag e None = refl
-  behind_retag e (Some o) = refl
+  -- an option is mapped in two ways
+  mapped : {X Y Z V : Type 0} (g : Y → Z) (h : X → Y) (g' : V → Z) (h' : X → V) → ((x : X) → g (h x) ≡ g' (h' x))
+      → (o : Option X) → option_map g (option_map h o) ≡ option_map g' (option_map h' o)
+  mapped g h g' h' same None = refl
+  mapped g h g' h' same (Some x) = ap Some (same x)
 
+  -- the same opener is nearest
   pub nearest_retag : (test : Mark → Bool) (left : List (Entry A))
       → nearest test (retag_left f left) ≡ option_map retag_split (nearest test left)
   nearest_retag test [] = refl
   nearest_retag test (done a below ∷ left) =
       ap (option_map (behind (done (retag f a) (retagged f below)))) (nearest_retag test left)
-      ∙ behind_retag (done a below) (nearest test left)
+      ∙ mapped (behind (done (retag f a) (retagged f below))) retag_split retag_split (behind (done a below))
+      (λ o. refl) (nearest test left)
   nearest_retag test (waits m a ∷ left) = by (test m) (nearest_retag test left)
     where
       by : (b : Bool) → nearest test (retag_left f left) ≡ option_map retag_split (nearest test left)
@@ -155,7 +139,9 @@ module _ {A B : Type 0} (f : A → B) where
           ≡ option_map retag_split (if b then Some (record { mark = m; opener = a; after = []; before = left })
           else option_map (behind (waits m a)) (nearest test left))
       by true e = refl
-      by false e = ap (option_map (behind (waits m (retag f a)))) e ∙ behind_retag (waits m a) (nearest test left)
+      by false e = ap (option_map (behind (waits m (retag f a)))) e
+          ∙ mapped (behind (waits m (retag f a))) retag_split retag_split (behind (waits m a)) (λ o. refl)
+          (nearest test left)
 
   -- the trees of a left list
   pub onto_retag : (left : List (Entry A)) (later : Forest (Label A))
@@ -211,13 +197,7 @@ module _ {A B : Type 0} (f : A → B) where
     -- what is written at an opener and its `]`
     form_retag : (c : Closing A) → form_of w (retag_closing c) ≡ form_of w c
     form_retag c =
-        let by : Option Item → Option Item → Form = form_at (footnote_style w.setting.rules.options) (lines w)
-        w.above.in_table (block_text w)
-        (end_of c.label) in
-        let second = λ (chain : Forest (Label B)). option_map as_item (first_root chain) in
-        ap (λ next. by next (second (past_second (retagged f c.rest)))) (first_retag c.rest)
-        ∙ (ap (λ chain. by (option_map as_item (first_root c.rest)) (second chain)) (past_second_retag c.rest)
-        ∙ ap (by (option_map as_item (first_root c.rest))) (first_retag (past_second c.rest)))
+        rw (first_retag c.rest, past_second_retag c.rest, first_retag (past_second c.rest)) refl
 
     own_retag : (o : Split A) (link_type : LinkType) (end next : ℕ) (own : Option FoundLabel)
         → option_and_then (own_written w (retag_split o) link_type end next) own
@@ -238,15 +218,16 @@ module _ {A B : Type 0} (f : A → B) where
         by true false = refl
         by false is = refl
 
+    if_retag : (b : Bool) (x : Option (Written B)) (y : Option (Written A)) → x ≡ option_map retag_found y
+        → (if b then x else None) ≡ option_map retag_found (if b then y else None)
+    if_retag true x y e = e
+    if_retag false x y e = refl
+
     reference_retag : (o : Split A) (end : ℕ) (closes : ℕ → Bool) (own : Option FoundLabel) (form : Form)
         → reference_written w (retag_split o) end closes own form
         ≡ option_map retag_found (reference_written w o end closes own form)
-    reference_retag o end closes own (reference label to) = by (closes to)
-      where
-        by : (b : Bool) → (if b then Some (link_reference (retag_split o) (full label to)) else None)
-            ≡ option_map retag_found (if b then Some (link_reference o (full label to)) else None)
-        by true = refl
-        by false = refl
+    reference_retag o end closes own (reference label to) =
+        if_retag (closes to) _ (Some (link_reference o (full label to))) refl
     reference_retag o end closes own collapsed = own_retag o kind.Collapsed end (end + 2) own
     reference_retag o end closes own shortcut = own_retag o kind.Shortcut end end own
 
@@ -259,22 +240,15 @@ module _ {A B : Type 0} (f : A → B) where
     written_retag : (c : Closing A) (o : Split A) → written w (retag_closing c) (retag_split o)
         ≡ option_map retag_found (written w c o)
     written_retag c o =
-        let end : ℕ = end_of c.label in
         let own : Option FoundLabel = label_of_opener w c o in
-        let tail : (ℕ → Option ℕ) → Option LinkTail = λ starts. link_tail (lines w) starts (block_text w) end in
-        let all : (ℕ → Option ℕ) → Option (Written B) → Option (Written B) =
-        λ starts other. option_or (option_map (inline_link (retag_split o)) (tail starts)) other in
-        let refers : (ℕ → Bool) → Form → Option (Written B) = λ closes form. reference_written w (retag_split o) end
-        closes own form in
         let closes : ℕ → Bool = λ i. closer_ends_at i c.rest in
-        ap (λ (starts : ℕ → Option ℕ). all starts
-        (refers (λ i. closer_ends_at i (retagged f c.rest)) (form_of w (retag_closing c))))
-        (fun_ext (start_retag c.rest))
-        ∙ (ap (λ (closes : ℕ → Bool). all (start_of_first_past c.rest) (refers closes (form_of w (retag_closing c))))
-        (fun_ext (λ i. ends_at_retag i c.rest))
-        ∙ (ap (λ form. all (start_of_first_past c.rest) (refers closes form)) (form_retag c)
-        ∙ (ap (all (start_of_first_past c.rest)) (reference_retag o end closes own (form_of w c))
-        ∙ tail_retag o (tail (start_of_first_past c.rest)) (reference_written w o end closes own (form_of w c)))))
+        let tail = link_tail (lines w) (start_of_first_past c.rest) (block_text w) (end_of c.label) in
+        rw (
+          fun_ext (start_retag c.rest),
+          fun_ext (λ i. ends_at_retag i c.rest),
+          form_retag c,
+          reference_retag o (end_of c.label) closes own (form_of w c),
+        ) (tail_retag o tail (reference_written w o (end_of c.label) closes own (form_of w c)))
 
     -- what was found is carried out
     carried_retag : (x : Option (Written A)) (p : Progress A)
@@ -310,19 +284,14 @@ module _ {A B : Type 0} (f : A → B) where
     children_retag first trees end (shows_from at) = ap if_some (past_byte_retag at trees)
         ∙ if_some_retag (past_byte at trees)
 
-    shown_retag : (b : WikilinkBody) (children : Option (Forest (Label A)))
-        → option_map (shown_as b) (option_map (retagged f) children)
-        ≡ option_map retag_wikilink (option_map (shown_as b) children)
-    shown_retag b None = refl
-    shown_retag b (Some children) = refl
-
     body_retag : (first : Label A) (trees : Forest (Label A)) (end : ℕ) (b : Option WikilinkBody)
         → option_and_then (wikilink_by w (retag f first) (retagged f trees) end) b
         ≡ option_map retag_wikilink (option_and_then (wikilink_by w first trees end) b)
     body_retag first trees end None = refl
     body_retag first trees end (Some b) =
         ap (option_map (shown_as b)) (children_retag first trees end b.shows)
-        ∙ shown_retag b (shown_children w first trees end b.shows)
+        ∙ mapped (shown_as b) (retagged f) retag_wikilink (shown_as b) (λ g. refl)
+        (shown_children w first trees end b.shows)
 
     pub wikilink_in_retag : (trees : Forest (Label A)) (end : ℕ) → wikilink_in w (retagged f trees) end
         ≡ option_map retag_wikilink (wikilink_in w trees end)
@@ -344,38 +313,17 @@ module _ {A B : Type 0} (f : A → B) where
 
     bracket_retag : (c : Closing A) (o : Split A) → bracket_found w (retag_closing c) (retag_split o)
         ≡ option_map retag_found (bracket_found w c o)
-    bracket_retag c o = by (is_live o.mark.bracket)
-      where
-        by : (b : Bool) → (if b then written w (retag_closing c) (retag_split o) else None)
-            ≡ option_map retag_found (if b then written w c o else None)
-        by true = written_retag c o
-        by false = refl
-
-    as_wikilink_retag : (o : Split A) (end : ℕ) (v : Option (Wikilink A))
-        → option_map (λ v. wikilink (retag_split o) v end) (option_map retag_wikilink v)
-        ≡ option_map retag_found (option_map (λ v. wikilink o v end) v)
-    as_wikilink_retag o end None = refl
-    as_wikilink_retag o end (Some v) = refl
+    bracket_retag c o = if_retag (is_live o.mark.bracket) (written w (retag_closing c) (retag_split o)) (written w c o)
+        (written_retag c o)
 
     wikilink_retag : (c : Closing A) (end : ℕ) (o : Split A) → wikilink_found w (retag_closing c) end (retag_split o)
         ≡ option_map retag_found (wikilink_found w c end o)
-    wikilink_retag c end o = by (is_live o.mark.wikilink)
-      where
-        start : ℕ
-        start = start_of c.label
-
-        by : (b : Bool) → (if b then option_map (λ v. wikilink (retag_split o) v end)
-            (wikilink_in w (past_second (inside (retag_split o))) start) else None)
-            ≡ option_map retag_found
-            (if b then option_map (λ v. wikilink o v end) (wikilink_in w (past_second (inside o)) start) else None)
-        by false = refl
-        by true =
-            ap (λ trees. option_map (λ v. wikilink (retag_split o) v end) (wikilink_in w (past_second trees) start))
-            (inside_retag o)
-            ∙ (ap (λ trees. option_map (λ v. wikilink (retag_split o) v end) (wikilink_in w trees start))
-            (past_second_retag (inside o))
-            ∙ (ap (option_map (λ v. wikilink (retag_split o) v end)) (wikilink_in_retag (past_second (inside o)) start)
-            ∙ as_wikilink_retag o end (wikilink_in w (past_second (inside o)) start)))
+    wikilink_retag c end o =
+        let found = wikilink_in w (past_second (inside o)) (start_of c.label) in
+        if_retag (is_live o.mark.wikilink) _ (option_map (λ v. wikilink o v end) found)
+        (rw (inside_retag o, past_second_retag (inside o), wikilink_in_retag (past_second (inside o)) _)
+        (mapped (λ v. wikilink (retag_split o) v end) retag_wikilink retag_found (λ v. wikilink o v end) (λ v. refl)
+        found))
 
     second_retag_end : (rest : Forest (Label A)) → second_end w (retagged f rest) ≡ second_end w rest
     second_retag_end nil = refl
@@ -392,10 +340,8 @@ module _ {A B : Type 0} (f : A → B) where
         ≡ option_map retag_found
         (option_and_then (bracket_found w c) (nearest opens_bracket (left_for_one second left)))
     one_found_retag c second left =
-        let find : Option (Split B) → Option (Written B) = option_and_then (bracket_found w (retag_closing c)) in
-        ap (λ left. find (nearest opens_bracket left)) (one_left_retag second left)
-        ∙ (ap find (nearest_retag opens_bracket (left_for_one second left))
-        ∙ opener_retag (bracket_found w (retag_closing c)) (bracket_found w c) (bracket_retag c)
+        rw (one_left_retag second left, nearest_retag opens_bracket (left_for_one second left))
+        (opener_retag (bracket_found w (retag_closing c)) (bracket_found w c) (bracket_retag c)
         (nearest opens_bracket (left_for_one second left)))
 
     two_found_retag : (c : Closing A) (end : ℕ) (left : List (Entry A))
@@ -404,24 +350,17 @@ module _ {A B : Type 0} (f : A → B) where
         ≡ option_map retag_found
         (option_and_then (wikilink_found w c end) (nearest opens_wikilink (bracket_taken left)))
     two_found_retag c end left =
-        let find : Option (Split B) → Option (Written B) = option_and_then (wikilink_found w (retag_closing c) end) in
-        ap (λ left. find (nearest opens_wikilink left)) (change_retag opens_bracket without_bracket left)
-        ∙ (ap find (nearest_retag opens_wikilink (bracket_taken left))
-        ∙ opener_retag (wikilink_found w (retag_closing c) end) (wikilink_found w c end) (wikilink_retag c end)
+        rw (change_retag opens_bracket without_bracket left, nearest_retag opens_wikilink (bracket_taken left))
+        (opener_retag (wikilink_found w (retag_closing c) end) (wikilink_found w c end) (wikilink_retag c end)
         (nearest opens_wikilink (bracket_taken left)))
 
     found_retag : (c : Closing A) (second : Option ℕ) (left : List (Entry A))
         → found w (retag_closing c) second (retag_left f left) ≡ option_map retag_found (found w c second left)
     found_retag c None left = one_found_retag c None left
     found_retag c (Some end) left =
-        let one : Option (Written B) =
-        option_and_then (bracket_found w (retag_closing c))
-        (nearest opens_bracket (left_for_one (Some end) (retag_left f left))) in
-        let two : Option (Written A) = option_and_then (wikilink_found w c end)
-        (nearest opens_wikilink (bracket_taken left)) in
-        ap (λ two. option_or two one) (two_found_retag c end left)
-        ∙ (ap (option_or (option_map retag_found two)) (one_found_retag c (Some end) left)
-        ∙ either_retag two (option_and_then (bracket_found w c) (nearest opens_bracket (wikilink_taken left))))
+        rw (two_found_retag c end left, one_found_retag c (Some end) left)
+        (either_retag (option_and_then (wikilink_found w c end) (nearest opens_wikilink (bracket_taken left)))
+        (option_and_then (bracket_found w c) (nearest opens_bracket (wikilink_taken left))))
 
     -- what a `]` becomes
     pub decided_retag : (c : Closing A) (p : Progress A) → decided w (retag_closing c) (retag_progress f p)
@@ -429,19 +368,13 @@ module _ {A B : Type 0} (f : A → B) where
     unfolding decided
     decided_retag c p =
         let second = second_end w c.rest in
-        let by : Option ℕ → Decision B = λ second. carried_out w
-        (found w (retag_closing c) second (retag_left f p.left))
-        (record (retag_progress f p) { left = bracket_taken (left_for_one second (retag_left f p.left)) }) in
-        let now : Progress A = record p { left = bracket_taken (left_for_one second p.left) } in
-        ap by (second_retag_end c.rest)
-        ∙ (ap (λ x. carried_out w x
-        (record (retag_progress f p) { left = bracket_taken (left_for_one second (retag_left f p.left)) }))
-        (found_retag c second p.left)
-        ∙ (ap (λ left. carried_out w (option_map retag_found (found w c second p.left))
-        (record (retag_progress f p) { left = left }))
-        (ap bracket_taken (one_left_retag second p.left) ∙ change_retag opens_bracket without_bracket
-        (left_for_one second p.left))
-        ∙ carried_retag (found w c second p.left) now))
+        let left = left_for_one second p.left in
+        rw (
+          second_retag_end c.rest,
+          found_retag c second p.left,
+          one_left_retag second p.left,
+          change_retag opens_bracket without_bracket left,
+        ) (carried_retag (found w c second p.left) (record p { left = bracket_taken left }))
 
     pub footnote_onto_retag : (c : Closing A) (is_image : Bool) (opener : Label A) (name : List ℕ)
         (left : List (Entry A))
@@ -454,28 +387,12 @@ module _ {A B : Type 0} (f : A → B) where
     pub put_retag : (c : Closing A) (becomes : Becomes A) (p : Progress A)
         → put w (retag_closing c) (retag_becomes becomes) (retag_progress f p) ≡ retag_progress f (put w c becomes p)
     put_retag c a_text p = refl
-    put_retag c (a_link o target end next) p =
-        let linked' : Label B = retag f (linked o target end) in
-        ap (λ below. record (retag_progress f p) {
-          left = done linked' below ∷ before_link o.mark.is_image (retag_left f o.before);
-          goes_on
-              = Some next;
-        }) (inside_retag o)
-        ∙ ap (λ l. record (retag_progress f p) { left = done linked' (retagged f (inside o)) ∷ l; goes_on = Some next })
-        (before_link_retag o.mark.is_image o.before)
+    put_retag c (a_link o target end next) p = rw (inside_retag o, before_link_retag o.mark.is_image o.before) refl
     put_retag c (a_footnote o name) p =
-        ap (λ l. record (retag_progress f p) {
-          left = footnote_onto w (retag_closing c) o.mark.is_image (retag f o.opener) name l;
-          goes_on =
-              Some (end_of c.label);
-        }) (before_footnote_retag o.before)
-        ∙ ap (λ l. record (retag_progress f p) { left = l; goes_on = Some (end_of c.label) })
-        (footnote_onto_retag c o.mark.is_image o.opener name (before_footnote o.before))
-    put_retag c (a_wikilink o found end) p =
-        ap (λ l. record (retag_progress f p) {
-          left = done (retag f (linked o (wikilink_target found) end)) (retagged f found.children) ∷ l;
-          goes_on = Some end;
-        }) (before_wikilink_retag o.before)
+        rw (before_footnote_retag o.before)
+        (ap (λ l. record (retag_progress f p) { left = l; goes_on = Some (end_of c.label) })
+        (footnote_onto_retag c o.mark.is_image o.opener name (before_footnote o.before)))
+    put_retag c (a_wikilink o found end) p = rw (before_wikilink_retag o.before) refl
 
     pub closed_retag : (c : Closing A) (p : Progress A) → closed w (retag_closing c) (retag_progress f p)
         ≡ retag_progress f (closed w c p)
@@ -492,16 +409,7 @@ module _ {A B : Type 0} (f : A → B) where
     pub opened_retag : (is_image : Bool) (a : Label A) (rest : Forest (Label A)) (p : Progress A)
         → opened w is_image (retag f a) (retagged f rest) (retag_progress f p)
         ≡ retag_progress f (opened w is_image a rest p)
-    opened_retag is_image a rest p =
-        ap (λ b. record (retag_progress f p) {
-          left = waits (record {
-            is_image = is_image;
-            bracket = live;
-            wikilink = if wikilinks_on w.setting.rules.options && b then live
-                else gone;
-          })
-              (retag f (as_text w.setting.text a)) ∷ retag_left f p.left;
-        }) (is_next_retag is_opener rest)
+    opened_retag is_image a rest p = rw (is_next_retag is_opener rest) refl
 
     -- a chain
     module _ (others : Reader A) (others' : Reader B) (follows : ReaderFollows f others others') where

@@ -1,6 +1,6 @@
 -- A chain of an arena from a link on: it opens node by node, and what a byte leaves of it a later byte leaves of that.
 use Rattle.std.proofs.Common.{◌≡◌, ℕ, ◌<◌, ◌≤◌, Bool, true, false, List, Option, Some, None, length, refl, subst, sym}
-use Rattle.std.proofs.Common.{◌∙◌, arith, nat_lt}
+use Rattle.std.proofs.Common.{◌∙◌, arith, nat_lt, ap}
 use Rattle.std.specs.Prelude.{if◌then◌else◌, ⊤}
 use Rattle.std.proofs.lemmas.Bool.Decides.{nat_tests}
 use Rattle.markdown_base.specs.Arena.{child_of, sibling_of}
@@ -10,24 +10,21 @@ use Rattle.markdown_base.specs.Forest.{Forest, nil, node, first_root, roots}
 use Rattle.markdown_base.specs.declared.item.Item.{Item}
 use Rattle.markdown_base.specs.declared.node.Node.{Node}
 use Rattle.markdown_base.proofs.ArenaForestLemmas.{opens, forest_at-none}
-use Rattle.markdown_brackets.specs.ChainAhead.{IsChain, numbers_past, first_start}
+use Rattle.markdown_brackets.specs.ChainAhead.{IsChain, numbers_past}
 
 -- how many trees there are from a link on
 abbrev pub trees_ahead : List (Node Item) → Option ℕ → ℕ
 trees_ahead nodes link = length (roots (forest_at (links_of nodes) link))
 
--- a chain that begins at a node
-pub record StepsOn (nodes : List (Node Item)) (byte ix : ℕ) : Type 0 where
+-- a chain that begins at a node, and what of it is past a byte
+pub record StepsOn (nodes : List (Node Item)) (byte ix : ℕ) (past : Forest ℕ) : Type 0 where
   pub within : ix < length nodes
   pub later : IsChain nodes (sibling_of nodes ix)
   pub falls : trees_ahead nodes (sibling_of nodes ix) < trees_ahead nodes (Some ix)
-  pub stops : byte < (item_at nodes ix).end → numbers_past nodes byte (forest_at (links_of nodes) (Some ix))
-      ≡ forest_at (links_of nodes) (Some ix)
+  pub stops : byte < (item_at nodes ix).end
+      → (forest_at (links_of nodes) (Some ix) ≡ past) × (Some ix ≡ first_root past)
   pub passes : (item_at nodes ix).end ≤ byte
-      → numbers_past nodes byte (forest_at (links_of nodes) (Some ix))
-      ≡ numbers_past nodes byte (forest_at (links_of nodes) (sibling_of nodes ix))
-  pub root : first_root (forest_at (links_of nodes) (Some ix)) ≡ Some ix
-  pub starts : first_start nodes (forest_at (links_of nodes) (Some ix)) ≡ Some (item_at nodes ix).start
+      → numbers_past nodes byte (forest_at (links_of nodes) (sibling_of nodes ix)) ≡ past
 
 pub below_is : (i j : ℕ) → i < j → nat_lt i j ≡ true
 below_is i j h = grind (arith, nat_tests)
@@ -41,32 +38,26 @@ is_below i j h = grind (arith, nat_tests)
 pub is_not_below : (i j : ℕ) → nat_lt i j ≡ false → j ≤ i
 is_not_below i j h = grind (arith, nat_tests)
 
-past_stops : (nodes : List (Node Item)) (byte ix : ℕ) (below after : Forest ℕ) → byte < (item_at nodes ix).end
-    → numbers_past nodes byte (node ix below after) ≡ node ix below after
-past_stops nodes byte ix below after h = rw (below_is byte (item_at nodes ix).end h) refl
-
 past_goes : (nodes : List (Node Item)) (byte ix : ℕ) (below after : Forest ℕ) → (item_at nodes ix).end ≤ byte
     → numbers_past nodes byte (node ix below after) ≡ numbers_past nodes byte after
 past_goes nodes byte ix below after h = rw (not_below_is byte (item_at nodes ix).end h) refl
 
-pub steps_on : (nodes : List (Node Item)) (byte ix : ℕ) → IsChain nodes (Some ix) → StepsOn nodes byte ix
-steps_on nodes byte ix chain =
-    let o = opens (links_of nodes) (λ ix. ⊤) ix chain in
-    let below = forest_at (links_of nodes) (child_of nodes ix) in
-    let after = forest_at (links_of nodes) (sibling_of nodes ix) in
+pub steps_at : (nodes : List (Node Item)) (byte : ℕ) (link : Option ℕ) (ix : ℕ) (past : Forest ℕ) → link ≡ Some ix
+    → IsChain nodes link → numbers_past nodes byte (forest_at (links_of nodes) link) ≡ past → StepsOn nodes byte ix past
+steps_at nodes byte link ix past e chain same =
+    let o = opens (links_of nodes) (λ ix. ⊤) ix (subst (IsChain nodes) e chain) in
+    let all : Forest ℕ = node ix (forest_at (links_of nodes) (child_of nodes ix))
+    (forest_at (links_of nodes) (sibling_of nodes ix)) in
+    let here : numbers_past nodes byte all ≡ past = rw (e, o.here) at same in
+    let stays : byte < (item_at nodes ix).end → all ≡ past = λ h.
+    rw (below_is byte (item_at nodes ix).end h) at here in
     record {
       within = o.within;
       later = o.after;
       falls = rw o.here (omega arith);
-      stops = λ h. rw o.here (past_stops nodes byte ix below after h);
-      passes = λ h. rw o.here (past_goes nodes byte ix below after h);
-      root = rw o.here refl;
-      starts = rw o.here refl;
+      stops = λ h. (o.here ∙ stays h, ap first_root (stays h));
+      passes = λ h. sym (past_goes nodes byte ix _ _ h) ∙ here;
     }
-
-pub steps_at : (nodes : List (Node Item)) (byte : ℕ) (link : Option ℕ) (ix : ℕ) → link ≡ Some ix → IsChain nodes link
-    → StepsOn nodes byte ix
-steps_at nodes byte link ix e chain = steps_on nodes byte ix (subst (IsChain nodes) e chain)
 
 -- nothing is past a byte where nothing is
 pub past_none : (nodes : List (Node Item)) (byte : ℕ) → numbers_past nodes byte (forest_at (links_of nodes) None)

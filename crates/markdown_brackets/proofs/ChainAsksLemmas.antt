@@ -1,16 +1,13 @@
 -- Reading a chain asks on top of what was asked: no question is taken back, and none is put before another.
-use Rattle.std.proofs.Common.{◌≡◌, ℕ, Bool, true, false, List, [], ◌++◌, Option, Some, None, cond, refl, sym, ◌∙◌, ap}
-use Rattle.std.proofs.Common.{append-nil}
-use Rattle.std.proofs.Common.{append_assoc, nat_le}
-use Rattle.markdown_base.specs.Forest.{Forest, nil, node}
+use Rattle.std.proofs.Common.{◌≡◌, List, [], ◌++◌, refl, sym, ◌∙◌, ap, append-nil, append_assoc}
+use Rattle.markdown_base.specs.Forest.{Forest}
 use Rattle.markdown_base.specs.Questions.{Question}
-use Rattle.markdown_base.specs.declared.item.ItemBody.{ItemBody}
-use Rattle.markdown_base.specs.declared.item.ItemBody.TheVariants as body
 use Rattle.markdown_document.specs.Document.{Label}
-use Rattle.markdown_document.specs.ChainRest.{begun_at, end_of, open_body}
 use Rattle.markdown_brackets.specs.BracketDecision.{Around, Progress}
-use Rattle.markdown_brackets.specs.ReadChain.{Reader, closing_of, opened, read, read_as, read_chain, read_past}
+use Rattle.markdown_brackets.specs.ReadChain.{Reader, closing_of, read_chain}
 use Rattle.markdown_brackets.proofs.AsksAboutLemmas.{closed_told}
+use Rattle.markdown_brackets.proofs.ReadChainLemmas.{Reads, chain_keeps}
+use Rattle.markdown_brackets.specs.ClosingBracket.{closed}
 
 -- what was asked is what was asked before, and then more
 pub record AsksMore {A : Type 0} (q p : Progress A) : Type 0 where
@@ -30,31 +27,17 @@ asks_on r q p later here = record {
 module _ {A : Type 0} (w : Around) (others : Reader A)
     (rule : (a : Label A) (below rest : Forest (Label A)) (p : Progress A)
     → AsksMore (others a below rest p) p) where
-  read_as_asks : (b : ItemBody) (a : Label A) (below rest : Forest (Label A)) (p : Progress A)
-      → AsksMore (read_as w others b a below rest p) p
-  read_as_asks body.MaybeLinkOpen a below rest p = asks_nothing (opened w false a rest p) p refl
-  read_as_asks body.MaybeImage a below rest p = asks_nothing (opened w true a rest p) p refl
-  read_as_asks (body.MaybeLinkClose could) a below rest p =
-      let r = closed_told w (closing_of could a rest p) p in
-      record { more = r.more; asked = r.asked }
-  read_as_asks other a below rest p = rule a below rest p
-
-  pub read_past_asks : (goes_on : Option ℕ) (a : Label A) (below rest : Forest (Label A)) (p : Progress A)
-      → AsksMore (read_past w others goes_on a below rest p) p
-  read_past_asks None a below rest p = read_as_asks (open_body a.part.shape) a below rest p
-  read_past_asks (Some i) a below rest p = by (nat_le (end_of a) i)
-    where
-      by : (b : Bool) → AsksMore (cond b p (read w others (begun_at i a) below rest (record p { goes_on = None }))) p
-      by true = asks_nothing p p refl
-      by false =
-          let r = read_as_asks (open_body (begun_at i a).part.shape) (begun_at i a) below rest
-          (record p { goes_on = None }) in
-          record { more = r.more; asked = r.asked }
+  asks_reads : (p : Progress A) → Reads w others (λ chain q. AsksMore q p)
+  asks_reads p = record {
+    opens = λ i a below rest q h. record { more = h.more; asked = h.asked };
+    closes = λ could a below rest q e h.
+        let r = closed_told w (closing_of could a rest q) q in
+        asks_on (closed w (closing_of could a rest q) q) q p (record { more = r.more; asked = r.asked }) h;
+    other = λ a below rest q h. asks_on (others a below rest q) q p (rule a below rest q) h;
+    passes = λ a below rest q h. h;
+    cuts = λ i a below rest q h. record { more = h.more; asked = h.asked };
+  }
 
   -- a chain
   pub read_asks : (chain : Forest (Label A)) (p : Progress A) → AsksMore (read_chain w others chain p) p
-  unfolding read_chain
-  read_asks nil p = asks_nothing p p refl
-  read_asks (node a below rest) p =
-      let here : Progress A = read_past w others p.goes_on a below rest p in
-      asks_on (read_chain w others rest here) here p (read_asks rest here) (read_past_asks p.goes_on a below rest p)
+  read_asks chain p = chain_keeps (asks_reads p) chain p (asks_nothing p p refl)

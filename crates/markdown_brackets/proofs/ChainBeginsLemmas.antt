@@ -1,25 +1,24 @@
 -- What is first in a left list stays first, or becomes a link, an image or a footnote reference: so it passes a test
 -- that events and enclosing tags pass.
-use Rattle.std.proofs.Common.{◌≡◌, ℕ, Bool, true, false, List, [], ◌∷◌, Option, Some, None, nat_le}
-use Rattle.std.specs.Prelude.{⊤, IfSome, if◌then◌else◌}
-use Rattle.std.specs.Option.{option_map}
+use Rattle.std.proofs.Common.{◌≡◌, ℕ, Bool, true, false, List, [], ◌∷◌, Some, ◌++◌, subst}
+use Rattle.std.specs.Prelude.{⊤, if◌then◌else◌}
 use Rattle.markdown_base.specs.Event.{EventView, TagView}
 use Rattle.markdown_base.specs.Forest.{Forest, nil, node}
 use Rattle.markdown_base.specs.declared.item.ItemBody.{ItemBody}
 use Rattle.markdown_base.specs.declared.item.ItemBody.TheVariants as body
-use Rattle.markdown_document.specs.ChainRest.{begun_at, end_of, open_body}
+use Rattle.markdown_document.specs.ChainRest.{open_body}
 use Rattle.markdown_document.specs.Document.{Origin, Shape, leaf, enclosed, Label, is_unresolved}
 use Rattle.markdown_document.specs.Setting.{Known}
 use Rattle.markdown_brackets.specs.BracketDecision.{Around, Closing, Progress}
 use Rattle.markdown_brackets.specs.ChainBegins.{BeginsLaw, BeginsSo, BeginsWith, trees_of}
 use Rattle.markdown_brackets.specs.ClosingBracket.{footnote_onto}
-use Rattle.markdown_brackets.specs.LeftList.{Entry, Mark, Split, before_footnote, before_link, behind, change_nearest}
-use Rattle.markdown_brackets.specs.LeftList.{disabled_mark, done}
-use Rattle.markdown_brackets.specs.LeftList.{nearest, on_marks, opens_bracket, opens_wikilink, second_folded}
-use Rattle.markdown_brackets.specs.LeftList.{trees_onto, waits}
-use Rattle.markdown_brackets.specs.LeftList.{without_bracket, without_wikilink}
-use Rattle.markdown_brackets.specs.ReadChain.{Reader, begun, closing_of, read, read_as, read_chain, read_past}
-use Rattle.markdown_brackets.proofs.ClosingBracketLemmas.{Cases, in_each_case, some_of}
+use Rattle.markdown_brackets.specs.LeftList.{Entry, Mark, Split, before_footnote, before_link, change_nearest}
+use Rattle.markdown_brackets.specs.LeftList.{disabled_mark, done, nearest, on_marks, opens_bracket, opens_wikilink}
+use Rattle.markdown_brackets.specs.LeftList.{second_folded, trees_onto, waits, without_bracket, without_wikilink}
+use Rattle.markdown_brackets.specs.ReadChain.{Reader, begun, closing_of, read, read_as, read_chain}
+use Rattle.markdown_brackets.proofs.ClosingBracketLemmas.{Cases, in_each_case}
+use Rattle.markdown_brackets.proofs.LeftListLemmas.{split_at}
+use Rattle.markdown_brackets.proofs.ReadChainLemmas.{Reads, chain_keeps}
 
 -- what is added after a tree does not change how the trees begin: so a rule that adds more trees keeps the first one
 pub begins_onto : {A : Type 0} (test : Shape → Bool) (left : List (Entry A)) (one other : Forest (Label A))
@@ -89,22 +88,16 @@ module _ {A : Type 0} (w : Around) (test : Shape → Bool) (events : (e : EventV
   abbrev IsFirstAt : Split A → Type 0
   IsFirstAt o = First (test o.opener.part.shape ≡ true) o.before
 
-  first_behind : (e : Entry A) (o : Option (Split A)) → IfSome o IsFirstAt → IfSome (option_map (behind e) o) IsFirstAt
-  first_behind e None h = tt
-  first_behind e (Some o) h = h
+  first_split : (none : Type 0) (after before : List (Entry A)) (m : Mark) (a : Label A)
+      → First none (after ++ waits m a ∷ before) → First (test a.part.shape ≡ true) before
+  first_split none [] before m a h = h
+  first_split none (done b below ∷ after) before m a h = first_split (test b.part.shape ≡ true) after before m a h
+  first_split none (waits n b ∷ after) before m a h = first_split (test b.part.shape ≡ true) after before m a h
 
-  first_nearest : (opens : Mark → Bool) (none : Type 0) (left : List (Entry A)) → First none left
-      → IfSome (nearest opens left) IsFirstAt
-  first_nearest opens none [] h = tt
-  first_nearest opens none (done a below ∷ left) h = first_behind (done a below) (nearest opens left)
-      (first_nearest opens (test a.part.shape ≡ true) left h)
-  first_nearest opens none (waits m a ∷ left) h = by (opens m) (first_nearest opens (test a.part.shape ≡ true) left h)
-    where
-      by : (b : Bool) → IfSome (nearest opens left) IsFirstAt
-          → IfSome (if b then Some (record { mark = m; opener = a; after = []; before = left })
-          else option_map (behind (waits m a)) (nearest opens left)) IsFirstAt
-      by true k = h
-      by false k = first_behind (waits m a) (nearest opens left) k
+  first_nearest : (opens : Mark → Bool) (left : List (Entry A)) (o : Split A) → nearest opens left ≡ Some o
+      → First ⊤ left → IsFirstAt o
+  first_nearest opens left o e h =
+      first_split ⊤ o.after o.before o.mark o.opener (subst (First ⊤) (split_at opens left o e) h)
 
   module _ (c : Closing A) where
     first_footnote : (is_image : Bool) (a : Label A) (name : List ℕ) (none : Type 0) (before : List (Entry A))
@@ -120,18 +113,15 @@ module _ {A : Type 0} (w : Around) (test : Shape → Bool) (events : (e : EventV
       wikilink_goes = first_change opens_wikilink without_wikilink ⊤;
       text = λ left h. first_or left (λ k. events _ _) h;
       link = λ left o target end h found live.
-          let at : IsFirstAt o = some_of (nearest opens_bracket left) o IsFirstAt found
-          (first_nearest opens_bracket ⊤ left h) in
+          let at = first_nearest opens_bracket left o found h in
           first_before_link o.mark.is_image _ o.before (first_or o.before (λ k. tags _) at);
       footnote = λ left o name h found live.
-          let at : IsFirstAt o = some_of (nearest opens_bracket left) o IsFirstAt found
-          (first_nearest opens_bracket ⊤ left h) in
+          let at = first_nearest opens_bracket left o found h in
           let opener : Type 0 = test o.opener.part.shape ≡ true in
           first_footnote o.mark.is_image o.opener name opener (before_footnote o.before)
           (first_marks without_bracket opener (second_folded o.before) (first_second opener o.before at));
       wikilink = λ left o v end h found live is.
-          let at : IsFirstAt o = some_of (nearest opens_wikilink left) o IsFirstAt found
-          (first_nearest opens_wikilink ⊤ left h) in
+          let at = first_nearest opens_wikilink left o found h in
           first_marks without_wikilink _ (on_marks disabled_mark o.before)
           (first_marks disabled_mark _ o.before (first_or o.before (λ k. tags _) at));
     }
@@ -151,33 +141,17 @@ module _ {A : Type 0} (w : Around) (test : Shape → Bool) (events : (e : EventV
         (rule.puts a below rest known h)
 
     -- and each later item keeps one
-    first_kept : (b : ItemBody) (a : Label A) (below rest : Forest (Label A)) (p : Progress A) → First ⊥ p.left
-        → First ⊥ (read_as w others b a below rest p).left
-    first_kept body.MaybeLinkOpen a below rest p h = first_or p.left (λ k. events _ _) h
-    first_kept body.MaybeImage a below rest p h = first_or p.left (λ k. events _ _) h
-    first_kept (body.MaybeLinkClose could) a below rest p h =
-        in_each_case w (closing_of could a rest p) (First ⊤) (First ⊥) (first_cases (closing_of could a rest p)) p
-        (first_or p.left (λ k. tt) h)
-    first_kept other a below rest p h = first-from_trees (others a below rest p).left nil
-        (rule.keeps a below rest p (first-trees p.left nil h))
-
-    first_past : (goes_on : Option ℕ) (a : Label A) (below rest : Forest (Label A)) (p : Progress A) → First ⊥ p.left
-        → First ⊥ (read_past w others goes_on a below rest p).left
-    first_past None a below rest p h = first_kept (open_body a.part.shape) a below rest p h
-    first_past (Some i) a below rest p h = by (nat_le (end_of a) i)
-      where
-        by : (b : Bool) → First ⊥
-            (if b then p else read w others (begun_at i a) below rest (record p { goes_on = None })).left
-        by true = h
-        by false = first_kept (open_body (begun_at i a).part.shape) (begun_at i a) below rest
-            (record p { goes_on = None }) h
-
-    first_chain : (chain : Forest (Label A)) (p : Progress A) → First ⊥ p.left
-        → First ⊥ (read_chain w others chain p).left
-    unfolding read_chain
-    first_chain nil p h = h
-    first_chain (node a below rest) p h = first_chain rest (read_past w others p.goes_on a below rest p)
-        (first_past p.goes_on a below rest p h)
+    first_reads : Reads w others (λ chain p. First ⊥ p.left)
+    first_reads = record {
+      opens = λ i a below rest p h. first_or p.left (λ k. events _ _) h;
+      closes = λ could a below rest p e h.
+          let c : Closing A = closing_of could a rest p in
+          in_each_case w c (First ⊤) (First ⊥) (first_cases c) p (first_or p.left (λ k. tt) h);
+      other = λ a below rest p h. first-from_trees (others a below rest p).left nil
+          (rule.keeps a below rest p (first-trees p.left nil h));
+      passes = λ a below rest p h. h;
+      cuts = λ i a below rest p h. h;
+    }
 
     pub read_begins : (a : Label A) (below rest : Forest (Label A)) (known : Known) → is_unresolved a.part.shape ≡ true
         → BeginsWith test (trees_of (read_chain w others (node a below rest) (begun known)))
@@ -185,7 +159,7 @@ module _ {A : Type 0} (w : Around) (test : Shape → Bool) (events : (e : EventV
     read_begins a below rest known h =
         let first : Progress A = read w others a below rest (begun known) in
         first-trees (read_chain w others rest first).left nil
-        (first_chain rest first (first_put (open_body a.part.shape) a below rest known h))
+        (chain_keeps first_reads rest first (first_put (open_body a.part.shape) a below rest known h))
 
 pub begins_law : {A : Type 0} → BeginsLaw A
 begins_law w others test events tags rule a below rest known h = read_begins w test events tags others rule a below rest

@@ -12,19 +12,17 @@ use Rattle.markdown_document.specs.Document.{as_text}
 use Rattle.markdown_document.specs.ChainRest.{start_of, end_of}
 use Rattle.markdown_brackets.specs.BracketOptions.{footnote_style}
 use Rattle.markdown_brackets.specs.BracketDecision.{Around, Closing, Written, LinkReference, Progress, Wikilink, a_link}
-use Rattle.markdown_brackets.specs.BracketDecision.{a_text, block_text}
-use Rattle.markdown_brackets.specs.BracketDecision.{bracket_found, carried_out, closer_ends_at, decided, footnote_label}
-use Rattle.markdown_brackets.specs.BracketDecision.{footnote_written, form_of}
-use Rattle.markdown_brackets.specs.BracketDecision.{found, full, inline_link, inline_target, label_of_opener}
-use Rattle.markdown_brackets.specs.BracketDecision.{left_for_one, lines, link_reference, looked_up}
-use Rattle.markdown_brackets.specs.BracketDecision.{own_written, past_second, question_at, reference_written}
-use Rattle.markdown_brackets.specs.BracketDecision.{second_end}
-use Rattle.markdown_brackets.specs.BracketDecision.{start_of_first_past, wikilink, wikilink_found, wikilink_in, written}
+use Rattle.markdown_brackets.specs.BracketDecision.{a_text, block_text, bracket_found, carried_out, closer_ends_at}
+use Rattle.markdown_brackets.specs.BracketDecision.{decided, footnote_label, footnote_written, form_of, found, full}
+use Rattle.markdown_brackets.specs.BracketDecision.{inline_link, inline_target, label_of_opener, left_for_one, lines}
+use Rattle.markdown_brackets.specs.BracketDecision.{link_reference, looked_up, own_written, past_second, question_at}
+use Rattle.markdown_brackets.specs.BracketDecision.{reference_written, second_end, start_of_first_past, wikilink}
+use Rattle.markdown_brackets.specs.BracketDecision.{wikilink_found, wikilink_in, written}
 use Rattle.markdown_brackets.specs.ClosingBracket.{closed, footnote_onto, linked, put, put_decided, wikilink_target}
 use Rattle.markdown_brackets.specs.FootnoteUse.{is_reference}
 use Rattle.markdown_brackets.specs.LeftList.{Entry, Split, before_footnote, before_link, before_wikilink, bracket_taken}
-use Rattle.markdown_brackets.specs.LeftList.{done, inside, is_live}
-use Rattle.markdown_brackets.specs.LeftList.{nearest, opens_bracket, opens_wikilink, wikilink_taken}
+use Rattle.markdown_brackets.specs.LeftList.{done, inside, is_live, nearest, opens_bracket, opens_wikilink}
+use Rattle.markdown_brackets.specs.LeftList.{wikilink_taken}
 use Rattle.markdown_brackets.specs.LinkTail.{LinkTail, link_tail}
 use Rattle.markdown_brackets.specs.Lookup.{look_up}
 use Rattle.markdown_brackets.specs.Reference.{Form, FoundLabel, collapsed, reference, shortcut}

@@ -1,14 +1,12 @@
 -- What is tried for an opener comes to what was found.
 use Rattle.std.proofs.Common.{◌≡◌, ℕ, ◌++◌, Bool, true, false, List, [], ◌∷◌, Option, Some, None, is_some, refl, sym}
-use Rattle.std.proofs.Common.{◌∙◌, ap, subst, append-nil}
+use Rattle.std.proofs.Common.{◌∙◌, ap, subst, append-nil, arith}
 use Rattle.std.specs.Option.{option_map, option_or}
-use Rattle.std.proofs.Common.{arith}
 use Rattle.std.proofs.lemmas.Bool.Decides.{nat_tests}
 use Rattle.std.specs.Prelude.{IfSome, ◌==◌, ◌||◌, if◌then◌else◌, unwrap_or}
 use Rattle.markdown_base.specs.CowText.{text_of}
 use Rattle.markdown_base.specs.Event.{LinkView}
 use Rattle.markdown_base.specs.Questions.{Question, Answer, Answers}
-use Rattle.markdown_base.specs.declared.block_parts.LinkDef.{LinkDef}
 use Rattle.markdown_base.specs.declared.item.ItemBody.{ItemBody}
 use Rattle.markdown_base.specs.declared.tag.LinkType.{LinkType}
 use Rattle.markdown_base.specs.declared.tag.LinkType.TheVariants as kind
@@ -19,23 +17,21 @@ use Rattle.markdown_document.specs.Setting.{uses_of}
 use Rattle.markdown_document.specs.declared.chain_place.ChainPlace.{ChainPlace}
 use Rattle.markdown_defs.specs.CallbackViews.{question_of}
 use Rattle.markdown_defs.specs.declared.callback.BrokenLink.{BrokenLink}
-use Rattle.markdown_defs.specs.Definitions as definitions
 use Rattle.markdown_defs.specs.Definitions.{Labelled}
 use Rattle.markdown_defs.specs.Folding.{is_match}
 use Rattle.markdown_defs.specs.Footnotes.{footnote_at}
 use Rattle.markdown_defs.specs.FootnoteCounts as footnotes
 use Rattle.markdown_brackets.specs.BracketDecision.{Around, Becomes, Written, LinkReference, Progress, a_text, a_link}
-use Rattle.markdown_brackets.specs.BracketDecision.{a_footnote, carried_out}
-use Rattle.markdown_brackets.specs.BracketDecision.{footnote_label, footnote_written, inline_link, inline_target}
-use Rattle.markdown_brackets.specs.BracketDecision.{link_reference, looked_up}
-use Rattle.markdown_brackets.specs.BracketDecision.{question_at, to_be, uses_once_more}
+use Rattle.markdown_brackets.specs.BracketDecision.{a_footnote, carried_out, footnote_label, footnote_written}
+use Rattle.markdown_brackets.specs.BracketDecision.{inline_link, inline_target, link_reference, looked_up, question_at}
+use Rattle.markdown_brackets.specs.BracketDecision.{to_be, uses_once_more}
 use Rattle.markdown_brackets.specs.BracketOptions.{footnote_style}
 use Rattle.markdown_brackets.specs.DecisionView.{IsBecome, knowing}
 use Rattle.markdown_brackets.specs.FootnoteUse.{is_reference}
 use Rattle.markdown_brackets.specs.LeftList.{Split}
 use Rattle.markdown_brackets.specs.LinkTail as scanned
 use Rattle.markdown_brackets.specs.LinkTailView.{IsTail, ReadsTail}
-use Rattle.markdown_brackets.specs.Lookup.{LookedUp, answered, asked, defined_or_asked, finds_nothing, look_up, unknown}
+use Rattle.markdown_brackets.specs.Lookup.{LookedUp, answered, look_up, unknown}
 use Rattle.markdown_brackets.specs.LookupView.{LooksUp}
 use Rattle.markdown_brackets.specs.StandsAt.{Spends, ComesTo, around_by, reference_to}
 use Rattle.markdown_brackets.specs.SpentEnds.{is_spent}
@@ -49,6 +45,8 @@ use Rattle.markdown_brackets.specs.declared.look_up.LabelLookup.{LabelLookup}
 use Rattle.markdown_brackets.specs.declared.look_up.Target.{Target}
 use Rattle.markdown_brackets.specs.declared.spent_ends.SpentEnds.{SpentEnds}
 use Rattle.markdown_brackets.proofs.FootnoteUseLemmas.{uses_grow, uses_stay}
+use Rattle.markdown_brackets.proofs.LookupLawsLemmas.{of_look_up}
+use Rattle.std.proofs.Math.Bool.{or-false}
 
 -- a link that was looked up is no inline link
 unknown_looked_up : (link_type : LinkType) → IsLookedUp link_type → IsLookedUp (unknown link_type)
@@ -64,30 +62,12 @@ IsNoInline target = IfSome target (λ t. IsLookedUp t.kind)
 none_inline : (defined : List Labelled) (asks : Bool) (limit : ℕ) (answers : Answers) (q : Question)
     → IsLookedUp q.link_type
     → IsNoInline (look_up defined asks limit answers q).target
-none_inline defined asks limit answers q h = by_limit (limit == 0)
+none_inline defined asks limit answers q h =
+    of_look_up limit answers q (λ l. IsNoInline l.target) tt (λ d. h) by defined asks
   where
-    by_answer : (later : Answers) (a : Option Answer) → IsNoInline (answered limit later q a).target
-    by_answer later None = tt
-    by_answer later (Some a) = unknown_looked_up q.link_type h
-
-    by_answers : (all : Answers) → IsNoInline (asked limit all q).target
-    by_answers [] = by_answer [] None
-    by_answers (a ∷ later) = by_answer later a
-
-    by_asking : (asking : Bool)
-        → IsNoInline (if asking then asked limit answers q else finds_nothing limit answers []).target
-    by_asking true = by_answers answers
-    by_asking false = tt
-
-    by_definition : (d : Option LinkDef) → IsNoInline (defined_or_asked asks limit answers q d).target
-    by_definition None = by_asking asks
-    by_definition (Some d) = h
-
-    by_limit : (none : Bool)
-        → IsNoInline (if none then finds_nothing limit answers [] else defined_or_asked asks limit answers q
-        (definitions.find_definition q.reference defined)).target
-    by_limit true = tt
-    by_limit false = by_definition (definitions.find_definition q.reference defined)
+    by : (a : Option Answer) (later : Answers) → IsNoInline (answered limit later q a).target
+    by None later = tt
+    by (Some a) later = unknown_looked_up q.link_type h
 
 -- so nothing is said of its title
 pub none_from : (source : List ℕ) (start end : ℕ) (target : Target) → IsLookedUp target.link_type
@@ -100,20 +80,22 @@ none_from source start end target h = by target.link_type h
     by other h = tt
 
 -- where nobody is asked and no end is used up
-pub comes_quietly : {C : Type 0} (step : C → Question → Option Answer → C → Type 0) (w : Around) (old : LabelLookup C)
-    (spent : SpentEnds)
-    (x : Option (Written ℕ)) (becomes : Becomes ℕ) (found : ClosedBracket)
-    → ((p : Progress ℕ) → carried_out w x p ≡ to_be becomes p)
-    → IsBecome w becomes found → ComesTo step w x old old spent spent found
-comes_quietly step w old spent x becomes found carried is = record {
+comes_unasked : {C : Type 0} (step : C → Question → Option Answer → C → Type 0) (w : Around) (old new : LabelLookup C)
+    (spent : SpentEnds) (x : Option (Written ℕ)) (becomes : Becomes ℕ) (found : ClosedBracket)
+    → new.callback ≡ old.callback
+    → ((p : Progress ℕ) (later : Answers)
+    → carried_out w x (knowing old.limit later (uses_of old.tables.footdefs) p)
+    ≡ to_be becomes (knowing new.limit later (uses_of new.tables.footdefs) p))
+    → IsBecome w becomes found → ComesTo step w x old new spent spent found
+comes_unasked step w old new spent x becomes found callback carried is = record {
   answers = [];
   questions = [];
-  asked = refl;
+  asked = sym callback;
   becomes = becomes;
   more = [];
   comes = λ p later.
-      let now : Progress ℕ = knowing old.limit later (uses_of old.tables.footdefs) p in
-      carried now
+      let now : Progress ℕ = knowing new.limit later (uses_of new.tables.footdefs) p in
+      carried p later
       ∙ ap (λ (asked : List Question). to_be becomes (record now { asked = asked })) (sym (append-nil p.asked));
   spends = λ end. refl;
   is = is;
@@ -123,7 +105,7 @@ comes_quietly step w old spent x becomes found carried is = record {
 pub comes_to_text : {C : Type 0} (step : C → Question → Option Answer → C → Type 0) (w : Around) (old : LabelLookup C)
     (spent : SpentEnds)
     → ComesTo step w None old old spent spent Text
-comes_to_text step w old spent = comes_quietly step w old spent None a_text Text (λ p. refl) tt
+comes_to_text step w old spent = comes_unasked step w old old spent None a_text Text refl (λ p later. refl) tt
 
 -- an inline link
 pub comes_to_tail : {C : Type 0} (step : C → Question → Option Answer → C → Type 0) (w : Around) (old : LabelLookup C)
@@ -134,9 +116,8 @@ pub comes_to_tail : {C : Type 0} (step : C → Question → Option Answer → C 
     found)
     → ComesTo step w (option_or (option_map (inline_link o) t) other) old old spent spent found
 comes_to_tail step w old spent o other None tail found reads is = absurd reads
-comes_to_tail step w old spent o other (Some t) tail found reads is = comes_quietly step w old spent
-    (Some (inline_link o t))
-    (a_link o (inline_target w t) t.ends t.ends) found (λ p. refl) (is t reads)
+comes_to_tail step w old spent o other (Some t) tail found reads is = comes_unasked step w old old spent
+    (Some (inline_link o t)) (a_link o (inline_target w t) t.ends t.ends) found refl (λ p later. refl) (is t reads)
 
 -- by another name of what was found
 pub found_as : {C : Type 0} {step : C → Question → Option Answer → C → Type 0} {w : Around} {old new : LabelLookup C}
@@ -149,16 +130,10 @@ found_as {step = step} {w = w} {old = old} {new = new} {spent = spent} {spent' =
 -- a full reference uses up the end of its label
 pub spends_end : (end : ℕ) (spent spent' : SpentEnds)
     → ((other : ℕ) → is_spent spent' other ≡ ((end == other) || is_spent spent other)) → Spends (end ∷ []) spent spent'
-spends_end end spent spent' put other = put other ∙ by (end == other) (other == end) (same_test end other)
+spends_end end spent spent' put other = put other ∙ rw (same_test end other, or-false (other == end)) refl
   where
     same_test : (a b : ℕ) → (a == b) ≡ (b == a)
     same_test a b = grind (arith, nat_tests)
-
-    by : (a b : Bool) → a ≡ b → (a || is_spent spent other) ≡ ((b || false) || is_spent spent other)
-    by true true e = refl
-    by false false e = refl
-    by true false e = cc
-    by false true e = cc
 
 module _ {C : Type 0} (step : C → Question → Option Answer → C → Type 0) (place : ChainPlace) (skipped : List ℕ → ℕ)
     (bodies : List ItemBody) (old new : LabelLookup C) (o : Split ℕ) where
@@ -216,34 +191,15 @@ module _ {C : Type 0} (step : C → Question → Option Answer → C → Type 0)
     knows_uses true e p later = rw (limit, uses_grow old.tables.footdefs new.tables.footdefs name counted e) refl
     knows_uses false e p later = rw (limit, uses_stay old.tables.footdefs new.tables.footdefs name counted e) refl
 
-    comes_by : (x : Option (Written ℕ)) (becomes : Becomes ℕ) (found : ClosedBracket)
-        → ((p : Progress ℕ) (later : Answers)
-        → carried_out w x (knowing old.limit later (uses_of old.tables.footdefs) p)
-        ≡ to_be becomes (knowing new.limit later (uses_of new.tables.footdefs) p))
-        → IsBecome w becomes found → ComesTo step w x old new spent spent found
-    comes_by x becomes found carried is = record {
-      answers = [];
-      questions = [];
-      asked = sym callback;
-      becomes = becomes;
-      more = [];
-      comes = λ p later.
-          let now : Progress ℕ = knowing new.limit later (uses_of new.tables.footdefs) p in
-          carried p later
-          ∙ ap (λ (asked : List Question). to_be becomes (record now { asked = asked })) (sym (append-nil p.asked));
-      spends = λ end. refl;
-      is = is;
-    }
-
     pub comes_to_footnote : is_one ≡ true → (found : ClosedBracket) → IsBecome w (a_footnote o name) found
         → ComesTo step w (footnote_written w o name) old new spent spent found
     comes_to_footnote one found is = found_as (rw one refl)
-        (comes_by (Some (footnote_label o name)) (a_footnote o name) found
+        (comes_unasked step w old new spent (Some (footnote_label o name)) (a_footnote o name) found callback
         (λ p later. ap (to_be (a_footnote o name))
         (knows_uses (is_some (footnote_at old.tables.footdefs name)) refl p later)) is)
 
     pub comes_to_no_footnote : is_one ≡ false → ComesTo step w (footnote_written w o name) old new spent spent Text
-    comes_to_no_footnote none = found_as (rw none refl) (comes_by None a_text Text
+    comes_to_no_footnote none = found_as (rw none refl) (comes_unasked step w old new spent None a_text Text callback
         (λ p later. ap (to_be a_text) (knows_uses false
         (none_defined (footnote_style place.options) (is_some (footnote_at old.tables.footdefs name)) none) p later))
         tt)

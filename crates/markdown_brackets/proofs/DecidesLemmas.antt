@@ -1,8 +1,8 @@
 -- The decision at a `]` is the wikilink that was found, or what its opener comes to.
-use Rattle.std.proofs.Common.{◌≡◌, ℕ, ◌++◌, Bool, List, [], ◌∷◌, Option, Some, None, refl, sym, ◌∙◌, ap, subst}
+use Rattle.std.proofs.Common.{◌≡◌, ℕ, ◌++◌, Bool, List, [], Option, Some, None, refl, sym, ◌∙◌, ap, subst}
 use Rattle.std.proofs.Common.{append-nil}
 use Rattle.std.specs.Option.{option_and_then}
-use Rattle.std.specs.Prelude.{IfSome, MatchOption}
+use Rattle.std.specs.Prelude.{IfSome}
 use Rattle.markdown_base.specs.Arena.{sibling_of}
 use Rattle.markdown_base.specs.BlockTree.{item_at}
 use Rattle.markdown_base.specs.Questions.{Question, Answer}
@@ -13,7 +13,7 @@ use Rattle.markdown_document.specs.Setting.{Known, uses_of}
 use Rattle.markdown_brackets.specs.BracketDecision.{Around, Closing, Decision, Progress, a_wikilink, bracket_found}
 use Rattle.markdown_brackets.specs.BracketDecision.{to_be}
 use Rattle.markdown_brackets.specs.Decides.{Decides, StandsBefore}
-use Rattle.markdown_brackets.specs.DecisionView.{knowing, opener_of}
+use Rattle.markdown_brackets.specs.DecisionView.{knowing}
 use Rattle.markdown_brackets.specs.Finish.{SplitsAs}
 use Rattle.markdown_brackets.specs.LeftList.{Entry, Split, nearest, opens_bracket, without_bracket, bracket_taken}
 use Rattle.markdown_brackets.specs.LeftList.{wikilink_taken}
@@ -27,114 +27,100 @@ use Rattle.markdown_brackets.specs.declared.openers.Opener.{Opener}
 use Rattle.markdown_brackets.specs.declared.spent_ends.SpentEnds.{SpentEnds}
 use Rattle.markdown_brackets.proofs.AheadOfBracketLemmas.{same_start, same_end}
 use Rattle.markdown_brackets.proofs.BracketStandsLemmas.{found_at}
-use Rattle.markdown_brackets.proofs.OpenerHeldLemmas.{TopBracket, SplitsAt, brackets_stay, splits_at, top_bracket}
-use Rattle.markdown_brackets.proofs.OpenerHeldLemmas.{wikilinks_stay}
+use Rattle.markdown_brackets.proofs.OpenerHeldLemmas.{SplitsAt, brackets_stay, splits_at, top_bracket, wikilinks_stay}
+use Rattle.markdown_brackets.proofs.OpenerHeldLemmas.{for_bracket}
 use Rattle.markdown_brackets.proofs.SplitLemmas.{opener_splits, taken_splits}
-use Rattle.markdown_brackets.proofs.TakeWikilinkLemmas.{closer_found, first_of, opener_holds, rest_brackets, rest_found}
-use Rattle.markdown_brackets.proofs.TakeWikilinkLemmas.{rest_of}
-
--- what is left of a stack whose top was taken off
-pub left_of : (taken : Option (Opener × Bool)) (old new : List Waiting)
-    → MatchOption taken ((old ≡ []) × (new ≡ [])) (λ t. old ≡ record { opener = t.0; is_live = t.1 } ∷ new) → new
-    ≡ rest_of old
-left_of None old new m = m.1 ∙ sym (ap rest_of m.0)
-left_of (Some t) old new m = sym (ap rest_of m)
+use Rattle.markdown_brackets.proofs.TakeWikilinkLemmas.{closer_found, opener_holds, rest_brackets, rest_found, rest_of}
+use Rattle.markdown_brackets.proofs.TakeWikilinkLemmas.{left_of, IsNearest, TakenOff, is_nearest}
 
 module _ {C : Type 0} (step : C → Question → Option Answer → C → Type 0) (w : Around) (c : Closing ℕ)
     (left : List (Entry ℕ))
     (lookup : LabelLookup C) (spent : SpentEnds)
     (taken : Option (Opener × Bool)) (old new held : List Waiting) (old_is : old ≡ brackets_of left)
-    (m : MatchOption taken ((old ≡ []) × (new ≡ [])) (λ t. old ≡ record { opener = t.0; is_live = t.1 } ∷ new))
-    (found : ClosedBracket)
-  where
-    pub decides_wikilink : TakesOne w c left held found
-        → Decides step w c left lookup.limit lookup.limit (uses_of lookup.tables.footdefs)
-        (uses_of lookup.tables.footdefs) spent spent
-        lookup.callback lookup.callback new held found
-    decides_wikilink t = record {
-      answers = [];
-      questions = [];
-      asked = refl;
-      becomes = a_wikilink t.opener t.wikilink t.end;
-      is = t.is;
-      left_then = bracket_taken (wikilink_taken left);
-      splits = t.splits;
-      more = [];
-      decides = λ p later.
-          let now : Progress ℕ = knowing lookup.limit later (uses_of lookup.tables.footdefs) p in
-          t.decides now
-          ∙ ap (λ (asked : List Question). to_be (a_wikilink t.opener t.wikilink t.end)
-          (record now { left = bracket_taken (wikilink_taken left); asked = asked })) (sym (append-nil p.asked));
-      spends = λ end. refl;
-      brackets_are = left_of taken old new m
-          ∙ (ap rest_of (old_is ∙ sym (brackets_stay left)) ∙ rest_brackets (wikilink_taken left));
-      wikilinks_are = t.held_is;
-    }
+    (m : TakenOff taken old new) (found : ClosedBracket) where
+  pub decides_wikilink : TakesOne w c left held found
+      → Decides step w c left lookup.limit lookup.limit (uses_of lookup.tables.footdefs)
+      (uses_of lookup.tables.footdefs) spent spent
+      lookup.callback lookup.callback new held found
+  decides_wikilink t = record {
+    answers = [];
+    questions = [];
+    asked = refl;
+    becomes = a_wikilink t.opener t.wikilink t.end;
+    is = t.is;
+    left_then = bracket_taken (wikilink_taken left);
+    splits = t.splits;
+    more = [];
+    decides = λ p later.
+        let now : Progress ℕ = knowing lookup.limit later (uses_of lookup.tables.footdefs) p in
+        t.decides now
+        ∙ ap (λ (asked : List Question). to_be (a_wikilink t.opener t.wikilink t.end)
+        (record now { left = bracket_taken (wikilink_taken left); asked = asked })) (sym (append-nil p.asked));
+    spends = λ end. refl;
+    brackets_are = left_of taken old new m
+        ∙ (ap rest_of (old_is ∙ sym (brackets_stay left)) ∙ rest_brackets (wikilink_taken left));
+    wikilinks_are = t.held_is;
+  }
 
-    pub decides_one : (lookup' : LabelLookup C) (spent' : SpentEnds) (t : TakesNone w c left held)
-        → ComesTo step w (option_and_then (bracket_found w c) (nearest opens_bracket t.left_then)) lookup lookup' spent
-        spent' found
-        → Decides step w c left lookup.limit lookup'.limit (uses_of lookup.tables.footdefs)
-        (uses_of lookup'.tables.footdefs) spent spent'
-        lookup.callback lookup'.callback new held found
-    decides_one lookup' spent' t h = record {
-      answers = h.answers;
-      questions = h.questions;
-      asked = h.asked;
-      becomes = h.becomes;
-      is = h.is;
-      left_then = bracket_taken t.left_then;
-      splits =
-          let none : Known = record { limit = 0; answers = []; uses = λ name. 0 } in
-          let start : Progress ℕ = begun none in
-          subst (λ becomes. SplitsAs (bracket_taken t.left_then) becomes)
-          (ap (λ (d : Decision ℕ). d.becomes) (h.comes start []))
-          (opener_splits w c (bracket_taken t.left_then) (nearest opens_bracket t.left_then)
-          (knowing lookup.limit (h.answers ++ []) (uses_of lookup.tables.footdefs) start)
-          (taken_splits opens_bracket without_bracket t.left_then));
-      more = h.more;
-      decides = λ p later.
-          t.decides (knowing lookup.limit (h.answers ++ later) (uses_of lookup.tables.footdefs) p)
-          ∙ h.comes (record p { left = bracket_taken t.left_then }) later;
-      spends = h.spends;
-      brackets_are = left_of taken old new m ∙ (ap rest_of (old_is ∙ sym t.brackets) ∙ rest_brackets t.left_then);
-      wikilinks_are = t.held_is ∙ sym (wikilinks_stay t.left_then);
-    }
+  pub decides_one : (lookup' : LabelLookup C) (spent' : SpentEnds) (t : TakesNone w c left held)
+      → ComesTo step w (option_and_then (bracket_found w c) (nearest opens_bracket t.left_then)) lookup lookup' spent
+      spent' found
+      → Decides step w c left lookup.limit lookup'.limit (uses_of lookup.tables.footdefs)
+      (uses_of lookup'.tables.footdefs) spent spent'
+      lookup.callback lookup'.callback new held found
+  decides_one lookup' spent' t h = record {
+    answers = h.answers;
+    questions = h.questions;
+    asked = h.asked;
+    becomes = h.becomes;
+    is = h.is;
+    left_then = bracket_taken t.left_then;
+    splits =
+        let none : Known = record { limit = 0; answers = []; uses = λ name. 0 } in
+        let start : Progress ℕ = begun none in
+        subst (λ becomes. SplitsAs (bracket_taken t.left_then) becomes)
+        (ap (λ (d : Decision ℕ). d.becomes) (h.comes start []))
+        (opener_splits w c (bracket_taken t.left_then) (nearest opens_bracket t.left_then)
+        (knowing lookup.limit (h.answers ++ []) (uses_of lookup.tables.footdefs) start)
+        (taken_splits opens_bracket without_bracket t.left_then));
+    more = h.more;
+    decides = λ p later.
+        t.decides (knowing lookup.limit (h.answers ++ later) (uses_of lookup.tables.footdefs) p)
+        ∙ h.comes (record p { left = bracket_taken t.left_then }) later;
+    spends = h.spends;
+    brackets_are = left_of taken old new m ∙ (ap rest_of (old_is ∙ sym t.brackets) ∙ rest_brackets t.left_then);
+    wikilinks_are = t.held_is ∙ sym (wikilinks_stay t.left_then);
+  }
 
-    -- the opener that was taken off is the nearest one
-    pub tries_nearest : (nodes : List (Node Item)) (closer : ℕ) (could_be : Bool) (s : StandsBefore nodes closer left c)
-        → c.could_be_reference ≡ could_be
-        → (t : TakesNone w c left held) → TriesOpener nodes closer could_be taken c (nearest opens_bracket t.left_then)
-    tries_nearest nodes closer could_be s could t =
-        let there = rest_found nodes closer left c s in
-        record {
-          source = s.source;
-          tables = s.tables;
-          rest = there.holds;
-          rest_found = found_at s.source s.tables nodes (sibling_of nodes closer) c.rest there;
-          ends = subst (λ n. (item_at nodes n).end ≡ end_of c.label) s.number (same_end s.source s.tables nodes c.label
-              (closer_found nodes closer left c s).holds.2);
-          could = could;
-          openers = by taken m (nearest opens_bracket t.left_then) (top_bracket t.left_then)
-              (splits_at opens_bracket t.left_then);
-        }
-      where
-        by : (taken : Option (Opener × Bool))
-            → MatchOption taken ((old ≡ []) × (new ≡ [])) (λ t. old ≡ record { opener = t.0; is_live = t.1 } ∷ new)
-            → (o : Option (Split ℕ)) → TopBracket t.left_then o → IfSome o (SplitsAt t.left_then)
-            → AreTaken nodes taken o
-        by None m None top splits = tt
-        by None m (Some o) top splits = let a = sym m.0 ∙ (old_is ∙ (sym t.brackets ∙ top)) in cc
-        by (Some k) m None top splits = let a = sym m ∙ (old_is ∙ (sym t.brackets ∙ top.0)) in cc
-        by (Some k) m (Some o) top splits =
-            let a = sym m ∙ (old_is ∙ (sym t.brackets ∙ top)) in
-            let first = ap (first_of (record { opener = k.0; is_live = k.1 })) a in
-            let opener : k.0 ≡ opener_of o = ap (λ (v : Waiting). v.opener) first in
-            let number : k.0.node ≡ o.opener.tag = ap (λ (p : Opener). p.node) opener in
-            let here = opener_holds nodes closer left c s t.left_then t.trees o splits in
-            record {
-              opener = opener;
-              live = ap (λ (v : Waiting). v.is_live) first;
-              starts = ap (λ n. (item_at nodes n).start) number ∙ same_start s.source s.tables nodes o.opener here.2;
-              ends = ap (λ n. (item_at nodes n).end) number ∙ same_end s.source s.tables nodes o.opener here.2;
-            }
+  -- the opener that was taken off is the nearest one
+  pub tries_nearest : (nodes : List (Node Item)) (closer : ℕ) (could_be : Bool) (s : StandsBefore nodes closer left c)
+      → c.could_be_reference ≡ could_be
+      → (t : TakesNone w c left held) → TriesOpener nodes closer could_be taken c (nearest opens_bracket t.left_then)
+  tries_nearest nodes closer could_be s could t =
+      let there = rest_found nodes closer left c s in
+      record {
+        source = s.source;
+        tables = s.tables;
+        rest = there.holds;
+        rest_found = found_at s.source s.tables nodes (sibling_of nodes closer) c.rest there;
+        ends = subst (λ n. (item_at nodes n).end ≡ end_of c.label) s.number (same_end s.source s.tables nodes c.label
+            (closer_found nodes closer left c s).holds.2);
+        could = could;
+        openers = by taken (nearest opens_bracket t.left_then)
+            (is_nearest for_bracket taken old new _ _ _ m (old_is ∙ sym t.brackets) (top_bracket t.left_then))
+            (splits_at opens_bracket t.left_then);
+      }
+    where
+      by : (taken : Option (Opener × Bool)) (o : Option (Split ℕ)) → IsNearest for_bracket taken o
+          → IfSome o (SplitsAt t.left_then) → AreTaken nodes taken o
+      by None None k splits = tt
+      by (Some k) (Some o) is splits =
+          let number : k.0.node ≡ o.opener.tag = ap (λ (p : Opener). p.node) is.0 in
+          let here = opener_holds nodes closer left c s t.left_then t.trees o splits in
+          record {
+            opener = is.0;
+            live = is.1;
+            starts = ap (λ n. (item_at nodes n).start) number ∙ same_start s.source s.tables nodes o.opener here.2;
+            ends = ap (λ n. (item_at nodes n).end) number ∙ same_end s.source s.tables nodes o.opener here.2;
+          }
+      by taken o is splits = absurd is

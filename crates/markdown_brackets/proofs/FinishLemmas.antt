@@ -1,8 +1,7 @@
 -- What is added to a left list takes openers off the stacks: numbers rise along the list, so that an opener and all
 -- after it are removed, and those before it stay; only the one just before it leads to it.
 use Rattle.std.proofs.Common.{◌≡◌, ℕ, ◌<◌, ◌≤◌, ◌==◌, Bool, true, false, List, [], ◌∷◌, ◌++◌, Option, Some, map, nat_le}
-use Rattle.std.proofs.Common.{refl, sym, ◌∙◌, ap}
-use Rattle.std.proofs.Common.{subst, arith}
+use Rattle.std.proofs.Common.{refl, sym, ◌∙◌, ap, subst, arith}
 use Rattle.std.specs.Prelude.{if◌then◌else◌, ⊤}
 use Rattle.std.proofs.lemmas.Bool.Decides.{nat_tests}
 use Rattle.markdown_base.specs.Arena.{sibling_of}
@@ -19,10 +18,8 @@ use Rattle.markdown_brackets.specs.DecisionView.{IsBecome, opener_of}
 use Rattle.markdown_brackets.specs.Decides.{EachOpener, StandsBefore}
 use Rattle.markdown_brackets.specs.Finish.{AreBehind, AreRising, IsSplit, LeftRises, SplitsAs}
 use Rattle.markdown_brackets.specs.LeftList.{Entry, Flag, Mark, Split, before_footnote, before_link, before_wikilink}
-use Rattle.markdown_brackets.specs.LeftList.{disabled}
-use Rattle.markdown_brackets.specs.LeftList.{disabled_flag, disabled_mark, done, gone, live, on_marks, second_folded}
-use Rattle.markdown_brackets.specs.LeftList.{trees_onto}
-use Rattle.markdown_brackets.specs.LeftList.{waits, without_bracket, without_wikilink}
+use Rattle.markdown_brackets.specs.LeftList.{disabled, disabled_flag, disabled_mark, done, gone, on_marks}
+use Rattle.markdown_brackets.specs.LeftList.{second_folded, trees_onto, waits, without_bracket, without_wikilink}
 use Rattle.markdown_brackets.specs.HeldOpeners.{brackets_of, held_as, wikilinks_of}
 use Rattle.markdown_brackets.specs.Openers.{Waiting, before}
 use Rattle.markdown_brackets.specs.Openers as openers
@@ -32,6 +29,8 @@ use Rattle.markdown_brackets.specs.declared.closing_bracket.ClosedBracket.TheVar
 use Rattle.markdown_brackets.specs.declared.openers.Opener.{Opener}
 use Rattle.markdown_brackets.proofs.HeldTreesLemmas.{Holds-from}
 use Rattle.markdown_brackets.proofs.OpenerLemmas.{le_true, lt_false}
+use Rattle.markdown_brackets.proofs.LeftListLemmas.{onto_append}
+use Rattle.markdown_brackets.proofs.OpenerHeldLemmas.{for_bracket, for_wikilink}
 
 -- a fact of each opener that is left
 pub each_before : (P : ℕ → Type 0) (n : ℕ) (held : List Waiting) → EachOpener P held → EachOpener P (before n held)
@@ -53,12 +52,6 @@ abbrev held_by : (Mark → Flag) → List (Entry ℕ) → List Waiting
 held_by flag [] = []
 held_by flag (done a below ∷ left) = held_by flag left
 held_by flag (waits m a ∷ left) = held_as a.tag m.is_image (flag m) (held_by flag left)
-
-abbrev for_bracket : Mark → Flag
-for_bracket m = m.bracket
-
-abbrev for_wikilink : Mark → Flag
-for_wikilink m = m.wikilink
 
 brackets_by : (left : List (Entry ℕ)) → brackets_of left ≡ held_by for_bracket left
 brackets_by [] = refl
@@ -136,25 +129,17 @@ links_folded nodes n [] h = tt
 links_folded nodes n (done a below ∷ left) h = h
 links_folded nodes n (waits m a ∷ left) h = h
 
-onto_append : (after left : List (Entry ℕ)) (f : Forest (Label ℕ)) → trees_onto (after ++ left) f
-    ≡ trees_onto left (trees_onto after f)
-onto_append [] left f = refl
-onto_append (done a below ∷ after) left f = onto_append after left (node a below f)
-onto_append (waits m a ∷ after) left f = onto_append after left (node a nil f)
-
 -- an opener of a greater number goes, one of a smaller number stays
 goes : (n number : ℕ) (is_image : Bool) (f : Flag) (held : List Waiting) → n ≤ number
     → before n (held_as number is_image f held)
     ≡ before n held
-goes n number is_image live held le = rw (le_true n number le) refl
-goes n number is_image disabled held le = rw (le_true n number le) refl
 goes n number is_image gone held le = refl
+goes n number is_image other held le = rw (le_true n number le) refl
 
 stays : (n number : ℕ) (is_image : Bool) (f : Flag) (held : List Waiting) → number < n → before n held ≡ held
     → before n (held_as number is_image f held) ≡ held_as number is_image f held
-stays n number is_image live held lt e = rw (lt_false n number lt) refl
-stays n number is_image disabled held lt e = rw (lt_false n number lt) refl
 stays n number is_image gone held lt e = e
+stays n number is_image other held lt e = rw (lt_false n number lt) refl
 
 goes_all : (flag : Mark → Flag) (n : ℕ) (after left : List (Entry ℕ)) → AreAfter n after
     → before n (held_by flag (after ++ left))
@@ -193,9 +178,8 @@ far_one : (nodes : List (Node Item)) (n next number : ℕ) (is_image : Bool) (f 
     → sibling_of nodes number ≡ Some next → next < n
     → without_second nodes n held ≡ held → without_second nodes n (held_as number is_image f held)
     ≡ held_as number is_image f held
-far_one nodes n next number is_image live held e lt rest = rw (e, other_number next n lt) refl
-far_one nodes n next number is_image disabled held e lt rest = rw (e, other_number next n lt) refl
 far_one nodes n next number is_image gone held e lt rest = rest
+far_one nodes n next number is_image other held e lt rest = rw (e, other_number next n lt) refl
 
 far : (flag : Mark → Flag) (nodes : List (Node Item)) (n next : ℕ) (left : List (Entry ℕ)) → LinksOn nodes next left
     → next < n
@@ -211,12 +195,9 @@ near_one : (nodes : List (Node Item)) (n number : ℕ) (is_image : Bool) (f : Fl
     → sibling_of nodes number ≡ Some n
     → before number held ≡ held → without_second nodes n held ≡ held
     → without_second nodes n (held_as number is_image f held) ≡ held
-near_one nodes n number is_image live held e rest none = rw (e, same_number n)
-    (goes number number is_image live held (omega arith) ∙ rest)
-near_one nodes n number is_image disabled held e rest none = rw (e, same_number n)
-    (goes number number is_image disabled held (omega arith)
-    ∙ rest)
 near_one nodes n number is_image gone held e rest none = none
+near_one nodes n number is_image f held e rest none =
+    rw (e, same_number n) (goes number number is_image f held (omega arith) ∙ rest)
 
 second_gone : (nodes : List (Node Item)) (n : ℕ) (left : List (Entry ℕ)) → LinksOn nodes n left
     → without_second nodes n (held_by for_wikilink left) ≡ held_by for_wikilink (second_folded left)
@@ -233,65 +214,43 @@ disabled_held : (number : ℕ) (is_image : Bool) (f : Flag) (held held' : List W
     ≡ map openers.disabled_opener held
     → held_as number is_image (if is_image then f else disabled_flag f) held'
     ≡ map openers.disabled_opener (held_as number is_image f held)
-disabled_held number true live held held' e = ap (held_as number true live) e
-disabled_held number true disabled held held' e = ap (held_as number true disabled) e
 disabled_held number true gone held held' e = e
-disabled_held number false live held held' e = ap (held_as number false disabled) e
-disabled_held number false disabled held held' e = ap (held_as number false disabled) e
+disabled_held number true f held held' e = ap (held_as number true f) e
 disabled_held number false gone held held' e = e
+disabled_held number false f held held' e = ap (held_as number false disabled) e
 
-brackets_disabled : (left : List (Entry ℕ)) → brackets_of (on_marks disabled_mark left)
-    ≡ map openers.disabled_opener (brackets_of left)
-brackets_disabled [] = refl
-brackets_disabled (done a below ∷ left) = brackets_disabled left
-brackets_disabled (waits m a ∷ left) = by m.is_image m.bracket m.wikilink (brackets_disabled left)
-  where
-    by : (i : Bool) (b w : Flag) → brackets_of (on_marks disabled_mark left)
-        ≡ map openers.disabled_opener (brackets_of left)
-        → brackets_of (on_marks disabled_mark (waits (record { is_image = i; bracket = b; wikilink = w }) a ∷ left))
-        ≡ map openers.disabled_opener
-        (brackets_of (waits (record { is_image = i; bracket = b; wikilink = w }) a ∷ left))
-    by true b w e = disabled_held a.tag true b (brackets_of left) (brackets_of (on_marks disabled_mark left)) e
-    by false b w e = disabled_held a.tag false b (brackets_of left) (brackets_of (on_marks disabled_mark left)) e
+abbrev Disabled : List (Entry ℕ) → Type 0
+Disabled left = (brackets_of (on_marks disabled_mark left) ≡ map openers.disabled_opener (brackets_of left))
+    × (wikilinks_of (on_marks disabled_mark left) ≡ map openers.disabled_opener (wikilinks_of left))
 
-wikilinks_disabled : (left : List (Entry ℕ)) → wikilinks_of (on_marks disabled_mark left)
-    ≡ map openers.disabled_opener (wikilinks_of left)
-wikilinks_disabled [] = refl
-wikilinks_disabled (done a below ∷ left) = wikilinks_disabled left
-wikilinks_disabled (waits m a ∷ left) = by m.is_image m.bracket m.wikilink (wikilinks_disabled left)
+all_disabled : (left : List (Entry ℕ)) → Disabled left
+all_disabled [] = (refl, refl)
+all_disabled (done a below ∷ left) = all_disabled left
+all_disabled (waits m a ∷ left) = by m.is_image m.bracket m.wikilink (all_disabled left)
   where
-    by : (i : Bool) (b w : Flag) → wikilinks_of (on_marks disabled_mark left)
-        ≡ map openers.disabled_opener (wikilinks_of left)
-        → wikilinks_of (on_marks disabled_mark (waits (record { is_image = i; bracket = b; wikilink = w }) a ∷ left))
-        ≡ map openers.disabled_opener
-        (wikilinks_of (waits (record { is_image = i; bracket = b; wikilink = w }) a ∷ left))
-    by true b w e = disabled_held a.tag true w (wikilinks_of left) (wikilinks_of (on_marks disabled_mark left)) e
-    by false b w e = disabled_held a.tag false w (wikilinks_of left) (wikilinks_of (on_marks disabled_mark left)) e
+    by : (i : Bool) (b w : Flag) → Disabled left
+        → Disabled (waits (record { is_image = i; bracket = b; wikilink = w }) a ∷ left)
+    by true b w e = (disabled_held a.tag true b _ _ e.0, disabled_held a.tag true w _ _ e.1)
+    by false b w e = (disabled_held a.tag false b _ _ e.0, disabled_held a.tag false w _ _ e.1)
 
 brackets_folded : (left : List (Entry ℕ)) → brackets_of (second_folded left) ≡ brackets_of left
 brackets_folded [] = refl
 brackets_folded (done a below ∷ left) = refl
 brackets_folded (waits m a ∷ left) = refl
 
-no_brackets : (left : List (Entry ℕ)) → brackets_of (on_marks without_bracket left) ≡ []
-no_brackets [] = refl
+no_brackets : (left : List (Entry ℕ)) → (brackets_of (on_marks without_bracket left) ≡ [])
+    × (wikilinks_of (on_marks without_bracket left) ≡ wikilinks_of left)
+no_brackets [] = (refl, refl)
 no_brackets (done a below ∷ left) = no_brackets left
-no_brackets (waits m a ∷ left) = no_brackets left
+no_brackets (waits m a ∷ left) =
+    let r = no_brackets left in (r.0, ap (held_as a.tag m.is_image m.wikilink) r.1)
 
-no_wikilinks : (left : List (Entry ℕ)) → wikilinks_of (on_marks without_wikilink left) ≡ []
-no_wikilinks [] = refl
+no_wikilinks : (left : List (Entry ℕ)) → (wikilinks_of (on_marks without_wikilink left) ≡ [])
+    × (brackets_of (on_marks without_wikilink left) ≡ brackets_of left)
+no_wikilinks [] = (refl, refl)
 no_wikilinks (done a below ∷ left) = no_wikilinks left
-no_wikilinks (waits m a ∷ left) = no_wikilinks left
-
-same_wikilinks : (left : List (Entry ℕ)) → wikilinks_of (on_marks without_bracket left) ≡ wikilinks_of left
-same_wikilinks [] = refl
-same_wikilinks (done a below ∷ left) = same_wikilinks left
-same_wikilinks (waits m a ∷ left) = ap (held_as a.tag m.is_image m.wikilink) (same_wikilinks left)
-
-same_brackets : (left : List (Entry ℕ)) → brackets_of (on_marks without_wikilink left) ≡ brackets_of left
-same_brackets [] = refl
-same_brackets (done a below ∷ left) = same_brackets left
-same_brackets (waits m a ∷ left) = ap (held_as a.tag m.is_image m.bracket) (same_brackets left)
+no_wikilinks (waits m a ∷ left) =
+    let r = no_wikilinks left in (r.0, ap (held_as a.tag m.is_image m.bracket) r.1)
 
 -- the stacks at an opener of the left list
 module _ (nodes : List (Node Item)) (closer : ℕ) (left : List (Entry ℕ)) (c : Closing ℕ)
@@ -351,7 +310,7 @@ module _ (nodes : List (Node Item)) (closer : ℕ) (left : List (Entry ℕ)) (c 
   link_brackets true = brackets_before ∙ sym (brackets_folded o.before)
   link_brackets false =
       ap (map openers.disabled_opener) (brackets_before ∙ sym (brackets_folded o.before))
-      ∙ sym (brackets_disabled (second_folded o.before))
+      ∙ sym (all_disabled (second_folded o.before)).0
 
   link_wikilinks : (i : Bool)
       → (let held = without_second nodes n (before n (wikilinks_of left)) in if i then before n held
@@ -359,28 +318,28 @@ module _ (nodes : List (Node Item)) (closer : ℕ) (left : List (Entry ℕ)) (c 
       ≡ wikilinks_of (before_link i o.before)
   link_wikilinks true = wikilinks_left
   link_wikilinks false = ap (map openers.disabled_opener) wikilinks_left
-      ∙ sym (wikilinks_disabled (second_folded o.before))
+      ∙ sym (all_disabled (second_folded o.before)).1
 
   -- before a footnote reference
   footnote_brackets : (w : Around) (i : Bool) (name : List ℕ)
       → [] ≡ brackets_of (footnote_onto w c i o.opener name (before_footnote o.before))
-  footnote_brackets w true name = sym (no_brackets (second_folded o.before))
-  footnote_brackets w false name = sym (no_brackets (second_folded o.before))
+  footnote_brackets w true name = sym (no_brackets (second_folded o.before)).0
+  footnote_brackets w false name = sym (no_brackets (second_folded o.before)).0
 
   footnote_wikilinks : (w : Around) (i : Bool) (name : List ℕ)
       → before n (without_second nodes n (before n (wikilinks_of left)))
       ≡ wikilinks_of (footnote_onto w c i o.opener name (before_footnote o.before))
-  footnote_wikilinks w true name = wikilinks_left ∙ sym (same_wikilinks (second_folded o.before))
-  footnote_wikilinks w false name = wikilinks_left ∙ sym (same_wikilinks (second_folded o.before))
+  footnote_wikilinks w true name = wikilinks_left ∙ sym (no_brackets (second_folded o.before)).1
+  footnote_wikilinks w false name = wikilinks_left ∙ sym (no_brackets (second_folded o.before)).1
 
   -- before a wikilink
   wikilink_brackets : map openers.disabled_opener (before n (brackets_of left)) ≡ brackets_of (before_wikilink o.before)
   wikilink_brackets =
-      ap (map openers.disabled_opener) brackets_before ∙ sym (brackets_disabled o.before)
-      ∙ sym (same_brackets (on_marks disabled_mark o.before))
+      ap (map openers.disabled_opener) brackets_before ∙ sym (all_disabled o.before).0
+      ∙ sym (no_wikilinks (on_marks disabled_mark o.before)).1
 
   wikilink_wikilinks : [] ≡ wikilinks_of (before_wikilink o.before)
-  wikilink_wikilinks = sym (no_wikilinks (on_marks disabled_mark o.before))
+  wikilink_wikilinks = sym (no_wikilinks (on_marks disabled_mark o.before)).0
 
 -- what each kind leaves of the stacks
 abbrev pub Finishes : List (Node Item) → ClosedBracket → (brackets wikilinks brackets' wikilinks' : List Waiting)

@@ -1,26 +1,23 @@
 -- What holds for each label that brackets make, and for those that the rule for other items makes, holds for each label
 -- that is left of a chain.
-use Rattle.std.proofs.Common.{ℕ, Bool, true, false, List, [], ◌∷◌, Option, Some, None, nat_le}
-use Rattle.std.specs.Prelude.{IfSome, ⊤, if◌then◌else◌}
-use Rattle.std.specs.Option.{option_map}
+use Rattle.std.proofs.Common.{ℕ, Bool, true, false, List, [], ◌∷◌, Some, ◌≡◌, ◌++◌, subst}
+use Rattle.std.specs.Prelude.{⊤}
 use Rattle.markdown_base.specs.Event.{EventView, TagView}
 use Rattle.markdown_base.specs.Forest.{Forest, nil, node, Each}
-use Rattle.markdown_base.specs.declared.item.ItemBody.{ItemBody}
-use Rattle.markdown_base.specs.declared.item.ItemBody.TheVariants as body
 use Rattle.markdown_brackets.specs.BracketDecision.{Around, Closing, Progress, over, past_second, wikilink_in}
 use Rattle.markdown_brackets.specs.ClosingBracket.{footnote_onto}
 use Rattle.markdown_brackets.specs.KeptShapes.{EachLeft}
-use Rattle.markdown_brackets.specs.LeftList.{Entry, Mark, Split, before_footnote, before_link, behind, change_nearest}
-use Rattle.markdown_brackets.specs.LeftList.{disabled_mark, done}
-use Rattle.markdown_brackets.specs.LeftList.{inside, nearest, on_marks, opens_bracket, opens_wikilink, second_folded}
-use Rattle.markdown_brackets.specs.LeftList.{trees_onto, waits}
-use Rattle.markdown_brackets.specs.LeftList.{without_bracket, without_wikilink}
-use Rattle.markdown_brackets.specs.ReadChain.{Reader, begun, closing_of, read, read_as, read_chain, read_past}
+use Rattle.markdown_brackets.specs.LeftList.{Entry, Mark, Split, before_footnote, done, inside, nearest, opens_bracket}
+use Rattle.markdown_brackets.specs.LeftList.{opens_wikilink, trees_onto, waits, without_bracket, without_wikilink}
+use Rattle.markdown_brackets.specs.ReadChain.{Reader, begun, closing_of, read_chain}
 use Rattle.markdown_brackets.proofs.ClosingBracketLemmas.{Cases, in_each_case, some_of}
-use Rattle.markdown_brackets.proofs.NoLinkLemmas.{wikilink_keeps}
-use Rattle.markdown_document.specs.ChainRest.{begun_at, end_of, open_body, past_byte, start_of}
+use Rattle.markdown_brackets.proofs.NoLinkLemmas.{wikilink_keeps, from_keeps}
+use Rattle.markdown_document.specs.ChainRest.{begun_at, past_byte, start_of}
 use Rattle.markdown_document.specs.Document.{Label, Origin, as_text, enclosed, leaf}
 use Rattle.markdown_document.specs.Setting.{Known}
+use Rattle.markdown_brackets.proofs.LeftListLemmas.{Marked, same_change, same_before_link, same_before_wikilink}
+use Rattle.markdown_brackets.proofs.LeftListLemmas.{same_before_footnote, split_at}
+use Rattle.markdown_brackets.proofs.ReadChainLemmas.{Reads, chain_keeps}
 
 -- it holds of what is made of any label, and of a Text in place of one of the chain, and of a label that begins later
 pub record KeepsLabels {A : Type 0} (base p : Label A → Type 0) : Type 0 where
@@ -51,62 +48,34 @@ module _ {A : Type 0} {base p : Label A → Type 0} (k : KeepsLabels base p) whe
   each_onto (waits m a ∷ left) later h g = each_onto left (node a nil later) h.1 (h.0, tt, g)
 
   -- flags have no effect
-  each_marks : (f : Mark → Mark) (left : List (Entry A)) → Left left → Left (on_marks f left)
-  each_marks f [] h = tt
-  each_marks f (done a below ∷ left) h = (h.0, h.1, each_marks f left h.2)
-  each_marks f (waits m a ∷ left) h = (h.0, each_marks f left h.1)
-
-  each_second : (left : List (Entry A)) → Left left → Left (second_folded left)
-  each_second [] h = tt
-  each_second (done a below ∷ left) h = h
-  each_second (waits m a ∷ left) h = h
-
-  each_change : (opens : Mark → Bool) (f : Mark → Mark) (left : List (Entry A)) → Left left
-      → Left (change_nearest opens f left)
-  each_change opens f [] h = tt
-  each_change opens f (done a below ∷ left) h = (h.0, h.1, each_change opens f left h.2)
-  each_change opens f (waits m a ∷ left) h = by (opens m) (each_change opens f left h.1)
-    where
-      by : (b : Bool) → Left (change_nearest opens f left)
-          → Left (if b then waits (f m) a ∷ left else waits m a ∷ change_nearest opens f left)
-      by true g = h
-      by false g = (h.0, g)
-
-  each_before_link : (is_image : Bool) (left : List (Entry A)) → Left left → Left (before_link is_image left)
-  each_before_link true left h = each_second left h
-  each_before_link false left h = each_marks disabled_mark (second_folded left) (each_second left h)
+  each_marked : Marked (λ m n. ⊤) (λ left left'. Left left → Left left')
+  each_marked = record {
+    equal = λ m. tt;
+    bracket = λ m. tt;
+    wikilink = λ m. tt;
+    disabled = λ m. tt;
+    empty = λ h. h;
+    tree = λ a below left left' g h. (h.0, h.1, g h.2);
+    opener = λ m n a left left' low g h. (h.0, g h.1);
+    twice = λ one two three f g h. g (f h);
+  }
 
   -- so the parts of a left list at an opener
-  record EachAt (o : Split A) : Type 0 where
-    after : Left o.after
-    before : Left o.before
+  each_split : (after before : List (Entry A)) (m : Mark) (a : Label A) → Left (after ++ waits m a ∷ before)
+      → Left after × Left before
+  each_split [] before m a h = (tt, h.1)
+  each_split (done b below ∷ after) before m a h =
+      let r = each_split after before m a h.2 in ((h.0, h.1, r.0), r.1)
+  each_split (waits n b ∷ after) before m a h = let r = each_split after before m a h.1 in ((h.0, r.0), r.1)
 
-  each_behind : (e : Entry A) (o : Option (Split A)) → ((more : List (Entry A)) → Left more → Left (e ∷ more))
-      → IfSome o EachAt
-      → IfSome (option_map (behind e) o) EachAt
-  each_behind e None r h = tt
-  each_behind e (Some o) r h = record { after = r o.after h.after; before = h.before }
-
-  each_nearest : (opens : Mark → Bool) (left : List (Entry A)) → Left left → IfSome (nearest opens left) EachAt
-  each_nearest opens [] h = tt
-  each_nearest opens (done a below ∷ left) h = each_behind (done a below) (nearest opens left) (λ more g. (h.0, h.1, g))
-      (each_nearest opens left h.2)
-  each_nearest opens (waits m a ∷ left) h = by (opens m) (each_nearest opens left h.1)
-    where
-      by : (b : Bool) → IfSome (nearest opens left) EachAt
-          → IfSome (if b then Some (record { mark = m; opener = a; after = []; before = left })
-          else option_map (behind (waits m a)) (nearest opens left)) EachAt
-      by true g = record { after = tt; before = h.1 }
-      by false g = each_behind (waits m a) (nearest opens left) (λ more g. (h.0, g)) g
+  each_nearest : (opens : Mark → Bool) (left : List (Entry A)) (o : Split A) → nearest opens left ≡ Some o → Left left
+      → Left o.after × Left o.before
+  each_nearest opens left o e h =
+      each_split o.after o.before o.mark o.opener (subst Left (split_at opens left o e) h)
 
   -- trees from a byte on, and those of a wikilink
   each_from : (i : ℕ) (f : Forest (Label A)) → All f → All (past_byte i f)
-  each_from i nil h = tt
-  each_from i (node a below after) h = by (nat_le (end_of a) i) (each_from i after h.2)
-    where
-      by : (b : Bool) → All (past_byte i after) → All (if b then past_byte i after else node (begun_at i a) below after)
-      by true g = g
-      by false g = (k.cut i a h.0, h.1, h.2)
+  each_from = from_keeps All (λ i a below after h. ((k.cut i a h.0, h.1, h.2), h.2))
 
   each_past : (f : Forest (Label A)) → All f → All (past_second f)
   each_past nil h = tt
@@ -121,71 +90,49 @@ module _ {A : Type 0} {base p : Label A → Type 0} (k : KeepsLabels base p) whe
 
       each_case : base c.label → Cases w c Left Left
       each_case here = record {
-        bracket_goes = each_change opens_bracket without_bracket;
-        wikilink_goes = each_change opens_wikilink without_wikilink;
+        bracket_goes = same_change each_marked opens_bracket without_bracket (λ m. tt);
+        wikilink_goes = same_change each_marked opens_wikilink without_wikilink (λ m. tt);
         text = λ left h. (k.text w.setting.text c.label here, tt, h);
         link = λ left o target end h found live.
-            let at : EachAt o = some_of (nearest opens_bracket left) o EachAt found (each_nearest opens_bracket left h)
-            in (
+            let at = each_nearest opens_bracket left o found h in (
               k.tag o.opener _ _ _,
-              each_onto o.after nil at.after tt,
-              each_before_link o.mark.is_image o.before
-                  at.before,
+              each_onto o.after nil at.0 tt,
+              same_before_link each_marked o.mark.is_image o.before at.1,
             );
         footnote = λ left o name h found live.
-            let at : EachAt o = some_of (nearest opens_bracket left) o EachAt found (each_nearest opens_bracket left h)
-            in
+            let at = each_nearest opens_bracket left o found h in
             each_footnote o.mark.is_image o.opener name (before_footnote o.before)
-            (each_marks without_bracket (second_folded o.before)
-            (each_second o.before at.before));
+            (same_before_footnote each_marked o.before at.1);
         wikilink = λ left o v end h found live is.
-            let at : EachAt o = some_of (nearest opens_wikilink left) o EachAt found
-            (each_nearest opens_wikilink left h) in
+            let at = each_nearest opens_wikilink left o found h in
             let shown = some_of (wikilink_in w (past_second (inside o)) (start_of c.label)) v (λ v. All v.children) is
             (wikilink_keeps w All (λ a x y. (k.event a _ _ _ _, tt, tt)) each_from (past_second (inside o))
             (start_of c.label)
-            (each_past (inside o) (each_onto o.after nil at.after tt))) in (
+            (each_past (inside o) (each_onto o.after nil at.0 tt))) in (
               k.tag o.opener _ _ _,
               shown,
-              each_marks without_wikilink (on_marks disabled_mark o.before)
-                  (each_marks disabled_mark o.before at.before),
+              same_before_wikilink each_marked o.before at.1,
             );
       }
 
     module _ (others : Reader A) (rule : (a : Label A) (below rest : Forest (Label A)) (q : Progress A) → base a
         → All below → Left q.left
         → Left (others a below rest q).left) where
-      each_as : (b : ItemBody) (a : Label A) (below rest : Forest (Label A)) (q : Progress A) → base a → All below
-          → Left q.left
-          → Left (read_as w others b a below rest q).left
-      each_as body.MaybeLinkOpen a below rest q here inner h = (k.text w.setting.text a here, h)
-      each_as body.MaybeImage a below rest q here inner h = (k.text w.setting.text a here, h)
-      each_as (body.MaybeLinkClose could) a below rest q here inner h =
-          in_each_case w (closing_of could a rest q) Left Left (each_case (closing_of could a rest q) here) q h
-      each_as other a below rest q here inner h = rule a below rest q here inner h
-
-      each_read_past : (goes_on : Option ℕ) (a : Label A) (below rest : Forest (Label A)) (q : Progress A) → base a
-          → All below
-          → Left q.left → Left (read_past w others goes_on a below rest q).left
-      each_read_past None a below rest q here inner h = each_as (open_body a.part.shape) a below rest q here inner h
-      each_read_past (Some i) a below rest q here inner h = by (nat_le (end_of a) i)
-        where
-          by : (b : Bool) → Left
-              (if b then q else read w others (begun_at i a) below rest (record q { goes_on = None })).left
-          by true = h
-          by false = each_as (open_body (begun_at i a).part.shape) (begun_at i a) below rest
-              (record q { goes_on = None })
-              (k.cut_base i a here) inner h
-
-      each_chain : (chain : Forest (Label A)) (q : Progress A) → EachBelow base p chain → Left q.left
-          → Left (read_chain w others chain q).left
-      unfolding read_chain
-      each_chain nil q g h = h
-      each_chain (node a below rest) q g h = each_chain rest (read_past w others q.goes_on a below rest q) g.2
-          (each_read_past q.goes_on a below rest q g.0 g.1 h)
+      each_reads : Reads w others (λ chain q. EachBelow base p chain × Left q.left)
+      each_reads = record {
+        opens = λ i a below rest q h. (h.0.2, (k.text w.setting.text a h.0.0, h.1));
+        closes = λ could a below rest q e h. (
+          h.0.2,
+          in_each_case w (closing_of could a rest q) Left Left
+              (each_case (closing_of could a rest q) h.0.0) q h.1,
+        );
+        other = λ a below rest q h. (h.0.2, rule a below rest q h.0.0 h.0.1 h.1);
+        passes = λ a below rest q h. (h.0.2, h.1);
+        cuts = λ i a below rest q h. ((k.cut_base i a h.0.0, h.0.1, h.0.2), h.1);
+      }
 
       -- of a chain that is read
       pub each_left : (chain : Forest (Label A)) (known : Known) → EachBelow base p chain
           → All (trees_onto (read_chain w others chain (begun known)).left nil)
       each_left chain known g = each_onto (read_chain w others chain (begun known)).left nil
-          (each_chain chain (begun known) g tt) tt
+          (chain_keeps each_reads chain (begun known) (g, tt)).1 tt

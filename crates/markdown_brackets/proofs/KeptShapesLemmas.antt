@@ -9,7 +9,7 @@ use Rattle.markdown_brackets.specs.LeftList.{trees_onto}
 use Rattle.markdown_brackets.specs.ReadChain.{Reader, begun, read_chain}
 use Rattle.markdown_brackets.proofs.KeptLabelsLemmas.{EachBelow, KeepsLabels, each_left}
 use Rattle.markdown_document.specs.ChainRest.{cut_shape}
-use Rattle.markdown_document.specs.Document.{Origin, Shape, leaf, enclosed, plain, backslash_break, unresolved, Label}
+use Rattle.markdown_document.specs.Document.{Origin, Shape, leaf, enclosed, Label}
 use Rattle.markdown_document.specs.Setting.{Known}
 
 -- a shape that begins later passes as before
@@ -17,10 +17,7 @@ cut_passes : (test : Shape → Bool) → ((e : EventView) (origins : List Origin
     → (n : ℕ) (shape : Shape)
     → test shape ≡ true → test (cut_shape n shape) ≡ true
 cut_passes test events n (leaf e o) h = events _ o
-cut_passes test events n (enclosed tag) h = h
-cut_passes test events n plain h = h
-cut_passes test events n backslash_break h = h
-cut_passes test events n (unresolved b) h = h
+cut_passes test events n other h = h
 
 module _ {A : Type 0} (w : Around) (test : Shape → Bool) (events : (e : EventView) (origins : List Origin)
     → test (leaf e origins) ≡ true) (tags : (tag : TagView) → test (enclosed tag) ≡ true) where

@@ -1,8 +1,7 @@
 -- No label is longer than the bytes that it is read from, and so a block that ends before a `]` has no label up to it.
 use Rattle.std.proofs.Common.{◌≡◌, ℕ, zero, suc, ◌+◌, ◌-◌, ◌<◌, ◌≤◌, Bool, true, false, ◌==◌, List, [], ◌∷◌, Option}
-use Rattle.std.proofs.Common.{Some, None}
-use Rattle.std.proofs.Common.{length, refl, ap, arith, take, drop, if◌then◌else◌, is_none, unwrap_or, IfSome}
-use Rattle.std.proofs.Common.{length-drop}
+use Rattle.std.proofs.Common.{Some, None, length, refl, ap, arith, take, drop, if◌then◌else◌, is_none, unwrap_or}
+use Rattle.std.proofs.Common.{IfSome, length-drop}
 use Rattle.std.specs.Prelude.{option_and_then, slice_range}
 use Rattle.std.specs.Option.{option_map, option_or}
 use Rattle.std.proofs.lemmas.Bool.Decides.{nat_tests}
@@ -13,8 +12,7 @@ use Rattle.markdown_scan.specs.Label.{refused, body, fits_label, label_bytes, li
 use Rattle.markdown_scan.specs.Label.{collapse_whitespace, with_shown}
 use Rattle.markdown_scan.specs.LinePrefix.{prefix_after}
 use Rattle.markdown_brackets.specs.Reference.{FoundLabel, footnote_label_in, label_after, label_after_bracket}
-use Rattle.markdown_brackets.specs.Reference.{bracket_label}
-use Rattle.markdown_brackets.specs.Reference.{label_past, of_length, on_one_line, own_label}
+use Rattle.markdown_brackets.specs.Reference.{bracket_label, label_past, of_length, on_one_line, own_label}
 use Rattle.markdown_brackets.specs.declared.footnote.FootnoteStyle.{FootnoteStyle}
 use Rattle.markdown_brackets.specs.declared.footnote.FootnoteStyle.TheVariants as style
 

@@ -1,10 +1,8 @@
 -- In a link label no `[` is directly after a `]`: one of the two would end the label, or forbid it. So no two labels
 -- end at the same byte offset if the second begins directly after a `]` in the first.
 use Rattle.std.proofs.Common.{◌≡◌, ℕ, zero, suc, ◌+◌, ◌-◌, ◌<◌, Bool, true, false, ◌||◌, ◌==◌, List, [], ◌∷◌, Option}
-use Rattle.std.proofs.Common.{Some, None}
-use Rattle.std.proofs.Common.{length, refl, sym, ap, subst, ◌∙◌, arith, take, drop, get_or, drop-cons, length-drop}
-use Rattle.std.proofs.Common.{if◌then◌else◌, is_none}
-use Rattle.std.proofs.Common.{unwrap_or, nat_eq}
+use Rattle.std.proofs.Common.{Some, None, length, refl, sym, ap, subst, ◌∙◌, arith, take, drop, get_or, drop-cons}
+use Rattle.std.proofs.Common.{length-drop, if◌then◌else◌, is_none, unwrap_or, nat_eq}
 use Rattle.std.specs.Prelude.{option_and_then}
 use Rattle.std.specs.List.{list_any}
 use Rattle.std.specs.Option.{option_map, option_or}
@@ -18,8 +16,7 @@ use Rattle.markdown_scan.specs.Label.{collapse_whitespace, with_shown}
 use Rattle.markdown_scan.specs.LinePrefix.{ends_line, prefix_after}
 use Rattle.markdown_brackets.specs.QuestionEnds.{HoldsNoOpener}
 use Rattle.markdown_brackets.specs.Reference.{FoundLabel, footnote_label_in, label_after, label_after_bracket}
-use Rattle.markdown_brackets.specs.Reference.{bracket_label}
-use Rattle.markdown_brackets.specs.Reference.{label_past, on_one_line}
+use Rattle.markdown_brackets.specs.Reference.{bracket_label, label_past, on_one_line}
 use Rattle.markdown_brackets.specs.declared.footnote.FootnoteStyle.{FootnoteStyle}
 use Rattle.markdown_brackets.specs.declared.footnote.FootnoteStyle.TheVariants as style
 
@@ -146,15 +143,6 @@ pub record IsLabelFrom (skipped : List ℕ → Option ℕ) (text : List ℕ) (fr
   pub closes : body false (label_bytes skipped 0 tail) ≡ Some (place, shown)
   pub ends : to ≡ from + place + 2
 
--- the bytes are those of a link label
-record IsLabel (skipped : List ℕ → Option ℕ) (bytes : List ℕ) (size : ℕ) : Type 0 where
-  tail : List ℕ
-  opens : bytes ≡ 91 ∷ tail
-  place : ℕ
-  shown : List ℕ
-  closes : body false (label_bytes skipped 0 tail) ≡ Some (place, shown)
-  ends : size ≡ place + 2
-
 module _ (skipped : List ℕ → Option ℕ) (in_table : Bool) where
   -- a label that is found after the mark of a footnote is a footnote's label
   past_is_footnote : (n : ℕ) (o : Option (ℕ × List ℕ)) (l : FoundLabel) → label_past true n o ≡ Some l → l.is_footnote
@@ -191,11 +179,11 @@ module _ (skipped : List ℕ → Option ℕ) (in_table : Bool) where
           (f.0, f.1, refl, omega (arith, size))
 
   -- a label that is no footnote's
-  of_bytes : (s : FootnoteStyle) (bytes : List ℕ) (l : FoundLabel) → bracket_label s skipped in_table bytes ≡ Some l
-      → l.is_footnote ≡ false
-      → IsLabel skipped bytes l.length
-  of_bytes s [] l e plain = absurd (none-some l e)
-  of_bytes s (b ∷ bytes) l e plain = by (b == 91) refl e
+  of_bytes : (s : FootnoteStyle) (text : List ℕ) (from : ℕ) (bytes : List ℕ) (l : FoundLabel) → drop from text ≡ bytes
+      → bracket_label s skipped in_table bytes ≡ Some l → l.is_footnote ≡ false
+      → IsLabelFrom skipped text from (from + l.length)
+  of_bytes s text from [] l d e plain = absurd (none-some l e)
+  of_bytes s text from (b ∷ bytes) l d e plain = by (b == 91) refl e
     where
       or_link : (o : Option FoundLabel) → footnote_label_in s skipped in_table bytes ≡ o
           → option_or o (label_past false 1 (link_label skipped in_table bytes)) ≡ Some l
@@ -209,36 +197,26 @@ module _ (skipped : List ℕ → Option ℕ) (in_table : Bool) where
 
       by : (opens : Bool) → (b == 91) ≡ opens
           → option_and_then (label_after_bracket s skipped in_table) (if opens then Some bytes else None) ≡ Some l
-          → IsLabel skipped (b ∷ bytes) l.length
+          → IsLabelFrom skipped text from (from + l.length)
       by false is e = absurd (none-some l e)
       by true is e =
           let r = or_link (footnote_label_in s skipped in_table bytes) refl e in
           let byte : b ≡ 91 = grind (arith, nat_tests) in
+          let size = r.3 in
           record {
             tail = bytes;
-            opens = ap (λ (b : ℕ). b ∷ bytes) byte;
+            opens = d ∙ ap (λ (b : ℕ). b ∷ bytes) byte;
             place = r.0;
             shown = r.1;
             closes = r.2;
-            ends
-                = r.3;
+            ends = omega (arith, size);
           }
 
   pub label_from : (s : FootnoteStyle) (text : List ℕ) (from : ℕ) (l : FoundLabel)
       → bracket_label s skipped in_table (drop from text) ≡ Some l
       → l.is_footnote ≡ false
       → IsLabelFrom skipped text from (from + l.length)
-  label_from s text from l e plain =
-      let r = of_bytes s (drop from text) l e plain in
-      record {
-        tail = r.tail;
-        opens = r.opens;
-        place = r.place;
-        shown = r.shown;
-        closes = r.closes;
-        ends = omega
-            (arith, r.ends);
-      }
+  label_from s text from l e plain = of_bytes s text from (drop from text) l refl e plain
 
 -- the byte that a label begins with
 pub first_byte : (skipped : List ℕ → Option ℕ) (text : List ℕ) (from to : ℕ) → IsLabelFrom skipped text from to

@@ -25,6 +25,8 @@ pub mod ChainAheadLemmas
 pub mod AheadOfBracketLemmas
 pub mod WrittenLemmas
 pub mod TryOpenerLemmas
+pub mod LeftListLemmas
+pub mod ReadChainLemmas
 pub mod OpenerHeldLemmas
 pub mod SplitLemmas
 pub mod BracketStandsLemmas

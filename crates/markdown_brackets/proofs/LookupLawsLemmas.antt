@@ -1,41 +1,42 @@
 -- The laws of look-ups, case by case.
 use Rattle.std.proofs.Common.{◌≡◌, ℕ, ◌+◌, ◌-◌, ◌≤◌, ◌==◌, ◌++◌, Bool, true, false, List, [], ◌∷◌, Option, Some, None}
-use Rattle.std.proofs.Common.{IfSome, cond, length}
-use Rattle.std.proofs.Common.{refl, ◌∙◌, ap, arith, lit≤}
+use Rattle.std.proofs.Common.{IfSome, cond, length, refl, ◌∙◌, ap, arith, lit≤}
 use Rattle.std.proofs.lemmas.Bool.{cond_both}
 use Rattle.markdown_base.specs.Questions.{Question, Answer, Answers}
 use Rattle.markdown_base.specs.declared.block_parts.LinkDef.{LinkDef}
 use Rattle.markdown_defs.specs.Definitions as definitions
 use Rattle.markdown_defs.specs.Definitions.{Labelled}
-use Rattle.markdown_brackets.specs.Lookup.{LookedUp, look_up, finds_nothing, defined_or_asked, answered, size_of}
+use Rattle.markdown_brackets.specs.Lookup.{LookedUp, look_up, finds_nothing, defined_or_asked, asked, answered, size_of}
 use Rattle.markdown_brackets.specs.LookupLaws.{AsksOnceAtMost, FindsNothingAtZero, HandsOnLaterAnswers, TakesItsBytes}
 
--- a fact about the results of a question holds for a look-up if it holds in each case
-cases : (limit : ℕ) (answers : Answers) (q : Question) (P : LookedUp → Type 0)
+-- what holds of nothing, of each definition and of each answer holds of what a look-up finds
+pub of_look_up : (limit : ℕ) (answers : Answers) (q : Question) (P : LookedUp → Type 0)
     → P (finds_nothing limit answers [])
-    → ((asks : Bool) (o : Option LinkDef) → P (defined_or_asked asks limit answers q o))
+    → ((d : LinkDef) → P (defined_or_asked true limit answers q (Some d)))
+    → ((a : Option Answer) (later : Answers) → P (answered limit later q a))
     → (defined : List Labelled) (asks : Bool) → P (look_up defined asks limit answers q)
-cases limit answers q P nothing found defined asks =
+of_look_up limit answers q P nothing found answer defined asks =
     cond_both (limit == 0) (finds_nothing limit answers [])
     (defined_or_asked asks limit answers q (definitions.find_definition q.reference defined)) P
-    (λ e. nothing) (λ e. found asks (definitions.find_definition q.reference defined))
+    (λ e. nothing) (λ e. by asks (definitions.find_definition q.reference defined))
+  where
+    first : (answers : Answers) → P (asked limit answers q)
+    first [] = answer None []
+    first (a ∷ later) = answer a later
+
+    by : (asks : Bool) (o : Option LinkDef) → P (defined_or_asked asks limit answers q o)
+    by asks (Some d) = found d
+    by false None = nothing
+    by true None = first answers
 
 pub asks_once : (defined : List Labelled) (asks : Bool) (limit : ℕ) (answers : Answers) (q : Question)
     → AsksOnceAtMost defined asks limit answers q
-asks_once defined asks limit answers q = cases limit answers q (λ l. length l.questions ≤ 1) (lit≤ tt)
-    (λ a o. in_case a o answers) defined
-    asks
+asks_once defined asks limit answers q =
+    of_look_up limit answers q (λ l. length l.questions ≤ 1) (lit≤ tt) (λ d. lit≤ tt) by defined asks
   where
-    by_answer : (a : Option Answer) (later : Answers) → length (answered limit later q a).questions ≤ 1
-    by_answer None later = lit≤ tt
-    by_answer (Some a) later = lit≤ tt
-
-    in_case : (asks : Bool) (o : Option LinkDef) (answers : Answers)
-        → length (defined_or_asked asks limit answers q o).questions ≤ 1
-    in_case asks (Some d) answers = lit≤ tt
-    in_case false None answers = lit≤ tt
-    in_case true None [] = lit≤ tt
-    in_case true None (a ∷ answers) = by_answer a answers
+    by : (a : Option Answer) (later : Answers) → length (answered limit later q a).questions ≤ 1
+    by None later = lit≤ tt
+    by (Some a) later = lit≤ tt
 
 pub nothing_at_zero : (defined : List Labelled) (asks : Bool) (answers : Answers) (q : Question)
     → FindsNothingAtZero defined asks answers q
@@ -43,22 +44,14 @@ nothing_at_zero defined asks answers q = refl
 
 pub takes_bytes : (defined : List Labelled) (asks : Bool) (limit : ℕ) (answers : Answers) (q : Question)
     → TakesItsBytes defined asks limit answers q
-takes_bytes defined asks limit answers q = cases limit answers q
-    (λ l. IfSome l.target (λ t. limit ≤ l.limit + size_of t)) tt
-    (λ a o. in_case a o answers) defined asks
+takes_bytes defined asks limit answers q =
+    of_look_up limit answers q (λ l. IfSome l.target (λ t. limit ≤ l.limit + size_of t)) tt (λ d. omega arith) by
+    defined asks
   where
-    by_answer : (a : Option Answer) (later : Answers)
+    by : (a : Option Answer) (later : Answers)
         → IfSome (answered limit later q a).target (λ t. limit ≤ (answered limit later q a).limit + size_of t)
-    by_answer None later = tt
-    by_answer (Some a) later = omega arith
-
-    in_case : (asks : Bool) (o : Option LinkDef) (answers : Answers)
-        → IfSome (defined_or_asked asks limit answers q o).target
-        (λ t. limit ≤ (defined_or_asked asks limit answers q o).limit + size_of t)
-    in_case asks (Some d) answers = omega arith
-    in_case false None answers = tt
-    in_case true None [] = tt
-    in_case true None (a ∷ answers) = by_answer a answers
+    by None later = tt
+    by (Some a) later = omega arith
 
 -- a look-up with some answers, and the same with more
 pub record LooksOn (answers later : Answers) (alone more : LookedUp) : Type 0 where

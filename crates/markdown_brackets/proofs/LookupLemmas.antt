@@ -1,7 +1,6 @@
 -- Look-ups, case by case.
 use Rattle.std.proofs.Common.{◌≡◌, ℕ, ◌==◌, Bool, true, false, List, [], ◌∷◌, Option, Some, None, cond, refl, sym, ◌∙◌}
-use Rattle.std.proofs.Common.{ap, subst, is_some}
-use Rattle.std.proofs.Common.{◌<◌, MatchOption, arith}
+use Rattle.std.proofs.Common.{ap, subst, is_some, ◌<◌, MatchOption, arith}
 use Rattle.std.proofs.lemmas.Bool.Decides.{nat_tests}
 use Rattle.markdown_base.specs.BlockParts.{definition_view}
 use Rattle.markdown_base.specs.Event.{LinkView}

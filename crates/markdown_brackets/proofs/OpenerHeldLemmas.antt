@@ -1,80 +1,65 @@
 -- The openers of a left list as stacks hold them: the nearest one is on top; and the trees of a left list at an opener.
-use Rattle.std.proofs.Common.{◌≡◌, ℕ, Bool, true, false, List, [], ◌∷◌, Option, Some, None, refl, ap}
-use Rattle.std.specs.Prelude.{IfSome, if◌then◌else◌}
+use Rattle.std.proofs.Common.{◌≡◌, ℕ, Bool, true, false, List, [], ◌∷◌, Option, Some, None, refl, ap, ◌∙◌}
+use Rattle.std.specs.Prelude.{IfSome, if◌then◌else◌, ⊤}
 use Rattle.std.specs.Option.{option_map}
 use Rattle.markdown_base.specs.Forest.{Forest, nil, node}
 use Rattle.markdown_document.specs.ChainRest.{joined_chains}
 use Rattle.markdown_document.specs.Document.{Label}
 use Rattle.markdown_brackets.specs.DecisionView.{opener_of}
-use Rattle.markdown_brackets.specs.LeftList.{Flag, live, disabled, gone, Mark, Entry, done, waits, is_live, trees_onto}
-use Rattle.markdown_brackets.specs.LeftList.{Split, behind}
+use Rattle.markdown_brackets.specs.LeftList.{Flag, gone, Mark, Entry, done, waits, is_live, trees_onto, Split, behind}
 use Rattle.markdown_brackets.specs.LeftList.{nearest, change_nearest, opens_bracket, opens_wikilink, without_bracket}
-use Rattle.markdown_brackets.specs.LeftList.{without_wikilink}
-use Rattle.markdown_brackets.specs.LeftList.{bracket_taken, wikilink_taken}
+use Rattle.markdown_brackets.specs.LeftList.{without_wikilink, bracket_taken, wikilink_taken}
 use Rattle.markdown_brackets.specs.HeldOpeners.{brackets_of, wikilinks_of, held_as}
+use Rattle.markdown_brackets.proofs.LeftListLemmas.{IsSplitBy, Marked, onto_append, same_change, split_nearest}
+use Rattle.markdown_brackets.specs.Openers.{Waiting}
 
 -- the nearest opener for a `]` is on top of the stack, and taking it off is taking it off the stack
+abbrev pub for_bracket : Mark → Flag
+for_bracket m = m.bracket
+
+abbrev pub for_wikilink : Mark → Flag
+for_wikilink m = m.wikilink
+
+abbrev pub Top : (Mark → Flag) → (held rest : List Waiting) → Option (Split ℕ) → Type 0
+Top flag held rest None = (held ≡ []) × (rest ≡ [])
+Top flag held rest (Some o) = held ≡ record { opener = opener_of o; is_live = is_live (flag o.mark) } ∷ rest
+
 abbrev pub TopBracket : List (Entry ℕ) → Option (Split ℕ) → Type 0
-TopBracket left None = (brackets_of left ≡ []) × (brackets_of (bracket_taken left) ≡ [])
-TopBracket left (Some o) =
-    brackets_of left ≡ record { opener = opener_of o; is_live = is_live o.mark.bracket } ∷ brackets_of
-    (bracket_taken left)
+TopBracket left = Top for_bracket (brackets_of left) (brackets_of (bracket_taken left))
 
 abbrev pub TopWikilink : List (Entry ℕ) → Option (Split ℕ) → Type 0
-TopWikilink left None = (wikilinks_of left ≡ []) × (wikilinks_of (wikilink_taken left) ≡ [])
-TopWikilink left (Some o) =
-    wikilinks_of left ≡ record { opener = opener_of o; is_live = is_live o.mark.wikilink } ∷ wikilinks_of
-    (wikilink_taken left)
+TopWikilink left = Top for_wikilink (wikilinks_of left) (wikilinks_of (wikilink_taken left))
 
-bracket_behind_done : (a : Label ℕ) (below : Forest (Label ℕ)) (left : List (Entry ℕ)) (o : Option (Split ℕ))
-    → TopBracket left o
-    → TopBracket (done a below ∷ left) (option_map (behind (done a below)) o)
-bracket_behind_done a below left None h = h
-bracket_behind_done a below left (Some o) h = h
-
-bracket_behind_gone : (i : Bool) (w : Flag) (a : Label ℕ) (left : List (Entry ℕ)) (o : Option (Split ℕ))
-    → TopBracket left o
-    → TopBracket (waits (record { is_image = i; bracket = gone; wikilink = w }) a ∷ left)
-    (option_map (behind (waits (record { is_image = i; bracket = gone; wikilink = w }) a)) o)
-bracket_behind_gone i w a left None h = h
-bracket_behind_gone i w a left (Some o) h = h
+top_behind : (flag : Mark → Flag) (held rest : List Waiting) (e : Entry ℕ) (o : Option (Split ℕ)) → Top flag held rest o
+    → Top flag held rest (option_map (behind e) o)
+top_behind flag held rest e None h = h
+top_behind flag held rest e (Some o) h = h
 
 pub top_bracket : (left : List (Entry ℕ)) → TopBracket left (nearest opens_bracket left)
 top_bracket [] = (refl, refl)
-top_bracket (done a below ∷ left) = bracket_behind_done a below left (nearest opens_bracket left) (top_bracket left)
+top_bracket (done a below ∷ left) = top_behind for_bracket _ _ (done a below) (nearest opens_bracket left)
+    (top_bracket left)
 top_bracket (waits m a ∷ left) = by m.is_image m.bracket m.wikilink (top_bracket left)
   where
     by : (i : Bool) (b w : Flag) → TopBracket left (nearest opens_bracket left)
         → TopBracket (waits (record { is_image = i; bracket = b; wikilink = w }) a ∷ left)
         (nearest opens_bracket (waits (record { is_image = i; bracket = b; wikilink = w }) a ∷ left))
-    by i live w h = refl
-    by i disabled w h = refl
-    by i gone w h = bracket_behind_gone i w a left (nearest opens_bracket left) h
-
-wikilink_behind_done : (a : Label ℕ) (below : Forest (Label ℕ)) (left : List (Entry ℕ)) (o : Option (Split ℕ))
-    → TopWikilink left o
-    → TopWikilink (done a below ∷ left) (option_map (behind (done a below)) o)
-wikilink_behind_done a below left None h = h
-wikilink_behind_done a below left (Some o) h = h
-
-wikilink_behind_gone : (i : Bool) (b : Flag) (a : Label ℕ) (left : List (Entry ℕ)) (o : Option (Split ℕ))
-    → TopWikilink left o
-    → TopWikilink (waits (record { is_image = i; bracket = b; wikilink = gone }) a ∷ left)
-    (option_map (behind (waits (record { is_image = i; bracket = b; wikilink = gone }) a)) o)
-wikilink_behind_gone i b a left None h = h
-wikilink_behind_gone i b a left (Some o) h = h
+    by i gone w h = top_behind for_bracket _ _ (waits (record { is_image = i; bracket = gone; wikilink = w }) a)
+        (nearest opens_bracket left) h
+    by i other w h = refl
 
 pub top_wikilink : (left : List (Entry ℕ)) → TopWikilink left (nearest opens_wikilink left)
 top_wikilink [] = (refl, refl)
-top_wikilink (done a below ∷ left) = wikilink_behind_done a below left (nearest opens_wikilink left) (top_wikilink left)
+top_wikilink (done a below ∷ left) = top_behind for_wikilink _ _ (done a below) (nearest opens_wikilink left)
+    (top_wikilink left)
 top_wikilink (waits m a ∷ left) = by m.is_image m.bracket m.wikilink (top_wikilink left)
   where
     by : (i : Bool) (b w : Flag) → TopWikilink left (nearest opens_wikilink left)
         → TopWikilink (waits (record { is_image = i; bracket = b; wikilink = w }) a ∷ left)
         (nearest opens_wikilink (waits (record { is_image = i; bracket = b; wikilink = w }) a ∷ left))
-    by i b live h = refl
-    by i b disabled h = refl
-    by i b gone h = wikilink_behind_gone i b a left (nearest opens_wikilink left) h
+    by i b gone h = top_behind for_wikilink _ _ (waits (record { is_image = i; bracket = b; wikilink = gone }) a)
+        (nearest opens_wikilink left) h
+    by i b other h = refl
 
 -- the other stack stays
 pub wikilinks_stay : (left : List (Entry ℕ)) → wikilinks_of (bracket_taken left) ≡ wikilinks_of left
@@ -100,44 +85,37 @@ brackets_stay (waits m a ∷ left) = by (opens_wikilink m) (brackets_stay left)
     by false h = ap (held_as a.tag m.is_image m.bracket) h
 
 -- what is taken off stays a tree
+trees_marked : Marked (λ m n. ⊤)
+    (λ left left'. (later : Forest (Label ℕ)) → trees_onto left' later ≡ trees_onto left later)
+trees_marked = record {
+  equal = λ m. tt;
+  bracket = λ m. tt;
+  wikilink = λ m. tt;
+  disabled = λ m. tt;
+  empty = λ later. refl;
+  tree = λ a below left left' h later. h (node a below later);
+  opener = λ m n a left left' low h later. h (node a nil later);
+  twice = λ one two three h k later. k later ∙ h later;
+}
+
 pub trees_stay : (test : Mark → Bool) (f : Mark → Mark) (left : List (Entry ℕ)) (later : Forest (Label ℕ))
     → trees_onto (change_nearest test f left) later ≡ trees_onto left later
-trees_stay test f [] later = refl
-trees_stay test f (done a below ∷ left) later = trees_stay test f left (node a below later)
-trees_stay test f (waits m a ∷ left) later = by (test m) (trees_stay test f left (node a nil later))
-  where
-    by : (b : Bool) → trees_onto (change_nearest test f left) (node a nil later) ≡ trees_onto left (node a nil later)
-        → trees_onto (if b then waits (f m) a ∷ left else waits m a ∷ change_nearest test f left) later
-        ≡ trees_onto left (node a nil later)
-    by true h = refl
-    by false h = h
+trees_stay test f left later = same_change trees_marked test f (λ m. tt) left later
 
 -- the trees of a left list at an opener
 abbrev pub SplitsAt : List (Entry ℕ) → Split ℕ → Type 0
 SplitsAt left o = (later : Forest (Label ℕ)) → trees_onto left later
     ≡ trees_onto o.before (node o.opener nil (trees_onto o.after later))
 
-splits_behind_done : (a : Label ℕ) (below : Forest (Label ℕ)) (left : List (Entry ℕ)) (o : Option (Split ℕ))
-    → IfSome o (SplitsAt left)
-    → IfSome (option_map (behind (done a below)) o) (SplitsAt (done a below ∷ left))
-splits_behind_done a below left None h = tt
-splits_behind_done a below left (Some o) h = λ later. h (node a below later)
-
-splits_behind_waits : (m : Mark) (a : Label ℕ) (left : List (Entry ℕ)) (o : Option (Split ℕ)) → IfSome o (SplitsAt left)
-    → IfSome (option_map (behind (waits m a)) o) (SplitsAt (waits m a ∷ left))
-splits_behind_waits m a left None h = tt
-splits_behind_waits m a left (Some o) h = λ later. h (node a nil later)
-
 pub splits_at : (test : Mark → Bool) (left : List (Entry ℕ)) → IfSome (nearest test left) (SplitsAt left)
-splits_at test [] = tt
-splits_at test (done a below ∷ left) = splits_behind_done a below left (nearest test left) (splits_at test left)
-splits_at test (waits m a ∷ left) = by (test m) (splits_at test left)
+splits_at test left = by (nearest test left) (split_nearest test (λ m. m) left)
   where
-    by : (b : Bool) → IfSome (nearest test left) (SplitsAt left)
-        → IfSome (if b then Some (record { mark = m; opener = a; after = []; before = left })
-        else option_map (behind (waits m a)) (nearest test left)) (SplitsAt (waits m a ∷ left))
-    by true h = λ later. refl
-    by false h = splits_behind_waits m a left (nearest test left) h
+    by : (o : Option (Split ℕ)) → IfSome o (IsSplitBy (λ m. m) left (change_nearest test (λ m. m) left))
+        → IfSome o (SplitsAt left)
+    by None h = tt
+    by (Some o) h = λ later.
+        ap (λ (l : List (Entry ℕ)). trees_onto l later) h.is
+        ∙ onto_append o.after (waits o.mark o.opener ∷ o.before) later
 
 pub onto_joined : (left : List (Entry ℕ)) (f g : Forest (Label ℕ)) → trees_onto left (joined_chains f g)
     ≡ joined_chains (trees_onto left f) g

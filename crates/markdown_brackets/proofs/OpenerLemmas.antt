@@ -1,7 +1,6 @@
 -- A stack of openers as the list that it represents.
 use Rattle.std.proofs.Common.{◌≡◌, ℕ, suc, zero, ◌+◌, ◌-◌, ◌<◌, ◌≤◌, Bool, true, false, ◌&&◌, List, [], ◌∷◌, ◌++◌, Some}
-use Rattle.std.proofs.Common.{length, get_or}
-use Rattle.std.proofs.Common.{take, map, min, cond, nat_le, arith, refl, sym, ◌∙◌, ap, reverse, subst}
+use Rattle.std.proofs.Common.{length, get_or, take, map, min, nat_le, arith, refl, sym, ◌∙◌, ap, reverse, subst}
 use Rattle.std.proofs.lemmas.Bool.{leb-true}
 use Rattle.std.proofs.lemmas.Bool.Decides.{nat_tests}
 use Rattle.std.proofs.lemmas.List.{reverse-append, map-append, take_more, take_all}
@@ -10,6 +9,8 @@ use Rattle.std.specs.List.{slice_get}
 use Rattle.markdown_brackets.specs.Openers.{Waiting, live_opener, disabled_opener, before, first_opener}
 use Rattle.markdown_brackets.specs.OpenerStack.{marked, waiting_openers}
 use Rattle.markdown_brackets.specs.declared.openers.Opener.{Opener}
+use Rattle.std.proofs.Math.Bool.{and-true}
+use Rattle.std.specs.Prelude.{if◌then◌else◌}
 
 -- in reverse, an element at the end comes first
 pub reverse-snoc : {A : Type 0} (xs : List A) (x : A) → reverse (xs ++ x ∷ []) ≡ x ∷ reverse xs
@@ -21,61 +22,43 @@ map-reverse f (x ∷ xs) =
     ap (map f) (reverse-append (x ∷ []) xs) ∙ map-append f (reverse xs) (x ∷ [])
     ∙ ap (λ ys. ys ++ f x ∷ []) (map-reverse f xs) ∙ sym (reverse-append (f x ∷ []) (map f xs))
 
--- one more, which is not disabled
-marked_live : (n : ℕ) (openers : List Opener) (o : Opener) → n ≤ length openers → marked n (openers ++ o ∷ [])
-    ≡ marked n openers
-    ++ live_opener o ∷ []
-marked_live zero [] o h = refl
-marked_live (suc n) [] o h = absurd (omega arith)
-marked_live zero (x ∷ openers) o h = ap (λ ws. live_opener x ∷ ws) (marked_live zero openers o (omega arith))
-marked_live (suc n) (x ∷ openers) o h = ap (λ ws. disabled_opener (live_opener x) ∷ ws)
-    (marked_live n openers o (omega arith))
+pub le_true : (a b : ℕ) → a ≤ b → nat_le a b ≡ true
+le_true a b h = grind (arith, nat_tests)
+
+pub lt_false : (a b : ℕ) → b < a → nat_le a b ≡ false
+lt_false a b h = grind (arith, nat_tests)
+
+le_suc : (a b : ℕ) → nat_le (suc a) (suc b) ≡ nat_le a b
+le_suc a b = grind (arith, nat_tests)
+
+-- one more, which is disabled where more than the others are
+abbrev last_of : ℕ → List Opener → Opener → Waiting
+last_of n openers o = if nat_le n (length openers) then live_opener o else disabled_opener (live_opener o)
+
+last_is : (n : ℕ) (openers : List Opener) (o : Opener) → (last_of n openers o).opener ≡ o
+last_is n openers o = by (nat_le n (length openers))
+  where
+    by : (b : Bool) → (if b then live_opener o else disabled_opener (live_opener o)).opener ≡ o
+    by true = refl
+    by false = refl
+
+marked_last : (n : ℕ) (openers : List Opener) (o : Opener) → marked n (openers ++ o ∷ [])
+    ≡ marked n openers ++ last_of n openers o ∷ []
+marked_last zero [] o = refl
+marked_last (suc n) [] o = rw (lt_false (suc n) 0 (omega arith)) refl
+marked_last zero (x ∷ openers) o =
+    rw (le_true 0 (suc (length openers)) (omega arith))
+    (ap (λ ws. live_opener x ∷ ws) (rw (le_true 0 (length openers) (omega arith)) at (marked_last zero openers o)))
+marked_last (suc n) (x ∷ openers) o =
+    rw (le_suc n (length openers)) (ap (λ ws. disabled_opener (live_opener x) ∷ ws) (marked_last n openers o))
+
+waiting_last : (n : ℕ) (openers : List Opener) (o : Opener) → waiting_openers n (openers ++ o ∷ [])
+    ≡ last_of n openers o ∷ waiting_openers n openers
+waiting_last n openers o = ap reverse (marked_last n openers o) ∙ reverse-snoc (marked n openers) (last_of n openers o)
 
 pub waiting_live : (n : ℕ) (openers : List Opener) (o : Opener) → n ≤ length openers
     → waiting_openers n (openers ++ o ∷ []) ≡ live_opener o ∷ waiting_openers n openers
-waiting_live n openers o h = ap reverse (marked_live n openers o h) ∙ reverse-snoc (marked n openers) (live_opener o)
-
--- one more, which is
-marked_disabled : (openers : List Opener) (o : Opener) → marked (suc (length openers)) (openers ++ o ∷ [])
-    ≡ marked (length openers) openers
-    ++ disabled_opener (live_opener o) ∷ []
-marked_disabled [] o = refl
-marked_disabled (x ∷ openers) o = ap (λ ws. disabled_opener (live_opener x) ∷ ws) (marked_disabled openers o)
-
-pub waiting_disabled : (openers : List Opener) (o : Opener) → waiting_openers (suc (length openers)) (openers ++ o ∷ [])
-    ≡ disabled_opener (live_opener o) ∷ waiting_openers (length openers) openers
-waiting_disabled openers o = ap reverse (marked_disabled openers o) ∙ reverse-snoc (marked (length openers) openers)
-    (disabled_opener (live_opener o))
-
--- one more
-pub record Last (n : ℕ) (openers : List Opener) (o : Opener) : Type 0 where
-  pub last : Waiting
-  pub is_it : last.opener ≡ o
-  pub stands : waiting_openers n (openers ++ o ∷ []) ≡ last ∷ waiting_openers n openers
-
-record MarkedLast (n : ℕ) (openers : List Opener) (o : Opener) : Type 0 where
-  last : Waiting
-  is_it : last.opener ≡ o
-  stands : marked n (openers ++ o ∷ []) ≡ marked n openers ++ last ∷ []
-
-marked_last : (n : ℕ) (openers : List Opener) (o : Opener) → MarkedLast n openers o
-marked_last zero [] o = record { last = live_opener o; is_it = refl; stands = refl }
-marked_last (suc n) [] o = record { last = disabled_opener (live_opener o); is_it = refl; stands = refl }
-marked_last zero (x ∷ openers) o =
-    let rest = marked_last zero openers o in
-    record { last = rest.last; is_it = rest.is_it; stands = ap (λ ws. live_opener x ∷ ws) rest.stands }
-marked_last (suc n) (x ∷ openers) o =
-    let rest = marked_last n openers o in
-    record {
-      last = rest.last;
-      is_it = rest.is_it;
-      stands = ap (λ ws. disabled_opener (live_opener x) ∷ ws) rest.stands;
-    }
-
-pub waiting_last : (n : ℕ) (openers : List Opener) (o : Opener) → Last n openers o
-waiting_last n openers o =
-    let m = marked_last n openers o in
-    record { last = m.last; is_it = m.is_it; stands = ap reverse m.stands ∙ reverse-snoc (marked n openers) m.last }
+waiting_live n openers o h = rw (waiting_last n openers o, le_true n (length openers) h) refl
 
 -- to disable twice is to disable once
 disabled_twice : (o : Opener) → disabled_opener (disabled_opener (live_opener o)) ≡ disabled_opener (live_opener o)
@@ -107,57 +90,16 @@ pub waiting_past : (n : ℕ) (openers : List Opener) → length openers ≤ n �
     ≡ waiting_openers (length openers) openers
 waiting_past n openers h = ap reverse (marked_past n openers h)
 
--- a nearest one whose number is this one or greater goes
-pub before_goes : (node n : ℕ) (openers : List Opener) (o : Opener) → nat_le node o.node ≡ true
-    → before node (waiting_openers n (openers ++ o ∷ [])) ≡ before node (waiting_openers n openers)
-before_goes node n openers o e =
-    let l = waiting_last n openers o in
-    let test : nat_le node l.last.opener.node ≡ true = ap (λ p. nat_le node p.node) l.is_it ∙ e in
-    ap (before node) l.stands
-    ∙ ap (λ b. cond b (before node (waiting_openers n openers)) (l.last ∷ waiting_openers n openers)) test
-
--- one whose number is smaller stays
-pub before_stays : (node n : ℕ) (openers : List Opener) (o : Opener) → nat_le node o.node ≡ false
-    → before node (waiting_openers n (openers ++ o ∷ [])) ≡ waiting_openers n (openers ++ o ∷ [])
-before_stays node n openers o e =
-    let l = waiting_last n openers o in
-    let test : nat_le node l.last.opener.node ≡ false = ap (λ p. nat_le node p.node) l.is_it ∙ e in
-    ap (before node) l.stands
-    ∙ ap (λ b. cond b (before node (waiting_openers n openers)) (l.last ∷ waiting_openers n openers)) test
-    ∙ sym l.stands
-
-and_true : (b : Bool) → (b && true) ≡ b
-and_true true = refl
-and_true false = refl
-
 -- the last one of all, where all are disabled
 pub waiting_image : (openers : List Opener) (o : Opener) → waiting_openers (suc (length openers)) (openers ++ o ∷ [])
     ≡ record { opener = o; is_live = o.is_image } ∷ waiting_openers (length openers) openers
-waiting_image openers o = waiting_disabled openers o
-    ∙ ap (λ b. record { opener = o; is_live = b } ∷ waiting_openers (length openers) openers)
-    (and_true o.is_image)
-
-pub le_true : (a b : ℕ) → a ≤ b → nat_le a b ≡ true
-le_true a b h = grind (arith, nat_tests)
-
-pub lt_false : (a b : ℕ) → b < a → nat_le a b ≡ false
-lt_false a b h = grind (arith, nat_tests)
-
--- of the first k + 1 openers the last goes
-pub last_goes : (node n k : ℕ) (openers : List Opener) (d : Opener) → k < length openers
-    → node ≤ (get_or openers k d).node
-    → before node (waiting_openers n (take (k + 1) openers)) ≡ before node (waiting_openers n (take k openers))
-last_goes node n k openers d h le = rw (take_more openers k d h)
-    (before_goes node n (take k openers) (get_or openers k d)
-    (le_true node (get_or openers k d).node le))
-
--- or it stays, and all before it
-pub last_stays : (node n k : ℕ) (openers : List Opener) (d : Opener) → k < length openers
-    → (get_or openers k d).node < node
-    → before node (waiting_openers n (take (k + 1) openers)) ≡ waiting_openers n (take (k + 1) openers)
-last_stays node n k openers d h lt = rw (take_more openers k d h)
-    (before_stays node n (take k openers) (get_or openers k d)
-    (lt_false node (get_or openers k d).node lt))
+waiting_image openers o =
+    rw (
+      waiting_last (suc (length openers)) openers o,
+      lt_false (suc (length openers)) (length openers) (omega arith),
+      waiting_past (suc (length openers)) openers (omega arith),
+      and-true o.is_image,
+    ) refl
 
 past_of : (a b : ℕ) → nat_le a b ≡ false → b ≤ a
 past_of a b e = grind (arith, nat_tests)
@@ -183,24 +125,36 @@ pub nearest_goes : (node n left : ℕ) (openers : List Opener) (d : Opener) → 
     → node ≤ (get_or openers (left - 1) d).node → before node (waiting_openers n (take left openers))
     ≡ before node (waiting_openers n (take (left - 1) openers))
 nearest_goes node n left openers d some within le =
-    let P : ℕ → Type 0 = λ m. before node (waiting_openers n (take m openers))
-    ≡ before node (waiting_openers n (take (left - 1) openers)) in
+    let rest : List Opener = take (left - 1) openers in
+    let o : Opener = get_or openers (left - 1) d in
+    let P : ℕ → Type 0 = λ m. before node (waiting_openers n (take m openers)) ≡ before node (waiting_openers n rest) in
     let same : left - 1 + 1 ≡ left = omega arith in
-    subst P same (last_goes node n (left - 1) openers d (omega arith) le)
+    subst P same (rw (
+      take_more openers (left - 1) d (omega arith),
+      waiting_last n rest o,
+      last_is n rest o,
+      le_true node o.node le,
+    ) refl)
 
 pub nearest_stays : (node n left : ℕ) (openers : List Opener) (d : Opener) → 0 < left → left ≤ length openers
     → (get_or openers (left - 1) d).node < node → before node (waiting_openers n (take left openers))
     ≡ waiting_openers n (take left openers)
 nearest_stays node n left openers d some within lt =
+    let rest : List Opener = take (left - 1) openers in
+    let o : Opener = get_or openers (left - 1) d in
     let P : ℕ → Type 0 = λ m. before node (waiting_openers n (take m openers)) ≡ waiting_openers n (take m openers) in
     let same : left - 1 + 1 ≡ left = omega arith in
-    subst P same (last_stays node n (left - 1) openers d (omega arith) lt)
+    subst P same (rw (
+      take_more openers (left - 1) d (omega arith),
+      waiting_last n rest o,
+      last_is n rest o,
+      lt_false node o.node lt,
+    ) refl)
 
 -- the nearest is the last
 first_last : (n : ℕ) (openers : List Opener) (o : Opener) → first_opener (waiting_openers n (openers ++ o ∷ []))
     ≡ Some o
-first_last n openers o = let l = waiting_last n openers o in ap first_opener l.stands
-    ∙ ap (λ (p : Opener). Some p) l.is_it
+first_last n openers o = rw (waiting_last n openers o, last_is n openers o) refl
 
 pub nearest_is : (n : ℕ) (openers : List Opener) → slice_get openers (length openers - 1)
     ≡ first_opener (waiting_openers n openers)

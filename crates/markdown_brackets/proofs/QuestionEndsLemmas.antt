@@ -1,10 +1,9 @@
 -- A chain asks at most as many questions as it has `]`, and no two end together: a `]` that ends the label of an
 -- earlier one asks about no label itself, and no two labels that follow a `]` end at the same byte offset.
-use Rattle.std.proofs.Common.{◌≡◌, ◌⊎◌, inl, inr, ⊎_elim, ℕ, ◌+◌, ◌-◌, ◌<◌, ◌≤◌, Bool, true, false, not, ◌&&◌, ◌||◌}
-use Rattle.std.proofs.Common.{◌==◌, List}
-use Rattle.std.proofs.Common.{[], ◌∷◌, ◌++◌, length, map, Option, Some, None, cond, refl, sym, ap, subst, ◌∙◌, arith}
-use Rattle.std.proofs.Common.{append-nil, drop}
-use Rattle.std.proofs.Common.{get_or, take, nat_le, nat_eq, length-append, length-drop, length-take}
+use Rattle.std.proofs.Common.{◌≡◌, ◌⊎◌, inl, inr, ⊎_elim, ℕ, ◌+◌, ◌-◌, ◌<◌, ◌≤◌, Bool, true, false, not, ◌&&◌}
+use Rattle.std.proofs.Common.{◌==◌, List, [], ◌∷◌, ◌++◌, length, map, Option, Some, None, cond, refl, sym, ap, subst}
+use Rattle.std.proofs.Common.{◌∙◌, arith, append-nil, drop, get_or, take, nat_le, nat_eq, length-append, length-drop}
+use Rattle.std.proofs.Common.{length-take, suc}
 use Rattle.std.specs.Prelude.{IfSome, slice_range}
 use Rattle.std.specs.List.{AllByRecursion, IsDistinct, list_any}
 use Rattle.std.proofs.lemmas.Bool.Decides.{nat_tests}
@@ -18,47 +17,35 @@ use Rattle.markdown_base.specs.WellFormed.{StandsOverMarkup}
 use Rattle.markdown_base.specs.declared.item.ItemBody.{ItemBody}
 use Rattle.markdown_base.specs.declared.item.ItemBody.TheVariants as body
 use Rattle.markdown_document.specs.ChainRest.{begun_at, cut_shape, end_of, open_body, start_of}
-use Rattle.markdown_document.specs.Document.{Shape, leaf, enclosed, plain, backslash_break, unresolved, Label}
+use Rattle.markdown_document.specs.Document.{Shape, plain, Label}
 use Rattle.markdown_document.specs.Setting.{Known}
 use Rattle.markdown_brackets.specs.BracketDecision.{Around, Closing, Progress, block_text, lines}
 use Rattle.markdown_brackets.specs.ClosingBracket.{closed}
 use Rattle.markdown_brackets.specs.QuestionEnds.{AsksNothing, HoldsNoOpener, StandInLine, StandsInLine}
 use Rattle.markdown_brackets.specs.QuestionsAsked.{AsksAtMost, EndApart, closers_among, closes_bracket}
-use Rattle.markdown_brackets.specs.ReadChain.{Reader, among, begun, closing_of, opened, read, read_as, read_chain}
-use Rattle.markdown_brackets.specs.ReadChain.{read_past}
+use Rattle.markdown_brackets.specs.ReadChain.{Reader, among, begun, closing_of, read, read_as, read_chain, read_past}
 use Rattle.markdown_brackets.specs.Reference.{is_closer}
 use Rattle.markdown_brackets.proofs.AsksAboutLemmas.{Asks, AsksFull, AsksNone, AsksOwn, AtMostOneTo, Told, closed_told}
 use Rattle.markdown_brackets.proofs.AsksAboutLemmas.{full_label, told_by}
 use Rattle.markdown_brackets.proofs.LabelPairLemmas.{IsLabelFrom, first_byte, labels_apart}
+use Rattle.markdown_brackets.proofs.ReadChainLemmas.{Reads, chain_keeps}
+use Rattle.std.proofs.lemmas.Bool.{or_right}
 
 -- cutting leaves it open what an item opens or closes
 cut_body : (n : ℕ) (shape : Shape) → open_body (cut_shape n shape) ≡ open_body shape
-cut_body n (leaf e origins) = refl
-cut_body n (enclosed tag) = refl
 cut_body n plain = refl
-cut_body n backslash_break = refl
-cut_body n (unresolved b) = refl
+cut_body n other = refl
 
 -- ---- how many questions
 
--- at most `closers` more questions, and none at a limit of 0, which stays 0
-record MoreAtMost (closers : ℕ) (s t : Told) : Type 0 where
-  once : length t.asked ≤ length s.asked + closers
+-- at most n questions where `closers` more are still asked, and none at a limit of 0, which stays 0
+record AtMost (n closers : ℕ) (s t : Told) : Type 0 where
+  once : length t.asked + closers ≤ n
   silent : s.limit ≡ 0 → (t.limit ≡ 0) × (t.asked ≡ s.asked)
 
-no_more : (closers : ℕ) (s t : Told) → t ≡ s → MoreAtMost closers s t
-no_more closers s t e =
-    let size : length t.asked ≡ length s.asked = ap (λ (u : Told). length u.asked) e in
-    record {
-      once = omega (arith, size);
-      silent = λ z. (ap (λ (u : Told). u.limit) e ∙ z, ap (λ (u : Told). u.asked) e);
-    }
-
-both_more : (n m : ℕ) (s t u : Told) → MoreAtMost n s t → MoreAtMost m t u → MoreAtMost (n + m) s u
-both_more n m s t u first second = record {
-  once = omega (arith, first.once, second.once);
-  silent = λ z. let h = first.silent z in let k = second.silent h.0 in (k.0, k.1 ∙ h.1);
-}
+no_more : (n closers fewer : ℕ) (s t u : Told) → fewer ≤ closers → u ≡ t → AtMost n closers s t → AtMost n fewer s u
+no_more n closers fewer s t u le e h =
+    subst (AtMost n fewer s) (sym e) (record { once = omega (arith, h.once, le); silent = h.silent })
 
 one_at_most : (end : ℕ) (more : List Question) → AtMostOneTo end more → length more ≤ 1
 one_at_most end [] h = omega arith
@@ -72,14 +59,18 @@ few_asked w c s t h = ⊎_elim
     (λ (k : AsksOwn w c h.more s.spent t.spent). one_at_most (end_of c.label) h.more k.most)
     (λ (k : AsksNone w c h.more s.spent t.spent). let none = ap length k.none in omega (arith, none)) k) h.way
 
-closer_more : {A : Type 0} (w : Around) (c : Closing A) (s t : Told) → Asks w c s t → MoreAtMost 1 s t
-closer_more w c s t h =
-    let sum : length t.asked ≡ length s.asked + length h.more = ap length h.asked ∙ length-append s.asked h.more in
-    let same : (more : List Question) → more ≡ [] → s.asked ++ more ≡ s.asked =
-    λ more e. ap (λ (more : List Question). s.asked ++ more) e ∙ append-nil s.asked in
+closer_more : {A : Type 0} (w : Around) (c : Closing A) (n closers : ℕ) (s t u : Told) → Asks w c t u
+    → AtMost n (suc closers) s t → AtMost n closers s u
+closer_more w c n closers s t u a h =
+    let sum : length u.asked ≡ length t.asked + length a.more = ap length a.asked ∙ length-append t.asked a.more in
     record {
-      once = omega (arith, few_asked w c s t h, sum);
-      silent = λ z. ((h.silent z).0, h.asked ∙ same h.more (h.silent z).1);
+      once = omega (arith, few_asked w c t u a, sum, h.once);
+      silent = λ z.
+          let none = a.silent (h.silent z).0 in (
+            none.0,
+            a.asked ∙ ap (λ (more : List Question). t.asked ++ more) none.1 ∙ append-nil t.asked
+                ∙ (h.silent z).1,
+          );
     }
 
 abbrev one_if : Bool → ℕ
@@ -90,54 +81,51 @@ module _ {A : Type 0} (w : Around) (others : Reader A) (nothing : AsksNothing ot
       ≡ told_by p
   other_told a below rest p = ap told_by (nothing a below rest p)
 
-  read_as_more : (b : ItemBody) (a : Label A) (below rest : Forest (Label A)) (p : Progress A)
-      → MoreAtMost (one_if (is_closer b)) (told_by p) (told_by (read_as w others b a below rest p))
-  read_as_more body.MaybeLinkOpen a below rest p = no_more 0 (told_by p) (told_by (opened w false a rest p)) refl
-  read_as_more body.MaybeImage a below rest p = no_more 0 (told_by p) (told_by (opened w true a rest p)) refl
-  read_as_more (body.MaybeLinkClose could) a below rest p =
-      let c : Closing A = closing_of could a rest p in
-      closer_more w c (told_by p) (told_by (closed w c p)) (closed_told w c p)
-  read_as_more other a below rest p =
-      no_more (one_if (is_closer other)) (told_by p) (told_by (others a below rest p)) (other_told a below rest p)
+  closers_on : (a : Label A) (rest : Forest (Label A))
+      → closers_among (a ∷ roots rest) ≡ one_if (closes_bracket a) + closers_among (roots rest)
+  closers_on a rest = sum_by-cons (λ (a : Label A). one_if (closes_bracket a)) a (roots rest)
 
-  read_past_more : (goes_on : Option ℕ) (a : Label A) (below rest : Forest (Label A)) (p : Progress A)
-      → MoreAtMost (one_if (closes_bracket a)) (told_by p) (told_by (read_past w others goes_on a below rest p))
-  read_past_more None a below rest p = read_as_more (open_body a.part.shape) a below rest p
-  read_past_more (Some i) a below rest p = by (nat_le (end_of a) i)
-    where
-      after : Progress A
-      after = read w others (begun_at i a) below rest (record p { goes_on = None })
+  more_reads : (n : ℕ) (s : Told)
+      → Reads w others (λ chain q. AtMost n (closers_among (roots chain)) s (told_by q))
+  more_reads n s = record {
+    opens = λ i a below rest q h. no_more n (closers_among (a ∷ roots rest)) (closers_among (roots rest)) s (told_by q)
+        (told_by q) (omega (arith, closers_on a rest)) refl h;
+    closes = λ could a below rest q e h.
+        let c : Closing A = closing_of could a rest q in
+        let one : one_if (closes_bracket a) ≡ 1 = ap (λ (b : ItemBody). one_if (is_closer b)) e in
+        let all = no_more n (closers_among (a ∷ roots rest)) (suc (closers_among (roots rest))) s (told_by q)
+        (told_by q) (omega (arith, closers_on a rest, one)) refl h in
+        closer_more w c n (closers_among (roots rest)) s (told_by q) (told_by (closed w c q)) (closed_told w c q) all;
+    other = λ a below rest q h. no_more n (closers_among (a ∷ roots rest)) (closers_among (roots rest)) s (told_by q)
+        (told_by (others a below rest q)) (omega (arith, closers_on a rest)) (other_told a below rest q) h;
+    passes = λ a below rest q h. no_more n (closers_among (a ∷ roots rest)) (closers_among (roots rest)) s (told_by q)
+        (told_by q) (omega (arith, closers_on a rest)) refl h;
+    cuts = λ i a below rest q h.
+        let same : one_if (closes_bracket (begun_at i a)) ≡ one_if (closes_bracket a) =
+        ap (λ (b : ItemBody). one_if (is_closer b)) (cut_body (i - start_of a) a.part.shape) in
+        no_more n (closers_among (a ∷ roots rest)) (closers_among (begun_at i a ∷ roots rest)) s (told_by q)
+        (told_by q) (omega (arith, closers_on a rest, closers_on (begun_at i a) rest, same)) refl h;
+  }
 
-      here : MoreAtMost (one_if (closes_bracket a)) (told_by p) (told_by after)
-      here = subst (λ (b : ItemBody). MoreAtMost (one_if (is_closer b)) (told_by p) (told_by after))
-          (cut_body (i - start_of a) a.part.shape)
-          (read_as_more (open_body (begun_at i a).part.shape) (begun_at i a) below rest (record p { goes_on = None }))
-
-      by : (b : Bool) → MoreAtMost (one_if (closes_bracket a)) (told_by p) (told_by (cond b p after))
-      by true = no_more (one_if (closes_bracket a)) (told_by p) (told_by p) refl
-      by false = here
-
-  chain_more : (chain : Forest (Label A)) (p : Progress A)
-      → MoreAtMost (closers_among (roots chain)) (told_by p) (told_by (read_chain w others chain p))
-  unfolding read_chain
-  chain_more nil p = no_more 0 (told_by p) (told_by p) refl
-  chain_more (node a below rest) p =
-      let here : Progress A = read_past w others p.goes_on a below rest p in
-      let later = chain_more rest here in
-      subst (λ (n : ℕ). MoreAtMost n (told_by p) (told_by (read_chain w others rest here)))
-      (sym (sum_by-cons (λ (a : Label A). one_if (closes_bracket a)) a (roots rest)))
-      (both_more (one_if (closes_bracket a)) (closers_among (roots rest)) (told_by p) (told_by here)
-      (told_by (read_chain w others rest here)) (read_past_more p.goes_on a below rest p) later)
+  few_more : (chain : Forest (Label A)) (known : Known)
+      → AtMost (closers_among (roots chain)) 0 (told_by (begun {A = A} known))
+      (told_by (read_chain w others chain (begun known)))
+  few_more chain known =
+      let s : Told = told_by (begun {A = A} known) in
+      let h = chain_keeps (more_reads (closers_among (roots chain)) s) chain (begun known)
+      (record { once = omega arith; silent = λ z. (z, refl) }) in
+      record { once = omega (arith, h.once); silent = h.silent }
 
   pub asks_at_most : (chain : Forest (Label A)) (known : Known)
       → AsksAtMost (closers_among (roots chain)) known.limit (read_chain w others chain (begun known)).asked
-  asks_at_most chain known = let h = chain_more chain (begun known) in record
-      { once = omega (arith, h.once); silent = λ z. (h.silent z).1 }
+  asks_at_most chain known =
+      let h = few_more chain known in
+      record { once = omega (arith, h.once); silent = λ z. (h.silent z).1 }
 
   -- a limit of 0 stays
   pub stays_zero : (chain : Forest (Label A)) (known : Known) → known.limit ≡ 0
       → (read_chain w others chain (begun known)).known.limit ≡ 0
-  stays_zero chain known z = ((chain_more chain (begun known)).silent z).0
+  stays_zero chain known z = ((few_more chain known).silent z).0
 
 -- ---- where they end
 
@@ -156,15 +144,10 @@ all_pushed P (y ∷ xs) x h k = (h.0, all_pushed P xs x h.1 k)
 none_there : (end : ℕ) (questions : List Question) → AllByRecursion (λ q. (end ≡ q.span.end) → ⊥) questions
     → list_any (nat_eq end) (map (λ q. q.span.end) questions) ≡ false
 none_there end [] h = refl
-none_there end (q ∷ questions) h =
-    neither (nat_eq end q.span.end) (list_any (nat_eq end) (map (λ q. q.span.end) questions)) (apart h.0)
-    (none_there end questions h.1)
+none_there end (q ∷ questions) h = rw (apart h.0, none_there end questions h.1) refl
   where
     apart : ((end ≡ q.span.end) → ⊥) → nat_eq end q.span.end ≡ false
     apart h = grind (arith, nat_tests, h)
-
-    neither : (a b : Bool) → a ≡ false → b ≡ false → (a || b) ≡ false
-    neither a b e f = rw (e, f) refl
 
 apart_pushed : (questions : List Question) (q : Question) → EndApart questions
     → AllByRecursion (λ r. (q.span.end ≡ r.span.end) → ⊥) questions → EndApart (questions ++ q ∷ [])
@@ -174,11 +157,7 @@ apart_pushed questions q h k =
     (none_there q.span.end questions k))
 
 among_more : (n m : ℕ) (ms : List ℕ) → among n ms ≡ true → among n (m ∷ ms) ≡ true
-among_more n m ms h = by (n == m)
-  where
-    by : (b : Bool) → (b || among n ms) ≡ true
-    by true = refl
-    by false = h
+among_more n m ms h = or_right (n == m) (among n ms) h
 
 -- a label that follows a `]` by a byte ends there, whose own `]` is used up
 record IsUsedUp (w : Around) (last : ℕ) (spent : List ℕ) (end : ℕ) : Type 0 where
@@ -342,11 +321,8 @@ if_closes text last (body.MaybeLinkClose could) a next h is l =
 if_closes text last other a next h is l = tt
 
 unused_then : (could used : Bool) → (could && not used) ≡ true → used ≡ false
-unused_then could true h = by could h
-  where
-    by : (could : Bool) → (could && not true) ≡ true → true ≡ false
-    by true h = cc h
-    by false h = cc h
+unused_then true true h = cc h
+unused_then false true h = cc h
 unused_then could false h = refl
 
 module _ {A : Type 0} (w : Around) (others : Reader A) (nothing : AsksNothing others) (none : HoldsNoOpener w.skipped)

@@ -4,7 +4,7 @@ use Rattle.markdown_base.specs.Forest.{Forest, nil, node}
 use Rattle.markdown_base.specs.declared.item.ItemBody.{ItemBody}
 use Rattle.markdown_base.specs.declared.item.ItemBody.TheVariants as body
 use Rattle.markdown_document.specs.ChainRest.{open_body}
-use Rattle.markdown_document.specs.Document.{Shape, leaf, enclosed, plain, backslash_break, unresolved, Label}
+use Rattle.markdown_document.specs.Document.{Shape, unresolved, Label}
 use Rattle.markdown_document.specs.Waiting.{is_quiet, waits_for_pairing}
 use Rattle.markdown_brackets.specs.BracketDecision.{Around, Progress}
 use Rattle.markdown_brackets.specs.LeftList.{Entry, done, trees_onto, all_done}
@@ -31,11 +31,8 @@ module _ {A : Type 0} (w : Around) (others : Reader A) (leaves : LeavesQuiet oth
   read_elsewhere : (shape : Shape) (a : Label A) (below rest : Forest (Label A)) (p : Progress A) → is_quiet shape
       ≡ true
       → read_as w others (open_body shape) a below rest p ≡ others a below rest p
-  read_elsewhere (leaf e origins) a below rest p h = refl
-  read_elsewhere (enclosed tag) a below rest p h = refl
-  read_elsewhere plain a below rest p h = refl
-  read_elsewhere backslash_break a below rest p h = refl
   read_elsewhere (unresolved b) a below rest p h = waits_elsewhere b a below rest p h
+  read_elsewhere other a below rest p h = refl
 
   all_left : (chain : Forest (Label A)) (p : Progress A) → p.goes_on ≡ None → WaitsAtMost chain
       → read_chain w others chain p ≡ record p { left = all_done chain p.left }

@@ -1,7 +1,6 @@
 -- Separators are ASCII: the text may be cut after them.
 use Rattle.std.proofs.Common.{◌≡◌, ℕ, suc, ◌+◌, ◌≤◌, Bool, true, ◌&&◌, ◌==◌, List, [], ◌∷◌, Option, Some, None, IfSome}
-use Rattle.std.proofs.Common.{length, take, drop}
-use Rattle.std.proofs.Common.{cond, arith, refl, subst}
+use Rattle.std.proofs.Common.{length, take, drop, cond, arith, refl, subst}
 use Rattle.std.specs.List.{list_all, prefix_len}
 use Rattle.std.specs.Char.{is_ascii}
 use Rattle.std.specs.Str.{IsUtf8, IsCharBoundary}

@@ -1,13 +1,13 @@
 -- The title of a tail comes from the source: it is what is written between its marks.
 use Rattle.std.proofs.Common.{◌≡◌, ℕ, suc, ◌+◌, ◌-◌, ◌≤◌, ◌==◌, Bool, true, false, List, [], ◌∷◌, Option, Some, None}
-use Rattle.std.proofs.Common.{take, drop}
-use Rattle.std.proofs.Common.{slice_range, refl, sym, ◌∙◌, ap, subst, arith, ◌<◌, is_some, nat_lt, unwrap_or}
+use Rattle.std.proofs.Common.{take, drop, slice_range, refl, sym, ◌∙◌, ap, subst, arith, ◌<◌, is_some, nat_lt}
+use Rattle.std.proofs.Common.{unwrap_or}
 use Rattle.std.specs.Option.{option_and_then, option_map}
 use Rattle.std.specs.Prelude.{slice_index, if◌then◌else◌, ⊤, IfSome}
 use Rattle.markdown_base.specs.CowText.{text_of}
 use Rattle.markdown_base.specs.StoredTexts.{IsBorrowed}
 use Rattle.markdown_base.specs.declared.cow_str.CowStr.{CowStr}
-use Rattle.markdown_base.specs.declared.cow_str.CowStr.TheVariants.{Boxed, Borrowed, Inlined}
+use Rattle.markdown_base.specs.declared.cow_str.CowStr.TheVariants.{Borrowed}
 use Rattle.markdown_base.specs.Bytes.{backslash, line_feed}
 use Rattle.markdown_base.specs.declared.tag.LinkType.TheVariants as kind
 use Rattle.markdown_scan.specs.Backslash.{is_bare}
@@ -25,7 +25,8 @@ use Rattle.markdown_brackets.specs.declared.link_tail.LinkTail.{LinkTail}
 use Rattle.markdown_brackets.proofs.ChainAheadLemmas.{is_below}
 use Rattle.markdown_brackets.proofs.TitleLemmas.{after, joined_after}
 
--- a title from the byte i on ends after it, and where no bytes are skipped and no line is joined is the bytes up to its closing mark
+-- a title from the byte i on ends after it, and where no bytes are skipped and no line is joined is the
+-- bytes up to its closing mark
 abbrev IsFrom : (from i : ℕ) → List ℕ → Option Title → Type 0
 IsFrom from i bytes None = ⊤
 IsFrom from i bytes (Some t) = (i < t.ends) × (from ≤ i → t.is_joined ≡ false → t.text ≡ take (t.ends - 1 - i) bytes)
@@ -95,8 +96,7 @@ title_is_at starts text i = by (closer_of (slice_index text i))
 
 borrowed_sliced : (c : CowStr) → IsBorrowed c → origin_of c ≡ sliced
 borrowed_sliced (Borrowed slice) h = refl
-borrowed_sliced (Boxed boxed) h = absurd h
-borrowed_sliced (Inlined inlined) h = absurd h
+borrowed_sliced other h = absurd h
 
 module _ (in_table : Bool) (skipped : List ℕ → Option ℕ) (starts : ℕ → Option ℕ) (source : List ℕ) (block_end at : ℕ)
     (found : LinkTail) where

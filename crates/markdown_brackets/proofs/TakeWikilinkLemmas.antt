@@ -1,8 +1,7 @@
 -- A left list before a `]` in an arena: the openers on the stacks are those of the list, and are where the list says.
-use Rattle.std.proofs.Common.{◌≡◌, ℕ, ◌≤◌, Bool, true, false, ◌&&◌, List, [], ◌∷◌, Option, Some, None, length, refl}
-use Rattle.std.proofs.Common.{sym, ◌∙◌, ap, subst}
-use Rattle.std.proofs.Common.{arith}
-use Rattle.std.specs.Prelude.{IfSome, MatchOption, if◌then◌else◌}
+use Rattle.std.proofs.Common.{◌≡◌, ℕ, ◌≤◌, Bool, true, false, List, [], ◌∷◌, Option, Some, None, length, refl}
+use Rattle.std.proofs.Common.{sym, ◌∙◌, ap, subst, arith}
+use Rattle.std.specs.Prelude.{IfSome, MatchOption, if◌then◌else◌, ⊤}
 use Rattle.markdown_base.specs.Arena.{sibling_of}
 use Rattle.markdown_base.specs.ArenaForest.{links_of}
 use Rattle.markdown_base.specs.BlockTree.{item_at}
@@ -15,9 +14,8 @@ use Rattle.markdown_document.specs.Document.{Label}
 use Rattle.markdown_document.specs.Totals.{same}
 use Rattle.markdown_document.proofs.TablesLemmas.{same-refl}
 use Rattle.markdown_brackets.specs.BracketDecision.{Around, Closing, Decision, Written, Progress, Wikilink}
-use Rattle.markdown_brackets.specs.BracketDecision.{bracket_found, carried_out, decided}
-use Rattle.markdown_brackets.specs.BracketDecision.{found, left_for_one, past_second, second_end, wikilink}
-use Rattle.markdown_brackets.specs.BracketDecision.{wikilink_found, wikilink_in}
+use Rattle.markdown_brackets.specs.BracketDecision.{bracket_found, carried_out, decided, found, left_for_one}
+use Rattle.markdown_brackets.specs.BracketDecision.{past_second, second_end, wikilink, wikilink_found, wikilink_in}
 use Rattle.std.specs.Option.{option_and_then, option_map, option_or}
 use Rattle.markdown_base.specs.EnabledOptions.{wikilinks_on}
 use Rattle.markdown_brackets.specs.ChainHeld.{Holds, numbers_of, times_of}
@@ -25,23 +23,24 @@ use Rattle.markdown_brackets.specs.Decides.{StandsBefore}
 use Rattle.markdown_brackets.specs.DecisionView.{opener_of}
 use Rattle.markdown_brackets.specs.Finish.{IsSplit}
 use Rattle.markdown_brackets.specs.LeftList.{Entry, Split, done, inside, is_live, nearest, opens_bracket}
-use Rattle.markdown_brackets.specs.LeftList.{opens_wikilink, waits, without_bracket}
-use Rattle.markdown_brackets.specs.LeftList.{without_wikilink, bracket_taken, wikilink_taken, trees_onto}
+use Rattle.markdown_brackets.specs.LeftList.{opens_wikilink, waits, without_bracket, without_wikilink, bracket_taken}
+use Rattle.markdown_brackets.specs.LeftList.{wikilink_taken, trees_onto, Flag, Mark}
 use Rattle.markdown_brackets.specs.HeldOpeners.{brackets_of, wikilinks_of}
 use Rattle.markdown_brackets.specs.Openers.{Waiting}
 use Rattle.markdown_brackets.specs.Reference.{is_closer}
 use Rattle.markdown_brackets.specs.StandsAt.{FindsWikilink, IsWikilink, HoldsInside, TriesWikilink, TakesNone}
 use Rattle.markdown_brackets.specs.StandsAt.{TakesWikilink}
 use Rattle.markdown_brackets.specs.declared.closing_bracket.ClosedBracket.{ClosedBracket}
-use Rattle.markdown_brackets.specs.declared.closing_bracket.ClosedBracket.TheVariants.{Text, Link, Footnote, Wikilinked}
+use Rattle.markdown_brackets.specs.declared.closing_bracket.ClosedBracket.TheVariants.{Wikilinked}
 use Rattle.markdown_brackets.specs.declared.openers.Opener.{Opener}
 use Rattle.markdown_brackets.proofs.AheadOfBracketLemmas.{same_start, same_end, same_closer}
 use Rattle.markdown_brackets.proofs.BracketStandsLemmas.{Found, found_after, found_at, height_found}
 use Rattle.markdown_brackets.proofs.HeldTreesLemmas.{Holds-from, height-later, total-onto, total-joined}
-use Rattle.markdown_brackets.proofs.OpenerHeldLemmas.{TopBracket, TopWikilink, top_bracket, top_wikilink}
-use Rattle.markdown_brackets.proofs.OpenerHeldLemmas.{wikilinks_stay, brackets_stay}
-use Rattle.markdown_brackets.proofs.OpenerHeldLemmas.{trees_stay, splits_at, SplitsAt, onto_joined}
+use Rattle.markdown_brackets.proofs.OpenerHeldLemmas.{top_bracket, top_wikilink, wikilinks_stay, brackets_stay}
+use Rattle.markdown_brackets.proofs.OpenerHeldLemmas.{trees_stay, splits_at, SplitsAt, onto_joined, Top, for_bracket}
+use Rattle.markdown_brackets.proofs.OpenerHeldLemmas.{for_wikilink}
 use Rattle.markdown_brackets.proofs.SplitLemmas.{taken_splits}
+use Rattle.std.proofs.Math.Bool.{and-false}
 
 -- a stack that was not empty
 abbrev pub rest_of : List Waiting → List Waiting
@@ -52,20 +51,41 @@ abbrev pub first_of : Waiting → List Waiting → Waiting
 first_of other [] = other
 first_of other (t ∷ held) = t
 
+-- what is left of a stack whose top was taken off
+abbrev pub TakenOff : Option (Opener × Bool) → (old new : List Waiting) → Type 0
+TakenOff taken old new =
+    MatchOption taken ((old ≡ []) × (new ≡ [])) (λ t. old ≡ record { opener = t.0; is_live = t.1 } ∷ new)
+
+pub left_of : (taken : Option (Opener × Bool)) (old new : List Waiting) → TakenOff taken old new → new ≡ rest_of old
+left_of None old new m = m.1 ∙ sym (ap rest_of m.0)
+left_of (Some t) old new m = sym (ap rest_of m)
+
+-- the opener on top is the nearest one
+abbrev pub IsNearest : (Mark → Flag) → Option (Opener × Bool) → Option (Split ℕ) → Type 0
+IsNearest flag None None = ⊤
+IsNearest flag (Some t) (Some o) = (t.0 ≡ opener_of o) × (t.1 ≡ is_live (flag o.mark))
+IsNearest flag taken o = ⊥
+
+pub is_nearest : (flag : Mark → Flag) (taken : Option (Opener × Bool)) (old new held rest : List Waiting)
+    (o : Option (Split ℕ)) → TakenOff taken old new → old ≡ held → Top flag held rest o → IsNearest flag taken o
+is_nearest flag None old new held rest None m e top = tt
+is_nearest flag None old new held rest (Some o) m e top = let a = sym m.0 ∙ e ∙ top in cc
+is_nearest flag (Some t) old new held rest None m e top = let a = sym m ∙ e ∙ top.0 in cc
+is_nearest flag (Some t) old new held rest (Some o) m e top =
+    let first = ap (first_of (record { opener = t.0; is_live = t.1 })) (sym m ∙ e ∙ top) in
+    (ap (λ (v : Waiting). v.opener) first, ap (λ (v : Waiting). v.is_live) first)
+
 -- without the one on top, a stack holds the list without the nearest opener
-pub rest_wikilinks : (left : List (Entry ℕ)) → rest_of (wikilinks_of left) ≡ wikilinks_of (wikilink_taken left)
-rest_wikilinks left = by (nearest opens_wikilink left) (top_wikilink left)
-  where
-    by : (o : Option (Split ℕ)) → TopWikilink left o → rest_of (wikilinks_of left) ≡ wikilinks_of (wikilink_taken left)
-    by None h = ap rest_of h.0 ∙ sym h.1
-    by (Some o) h = ap rest_of h
+rest_is : (flag : Mark → Flag) (held rest : List Waiting) (o : Option (Split ℕ)) → Top flag held rest o
+    → rest_of held ≡ rest
+rest_is flag held rest None h = ap rest_of h.0 ∙ sym h.1
+rest_is flag held rest (Some o) h = ap rest_of h
+
+rest_wikilinks : (left : List (Entry ℕ)) → rest_of (wikilinks_of left) ≡ wikilinks_of (wikilink_taken left)
+rest_wikilinks left = rest_is for_wikilink _ _ (nearest opens_wikilink left) (top_wikilink left)
 
 pub rest_brackets : (left : List (Entry ℕ)) → rest_of (brackets_of left) ≡ brackets_of (bracket_taken left)
-rest_brackets left = by (nearest opens_bracket left) (top_bracket left)
-  where
-    by : (o : Option (Split ℕ)) → TopBracket left o → rest_of (brackets_of left) ≡ brackets_of (bracket_taken left)
-    by None h = ap rest_of h.0 ∙ sym h.1
-    by (Some o) h = ap rest_of h
+rest_brackets left = rest_is for_bracket _ _ (nearest opens_bracket left) (top_bracket left)
 
 -- openers are taken off in any order
 taken_both : (left : List (Entry ℕ)) → wikilink_taken (bracket_taken left) ≡ bracket_taken (wikilink_taken left)
@@ -187,10 +207,6 @@ module _ (nodes : List (Node Item)) (closer : ℕ) (left : List (Entry ℕ)) (c 
         by nil = refl
         by (node a below after) = rw off refl
 
-    and_false : (b : Bool) → (b && false) ≡ false
-    and_false true = refl
-    and_false false = refl
-
     pub none_by_next : (held : List Waiting) → held ≡ wikilinks_of left
         → MatchOption (sibling_of nodes closer) (Unit {0}) (λ next. is_closer (item_at nodes next).body ≡ false)
         → TakesNone w c left held
@@ -205,7 +221,7 @@ module _ (nodes : List (Node Item)) (closer : ℕ) (left : List (Entry ℕ)) (c 
             let none : is_closer (open_body a.part.shape) ≡ false =
             sym (same_closer s.source s.tables nodes a h.2) ∙ subst (λ n. is_closer (item_at nodes n).body ≡ false) e m
             in
-            rw (none, and_false (wikilinks_on w.setting.rules.options)) refl
+            rw (none, and-false (wikilinks_on w.setting.rules.options)) refl
 
     -- where a wikilink is tried
     module _ (next : ℕ) (is_next : sibling_of nodes closer ≡ Some next) (closes : is_closer (item_at nodes next).body
@@ -246,97 +262,81 @@ module _ (nodes : List (Node Item)) (closer : ℕ) (left : List (Entry ℕ)) (c 
           decided_is (Some end) second_is (record p { left = left }) ∙ ap (λ x. carried_out w (option_or x one) now) e
 
       module _ (taken : Option (Opener × Bool)) (old new : List Waiting) (old_is : old ≡ wikilinks_of left)
-          (m : MatchOption taken ((old ≡ []) × (new ≡ [])) (λ t. old ≡ record { opener = t.0; is_live = t.1 } ∷ new))
-        where
-          new_is : new ≡ rest_of (wikilinks_of left)
-          new_is = by taken m ∙ ap rest_of old_is
-            where
-              by : (taken : Option (Opener × Bool))
-                  → MatchOption taken ((old ≡ []) × (new ≡ [])) (λ t. old ≡ record { opener = t.0; is_live = t.1 } ∷ new)
-                  → new ≡ rest_of old
-              by None m = m.1 ∙ sym (ap rest_of m.0)
-              by (Some t) m = sym (ap rest_of m)
+          (m : TakenOff taken old new) where
+        new_is : new ≡ rest_of (wikilinks_of left)
+        new_is = left_of taken old new m ∙ ap rest_of old_is
 
-          tries_two : (o : Option (Split ℕ)) → wikilink_opener ≡ o → TriesWikilink nodes closer taken c o
-          tries_two o e = by taken m o (subst (TopWikilink (bracket_taken left)) e (top_wikilink (bracket_taken left)))
-              (subst (λ o. IfSome o (SplitsAt (bracket_taken left))) e (splits_at opens_wikilink (bracket_taken left)))
-            where
-              by : (taken : Option (Opener × Bool))
-                  → MatchOption taken ((old ≡ []) × (new ≡ [])) (λ t. old ≡ record { opener = t.0; is_live = t.1 } ∷ new)
-                  → (o : Option (Split ℕ)) → TopWikilink (bracket_taken left) o → IfSome o (SplitsAt (bracket_taken left))
-                  → TriesWikilink nodes closer taken c o
-              by None m None top splits = tt
-              by None m (Some o) top splits = let a = sym m.0 ∙ (old_is ∙ (sym (wikilinks_stay left) ∙ top)) in cc
-              by (Some t) m None top splits = let a = sym m ∙ (old_is ∙ (sym (wikilinks_stay left) ∙ top.0)) in cc
-              by (Some t) m (Some o) top splits =
-                  let a = sym m ∙ (old_is ∙ (sym (wikilinks_stay left) ∙ top)) in
-                  let first = ap (first_of (record { opener = t.0; is_live = t.1 })) a in
-                  let opener : t.0 ≡ opener_of o = ap (λ (v : Waiting). v.opener) first in
-                  record {
-                    opener = opener;
-                    live = ap (λ (v : Waiting). v.is_live) first;
-                    stands = between (bracket_taken left) (trees_stay opens_bracket without_bracket left) o splits t.0
-                        opener;
-                  }
+        tries_two : (o : Option (Split ℕ)) → wikilink_opener ≡ o → TriesWikilink nodes closer taken c o
+        tries_two o e = by taken o (subst (IsNearest for_wikilink taken) e
+            (is_nearest for_wikilink taken old new _ _ _ m (old_is ∙ sym (wikilinks_stay left))
+            (top_wikilink (bracket_taken left))))
+            (subst (λ o. IfSome o (SplitsAt (bracket_taken left))) e (splits_at opens_wikilink (bracket_taken left)))
+          where
+            by : (taken : Option (Opener × Bool)) (o : Option (Split ℕ)) → IsNearest for_wikilink taken o
+                → IfSome o (SplitsAt (bracket_taken left)) → TriesWikilink nodes closer taken c o
+            by None None k splits = tt
+            by (Some t) (Some o) k splits = record {
+              opener = k.0;
+              live = k.1;
+              stands = between (bracket_taken left) (trees_stay opens_bracket without_bracket left) o splits t.0 k.0;
+            }
+            by taken o k splits = absurd k
 
-          pub takes : (r : Option ClosedBracket)
-              → ((o : Option (Split ℕ)) → TriesWikilink nodes closer taken c o → FindsWikilink w end c o r)
-              → TakesWikilink w c left new r
-          takes r finds = by wikilink_opener refl (finds wikilink_opener (tries_two wikilink_opener refl))
-            where
-              takes_none : option_and_then (wikilink_found w c end) wikilink_opener ≡ None → TakesNone w c left new
-              takes_none e = record {
-                left_then = wikilink_taken left;
-                held_is = new_is ∙ rest_wikilinks left;
-                brackets = brackets_stay left;
-                trees = trees_stay opens_wikilink without_wikilink left;
-                decides = decided_as None e;
-              }
+        pub takes : (r : Option ClosedBracket)
+            → ((o : Option (Split ℕ)) → TriesWikilink nodes closer taken c o → FindsWikilink w end c o r)
+            → TakesWikilink w c left new r
+        takes r finds = by wikilink_opener refl (finds wikilink_opener (tries_two wikilink_opener refl))
+          where
+            takes_none : option_and_then (wikilink_found w c end) wikilink_opener ≡ None → TakesNone w c left new
+            takes_none e = record {
+              left_then = wikilink_taken left;
+              held_is = new_is ∙ rest_wikilinks left;
+              brackets = brackets_stay left;
+              trees = trees_stay opens_wikilink without_wikilink left;
+              decides = decided_as None e;
+            }
 
-              by : (o : Option (Split ℕ)) → wikilink_opener ≡ o → FindsWikilink w end c o r → TakesWikilink w c left new r
-              by None q h = subst (λ r. TakesWikilink w c left new r) (sym h)
-                  (takes_none (ap (option_and_then (wikilink_found w c end)) q))
-              by (Some o) q h = inner
-                  (if is_live o.mark.wikilink then wikilink_in w (past_second (inside o)) (start_of c.label) else None)
-                  refl r h
-                where
-                  splits : IsSplit (bracket_taken (wikilink_taken left)) o
-                  splits = subst (λ l. IsSplit l o) (taken_both left)
-                      (subst (λ o. IfSome o (IsSplit (wikilink_taken (bracket_taken left)))) q
-                      (taken_splits opens_wikilink without_wikilink (bracket_taken left)))
+            by : (o : Option (Split ℕ)) → wikilink_opener ≡ o → FindsWikilink w end c o r
+                → TakesWikilink w c left new r
+            by None q h = subst (λ r. TakesWikilink w c left new r) (sym h)
+                (takes_none (ap (option_and_then (wikilink_found w c end)) q))
+            by (Some o) q h = inner
+                (if is_live o.mark.wikilink then wikilink_in w (past_second (inside o)) (start_of c.label) else None)
+                refl r h
+              where
+                splits : IsSplit (bracket_taken (wikilink_taken left)) o
+                splits = subst (λ l. IsSplit l o) (taken_both left)
+                    (subst (λ o. IfSome o (IsSplit (wikilink_taken (bracket_taken left)))) q
+                    (taken_splits opens_wikilink without_wikilink (bracket_taken left)))
 
-                  found_is : (live : Bool) (v : Option (Wikilink ℕ))
-                      → (if live then option_map (λ v. wikilink o v end) v else None)
-                      ≡ option_map (λ v. wikilink o v end) (if live then v else None)
-                  found_is true v = refl
-                  found_is false v = refl
+                found_is : (live : Bool) (v : Option (Wikilink ℕ))
+                    → (if live then option_map (λ v. wikilink o v end) v else None)
+                    ≡ option_map (λ v. wikilink o v end) (if live then v else None)
+                found_is true v = refl
+                found_is false v = refl
 
-                  all_is : (x : Option (Wikilink ℕ))
-                      → (if is_live o.mark.wikilink then wikilink_in w (past_second (inside o)) (start_of c.label) else
-                      None) ≡ x
-                      → option_and_then (wikilink_found w c end) wikilink_opener ≡ option_map (λ v. wikilink o v end) x
-                  all_is x e =
-                      ap (option_and_then (wikilink_found w c end)) q
-                      ∙ (found_is (is_live o.mark.wikilink) (wikilink_in w (past_second (inside o)) (start_of c.label))
-                      ∙ ap (option_map (λ v. wikilink o v end)) e)
+                all_is : (x : Option (Wikilink ℕ))
+                    → (if is_live o.mark.wikilink then wikilink_in w (past_second (inside o)) (start_of c.label) else
+                    None) ≡ x
+                    → option_and_then (wikilink_found w c end) wikilink_opener ≡ option_map (λ v. wikilink o v end) x
+                all_is x e =
+                    ap (option_and_then (wikilink_found w c end)) q
+                    ∙ (found_is (is_live o.mark.wikilink) (wikilink_in w (past_second (inside o)) (start_of c.label))
+                    ∙ ap (option_map (λ v. wikilink o v end)) e)
 
-                  inner : (x : Option (Wikilink ℕ))
-                      → (if is_live o.mark.wikilink then wikilink_in w (past_second (inside o)) (start_of c.label) else
-                      None) ≡ x
-                      → (r : Option ClosedBracket) → IsWikilink w (opener_of o) end (past_second (inside o)) x r
-                      → TakesWikilink w c left new r
-                  inner None e None h = takes_none (all_is None e)
-                  inner None e (Some x) h = absurd h
-                  inner (Some v) e None h = absurd h
-                  inner (Some v) e (Some Text) h = absurd h
-                  inner (Some v) e (Some (Link a b d f)) h = absurd h
-                  inner (Some v) e (Some (Footnote a b)) h = absurd h
-                  inner (Some v) e (Some (Wikilinked a b d f g)) h = record {
-                    opener = o;
-                    wikilink = v;
-                    end = end;
-                    held_is = new_is ∙ (rest_wikilinks left ∙ sym (wikilinks_stay (wikilink_taken left)));
-                    splits = splits;
-                    decides = decided_as (Some (wikilink o v end)) (all_is (Some v) e);
-                    is = h;
-                  }
+                inner : (x : Option (Wikilink ℕ))
+                    → (if is_live o.mark.wikilink then wikilink_in w (past_second (inside o)) (start_of c.label) else
+                    None) ≡ x
+                    → (r : Option ClosedBracket) → IsWikilink w (opener_of o) end (past_second (inside o)) x r
+                    → TakesWikilink w c left new r
+                inner None e None h = takes_none (all_is None e)
+                inner (Some v) e (Some (Wikilinked a b d f g)) h = record {
+                  opener = o;
+                  wikilink = v;
+                  end = end;
+                  held_is = new_is ∙ (rest_wikilinks left ∙ sym (wikilinks_stay (wikilink_taken left)));
+                  splits = splits;
+                  decides = decided_as (Some (wikilink o v end)) (all_is (Some v) e);
+                  is = h;
+                }
+                inner x e r h = absurd h

@@ -14,8 +14,7 @@ use Rattle.markdown_base.specs.declared.node.Node.{Node}
 use Rattle.markdown_document.specs.ChainRest.{as_item, end_of, start_of}
 use Rattle.markdown_document.specs.declared.chain_place.ChainPlace.{ChainPlace}
 use Rattle.markdown_brackets.specs.BracketDecision.{Around, Closing, bracket_found, closer_ends_at, inline_link, lines}
-use Rattle.markdown_brackets.specs.BracketDecision.{past_second}
-use Rattle.markdown_brackets.specs.BracketDecision.{reference_written, start_of_first_past, written}
+use Rattle.markdown_brackets.specs.BracketDecision.{past_second, reference_written, start_of_first_past, written}
 use Rattle.markdown_brackets.specs.BracketOptions.{footnote_style}
 use Rattle.markdown_brackets.specs.ChainAhead.{reaches_closer, starts_from}
 use Rattle.markdown_brackets.specs.DecisionView.{opener_of}

@@ -1,7 +1,6 @@
 -- What a wikilink is in an arena is what the definition makes of the trees between its opener and the `]`.
 use Rattle.std.proofs.Common.{◌≡◌, ℕ, ◌-◌, ◌<◌, ◌≤◌, Bool, true, false, List, [], ◌∷◌, Option, Some, None, length, refl}
-use Rattle.std.proofs.Common.{sym, ◌∙◌, ap}
-use Rattle.std.proofs.Common.{subst, suc, ◌+◌, ◌==◌, arith, drop, get_or, nat_lt, take}
+use Rattle.std.proofs.Common.{sym, ◌∙◌, ap, subst, suc, ◌+◌, ◌==◌, arith, drop, get_or, nat_lt, take}
 use Rattle.std.specs.Prelude.{IfSome, if◌then◌else◌, slice_index, slice_range}
 use Rattle.std.specs.List.{position_or_len}
 use Rattle.std.specs.Option.{option_and_then, option_map}
@@ -25,15 +24,14 @@ use Rattle.markdown_brackets.specs.ChainAhead.{numbers_past}
 use Rattle.markdown_brackets.specs.ChainHeld.{numbers_of, times_of, link_to}
 use Rattle.markdown_brackets.specs.DecisionView.{IsShownAfterPipe, first_shown, shown_of}
 use Rattle.markdown_brackets.specs.Wikilink.{WikilinkBody, Shows, shows_name, shows_nothing, shows_from, cut_at}
-use Rattle.markdown_brackets.specs.Wikilink.{has_pothole, named}
-use Rattle.markdown_brackets.specs.Wikilink.{shown_from, wikilink_body}
+use Rattle.markdown_brackets.specs.Wikilink.{has_pothole, named, shown_from, wikilink_body}
 use Rattle.markdown_base.proofs.ArenaForestLemmas.{height}
 use Rattle.markdown_brackets.specs.LeftList.{Split, inside, is_live}
 use Rattle.markdown_brackets.specs.StandsAt.{FindsWikilink, IsWikilink, IsWikilinkAt, TriesWikilink, wikilink_nodes}
 use Rattle.markdown_brackets.specs.StandsAt.{shown_from_node, shown_in, wikilink_from}
 use Rattle.markdown_brackets.specs.WikilinkNodes.{body_start}
 use Rattle.markdown_brackets.specs.declared.closing_bracket.ClosedBracket.{ClosedBracket}
-use Rattle.markdown_brackets.specs.declared.closing_bracket.ClosedBracket.TheVariants.{Text, Link, Footnote, Wikilinked}
+use Rattle.markdown_brackets.specs.declared.closing_bracket.ClosedBracket.TheVariants.{Wikilinked}
 use Rattle.markdown_brackets.specs.declared.openers.Opener.{Opener}
 use Rattle.markdown_brackets.specs.declared.wikilink_nodes.ShownNodes.{ShownNodes}
 use Rattle.markdown_brackets.specs.declared.wikilink_nodes.ShownNodes.TheVariants.{Over, From}
@@ -107,6 +105,11 @@ module _ (source : List ℕ) (tables : Tables) (nodes : List (Node Item)) (w : A
     (rest : Forest (Label ℕ))
     (reads : (item_at nodes closer.tag).start ≡ start_of closer) (order : start_of closer ≤ end_of closer)
     (opener : Opener) (end : ℕ) where
+  none_at_all : (trees : Forest (Label ℕ)) (r : Option ClosedBracket) → IsWikilinkAt opener end None r
+      → IsWikilink w opener end trees None r
+  none_at_all trees None h = tt
+  none_at_all trees (Some x) h = absurd h
+
   module _ (b : WikilinkBody) (trees : Forest (Label ℕ)) where
     abbrev as_wikilink : Forest (Label ℕ) → Wikilink ℕ
     as_wikilink children = record { name = b.name; has_pothole = has_pothole b.shows; children = children }
@@ -115,10 +118,6 @@ module _ (source : List ℕ) (tables : Tables) (nodes : List (Node Item)) (w : A
         → link_to children ≡ Some (first_shown shown) → IsShownAfterPipe w.setting.text shown
         → (r : Option ClosedBracket) → IsWikilinkAt opener end (Some (b, shown)) r
         → IsWikilink w opener end trees (Some (as_wikilink children)) r
-    is_found shown children so first piped None h = absurd h
-    is_found shown children so first piped (Some Text) h = absurd h
-    is_found shown children so first piped (Some (Link a d e f)) h = absurd h
-    is_found shown children so first piped (Some (Footnote a d)) h = absurd h
     is_found shown children so first piped (Some (Wikilinked a d e f g)) h = (
       h.0,
       h.1,
@@ -128,16 +127,13 @@ module _ (source : List ℕ) (tables : Tables) (nodes : List (Node Item)) (w : A
       h.4,
       subst (IsShownAfterPipe w.setting.text) (sym h.3) piped,
     )
+    is_found shown children so first piped r h = absurd h
 
     from_found : (at : ℕ) (children : Forest (Label ℕ)) → ((n : ℕ) → shown_of w trees (From n at) ≡ children)
         → follows_pipe w.setting.text at ≡ true → (r : Option ClosedBracket)
         → IsWikilinkAt opener end (option_map (λ shown. (b, shown)) (option_map (λ n. From n at) (link_to children))) r
         → IsWikilink w opener end trees (option_map as_wikilink (if_some children)) r
-    from_found at nil so piped r h = none_found r h
-      where
-        none_found : (r : Option ClosedBracket) → IsWikilinkAt opener end None r → IsWikilink w opener end trees None r
-        none_found None h = tt
-        none_found (Some x) h = absurd h
+    from_found at nil so piped r h = none_at_all trees r h
     from_found at (node q below after) so piped r h = is_found (From q.tag at) (node q below after) (so q.tag) refl
         piped r h
 
@@ -169,11 +165,6 @@ module _ (source : List ℕ) (tables : Tables) (nodes : List (Node Item)) (w : A
       ∙ from_is source tables nodes closer nil rest at (omega (arith, behind.0, order)) l trees s.holds apart in
       from_found b trees at (past_byte at trees) (λ n. refl) behind.1 r
       (subst (λ o. IsWikilinkAt opener end (option_map (λ shown. (b, shown)) o) r) is h)
-
-  none_at_all : (trees : Forest (Label ℕ)) (r : Option ClosedBracket) → IsWikilinkAt opener end None r
-      → IsWikilink w opener end trees None r
-  none_at_all trees None h = tt
-  none_at_all trees (Some x) h = absurd h
 
   -- the wikilink of these trees
   pub wikilink_is : (trees : Forest (Label ℕ)) (l : Option ℕ)

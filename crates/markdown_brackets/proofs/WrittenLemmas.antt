@@ -1,7 +1,6 @@
 -- What is read of a block's text, and that nothing is read past its end.
 use Rattle.std.proofs.Common.{rules, ◌≡◌, ℕ, ◌<◌, ◌≤◌, Bool, List, Option, Some, None, Result, Ok, Err, length, take}
-use Rattle.std.proofs.Common.{arith}
-use Rattle.std.proofs.Common.{◌+◌, ◌&&◌, true, false, refl, ◌∙◌, ap, if◌then◌else◌}
+use Rattle.std.proofs.Common.{arith, ◌+◌, ◌&&◌, true, false, refl, ◌∙◌, ap, if◌then◌else◌}
 use Rattle.std.proofs.lemmas.List.{length-take}
 use Rattle.std.specs.Prelude.{IfOk, slice_range}
 use Rattle.std.specs.Option.{option_and_then, option_map, option_or}

@@ -2,7 +2,7 @@ use Rattle.std.proofs.Common.{◌<◌, get_or, arith, sym, subst, Option, None, 
 use Rattle.std.proofs.lemmas.Str.{IsCharBoundary-after_ascii}
 use Rattle.markdown_brackets.specs.LinkTail as tail
 use Rattle.markdown_brackets.specs.LinkTailView.{BorrowsTail, ReadsTail}
-use Rattle.markdown_brackets.proofs.LinkTailLemmas.{tail_closed, tail_open, tail_reads}
+use Rattle.markdown_brackets.proofs.LinkTailLemmas.{tail_closed, tail_open, tail_reads, tail_closes}
 use Rattle.markdown_brackets.proofs.link_tail.scan_link_tail.Goals as goal
 
 pub past_separator-start-requires : goal.past_separator-start-requires
@@ -25,41 +25,26 @@ pub returns-then-not-stands_at-2 : goal.returns-then-not-stands_at-2
 returns-then-not-stands_at-2 g c =
     let start = c.past_separator-start.ensures.value in
     let next = c.past_separator-next.ensures.value in
-    let none = tail_open c.args.rules.now.in_table (g.R.LineRule.skipped c.args.rules.now.rule.now)
-    (g.I.ItemsAfter.starts c.args.items.now) c.args.text.now
-    c.args.at c.in_ok-close.close c.in-Some.written.now c.in_ok-close.title
-    (sym c.stands_at-2.ensures.value ∙ c.if-not-stands_at-2.true) c.in-Some.length
-    (sym c.stands_at.ensures.value ∙ c.if-not-stands_at.false)
-    (rw start at (sym c.in-Some.ensures.value)) (rw start at (rw next at c.in_ok-close.ensures.value)) in
+    let none = tail_open _ _ _ _ _ _ _ _ _
+    (tail_closes c.args.rules.now.in_table (g.R.LineRule.skipped c.args.rules.now.rule.now)
+    (g.I.ItemsAfter.starts c.args.items.now) c.args.text.now c.args.at c.in_ok-close.close c.in-Some.written.now
+    c.in_ok-close.title c.in-Some.length (sym c.stands_at.ensures.value ∙ c.if-not-stands_at.false)
+    (rw start at (sym c.in-Some.ensures.value)) (rw start at (rw next at c.in_ok-close.ensures.value)))
+    (sym c.stands_at-2.ensures.value ∙ c.if-not-stands_at-2.true) in
     record {
       value = subst (λ (t : Option tail.LinkTail). ReadsTail c.args.rules.now.in_table t None) (sym none) tt;
       borrowed = subst (λ (t : Option tail.LinkTail). BorrowsTail t None) (sym none) tt;
     }
 
-pub returns-clause-value : goal.returns-clause-value
-returns-clause-value g c =
+pub returns : goal.returns
+returns g c =
     let start = c.past_separator-start.ensures.value in
     let next = c.past_separator-next.ensures.value in
-    let opens = sym c.stands_at.ensures.value ∙ c.if-not-stands_at.false in
-    let closes = sym c.stands_at-2.ensures.value ∙ c.if-not-stands_at-2.false in
-    let written = rw start at (sym c.in-Some.ensures.value) in
-    let part = rw start at (rw next at c.in_ok-close.ensures.value) in
-    (tail_reads c.args.rules.now.in_table (g.R.LineRule.skipped c.args.rules.now.rule.now)
-    (g.I.ItemsAfter.starts c.args.items.now) c.args.text.now c.args.at
-    c.in_ok-close.close c.in-Some.written.now c.in_ok-destination.destination c.in_ok-close.title closes
-    c.in_ok-destination.ensures.value
-    c.in_ok-destination.ensures.borrowed c.in-Some.length opens written part).reads
-
-pub returns-clause-borrowed : goal.returns-clause-borrowed
-returns-clause-borrowed g c =
-    let start = c.past_separator-start.ensures.value in
-    let next = c.past_separator-next.ensures.value in
-    let opens = sym c.stands_at.ensures.value ∙ c.if-not-stands_at.false in
-    let closes = sym c.stands_at-2.ensures.value ∙ c.if-not-stands_at-2.false in
-    let written = rw start at (sym c.in-Some.ensures.value) in
-    let part = rw start at (rw next at c.in_ok-close.ensures.value) in
-    (tail_reads c.args.rules.now.in_table (g.R.LineRule.skipped c.args.rules.now.rule.now)
-    (g.I.ItemsAfter.starts c.args.items.now) c.args.text.now c.args.at
-    c.in_ok-close.close c.in-Some.written.now c.in_ok-destination.destination c.in_ok-close.title closes
-    c.in_ok-destination.ensures.value
-    c.in_ok-destination.ensures.borrowed c.in-Some.length opens written part).borrows
+    let there = tail_reads _ _ _ _ _ _ _ _ c.in_ok-destination.destination
+    (sym c.stands_at-2.ensures.value ∙ c.if-not-stands_at-2.false) c.in_ok-destination.ensures.value
+    c.in_ok-destination.ensures.borrowed _
+    (tail_closes c.args.rules.now.in_table (g.R.LineRule.skipped c.args.rules.now.rule.now)
+    (g.I.ItemsAfter.starts c.args.items.now) c.args.text.now c.args.at c.in_ok-close.close c.in-Some.written.now
+    c.in_ok-close.title c.in-Some.length (sym c.stands_at.ensures.value ∙ c.if-not-stands_at.false)
+    (rw start at (sym c.in-Some.ensures.value)) (rw start at (rw next at c.in_ok-close.ensures.value))) in
+    record { value = there.reads; borrowed = there.borrows }

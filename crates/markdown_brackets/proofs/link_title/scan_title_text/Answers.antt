@@ -1,6 +1,5 @@
 use Rattle.std.proofs.Common.{◌<◌, ◌≤◌, ◌++◌, ◌∷◌, [], ◌+◌, ℕ, List, Some, None, true, get_or, length, slice_range}
-use Rattle.std.proofs.Common.{string_bytes, sym, ◌∙◌}
-use Rattle.std.proofs.Common.{ap, arith, append_assoc, refl}
+use Rattle.std.proofs.Common.{string_bytes, sym, ◌∙◌, ap, arith, append_assoc, refl}
 use Rattle.std.proofs.Math.Bool.{or-false}
 use Rattle.std.proofs.lemmas.Bool.{false≢true, or_right}
 use Rattle.std.proofs.lemmas.List.{append-nil}

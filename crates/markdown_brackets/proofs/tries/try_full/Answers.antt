@@ -1,31 +1,23 @@
 -- A `]` ends the label, or none does.
-use Rattle.std.proofs.Common.{◌≡◌, ℕ, Bool, true, false, [], ◌∷◌, Option, Some, None, sym, ◌∙◌, ap, subst}
+use Rattle.std.proofs.Common.{ℕ, Bool, [], ◌∷◌, Option, Some, None, sym, ◌∙◌, ap}
 use Rattle.std.specs.Prelude.{if◌then◌else◌}
-use Rattle.markdown_base.specs.Arena.{sibling_of}
 use Rattle.markdown_base.specs.CowText.{text_of}
 use Rattle.markdown_brackets.specs.BracketDecision.{Written, full, link_reference}
-use Rattle.markdown_brackets.specs.ChainAhead.{reaches_closer}
 use Rattle.markdown_brackets.proofs.ComesToLemmas.{comes_to_text, found_as, spends_end}
 use Rattle.markdown_brackets.proofs.WrittenLemmas.{ok_map}
 use Rattle.markdown_brackets.proofs.tries.try_full.Goals as goal
 
 pub returns-then-not-reaches_closer-clause-comes : goal.returns-then-not-reaches_closer-clause-comes
 returns-then-not-reaches_closer-clause-comes g c skipped bodies o opener start =
-    let nodes = c.args.at.now.tree.now.nodes in
-    let none : reaches_closer nodes c.args.about.span.end (sibling_of nodes c.args.at.now.node) ≡ false =
-    subst (λ l. reaches_closer nodes c.args.about.span.end l ≡ false) c.next.ensures.value
-    (sym c.reaches_closer.ensures ∙ c.if-not-reaches_closer.true) in
+    let none = rw c.next.ensures.value at (sym c.reaches_closer.ensures ∙ c.if-not-reaches_closer.true) in
     let by : Bool → Option (Written ℕ) = λ b.
     if b then Some (link_reference o (full (text_of c.args.about.reference) c.args.about.span.end)) else None in
     found_as (ap by (sym none)) (comes_to_text g.F.BrokenLinkCallback.answers _ c.args.lookup.now c.args.spent.now)
 
 pub returns-clause-comes : goal.returns-clause-comes
 returns-clause-comes g c =
-    let nodes = c.args.at.now.tree.now.nodes in
     let end = c.args.about.span.end in
-    let one : reaches_closer nodes end (sibling_of nodes c.args.at.now.node) ≡ true =
-    subst (λ l. reaches_closer nodes end l ≡ true) c.next.ensures.value
-    (sym c.reaches_closer.ensures ∙ c.if-not-reaches_closer.false) in
+    let one = rw c.next.ensures.value at (sym c.reaches_closer.ensures ∙ c.if-not-reaches_closer.false) in
     ok_map c.find_reference.result _ _ c.find_reference.ensures.comes (λ found comes skipped bodies o opener start.
     let by : Bool → Option (Written ℕ) = λ b. if b then Some
     (link_reference o (full (text_of c.args.about.reference) end)) else None in

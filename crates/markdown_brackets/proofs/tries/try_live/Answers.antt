@@ -1,12 +1,9 @@
 -- Nothing is read past the block's end; otherwise there is a tail, or a reference.
-use Rattle.std.proofs.Common.{◌-◌, ◌<◌, ◌≤◌, sym, subst, arith}
-use Rattle.std.specs.Prelude.{IfSome}
+use Rattle.std.proofs.Common.{◌-◌, ◌≤◌, sym, subst, arith}
 use Rattle.markdown_base.specs.BlockTree.{item_at, no_item}
-use Rattle.markdown_base.specs.declared.item.Item.{Item}
 use Rattle.markdown_document.specs.ChainRest.{start_of}
-use Rattle.markdown_brackets.specs.LinkTailView.{ReadsTail}
 use Rattle.markdown_brackets.specs.StandsAt.{could_be_at, around_by}
-use Rattle.markdown_brackets.specs.WrittenView.{IsTailFrom, reference_at, tail_ahead}
+use Rattle.markdown_brackets.specs.WrittenView.{reference_at, tail_ahead}
 use Rattle.markdown_brackets.proofs.ComesToLemmas.{comes_to_tail, comes_to_text, found_as}
 use Rattle.markdown_brackets.proofs.TailTitleLemmas.{tail_wider}
 use Rattle.markdown_brackets.proofs.WrittenLemmas.{nothing_past_block, ok_map, other_written}
@@ -17,8 +14,7 @@ returns-then-item-at-clause-comes g c skipped bodies o opener start =
     let at = c.args.at.now in
     let nodes = at.tree.now.nodes in
     let w = around_by at.place.now skipped bodies c.args.lookup.now in
-    let past : at.place.now.block_end < (item_at nodes at.node).end =
-    subst (λ (i : Item). at.place.now.block_end < i.end) (c.item.ensures no_item) c.if-item-at.true in
+    let past = rw (c.item.ensures no_item) at c.if-item-at.true in
     found_as (sym (nothing_past_block nodes at.place.now (g.R.LineRule.skipped at.rule.now) at.node w o
     (could_be_at nodes at.node c.args.spent.now) ((item_at nodes c.args.opener.node).end - 1) past))
     (comes_to_text g.F.BrokenLinkCallback.answers w c.args.lookup.now c.args.spent.now)
@@ -37,11 +33,10 @@ returns-in-Some-clause-comes g c skipped bodies o opener start =
     (reference_at nodes place rule at.node w o (could_be_at nodes at.node c.args.spent.now)
     ((item_at nodes c.args.opener.node).end - 1))
     (tail_ahead nodes place rule at.node) c.in-Some.tail c.inline_link.result
-    (subst (ReadsTail place.in_table (tail_ahead nodes place rule at.node)) c.in-Some.is c.in_ok-tail.ensures.value)
+    (rw c.in-Some.is at c.in_ok-tail.ensures.value)
     (λ t is. c.inline_link.ensures w o t opener is
-    (tail_wider place.text.now (item_at nodes at.node).end (start_of o.opener) c.in-Some.tail
-    low (subst (λ found. IfSome found (IsTailFrom place.text.now (item_at nodes at.node).end)) c.in-Some.is
-    c.in_ok-tail.ensures.from)))
+    (tail_wider place.text.now (item_at nodes at.node).end (start_of o.opener) c.in-Some.tail low
+    (rw c.in-Some.is at c.in_ok-tail.ensures.from)))
 
 pub returns-in-None-clause-comes : goal.returns-in-None-clause-comes
 returns-in-None-clause-comes g c =
@@ -54,6 +49,5 @@ returns-in-None-clause-comes g c =
     found_as (other_written place.in_table o
     (reference_at nodes place rule at.node w o (could_be_at nodes at.node c.args.spent.now)
     ((item_at nodes c.args.opener.node).end - 1))
-    (tail_ahead nodes place rule at.node)
-    (subst (ReadsTail place.in_table (tail_ahead nodes place rule at.node)) c.in-None.is c.in_ok-tail.ensures.value))
+    (tail_ahead nodes place rule at.node) (rw c.in-None.is at c.in_ok-tail.ensures.value))
     (comes skipped bodies o opener start))

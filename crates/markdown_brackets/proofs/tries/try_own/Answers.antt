@@ -1,5 +1,5 @@
 -- There is no label, or that of a footnote, or that of a link.
-use Rattle.std.proofs.Common.{◌≡◌, ℕ, ◌-◌, Option, Some, [], Bool, sym, ◌∙◌, ap, refl, subst}
+use Rattle.std.proofs.Common.{ℕ, Option, Some, [], Bool, sym, ◌∙◌, ap, refl}
 use Rattle.std.specs.Option.{option_and_then, option_map}
 use Rattle.std.specs.Prelude.{if◌then◌else◌}
 use Rattle.markdown_base.specs.BlockTree.{item_at, no_item}
@@ -7,9 +7,7 @@ use Rattle.markdown_base.specs.CowText.{text_of}
 use Rattle.markdown_base.specs.declared.item.Item.{Item}
 use Rattle.markdown_brackets.specs.BracketDecision.{Written, LinkReference, footnote_written, link_reference}
 use Rattle.markdown_brackets.specs.BracketDecision.{own_written}
-use Rattle.markdown_brackets.specs.Reference.{FoundLabel}
 use Rattle.markdown_brackets.specs.ReferenceView.{label_view}
-use Rattle.markdown_brackets.specs.WrittenView.{own_label_at}
 use Rattle.markdown_brackets.proofs.ComesToLemmas.{comes_to_text, found_as}
 use Rattle.markdown_brackets.proofs.WrittenLemmas.{ok_map}
 use Rattle.markdown_brackets.specs.StandsAt.{around_by}
@@ -19,12 +17,7 @@ pub returns-in_default-clause-comes : goal.returns-in_default-clause-comes
 returns-in_default-clause-comes g c spent skipped bodies o opener start =
     let at = c.args.at.now in
     let nodes = at.tree.now.nodes in
-    let label_from : ℕ → Option FoundLabel = own_label_at nodes at.place.now (g.R.LineRule.skipped at.rule.now) at.node
-    in
-    let own : option_map label_view c.in_ok-label.field-0 ≡ label_from ((item_at nodes c.args.opener.node).end - 1) =
-    subst (λ (i : Item). option_map label_view c.in_ok-label.field-0 ≡ label_from (i.end - 1))
-    (c.item-3.ensures no_item)
-    c.in_ok-label.ensures in
+    let own = rw (c.item-3.ensures no_item) at c.in_ok-label.ensures in
     let w = around_by at.place.now skipped bodies c.args.lookup.now in
     found_as (ap (option_and_then (own_written w o c.args.link_type (item_at nodes at.node).end c.args.next))
     (sym (ap (option_map label_view) c.in_default.is) ∙ own))
@@ -35,12 +28,7 @@ returns-then-label-clause-comes g c =
     let at = c.args.at.now in
     let nodes = at.tree.now.nodes in
     let end = (item_at nodes at.node).end in
-    let label_from : ℕ → Option FoundLabel = own_label_at nodes at.place.now (g.R.LineRule.skipped at.rule.now) at.node
-    in
-    let own : option_map label_view c.in_ok-label.field-0 ≡ label_from ((item_at nodes c.args.opener.node).end - 1) =
-    subst (λ (i : Item). option_map label_view c.in_ok-label.field-0 ≡ label_from (i.end - 1))
-    (c.item-3.ensures no_item)
-    c.in_ok-label.ensures in
+    let own = rw (c.item-3.ensures no_item) at c.in_ok-label.ensures in
     let name = text_of c.in-Some.label.name in
     ok_map c.find_footnote.result _ _ c.find_footnote.ensures.comes (λ found comes spent skipped bodies o opener start.
     let w = around_by at.place.now skipped bodies c.args.lookup.now in
@@ -57,12 +45,7 @@ returns-clause-comes g c =
     let at = c.args.at.now in
     let nodes = at.tree.now.nodes in
     let end = (item_at nodes at.node).end in
-    let label_from : ℕ → Option FoundLabel = own_label_at nodes at.place.now (g.R.LineRule.skipped at.rule.now) at.node
-    in
-    let own : option_map label_view c.in_ok-label.field-0 ≡ label_from ((item_at nodes c.args.opener.node).end - 1) =
-    subst (λ (i : Item). option_map label_view c.in_ok-label.field-0 ≡ label_from (i.end - 1))
-    (c.item-3.ensures no_item)
-    c.in_ok-label.ensures in
+    let own = rw (c.item-3.ensures no_item) at c.in_ok-label.ensures in
     let name = text_of c.in-Some.label.name in
     let link : ℕ → LinkReference = λ end. record
     { link_type = c.args.link_type; label = name; end = end; next = c.args.next; spends = [] } in
