@@ -1,7 +1,7 @@
 -- What is left of a walk, before and after a move over, into or out of a node.
 use Rattle.markdown_base.specs.declared.item.ItemBody.TheVariants as body
-use Rattle.std.proofs.Common.{◌≡◌, ℕ, ◌+◌, ◌<◌, ◌≤◌, Bool, true, false, List, [], ◌∷◌, ◌++◌, Option, Some, None, refl}
-use Rattle.std.proofs.Common.{arith, ap}
+use Rattle.std.proofs.Common.{◌≡◌, ℕ, zero, suc, ◌+◌, ◌-◌, ◌<◌, ◌≤◌, Bool, true, false, List, [], ◌∷◌, ◌++◌}
+use Rattle.std.proofs.Common.{Option, Some, None, refl, arith, ap, sym, ◌∙◌}
 use Rattle.std.specs.Prelude.{slice_range}
 use Rattle.markdown_base.specs.Arena.{child_of, sibling_of}
 use Rattle.markdown_base.specs.ArenaForest.{Links, links_of, forest_at}
@@ -14,19 +14,23 @@ use Rattle.markdown_document.specs.Setting.{Known, Setting}
 use Rattle.std.specs.declared.ops.Range.{Range}
 use Rattle.markdown_base.specs.Event.{EventView, TagView, start, tag_end, hard_break}
 use Rattle.markdown_base.specs.Item.{LiesIn, range_of, is_open}
+use Rattle.markdown_base.specs.declared.block_parts.HeadingAttributes.{HeadingAttributes}
+use Rattle.markdown_base.specs.declared.index.HeadingIndex.{HeadingIndex}
 use Rattle.markdown_base.specs.declared.item.Item.{Item}
 use Rattle.markdown_base.specs.declared.item.ItemBody.{ItemBody}
 use Rattle.markdown_base.specs.declared.node.Node.{Node}
+use Rattle.markdown_base.specs.declared.tag.HeadingLevel.{HeadingLevel}
+use Rattle.markdown_base.specs.declared.tag.TagEnd.TheVariants as closes
 use Rattle.markdown_base.proofs.ArenaForestLemmas.{opens, forest_at-none}
 use Rattle.markdown_base.proofs.ArenaLemmas.{All-front}
 use Rattle.markdown_base.proofs.ForestLemmas.{All-append}
 use Rattle.markdown_inline.specs.Reading.{reading_opened, reading}
-use Rattle.markdown_inline.specs.Walk.{ended, after_chain, left_of, end_of_body}
+use Rattle.markdown_inline.specs.Walk.{ended, after_chain, left_of, end_of_body, end_of_shape}
 use Rattle.markdown_document.specs.Places.{label_at, trees_from}
 use Rattle.markdown_document.specs.PlacedNodes.{IsPlaced}
 use Rattle.markdown_document.specs.Totals.{total, same, weight_at}
 use Rattle.markdown_document.specs.NamedEntries.{naming, Named}
-use Rattle.markdown_document.specs.Tables.{Tables}
+use Rattle.markdown_document.specs.Tables.{Tables, heading_at, heading_for}
 use Rattle.markdown_inline.specs.WalkTotals.{climbed, left_total, one_if, waits_at, steps_of}
 use Rattle.markdown_inline.specs.Standing.{AboveKept, Stands, named_left}
 use Rattle.markdown_document.specs.Document.{plain_tags, Origin, Shape, leaf, enclosed, plain, backslash_break}
@@ -111,6 +115,18 @@ climbed-snoc : (gone count : ℕ → ℕ) (k : Links) (spine : List ℕ) (ix : �
 climbed-snoc gone count k [] ix = omega arith
 climbed-snoc gone count k (j ∷ js) ix = omega (arith, climbed-snoc gone count k js ix)
 
+-- a heading keeps its level, whichever attributes it refers to
+heading_at-level : (level : HeadingLevel) (headings : List HeadingAttributes) (n : ℕ)
+    → (heading_at level headings n).level ≡ level
+heading_at-level level [] n = refl
+heading_at-level level (a ∷ headings) zero = refl
+heading_at-level level (a ∷ headings) (suc n) = heading_at-level level headings n
+
+heading_for-level : (level : HeadingLevel) (headings : List HeadingAttributes) (named : Option HeadingIndex)
+    → (heading_for level headings named).level ≡ level
+heading_for-level level headings None = refl
+heading_for-level level headings (Some ix) = heading_at-level level headings (ix.0 - 1)
+
 -- how a tree ends depends on its body alone
 closing-enclosed : (tables : Tables) (source : List ℕ) (body : ItemBody) (tag : TagView) → shape_of tables source body
     ≡ enclosed tag
@@ -119,6 +135,10 @@ closing-enclosed tables source body.Paragraph tag h = cc h
 closing-enclosed tables source body.TightParagraph tag h = cc h
 closing-enclosed tables source (body.HardBreak true) tag h = cc h
 closing-enclosed tables source (body.HardBreak false) tag h = cc h
+closing-enclosed tables source (body.Heading level named) tag h =
+    ap (λ l. Some (closes.Heading l))
+    (heading_for-level level [] named ∙ sym (heading_for-level level tables.headings named))
+    ∙ ap end_of_shape h
 closing-enclosed tables source other tag h = cc h
 
 closing-plain : (tables : Tables) (source : List ℕ) (body : ItemBody) → shape_of tables source body ≡ plain
