@@ -16,9 +16,8 @@ use Rattle.markdown_delims.specs.ChainStanding.{Finds, Pairs, CanPair, IsRead}
 use Rattle.markdown_delims.specs.ChainStanding.{Keeps, RunRead, CanRead}
 use Rattle.markdown_delims.specs.Layers.{marks_of}
 use Rattle.markdown_delims.specs.OpenRuns.{Openers}
-use Rattle.markdown_delims.specs.Pairing.{Read, nearest_opener, drop_read, Layers, layers, left_over, after_layers}
-use Rattle.markdown_delims.specs.Pairing.{after_search}
-use Rattle.markdown_delims.specs.Pairing.{still_waiting, closed_by, run_read}
+use Rattle.markdown_delims.specs.Pairing.{Read, FoundOpener, nearest_opener, drop_read, Layers, layers, left_over}
+use Rattle.markdown_delims.specs.Pairing.{after_layers, after_search, still_waiting, closed_by, run_read}
 use Rattle.markdown_delims.specs.PairingFinds.{search_finds, closer_finds, run_finds}
 use Rattle.markdown_delims.specs.RunSearch.{OpenRun, nearest_run, dropped_by}
 use Rattle.markdown_delims.specs.Views.{Kept}
@@ -30,29 +29,21 @@ use Rattle.markdown_delims.proofs.WriteLemmas.{kept_none, kept_both}
 
 -- one turn of a closer with characters left
 module _ (s : Setting) (k : ℕ) (closer : Run) (rs : List (Read ℕ)) where
-  pub closed_turn : (vs : List (Label ℕ)) → 0 < length vs → closed_by s (suc k) closer vs rs
-      ≡ after_search s (λ left others. closed_by s k closer left others) closer vs rs (nearest_opener closer rs nil)
-  unfolding closed_by
+  closed_turn : (vs : List (Label ℕ)) → 0 < length vs
+      → (closed_by s (suc k) closer vs rs
+      ≡ after_search s (λ left others. closed_by s k closer left others) closer vs rs (nearest_opener closer rs nil))
+      × (closer_finds s (suc k) closer vs rs
+      ≡ search_finds s (λ left others. closer_finds s k closer left others) vs (nearest_opener closer rs nil))
+  unfolding closed_by closer_finds
   closed_turn [] some = absurd (omega arith)
-  closed_turn (v ∷ vs) some = refl
-
-  pub finds_turn : (vs : List (Label ℕ)) → 0 < length vs → closer_finds s (suc k) closer vs rs
-      ≡ search_finds s (λ left others. closer_finds s k closer left others) vs (nearest_opener closer rs nil)
-  unfolding closer_finds
-  finds_turn [] some = absurd (omega arith)
-  finds_turn (v ∷ vs) some = refl
+  closed_turn (v ∷ vs) some = (refl, refl)
 
   -- and of one without
-  finds_empty : (turns : ℕ) (vs : List (Label ℕ)) → length vs ≡ 0 → closer_finds s turns closer vs rs ≡ 0
-  unfolding closer_finds
-  finds_empty zero [] none = refl
-  finds_empty (suc turns) [] none = refl
-  finds_empty turns (v ∷ vs) none = absurd (omega (arith, none))
-
-  closed_empty : (turns : ℕ) (vs : List (Label ℕ)) → length vs ≡ 0 → closed_by s turns closer vs rs ≡ rs
-  unfolding closed_by
-  closed_empty zero [] none = refl
-  closed_empty (suc turns) [] none = refl
+  closed_empty : (turns : ℕ) (vs : List (Label ℕ)) → length vs ≡ 0
+      → (closed_by s turns closer vs rs ≡ rs) × (closer_finds s turns closer vs rs ≡ 0)
+  unfolding closed_by closer_finds
+  closed_empty zero [] none = (refl, refl)
+  closed_empty (suc turns) [] none = (refl, refl)
   closed_empty turns (v ∷ vs) none = absurd (omega (arith, none))
 
 -- a run that cannot close is read
@@ -113,18 +104,22 @@ module _ (h : Chain) (met : Characters) (met_vs : List (Label ℕ)) (begun : Lis
   left : 0 < length a.vs
   left = omega (arith, a.stands.are.count, some)
 
-  closed_is : closed_by h.setting (length met_vs) met.run met_vs begun
+  -- what its search finds decides what is read, and how many searches find
+  search_is : (o : Option (FoundOpener ℕ)) → nearest_opener closer.run a.rs nil ≡ o
+      → (closed_by h.setting (length met_vs) met.run met_vs begun
       ≡ after_search h.setting (λ left others. closed_by h.setting (a.turns - 1) closer.run left others) closer.run a.vs
-      a.rs
-      (nearest_opener closer.run a.rs nil)
-  closed_is = sym a.same ∙ ap (λ k. closed_by h.setting k closer.run a.vs a.rs) turn
-      ∙ closed_turn h.setting (a.turns - 1) closer.run a.rs a.vs left
-
-  finds_are : closer_finds h.setting a.turns closer.run a.vs a.rs
-      ≡ search_finds h.setting (λ left others. closer_finds h.setting (a.turns - 1) closer.run left others) a.vs
-      (nearest_opener closer.run a.rs nil)
-  finds_are = ap (λ k. closer_finds h.setting k closer.run a.vs a.rs) turn
-      ∙ finds_turn h.setting (a.turns - 1) closer.run a.rs a.vs left
+      a.rs o)
+      × (closer_finds h.setting a.turns closer.run a.vs a.rs
+      ≡ search_finds h.setting (λ left others. closer_finds h.setting (a.turns - 1) closer.run left others) a.vs o)
+  search_is o e =
+      let t = closed_turn h.setting (a.turns - 1) closer.run a.rs a.vs left in (
+        sym a.same ∙ ap (λ k. closed_by h.setting k closer.run a.vs a.rs) turn ∙ t.0
+            ∙ ap (after_search h.setting (λ left others. closed_by h.setting (a.turns - 1) closer.run left others)
+            closer.run a.vs a.rs) e,
+        ap (λ k. closer_finds h.setting k closer.run a.vs a.rs) turn ∙ t.1
+            ∙ ap (search_finds h.setting (λ left others. closer_finds h.setting (a.turns - 1) closer.run left others)
+            a.vs) e,
+      )
 
   -- a run that can close is read
   closed_read : (u : Arena Item) (new : Openers) (rs : List (Read ℕ)) (last' l : Option ℕ) → met.run.can_close ≡ true
@@ -168,24 +163,13 @@ module _ (h : Chain) (met : Characters) (met_vs : List (Label ℕ)) (begun : Lis
         → Keeps closer t dropped new.runs last' l
         → now.examined ≤ new.examined → RunRead h s t met.run met_vs begun old new last' l after
     closing_none new last' l closes keeps counted =
-        let e = found_none closer.run now.runs a.rs nil a.are none in
+        let e = search_is None (found_none closer.run now.runs a.rs nil a.are none) in
         let r = keeps h rs' last a.vs after stands_dropped are_dropped in
-        closed_read t new (left_over closer.run a.vs rs') last' l closes
-        (closed_is ∙ ap (after_search h.setting
-        (λ left others. closed_by h.setting (a.turns - 1) closer.run left others) closer.run a.vs a.rs) e)
+        closed_read t new (left_over closer.run a.vs rs') last' l closes e.0
         (record {
           reads = record { stands = r.reads.stands; kept = kept_both h.touched s t t a.kept r.reads.kept };
-          are
-              = r.are;
-        })
-        (omega (
-          arith,
-          a.found,
-          finds_are,
-          counted,
-          ap (search_finds h.setting (λ left others. closer_finds h.setting (a.turns - 1) closer.run
-              left others) a.vs) e,
-        ))
+          are = r.are;
+        }) (omega (arith, a.found, e.1, counted))
 
   -- where it finds an opener
   module _ (opener : Characters) (before : List OpenRun) (found : nearest_run closer.run now.runs
@@ -231,23 +215,12 @@ module _ (h : Chain) (met : Characters) (met_vs : List (Label ℕ)) (begun : Lis
 
         closed_on : closed_by h.setting (length met_vs) met.run met_vs begun
             ≡ closed_by h.setting (a.turns - 1) closer.run made.closing (after_layers taken.found made)
-        closed_on = closed_is
-            ∙ ap (after_search h.setting (λ left others. closed_by h.setting (a.turns - 1) closer.run left others)
-            closer.run
-            a.vs a.rs) taken.finds
+        closed_on = (search_is (Some taken.found) taken.finds).0
 
         found_one : (examined : ℕ) → now.examined < examined
             → old.examined + closer_finds h.setting (length met_vs) met.run met_vs begun
             ≤ examined + closer_finds h.setting (a.turns - 1) closer.run made.closing (after_layers taken.found made)
-        found_one examined counted =
-            omega (
-              arith,
-              a.found,
-              finds_are,
-              counted,
-              ap (search_finds h.setting (λ left others. closer_finds h.setting (a.turns - 1)
-                  closer.run left others) a.vs) taken.finds,
-            )
+        found_one examined counted = omega (arith, a.found, (search_is (Some taken.found) taken.finds).1, counted)
 
         -- the opener is used up
         none_open : (xs : List (Label ℕ)) → length xs ≡ 0
@@ -310,9 +283,9 @@ module _ (h : Chain) (met : Characters) (met_vs : List (Label ℕ)) (begun : Lis
             let none : length made.closing
             ≡ 0 = omega (arith, l.closing_count, taken.are.count, a.stands.are.count, all) in
             let no_texts : texts made.closing after ≡ after = no_characters made.closing none in
-            closed_read u new (after_layers taken.found made) (Some root) rest closes
-            (closed_on ∙ closed_empty h.setting 0 closer.run (after_layers taken.found made) (a.turns - 1) made.closing
-            none)
+            let empty = closed_empty h.setting 0 closer.run (after_layers taken.found made) (a.turns - 1) made.closing
+            none in
+            closed_read u new (after_layers taken.found made) (Some root) rest closes (closed_on ∙ empty.0)
             (record {
               reads = record {
                 stands = subst (λ f. Stands h u (after_layers taken.found made) (Some root) rest f) no_texts
@@ -320,17 +293,7 @@ module _ (h : Chain) (met : Characters) (met_vs : List (Label ℕ)) (begun : Lis
                 kept = kept_both h.touched s t u a.kept reads.kept;
               };
               are = open-trees new.runs made.whole _ open_runs;
-            })
-            (omega (
-              arith,
-              a.found,
-              finds_are,
-              counted,
-              ap (search_finds h.setting (λ left others. closer_finds h.setting (a.turns - 1)
-                  closer.run left others) a.vs) taken.finds,
-              finds_empty h.setting 0 closer.run (after_layers taken.found made) (a.turns - 1)
-                  made.closing none,
-            ))
+            }) (omega (arith, found_one new.examined counted, empty.1))
           where
             no_characters : (vs : List (Label ℕ)) → length vs ≡ 0 → texts vs after ≡ after
             no_characters [] e = refl

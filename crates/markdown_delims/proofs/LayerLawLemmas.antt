@@ -67,12 +67,16 @@ module _ (p : Shape → Type 0) (of_text : (c : ℕ) → p (synthesized c)) wher
   double_made true opens single double = of_text 8221
   double_made false opens single double = of_text 8220
 
+  pub turn-gives : (k : Kind) (shape : Shape) (single double later last : Bool) → (k ≡ kind.Break → p shape)
+      → (k ≡ kind.Other → p shape) → p (turn_by k shape single double later last).made
+  turn-gives (kind.Single opens closes) shape single double later last h i = single_made (single && closes) opens single
+      double later
+  turn-gives (kind.Double opens closes) shape single double later last h i = double_made (double && closes) opens single
+      double
+  turn-gives kind.Break shape single double later true h i = of_text 92
+  turn-gives kind.Break shape single double later false h i = h refl
+  turn-gives kind.Other shape single double later last h i = i refl
+
   pub turn-made : (k : Kind) (shape : Shape) (single double later last : Bool) → p shape
       → p (turn_by k shape single double later last).made
-  turn-made (kind.Single opens closes) shape single double later last h = single_made (single && closes) opens single
-      double later
-  turn-made (kind.Double opens closes) shape single double later last h = double_made (double && closes) opens single
-      double
-  turn-made kind.Break shape single double later true h = of_text 92
-  turn-made kind.Break shape single double later false h = h
-  turn-made kind.Other shape single double later last h = h
+  turn-made k shape single double later last h = turn-gives k shape single double later last (λ _. h) (λ _. h)

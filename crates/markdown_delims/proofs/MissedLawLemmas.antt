@@ -32,10 +32,10 @@ use Rattle.markdown_base.specs.declared.item.ItemBody.TheVariants as body
 use Rattle.markdown_delims.specs.PairingLaws.{is_tilde_or_caret, NonePairs, RunAt, run_at, further, no_run, with_runs}
 use Rattle.markdown_delims.specs.PairingLaws.{run_if_text, kept_run, DoNotPair}
 use Rattle.markdown_delims.specs.PairingLaws.{NonePairsLater, NoneMissed, without_tags, NoneMissedLaw}
-use Rattle.markdown_delims.proofs.BeginLawLemmas.{some-long}
+use Rattle.markdown_delims.proofs.KeepLemmas.{turned-all}
 use Rattle.markdown_delims.proofs.LawLemmas.{misses-law, tag-law}
 use Rattle.markdown_delims.proofs.LayerLawLemmas.{turn-made}
-use Rattle.markdown_delims.proofs.StepLawLemmas.{found-if}
+use Rattle.markdown_delims.proofs.StepLawLemmas.{found-if, some-long}
 
 -- the run of a character, or none
 abbrev MaybeRun : Type 0
@@ -300,10 +300,6 @@ module _ (p : RunAt) where
         (is_first p x a.0 (Some p) (same_run p), k.1),
       )
 
-  turned_of : (xs ys : List Character) → AreOf p xs → AreOf p ys → AreOf p (last_first xs ys)
-  turned_of [] ys a b = b
-  turned_of (x ∷ xs) ys a b = turned_of xs (x ∷ ys) a.1 (a.0, b)
-
   some_turned : (xs ys : List Character) → HasSome ys → HasSome (last_first xs ys)
   some_turned [] ys h = h
   some_turned (x ∷ xs) ys h = some_turned xs (x ∷ ys) tt
@@ -328,7 +324,7 @@ module _ (p : RunAt) where
       → NoneEarlier (Some p) rs → Fine (left_over run vs rs)
   left_fine run [] rs g a s h e = absurd s
   left_fine run (v ∷ vs) rs g a s h e = opened_fine run.can_open run (last_first (v ∷ vs) []) rs refl g
-      (turned_of (v ∷ vs) [] a tt)
+      (turned-all (λ (x : Character). x.tag ≡ Some p) (v ∷ vs) [] a tt)
       (some_turned vs (v ∷ []) tt) h e
 
   still_fine : (run : Run) (xs : List Character) (rs : List (Read MaybeRun)) → p.run ≡ run → AreOf p xs → Fine rs

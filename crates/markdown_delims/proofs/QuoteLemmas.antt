@@ -2,7 +2,7 @@
 use Rattle.std.proofs.Common.{◌≡◌, ℕ, suc, ◌<◌, Bool, true, false, List, Option, Some, None, length, refl, ap, sym, ◌∙◌}
 use Rattle.std.proofs.Common.{subst, arith, inl, inr}
 use Rattle.std.specs.Prelude.{◌⊎◌, ◌||◌, ◌&&◌, ◌==◌, if◌then◌else◌, IfSome, is_some}
-use Rattle.std.proofs.lemmas.Bool.{eqb-true, eqb-false, eq-eqb}
+use Rattle.std.proofs.lemmas.Bool.{cond_both, eqb-true, eqb-false, eq-eqb}
 use Rattle.markdown_base.specs.Bytes.{backslash}
 use Rattle.markdown_base.specs.declared.item.Item.{Item}
 use Rattle.markdown_base.specs.declared.item.ItemBody.{ItemBody}
@@ -62,73 +62,52 @@ other_root ix a before d (inr i) = i
 module _ (own : ℕ → Bool) (k k' : View Part) (first : Option ℕ) (ix : ℕ) (o : own ix ≡ true)
     (w : Writes k k' ix (record { shape = left_single; range = (k.item ix).range; block = (k.item ix).block })
     (k.child ix) (k.next ix)) where
-  left_written_if : (b : Bool) (a : Label ℕ) (below before : Forest (Label ℕ)) (l : Option ℕ) (hi : ℕ) → (a.tag == ix)
-      ≡ b
-      → (IsRoot ix before → LeftRises own before a.tag → LeftHolds k first before (Some a.tag)
-      → LeftHolds k' first (left_quoted ix before) (Some a.tag))
-      → IsRoot ix (node a below before) → LeftRises own (node a below before) hi
-      → LeftHolds k first (node a below before) l
-      → LeftHolds k' first (if b then node (shaped left_single a) below before else node a below
-      (left_quoted ix before)) l
-  left_written_if true a below before l hi e rest i r h =
-      let same : a.tag ≡ ix = eqb-true a.tag ix e in
-      let inside : Holds k' (k.child a.tag) below = Holds-inside_before own k k' ix _ (k.child ix) (k.next ix) w o
-      (k.child a.tag)
-      (suc a.tag) below hi (omega arith) r.0 h.2 in (
+  pub left_written : (f : Forest (Label ℕ)) (l : Option ℕ) (hi : ℕ) → IsRoot ix f → LeftRises own f hi
+      → LeftHolds k first f l → LeftHolds k' first (left_quoted ix f) l
+  left_written nil l hi i r h = absurd i
+  left_written (node a below before) l hi i r h =
+      let inside : ix < suc a.tag → Holds k' (k.child a.tag) below =
+      λ low. Holds-inside_before own k k' ix _ (k.child ix) (k.next ix) w o (k.child a.tag) (suc a.tag) below hi low r.0
+      h.2 in
+      cond_both (a.tag == ix) (node (shaped left_single a) below before) (node a below (left_quoted ix before))
+      (λ f. LeftHolds k' first f l)
+      (λ e.
+      let same : a.tag ≡ ix = eqb-true a.tag ix e in (
         rw w.size h.0,
         ap k'.item same ∙ w.item
             ∙ ap (λ (j : Part). let p : Part = record { shape = left_single; range = j.range; block = j.block } in p)
-            (ap k.item (sym same)
-            ∙ h.1),
-        subst (λ m. Holds k' m below) (sym (ap k'.child same ∙ w.child ∙ ap k.child (sym same))) inside,
+            (ap k.item (sym same) ∙ h.1),
+        subst (λ m. Holds k' m below) (sym (ap k'.child same ∙ w.child ∙ ap k.child (sym same))) (inside (omega arith)),
         ap k'.next same ∙ w.next ∙ ap k.next (sym same) ∙ h.3,
         LeftHolds-write_behind own k k' ix _ (k.child ix) (k.next ix) w o first before (Some a.tag) a.tag (omega arith)
             r.1 h.4,
-      )
-  left_written_if false a below before l hi e rest i r h =
+      ))
+      (λ e.
       let differ : a.tag ≡ ix → ⊥ = eqb-false a.tag ix e in
       let j : IsRoot ix before = other_root ix a before differ i in
       let low : ix < a.tag = root_below own ix before a.tag r.1 j in
-      let same = w.others a.tag differ in
-      let inside : Holds k' (k.child a.tag) below = Holds-inside_before own k k' ix _ (k.child ix) (k.next ix) w o
-      (k.child a.tag)
-      (suc a.tag) below hi (omega arith) r.0 h.2 in
-      (rw w.size h.0, same.item ∙ h.1, rw same.child inside, same.next ∙ h.3, rest j r.1 h.4)
-
-  pub left_written : (f : Forest (Label ℕ)) (l : Option ℕ) (hi : ℕ) → IsRoot ix f → LeftRises own f hi
-      → LeftHolds k first f l
-      → LeftHolds k' first (left_quoted ix f) l
-  left_written nil l hi i r h = absurd i
-  left_written (node a below before) l hi i r h =
-      left_written_if (a.tag == ix) a below before l hi refl (λ j q g. left_written before (Some a.tag) a.tag j q g) i r
-      h
+      let same = w.others a.tag differ in (
+        rw w.size h.0,
+        same.item ∙ h.1,
+        rw same.child (inside (omega arith)),
+        same.next ∙ h.3,
+        left_written before (Some a.tag) a.tag j r.1 h.4,
+      ))
 
 -- the numbers stay
-left_rises_if : (own : ℕ → Bool) (b : Bool) (ix : ℕ) (a : Label ℕ) (below before : Forest (Label ℕ)) (hi : ℕ)
-    → (LeftRises own before a.tag → LeftRises own (left_quoted ix before) a.tag)
-    → LeftRises own (node a below before) hi
-    → LeftRises own (if b then node (shaped left_single a) below before else node a below (left_quoted ix before)) hi
-left_rises_if own true ix a below before hi rest r = r
-left_rises_if own false ix a below before hi rest r = (r.0, rest r.1)
-
 left_rises : (own : ℕ → Bool) (ix : ℕ) (f : Forest (Label ℕ)) (hi : ℕ) → LeftRises own f hi
     → LeftRises own (left_quoted ix f) hi
 left_rises own ix nil hi r = r
-left_rises own ix (node a below before) hi r = left_rises_if own (a.tag == ix) ix a below before hi
-    (left_rises own ix before a.tag) r
-
-left_touched_if : (b : Bool) (touched : ℕ → Bool) (ix : ℕ) (a : Label ℕ) (below before : Forest (Label ℕ))
-    → (AllTouched touched before → AllTouched touched (left_quoted ix before))
-    → AllTouched touched (node a below before)
-    → AllTouched touched (if b then node (shaped left_single a) below before else node a below (left_quoted ix before))
-left_touched_if true touched ix a below before rest h = h
-left_touched_if false touched ix a below before rest h = (h.0, rest h.1)
+left_rises own ix (node a below before) hi r =
+    cond_both (a.tag == ix) (node (shaped left_single a) below before) (node a below (left_quoted ix before))
+    (λ f. LeftRises own f hi) (λ _. r) (λ _. (r.0, left_rises own ix before a.tag r.1))
 
 left_all_touched : (touched : ℕ → Bool) (ix : ℕ) (f : Forest (Label ℕ)) → AllTouched touched f
     → AllTouched touched (left_quoted ix f)
 left_all_touched touched ix nil h = h
-left_all_touched touched ix (node a below before) h = left_touched_if (a.tag == ix) touched ix a below before
-    (left_all_touched touched ix before) h
+left_all_touched touched ix (node a below before) h =
+    cond_both (a.tag == ix) (node (shaped left_single a) below before) (node a below (left_quoted ix before))
+    (AllTouched touched) (λ _. h) (λ _. (h.0, left_all_touched touched ix before h.1))
 
 still_root : (single : Option ℕ) (a : Label ℕ) (below before : Forest (Label ℕ)) → IfSome single (λ x. IsRoot x before)
     → IfSome single (λ x. IsRoot x (node a below before))
@@ -142,13 +121,9 @@ remembered_over : (single : Option ℕ) (later : Bool) (a : Label ℕ) (below be
 remembered_over None later a below before h = refl
 remembered_over (Some x) false a below before h = refl
 remembered_over (Some x) true a below before h =
-    quoted_over (a.tag == x) refl
-  where
-    quoted_over : (b : Bool) → (a.tag == x) ≡ b
-        → (if b then node (shaped left_single a) below before else node a below (left_quoted x before))
-        ≡ node a below (left_quoted x before)
-    quoted_over true e = absurd (let same : a.tag ≡ x = eqb-true a.tag x e in omega arith)
-    quoted_over false e = refl
+    cond_both (a.tag == x) (node (shaped left_single a) below before) (node a below (left_quoted x before))
+    (λ f. f ≡ node a below (left_quoted x before))
+    (λ e. absurd (let same : a.tag ≡ x = eqb-true a.tag x e in omega arith)) (λ _. refl)
 
 left_quoted-here : (a : Label ℕ) (below before : Forest (Label ℕ)) → left_quoted a.tag (node a below before)
     ≡ node (shaped left_single a) below before
