@@ -31,36 +31,25 @@ settle_run-requires c =
       };
     }
 
-pub read_run-requires-clause-some : goal.read_run-requires-clause-some
-read_run-requires-clause-some c =
-    let p = c.requires.stands in
-    (met_here c.args.source.marks c.args.source.text.now c.args.ix c.args.last c.args.tree.now c.args.openers.now p
-    c.item-item.result.now c.in-Some.run' (c.item-item.ensures no_item) c.in-Some.ensures).some
-
-pub read_run-requires-clause-room : goal.read_run-requires-clause-room
-read_run-requires-clause-room c =
+pub read_run-requires : goal.read_run-requires
+read_run-requires c =
     let p = c.requires.stands in
     let r = met_here c.args.source.marks c.args.source.text.now c.args.ix c.args.last c.args.tree.now c.args.openers.now
-    p
-    c.item-item.result.now c.in-Some.run' (c.item-item.ensures no_item) c.in-Some.ensures in
+    p c.item-item.result.now c.in-Some.run' (c.item-item.ensures no_item) c.in-Some.ensures in
     let room : c.args.openers.now.potential + comparisons_per_delimiter * runs_in c.args.source.text.now p.rest < 2 ^
     128 = p.room in
-    omega (arith, r.fewer, room, ap (λ t. runs_in t p.rest) p.text_is)
-
-pub read_run-requires-clause-stands : goal.read_run-requires-clause-stands
-read_run-requires-clause-stands c =
-    let p = c.requires.stands in
-    let r = met_here c.args.source.marks c.args.source.text.now c.args.ix c.args.last c.args.tree.now c.args.openers.now
-    p
-    c.item-item.result.now c.in-Some.run' (c.item-item.ensures no_item) c.in-Some.ensures in
     record {
-      chain = p.chain;
-      marks_are = p.marks_are;
-      rs = p.rs;
-      vs = _;
-      after = _;
-      stands = (c.settle_run.ensures p.chain p.rs c.args.last p.rest p.stands.stands r.begins).0;
-      are = p.stands.are;
+      some = r.some;
+      room = omega (arith, r.fewer, room, ap (λ t. runs_in t p.rest) p.text_is);
+      stands = record {
+        chain = p.chain;
+        marks_are = p.marks_are;
+        rs = p.rs;
+        vs = _;
+        after = _;
+        stands = (c.settle_run.ensures p.chain p.rs c.args.last p.rest p.stands.stands r.begins).0;
+        are = p.stands.are;
+      };
     }
 
 pub returns-in-None-clause-ok : goal.returns-in-None-clause-ok

@@ -1,5 +1,5 @@
 use Rattle.std.proofs.Common.{◌≡◌, ◌+◌, ◌-◌, ◌≤◌, true, false, length, take, get_or, ◌∙◌, ap, sym, refl, subst, arith}
-use Rattle.std.proofs.Common.{inl, inr}
+use Rattle.std.proofs.Common.{inl, inr, rules}
 use Rattle.std.proofs.lemmas.List.{take_all}
 use Rattle.std.proofs.lemmas.Bool.{cases_eq}
 use Rattle.markdown_delims.specs.declared.run.Characters.{Characters}
@@ -30,8 +30,8 @@ invariant_of-self c =
     c.self.invariant
     (c.loop-i.i - 1) c.compare.new.self.examined (omega arith) (omega arith))
 
-pub returns-then-compare-clause-found : goal.returns-then-compare-clause-found
-returns-then-compare-clause-found c =
+pub returns-then-compare : goal.returns-then-compare
+returns-then-compare c =
     let n : c.len-len.result ≡ length c.self.inside.stack.items.items = c.len-len.ensures
     ∙ c.self.inside.stack.items.ok.0 in
     let i1 : c.compare.new.self.items ≡ c.self.inside.stack.items = ap (λ s. s.items) c.compare.ensures.counted
@@ -58,27 +58,20 @@ returns-then-compare-clause-found c =
     ap (λ m. nearest_run c.args.closer.now (open_runs c.self.inside.bounds (take m c.self.inside.stack.items.items)))
     (sym one)
     ∙ c.loop-i.invariant.same_search in
-    rw (i2, b2, ← c.self.view_is)
-    (found_at c.self.inside.stack.items.items c.self.inside.stack.examined c.self.inside.bounds c.self.invariant
-    c.args.closer.now
-    (c.loop-i.i - 1) c.index-opener.result.now low (omega arith) read pairs whole)
-
-pub returns-then-compare-clause-paid : goal.returns-then-compare-clause-paid
-returns-then-compare-clause-paid c =
-    let n : c.len-len.result ≡ length c.self.inside.stack.items.items = c.len-len.ensures
-    ∙ c.self.inside.stack.items.ok.0 in
-    let i1 : c.compare.new.self.items ≡ c.self.inside.stack.items = ap (λ s. s.items) c.compare.ensures.counted
-    ∙ c.loop-i.invariant.same_runs in
-    let i2 : c.truncate.new.self.items ≡ take (c.loop-i.i - 1) c.self.inside.stack.items.items
-    = c.truncate.ensures.items
-    ∙ ap (λ v. take (c.loop-i.i - 1) v.items) i1 in
-    let b2 : c.lower.new.self ≡ lowered (c.loop-i.i - 1) c.self.inside.bounds = c.lower.ensures
-    ∙ ap (lowered (c.loop-i.i - 1)) c.loop-i.invariant.same_bounds in
     let x : c.compare.new.self.examined ≡ c.loop-i.self-inside.stack.examined + 1 = ap (λ s. s.examined)
     c.compare.ensures.counted in
-    rw (i2, b2, ← c.self.view_is)
-    (potential-cut c.self.inside.stack.items.items c.self.inside.stack.examined c.self.inside.bounds
-    c.self.invariant (c.loop-i.i - 1) c.compare.new.self.examined (omega arith) (omega arith))
+    record {
+      found = rw (i2, b2, ← c.self.view_is)
+          (found_at c.self.inside.stack.items.items c.self.inside.stack.examined c.self.inside.bounds c.self.invariant
+          c.args.closer.now (c.loop-i.i - 1) c.index-opener.result.now low (omega arith) read pairs whole);
+      missed = search rules;
+      some = search rules;
+      counted = search rules;
+      rises = search rules;
+      paid = rw (i2, b2, ← c.self.view_is)
+          (potential-cut c.self.inside.stack.items.items c.self.inside.stack.examined c.self.inside.bounds
+          c.self.invariant (c.loop-i.i - 1) c.compare.new.self.examined (omega arith) (omega arith));
+    }
 
 pub loop-i-preserved : goal.loop-i-preserved
 loop-i-preserved c =
@@ -149,8 +142,8 @@ invariant_of-self-2 c =
     c.loop-i.self-inside.stack.examined (omega arith)
     (λ k x low high. c.loop-i.invariant.failed k x (omega arith) high))
 
-pub returns-clause-missed : goal.returns-clause-missed
-returns-clause-missed c =
+pub returns : goal.returns
+returns c =
     let n : c.len-len.result ≡ length c.self.inside.stack.items.items = c.len-len.ensures
     ∙ c.self.inside.stack.items.ok.0 in
     let at : c.loop-i.i ≡ bound_for c.args.closer.now c.self.inside.bounds = omega arith in
@@ -158,22 +151,17 @@ returns-clause-missed c =
     c.self.inside.bounds =
     c.raise_for.ensures ∙ ap (λ m. raised_for c.args.closer.now m c.loop-i.self-inside.bounds) n
     ∙ ap (raised_for c.args.closer.now (length c.self.inside.stack.items.items)) c.loop-i.invariant.same_bounds in
-    rw (b2, c.loop-i.invariant.same_runs, ← c.self.view_is) (
-      missed_at c.self.inside.stack.items.items c.self.inside.stack.examined c.self.inside.bounds c.self.invariant
-          c.args.closer.now
-          c.loop-i.i at c.loop-i.invariant.same_search,
-      open_runs-raised c.args.closer.now c.self.inside.stack.items.items c.self.inside.bounds,
-    )
-
-pub returns-clause-paid : goal.returns-clause-paid
-returns-clause-paid c =
-    let n : c.len-len.result ≡ length c.self.inside.stack.items.items = c.len-len.ensures
-    ∙ c.self.inside.stack.items.ok.0 in
-    let b2 : c.raise_for.new.self ≡ raised_for c.args.closer.now (length c.self.inside.stack.items.items)
-    c.self.inside.bounds =
-    c.raise_for.ensures ∙ ap (λ m. raised_for c.args.closer.now m c.loop-i.self-inside.bounds) n
-    ∙ ap (raised_for c.args.closer.now (length c.self.inside.stack.items.items)) c.loop-i.invariant.same_bounds in
-    rw (b2, c.loop-i.invariant.same_runs, ← c.self.view_is)
-    (potential-raised c.self.inside.stack.items.items c.self.inside.stack.examined c.self.inside.bounds c.self.invariant
-    c.args.closer.now
-    c.loop-i.self-inside.stack.examined (omega arith))
+    record {
+      found = search rules;
+      missed = rw (b2, c.loop-i.invariant.same_runs, ← c.self.view_is) (
+        missed_at c.self.inside.stack.items.items c.self.inside.stack.examined c.self.inside.bounds c.self.invariant
+            c.args.closer.now c.loop-i.i at c.loop-i.invariant.same_search,
+        open_runs-raised c.args.closer.now c.self.inside.stack.items.items c.self.inside.bounds,
+      );
+      some = search rules;
+      counted = search rules;
+      rises = search rules;
+      paid = rw (b2, c.loop-i.invariant.same_runs, ← c.self.view_is)
+          (potential-raised c.self.inside.stack.items.items c.self.inside.stack.examined c.self.inside.bounds
+          c.self.invariant c.args.closer.now c.loop-i.self-inside.stack.examined (omega arith));
+    }
