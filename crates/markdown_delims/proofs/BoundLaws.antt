@@ -1,5 +1,5 @@
 -- What the bounds say of a stack, as it changes.
-use Rattle.std.proofs.Common.{◌≡◌, ℕ, ◌%◌, ◌<◌, ◌≤◌, min, false, List, length, take, get_or, inl, inr, refl, ap, sym}
+use Rattle.std.proofs.Common.{◌≡◌, ℕ, ◌%◌, ◌<◌, ◌≤◌, min, Bool, true, false, List, length, take, get_or, inl, inr, refl, ap, sym}
 use Rattle.std.proofs.Common.{◌∙◌}
 use Rattle.std.proofs.Common.{subst, arith}
 use Rattle.std.specs.Prelude.{All, if◌then◌else◌, ◌==◌}
@@ -57,41 +57,36 @@ module _ (closer : Run) (stack : List Characters) (b : CharacterBounds) where
       (IsOutOfStep-failed (get_or stack k x) closer n (h k x l)))
 
   -- the bounds that a failed search read may be raised to the top
+  raised : (P : Characters → Type 0) (b : Bool) (m : ℕ) → m ≤ length stack → All P (take m stack)
+      → (b ≡ true → All P (take (length stack) stack))
+      → (let n : ℕ = if b then length stack else m in (n ≤ length stack) × All P (take n stack))
+  raised P true m l a h = (omega arith, h refl)
+  raised P false m l a h = (l, a)
+
   pub BoundCharacter-raised : needs_equal_length closer.delimiter ≡ false → All (λ c. may_pair c.run closer ≡ false)
       stack
       → BoundCharacter closer.delimiter stack b
       → BoundCharacter closer.delimiter stack (character_raised_for closer (length stack) b)
   BoundCharacter-raised n h i =
+      let zero = raised (IsOutOfStep closer.delimiter 0) (closer.length % 3 == 0) b.remainder_zero i.zero_within
+      i.remainder_zero (λ e. out_of_step n h 0 (eqb-true (closer.length % 3) 0 e)) in
+      let one = raised (IsOutOfStep closer.delimiter 1) (closer.length % 3 == 1) b.remainder_one i.one_within
+      i.remainder_one (λ e. out_of_step n h 1 (eqb-true (closer.length % 3) 1 e)) in
+      let two = raised (IsOutOfStep closer.delimiter 2) (closer.length % 3 == 2) b.remainder_two i.two_within
+      i.remainder_two (λ e. out_of_step n h 2 (eqb-true (closer.length % 3) 2 e)) in
       record {
         cannot_open_within = cond_both (can_do_both closer) b.cannot_open (length stack) (λ m. m ≤ length stack)
-            (λ _. i.cannot_open_within)
-            (λ _. omega arith);
-        zero_within = cond_both (closer.length % 3 == 0) (length stack) b.remainder_zero (λ m. m ≤ length stack)
-            (λ _. omega arith)
-            (λ _. i.zero_within);
-        one_within = cond_both (closer.length % 3 == 1) (length stack) b.remainder_one (λ m. m ≤ length stack)
-            (λ _. omega arith)
-            (λ _. i.one_within);
-        two_within = cond_both (closer.length % 3 == 2) (length stack) b.remainder_two (λ m. m ≤ length stack)
-            (λ _. omega arith)
-            (λ _. i.two_within);
-        cannot_open =
-            cond_both (can_do_both closer) b.cannot_open (length stack)
+            (λ _. i.cannot_open_within) (λ _. omega arith);
+        zero_within = zero.0;
+        one_within = one.0;
+        two_within = two.0;
+        cannot_open = cond_both (can_do_both closer) b.cannot_open (length stack)
             (λ m. All (IsOfBoth closer.delimiter) (take m stack)) (λ _. i.cannot_open)
             (λ e. All-whole (IsOfBoth closer.delimiter) stack
             (λ k x l. IsOfBoth-failed (get_or stack k x) closer n e (h k x l)));
-        remainder_zero =
-            cond_both (closer.length % 3 == 0) (length stack) b.remainder_zero
-            (λ m. All (IsOutOfStep closer.delimiter 0) (take m stack))
-            (λ e. out_of_step n h 0 (eqb-true (closer.length % 3) 0 e)) (λ _. i.remainder_zero);
-        remainder_one =
-            cond_both (closer.length % 3 == 1) (length stack) b.remainder_one
-            (λ m. All (IsOutOfStep closer.delimiter 1) (take m stack))
-            (λ e. out_of_step n h 1 (eqb-true (closer.length % 3) 1 e)) (λ _. i.remainder_one);
-        remainder_two =
-            cond_both (closer.length % 3 == 2) (length stack) b.remainder_two
-            (λ m. All (IsOutOfStep closer.delimiter 2) (take m stack))
-            (λ e. out_of_step n h 2 (eqb-true (closer.length % 3) 2 e)) (λ _. i.remainder_two);
+        remainder_zero = zero.1;
+        remainder_one = one.1;
+        remainder_two = two.1;
       }
 
   -- what the bound of the closer's remainder says
@@ -163,49 +158,40 @@ joined_failures closer stack n a f k x l =
       | inr above ↦ f k x above l
     ]
 
+raised_character : (d : Delimiter) (closer : Run) (stack : List Characters) (b : CharacterBounds) → d
+    ≡ closer.delimiter → needs_equal_length d ≡ false → BoundCharacter d stack b
+    → ((k : ℕ) (x : Characters) → character_bound_for closer b ≤ k → k < length stack
+    → may_pair (get_or stack k x).run closer ≡ false)
+    → BoundCharacter d stack (character_raised_for closer (length stack) b)
+raised_character d closer stack b e n h f =
+    let i : BoundCharacter closer.delimiter stack b = subst (λ d. BoundCharacter d stack b) e h in
+    subst (λ d. BoundCharacter d stack (character_raised_for closer (length stack) b)) (sym e)
+    (BoundCharacter-raised closer stack b (sym (ap needs_equal_length e) ∙ n)
+    (joined_failures closer stack (character_bound_for closer b) (NonePairs-below closer stack b i) f) i)
+
 raised_at_each : (d : Delimiter) (closer : Run) (stack : List Characters) (b : LowerBounds) → d ≡ closer.delimiter
     → BoundStack stack b
     → ((k : ℕ) (x : Characters) → bound_at d closer b ≤ k → k < length stack → may_pair (get_or stack k x).run closer
     ≡ false)
     → BoundStack stack (raised_at d closer (length stack) b)
 raised_at_each Star closer stack b e h f =
-    let i : BoundCharacter closer.delimiter stack b.star = subst (λ d. BoundCharacter d stack b.star) e h.star in
-    let n : needs_equal_length closer.delimiter ≡ false = sym (ap needs_equal_length e) in
     record {
-      star = subst (λ d. BoundCharacter d stack (character_raised_for closer (length stack) b.star)) (sym e)
-          (BoundCharacter-raised closer stack b.star n (joined_failures closer stack (character_bound_for closer b.star)
-          (NonePairs-below closer stack b.star i) f) i);
+      star = raised_character Star closer stack b.star e refl h.star f;
       underscore = h.underscore;
       tilde_within = h.tilde_within;
       caret_within = h.caret_within;
     }
 raised_at_each Underscore closer stack b e h f =
-    let i : BoundCharacter closer.delimiter stack b.underscore = subst (λ d. BoundCharacter d stack b.underscore) e
-    h.underscore in
-    let n : needs_equal_length closer.delimiter ≡ false = sym (ap needs_equal_length e) in
     record {
       star = h.star;
-      underscore = subst (λ d. BoundCharacter d stack (character_raised_for closer (length stack) b.underscore)) (sym e)
-          (BoundCharacter-raised closer stack b.underscore n
-          (joined_failures closer stack (character_bound_for closer b.underscore)
-          (NonePairs-below closer stack b.underscore i) f) i);
+      underscore = raised_character Underscore closer stack b.underscore e refl h.underscore f;
       tilde_within = h.tilde_within;
       caret_within = h.caret_within;
     }
-raised_at_each Tilde closer stack b e h f = record {
-  star = h.star;
-  underscore = h.underscore;
-  tilde_within = omega arith;
-  caret_within =
-      omega arith;
-}
-raised_at_each Caret closer stack b e h f = record {
-  star = h.star;
-  underscore = h.underscore;
-  tilde_within = omega arith;
-  caret_within =
-      omega arith;
-}
+raised_at_each Tilde closer stack b e h f =
+    record { star = h.star; underscore = h.underscore; tilde_within = omega arith; caret_within = omega arith }
+raised_at_each Caret closer stack b e h f =
+    record { star = h.star; underscore = h.underscore; tilde_within = omega arith; caret_within = omega arith }
 
 -- a search that failed may raise the bounds that it read
 pub BoundStack-raised : (closer : Run) (stack : List Characters) (b : LowerBounds) → BoundStack stack b
