@@ -2,8 +2,8 @@
 -- runs have characters left in the same chain, at any depth, once a chain is read.
 use Rattle.std.proofs.Common.{◌≡◌, ℕ, zero, suc, ◌-◌, ◌<◌, Bool, true, false, List, [], ◌∷◌, length, Option, Some, None}
 use Rattle.std.proofs.Common.{refl, ap, sym, ◌∙◌}
-use Rattle.std.proofs.Common.{subst, arith, map, ◌≤◌}
-use Rattle.std.specs.Prelude.{⊤, IfSome, IfNone, not, ◌&&◌, ◌||◌, slice_range, slice_index}
+use Rattle.std.proofs.Common.{subst, arith, inl, inr, map, min, ◌+◌, ◌≤◌}
+use Rattle.std.specs.Prelude.{⊤, ◌⊎◌, IfSome, IfNone, not, ◌&&◌, ◌||◌, slice_range, slice_index}
 use Rattle.std.specs.List.{AllByRecursion}
 use Rattle.markdown_base.specs.Forest.{Forest, nil, node}
 use Rattle.markdown_base.proofs.ForestLemmas.{relabelled-relabelled}
@@ -12,11 +12,10 @@ use Rattle.markdown_document.specs.Document.{shaped}
 use Rattle.markdown_document.specs.Labels.{retag, retagged}
 use Rattle.markdown_document.specs.Setting.{Setting}
 use Rattle.markdown_document.specs.Waiting.{text_if, as_closed}
-use Rattle.markdown_delims.specs.declared.marks.Marks.{Marks}
 use Rattle.markdown_delims.specs.declared.run.Delimiter.{Delimiter}
 use Rattle.markdown_delims.specs.declared.run.Delimiter.TheVariants.{Star, Underscore, Tilde, Caret}
 use Rattle.markdown_delims.specs.declared.run.Run.{Run}
-use Rattle.markdown_delims.specs.Layers.{marks_of, layer_of_one, layer_of_two, run_of_shape, run_of}
+use Rattle.markdown_delims.specs.Layers.{marks_of, layer_of_one, layer_of_two, run_of_shape, run_of, spanned}
 use Rattle.markdown_delims.specs.MayPair.{delimiter_of, drops, may_pair}
 use Rattle.markdown_delims.specs.Pairing.{paired, Read, done_read, waiting, texts_before, characters_done, read_trees}
 use Rattle.markdown_delims.specs.Pairing.{FoundOpener, nearest_opener}
@@ -335,20 +334,6 @@ module _ (p : RunAt) where
       = (still_open run (x ∷ xs) rs g a tt h e, (all_first p (Some p) (x ∷ xs) a (same_run p), e))
 
   -- a layer of p
-  one_shut : (m : Marks) (d : Delimiter) (source : List ℕ) → p.run.delimiter ≡ d
-      → Shut (run_if_text (layer_of_one m d source) (Some p))
-  one_shut m Star source e = tt
-  one_shut m Underscore source e = tt
-  one_shut m Tilde source e = shut_text (layer_of_one m Tilde source) (Some p) (tilde_shut p (ap is_tilde_or_caret e))
-  one_shut m Caret source e = shut_text (layer_of_one m Caret source) (Some p) (tilde_shut p (ap is_tilde_or_caret e))
-
-  two_shut : (m : Marks) (d : Delimiter) (source : List ℕ) → p.run.delimiter ≡ d
-      → Shut (run_if_text (layer_of_two m d source) (Some p))
-  two_shut m Star source e = tt
-  two_shut m Underscore source e = tt
-  two_shut m Tilde source e = shut_text (layer_of_two m Tilde source) (Some p) (tilde_shut p (ap is_tilde_or_caret e))
-  two_shut m Caret source e = shut_text (layer_of_two m Caret source) (Some p) (tilde_shut p (ap is_tilde_or_caret e))
-
   abbrev IsLayer : Forest Character → Type 0
   IsLayer nil = ⊥
   IsLayer (node a below nil) = (a.tag ≡ Some p) × Shut (kept_run a) × NoneMissed below
@@ -366,74 +351,62 @@ module _ (p : RunAt) where
   layer_fine (node a below (node b under after)) rs l h e = absurd l
 
   module _ (s : Setting) where
-    one_layer : (d : Delimiter) (x v : Character) (inside : Forest Character) → p.run.delimiter ≡ d → x.tag ≡ Some p
-        → NoneMissed inside
-        → IsLayer (layers s d (x ∷ []) (v ∷ []) inside).whole
-    one_layer d x v inside e t m =
-        let source : List ℕ = slice_range s.text x.part.range.start v.part.range.end in (
-          t,
-          subst (λ r. Shut (run_if_text (layer_of_one (marks_of s.rules.options) d source) r)) (sym t)
-              (one_shut (marks_of s.rules.options) d source e),
-          m,
-        )
+    made_layer : (shape : Delimiter → List ℕ → Shape)
+        → ((source : List ℕ) → Shut (run_if_text (shape Star source) (Some p)))
+        → ((source : List ℕ) → Shut (run_if_text (shape Underscore source) (Some p))) → (d : Delimiter)
+        (x v : Character) (inside : Forest Character) → p.run.delimiter ≡ d → x.tag ≡ Some p → NoneMissed inside
+        → IsLayer (node (spanned s.text (shape d) x v) inside nil)
+    made_layer shape star underscore d x v inside e t m =
+        (t, subst (λ r. Shut (run_if_text (shape d source) r)) (sym t) (by_delimiter d e), m)
+      where
+        source : List ℕ
+        source = slice_range s.text x.part.range.start v.part.range.end
 
-    two_layer : (d : Delimiter) (x y v w : Character) (inside : Forest Character) → p.run.delimiter ≡ d → y.tag ≡ Some p
-        → NoneMissed inside
-        → IsLayer (layers s d (x ∷ y ∷ []) (v ∷ w ∷ []) inside).whole
-    two_layer d x y v w inside e t m =
-        let source : List ℕ = slice_range s.text y.part.range.start w.part.range.end in (
-          t,
-          subst (λ r. Shut (run_if_text (layer_of_two (marks_of s.rules.options) d source) r)) (sym t)
-              (two_shut (marks_of s.rules.options) d source e),
-          m,
-        )
+        by_delimiter : (d : Delimiter) → p.run.delimiter ≡ d → Shut (run_if_text (shape d source) (Some p))
+        by_delimiter Star e = star source
+        by_delimiter Underscore e = underscore source
+        by_delimiter Tilde e = shut_text (shape Tilde source) (Some p) (tilde_shut p (ap is_tilde_or_caret e))
+        by_delimiter Caret e = shut_text (shape Caret source) (Some p) (tilde_shut p (ap is_tilde_or_caret e))
+
+    one_layer : (d : Delimiter) (x v : Character) (inside : Forest Character) → p.run.delimiter ≡ d → x.tag ≡ Some p
+        → NoneMissed inside → IsLayer (node (spanned s.text (layer_of_one (marks_of s.rules.options) d) x v) inside nil)
+    one_layer = made_layer (layer_of_one (marks_of s.rules.options)) (λ _. tt) (λ _. tt)
 
     abbrev AreMade : RunAt → Layers MaybeRun → Type 0
     AreMade q l = IsLayer l.whole × AreOf p l.opening × AreOf q l.closing
 
-    more_layers : (q : RunAt) (d : Delimiter) (xs vs : List Character) (inside : Forest Character) → p.run.delimiter ≡ d
-        → AreOf p xs
-        → AreOf q vs → IsLayer inside → AreMade q (layers s d xs vs inside)
-    more_layers q d [] vs inside e a b l = (l, tt, b)
-    more_layers q d (x ∷ xs) [] inside e a b l = (l, a, tt)
-    more_layers q d (x ∷ []) (v ∷ vs) inside e a b l = (one_layer d x v inside e a.0 (layer_missed inside l), tt, b.1)
-    more_layers q d (x ∷ y ∷ xs) (v ∷ []) inside e a b l
-        = (one_layer d x v inside e a.0 (layer_missed inside l), a.1, tt)
-    more_layers q d (x ∷ y ∷ xs) (v ∷ w ∷ vs) inside e a b l =
-        more_layers q d xs vs (layers s d (x ∷ y ∷ []) (v ∷ w ∷ []) inside).whole e a.1.1 b.1.1
-        (two_layer d x y v w inside e a.1.0 (layer_missed inside l))
-
-    first_layers : (q : RunAt) (d : Delimiter) (xs vs : List Character) (inside : Forest Character) → p.run.delimiter
-        ≡ d → HasSome xs
-        → HasSome vs → AreOf p xs → AreOf q vs → NoneMissed inside
+    -- there are characters on both sides, or the chain is a layer already
+    layers_made : (q : RunAt) (d : Delimiter) (xs vs : List Character) (inside : Forest Character) → p.run.delimiter ≡ d
+        → AreOf p xs → AreOf q vs → NoneMissed inside → (HasSome xs × HasSome vs) ⊎ IsLayer inside
         → AreMade q (layers s d xs vs inside)
-    first_layers q d [] vs inside e i j a b m = absurd i
-    first_layers q d (x ∷ xs) [] inside e i j a b m = absurd j
-    first_layers q d (x ∷ []) (v ∷ vs) inside e i j a b m = (one_layer d x v inside e a.0 m, tt, b.1)
-    first_layers q d (x ∷ y ∷ xs) (v ∷ []) inside e i j a b m = (one_layer d x v inside e a.0 m, a.1, tt)
-    first_layers q d (x ∷ y ∷ xs) (v ∷ w ∷ vs) inside e i j a b m =
-        more_layers q d xs vs (layers s d (x ∷ y ∷ []) (v ∷ w ∷ []) inside).whole e a.1.1 b.1.1
-        (two_layer d x y v w inside e a.1.0 m)
+    layers_made q d [] vs inside e a b m (inl i) = absurd i.0
+    layers_made q d [] vs inside e a b m (inr l) = (l, tt, b)
+    layers_made q d (x ∷ xs) [] inside e a b m (inl i) = absurd i.1
+    layers_made q d (x ∷ xs) [] inside e a b m (inr l) = (l, a, tt)
+    layers_made q d (x ∷ []) (v ∷ vs) inside e a b m i = (one_layer d x v inside e a.0 m, tt, b.1)
+    layers_made q d (x ∷ y ∷ xs) (v ∷ []) inside e a b m i = (one_layer d x v inside e a.0 m, a.1, tt)
+    layers_made q d (x ∷ y ∷ xs) (v ∷ w ∷ vs) inside e a b m i =
+        let whole : Forest Character = (layers s d (x ∷ y ∷ []) (v ∷ w ∷ []) inside).whole in
+        let l : IsLayer whole = made_layer (layer_of_two (marks_of s.rules.options)) (λ _. tt) (λ _. tt) d y w inside e
+        a.1.0 m in
+        layers_made q d xs vs whole e a.1.1 b.1.1 (layer_missed whole l) (inr l)
 
 -- a closer pairs: fewer of its characters are left
 module _ (s : Setting) where
-  closing_shrinks : (d : Delimiter) (xs vs : List Character) (inside : Forest Character)
-      → length (layers s d xs vs inside).closing ≤ length vs
-  closing_shrinks d [] vs inside = omega arith
-  closing_shrinks d (x ∷ xs) [] inside = omega arith
-  closing_shrinks d (x ∷ []) (v ∷ vs) inside = omega arith
-  closing_shrinks d (x ∷ y ∷ xs) (v ∷ []) inside = omega arith
-  closing_shrinks d (x ∷ y ∷ xs) (v ∷ w ∷ vs) inside =
-      let rest = closing_shrinks d xs vs (layers s d (x ∷ y ∷ []) (v ∷ w ∷ []) inside).whole in omega (arith, rest)
+  closing_left : (d : Delimiter) (xs vs : List Character) (inside : Forest Character)
+      → length (layers s d xs vs inside).closing + min (length xs) (length vs) ≡ length vs
+  closing_left d [] vs inside = omega arith
+  closing_left d (x ∷ xs) [] inside = omega arith
+  closing_left d (x ∷ []) (v ∷ vs) inside = omega arith
+  closing_left d (x ∷ y ∷ xs) (v ∷ []) inside = omega arith
+  closing_left d (x ∷ y ∷ xs) (v ∷ w ∷ vs) inside =
+      omega (arith, closing_left d xs vs (layers s d (x ∷ y ∷ []) (v ∷ w ∷ []) inside).whole)
 
   fewer_left : (d : Delimiter) (xs vs : List Character) (inside : Forest Character) → HasSome xs → HasSome vs
       → length (layers s d xs vs inside).closing < length vs
   fewer_left d [] vs inside i j = absurd i
   fewer_left d (x ∷ xs) [] inside i j = absurd j
-  fewer_left d (x ∷ []) (v ∷ vs) inside i j = omega arith
-  fewer_left d (x ∷ y ∷ xs) (v ∷ []) inside i j = omega arith
-  fewer_left d (x ∷ y ∷ xs) (v ∷ w ∷ vs) inside i j =
-      let rest = closing_shrinks d xs vs (layers s d (x ∷ y ∷ []) (v ∷ w ∷ []) inside).whole in omega (arith, rest)
+  fewer_left d (x ∷ xs) (v ∷ vs) inside i j = omega (arith, closing_left d (x ∷ xs) (v ∷ vs) inside)
 
   pair_fine : (q : RunAt) (vs : List Character) (f : FoundOpener MaybeRun) → HasSome vs → AreOf q vs → FoundFine f
       → AreOf q (layers s f.run.delimiter f.characters vs f.inside).closing
@@ -441,9 +414,8 @@ module _ (s : Setting) where
   pair_fine q vs f i a g =
       let p : RunAt = g.0.at in
       let made : Layers MaybeRun = layers s f.run.delimiter f.characters vs f.inside in
-      let l = first_layers p s q f.run.delimiter f.characters vs f.inside (ap (λ (r : Run). r.delimiter) g.0.same)
-      g.0.some i g.0.all a g.2
-      in
+      let l = layers_made p s q f.run.delimiter f.characters vs f.inside (ap (λ (r : Run). r.delimiter) g.0.same)
+      g.0.all a g.2 (inl (g.0.some, i)) in
       let k = still_fine p f.run made.opening f.before g.0.same l.1 g.1 g.0.earlier in
       (l.2, layer_fine p made.whole (still_waiting f.run made.opening f.before) l.0 k.0 k.1)
 
