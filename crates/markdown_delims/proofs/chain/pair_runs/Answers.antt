@@ -2,7 +2,7 @@
 use Rattle.std.proofs.Common.{◌+◌, ◌*◌, ◌^◌, ◌<◌, ap, subst, arith}
 use Rattle.markdown_document.specs.Counts.{comparisons_per_delimiter}
 use Rattle.markdown_delims.specs.ChainReading.{StandsWhole, labels, runs_in}
-use Rattle.markdown_delims.proofs.ChainLemmas.{RunsRead, none_paired, runs_chain, starts_reading, read_on, reads_more}
+use Rattle.markdown_delims.proofs.ChainLemmas.{none_paired, runs_chain, starts_reading, read_on, reads_more}
 use Rattle.markdown_delims.proofs.ChainLemmas.{pays, all_paid, can_go_on, all_read, all_found, goes_down}
 use Rattle.markdown_delims.proofs.ReadLemmas.{head_within}
 use Rattle.markdown_delims.proofs.chain.pair_runs.Goals as goal
@@ -22,10 +22,7 @@ read_tree-requires c =
           c.args.openers.now c.trees.openers
           c.trees.last c.args.source.marks c.args.source.text.now c.in-Some.ix p.marks_are p.text_is
           (omega (arith, c.requires.emptied.potential, room))
-          (subst (λ l. RunsRead p.setting p.tables c.args.tree.now c.args.first c.args.count p.forest p.chain
-          c.trees.tree c.args.openers.now
-          c.trees.openers c.trees.last l) c.in-Some.is
-          (c.trees.invariant p.setting p.tables p.forest p.marks_are p.text_is p.chain));
+          (rw c.in-Some.is at (c.trees.invariant p.setting p.tables p.forest p.marks_are p.text_is p.chain));
     }
 
 pub trees-preserved : goal.trees-preserved
@@ -35,19 +32,14 @@ trees-preserved c s tables f m t ch =
     c.args.source.marks c.args.source.text.now c.read_tree.new.tree c.read_tree.new.openers c.in_ok-read.read
     c.in_ok-read.next
     c.in-Some.ix m t
-    (subst (λ l. RunsRead s tables c.args.tree.now c.args.first c.args.count f ch c.trees.tree c.args.openers.now
-    c.trees.openers c.trees.last l)
-    c.in-Some.is (c.trees.invariant s tables f m t ch))
+    (rw c.in-Some.is at (c.trees.invariant s tables f m t ch))
     c.in_ok-read.ensures.ok
 
 pub trees-smaller : goal.trees-smaller
 trees-smaller c =
     let p = c.requires.chain in
     let h = runs_chain p.setting p.tables c.args.tree.now c.args.first c.args.count p.forest p.chain in
-    let a = subst (λ l. RunsRead p.setting p.tables c.args.tree.now c.args.first c.args.count p.forest p.chain
-    c.trees.tree c.args.openers.now
-    c.trees.openers c.trees.last l) c.in-Some.is
-    (c.trees.invariant p.setting p.tables p.forest p.marks_are p.text_is p.chain) in
+    let a = rw c.in-Some.is at (c.trees.invariant p.setting p.tables p.forest p.marks_are p.text_is p.chain) in
     let b = read_on p.setting p.tables c.args.tree.now c.args.first c.args.count p.forest p.chain c.trees.tree
     c.args.openers.now c.trees.openers
     c.trees.last c.args.source.marks c.args.source.text.now c.read_tree.new.tree c.read_tree.new.openers
@@ -62,17 +54,13 @@ pub returns-clause-pairs : goal.returns-clause-pairs
 returns-clause-pairs c s tables f m t ch =
     all_read s tables c.args.tree.now c.args.first c.args.count f ch c.trees.tree c.args.openers.now c.trees.openers
     c.trees.last
-    (subst (λ l. RunsRead s tables c.args.tree.now c.args.first c.args.count f ch c.trees.tree c.args.openers.now
-    c.trees.openers c.trees.last l)
-    c.in_default.is (c.trees.invariant s tables f m t ch))
+    (rw c.in_default.is at (c.trees.invariant s tables f m t ch))
 
 pub returns-clause-found : goal.returns-clause-found
 returns-clause-found c s tables f m t ch =
     all_found s tables c.args.tree.now c.args.first c.args.count f ch c.trees.tree c.args.openers.now c.trees.openers
     c.trees.last
-    (subst (λ l. RunsRead s tables c.args.tree.now c.args.first c.args.count f ch c.trees.tree c.args.openers.now
-    c.trees.openers c.trees.last l)
-    c.in_default.is (c.trees.invariant s tables f m t ch))
+    (rw c.in_default.is at (c.trees.invariant s tables f m t ch))
 
 pub returns-clause-paid : goal.returns-clause-paid
 returns-clause-paid c s tables f m t ch =

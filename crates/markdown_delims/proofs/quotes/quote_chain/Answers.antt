@@ -27,17 +27,13 @@ trees-init c = record {
 pub next-next-requires : goal.next-next-requires
 next-next-requires c =
     let p = c.requires.chain in
-    let a = subst (λ l. QuotesSoFar p.setting no_tables c.args.tree.now c.args.first p.forest p.is c.trees.tree
-    c.trees.opened
-    c.trees.delimiters l) c.in-Some.is (c.trees.invariant.chain p.setting no_tables p.forest p.is) in
+    let a = rw c.in-Some.is at (c.trees.invariant.chain p.setting no_tables p.forest p.is) in
     can_here _ c.trees.tree a.on.read a.rest c.trees.opened.single c.in-Some.ix a.on.stands
 
 pub item-requires : goal.item-requires
 item-requires c =
     let p = c.requires.chain in
-    let a = subst (λ l. QuotesSoFar p.setting no_tables c.args.tree.now c.args.first p.forest p.is c.trees.tree
-    c.trees.opened
-    c.trees.delimiters l) c.in-Some.is (c.trees.invariant.chain p.setting no_tables p.forest p.is) in
+    let a = rw c.in-Some.is at (c.trees.invariant.chain p.setting no_tables p.forest p.is) in
     can_here _ c.trees.tree a.on.read a.rest c.trees.opened.single c.in-Some.ix a.on.stands
 
 one_at_most : (o : Option RunCharacter) → counts_one o ≤ 1
@@ -66,9 +62,7 @@ quote_tree-opened-requires c =
       stands = quote_here p.setting no_tables c.args.tree.now c.args.first p.forest p.is c.trees.tree c.trees.opened
           c.trees.delimiters
           c.in-Some.ix
-          (subst (λ l. QuotesSoFar p.setting no_tables c.args.tree.now c.args.first p.forest p.is c.trees.tree
-          c.trees.opened
-          c.trees.delimiters l) c.in-Some.is (c.trees.invariant.chain p.setting no_tables p.forest p.is));
+          (rw c.in-Some.is at (c.trees.invariant.chain p.setting no_tables p.forest p.is));
     }
 
 flipped : (o : Option ℕ) (b : Bool) → is_some o ≡ not b → b ≡ is_none o
@@ -117,9 +111,7 @@ trees-preserved c =
 pub trees-smaller : goal.trees-smaller
 trees-smaller c =
     let p = c.requires.chain in
-    let a = subst (λ l. QuotesSoFar p.setting no_tables c.args.tree.now c.args.first p.forest p.is c.trees.tree
-    c.trees.opened
-    c.trees.delimiters l) c.in-Some.is (c.trees.invariant.chain p.setting no_tables p.forest p.is) in
+    let a = rw c.in-Some.is at (c.trees.invariant.chain p.setting no_tables p.forest p.is) in
     let b = (trees-preserved c).chain p.setting no_tables p.forest p.is in
     let n : length c.quote_tree-opened.new.tree.nodes ≡ length c.trees.tree.nodes =
     quotes_size p.setting no_tables c.args.tree.now c.args.first p.forest p.is c.quote_tree-opened.new.tree
