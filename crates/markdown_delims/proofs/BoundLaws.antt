@@ -53,8 +53,7 @@ module _ (closer : Run) (stack : List Characters) (b : CharacterBounds) where
       → closer.length % 3 ≡ r → All (IsOutOfStep closer.delimiter r) (take (length stack) stack)
   out_of_step n h r e =
       All-whole (IsOutOfStep closer.delimiter r) stack
-      (λ k x l. subst (λ q. IsOutOfStep closer.delimiter q (get_or stack k x)) e
-      (IsOutOfStep-failed (get_or stack k x) closer n (h k x l)))
+      (λ k x l. rw (← e) (IsOutOfStep-failed (get_or stack k x) closer n (h k x l)))
 
   -- the bounds that a failed search read may be raised to the top
   raised : (P : Characters → Type 0) (b : Bool) (m : ℕ) → m ≤ length stack → All P (take m stack)
@@ -96,14 +95,10 @@ module _ (closer : Run) (stack : List Characters) (b : CharacterBounds) where
       cond_both (closer.length % 3 == 0) b.remainder_zero
       (if closer.length % 3 == 1 then b.remainder_one else b.remainder_two)
       (λ m. All (IsOutOfStep closer.delimiter (closer.length % 3)) (take m stack))
-      (λ e. subst (λ r. All (IsOutOfStep closer.delimiter r) (take b.remainder_zero stack))
-      (sym (eqb-true (closer.length % 3) 0 e))
-      i.remainder_zero)
+      (λ e. rw (eqb-true (closer.length % 3) 0 e) i.remainder_zero)
       (λ f. cond_both (closer.length % 3 == 1) b.remainder_one b.remainder_two
       (λ m. All (IsOutOfStep closer.delimiter (closer.length % 3)) (take m stack))
-      (λ e. subst (λ r. All (IsOutOfStep closer.delimiter r) (take b.remainder_one stack))
-      (sym (eqb-true (closer.length % 3) 1 e))
-      i.remainder_one)
+      (λ e. rw (eqb-true (closer.length % 3) 1 e) i.remainder_one)
       (λ e.
       let ne0 : closer.length % 3 ≡ 0 → ⊥ = eqb-false (closer.length % 3) 0 f in
       let ne1 : closer.length % 3 ≡ 1 → ⊥ = eqb-false (closer.length % 3) 1 e in
@@ -126,9 +121,8 @@ module _ (closer : Run) (stack : List Characters) (b : CharacterBounds) where
       let s1 : take (min m n) (take m stack) ≡ take (min m n) stack = take-take (min m n) m stack (omega arith) in
       let s2 : take (min m n) (take n stack) ≡ take (min m n) stack = take-take (min m n) n stack (omega arith) in
       let a1 : All (IsOutOfStep closer.delimiter (closer.length % 3)) (take (min m n) stack) =
-      subst (All (IsOutOfStep closer.delimiter (closer.length % 3))) s1
-      (All-take (IsOutOfStep closer.delimiter (closer.length % 3))
-      (min m n) (take m stack) (below_remainder i)) in
+      rw (← s1) (All-take (IsOutOfStep closer.delimiter (closer.length % 3)) (min m n) (take m stack) (below_remainder
+      i)) in
       let a2 : All (IsOfBoth closer.delimiter) (take (min m n) stack) = subst (All (IsOfBoth closer.delimiter)) s2
       (All-take (IsOfBoth closer.delimiter) (min m n) (take n stack) i.cannot_open) in
       (λ k x l. may_pair-fails (get_or (take (min m n) stack) k x) closer (a1 k x l) (λ _. a2 k x l)))
@@ -153,8 +147,7 @@ joined_failures closer stack n a f k x l =
     elim (cases_lt k n) [
       | inl below ↦ let e : length (take n stack) ≡ min n (length stack) = length-take n stack in let g : get_or
           (take n stack) k x
-          ≡ get_or stack k x = get_or-take n stack k x below in subst (λ c. may_pair c.run closer ≡ false) g
-          (a k x (omega arith))
+          ≡ get_or stack k x = get_or-take n stack k x below in rw (← g) (a k x (omega arith))
       | inr above ↦ f k x above l
     ]
 
@@ -165,9 +158,8 @@ raised_character : (d : Delimiter) (closer : Run) (stack : List Characters) (b :
     → BoundCharacter d stack (character_raised_for closer (length stack) b)
 raised_character d closer stack b e n h f =
     let i : BoundCharacter closer.delimiter stack b = subst (λ d. BoundCharacter d stack b) e h in
-    subst (λ d. BoundCharacter d stack (character_raised_for closer (length stack) b)) (sym e)
-    (BoundCharacter-raised closer stack b (sym (ap needs_equal_length e) ∙ n)
-    (joined_failures closer stack (character_bound_for closer b) (NonePairs-below closer stack b i) f) i)
+    rw e (BoundCharacter-raised closer stack b (sym (ap needs_equal_length e) ∙ n) (joined_failures closer stack
+    (character_bound_for closer b) (NonePairs-below closer stack b i) f) i)
 
 raised_at_each : (d : Delimiter) (closer : Run) (stack : List Characters) (b : LowerBounds) → d ≡ closer.delimiter
     → BoundStack stack b

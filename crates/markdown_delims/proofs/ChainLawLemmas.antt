@@ -137,8 +137,7 @@ module _ {I A : Type 0} (s : Setting) (p : I → Forest (Label A) → Type 0) (k
       → Keeps p (node a below after) (forward (first_texts s.text n (node a below after)) (later (n - 1) after))
   run_texts zero a below after some = absurd (omega arith)
   run_texts (suc n) a below after some =
-      subst (λ k. Keeps p (node a below after) (forward (first_texts s.text (suc n) (node a below after))
-      (later k after))) (let e : n ≡ suc n - 1 = omega arith in e) (firsts (suc n) (node a below after))
+      rw (← (let e : n ≡ suc n - 1 = omega arith in e)) (firsts (suc n) (node a below after))
 
   abbrev made_before : Layers A → Forest (Label A) → Forest (Label A)
   made_before l rest = texts_before l.opening (joined_chains l.whole (forward l.closing rest))

@@ -347,6 +347,4 @@ pub goes_down : (h : Chain) (t u : Arena Item) (begun : List (Read ℕ)) (chain 
     (suc ix)
     → numbers_left (length u.nodes) l < length t.nodes - ix
 goes_down h t u begun chain old new last l ix w e a =
-    subst (λ n. numbers_left (length u.nodes) l < n - ix) e
-    (fewer_left h.touched (view h u) l a.rest ix h.bound (rw e w)
-    a.stands.stands.cut.right a.further)
+    rw (← e) (fewer_left h.touched (view h u) l a.rest ix h.bound (rw e w) a.stands.stands.cut.right a.further)

@@ -217,8 +217,7 @@ last_from : (number : ℕ) (vs xs : List (Label ℕ)) → FirstFrom (number + le
 last_from number [] xs f g = g
 last_from number (v ∷ vs) xs f g =
     last_from number vs (v ∷ xs)
-    (subst (λ n. FirstFrom n vs) (let e : suc (number + length xs) ≡ number + suc (length xs) = omega arith in e)
-    f.2) (f.0, f.1, g)
+    (rw (← (let e : suc (number + length xs) ≡ number + suc (length xs) = omega arith in e)) f.2) (f.0, f.1, g)
 
 last_count : (vs xs : List (Label ℕ)) → length (last_first vs xs) ≡ length vs + length xs
 last_count [] xs = omega arith
@@ -273,8 +272,7 @@ module _ (h : Chain) (s : Arena Item) (rs : List (Read ℕ)) (last : Option ℕ)
       record {
         reads = record {
           stands = record {
-            cut = subst (λ m. Cut h.touched (view h s) h.first (flat (left_over c.run vs rs)) m after h.bound) link
-                (rw flat_is over.1);
+            cut = rw (← link) (rw flat_is over.1);
             last_is = e ∙ there.1 ∙ ap top (sym flat_is);
             left_touched = rw flat_is touched.0;
             rest_touched = touched.1;

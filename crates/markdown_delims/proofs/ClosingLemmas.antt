@@ -259,15 +259,12 @@ module _ (h : Chain) (met : Characters) (met_vs : List (Label ℕ)) (begun : Lis
               vs = made.closing;
               turns = a.turns - 1;
               stands = record {
-                stands = subst (λ x. Stands h u (after_layers taken.found made) (Some root) x
-                    (texts made.closing after))
-                    (texts_link (view h u) rest (closer.number + opener.count) made.closing after
-                    (omega (arith, first.count, more)) first.from reads.stands.cut.right) reads.stands;
+                stands = rw (← (texts_link (view h u) rest (closer.number + opener.count) made.closing after (omega
+                    (arith, first.count, more)) first.from reads.stands.cut.right)) reads.stands;
                 are = first;
               };
               kept = kept_both h.touched s t u a.kept reads.kept;
-              are = subst (λ runs. AreOpen runs (after_layers taken.found made)) (sym e)
-                  (open-trees before made.whole _ (none_open made.opening none));
+              are = rw e (open-trees before made.whole _ (none_open made.opening none));
               run_is = a.run_is;
               enough = omega (arith, a.enough, some_open);
               same = sym closed_on;
@@ -288,8 +285,7 @@ module _ (h : Chain) (met : Characters) (met_vs : List (Label ℕ)) (begun : Lis
             closed_read u new (after_layers taken.found made) (Some root) rest closes (closed_on ∙ empty.0)
             (record {
               reads = record {
-                stands = subst (λ f. Stands h u (after_layers taken.found made) (Some root) rest f) no_texts
-                    reads.stands;
+                stands = rw no_texts at reads.stands;
                 kept = kept_both h.touched s t u a.kept reads.kept;
               };
               are = open-trees new.runs made.whole _ open_runs;

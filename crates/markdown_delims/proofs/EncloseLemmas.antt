@@ -251,8 +251,7 @@ module _ (h : Chain) (t : Arena Item) (o c : Characters) (inner : Option ℕ) (b
             none = st.opener_are.from.2.1;
             opening = st.opener_are.from.2.2;
             opening_count = omega (arith, st.opener_are.count);
-            closing = subst (λ n. FirstFrom n vs) (let e : suc (suc c.number) ≡ c.number + 2 = omega arith in e)
-                st.closer_are.from.2.2;
+            closing = rw (← (let e : suc (suc c.number) ≡ c.number + 2 = omega arith in e)) st.closer_are.from.2.2;
             closing_count = omega (arith, st.closer_are.count);
             peeled = peel_two h.touched (view h t) h.first y (left_texts xs before) inner inside st.hi x st.cut;
             root_touched = st.left_touched.1.0;
@@ -284,8 +283,7 @@ module _ (h : Chain) (t : Arena Item) (o c : Characters) (inner : Option ℕ) (b
             none = st.opener_are.from.1;
             opening = st.opener_are.from.2;
             opening_count = omega (arith, st.opener_are.count);
-            closing = subst (λ n. FirstFrom n vs) (let e : suc c.number ≡ c.number + 1 = omega arith in e)
-                st.closer_are.from.2;
+            closing = rw (← (let e : suc c.number ≡ c.number + 1 = omega arith in e)) st.closer_are.from.2;
             closing_count = omega (arith, st.closer_are.count);
             peeled = peel_one h.touched (view h t) h.first x (left_texts xs before) inner inside st.hi st.cut;
             root_touched = st.left_touched.0;
@@ -315,16 +313,15 @@ module _ (h : Chain) (t : Arena Item) (o c : Characters) (inner : Option ℕ) (b
             body = b;
           } in
           let at : Wrote t u next.x.tag i inner m =
-          subst (λ e. Wrote t u next.x.tag
-          (record { start = (item_at t.nodes next.x.tag).start; end = (item_at t.nodes e).end; body = b }) inner
-          m) end_is
-          (subst (λ x. Wrote t u x
-          (record { start = (item_at t.nodes x).start; end = (item_at t.nodes end).end; body = b }) inner m)
-          root_is w) in
-          subst (λ p. Writes (view h t) (view h u) next.x.tag p inner m)
-          (spanned_part h.setting h.tables (item_at t.nodes next.x.tag) (item_at t.nodes next.v.tag) next.x next.v b shape
-          next.peeled.item next.end_part next.none is)
-          (parts_written (part_of h.setting.text h.tables) t.nodes u.nodes next.x.tag i inner m at.nodes)
+          rw (← end_is) (subst (λ x. Wrote t u x (record {
+            start = (item_at t.nodes x).start;
+            end = (item_at t.nodes
+                end).end;
+            body = b;
+          }) inner m) root_is w) in
+          rw (← (spanned_part h.setting h.tables (item_at t.nodes next.x.tag) (item_at t.nodes next.v.tag) next.x
+          next.v b shape next.peeled.item next.end_part next.none is)) (parts_written (part_of h.setting.text h.tables)
+          t.nodes u.nodes next.x.tag i inner m at.nodes)
 
       pub layer_kept : (s : Arena Item) → Kept h.touched s t → Kept h.touched s u
       layer_kept s k = kept_made h.touched s t u root _ inner m k
@@ -384,12 +381,9 @@ module _ (h : Chain) (g : Around) (s t u : Arena Item) (d : Delimiter) (o c : Ch
             closer_are = record { from = n.closing; count = omega (arith, n.closing_count) };
             hi = n.hi;
             low = omega (arith, n.low);
-            cut = subst (λ x. Cut h.touched (view h u) h.first (left_texts n.xs g.before) (Some x)
-                (node layer a.inside nil) n.hi) (sym root_is)
-                (layer_inside h.touched (view h t) h.first n.x (left_texts n.xs g.before) inner a.inside n.hi (view h u)
-                layer.part n.peeled n.root_touched written);
-            right = subst (λ l. Holds (view h u) l (texts n.vs g.after))
-                (texts_link (view h u) _ (c.number + 2) n.vs g.after some n.closing right) right;
+            cut = rw root_is (layer_inside h.touched (view h t) h.first n.x (left_texts n.xs g.before) inner a.inside
+                n.hi (view h u) layer.part n.peeled n.root_touched written);
+            right = rw (← (texts_link (view h u) _ (c.number + 2) n.vs g.after some n.closing right)) right;
             rises = subst (λ x. Rises h.touched x (texts n.vs g.after) h.bound) n.end_is n.rises;
             left_touched = n.left_touched;
             inside_touched = (n.root_touched, tt);

@@ -303,6 +303,5 @@ unfolding paired with_quotes
 joined-law {A} s chain =
     let told : Forest Character = with_runs s 0 None chain in
     reads_join told s (quotes_after false false told)
-    (subst (Follows 0 None s.text) (sym (quotes_told s 0 None chain false false))
-    (runs_follow s 0 None (quotes_after false false chain)))
+    (rw (quotes_told s 0 None chain false false) (runs_follow s 0 None (quotes_after false false chain)))
     (quotes_there told s false false told (runs_there s told 0 None chain (λ p r k. k)))

@@ -480,9 +480,7 @@ module _ (s : Setting) where
     run_of_length p (suc n) a below after h = (
       (
         refl,
-        subst (λ k. AreOf p (first_texts s.text n (with_runs s k (Some p) after)))
-            (let e : n ≡ suc n - 1 = omega arith in e)
-            (firsts_of p n after),
+        rw (← (let e : n ≡ suc n - 1 = omega arith in e)) (firsts_of p n after),
       ),
       tt,
     )
@@ -618,8 +616,7 @@ pub missed-law : {A : Type 0} → NoneMissedLaw A
 unfolding paired with_quotes
 missed-law {A} s chain =
     let told : Forest Character = with_runs s 0 None chain in (
-      subst (λ f. NoneMissed (runs_paired s f)) (sym (quotes_told s 0 None chain false false))
-          (runs-missed s (quotes_after false false chain)),
+      rw (quotes_told s 0 None chain false false) (runs-missed s (quotes_after false false chain)),
       sym (tag-law (λ (r : MaybeRun). tt) s told) ∙ ap (paired s) (told_untagged s 0 None chain)
           ∙ tag-law (λ (a : A). tt) s chain,
     )

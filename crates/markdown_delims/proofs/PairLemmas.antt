@@ -167,9 +167,8 @@ module _ (h : Chain) (s : Arena Item) (rs : List (Read ℕ)) (vs : List (Label �
         st.are in
         let rises = Rises-raise h.touched 0 closer.number (texts vs after) h.bound (omega (arith, first))
         st.stands.cut.rises_right in
-        let below : last < closer.number = subst (λ n. last < n) first
-        (top_below h.touched (flat rs) last (next_number (texts vs after)
-        h.bound) st.stands.cut.rises_left st.stands.last_is) in
+        let below : last < closer.number = rw (← first) (top_below h.touched (flat rs) last (next_number (texts vs
+        after) h.bound) st.stands.cut.rises_left st.stands.last_is) in
         let p = parted_top h.touched (view h s) (view h t) h.first (flat rs) last (Some closer.number) (texts vs after)
         h.bound
         st.stands.cut st.stands.last_is touched_last parts in
@@ -187,9 +186,7 @@ module _ (h : Chain) (s : Arena Item) (rs : List (Read ℕ)) (vs : List (Label �
           closer_are = st.are;
           hi = closer.number;
           low = omega arith;
-          cut = subst (λ l. Cut h.touched (view h t) h.first (left_texts found.characters (flat found.before)) l
-              found.inside closer.number)
-              link at.cut;
+          cut = rw (← link) at.cut;
           right = Holds-write_before h.touched (view h s) (view h t) last _ _ None parts touched_last
               (Some closer.number) closer.number
               (texts vs after) h.bound below rises st.stands.cut.right;

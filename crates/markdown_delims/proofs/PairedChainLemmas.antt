@@ -101,9 +101,7 @@ module _ (s : Setting) (tables : Tables) (old mid : Arena Item) (first : ℕ) (c
   pub runs_are_few : runs_in s.text (labels s tables mid.nodes (trees old.nodes first))
       ≤ delimiters_of (relabelled (numbered old.nodes) (trees old.nodes first))
   unfolding with_quotes
-  runs_are_few = subst (λ g. runs_in s.text g ≤ delimiters_of (relabelled (numbered old.nodes) (trees old.nodes first)))
-      (sym q.quotes)
-      (whole_quoted s tables old.nodes false false (trees old.nodes first) c.whole c.waits).1
+  runs_are_few = rw q.quotes (whole_quoted s tables old.nodes false false (trees old.nodes first) c.whole c.waits).1
 
   pub chain_is : (count : ℕ) → count ≡ delimiters_of (relabelled (numbered old.nodes) (trees old.nodes first))
       → length mid.nodes ≤ 2 ^ 63
@@ -112,8 +110,7 @@ module _ (s : Setting) (tables : Tables) (old mid : Arena Item) (first : ℕ) (c
   chain_is count e few = record {
     is = record { spelled = q.spelled; rising = c.rising; apart = apart (trees old.nodes first) c.once };
     counted = omega (arith, runs_are_few, e);
-    whole = subst (λ g. AreWhole s.text g) (sym q.quotes)
-        (whole_quoted s tables old.nodes false false (trees old.nodes first) c.whole c.waits).0;
+    whole = rw q.quotes (whole_quoted s tables old.nodes false false (trees old.nodes first) c.whole c.waits).0;
     few = few;
   }
 

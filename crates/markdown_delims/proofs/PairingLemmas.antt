@@ -185,9 +185,7 @@ module _ (s : Setting) (tables : Tables) (nodes : List (Node Item)) where
         refl,
         none_below ix below (node j inside after) _ e w,
         block_of_run (item_at nodes ix).body _ e,
-        subst (λ i. BeginsRun i (suc n) (quotes_after t.single t.double (labels s tables nodes (node j inside after))))
-            g.number
-            (begins_run (suc n) opens closes t.single t.double j inside after g.body w.1),
+        rw (← g.number) (begins_run (suc n) opens closes t.single t.double j inside after g.body w.1),
       )
 
   -- a tree, by whether it is a character of a run
@@ -216,9 +214,7 @@ module _ (s : Setting) (tables : Tables) (nodes : List (Node Item)) where
       let none : run_of s.text (shaped t.made (label ix)).part ≡ None = run_of_closed t.made _ closed in
       record {
         counts = closed_count t.made closed;
-        whole = subst (λ o. IsWhole o (shaped t.made (label ix)) (labels s tables nodes below)
-            (quotes_after t.single t.double
-            (labels s tables nodes after))) (sym none) closed;
+        whole = rw none closed;
         counted = omega (arith, ap (λ o. one_if (is_some o)) none);
       }
   tree_whole single double ix below after w waits (Some c) e =
@@ -235,10 +231,7 @@ module _ (s : Setting) (tables : Tables) (nodes : List (Node Item)) where
       ∙ ap (run_of_shape (label ix).part.shape) d.1 ∙ shown_run tables source (item_at nodes ix).body c d.0 e some in
       record {
         counts = subst ShowsCount (sym made) (shown_count tables source (item_at nodes ix).body c e some);
-        whole = subst (λ o. IsWhole o (shaped t.made (label ix)) (labels s tables nodes below)
-            (quotes_after t.single t.double
-            (labels s tables nodes after))) (sym is)
-            (begins_run c.count c.can_open c.can_close single double ix below after e w);
+        whole = rw is (begins_run c.count c.can_open c.can_close single double ix below after e w);
         counted = omega (arith, one_at_most (is_some (run_of s.text (shaped t.made (label ix)).part)), ap counts_one e);
       }
 

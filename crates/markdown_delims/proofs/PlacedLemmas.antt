@@ -145,10 +145,9 @@ module _ (s : Setting) (tables : Tables) (old : List (Node Item)) (own : ℕ →
           lies = subst (LiesIn s.text) item d.placed.lies;
           named = subst (λ (i : Item). NamesEntries tables i.body) item d.placed.named;
           slices = subst (ComesFromPlace s.text tables) item d.placed.slices;
-          keeps = subst (λ x. KeepsItemRules s.text (numbered new ix) (child_of new ix) x) next
-              (subst (λ x. KeepsItemRules s.text (numbered new ix) x (next_at old ix)) (sym here.child)
-              (subst (λ (i : Item). let a : Numbered = record { number = ix; item = i } in
-              KeepsItemRules s.text a (child_of old ix) (next_at old ix)) item d.placed.keeps));
+          keeps = rw (← next) (subst (λ x. KeepsItemRules s.text (numbered new ix) x (next_at old ix)) (sym here.child)
+              (subst (λ (i : Item). let a : Numbered = record { number = ix; item = i } in KeepsItemRules s.text a
+              (child_of old ix) (next_at old ix)) item d.placed.keeps));
         }
       where
         same_next : (l : Option ℕ) → IfSome l (λ n. own n ≡ false) → option_map (numbered old) l

@@ -272,8 +272,7 @@ module _ (h : Chain) (s : Arena Item) (begun : Forest (Label ℕ)) (single : Opt
       let part = body_part h.setting.text h.tables (item_at s.nodes a.tag) a (body.SynthesizeChar c) (synthesized c)
       st.cut.right.2 refl
       (sym none) in
-      let written = subst (λ p. Writes (view h s) (view h t) a.tag p (child_of s.nodes a.tag)
-      (sibling_of s.nodes a.tag)) part
+      let written = rw part at
       (parts_written (part_of h.setting.text h.tables) s.nodes t.nodes a.tag _ _ _ w.nodes) in
       record {
         cut = rw number_is (written_over h.touched (view h s) (view h t) h.first begun (Some ix) a below after h.bound
@@ -379,8 +378,7 @@ close_on h s t u begun left ix a below after double opens st e v w =
     (made_character 8216) in
     record {
       read = node (shaped right_single a) below (left_quoted left begun);
-      stands = subst (λ l. QuotesStand h u (node (shaped right_single a) below (left_quoted left begun)) None l after)
-          on q;
+      stands = rw (← on) q;
       kept = kept_made h.touched s t u ix _ _ _ k (rw is st.rest_touched.0) w (made_character 8217);
       same = turn_some_closes begun a below after left double opens ∙ turned_whole begun a below after (Some left)
           double

@@ -136,8 +136,7 @@ module _ (h : Chain) (s : Arena Item) (rs : List (Read ℕ)) (last : Option ℕ)
   head_count nil st = let no : Some ix ≡ None = st.stands.cut.right in cc
   head_count (node a below after) st =
       has_count h.tables _ (item_at s.nodes ix).body
-      (subst (λ (p : Part). ShowsCount p.shape) (sym (head_part a below after st).1)
-      st.whole.0)
+      (subst (λ (p : Part). ShowsCount p.shape) (sym (head_part a below after st).1) st.whole.0)
 
   pub read_none : (chain : Forest (Label ℕ)) → StandsWhole h s rs last (Some ix) chain o → run_of h.setting.text here
       ≡ None
@@ -193,22 +192,19 @@ module _ (h : Chain) (s : Arena Item) (rs : List (Read ℕ)) (last : Option ℕ)
       let many : 0 < run.length = run-long h.setting.text a.part run is in
       let rest = after_first run.length a below after many in
       record {
-        begins = subst (λ n. BeginsRun n run.length (node a below after)) p.0
-            (subst (λ o. IsWhole o a below after) is st.whole.1);
+        begins = rw (← p.0) (subst (λ o. IsWhole o a below after) is st.whole.1);
         some = many;
         same = (reads_some h.setting a below after rs run is).0;
         finds = (reads_some h.setting a below after rs run is).1;
-        whole = subst (λ f. AreWhole h.setting.text f) (sym rest)
-            (whole_after h.setting.text (run.length - 1) after st.whole.2);
+        whole = rw rest (whole_after h.setting.text (run.length - 1) after st.whole.2);
         fewer = omega (
           arith,
           ap (runs_in h.setting.text) rest,
           fewer_after h.setting.text (run.length - 1) after,
           ap (λ o. one_if (is_some o)) is,
         );
-        rises = subst (λ f. Rises h.touched (suc ix) f h.bound) (sym rest)
-            (rises_after h.touched (suc ix) (run.length - 1) after h.bound
-            (subst (λ n. Rises h.touched (suc n) after h.bound) p.0 st.stands.cut.rises_right.2));
+        rises = rw rest (rises_after h.touched (suc ix) (run.length - 1) after h.bound (subst (λ n. Rises h.touched
+            (suc n) after h.bound) p.0 st.stands.cut.rises_right.2));
       }
 
   pub read_some : (run : Run) (chain : Forest (Label ℕ)) (new : Openers) (last' l : Option ℕ) (t u : Arena Item)

@@ -184,8 +184,7 @@ none_upto closer t [] (suc n) h f = refl
 none_upto closer t (c ∷ cs) (suc n) h f =
     subst (λ m. nearest_run closer (open_runs t (take m (c ∷ cs))) ≡ None) (add-one n)
     (nearest-passed closer t (c ∷ cs) n c (omega arith) (f n c (omega arith))
-    ∙ none_upto closer t (c ∷ cs) n (omega arith)
-    (λ i x l. f i x (omega arith)))
+    ∙ none_upto closer t (c ∷ cs) n (omega arith) (λ i x l. f i x (omega arith)))
 
 -- below its bound a closer finds none
 pub nearest-below : (closer : Run) (stack : List Characters) (b : LowerBounds) → BoundStack stack b
@@ -202,8 +201,7 @@ nearest-below closer stack b h =
           stack w in
           let g : get_or (take (bound_for closer b) stack) i x ≡ get_or stack i x = get_or-take (bound_for closer b)
           stack i x l in
-          subst (λ c. may_pair c.run closer ≡ false) g
-          (below_bound_fails closer.delimiter closer stack b refl pairing h i x (omega arith)))
+          rw (← g) (below_bound_fails closer.delimiter closer stack b refl pairing h i x (omega arith)))
     ])
   where
     last_two : (d : Delimiter) → is_tilde_or_caret d ≡ true → {i : ℕ} → i < bound_at d closer b → i < drop_bound d b

@@ -166,9 +166,7 @@ module _ {A : Type 0} (s : Setting) (i : List (Label A) → List (Read A) → Fo
       → i (first_texts s.text n (node a below after)) rs (later (n - 1) after)
   texts_stay zero a below after rs h = stays.skip a below after rs h
   texts_stay (suc n) a below after rs h =
-      subst (λ k. i (first_texts s.text (suc n) (node a below after)) rs (later k after))
-      (let e : n ≡ suc n - 1 = omega arith in e)
-      (stays.texts (suc n) (node a below after) rs h)
+      rw (← (let e : n ≡ suc n - 1 = omega arith in e)) (stays.texts (suc n) (node a below after) rs h)
 
   pub of_any : StaysTrueOf s Any i
   of_any = record {

@@ -140,8 +140,7 @@ item_written : (nodes new : List (Node Item)) (ix : ℕ) (i : Item) (c n : Optio
     → StaysOr i (item_at nodes ix) → (j : ℕ) (b : Bool) → (j == ix) ≡ b → StaysOr (item_at new j) (item_at nodes j)
 item_written nodes new ix i c n w m j true e =
     let is : j ≡ ix = eqb-true j ix e in
-    subst (λ x. StaysOr (item_at new x) (item_at nodes x)) (sym is)
-    (subst (λ x. StaysOr x (item_at nodes ix)) (sym w.item) m)
+    rw is (subst (λ x. StaysOr x (item_at nodes ix)) (sym w.item) m)
 item_written nodes new ix i c n w m j false e = inl (w.others j (eqb-false j ix e)).item
 
 -- writes of nodes that may be written, one after another

@@ -74,8 +74,7 @@ pub returns-in_err-read-clause-paid : goal.returns-in_err-read-clause-paid
 returns-in_err-read-clause-paid c s tables f m t ch =
     let h = runs_chain s tables c.args.tree.now c.args.first c.args.count f ch in
     let a = c.trees.invariant s tables f m t ch in
-    let stands = subst (λ l. StandsWhole h c.trees.tree a.rs c.trees.last l a.rest c.trees.openers) c.in-Some.is
-    a.stands in
+    let stands = rw c.in-Some.is at a.stands in
     let paid = all_paid s tables c.args.tree.now c.args.first c.args.count f ch c.trees.tree c.args.openers.now
     c.trees.openers c.trees.last _ a in
     omega (

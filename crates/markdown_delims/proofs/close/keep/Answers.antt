@@ -23,10 +23,8 @@ pub returns-in_ok-push-clause-ok : goal.returns-in_ok-push-clause-ok
 returns-in_ok-push-clause-ok c h rs last vs after st a =
     characters_kept h c.args.tree.now rs last c.args.left vs after st c.requires.some _ _ _ refl
     c.next-next.ensures.value
-    (subst (λ runs. AreOpen runs (opened_if c.args.left.run.can_open c.args.left.run (last_first vs []) rs))
-    (sym (ap (λ o. o.runs) c.in_ok-push.ensures.ok))
-    (opened_open h c.args.tree.now rs last c.args.left vs after st c.requires.some c.args.openers.now.runs a
-    c.if-left.true))
+    (rw (ap (λ o. o.runs) c.in_ok-push.ensures.ok) (opened_open h c.args.tree.now rs last c.args.left vs after st
+    c.requires.some c.args.openers.now.runs a c.if-left.true))
 
 pub returns-else-left-clause-ok : goal.returns-else-left-clause-ok
 returns-else-left-clause-ok c h rs last vs after st a =

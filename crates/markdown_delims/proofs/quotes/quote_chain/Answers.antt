@@ -78,18 +78,12 @@ trees-preserved c =
     → QuotesSoFar s tables c.args.tree.now c.args.first f is c.quote_tree-opened.new.tree c.quote_tree-opened.result
     (c.trees.delimiters + c.counts_one-delimiters.result) c.next-next.result =
     λ s tables f is.
-    subst (λ l. QuotesSoFar s tables c.args.tree.now c.args.first f is c.quote_tree-opened.new.tree
-    c.quote_tree-opened.result
-    (c.trees.delimiters + c.counts_one-delimiters.result) l) (sym c.next-next.ensures.value)
-    (quotes_step s tables c.args.tree.now c.args.first f is c.trees.tree c.trees.opened c.trees.delimiters c.in-Some.ix
-    (subst (λ l. QuotesSoFar s tables c.args.tree.now c.args.first f is c.trees.tree c.trees.opened c.trees.delimiters
-    l)
-    c.in-Some.is (c.trees.invariant.chain s tables f is))
+    rw c.next-next.ensures.value (quotes_step s tables c.args.tree.now c.args.first f is c.trees.tree c.trees.opened
+    c.trees.delimiters c.in-Some.ix (subst (λ l. QuotesSoFar s tables c.args.tree.now c.args.first f is c.trees.tree
+    c.trees.opened c.trees.delimiters l) c.in-Some.is (c.trees.invariant.chain s tables f is))
     c.quote_tree-opened.new.tree c.quote_tree-opened.result c.kind_of.result c.is_none.result
-    c.counts_one-delimiters.result
-    (λ tables source. c.kind_of.ensures tables source ∙ ap (λ (x : Item). kind_of_shape (shape_of tables source x.body))
-    i)
-    (flipped _ _ c.is_none.ensures ∙ ap is_none c.next-next.ensures.value)
+    c.counts_one-delimiters.result (λ tables source. c.kind_of.ensures tables source ∙ ap (λ (x : Item). kind_of_shape
+    (shape_of tables source x.body)) i) (flipped _ _ c.is_none.ensures ∙ ap is_none c.next-next.ensures.value)
     (c.counts_one-delimiters.ensures ∙ ap (λ (x : Item). counts_one (run_character x.body)) i)
     c.quote_tree-opened.ensures.quotes) in
     let p = c.requires.chain in

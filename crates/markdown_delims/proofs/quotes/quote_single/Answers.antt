@@ -37,15 +37,10 @@ pub returns-then-closes : goal.returns-then-closes
 returns-then-closes c =
     record {
       quotes = λ double last h begun a below after st e n.
-          subst (λ o. QuotesOn h c.args.tree.now c.put_body-then-closes-2.new.tree begun (node a below after) o double
-          None double
-          (sibling_of c.args.tree.now.nodes c.args.ix) after) (sym c.in-Some.is)
-          (close_on h c.args.tree.now c.put_body-then-closes.new.tree c.put_body-then-closes-2.new.tree begun
-          c.in-Some.left c.args.ix a
-          below after double c.args.opens
-          (subst (λ o. QuotesStand h c.args.tree.now begun o (Some c.args.ix) (node a below after)) c.in-Some.is st)
-          (ap (λ b. kind.Single c.args.opens b) (sym c.if-closes.true) ∙ e) c.put_body-then-closes.ensures
-          c.put_body-then-closes-2.ensures);
+          rw c.in-Some.is (close_on h c.args.tree.now c.put_body-then-closes.new.tree c.put_body-then-closes-2.new.tree
+          begun c.in-Some.left c.args.ix a below after double c.args.opens (subst (λ o. QuotesStand h c.args.tree.now
+          begun o (Some c.args.ix) (node a below after)) c.in-Some.is st) (ap (λ b. kind.Single c.args.opens b) (sym
+          c.if-closes.true) ∙ e) c.put_body-then-closes.ensures c.put_body-then-closes-2.ensures);
     }
 
 pub returns-then-opens : goal.returns-then-opens
@@ -100,11 +95,9 @@ returns-else-opens-2 c =
           put_on h c.args.tree.now begun c.args.single c.args.ix a below after st c.put_body-in-Some.new.tree 8217
           (kind.Single c.args.opens c.args.closes) double (Some c.in-Some.left) double c.put_body-in-Some.ensures e
           (λ q. cc)
-          (subst (λ o. IfSome o (λ x. IsRoot x (node (shaped right_single a) below begun))) c.in-Some.is
-          (still_there h c.args.tree.now begun c.args.single c.args.ix a below after st 8217))
+          (rw c.in-Some.is at (still_there h c.args.tree.now begun c.args.single c.args.ix a below after st 8217))
           (turn_some_stays begun a below after c.in-Some.left double
-          (subst (λ o. IfSome o (λ x. x < a.tag)) c.in-Some.is
-          (remembered_low h c.args.tree.now begun c.args.single c.args.ix a below after st))
+          (rw c.in-Some.is at (remembered_low h c.args.tree.now begun c.args.single c.args.ix a below after st))
           ∙ ap (λ o. turned begun a below after o double (kind.Single false false)) (sym c.in-Some.is)
           ∙ ap (λ b. turned begun a below after c.args.single double (kind.Single b false)) (sym c.if-opens-2.false)
           ∙ ap (λ b. turned begun a below after c.args.single double (kind.Single c.args.opens b))

@@ -10,12 +10,9 @@ settle-init c h rs last chain st b = settling_begin h c.args.tree.now rs c.args.
 
 pub settle-preserved : goal.settle-preserved
 settle-preserved c h rs last chain st b =
-    subst (λ i. SettlingAt h c.args.tree.now c.put_body.new.tree rs c.args.met.number c.args.met.count i chain)
-    (let e : suc c.settle.i
-    ≡ c.settle.i + 1 = omega arith in e)
-    (settling_more h c.args.tree.now c.settle.tree rs c.args.met.number c.args.met.count c.settle.i chain
-    c.put_body.new.tree
-    c.settle-test.true (c.settle.invariant h rs last chain st b) c.put_body.ensures)
+    rw (← (let e : suc c.settle.i ≡ c.settle.i + 1 = omega arith in e)) (settling_more h c.args.tree.now c.settle.tree
+    rs c.args.met.number c.args.met.count c.settle.i chain c.put_body.new.tree c.settle-test.true (c.settle.invariant h
+    rs last chain st b) c.put_body.ensures)
 
 pub returns : goal.returns
 returns c h rs last chain st b =

@@ -99,8 +99,7 @@ loop-i-preserved c =
       failed =
           λ k d low high.
           elim (cases_eq k (c.loop-i.i - 1)) [
-            | inl is ↦ subst (λ j. may_pair (get_or c.self.inside.stack.items.items j d).run c.args.closer.now ≡ false)
-                (sym is) (here d)
+            | inl is ↦ rw is (here d)
             | inr other ↦ c.loop-i.invariant.failed k d (omega arith) high
           ];
       same_search = passed_at c.self.inside.stack.items.items c.self.inside.stack.examined c.self.inside.bounds
