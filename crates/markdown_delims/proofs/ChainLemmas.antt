@@ -61,10 +61,7 @@ module _ (s : Setting) (tables : Tables) (nodes : List (Node Item)) where
   pub labels_hold : (l : Option ℕ) (f : Forest (Label ℕ)) → Holds seen l f → labels s tables nodes (numbers_of f) ≡ f
   labels_hold l nil h = refl
   labels_hold l (node a below after) h =
-      ap (λ (p : Part). let b : Label ℕ = record { tag = a.tag; part = p } in
-      node b (labels s tables nodes (numbers_of below)) (labels s tables nodes (numbers_of after))) h.2
-      ∙ ap (λ f. node a f (labels s tables nodes (numbers_of after))) (labels_hold (child_of nodes a.tag) below h.3)
-      ∙ ap (node a below) (labels_hold (sibling_of nodes a.tag) after h.4)
+      rw (h.2, labels_hold (child_of nodes a.tag) below h.3, labels_hold (sibling_of nodes a.tag) after h.4) refl
 
   -- a forest without numbers of the chain may occur anywhere below
   Between-none : (own : ℕ → Bool) (lo : ℕ) (f : Forest ℕ) (hi : ℕ) → Each (λ n. own n ≡ false) f

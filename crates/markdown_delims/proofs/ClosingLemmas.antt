@@ -11,7 +11,7 @@ use Rattle.markdown_document.specs.Setting.{Setting}
 use Rattle.markdown_delims.specs.declared.marks.Marks.{Marks}
 use Rattle.markdown_delims.specs.declared.run.Characters.{Characters}
 use Rattle.markdown_delims.specs.declared.run.Run.{Run}
-use Rattle.markdown_delims.specs.ChainStanding.{Chain, view, texts, AreFirst, AreLast, AreOpen, Stands, Reads, StandsAt}
+use Rattle.markdown_delims.specs.ChainStanding.{Chain, view, texts, AreFirst, AreLast, AreOpen, Reads, StandsAt}
 use Rattle.markdown_delims.specs.ChainStanding.{Finds, Pairs, CanPair, IsRead}
 use Rattle.markdown_delims.specs.ChainStanding.{Keeps, RunRead, CanRead}
 use Rattle.markdown_delims.specs.Layers.{marks_of}

@@ -112,24 +112,8 @@ pub spanned_part : (s : Setting) (tables : Tables) (i j : Item) (x v : Label ℕ
     → part_of s.text tables i ≡ x.part → part_of s.text tables j ≡ v.part → x.part.block ≡ None → IsLayer b shape
     → part_of s.text tables (record { start = i.start; end = j.end; body = b }) ≡ (spanned s.text shape x v).part
 spanned_part s tables i j x v b shape e f none is =
-    ap (λ y. let p : Part = record { shape = y; range = record { start = i.start; end = j.end }; block = block_of b } in
-    p)
-    (is.reads tables (slice_range s.text i.start j.end))
-    ∙ ap (λ o. let p : Part = record {
-      shape = shape (slice_range s.text i.start j.end);
-      range = record { start = i.start; end = j.end };
-      block = o;
-    } in p) (is.made.inline ∙ sym none)
-    ∙ ap (λ (q : Part). let p : Part = record {
-      shape = shape (slice_range s.text q.range.start j.end);
-      range = record { start = q.range.start; end = j.end };
-      block = x.part.block;
-    } in p) e
-    ∙ ap (λ (q : Part). let p : Part = record {
-      shape = shape (slice_range s.text x.part.range.start q.range.end);
-      range = record { start = x.part.range.start; end = q.range.end };
-      block = x.part.block;
-    } in p) f
+    let apart : block_of i.body ≡ None = ap (λ (p : Part). p.block) e ∙ none in
+    rw (← e, ← f, is.reads tables (slice_range s.text i.start j.end), is.made.inline, apart) refl
 
 -- where the characters of one side are used up, no layer is left
 layers_end : (s : Setting) (d : Delimiter) (xs vs : List (Label ℕ)) (inside : Forest (Label ℕ))

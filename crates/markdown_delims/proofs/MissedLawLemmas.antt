@@ -564,15 +564,11 @@ module _ {A : Type 0} (s : Setting) where
       (quotes_after (first_turn a after single double).single
       (first_turn a after single double).double after)
   quotes_node single double r more a below after h =
-      ap (λ (t : QuoteTurn). node (shaped t.made (retag (λ _. r) a)) (retagged no_run below)
-      (quotes_after t.single t.double (with_runs s more r after)))
-      (ap (λ l. turn_by (kind_of_shape a.part.shape) a.part.shape single double l (is_end (with_runs s more r after)))
-      (told_later more r after)
-      ∙ ap (λ e. turn_by (kind_of_shape a.part.shape) a.part.shape single double (is_closed_later after) e)
-      (told_end more r after))
-      ∙ ap (λ (f : Forest Character). node (retag (λ _. r) (shaped (first_turn a after single double).made a))
-      (retagged no_run below) f)
-      (h (first_turn a after single double).single (first_turn a after single double).double)
+      rw (
+        told_later more r after,
+        told_end more r after,
+        h (first_turn a after single double).single (first_turn a after single double).double,
+      ) refl
 
   untagged_node : (r : MaybeRun) (more : ℕ) (a : Label A) (below after : Forest (Label A))
       → without_tags (with_runs s more r after)

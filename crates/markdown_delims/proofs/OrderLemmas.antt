@@ -1,19 +1,19 @@
 -- Pairing a chain, and changing what is below each of its trees and the tags of its labels, may be done in either
 -- order, if the change of a chain in which nothing is open only changes what is below its trees and its tags.
-use Rattle.std.proofs.Common.{◌≡◌, ℕ, zero, suc, ◌+◌, ◌-◌, Bool, true, false, List, [], ◌∷◌, length, Option, Some, None}
+use Rattle.std.proofs.Common.{◌≡◌, ℕ, zero, suc, ◌-◌, Bool, true, false, List, [], ◌∷◌, length, Option, Some, None}
 use Rattle.std.proofs.Common.{refl, ap, sym, ◌∙◌, map}
-use Rattle.std.specs.Prelude.{IfSome, not, ◌&&◌, ◌||◌, slice_range}
+use Rattle.std.specs.Prelude.{IfSome, not, ◌&&◌, slice_range}
 use Rattle.std.specs.List.{AllByRecursion}
 use Rattle.std.proofs.lemmas.List.{length-map}
 use Rattle.markdown_base.specs.Forest.{Forest, nil, node}
-use Rattle.markdown_document.specs.Document.{Label, is_unresolved, as_text, shaped}
+use Rattle.markdown_document.specs.Document.{Label, is_unresolved, as_text}
 use Rattle.markdown_document.specs.Labels.{retag}
 use Rattle.markdown_document.specs.Setting.{Setting}
 use Rattle.markdown_document.specs.Waiting.{text_if, as_closed}
 use Rattle.markdown_delims.specs.declared.run.Delimiter.{Delimiter}
 use Rattle.markdown_delims.specs.declared.run.Run.{Run}
-use Rattle.markdown_delims.specs.Layers.{marks_of, layer_of_one, layer_of_two, spanned, run_of}
-use Rattle.markdown_delims.specs.MayPair.{drops, may_pair}
+use Rattle.markdown_delims.specs.Layers.{marks_of, layer_of_two, spanned, run_of}
+use Rattle.markdown_delims.specs.MayPair.{may_pair}
 use Rattle.markdown_delims.specs.Pairing.{Read, done_read, waiting, texts_before, characters_done, read_trees}
 use Rattle.markdown_delims.specs.Pairing.{FoundOpener, found_if, nearest_opener}
 use Rattle.markdown_delims.specs.Pairing.{drop_read, Layers, layers, trees_done, still_waiting, last_first, opened_if}
@@ -21,7 +21,7 @@ use Rattle.markdown_delims.specs.Pairing.{left_over, after_layers, after_search,
 use Rattle.markdown_delims.specs.Pairing.{after_tree, reads_from}
 use Rattle.markdown_delims.specs.Pairing.{runs_paired, paired}
 use Rattle.markdown_delims.specs.PairingFinds.{search_finds, closer_finds, run_finds, tree_finds, finds_from, finds_in}
-use Rattle.markdown_delims.specs.Quotes.{kind_of_shape, closes_later, is_closed_later, is_end, QuoteTurn, turn_by}
+use Rattle.markdown_delims.specs.Quotes.{kind_of_shape, closes_later, is_closed_later, is_end}
 use Rattle.markdown_delims.specs.Quotes.{first_turn, quotes_after}
 use Rattle.markdown_delims.specs.Quotes.{with_quotes}
 use Rattle.markdown_delims.proofs.KeepLemmas.{EachTree, EachRead, EachFound, Holds, nearest-keeps, found-keeps}
@@ -75,9 +75,7 @@ module _ {A B : Type 0} (to : A → B) (within : Forest (Label A) → Forest (La
     texts_deep : (xs : List (Label A)) (chain : Forest (Label A)) → texts_before (moved xs) (deep chain)
         ≡ deep (texts_before xs chain)
     texts_deep [] chain = refl
-    texts_deep (x ∷ xs) chain = ap
-        (λ (f : Forest (Label B)). texts_before (moved xs) (node (retag to x) f (deep chain))) (sym within_nil)
-        ∙ texts_deep xs (node x nil chain)
+    texts_deep (x ∷ xs) chain = rw within_nil at (texts_deep xs (node x nil chain))
 
     trees_deep : (rs : List (Read A)) (after : Forest (Label A)) → read_trees (deep_reads rs) (deep after)
         ≡ deep (read_trees rs after)
@@ -106,44 +104,25 @@ module _ {A B : Type 0} (to : A → B) (within : Forest (Label A) → Forest (La
     nearest_deep closer (done_read a below ∷ rs) inside = nearest_deep closer rs (node a below inside)
     nearest_deep closer (waiting dropped run xs ∷ rs) inside =
         let f : FoundOpener A = record { inside = inside; run = run; characters = xs; before = rs } in
-        ap (found_if (not dropped && may_pair run closer) (deep_opener f)) (ap (nearest_opener closer (deep_reads rs))
-        (texts_deep xs inside) ∙ nearest_deep closer rs (texts_before xs inside))
-        ∙ found_deep (not dropped && may_pair run closer) f (nearest_opener closer rs (texts_before xs inside))
+        rw (texts_deep xs inside, nearest_deep closer rs (texts_before xs inside))
+        (found_deep (not dropped && may_pair run closer) f (nearest_opener closer rs (texts_before xs inside)))
 
     dropped_deep : (d : Delimiter) (rs : List (Read A)) → map (drop_read d) (deep_reads rs)
         ≡ deep_reads (map (drop_read d) rs)
     dropped_deep d [] = refl
-    dropped_deep d (done_read a below ∷ rs) = ap (λ (os : List (Read B)). done_read (retag to a) (within below) ∷ os)
-        (dropped_deep d rs)
-    dropped_deep d (waiting dropped run xs ∷ rs) = ap
-        (λ (os : List (Read B)). waiting (dropped || drops d run.delimiter) run
-        (moved xs) ∷ os) (dropped_deep d rs)
+    dropped_deep d (done_read a below ∷ rs) = rw (dropped_deep d rs) refl
+    dropped_deep d (waiting dropped run xs ∷ rs) = rw (dropped_deep d rs) refl
 
     layers_deep : (d : Delimiter) (xs vs : List (Label A)) (inside : Forest (Label A)) → IsClosedChain inside
         → layers s d (moved xs) (moved vs) (deep inside) ≡ deep_layers (layers s d xs vs inside)
     layers_deep d [] vs inside h = refl
     layers_deep d (x ∷ xs) [] inside h = refl
-    layers_deep d (x ∷ []) (v ∷ vs) inside h =
-        ap (λ (f : Forest (Label B)). let l : Layers B =
-        record {
-          whole = node (retag to (spanned s.text (layer_of_one (marks_of s.rules.options) d) x v)) f nil;
-          opening = [];
-          closing =
-              moved vs;
-        } in l) (sym (stays inside h))
-    layers_deep d (x ∷ y ∷ xs) (v ∷ []) inside h =
-        ap (λ (f : Forest (Label B)). let l : Layers B =
-        record {
-          whole = node (retag to (spanned s.text (layer_of_one (marks_of s.rules.options) d) x v)) f nil;
-          opening =
-              moved (y ∷ xs);
-          closing = [];
-        } in l) (sym (stays inside h))
+    layers_deep d (x ∷ []) (v ∷ vs) inside h = rw (stays inside h) refl
+    layers_deep d (x ∷ y ∷ xs) (v ∷ []) inside h = rw (stays inside h) refl
     layers_deep d (x ∷ y ∷ xs) (v ∷ w ∷ vs) inside h =
-        ap (λ (f : Forest (Label B)). layers s d (moved xs) (moved vs)
-        (node (retag to (spanned s.text (layer_of_two (marks_of s.rules.options) d) y w)) f nil)) (sym (stays inside h))
-        ∙ layers_deep d xs vs (node (spanned s.text (layer_of_two (marks_of s.rules.options) d) y w) inside nil)
-        (two-closed (marks_of s.rules.options) d (slice_range s.text y.part.range.start w.part.range.end), tt)
+        rw (stays inside h) at
+        (layers_deep d xs vs (node (spanned s.text (layer_of_two (marks_of s.rules.options) d) y w) inside nil)
+        (two-closed (marks_of s.rules.options) d (slice_range s.text y.part.range.start w.part.range.end), tt))
 
     done_trees_deep : (f : Forest (Label A)) (rs : List (Read A)) → trees_done (deep f) (deep_reads rs)
         ≡ deep_reads (trees_done f rs)
@@ -226,17 +205,16 @@ module _ {A B : Type 0} (to : A → B) (within : Forest (Label A) → Forest (La
         (λ vs rs. closed_by s turns closer vs rs) (λ vs rs. closer_finds s turns closer vs rs) closer (v ∷ vs) rs
         (nearest_opener closer rs nil) (closed_deep turns closer) h
         (nearest-keeps IsClosed IsClosedTree s (makes-closed s) closer rs nil k tt) in (
-          ap (after_search s (λ left others. closed_by s turns closer left others) closer (moved (v ∷ vs))
-              (deep_reads rs)) found ∙ r.0,
-          ap (search_finds s (λ left others. closer_finds s turns closer left others) (moved (v ∷ vs))) found ∙ r.1,
+          rw found r.0,
+          rw found r.1,
         )
 
     run_deep : (b : Bool) (run : Run) → IsDeep (λ vs rs. run_read s b run vs rs) (λ vs rs. run_finds s b run vs rs)
         (λ vs rs. run_read s b run vs rs) (λ vs rs. run_finds s b run vs rs)
     run_deep true run vs rs h k =
         let r = closed_deep (length vs) run vs rs h k in (
-          ap (λ n. closed_by s n run (moved vs) (deep_reads rs)) (length-map vs (retag to)) ∙ r.0,
-          ap (λ n. closer_finds s n run (moved vs) (deep_reads rs)) (length-map vs (retag to)) ∙ r.1,
+          rw (length-map vs (retag to)) r.0,
+          rw (length-map vs (retag to)) r.1,
         )
     run_deep false run vs rs h k = (left_deep run vs rs, refl)
 
@@ -266,10 +244,8 @@ module _ {A B : Type 0} (to : A → B) (within : Forest (Label A) → Forest (La
         ≡ tree_finds s finds a below after rs o)
     tree_deep reads' finds' reads finds a below after rs None h k =
         let is = text_deep (is_unresolved a.part.shape) a in
-        let rest = h 0 (done_read (as_closed s.text a) below ∷ rs) (as_closed-closed s.text a, k) in (
-          ap (λ (l : Label B). reads' 0 (done_read l (within below) ∷ deep_reads rs)) is ∙ rest.0,
-          ap (λ (l : Label B). finds' 0 (done_read l (within below) ∷ deep_reads rs)) is ∙ rest.1,
-        )
+        let rest = h 0 (done_read (as_closed s.text a) below ∷ rs) (as_closed-closed s.text a, k) in
+        (rw is rest.0, rw is rest.1)
     tree_deep reads' finds' reads finds a below after rs (Some run) h k =
         let n : ℕ = run.length - 1 in
         let vs : List (Label A) = first_texts s.text run.length (node a below after) in
@@ -280,14 +256,8 @@ module _ {A B : Type 0} (to : A → B) (within : Forest (Label A) → Forest (La
         let read = run_deep run.can_close run vs rs closed k in
         let rest = h n (run_read s run.can_close run vs rs)
         (run-stays s (Holds IsClosed IsClosedTree s (makes-closed s))
-        (holds-on IsClosed IsClosedTree s (makes-closed s)) run vs rs nil (closed, k, tt)).1 in (
-          ap (λ (xs : List (Label B)). reads' n (run_read s run.can_close run xs (deep_reads rs))) firsts
-              ∙ ap (reads' n) read.0 ∙ rest.0,
-          ap (λ (xs : List (Label B)). run_finds s run.can_close run xs (deep_reads rs)
-              + finds' n (run_read s run.can_close run xs (deep_reads rs))) firsts
-              ∙ ap (λ m. m + finds' n (run_read s run.can_close run (moved vs) (deep_reads rs))) read.1
-              ∙ ap (λ m. run_finds s run.can_close run vs rs + m) (ap (finds' n) read.0 ∙ rest.1),
-        )
+        (holds-on IsClosed IsClosedTree s (makes-closed s)) run vs rs nil (closed, k, tt)).1 in
+        (rw (firsts, read.0) rest.0, rw (firsts, read.1, read.0, rest.1) refl)
 
     reads_deep : (skip : ℕ) (chain : Forest (Label A)) (rs : List (Read A)) → Good rs
         → (reads_from s skip (deep chain) (deep_reads rs) ≡ deep_reads (reads_from s skip chain rs))
@@ -313,15 +283,11 @@ module _ {A B : Type 0} (to : A → B) (within : Forest (Label A) → Forest (La
         ≡ deep (quotes_after single double chain)
     quotes_deep single double nil = refl
     quotes_deep single double (node a below after) =
-        ap (λ (t : QuoteTurn). node (shaped t.made (retag to a)) (within below)
-        (quotes_after t.single t.double (deep after)))
-        (ap (λ l. turn_by (kind_of_shape a.part.shape) a.part.shape single double l (is_end (deep after)))
-        (later_deep after)
-        ∙ ap (λ e. turn_by (kind_of_shape a.part.shape) a.part.shape single double (is_closed_later after) e)
-        (end_deep after))
-        ∙ ap (λ (f : Forest (Label B)). node (shaped (first_turn a after single double).made (retag to a))
-        (within below) f)
-        (quotes_deep (first_turn a after single double).single (first_turn a after single double).double after)
+        rw (
+          later_deep after,
+          end_deep after,
+          quotes_deep (first_turn a after single double).single (first_turn a after single double).double after,
+        ) refl
 
     -- in either order
     pub paired-deep : (chain : Forest (Label A)) → paired s (deep chain) ≡ deep (paired s chain)

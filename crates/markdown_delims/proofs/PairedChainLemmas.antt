@@ -23,7 +23,7 @@ use Rattle.markdown_document.specs.Totals.{total, same, weight_if, weight_at}
 use Rattle.markdown_document.proofs.FoundLemmas.{found}
 use Rattle.markdown_document.proofs.TablesLemmas.{same-refl}
 use Rattle.markdown_delims.specs.ChainForest.{RisesFrom}
-use Rattle.markdown_delims.specs.ChainReading.{is_among, NoneBelow, AreWhole, labels, IsSpelled, IsChainAt, IsPaired}
+use Rattle.markdown_delims.specs.ChainReading.{is_among, NoneBelow, labels, IsSpelled, IsChainAt, IsPaired}
 use Rattle.markdown_delims.specs.ChainReading.{runs_in}
 use Rattle.markdown_delims.specs.PairedChain.{CanPair, PairsChain}
 use Rattle.markdown_delims.specs.Pairing.{runs_paired, paired}

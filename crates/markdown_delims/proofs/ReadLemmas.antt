@@ -24,8 +24,8 @@ use Rattle.markdown_delims.specs.ChainReading.{StandsWhole, ReadFurther, CanRead
 use Rattle.markdown_delims.specs.ChainStanding.{Chain, view, flat, RunRead}
 use Rattle.markdown_delims.specs.Layers.{run_of}
 use Rattle.markdown_delims.specs.OpenRuns.{Openers}
-use Rattle.markdown_delims.specs.Pairing.{Read, done_read, run_read, first_texts, after_tree, reads_from}
-use Rattle.markdown_delims.specs.PairingFinds.{run_finds, tree_finds, finds_from}
+use Rattle.markdown_delims.specs.Pairing.{Read, done_read, run_read, first_texts, reads_from}
+use Rattle.markdown_delims.specs.PairingFinds.{run_finds, finds_from}
 use Rattle.markdown_delims.specs.Views.{Rises}
 use Rattle.markdown_delims.proofs.CutLemmas.{Rises-lower, step_right}
 use Rattle.markdown_delims.proofs.StepLawLemmas.{run-long}
@@ -89,12 +89,11 @@ module _ (s : Setting) (a : Label ℕ) (below after : Forest (Label ℕ)) (rs : 
       → (reads_from s 0 (node a below after) rs ≡ reads_from s 0 after (done_read a below ∷ rs))
       × (finds_from s 0 (node a below after) rs ≡ finds_from s 0 after (done_read a below ∷ rs))
   unfolding reads_from finds_from
-  reads_none e c = (
-    ap (after_tree s (λ skip others. reads_from s skip after others) a below after rs) e
-        ∙ ap (λ (x : Label ℕ). reads_from s 0 after (done_read x below ∷ rs)) (closed_stays s.text a c),
-    ap (tree_finds s (λ skip others. finds_from s skip after others) a below after rs) e
-        ∙ ap (λ (x : Label ℕ). finds_from s 0 after (done_read x below ∷ rs)) (closed_stays s.text a c),
-  )
+  reads_none e c =
+      let same = closed_stays s.text a c in (
+        rw e (ap (λ (x : Label ℕ). reads_from s 0 after (done_read x below ∷ rs)) same),
+        rw e (ap (λ (x : Label ℕ). finds_from s 0 after (done_read x below ∷ rs)) same),
+      )
 
   reads_some : (run : Run) → run_of s.text a.part ≡ Some run
       → (let rest : Forest (Label ℕ) = trees_after run.length (node a below after) in
@@ -108,10 +107,8 @@ module _ (s : Setting) (a : Label ℕ) (below after : Forest (Label ℕ)) (rs : 
       let read : List (Read ℕ) = run_read s run.can_close run vs rs in
       let skip = skip_run s (run.length - 1) after read in
       let first = sym (after_first run.length a below after (run-long s.text a.part run e)) in (
-        ap (after_tree s (λ skip others. reads_from s skip after others) a below after rs) e ∙ skip.0
-            ∙ ap (λ f. reads_from s 0 f read) first,
-        ap (tree_finds s (λ skip others. finds_from s skip after others) a below after rs) e
-            ∙ ap (λ n. run_finds s run.can_close run vs rs + n) (skip.1 ∙ ap (λ f. finds_from s 0 f read) first),
+        rw e (skip.0 ∙ ap (λ f. reads_from s 0 f read) first),
+        rw e (ap (λ n. run_finds s run.can_close run vs rs + n) (skip.1 ∙ ap (λ f. finds_from s 0 f read) first)),
       )
 
 -- the first tree of the rest, at the link to it

@@ -5,7 +5,7 @@ use Rattle.std.proofs.Common.{arith}
 use Rattle.std.specs.Prelude.{false, ◌^◌}
 use Rattle.markdown_base.specs.declared.item.Item.{Item}
 use Rattle.markdown_base.specs.declared.item.ItemBody.TheVariants as body
-use Rattle.markdown_base.specs.Arena.{Arena, child_of, sibling_of}
+use Rattle.markdown_base.specs.Arena.{Arena, sibling_of}
 use Rattle.markdown_base.specs.BlockTree.{item_at}
 use Rattle.markdown_base.specs.Forest.{Forest, nil, node}
 use Rattle.markdown_document.specs.Document.{Part, Label, as_text, part_of}

@@ -9,7 +9,6 @@ use Rattle.markdown_base.specs.declared.node.Node.{Node}
 use Rattle.markdown_base.specs.Arena.{Arena, child_of, sibling_of}
 use Rattle.markdown_base.specs.ArenaChanges.{changed_at}
 use Rattle.markdown_base.specs.BlockTree.{item_at}
-use Rattle.markdown_base.specs.Item.{range_of}
 use Rattle.markdown_base.specs.declared.item.ItemBody.{ItemBody}
 use Rattle.markdown_document.specs.Document.{Shape, Part, Label, shaped, part_of, shape_of, block_of}
 use Rattle.markdown_document.specs.Tables.{Tables}
@@ -121,10 +120,7 @@ pub body_part : (source : List ℕ) (tables : Tables) (item : Item) (a : Label �
     → part_of source tables item ≡ a.part → shape_of tables (slice_range source item.start item.end) b ≡ shape
     → block_of b ≡ a.part.block
     → part_of source tables (record { start = item.start; end = item.end; body = b }) ≡ (shaped shape a).part
-body_part source tables item a b shape is e f =
-    ap (λ x. let p : Part = record { shape = x; range = range_of item; block = block_of b } in p) e
-    ∙ ap (λ o. let p : Part = record { shape = shape; range = range_of item; block = o } in p) f
-    ∙ ap (λ (q : Part). let p : Part = record { shape = shape; range = q.range; block = a.part.block } in p) is
+body_part source tables item a b shape is e f = rw (e, f, ← is) refl
 
 -- an item stays, or is made by pairing
 abbrev StaysOr : (new old : Item) → Type 0

@@ -1,7 +1,7 @@
 -- Tree by tree.
-use Rattle.std.proofs.Common.{◌+◌, ◌*◌, ◌^◌, ◌<◌, ap, subst, arith}
+use Rattle.std.proofs.Common.{◌+◌, ◌*◌, ◌^◌, ◌<◌, ap, arith}
 use Rattle.markdown_document.specs.Counts.{comparisons_per_delimiter}
-use Rattle.markdown_delims.specs.ChainReading.{StandsWhole, labels, runs_in}
+use Rattle.markdown_delims.specs.ChainReading.{labels, runs_in}
 use Rattle.markdown_delims.proofs.ChainLemmas.{none_paired, runs_chain, starts_reading, read_on, reads_more}
 use Rattle.markdown_delims.proofs.ChainLemmas.{pays, all_paid, can_go_on, all_read, all_found, goes_down}
 use Rattle.markdown_delims.proofs.ReadLemmas.{head_within}

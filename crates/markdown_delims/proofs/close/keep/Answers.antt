@@ -1,7 +1,5 @@
 -- The characters stay where they are.
-use Rattle.std.proofs.Common.{[], ap, subst, sym, refl, arith}
-use Rattle.markdown_delims.specs.ChainStanding.{AreOpen}
-use Rattle.markdown_delims.specs.Pairing.{last_first, opened_if}
+use Rattle.std.proofs.Common.{ap, refl, arith}
 use Rattle.markdown_delims.proofs.CloseLemmas.{last_within, characters_kept, opened_open, opened_lone}
 use Rattle.markdown_delims.proofs.close.keep.Goals as goal
 

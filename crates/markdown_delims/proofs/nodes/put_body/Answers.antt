@@ -1,9 +1,5 @@
 -- One change is a write.
-use Rattle.std.proofs.Common.{subst}
-use Rattle.markdown_base.specs.declared.item.Item.{Item}
 use Rattle.markdown_base.specs.BlockTree.{no_item}
-use Rattle.markdown_base.specs.Arena.{child_of, sibling_of}
-use Rattle.markdown_delims.specs.Views.{Wrote}
 use Rattle.markdown_delims.proofs.WriteLemmas.{wrote_once}
 use Rattle.markdown_delims.proofs.nodes.put_body.Goals as goal
 

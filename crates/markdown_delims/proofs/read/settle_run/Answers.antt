@@ -1,6 +1,6 @@
 -- Each character is written over.
-use Rattle.std.proofs.Common.{◌≡◌, ◌+◌, suc, arith, subst}
-use Rattle.markdown_delims.proofs.SettleLemmas.{SettlingAt, settling_within, settling_begin, settling_more}
+use Rattle.std.proofs.Common.{◌≡◌, ◌+◌, suc, arith}
+use Rattle.markdown_delims.proofs.SettleLemmas.{settling_within, settling_begin, settling_more}
 use Rattle.markdown_delims.proofs.SettleLemmas.{settling_done}
 use Rattle.markdown_delims.proofs.read.settle_run.Goals as goal
 
