@@ -10,11 +10,12 @@ pub returns-then-closes : goal.returns-then-closes
 returns-then-closes c =
     record {
       quotes = λ single last h begun a below after st e n.
-          put_on h c.args.tree.now begun single c.args.ix a below after st c.put_body.new.tree 8221
-          (kind.Double c.args.opens c.args.closes) c.args.double single false c.put_body.ensures e (λ q. cc)
-          (still_there h c.args.tree.now begun single c.args.ix a below after st 8221)
-          (rw (c.if-double.true, c.if-closes.true) (turn_double_closes begun a below after single c.args.opens
-          (remembered_low h c.args.tree.now begun single c.args.ix a below after st)));
+          put_on _ _ _ _ _ _ _ _ st c.put_body.new.tree 8221 (kind.Double c.args.opens c.args.closes) c.args.double
+          single false c.put_body.ensures e (λ q. cc) (still_there _ _ _ _ _ _ _ _ st 8221) (rw (
+            c.if-double.true,
+            c.if-closes.true,
+          ) (turn_double_closes begun a below after single c.args.opens (remembered_low _ _ _ _ _ _ _ _
+          st)));
     }
 
 not_both : (d c : Bool) → ((d ≡ true) × (c ≡ false)) ⊎ (d ≡ false) → (d && c) ≡ false
@@ -25,26 +26,20 @@ pub returns-then-opens : goal.returns-then-opens
 returns-then-opens c =
     record {
       quotes = λ single last h begun a below after st e n.
-          put_on h c.args.tree.now begun single c.args.ix a below after st c.put_body-else-double.new.tree 8220
-          (kind.Double c.args.opens c.args.closes) c.args.double single c.args.opens c.put_body-else-double.ensures e
-          (λ q. cc)
-          (still_there h c.args.tree.now begun single c.args.ix a below after st 8220)
-          (rw c.if-opens.true (turn_double_opens begun a below after single c.args.double true c.args.closes
-          (remembered_low h c.args.tree.now begun single c.args.ix a below after st)
-          (not_both c.args.double c.args.closes c.else-double.either)));
+          put_on _ _ _ _ _ _ _ _ st c.put_body-else-double.new.tree 8220 (kind.Double c.args.opens c.args.closes)
+          c.args.double single c.args.opens c.put_body-else-double.ensures e (λ q. cc) (still_there _ _ _ _ _ _ _ _ st
+          8220) (rw c.if-opens.true (turn_double_opens begun a below after single c.args.double true c.args.closes
+          (remembered_low _ _ _ _ _ _ _ _ st) (not_both c.args.double c.args.closes c.else-double.either)));
     }
 
 pub returns-else-opens : goal.returns-else-opens
 returns-else-opens c =
     record {
       quotes = λ single last h begun a below after st e n.
-          put_on h c.args.tree.now begun single c.args.ix a below after st c.put_body-else-double.new.tree 8220
-          (kind.Double c.args.opens c.args.closes) c.args.double single c.args.double c.put_body-else-double.ensures e
-          (λ q. cc)
-          (still_there h c.args.tree.now begun single c.args.ix a below after st 8220)
-          (rw c.if-opens.false (turn_double_opens begun a below after single c.args.double false c.args.closes
-          (remembered_low h c.args.tree.now begun single c.args.ix a below after st)
-          (not_both c.args.double c.args.closes c.else-double.either)));
+          put_on _ _ _ _ _ _ _ _ st c.put_body-else-double.new.tree 8220 (kind.Double c.args.opens c.args.closes)
+          c.args.double single c.args.double c.put_body-else-double.ensures e (λ q. cc) (still_there _ _ _ _ _ _ _ _ st
+          8220) (rw c.if-opens.false (turn_double_opens begun a below after single c.args.double false c.args.closes
+          (remembered_low _ _ _ _ _ _ _ _ st) (not_both c.args.double c.args.closes c.else-double.either)));
     }
 
 pub put_body-requires : goal.put_body-requires

@@ -45,12 +45,10 @@ pub returns-then-opens : goal.returns-then-opens
 returns-then-opens c =
     record {
       quotes = λ double last h begun a below after st e n.
-          put_on h c.args.tree.now begun c.args.single c.args.ix a below after st c.put_body.new.tree 8217
-          (kind.Single c.args.opens c.args.closes) double (Some c.args.ix) double c.put_body.ensures e (λ q. cc)
-          (here_root h c.args.tree.now begun c.args.single c.args.ix a below after st 8217
-          (no_block h c.args.tree.now begun c.args.single c.args.ix a below after st _ e (λ q. cc)))
-          (ap (λ i. quoted_from (Some i) double (node (shaped right_single a) below begun) after)
-          (number_is h c.args.tree.now begun c.args.single c.args.ix a below after st)
+          put_on _ _ _ _ _ _ _ _ st c.put_body.new.tree 8217 (kind.Single c.args.opens c.args.closes) double (Some
+          c.args.ix) double c.put_body.ensures e (λ q. cc) (here_root _ _ _ _ _ _ _ _ st 8217 (no_block _ _ _ _ _ _ _ _
+          st _ e (λ q. cc))) (ap (λ i. quoted_from (Some i) double (node (shaped right_single a) below begun) after)
+          (number_is _ _ _ _ _ _ _ _ st)
           ∙ rw (c.in-None.is, c.if-opens.true) (turn_none_opens begun a below after double c.args.closes));
     }
 
@@ -58,21 +56,19 @@ pub returns-else-opens : goal.returns-else-opens
 returns-else-opens c =
     record {
       quotes = λ double last h begun a below after st e n.
-          put_on h c.args.tree.now begun c.args.single c.args.ix a below after st c.put_body.new.tree 8217
-          (kind.Single c.args.opens c.args.closes) double None double c.put_body.ensures e (λ q. cc) tt
-          (rw (c.in-None.is, c.if-opens.false) (turn_none_stays begun a below after double c.args.closes));
+          put_on _ _ _ _ _ _ _ _ st c.put_body.new.tree 8217 (kind.Single c.args.opens c.args.closes) double None
+          double c.put_body.ensures e (λ q. cc) tt (rw (c.in-None.is, c.if-opens.false) (turn_none_stays begun a below
+          after double c.args.closes));
     }
 
 pub returns-then-opens-2 : goal.returns-then-opens-2
 returns-then-opens-2 c =
     record {
       quotes = λ double last h begun a below after st e n.
-          put_on h c.args.tree.now begun c.args.single c.args.ix a below after st c.put_body-in-Some.new.tree 8217
-          (kind.Single c.args.opens c.args.closes) double (Some c.args.ix) double c.put_body-in-Some.ensures e (λ q. cc)
-          (here_root h c.args.tree.now begun c.args.single c.args.ix a below after st 8217
-          (no_block h c.args.tree.now begun c.args.single c.args.ix a below after st _ e (λ q. cc)))
-          (ap (λ i. quoted_from (Some i) double (node (shaped right_single a) below begun) after)
-          (number_is h c.args.tree.now begun c.args.single c.args.ix a below after st)
+          put_on _ _ _ _ _ _ _ _ st c.put_body-in-Some.new.tree 8217 (kind.Single c.args.opens c.args.closes) double
+          (Some c.args.ix) double c.put_body-in-Some.ensures e (λ q. cc) (here_root _ _ _ _ _ _ _ _ st 8217 (no_block _
+          _ _ _ _ _ _ _ st _ e (λ q. cc))) (ap (λ i. quoted_from (Some i) double (node (shaped right_single a) below
+          begun) after) (number_is _ _ _ _ _ _ _ _ st)
           ∙ rw (c.in-Some.is, c.if-opens-2.true, c.if-closes.false)
           (turn_some_opens begun a below after c.in-Some.left double));
     }
@@ -81,11 +77,8 @@ pub returns-else-opens-2 : goal.returns-else-opens-2
 returns-else-opens-2 c =
     record {
       quotes = λ double last h begun a below after st e n.
-          put_on h c.args.tree.now begun c.args.single c.args.ix a below after st c.put_body-in-Some.new.tree 8217
-          (kind.Single c.args.opens c.args.closes) double (Some c.in-Some.left) double c.put_body-in-Some.ensures e
-          (λ q. cc)
-          (rw c.in-Some.is at (still_there h c.args.tree.now begun c.args.single c.args.ix a below after st 8217))
-          (rw (c.in-Some.is, c.if-opens-2.false, c.if-closes.false)
-          (turn_some_stays begun a below after c.in-Some.left double
-          (rw c.in-Some.is at (remembered_low h c.args.tree.now begun c.args.single c.args.ix a below after st))));
+          put_on _ _ _ _ _ _ _ _ st c.put_body-in-Some.new.tree 8217 (kind.Single c.args.opens c.args.closes) double
+          (Some c.in-Some.left) double c.put_body-in-Some.ensures e (λ q. cc) (rw c.in-Some.is at (still_there _ _ _ _
+          _ _ _ _ st 8217)) (rw (c.in-Some.is, c.if-opens-2.false, c.if-closes.false) (turn_some_stays begun a below
+          after c.in-Some.left double (rw c.in-Some.is at (remembered_low _ _ _ _ _ _ _ _ st))));
     }
