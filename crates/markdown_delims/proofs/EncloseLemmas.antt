@@ -281,35 +281,35 @@ module _ (h : Chain) (t : Arena Item) (o c : Characters) (inner : Option ℕ) (b
           layers_are = λ none s d. layers_once s d x v xs vs inside (none refl);
         }
 
-    -- the layer is written
-    module _ (g : Around) (n : ℕ) (next : NextLayer h g t o c inner n) (b : ItemBody) (shape : List ℕ → Shape)
-        (is : IsLayer b shape)
-        (u : Arena Item) (root end : ℕ) (m : Option ℕ)
-        (w : Wrote t u root (record { start = (item_at t.nodes root).start; end = (item_at t.nodes end).end; body = b })
-        inner m)
-        (root_is : root ≡ next.x.tag) (end_is : end ≡ next.v.tag) where
-      pub layer_written : Writes (view h t) (view h u) next.x.tag (spanned h.setting.text shape next.x next.v).part inner
-          m
-      layer_written =
-          let i : Item = record {
-            start = (item_at t.nodes next.x.tag).start;
-            end = (item_at t.nodes next.v.tag).end;
-            body = b;
-          } in
-          let at : Wrote t u next.x.tag i inner m =
-          rw (← end_is) (subst (λ x. Wrote t u x (record {
-            start = (item_at t.nodes x).start;
-            end = (item_at t.nodes
-                end).end;
-            body = b;
-          }) inner m) root_is w) in
-          rw (← (spanned_part h.setting h.tables (item_at t.nodes next.x.tag) (item_at t.nodes next.v.tag) next.x
-          next.v b shape next.peeled.item next.end_part next.none is)) (parts_written (part_of h.setting.text h.tables)
-          t.nodes u.nodes next.x.tag i inner m at.nodes)
+-- the layer is written
+module _ (h : Chain) (t : Arena Item) (o c : Characters) (inner : Option ℕ) (g : Around) (n : ℕ) (next : NextLayer h g t o c inner n) (b : ItemBody) (shape : List ℕ → Shape)
+    (is : IsLayer b shape)
+    (u : Arena Item) (root end : ℕ) (m : Option ℕ)
+    (w : Wrote t u root (record { start = (item_at t.nodes root).start; end = (item_at t.nodes end).end; body = b })
+    inner m)
+    (root_is : root ≡ next.x.tag) (end_is : end ≡ next.v.tag) where
+  pub layer_written : Writes (view h t) (view h u) next.x.tag (spanned h.setting.text shape next.x next.v).part inner
+      m
+  layer_written =
+      let i : Item = record {
+        start = (item_at t.nodes next.x.tag).start;
+        end = (item_at t.nodes next.v.tag).end;
+        body = b;
+      } in
+      let at : Wrote t u next.x.tag i inner m =
+      rw (← end_is) (subst (λ x. Wrote t u x (record {
+        start = (item_at t.nodes x).start;
+        end = (item_at t.nodes
+            end).end;
+        body = b;
+      }) inner m) root_is w) in
+      rw (← (spanned_part h.setting h.tables (item_at t.nodes next.x.tag) (item_at t.nodes next.v.tag) next.x
+      next.v b shape next.peeled.item next.end_part next.none is)) (parts_written (part_of h.setting.text h.tables)
+      t.nodes u.nodes next.x.tag i inner m at.nodes)
 
-      pub layer_kept : (s : Arena Item) → Kept h.touched s t → Kept h.touched s u
-      layer_kept s k = kept_made h.touched s t u root _ inner m k
-          (subst (λ x. h.touched x ≡ true) (sym root_is) next.root_touched) w is.made
+  pub layer_kept : (s : Arena Item) → Kept h.touched s t → Kept h.touched s u
+  layer_kept s k = kept_made h.touched s t u root _ inner m k
+      (subst (λ x. h.touched x ≡ true) (sym root_is) next.root_touched) w is.made
 
 -- the nodes of the next layer are those of an arena
 pub record LayersFit (t : Arena Item) (o c : Characters) (left : ℕ) (inner : Option ℕ) : Type 0 where
@@ -349,8 +349,7 @@ module _ (h : Chain) (g : Around) (s t u : Arena Item) (d : Delimiter) (o c : Ch
         let layer : Label ℕ = spanned h.setting.text (layer_of_two (marks_of h.setting.rules.options) d) n.x n.v in
         let root_is : root ≡ n.x.tag = e ∙ sym n.root_is in
         let end_is : c.number + 1 ≡ n.v.tag = omega (arith, n.end_is) in
-        let written = layer_written h t o c inner g.before a.inside g.after _ 2 n b _ is u root (c.number + 1) None w
-        root_is end_is in
+        let written = layer_written h t o c inner _ 2 n _ _ is u _ _ None w root_is end_is in
         let low : suc n.x.tag ≤ n.hi = Rises-le h.touched (suc n.x.tag) a.inside n.hi n.peeled.rises in
         let right = Holds-write_before h.touched (view h t) (view h u) n.x.tag _ inner None written n.root_touched
         ((view h t).next n.v.tag) (suc n.v.tag) (texts n.vs g.after) h.bound (omega (arith, low, n.low, n.end_is)) n.rises
@@ -376,8 +375,7 @@ module _ (h : Chain) (g : Around) (s t u : Arena Item) (d : Delimiter) (o c : Ch
           };
           same = sym (z.layers_are (λ l. absurd (omega (arith, l))) h.setting d) ∙ a.same;
           left_is = omega (arith, a.left_is);
-          kept = layer_kept h t o c inner g.before a.inside g.after _ 2 n b _ is u root (c.number + 1) None w root_is
-              end_is s a.kept;
+          kept = layer_kept h t o c inner _ 2 n _ _ is u _ _ None w root_is end_is s a.kept;
         }
 
     -- the outermost layer
@@ -393,8 +391,7 @@ module _ (h : Chain) (g : Around) (s t u : Arena Item) (d : Delimiter) (o c : Ch
         let layer : Label ℕ = spanned h.setting.text (shape h.setting d) next.x next.v in
         let root_is : root ≡ next.x.tag = e ∙ sym next.root_is in
         let end_is : end ≡ next.v.tag = omega (arith, f, next.end_is) in
-        let written = layer_written h t o c inner g.before a.inside g.after _ n next b _ is u root end rest w root_is
-        end_is in
+        let written = layer_written h t o c inner _ n next _ _ is u _ _ rest w root_is end_is in
         let here : rest ≡ (view h t).next next.v.tag = rest_is ∙ ap (view h t).next end_is in
         let low : next.hi ≤ suc next.v.tag = omega (arith, next.low, next.end_is) in
         let none : min (length next.xs) (length next.vs) ≡ 0 =
@@ -412,8 +409,7 @@ module _ (h : Chain) (g : Around) (s t u : Arena Item) (d : Delimiter) (o c : Ch
           last = sym root_is;
           left_touched = (next.root_touched, next.left_touched);
           right_touched = next.right_touched;
-          kept = layer_kept h t o c inner g.before a.inside g.after _ n next b _ is u root end rest w root_is end_is s
-              a.kept;
+          kept = layer_kept h t o c inner _ n next _ _ is u _ _ rest w root_is end_is s a.kept;
         })
 
     pub layers_two : IsLayer b (layer_of_two (marks_of h.setting.rules.options) d) → (root end : ℕ) (rest : Option ℕ)

@@ -7,7 +7,7 @@ use Rattle.std.specs.Prelude.{⊤, ◌⊎◌, IfSome, IfNone, not, ◌&&◌, ◌
 use Rattle.std.specs.List.{AllByRecursion}
 use Rattle.markdown_base.specs.Forest.{Forest, nil, node}
 use Rattle.markdown_base.proofs.ForestLemmas.{relabelled-relabelled}
-use Rattle.markdown_document.specs.Document.{Shape, leaf, backslash_break, unresolved, Label, Plain, is_unresolved}
+use Rattle.markdown_document.specs.Document.{Shape, leaf, backslash_break, unresolved, Label, is_unresolved}
 use Rattle.markdown_document.specs.Document.{shaped}
 use Rattle.markdown_document.specs.Labels.{retag, retagged}
 use Rattle.markdown_document.specs.Setting.{Setting}
@@ -575,10 +575,7 @@ module _ {A : Type 0} (s : Setting) where
       ≡ without_tags after
       → without_tags (with_run s r more a below after) ≡ without_tags (node a below after)
   untagged_node r more a below after h =
-      let here : Plain = retag (λ _. tt) a in
-      ap (λ (f : Forest Plain). node here f (without_tags (with_runs s more r after)))
-      (relabelled-relabelled (retag no_run) (retag (λ _. tt))
-      below) ∙ ap (λ (f : Forest Plain). node here (without_tags below) f) h
+      rw (relabelled-relabelled (retag no_run) (retag (λ _. tt {0})) below, h) refl
 
   pub quotes_told : (more : ℕ) (before : MaybeRun) (chain : Forest (Label A)) (single double : Bool)
       → quotes_after single double (with_runs s more before chain)
@@ -589,13 +586,9 @@ module _ {A : Type 0} (s : Setting) where
   quotes_told zero before (node a below after) single double =
       let here : MaybeRun = run_at a.part.range.start (run_of s.text a.part) in
       let t : QuoteTurn = first_turn a after single double in
-      quotes_node single double here (further here) a below after (λ i j. quotes_told (further here) here after i j)
-      ∙ ap (λ (o : Option Run). with_run s (run_at a.part.range.start o) (further (run_at a.part.range.start o))
-      (shaped t.made a) below
-      (quotes_after t.single t.double after))
-      (sym (turned_run a.part.shape (delimiter_of (slice_index s.text a.part.range.start)) single double
-      (is_closed_later after)
-      (is_end after)))
+      rw (turned_run a.part.shape (delimiter_of (slice_index s.text a.part.range.start)) single double
+      (is_closed_later after) (is_end after))
+      (quotes_node single double here (further here) a below after (λ i j. quotes_told (further here) here after i j))
 
 -- runs in the tags change nothing else
 told_untagged : {A : Type 0} (s : Setting) (more : ℕ) (before : MaybeRun) (chain : Forest (Label A))

@@ -227,8 +227,7 @@ module _ (s : Setting) (tables : Tables) (nodes : List (Node Item)) where
       (is_closed_later (labels s tables nodes after)) (is_end (labels s tables nodes after)) e in
       let run : Run = record { delimiter = d.0; length = c.count; can_open = c.can_open; can_close = c.can_close } in
       let is : run_of s.text (shaped t.made (label ix)).part ≡ Some run =
-      ap (λ z. run_of_shape z (delimiter_of (slice_index s.text (item_at nodes ix).start))) made
-      ∙ ap (run_of_shape (label ix).part.shape) d.1 ∙ shown_run tables source (item_at nodes ix).body c d.0 e some in
+      rw (made, d.1) (shown_run tables source (item_at nodes ix).body c d.0 e some) in
       record {
         counts = subst ShowsCount (sym made) (shown_count tables source (item_at nodes ix).body c e some);
         whole = rw is (begins_run c.count c.can_open c.can_close single double ix below after e w);

@@ -159,19 +159,11 @@ module _ (begun : Forest (Label ℕ)) (a : Label ℕ) (below after : Forest (Lab
   pub turn_break : (single : Option ℕ) (double : Bool) → IfSome single (λ x. x < a.tag) → is_end after ≡ true
       → quoted_from single double (node (shaped (synthesized backslash) a) below begun) after
       ≡ turned single double kind.Break
-  turn_break single double low e =
-      stays single double (synthesized backslash) low
-      ∙ ap (λ l. read_back (node (shaped (if l then synthesized backslash else a.part.shape) a) below
-      (remembered_as single (is_closed_later after)
-      begun)) (quotes_after (is_some single) double after)) (sym e)
+  turn_break single double low e = rw e (stays single double (synthesized backslash) low)
 
   pub turn_no_break : (single : Option ℕ) (double : Bool) → IfSome single (λ x. x < a.tag) → is_end after ≡ false
       → quoted_from single double (node a below begun) after ≡ turned single double kind.Break
-  turn_no_break single double low e =
-      stays single double a.part.shape low
-      ∙ ap (λ l. read_back (node (shaped (if l then synthesized backslash else a.part.shape) a) below
-      (remembered_as single (is_closed_later after)
-      begun)) (quotes_after (is_some single) double after)) (sym e)
+  turn_no_break single double low e = rw e (stays single double a.part.shape low)
 
   pub turn_double_closes : (single : Option ℕ) (opens : Bool) → IfSome single (λ x. x < a.tag)
       → quoted_from single false (node (shaped right_double a) below begun) after
