@@ -1,7 +1,6 @@
 -- What the bounds say of a stack, as it changes.
-use Rattle.std.proofs.Common.{◌≡◌, ℕ, ◌%◌, ◌<◌, ◌≤◌, min, Bool, true, false, List, length, take, get_or, inl, inr, refl, ap, sym}
-use Rattle.std.proofs.Common.{◌∙◌}
-use Rattle.std.proofs.Common.{subst, arith}
+use Rattle.std.proofs.Common.{◌≡◌, ℕ, ◌%◌, ◌<◌, ◌≤◌, min, Bool, true, false, List, length, take, get_or, inl, inr, refl}
+use Rattle.std.proofs.Common.{ap, sym, ◌∙◌, subst, arith}
 use Rattle.std.specs.Prelude.{All, if◌then◌else◌, ◌==◌}
 use Rattle.std.proofs.lemmas.List.{take_all, take-take, length-take-le, length-take, get_or-take}
 use Rattle.std.proofs.lemmas.List.Elements.{All-take}
@@ -15,10 +14,8 @@ use Rattle.markdown_delims.specs.declared.bounds.LowerBounds.{LowerBounds}
 use Rattle.markdown_delims.specs.MayPair.{can_do_both, may_pair, needs_equal_length}
 use Rattle.markdown_delims.specs.PairingLaws.{is_tilde_or_caret}
 use Rattle.markdown_delims.specs.Bounds.{IsOutOfStep, IsOfBoth, BoundCharacter, BoundStack, remainder_bound}
-use Rattle.markdown_delims.specs.Bounds.{character_bound_for, bound_at}
-use Rattle.markdown_delims.specs.Bounds.{bound_for, character_raised_for, raised_at, raised_for, character_lowered}
-use Rattle.markdown_delims.specs.Bounds.{lowered}
-use Rattle.markdown_delims.specs.Bounds.{drop_bound}
+use Rattle.markdown_delims.specs.Bounds.{character_bound_for, bound_at, bound_for, character_raised_for, raised_at}
+use Rattle.markdown_delims.specs.Bounds.{raised_for, character_lowered, lowered, drop_bound}
 use Rattle.markdown_delims.proofs.PairTests.{IsOutOfStep-failed, IsOfBoth-failed, may_pair-fails}
 
 -- what holds below a bound still holds below the lesser bound after a cut

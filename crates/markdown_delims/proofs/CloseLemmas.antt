@@ -1,7 +1,6 @@
 -- The search of the stack is the search of what was read; and what a find, or none, leaves.
 use Rattle.std.proofs.Common.{◌≡◌, ℕ, suc, ◌+◌, ◌-◌, ◌<◌, min, Bool, true, false, List, [], ◌∷◌, map, Option, Some}
-use Rattle.std.proofs.Common.{None, length}
-use Rattle.std.proofs.Common.{refl, ap, sym, ◌∙◌, subst, arith}
+use Rattle.std.proofs.Common.{None, length, refl, ap, sym, ◌∙◌, subst, arith}
 use Rattle.std.specs.Prelude.{⊤, if◌then◌else◌, not, ◌&&◌, ◌||◌}
 use Rattle.markdown_base.specs.declared.item.Item.{Item}
 use Rattle.markdown_base.specs.Arena.{Arena, sibling_of}
@@ -12,8 +11,7 @@ use Rattle.markdown_delims.specs.declared.run.Characters.{Characters}
 use Rattle.markdown_delims.specs.declared.run.Delimiter.{Delimiter}
 use Rattle.markdown_delims.specs.declared.run.Run.{Run}
 use Rattle.markdown_delims.specs.ChainStanding.{Chain, view, texts, left_texts, flat, FirstFrom, LastFrom, AreFirst}
-use Rattle.markdown_delims.specs.ChainStanding.{AreLast, IsOpen, AreOpen}
-use Rattle.markdown_delims.specs.ChainStanding.{Stands, StandsAt, IsRead}
+use Rattle.markdown_delims.specs.ChainStanding.{AreLast, IsOpen, AreOpen, Stands, StandsAt, IsRead}
 use Rattle.markdown_delims.specs.MayPair.{drops, may_pair}
 use Rattle.markdown_delims.specs.Pairing.{Read, done_read, waiting, texts_before, characters_done, FoundOpener}
 use Rattle.markdown_delims.specs.Pairing.{found_if, nearest_opener, drop_read}

@@ -1,7 +1,6 @@
 -- A closer goes on while it finds openers: what is read from here on, and what is found, are what the whole run gives.
 use Rattle.std.proofs.Common.{◌≡◌, ℕ, zero, suc, ◌+◌, ◌-◌, ◌<◌, ◌≤◌, Bool, true, false, List, [], ◌∷◌, map, Option}
-use Rattle.std.proofs.Common.{Some, None, length}
-use Rattle.std.proofs.Common.{refl, ap, sym, ◌∙◌, subst, arith}
+use Rattle.std.proofs.Common.{Some, None, length, refl, ap, sym, ◌∙◌, subst, arith}
 use Rattle.std.specs.Prelude.{not}
 use Rattle.markdown_base.specs.declared.item.Item.{Item}
 use Rattle.markdown_base.specs.Arena.{Arena}
@@ -11,9 +10,8 @@ use Rattle.markdown_document.specs.Setting.{Setting}
 use Rattle.markdown_delims.specs.declared.marks.Marks.{Marks}
 use Rattle.markdown_delims.specs.declared.run.Characters.{Characters}
 use Rattle.markdown_delims.specs.declared.run.Run.{Run}
-use Rattle.markdown_delims.specs.ChainStanding.{Chain, view, texts, AreFirst, AreLast, AreOpen, Reads, StandsAt}
-use Rattle.markdown_delims.specs.ChainStanding.{Finds, Pairs, CanPair, IsRead}
-use Rattle.markdown_delims.specs.ChainStanding.{Keeps, RunRead, CanRead}
+use Rattle.markdown_delims.specs.ChainStanding.{Chain, view, texts, AreFirst, AreLast, AreOpen, Reads, StandsAt, Finds}
+use Rattle.markdown_delims.specs.ChainStanding.{Pairs, CanPair, IsRead, Keeps, RunRead, CanRead}
 use Rattle.markdown_delims.specs.Layers.{marks_of}
 use Rattle.markdown_delims.specs.OpenRuns.{Openers}
 use Rattle.markdown_delims.specs.Pairing.{Read, FoundOpener, nearest_opener, drop_read, Layers, layers, left_over}
@@ -22,8 +20,7 @@ use Rattle.markdown_delims.specs.PairingFinds.{search_finds, closer_finds, run_f
 use Rattle.markdown_delims.specs.RunSearch.{OpenRun, nearest_run, dropped_by}
 use Rattle.markdown_delims.specs.Views.{Kept}
 use Rattle.markdown_delims.proofs.CloseLemmas.{LayersLeave, FoundAs, found_as, found_none, opener_stands, flat-dropped}
-use Rattle.markdown_delims.proofs.CloseLemmas.{open-dropped, open-trees, layers_leave}
-use Rattle.markdown_delims.proofs.CloseLemmas.{stands_as}
+use Rattle.markdown_delims.proofs.CloseLemmas.{open-dropped, open-trees, layers_leave, stands_as}
 use Rattle.markdown_delims.proofs.EncloseLemmas.{texts_link}
 use Rattle.markdown_delims.proofs.WriteLemmas.{kept_none, kept_both}
 

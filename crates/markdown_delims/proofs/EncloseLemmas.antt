@@ -1,7 +1,6 @@
 -- Characters of an opener become nodes, one layer at a time.
 use Rattle.std.proofs.Common.{◌≡◌, ℕ, suc, ◌+◌, ◌-◌, ◌<◌, ◌≤◌, min, Bool, true, List, [], ◌∷◌, Option, Some, None}
-use Rattle.std.proofs.Common.{length, refl, ap}
-use Rattle.std.proofs.Common.{sym, ◌∙◌, subst, arith}
+use Rattle.std.proofs.Common.{length, refl, ap, sym, ◌∙◌, subst, arith}
 use Rattle.std.specs.Prelude.{IfSome, slice_range, ◌^◌}
 use Rattle.markdown_base.specs.declared.item.Item.{Item}
 use Rattle.markdown_base.specs.declared.item.ItemBody.{ItemBody}
@@ -20,8 +19,7 @@ use Rattle.markdown_delims.specs.Pairing.{Layers, layers}
 use Rattle.markdown_delims.specs.Views.{View, Writes, Wrote, Holds, LeftHolds, next_number, Rises, LeftRises, Cut, Kept}
 use Rattle.markdown_delims.specs.Views.{AllTouched}
 use Rattle.markdown_delims.proofs.CutLemmas.{Rises-le, Rises-raise, Rises-lower, Inside-of, Inside-further}
-use Rattle.markdown_delims.proofs.CutLemmas.{Holds-write_before, step_left}
-use Rattle.markdown_delims.proofs.CutLemmas.{enclosing}
+use Rattle.markdown_delims.proofs.CutLemmas.{Holds-write_before, step_left, enclosing}
 use Rattle.markdown_delims.proofs.WriteLemmas.{parts_written, kept_none, kept_made}
 
 -- a chain's first number is not below where it begins

@@ -1,9 +1,8 @@
 -- In a chain in which the tag of each character is its run, each tree that is made from a run is a character of it, or
 -- joins it to a run with which it may pair: this holds for all that is read, since the characters of a closer belong to
 -- one run, and so do those of an open run.
-use Rattle.std.proofs.Common.{◌≡◌, inl, inr, ℕ, zero, suc, ◌-◌, Bool, true, false, List, [], ◌∷◌, Option, Some}
-use Rattle.std.proofs.Common.{None, refl, ap, sym}
-use Rattle.std.proofs.Common.{subst, ◌∙◌, arith}
+use Rattle.std.proofs.Common.{◌≡◌, inl, inr, ℕ, zero, suc, ◌-◌, Bool, true, false, List, [], ◌∷◌, Option, Some, None}
+use Rattle.std.proofs.Common.{refl, ap, sym, subst, ◌∙◌, arith}
 use Rattle.std.specs.Prelude.{⊤}
 use Rattle.std.specs.List.{AllByRecursion}
 use Rattle.std.specs.declared.ops.Range.{Range}
@@ -17,11 +16,9 @@ use Rattle.markdown_delims.specs.declared.run.Run.{Run}
 use Rattle.markdown_delims.specs.JoinedRuns.{HasCharacter, IsMadeOfRun, JoinedLaw, JoinsRuns}
 use Rattle.markdown_delims.specs.Layers.{marks_of, layer_of_one, layer_of_two, run_of, spanned}
 use Rattle.markdown_delims.specs.MayPair.{may_pair}
-use Rattle.markdown_delims.specs.Pairing.{Read, done_read, read_trees}
-use Rattle.markdown_delims.specs.Pairing.{FoundOpener, nearest_opener}
-use Rattle.markdown_delims.specs.Pairing.{Layers, layers, still_waiting, last_first, left_over}
-use Rattle.markdown_delims.specs.Pairing.{after_layers}
-use Rattle.markdown_delims.specs.Pairing.{first_texts, reads_from, runs_paired, paired}
+use Rattle.markdown_delims.specs.Pairing.{Read, done_read, read_trees, FoundOpener, nearest_opener, Layers, layers}
+use Rattle.markdown_delims.specs.Pairing.{still_waiting, last_first, left_over, after_layers, first_texts, reads_from}
+use Rattle.markdown_delims.specs.Pairing.{runs_paired, paired}
 use Rattle.markdown_delims.specs.PairingLaws.{RunAt, further, no_run, run_at, with_runs}
 use Rattle.markdown_delims.specs.Quotes.{first_turn, quotes_after, with_quotes}
 use Rattle.markdown_delims.proofs.KeepLemmas.{EachTree, EachReadOf, FoundOf, AreTexts, dropped-keep, done-trees-keep}

@@ -13,8 +13,7 @@ use Rattle.markdown_delims.specs.Pairing.{paired, NothingOpen}
 use Rattle.markdown_delims.specs.PairingFinds.{finds_in}
 use Rattle.markdown_delims.specs.Layers.{marks_of}
 use Rattle.markdown_delims.specs.PairingLaws.{below_trees, NonePairs, PairingClosedLaw, PairingOrderLaw, JoinsLaw}
-use Rattle.markdown_delims.specs.PairingLaws.{MissesNoneLaw, KeepsLaw}
-use Rattle.markdown_delims.specs.PairingLaws.{PairingTagLaw}
+use Rattle.markdown_delims.specs.PairingLaws.{MissesNoneLaw, KeepsLaw, PairingTagLaw}
 use Rattle.markdown_delims.specs.Quotes.{first_turn, quotes_after, with_quotes}
 use Rattle.markdown_delims.proofs.KeepLemmas.{EachTree, MakesTrees, IsReadable, runs-keep, IsClosedTree}
 use Rattle.markdown_delims.proofs.KeepLemmas.{as_closed-closed, paired-closed}

@@ -1,14 +1,12 @@
 -- Of two runs of `*` or `_` that may pair, some pair encloses what is left of one and not of the other: no two such
 -- runs have characters left in the same chain, at any depth, once a chain is read.
 use Rattle.std.proofs.Common.{◌≡◌, ℕ, zero, suc, ◌-◌, ◌<◌, Bool, true, false, List, [], ◌∷◌, length, Option, Some, None}
-use Rattle.std.proofs.Common.{refl, ap, sym, ◌∙◌}
-use Rattle.std.proofs.Common.{subst, arith, inl, inr, map, min, ◌+◌, ◌≤◌}
+use Rattle.std.proofs.Common.{refl, ap, sym, ◌∙◌, subst, arith, inl, inr, map, min, ◌+◌, ◌≤◌}
 use Rattle.std.specs.Prelude.{⊤, ◌⊎◌, IfSome, IfNone, not, ◌&&◌, ◌||◌, slice_range, slice_index}
 use Rattle.std.specs.List.{AllByRecursion}
 use Rattle.markdown_base.specs.Forest.{Forest, nil, node}
 use Rattle.markdown_base.proofs.ForestLemmas.{relabelled-relabelled}
-use Rattle.markdown_document.specs.Document.{Shape, leaf, backslash_break, unresolved, Label, is_unresolved}
-use Rattle.markdown_document.specs.Document.{shaped}
+use Rattle.markdown_document.specs.Document.{Shape, leaf, backslash_break, unresolved, Label, is_unresolved, shaped}
 use Rattle.markdown_document.specs.Labels.{retag, retagged}
 use Rattle.markdown_document.specs.Setting.{Setting}
 use Rattle.markdown_document.specs.Waiting.{text_if, as_closed}
@@ -18,14 +16,11 @@ use Rattle.markdown_delims.specs.declared.run.Run.{Run}
 use Rattle.markdown_delims.specs.Layers.{marks_of, layer_of_one, layer_of_two, run_of_shape, run_of, spanned}
 use Rattle.markdown_delims.specs.MayPair.{delimiter_of, drops, may_pair}
 use Rattle.markdown_delims.specs.Pairing.{paired, Read, done_read, waiting, texts_before, characters_done, read_trees}
-use Rattle.markdown_delims.specs.Pairing.{FoundOpener, nearest_opener}
-use Rattle.markdown_delims.specs.Pairing.{drop_read, Layers, layers, trees_done, still_waiting, last_first, opened_if}
-use Rattle.markdown_delims.specs.Pairing.{left_over, after_layers, after_search, closed_by, run_read, first_texts}
-use Rattle.markdown_delims.specs.Pairing.{after_tree, reads_from}
-use Rattle.markdown_delims.specs.Pairing.{runs_paired}
+use Rattle.markdown_delims.specs.Pairing.{FoundOpener, nearest_opener, drop_read, Layers, layers, trees_done}
+use Rattle.markdown_delims.specs.Pairing.{still_waiting, last_first, opened_if, left_over, after_layers, after_search}
+use Rattle.markdown_delims.specs.Pairing.{closed_by, run_read, first_texts, after_tree, reads_from, runs_paired}
 use Rattle.markdown_delims.specs.Quotes.{kind_of_shape, closes_later, is_closed_later, is_end, QuoteTurn, turn_by}
-use Rattle.markdown_delims.specs.Quotes.{first_turn, quotes_after}
-use Rattle.markdown_delims.specs.Quotes.{with_quotes}
+use Rattle.markdown_delims.specs.Quotes.{first_turn, quotes_after, with_quotes}
 use Rattle.markdown_delims.specs.declared.quotes.Kind.TheVariants as kind
 use Rattle.markdown_base.specs.declared.item.ItemBody.TheVariants as body
 use Rattle.markdown_delims.specs.PairingLaws.{is_tilde_or_caret, NonePairs, RunAt, run_at, further, no_run, with_runs}

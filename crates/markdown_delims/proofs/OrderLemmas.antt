@@ -15,14 +15,11 @@ use Rattle.markdown_delims.specs.declared.run.Run.{Run}
 use Rattle.markdown_delims.specs.Layers.{marks_of, layer_of_two, spanned, run_of}
 use Rattle.markdown_delims.specs.MayPair.{may_pair}
 use Rattle.markdown_delims.specs.Pairing.{Read, done_read, waiting, texts_before, characters_done, read_trees}
-use Rattle.markdown_delims.specs.Pairing.{FoundOpener, found_if, nearest_opener}
-use Rattle.markdown_delims.specs.Pairing.{drop_read, Layers, layers, trees_done, still_waiting, last_first, opened_if}
-use Rattle.markdown_delims.specs.Pairing.{left_over, after_layers, after_search, closed_by, run_read, first_texts}
-use Rattle.markdown_delims.specs.Pairing.{after_tree, reads_from}
-use Rattle.markdown_delims.specs.Pairing.{runs_paired, paired}
+use Rattle.markdown_delims.specs.Pairing.{FoundOpener, found_if, nearest_opener, drop_read, Layers, layers, trees_done}
+use Rattle.markdown_delims.specs.Pairing.{still_waiting, last_first, opened_if, left_over, after_layers, after_search}
+use Rattle.markdown_delims.specs.Pairing.{closed_by, run_read, first_texts, after_tree, reads_from, runs_paired, paired}
 use Rattle.markdown_delims.specs.PairingFinds.{search_finds, closer_finds, run_finds, tree_finds, finds_from, finds_in}
-use Rattle.markdown_delims.specs.Quotes.{kind_of_shape, closes_later, is_closed_later, is_end}
-use Rattle.markdown_delims.specs.Quotes.{first_turn, quotes_after}
+use Rattle.markdown_delims.specs.Quotes.{kind_of_shape, closes_later, is_closed_later, is_end, first_turn, quotes_after}
 use Rattle.markdown_delims.specs.Quotes.{with_quotes}
 use Rattle.markdown_delims.proofs.KeepLemmas.{EachTree, EachRead, EachFound, Holds, nearest-keeps, found-keeps}
 use Rattle.markdown_delims.proofs.KeepLemmas.{firsts-keep, holds-on}

@@ -1,7 +1,6 @@
 -- One pair: the chain is cut before the closer, and the opener encloses what follows it.
 use Rattle.std.proofs.Common.{◌≡◌, ◌≤◌, ℕ, ◌+◌, ◌-◌, ◌<◌, Bool, true, false, List, [], ◌∷◌, Option, Some, None, length}
-use Rattle.std.proofs.Common.{refl, ap, sym, ◌∙◌}
-use Rattle.std.proofs.Common.{subst, arith}
+use Rattle.std.proofs.Common.{refl, ap, sym, ◌∙◌, subst, arith}
 use Rattle.std.specs.Prelude.{not, ◌&&◌, ◌^◌}
 use Rattle.markdown_base.specs.declared.item.Item.{Item}
 use Rattle.markdown_base.specs.Arena.{Arena, child_of}
@@ -17,8 +16,7 @@ use Rattle.markdown_delims.specs.Enclosing.{Around, Encloses, EnclosesAll, inner
 use Rattle.markdown_delims.specs.Layers.{marks_of}
 use Rattle.markdown_delims.specs.MayPair.{may_pair}
 use Rattle.markdown_delims.specs.Pairing.{Read, done_read, waiting, texts_before, FoundOpener, found_if, nearest_opener}
-use Rattle.markdown_delims.specs.Pairing.{Layers, layers}
-use Rattle.markdown_delims.specs.Pairing.{trees_done, still_waiting, after_layers}
+use Rattle.markdown_delims.specs.Pairing.{Layers, layers, trees_done, still_waiting, after_layers}
 use Rattle.markdown_delims.specs.Views.{View, Writes, Wrote, LeftHolds, next_number, LeftRises, Cut, AllTouched, top}
 use Rattle.markdown_delims.proofs.CutLemmas.{Rises-raise, Holds-write_before, step_left, Parted, parted}
 use Rattle.markdown_delims.proofs.WriteLemmas.{parts_written, kept_links, kept_both}

@@ -1,7 +1,6 @@
 -- A chain that was paired in place reads as its labels paired, and has no node more.
 use Rattle.std.proofs.Common.{◌≡◌, ℕ, ◌+◌, ◌≤◌, Bool, true, false, List, [], Some, length, refl, ap, sym, ◌∙◌, subst}
-use Rattle.std.proofs.Common.{arith}
-use Rattle.std.proofs.Common.{inl, inr}
+use Rattle.std.proofs.Common.{arith, inl, inr}
 use Rattle.std.specs.Prelude.{◌==◌, ◌||◌, ◌⊎◌, ◌^◌, slice_range}
 use Rattle.std.proofs.lemmas.Bool.{eqb-true}
 use Rattle.markdown_base.specs.Arena.{Arena}
@@ -23,8 +22,7 @@ use Rattle.markdown_document.specs.Totals.{total, same, weight_if, weight_at}
 use Rattle.markdown_document.proofs.FoundLemmas.{found}
 use Rattle.markdown_document.proofs.TablesLemmas.{same-refl}
 use Rattle.markdown_delims.specs.ChainForest.{RisesFrom}
-use Rattle.markdown_delims.specs.ChainReading.{is_among, NoneBelow, labels, IsSpelled, IsChainAt, IsPaired}
-use Rattle.markdown_delims.specs.ChainReading.{runs_in}
+use Rattle.markdown_delims.specs.ChainReading.{is_among, NoneBelow, labels, IsSpelled, IsChainAt, IsPaired, runs_in}
 use Rattle.markdown_delims.specs.PairedChain.{CanPair, PairsChain}
 use Rattle.markdown_delims.specs.Pairing.{runs_paired, paired}
 use Rattle.markdown_delims.specs.PairingFinds.{finds_from, finds_in}

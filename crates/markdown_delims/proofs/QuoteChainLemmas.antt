@@ -24,8 +24,7 @@ use Rattle.markdown_delims.specs.Quoting.{remembered_as, quoted_from, QuotesOn, 
 use Rattle.markdown_delims.specs.RunReading.{counts_one, delimiters_of}
 use Rattle.markdown_delims.specs.Views.{View, Holds, Rises}
 use Rattle.markdown_delims.proofs.ChainLemmas.{numbers_of, numbers_of-labels, whole_chain, chain_cut, chain_touched}
-use Rattle.markdown_delims.proofs.ChainLemmas.{AllRead, chain_read, numbers_left}
-use Rattle.markdown_delims.proofs.ChainLemmas.{fewer_left}
+use Rattle.markdown_delims.proofs.ChainLemmas.{AllRead, chain_read, numbers_left, fewer_left}
 use Rattle.markdown_delims.proofs.WriteLemmas.{kept_none, kept_both}
 
 -- a shape counts as its body does, at most once

@@ -16,8 +16,7 @@ use Rattle.markdown_delims.specs.declared.quotes.Kind.{Kind}
 use Rattle.markdown_delims.specs.declared.quotes.Kind.TheVariants as kind
 use Rattle.markdown_delims.specs.ChainStanding.{Chain, view, read_back}
 use Rattle.markdown_delims.specs.Quotes.{synthesized, left_single, right_single, left_double, right_double}
-use Rattle.markdown_delims.specs.Quotes.{kind_of_shape}
-use Rattle.markdown_delims.specs.Quotes.{closes_later, is_closed_later, is_end, turn_by, quotes_after}
+use Rattle.markdown_delims.specs.Quotes.{kind_of_shape, closes_later, is_closed_later, is_end, turn_by, quotes_after}
 use Rattle.markdown_delims.specs.Quoting.{IsRoot, left_quoted, remembered_as, quoted_from, QuotesStand, QuotesOn}
 use Rattle.markdown_delims.specs.Views.{View, Writes, WroteBody, Holds, LeftHolds, next_number, LeftRises, IsMade, Kept}
 use Rattle.markdown_delims.specs.Views.{AllTouched}

@@ -1,7 +1,6 @@
 -- A whole run is read at its first character, and another tree by itself.
 use Rattle.std.proofs.Common.{◌≡◌, ℕ, zero, suc, ◌+◌, ◌-◌, ◌<◌, ◌≤◌, Bool, false, List, ◌∷◌, Option, Some, None, length}
-use Rattle.std.proofs.Common.{refl, ap}
-use Rattle.std.proofs.Common.{sym, ◌∙◌, subst, arith}
+use Rattle.std.proofs.Common.{refl, ap, sym, ◌∙◌, subst, arith}
 use Rattle.std.specs.Prelude.{is_some}
 use Rattle.markdown_base.specs.declared.item.Item.{Item}
 use Rattle.markdown_base.specs.declared.item.ItemBody.{ItemBody}
@@ -10,17 +9,14 @@ use Rattle.markdown_base.specs.Arena.{Arena, sibling_of}
 use Rattle.markdown_base.specs.BlockTree.{item_at}
 use Rattle.markdown_base.specs.Forest.{Forest, nil, node}
 use Rattle.markdown_document.specs.Counts.{comparisons_per_delimiter}
-use Rattle.markdown_document.specs.Document.{Part, Label}
-use Rattle.markdown_document.specs.Document.{is_unresolved, shape_of}
-use Rattle.markdown_document.specs.Document.{part_of}
+use Rattle.markdown_document.specs.Document.{Part, Label, is_unresolved, shape_of, part_of}
 use Rattle.markdown_document.specs.Setting.{Setting}
 use Rattle.markdown_document.specs.Tables.{Tables}
 use Rattle.markdown_document.specs.Waiting.{text_if, as_closed}
 use Rattle.markdown_delims.specs.declared.marks.Marks.{Marks}
 use Rattle.markdown_delims.specs.declared.run.Run.{Run}
 use Rattle.markdown_delims.specs.ChainReading.{HasCount, ShowsCount, trees_after, BeginsRun, IsWhole, AreWhole, one_if}
-use Rattle.markdown_delims.specs.ChainReading.{runs_in, Settles}
-use Rattle.markdown_delims.specs.ChainReading.{StandsWhole, ReadFurther, CanReadTree}
+use Rattle.markdown_delims.specs.ChainReading.{runs_in, Settles, StandsWhole, ReadFurther, CanReadTree}
 use Rattle.markdown_delims.specs.ChainStanding.{Chain, view, flat, RunRead}
 use Rattle.markdown_delims.specs.Layers.{run_of}
 use Rattle.markdown_delims.specs.OpenRuns.{Openers}

@@ -1,7 +1,6 @@
 -- A push, a search that finds and one that does not, of the stack and its bounds.
 use Rattle.std.proofs.Common.{◌≡◌, ℕ, ◌+◌, ◌-◌, ◌<◌, ◌≤◌, true, false, List, [], ◌∷◌, ◌++◌, length, take, get_or, Some}
-use Rattle.std.proofs.Common.{None, refl, ap}
-use Rattle.std.proofs.Common.{sym, ◌∙◌, subst, arith}
+use Rattle.std.proofs.Common.{None, refl, ap, sym, ◌∙◌, subst, arith}
 use Rattle.std.proofs.lemmas.List.{length-take-le, length_push}
 use Rattle.std.proofs.lemmas.List.Elements.{All-take}
 use Rattle.markdown_document.specs.Counts.{comparisons_per_delimiter}
@@ -15,8 +14,7 @@ use Rattle.markdown_delims.specs.OpenRuns.{open_runs, openers_of, potential_of, 
 use Rattle.markdown_delims.proofs.BoundLaws.{BoundStack-cut, BoundStack-raised, bound_at-within, drop_bound-within}
 use Rattle.markdown_delims.proofs.Potential.{above_bounds-push, above_bounds-cut, above_bounds-raised}
 use Rattle.markdown_delims.proofs.Searches.{open_runs-pushed, open_runs-lowered, nearest-passed, nearest-taken}
-use Rattle.markdown_delims.proofs.Searches.{nearest-below}
-use Rattle.markdown_delims.proofs.Searches.{may_take-fails, may_take-holds}
+use Rattle.markdown_delims.proofs.Searches.{nearest-below, may_take-fails, may_take-holds}
 
 module _ (stack : List Characters) (examined : ℕ) (b : LowerBounds) (sound : IsSound stack examined b) where
   potential-push : (c : Characters) → potential_of (stack ++ c ∷ []) examined b

@@ -26,8 +26,8 @@ read_tree-requires c =
 pub trees-preserved : goal.trees-preserved
 trees-preserved c s tables f m t ch =
     reads_more s tables c.args.tree.now _ _ _ ch _ _ _ _ c.args.source.marks c.args.source.text.now
-    c.read_tree.new.tree c.read_tree.new.openers c.in_ok-read.read c.in_ok-read.next c.in-Some.ix m t (rw c.in-Some.is
-    at (c.trees.invariant s tables f m t ch)) c.in_ok-read.ensures.ok
+    c.read_tree.new.tree c.read_tree.new.openers c.in_ok-read.read c.in_ok-read.next c.in-Some.ix m t
+    (rw c.in-Some.is at (c.trees.invariant s tables f m t ch)) c.in_ok-read.ensures.ok
 
 pub trees-smaller : goal.trees-smaller
 trees-smaller c =

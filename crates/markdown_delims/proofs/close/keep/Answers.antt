@@ -20,13 +20,11 @@ next-next-requires c =
 pub returns-in_ok-push-clause-ok : goal.returns-in_ok-push-clause-ok
 returns-in_ok-push-clause-ok c h rs last vs after st a =
     characters_kept h c.args.tree.now rs last c.args.left vs after st c.requires.some _ _ _ refl
-    c.next-next.ensures.value
-    (rw (ap (λ o. o.runs) c.in_ok-push.ensures.ok) (opened_open h c.args.tree.now rs last c.args.left vs after st
-    c.requires.some c.args.openers.now.runs a c.if-left.true))
+    c.next-next.ensures.value (rw (ap (λ o. o.runs) c.in_ok-push.ensures.ok) (opened_open h c.args.tree.now rs last
+    c.args.left vs after st c.requires.some c.args.openers.now.runs a c.if-left.true))
 
 pub returns-else-left-clause-ok : goal.returns-else-left-clause-ok
 returns-else-left-clause-ok c h rs last vs after st a =
     characters_kept h c.args.tree.now rs last c.args.left vs after st c.requires.some _ _ _ refl
-    c.next-next.ensures.value
-    (opened_lone h c.args.tree.now rs last c.args.left vs after st c.requires.some c.args.openers.now.runs a
-    c.if-left.false)
+    c.next-next.ensures.value (opened_lone h c.args.tree.now rs last c.args.left vs after st c.requires.some
+    c.args.openers.now.runs a c.if-left.false)

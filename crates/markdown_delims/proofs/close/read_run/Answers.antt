@@ -4,8 +4,7 @@ use Rattle.std.specs.Prelude.{IfOk, IsSome, Result}
 use Rattle.std.proofs.lemmas.Bool.{not-false}
 use Rattle.markdown_delims.proofs.CloseLemmas.{last_within}
 use Rattle.markdown_delims.proofs.ClosingLemmas.{kept_read, closing_begin, closing_none, can_keep, opener_before}
-use Rattle.markdown_delims.proofs.ClosingLemmas.{can_pair, closing_more}
-use Rattle.markdown_delims.proofs.ClosingLemmas.{closing_used, closing_left}
+use Rattle.markdown_delims.proofs.ClosingLemmas.{can_pair, closing_more, closing_used, closing_left}
 use Rattle.markdown_delims.proofs.close.read_run.Goals as goal
 
 if_ok : {A E : Type 0} (P Q : A → Type 0) (r : Result A E) → ((x : A) → P x → Q x) → IfOk r P → IfOk r Q
@@ -71,8 +70,8 @@ returns-then-closer-opener-2-clause-ok c h rs vs after m st a =
     closing_used _ _ _ _ _ _ _ _ _ _ _ (c.turns.invariant.goes_on h rs vs after m st a) c.turns.invariant.some
     c.in-Some.opener c.take_nearest.new.self.runs c.in-Some.ensures.found c.in-Some.ensures.some c.args.marks m
     c.unwrap.result c.unwrap.ensures c.pair-root.new.tree c.pair-root.result.0 c.pair-root.result.1 c.pair-root.ensures
-    c.take_nearest.new.self refl c.in-Some.ensures.counted c.if-closer-opener-2.true (not-false
-    c.args.met.run.can_close c.if-not-met.false)
+    c.take_nearest.new.self refl c.in-Some.ensures.counted c.if-closer-opener-2.true
+    (not-false c.args.met.run.can_close c.if-not-met.false)
 
 pub turns-preserved : goal.turns-preserved
 turns-preserved c =

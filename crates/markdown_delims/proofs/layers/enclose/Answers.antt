@@ -59,9 +59,9 @@ layers-preserved c =
     (c.layers.left - 2)
     (Some (c.layers.opener.number + (c.layers.opener.count - 2))) =
     λ h g m e. layers_more _ _ _ _ c.put_node.new.tree _ _ _ _ _ (c.layers.invariant.layers h g m e)
-    c.layer_of_two.result (layer_by c.layer_of_two.result (λ m. layer_of_two m c.args.opener.run.delimiter) _ _ m
-    c.layer_of_two.ensures) _ refl c.layers-test.true
-    (wrote_as _ _ _ _ _ _ _ _ _ c.put_node.ensures c.spanned-item.ensures refl refl) in
+    c.layer_of_two.result
+    (layer_by c.layer_of_two.result (λ m. layer_of_two m c.args.opener.run.delimiter) _ _ m c.layer_of_two.ensures) _
+    refl c.layers-test.true (wrote_as _ _ _ _ _ _ _ _ _ c.put_node.ensures c.spanned-item.ensures refl refl) in
     record {
       layers = more;
       some = omega arith;

@@ -14,8 +14,7 @@ use Rattle.markdown_delims.specs.Quotes.{kind_of_shape}
 use Rattle.markdown_delims.specs.RunReading.{counts_one}
 use Rattle.markdown_delims.proofs.QuoteLemmas.{can_here}
 use Rattle.markdown_delims.proofs.QuoteChainLemmas.{QuotesSoFar, quotes_begin, quote_here, quotes_step, quotes_down}
-use Rattle.markdown_delims.proofs.QuoteChainLemmas.{quotes_size, few_so_far}
-use Rattle.markdown_delims.proofs.QuoteChainLemmas.{quotes_done, all_counted}
+use Rattle.markdown_delims.proofs.QuoteChainLemmas.{quotes_size, few_so_far, quotes_done, all_counted}
 use Rattle.markdown_delims.proofs.quotes.quote_chain.Goals as goal
 
 pub trees-init : goal.trees-init

@@ -14,8 +14,7 @@ returns-then-closes c =
           single false c.put_body.ensures e (λ q. cc) (still_there _ _ _ _ _ _ _ _ st 8221) (rw (
             c.if-double.true,
             c.if-closes.true,
-          ) (turn_double_closes begun a below after single c.args.opens (remembered_low _ _ _ _ _ _ _ _
-          st)));
+          ) (turn_double_closes begun a below after single c.args.opens (remembered_low _ _ _ _ _ _ _ _ st)));
     }
 
 not_both : (d c : Bool) → ((d ≡ true) × (c ≡ false)) ⊎ (d ≡ false) → (d && c) ≡ false

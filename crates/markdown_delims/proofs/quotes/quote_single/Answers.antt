@@ -5,10 +5,9 @@ use Rattle.markdown_delims.specs.declared.quotes.Kind.TheVariants as kind
 use Rattle.markdown_delims.specs.Quotes.{right_single}
 use Rattle.markdown_document.specs.Document.{shaped}
 use Rattle.markdown_delims.specs.Quoting.{QuotesStand, quoted_from}
-use Rattle.markdown_delims.proofs.QuoteLemmas.{turn_none_opens, turn_none_stays, turn_some_opens}
-use Rattle.markdown_delims.proofs.QuoteLemmas.{turn_some_stays, number_is}
-use Rattle.markdown_delims.proofs.QuoteLemmas.{remembered_low, no_block, still_there, put_on, here_root, close_on}
-use Rattle.markdown_delims.proofs.QuoteLemmas.{can_here, can_left}
+use Rattle.markdown_delims.proofs.QuoteLemmas.{turn_none_opens, turn_none_stays, turn_some_opens, turn_some_stays}
+use Rattle.markdown_delims.proofs.QuoteLemmas.{number_is, remembered_low, no_block, still_there, put_on, here_root}
+use Rattle.markdown_delims.proofs.QuoteLemmas.{close_on, can_here, can_left}
 use Rattle.markdown_delims.proofs.quotes.quote_single.Goals as goal
 
 pub put_body-requires : goal.put_body-requires
@@ -45,10 +44,10 @@ pub returns-then-opens : goal.returns-then-opens
 returns-then-opens c =
     record {
       quotes = λ double last h begun a below after st e n.
-          put_on _ _ _ _ _ _ _ _ st c.put_body.new.tree 8217 (kind.Single c.args.opens c.args.closes) double (Some
-          c.args.ix) double c.put_body.ensures e (λ q. cc) (here_root _ _ _ _ _ _ _ _ st 8217 (no_block _ _ _ _ _ _ _ _
-          st _ e (λ q. cc))) (ap (λ i. quoted_from (Some i) double (node (shaped right_single a) below begun) after)
-          (number_is _ _ _ _ _ _ _ _ st)
+          put_on _ _ _ _ _ _ _ _ st c.put_body.new.tree 8217 (kind.Single c.args.opens c.args.closes) double
+          (Some c.args.ix) double c.put_body.ensures e (λ q. cc)
+          (here_root _ _ _ _ _ _ _ _ st 8217 (no_block _ _ _ _ _ _ _ _ st _ e (λ q. cc))) (ap (λ i. quoted_from (Some
+          i) double (node (shaped right_single a) below begun) after) (number_is _ _ _ _ _ _ _ _ st)
           ∙ rw (c.in-None.is, c.if-opens.true) (turn_none_opens begun a below after double c.args.closes));
     }
 
@@ -57,8 +56,8 @@ returns-else-opens c =
     record {
       quotes = λ double last h begun a below after st e n.
           put_on _ _ _ _ _ _ _ _ st c.put_body.new.tree 8217 (kind.Single c.args.opens c.args.closes) double None
-          double c.put_body.ensures e (λ q. cc) tt (rw (c.in-None.is, c.if-opens.false) (turn_none_stays begun a below
-          after double c.args.closes));
+          double c.put_body.ensures e (λ q. cc) tt
+          (rw (c.in-None.is, c.if-opens.false) (turn_none_stays begun a below after double c.args.closes));
     }
 
 pub returns-then-opens-2 : goal.returns-then-opens-2
@@ -66,9 +65,9 @@ returns-then-opens-2 c =
     record {
       quotes = λ double last h begun a below after st e n.
           put_on _ _ _ _ _ _ _ _ st c.put_body-in-Some.new.tree 8217 (kind.Single c.args.opens c.args.closes) double
-          (Some c.args.ix) double c.put_body-in-Some.ensures e (λ q. cc) (here_root _ _ _ _ _ _ _ _ st 8217 (no_block _
-          _ _ _ _ _ _ _ st _ e (λ q. cc))) (ap (λ i. quoted_from (Some i) double (node (shaped right_single a) below
-          begun) after) (number_is _ _ _ _ _ _ _ _ st)
+          (Some c.args.ix) double c.put_body-in-Some.ensures e (λ q. cc)
+          (here_root _ _ _ _ _ _ _ _ st 8217 (no_block _ _ _ _ _ _ _ _ st _ e (λ q. cc))) (ap (λ i. quoted_from (Some
+          i) double (node (shaped right_single a) below begun) after) (number_is _ _ _ _ _ _ _ _ st)
           ∙ rw (c.in-Some.is, c.if-opens-2.true, c.if-closes.false)
           (turn_some_opens begun a below after c.in-Some.left double));
     }

@@ -1,7 +1,6 @@
 -- Each character is written over.
 use Rattle.std.proofs.Common.{◌≡◌, ◌+◌, suc, arith}
-use Rattle.markdown_delims.proofs.SettleLemmas.{settling_within, settling_begin, settling_more}
-use Rattle.markdown_delims.proofs.SettleLemmas.{settling_done}
+use Rattle.markdown_delims.proofs.SettleLemmas.{settling_within, settling_begin, settling_more, settling_done}
 use Rattle.markdown_delims.proofs.read.settle_run.Goals as goal
 
 pub settle-init : goal.settle-init

@@ -26,8 +26,8 @@ invariant_of-self c =
     c.lower.ensures ∙ ap (lowered (loop.i - 1)) loop.invariant.same_bounds in
     let x : c.compare.new.self.examined ≡ loop.self-inside.stack.examined + 1 =
     ap (λ s. s.examined) c.compare.ensures.counted in
-    rw (i2, b2) (IsSound-cut _ _ _ c.self.invariant (loop.i - 1) c.compare.new.self.examined (omega arith) (omega
-    arith))
+    rw (i2, b2)
+    (IsSound-cut _ _ _ c.self.invariant (loop.i - 1) c.compare.new.self.examined (omega arith) (omega arith))
 
 pub returns-then-compare : goal.returns-then-compare
 returns-then-compare c =
