@@ -249,16 +249,9 @@ drop_earlier d k (waiting dropped run xs ∷ rs) h = (h.0, drop_earlier d k rs h
 
 -- no `*` and no `_` is dropped
 drops_tilde : (d e : Delimiter) → drops d e ≡ true → is_tilde_or_caret e ≡ true
-drops_tilde d Tilde h = refl
-drops_tilde d Caret h = refl
-drops_tilde Star Star h = h
-drops_tilde Underscore Star h = h
-drops_tilde Tilde Star h = h
-drops_tilde Caret Star h = h
-drops_tilde Star Underscore h = h
-drops_tilde Underscore Underscore h = h
-drops_tilde Tilde Underscore h = h
-drops_tilde Caret Underscore h = h
+drops_tilde Tilde Tilde h = refl
+drops_tilde Caret Caret h = refl
+drops_tilde d e h = cc
 
 drop_tilde : (dropped : Bool) (d e : Delimiter) → (dropped ≡ true → is_tilde_or_caret e ≡ true) → (dropped || drops d e)
     ≡ true

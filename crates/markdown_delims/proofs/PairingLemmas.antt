@@ -10,7 +10,7 @@ use Rattle.markdown_base.specs.BlockTree.{Numbered, numbered, item_at}
 use Rattle.markdown_base.specs.Forest.{Forest, nil, node, relabelled}
 use Rattle.markdown_base.specs.Item.{is_open}
 use Rattle.markdown_base.specs.WellFormed.{RunCharacter, run_character, is_delimiter, RunGoesOn}
-use Rattle.markdown_document.specs.Document.{Shape, leaf, enclosed, plain, backslash_break, unresolved, Label, shaped}
+use Rattle.markdown_document.specs.Document.{Shape, unresolved, Label, shaped}
 use Rattle.markdown_document.specs.Document.{is_unresolved, shape_of, block_of, part_of}
 use Rattle.markdown_document.specs.Setting.{Setting}
 use Rattle.markdown_document.specs.Tables.{Tables}
@@ -60,11 +60,8 @@ delimiter_some i h =
 
 -- what is not open begins no run
 run_of_closed : (shape : Shape) (d : Option Delimiter) → is_unresolved shape ≡ false → run_of_shape shape d ≡ None
-run_of_closed (leaf e origins) d h = refl
-run_of_closed (enclosed tag) d h = refl
-run_of_closed plain d h = refl
-run_of_closed backslash_break d h = refl
 run_of_closed (unresolved b) d h = cc h
+run_of_closed other d h = refl
 
 pub count_some : (text : List ℕ) (a : Numbered) (n : ℕ) (opens closes : Bool) (next : Option Numbered)
     → RunGoesOn text a n opens closes next → 0 < n

@@ -30,14 +30,12 @@ use Rattle.markdown_delims.proofs.WriteLemmas.{kept_none, kept_both}
 -- a shape counts as its body does, at most once
 counts_as : (tables : Tables) (source : List ℕ) (b : ItemBody) → counts_shape (shape_of tables source b)
     ≡ counts_one (run_character b)
-counts_as tables source body.Paragraph = refl
 counts_as tables source (body.HardBreak true) = refl
 counts_as tables source (body.HardBreak false) = refl
 counts_as tables source other = refl
 
 one_at_most : (shape : Shape) → counts_shape shape ≤ 1
 one_at_most (unresolved (body.MaybeEmphasis n opens closes)) = omega arith
-one_at_most (unresolved other) = omega arith
 one_at_most other = omega arith
 
 delimiters_are : (s : Setting) (tables : Tables) (nodes : List (Node Item)) (f : Forest ℕ)

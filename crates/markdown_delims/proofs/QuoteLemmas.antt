@@ -224,8 +224,6 @@ pub quote_block : (tables : Tables) (source : List ℕ) (b : ItemBody)
     → block_of b ≡ None
 quote_block tables source (body.MaybeSmartQuote quote opens closes) h = refl
 quote_block tables source (body.HardBreak x) h = refl
-quote_block tables source body.Paragraph h = absurd (h refl)
-quote_block tables source body.TightParagraph h = absurd (h refl)
 quote_block tables source other h = absurd (h refl)
 
 -- a Text of one character is made by pairing

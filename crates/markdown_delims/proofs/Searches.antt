@@ -100,18 +100,7 @@ one_delimiter Star Star h = refl
 one_delimiter Underscore Underscore h = refl
 one_delimiter Tilde Tilde h = refl
 one_delimiter Caret Caret h = refl
-one_delimiter Star Underscore h = cc
-one_delimiter Star Tilde h = cc
-one_delimiter Star Caret h = cc
-one_delimiter Underscore Star h = cc
-one_delimiter Underscore Tilde h = cc
-one_delimiter Underscore Caret h = cc
-one_delimiter Tilde Star h = cc
-one_delimiter Tilde Underscore h = cc
-one_delimiter Tilde Caret h = cc
-one_delimiter Caret Star h = cc
-one_delimiter Caret Underscore h = cc
-one_delimiter Caret Tilde h = cc
+one_delimiter a b h = cc
 
 -- a run that may not pair is not taken
 pub may_take-fails : (closer : Run) (t : LowerBounds) (i : ℕ) (c : Characters) → may_pair c.run closer ≡ false
@@ -204,10 +193,9 @@ nearest-below closer stack b h =
     ])
   where
     last_two : (d : Delimiter) → is_tilde_or_caret d ≡ true → {i : ℕ} → i < bound_at d closer b → i < drop_bound d b
-    last_two Star q l = cc
-    last_two Underscore q l = cc
     last_two Tilde q l = l
     last_two Caret q l = l
+    last_two d q l = cc
 
 -- a failed search changes the runs as the dropping says
 pub open_runs-raised : (closer : Run) (stack : List Characters) (b : LowerBounds)

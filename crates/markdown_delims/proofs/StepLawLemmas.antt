@@ -81,7 +81,6 @@ some-long (unresolved (body.MaybeEmphasis zero opens closes)) None = tt
 some-long (unresolved (body.MaybeEmphasis zero opens closes)) (Some d) = tt
 some-long (unresolved (body.MaybeEmphasis (suc n) opens closes)) None = tt
 some-long (unresolved (body.MaybeEmphasis (suc n) opens closes)) (Some d) = omega arith
-some-long (unresolved other) d = tt
 some-long other d = tt
 
 pub run-long : (source : List ℕ) (part : Part) (run : Run) → run_of source part ≡ Some run → 0 < run.length

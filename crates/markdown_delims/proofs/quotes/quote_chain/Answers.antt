@@ -61,9 +61,8 @@ quote_tree-opened-requires c =
 
 flipped : (o : Option ℕ) (b : Bool) → is_some o ≡ not b → b ≡ is_none o
 flipped None true e = refl
-flipped None false e = cc
-flipped (Some x) true e = cc
 flipped (Some x) false e = refl
+flipped o b e = cc
 
 pub trees-preserved : goal.trees-preserved
 trees-preserved c =
