@@ -45,6 +45,14 @@ BoundCharacter-cut d stack b n w h =
       remainder_two = All-cut (IsOutOfStep d 2) stack b.remainder_two n h.remainder_two;
     }
 
+-- the bound of a remainder, by the remainder
+remainder_case : (r : ℕ) (b : CharacterBounds) (P : ℕ → Type 0) → (r ≡ 0 → P b.remainder_zero)
+    → (r ≡ 1 → P b.remainder_one) → ((r ≡ 0 → ⊥) × (r ≡ 1 → ⊥) → P b.remainder_two) → P (remainder_bound r b)
+remainder_case r b P p q n =
+    cond_both (r == 0) b.remainder_zero (if r == 1 then b.remainder_one else b.remainder_two) P
+    (λ e. p (eqb-true r 0 e)) (λ e. cond_both (r == 1) b.remainder_one b.remainder_two P (λ f. q (eqb-true r 1 f))
+    (λ f. n (eqb-false r 0 e, eqb-false r 1 f)))
+
 module _ (closer : Run) (stack : List Characters) (b : CharacterBounds) where
   out_of_step : needs_equal_length closer.delimiter ≡ false → All (λ c. may_pair c.run closer ≡ false) stack → (r : ℕ)
       → closer.length % 3 ≡ r → All (IsOutOfStep closer.delimiter r) (take (length stack) stack)
@@ -89,18 +97,13 @@ module _ (closer : Run) (stack : List Characters) (b : CharacterBounds) where
   below_remainder : BoundCharacter closer.delimiter stack b
       → All (IsOutOfStep closer.delimiter (closer.length % 3)) (take (remainder_bound (closer.length % 3) b) stack)
   below_remainder i =
-      cond_both (closer.length % 3 == 0) b.remainder_zero
-      (if closer.length % 3 == 1 then b.remainder_one else b.remainder_two)
+      remainder_case (closer.length % 3) b
       (λ m. All (IsOutOfStep closer.delimiter (closer.length % 3)) (take m stack))
-      (λ e. rw (eqb-true (closer.length % 3) 0 e) i.remainder_zero)
-      (λ f. cond_both (closer.length % 3 == 1) b.remainder_one b.remainder_two
-      (λ m. All (IsOutOfStep closer.delimiter (closer.length % 3)) (take m stack))
-      (λ e. rw (eqb-true (closer.length % 3) 1 e) i.remainder_one)
+      (λ e. rw e i.remainder_zero) (λ e. rw e i.remainder_one)
       (λ e.
-      let ne0 : closer.length % 3 ≡ 0 → ⊥ = eqb-false (closer.length % 3) 0 f in
-      let ne1 : closer.length % 3 ≡ 1 → ⊥ = eqb-false (closer.length % 3) 1 e in
-      let two : 2 ≡ closer.length % 3 = omega arith in
-      subst (λ r. All (IsOutOfStep closer.delimiter r) (take b.remainder_two stack)) two i.remainder_two))
+      let not_zero : closer.length % 3 ≡ 0 → ⊥ = e.0 in
+      let not_one : closer.length % 3 ≡ 1 → ⊥ = e.1 in
+      let two : closer.length % 3 ≡ 2 = omega arith in rw two i.remainder_two)
 
   -- no run below the closer's bound pairs with it
   pub NonePairs-below : BoundCharacter closer.delimiter stack b
@@ -192,10 +195,7 @@ BoundStack-raised closer stack b h f = raised_at_each closer.delimiter closer st
 within_remainder : (r : ℕ) (d : Delimiter) (stack : List Characters) (b : CharacterBounds) → BoundCharacter d stack b
     → remainder_bound r b ≤ length stack
 within_remainder r d stack b h =
-    cond_both (r == 0) b.remainder_zero (if r == 1 then b.remainder_one else b.remainder_two) (λ m. m ≤ length stack)
-    (λ _. h.zero_within)
-    (λ _. cond_both (r == 1) b.remainder_one b.remainder_two (λ m. m ≤ length stack) (λ _. h.one_within)
-    (λ _. h.two_within))
+    remainder_case r b (λ m. m ≤ length stack) (λ _. h.zero_within) (λ _. h.one_within) (λ _. h.two_within)
 
 within_character : (closer : Run) (d : Delimiter) (stack : List Characters) (b : CharacterBounds)
     → BoundCharacter d stack b

@@ -16,6 +16,9 @@ use Rattle.markdown_delims.proofs.Potential.{above_bounds-push, above_bounds-cut
 use Rattle.markdown_delims.proofs.Searches.{open_runs-pushed, open_runs-lowered, nearest-passed, nearest-taken}
 use Rattle.markdown_delims.proofs.Searches.{nearest-below, may_take-fails, may_take-holds}
 
+below : (x y z : ℕ) → x ≤ y → y < z → x < z
+below x y z p q = omega arith
+
 module _ (stack : List Characters) (examined : ℕ) (b : LowerBounds) (sound : IsSound stack examined b) where
   potential-push : (c : Characters) → potential_of (stack ++ c ∷ []) examined b
       ≡ potential_of stack examined b + comparisons_per_delimiter
@@ -54,9 +57,6 @@ module _ (stack : List Characters) (examined : ℕ) (b : LowerBounds) (sound : I
         counts = All-take (λ d. 0 < d.count) i stack sound.counts;
         fits = below _ _ _ (potential-cut i after h e) sound.fits;
       }
-    where
-      below : (x y z : ℕ) → x ≤ y → y < z → x < z
-      below x y z p q = omega arith
 
   -- a search that fails has paid for them with the bounds that it raises
   pub potential-raised : (closer : Run) (after : ℕ) → after + bound_for closer b ≡ examined + length stack
@@ -78,9 +78,6 @@ module _ (stack : List Characters) (examined : ℕ) (b : LowerBounds) (sound : I
         counts = sound.counts;
         fits = below _ _ _ (potential-raised closer after e) sound.fits;
       }
-    where
-      below : (x y z : ℕ) → x ≤ y → y < z → x < z
-      below x y z p q = omega arith
 
   -- the search from here on is the whole search
   pub found_at : (closer : Run) (i : ℕ) (opener : Characters) → bound_for closer b ≤ i → i < length stack → opener

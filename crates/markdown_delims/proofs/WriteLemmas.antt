@@ -58,6 +58,10 @@ changed_writes ix change nodes l =
           ix j change nodes d;
     }
 
+same_both : (k k' k'' : View Item) (ix : ℕ) → SameAt k k' ix → SameAt k' k'' ix → SameAt k k'' ix
+same_both k k' k'' ix v w =
+    record { item = w.item ∙ v.item; child = w.child ∙ v.child; next = w.next ∙ v.next }
+
 -- two writes at one node
 pub writes_twice : (k k' k'' : View Item) (ix : ℕ) (i j : Item) (c d n m : Option ℕ) → Writes k k' ix i c n
     → Writes k' k'' ix j d m
@@ -68,11 +72,7 @@ writes_twice k k' k'' ix i j c d n m v w =
       item = w.item;
       child = w.child;
       next = w.next;
-      others = λ x e. record {
-        item = (w.others x e).item ∙ (v.others x e).item;
-        child = (w.others x e).child ∙ (v.others x e).child;
-        next = (w.others x e).next ∙ (v.others x e).next;
-      };
+      others = λ x e. same_both k k' k'' x (v.others x e) (w.others x e);
     }
 
 -- of arenas
@@ -154,15 +154,7 @@ kept_both touched s t u k m =
       spine = m.spine ∙ k.spine;
       cursor = m.cursor ∙ k.cursor;
       size = m.size ∙ k.size;
-      others = λ j e.
-          let after = m.others j e in
-          let before = k.others j e in
-          record {
-            item = after.item ∙ before.item;
-            child = after.child ∙ before.child;
-            next = after.next
-                ∙ before.next;
-          };
+      others = λ j e. same_both (view_of s.nodes) (view_of t.nodes) (view_of u.nodes) j (k.others j e) (m.others j e);
       items = λ j. stays_both (item_at s.nodes j) (item_at t.nodes j) (item_at u.nodes j) (m.items j) (k.items j);
     }
 
