@@ -10,7 +10,7 @@ use Rattle.markdown_document.specs.Setting.{Setting}
 use Rattle.markdown_delims.specs.declared.marks.Marks.{Marks}
 use Rattle.markdown_delims.specs.declared.run.Characters.{Characters}
 use Rattle.markdown_delims.specs.declared.run.Run.{Run}
-use Rattle.markdown_delims.specs.ChainStanding.{Chain, view, texts, AreFirst, AreLast, AreOpen, Reads, StandsAt, Finds}
+use Rattle.markdown_delims.specs.ChainStanding.{Chain, view, texts, AreLast, AreOpen, Reads, StandsAt, Finds}
 use Rattle.markdown_delims.specs.ChainStanding.{Pairs, CanPair, IsRead, Keeps, RunRead, CanRead}
 use Rattle.markdown_delims.specs.Layers.{marks_of}
 use Rattle.markdown_delims.specs.OpenRuns.{Openers}
@@ -242,23 +242,18 @@ module _ (h : Chain) (met : Characters) (met_vs : List (Label ℕ)) (begun : Lis
             let l = leave in
             let n : l.next ≡ closer.number + opener.count = omega
             (arith, l.next_is, taken.are.count, a.stands.are.count, more) in
-            let first = subst (λ i. AreFirst (record closer { number = i; count = closer.count - opener.count })
-            made.closing) n
-            (record {
-              from = l.closing;
-              count = omega
-                  (arith, l.closing_count, taken.are.count, a.stands.are.count, more);
-            }) in
-            let none : length made.opening
-            ≡ 0 = omega (arith, l.opening_count, taken.are.count, a.stands.are.count, more) in
+            let left : length made.closing ≡ closer.count - opener.count =
+            omega (arith, l.closing_count, taken.are.count, a.stands.are.count, more) in
+            let from = rw n at l.closing in
+            let none : length made.opening ≡ 0 =
+            omega (arith, l.opening_count, taken.are.count, a.stands.are.count, more) in
             record {
               rs = after_layers taken.found made;
               vs = made.closing;
               turns = a.turns - 1;
               stands = record {
-                stands = rw (← (texts_link (view h u) rest (closer.number + opener.count) made.closing after (omega
-                    (arith, first.count, more)) first.from reads.stands.cut.right)) reads.stands;
-                are = first;
+                stands = rw (← (texts_link (view h u) rest (closer.number + opener.count) made.closing after (omega (arith, left, more)) from reads.stands.cut.right)) reads.stands;
+                are = record { from = from; count = left };
               };
               kept = kept_both h.touched s t u a.kept reads.kept;
               are = rw e (open-trees before made.whole _ (none_open made.opening none));
@@ -298,7 +293,7 @@ module _ (h : Chain) (met : Characters) (met_vs : List (Label ℕ)) (begun : Lis
         closing_used new e counted equal closes =
             let l = leave in
             ended new (omega (arith, equal)) closes counted
-            (subst (λ runs. AreOpen runs (still_waiting taken.found.run made.opening taken.found.before)) (sym e)
+            (rw e
             (none_open made.opening (omega (arith, l.opening_count, taken.are.count, a.stands.are.count, equal))))
 
         pub closing_left : (new : Openers) → new.runs
@@ -308,8 +303,7 @@ module _ (h : Chain) (met : Characters) (met_vs : List (Label ℕ)) (begun : Lis
         closing_left new e counted fewer closes =
             let l = leave in
             ended new (omega (arith, fewer)) closes counted
-            (subst (λ runs. AreOpen runs (still_waiting taken.found.run made.opening taken.found.before)) (sym e)
-            (some_open_still (record opener { count = opener.count - closer.count }) made.opening taken.run_is
+            (rw e (some_open_still (record opener { count = opener.count - closer.count }) made.opening taken.run_is
             (record {
               from = l.opening;
               count = omega

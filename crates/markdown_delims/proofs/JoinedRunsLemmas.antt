@@ -194,11 +194,8 @@ module _ (whole : Forest Character) where
     of_length zero p a below after e f h = firsts_of 0 p after f h.2
     of_length (suc n) p a below after e f h =
         let one : suc n - 1 ≡ n = omega arith in
-        let k = firsts_of n p after (subst (λ k. Follows k (Some p) s.text after) one f) h.2 in (
-          ((e, h.0 p e), k.0),
-          subst (λ k. Follows 0 None s.text (later k after)) (sym one) k.1,
-          subst (λ k. AreThere (later k after)) (sym one) k.2,
-        )
+        let k = firsts_of n p after (subst (λ k. Follows k (Some p) s.text after) one f) h.2 in
+        (((e, h.0 p e), k.0), rw one k.1, rw one k.2)
 
     run_holds : (run : Run) (a : Character) (below after : Forest Character) (rs : List (Read MaybeRun))
         → run_of s.text a.part ≡ Some run

@@ -1,7 +1,7 @@
 -- What holds for the characters of a chain as Texts and for its trees, and for a layer if it holds for what the layer
 -- is made from, holds for each tree that pairing makes from the chain. So nothing of the chain stays open.
 use Rattle.std.proofs.Common.{◌≡◌, ℕ, zero, suc, Bool, true, false, List, [], ◌∷◌, refl, map}
-use Rattle.std.specs.Prelude.{⊤, IfSome, not, ◌&&◌, slice_range}
+use Rattle.std.specs.Prelude.{⊤, IfSome, not, ◌&&◌}
 use Rattle.std.specs.List.{AllByRecursion}
 use Rattle.std.proofs.lemmas.Option.{IfSome_then}
 use Rattle.markdown_base.specs.Forest.{Forest, nil, node}
@@ -211,10 +211,8 @@ readable s (node a below after) = ((refl, as_closed-closed s.text a), readable s
 pub makes-closed : {A : Type 0} (s : Setting) → MakesTrees {A = A} s IsClosed IsClosedTree
 makes-closed s = record {
   text = λ x h. h;
-  one = λ d x v inside h i. one-closed (marks_of s.rules.options) d
-      (slice_range s.text x.part.range.start v.part.range.end);
-  two = λ d x v inside h i. two-closed (marks_of s.rules.options) d
-      (slice_range s.text x.part.range.start v.part.range.end);
+  one = λ d x v inside h i. one-closed (marks_of s.rules.options) d _;
+  two = λ d x v inside h i. two-closed (marks_of s.rules.options) d _;
 }
 
 -- nothing of the chain stays open
