@@ -121,8 +121,8 @@ module _ (closer : Run) (stack : List Characters) (b : CharacterBounds) where
       let s1 : take (min m n) (take m stack) ≡ take (min m n) stack = take-take (min m n) m stack (omega arith) in
       let s2 : take (min m n) (take n stack) ≡ take (min m n) stack = take-take (min m n) n stack (omega arith) in
       let a1 : All (IsOutOfStep closer.delimiter (closer.length % 3)) (take (min m n) stack) =
-      rw (← s1) (All-take (IsOutOfStep closer.delimiter (closer.length % 3)) (min m n) (take m stack) (below_remainder
-      i)) in
+      rw (← s1)
+      (All-take (IsOutOfStep closer.delimiter (closer.length % 3)) (min m n) (take m stack) (below_remainder i)) in
       let a2 : All (IsOfBoth closer.delimiter) (take (min m n) stack) = subst (All (IsOfBoth closer.delimiter)) s2
       (All-take (IsOfBoth closer.delimiter) (min m n) (take n stack) i.cannot_open) in
       (λ k x l. may_pair-fails (get_or (take (min m n) stack) k x) closer (a1 k x l) (λ _. a2 k x l)))

@@ -301,9 +301,9 @@ module _ (h : Chain) (t : Arena Item) (o c : Characters) (inner : Option ℕ) (g
             end).end;
         body = b;
       }) inner m) root_is w) in
-      rw (← (spanned_part h.setting h.tables (item_at t.nodes next.x.tag) (item_at t.nodes next.v.tag) next.x
-      next.v b shape next.peeled.item next.end_part next.none is)) (parts_written (part_of h.setting.text h.tables)
-      t.nodes u.nodes next.x.tag i inner m at.nodes)
+      rw (← (spanned_part h.setting h.tables (item_at t.nodes next.x.tag) (item_at t.nodes next.v.tag) next.x next.v b
+      shape next.peeled.item next.end_part next.none is))
+      (parts_written (part_of h.setting.text h.tables) t.nodes u.nodes next.x.tag i inner m at.nodes)
 
   pub layer_kept : (s : Arena Item) → Kept h.touched s t → Kept h.touched s u
   layer_kept s k = kept_made h.touched s t u root _ inner m k

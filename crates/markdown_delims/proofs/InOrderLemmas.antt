@@ -164,5 +164,6 @@ module _ (text : List ℕ) (deep : ℕ → Type 0) where
   unfolding paired with_quotes
   paired_right s chain h =
       all_right 0 0 (paired s chain) nil (paired-closed s chain)
-      (rw (nothing_follows (paired s chain)) (kept-by-pairing s From (ordered_kept s) (0, 0) (quotes_after false false
-      chain) (quotes_ordered false false chain 0 0 h)))
+      (rw (nothing_follows (paired s chain))
+      (kept-by-pairing s From (ordered_kept s) (0, 0) (quotes_after false false chain)
+      (quotes_ordered false false chain 0 0 h)))

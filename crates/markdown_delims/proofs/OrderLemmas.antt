@@ -2,7 +2,7 @@
 -- order, if the change of a chain in which nothing is open only changes what is below its trees and its tags.
 use Rattle.std.proofs.Common.{◌≡◌, ℕ, zero, suc, ◌-◌, Bool, true, false, List, [], ◌∷◌, length, Option, Some, None}
 use Rattle.std.proofs.Common.{refl, ap, sym, ◌∙◌, map}
-use Rattle.std.specs.Prelude.{IfSome, not, ◌&&◌, slice_range}
+use Rattle.std.specs.Prelude.{IfSome, not, ◌&&◌}
 use Rattle.std.specs.List.{AllByRecursion}
 use Rattle.std.proofs.lemmas.List.{length-map}
 use Rattle.markdown_base.specs.Forest.{Forest, nil, node}
@@ -119,7 +119,7 @@ module _ {A B : Type 0} (to : A → B) (within : Forest (Label A) → Forest (La
     layers_deep d (x ∷ y ∷ xs) (v ∷ w ∷ vs) inside h =
         rw (stays inside h) at
         (layers_deep d xs vs (node (spanned s.text (layer_of_two (marks_of s.rules.options) d) y w) inside nil)
-        (two-closed (marks_of s.rules.options) d (slice_range s.text y.part.range.start w.part.range.end), tt))
+        (two-closed (marks_of s.rules.options) d _, tt))
 
     done_trees_deep : (f : Forest (Label A)) (rs : List (Read A)) → trees_done (deep f) (deep_reads rs)
         ≡ deep_reads (trees_done f rs)

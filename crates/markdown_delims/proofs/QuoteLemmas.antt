@@ -261,8 +261,7 @@ module _ (h : Chain) (s : Arena Item) (begun : Forest (Label ℕ)) (single : Opt
       let part = body_part h.setting.text h.tables (item_at s.nodes a.tag) a (body.SynthesizeChar c) (synthesized c)
       st.cut.right.2 refl
       (sym none) in
-      let written = rw part at
-      (parts_written (part_of h.setting.text h.tables) s.nodes t.nodes a.tag _ _ _ w.nodes) in
+      let written = rw part at (parts_written (part_of h.setting.text h.tables) s.nodes t.nodes a.tag _ _ _ w.nodes) in
       record {
         cut = rw number_is (written_over h.touched (view h s) (view h t) h.first begun (Some ix) a below after h.bound
             (shaped (synthesized c) a).part st.cut st.rest_touched.0 written);

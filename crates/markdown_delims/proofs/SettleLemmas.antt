@@ -109,8 +109,7 @@ module _ (h : Chain) (s t : Arena Item) (rs : List (Read ℕ)) (number n i : ℕ
       } in
       let part = body_part h.setting.text h.tables (item_at t.nodes a.tag) a (body.Text false) _ c.right.2
       (ap (λ (p : Part). (as_text h.setting.text (record { tag = a.tag; part = p })).part.shape) c.right.2) (sym b.2) in
-      let written = rw part at
-      (parts_written (part_of h.setting.text h.tables) t.nodes u.nodes a.tag _ _ _ w.nodes) in
+      let written = rw part at (parts_written (part_of h.setting.text h.tables) t.nodes u.nodes a.tag _ _ _ w.nodes) in
       record {
         xs = as_text h.setting.text a ∷ xs;
         left = left;
