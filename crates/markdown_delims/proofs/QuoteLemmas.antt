@@ -31,25 +31,17 @@ root_below own ix nil hi r i = absurd i
 root_below own ix (node a below before) hi r (inl e) = omega (arith, e.0, r.0.0)
 root_below own ix (node a below before) hi r (inr i) = omega (arith, root_below own ix before a.tag r.1 i, r.0.0)
 
-root_within : (k : View Part) (first : Option ℕ) (ix : ℕ) (f : Forest (Label ℕ)) (l : Option ℕ) → LeftHolds k first f l
-    → IsRoot ix f
-    → ix < k.size
-root_within k first ix nil l h i = absurd i
-root_within k first ix (node a below before) l h (inl e) = omega (arith, e.0, h.0)
-root_within k first ix (node a below before) l h (inr i) = root_within k first ix before (Some a.tag) h.4 i
-
-root_touched : (touched : ℕ → Bool) (ix : ℕ) (f : Forest (Label ℕ)) → AllTouched touched f → IsRoot ix f → touched ix
-    ≡ true
-root_touched touched ix nil h i = absurd i
-root_touched touched ix (node a below before) h (inl e) = subst (λ x. touched x ≡ true) e.0 h.0
-root_touched touched ix (node a below before) h (inr i) = root_touched touched ix before h.1 i
-
-root_block : (k : View Part) (first : Option ℕ) (ix : ℕ) (f : Forest (Label ℕ)) (l : Option ℕ) → LeftHolds k first f l
-    → IsRoot ix f
-    → (k.item ix).block ≡ None
-root_block k first ix nil l h i = absurd i
-root_block k first ix (node a below before) l h (inl e) = ap (λ (p : Part). p.block) (ap k.item (sym e.0) ∙ h.1) ∙ e.1
-root_block k first ix (node a below before) l h (inr i) = root_block k first ix before (Some a.tag) h.4 i
+-- it is a node that may be written, and no block
+root_is : (own : ℕ → Bool) (k : View Part) (first : Option ℕ) (ix : ℕ) (f : Forest (Label ℕ)) (l : Option ℕ)
+    → LeftHolds k first f l → AllTouched own f → IsRoot ix f
+    → (ix < k.size) × (own ix ≡ true) × ((k.item ix).block ≡ None)
+root_is own k first ix nil l h t i = absurd i
+root_is own k first ix (node a below before) l h t (inl e) = (
+  omega (arith, e.0, h.0),
+  rw e.0 at t.0,
+  ap (λ (p : Part). p.block) (ap k.item (sym e.0) ∙ h.1) ∙ e.1,
+)
+root_is own k first ix (node a below before) l h t (inr i) = root_is own k first ix before (Some a.tag) h.4 t.1 i
 
 other_root : (ix : ℕ) (a : Label ℕ) (before : Forest (Label ℕ)) → (a.tag ≡ ix → ⊥)
     → ((a.tag ≡ ix) × (a.part.block ≡ None)) ⊎ IsRoot ix before
@@ -321,8 +313,9 @@ put_left : (h : Chain) (s t : Arena Item) (read : Forest (Label ℕ)) (left : �
     → QuotesStand h t (left_quoted left read) None l rest
 put_left h s t read left l rest st w =
     let low = root_below h.touched left read (next_number rest h.bound) st.cut.rises_left st.remembered in
-    let none = root_block (view h s) h.first left read l st.cut.left st.remembered in
-    let own = root_touched h.touched left read st.left_touched st.remembered in
+    let is = root_is h.touched (view h s) h.first left read l st.cut.left st.left_touched st.remembered in
+    let none = is.2 in
+    let own = is.1 in
     let written = subst (λ o. Writes (view h s) (view h t) left (record {
       shape = left_single;
       range = ((view h s).item left).range;
@@ -362,7 +355,7 @@ close_on h s t u begun left ix a below after double opens st e v w =
     let on : sibling_of t.nodes ix ≡ sibling_of s.nodes ix = (v.nodes.others ix (λ x. omega (arith, is, x, low))).next
     in
     let k = kept_made h.touched s s t left _ _ _ (kept_none h.touched s)
-    (root_touched h.touched left begun st.left_touched st.remembered) v
+    (root_is h.touched (view h s) h.first left begun (Some ix) st.cut.left st.left_touched st.remembered).1 v
     (made_character 8216) in
     record {
       read = node (shaped right_single a) below (left_quoted left begun);
@@ -383,4 +376,5 @@ can_here h s begun (node a below after) single ix st = let here : Some ix ≡ So
 
 pub can_left : (h : Chain) (s : Arena Item) (begun rest : Forest (Label ℕ)) (left : ℕ) (l : Option ℕ)
     → QuotesStand h s begun (Some left) l rest → left < length s.nodes
-can_left h s begun rest left l st = root_within (view h s) h.first left begun l st.cut.left st.remembered
+can_left h s begun rest left l st =
+    (root_is h.touched (view h s) h.first left begun l st.cut.left st.left_touched st.remembered).0
