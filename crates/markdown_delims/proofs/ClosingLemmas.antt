@@ -306,7 +306,6 @@ module _ (h : Chain) (met : Characters) (met_vs : List (Label ℕ)) (begun : Lis
             (rw e (some_open_still (record opener { count = opener.count - closer.count }) made.opening taken.run_is
             (record {
               from = l.opening;
-              count = omega
-                  (arith, l.opening_count, taken.are.count, a.stands.are.count, fewer);
+              count = omega (arith, l.opening_count, taken.are.count, a.stands.are.count, fewer);
             })
             (omega (arith, fewer))))

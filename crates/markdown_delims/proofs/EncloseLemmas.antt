@@ -297,8 +297,7 @@ module _ (h : Chain) (t : Arena Item) (o c : Characters) (inner : Option ℕ) (g
       let at : Wrote t u next.x.tag i inner m =
       rw (← end_is) (subst (λ x. Wrote t u x (record {
         start = (item_at t.nodes x).start;
-        end = (item_at t.nodes
-            end).end;
+        end = (item_at t.nodes end).end;
         body = b;
       }) inner m) root_is w) in
       rw (← (spanned_part h.setting h.tables (item_at t.nodes next.x.tag) (item_at t.nodes next.v.tag) next.x next.v b

@@ -269,8 +269,7 @@ drop_fine d (waiting dropped run xs ∷ rs) h = (
     same = h.1.same;
     all = h.1.all;
     some = h.1.some;
-    earlier = drop_earlier d (Some h.1.at) rs
-        h.1.earlier;
+    earlier = drop_earlier d (Some h.1.at) rs h.1.earlier;
   },
   drop_fine d rs h.2,
 )

@@ -56,8 +56,7 @@ module _ {A B : Type 0} (to : A → B) (within : Forest (Label A) → Forest (La
     inside = deep f.inside;
     run = f.run;
     characters = moved f.characters;
-    before = deep_reads
-        f.before;
+    before = deep_reads f.before;
   }
 
   abbrev deep_found : Option (FoundOpener A) → Option (FoundOpener B)

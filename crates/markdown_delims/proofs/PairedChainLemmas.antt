@@ -160,8 +160,7 @@ tags_count count s = record {
   text = λ a. omega arith;
   one = λ d x v. omega arith;
   two = λ d x v. omega arith;
-  quote = λ a after x y. omega
-      arith;
+  quote = λ a after x y. omega arith;
 }
 
 -- weights

@@ -115,8 +115,7 @@ module _ (s : Setting) (tables : Tables) (old : List (Node Item)) (own : ℕ →
       text = rw e.text tt;
       link = rw e.link tt;
       alignments = rw e.alignments tt;
-      attributes = rw
-          e.attributes tt;
+      attributes = rw e.attributes tt;
     };
     slices = slices-unnamed s.text tables (origin_start s.text item.start) item.end item.body e.text e.link;
   }
@@ -220,8 +219,7 @@ moved_count s nodes = record {
   text = λ a. omega arith;
   one = λ d x v. omega arith;
   two = λ d x v. omega arith;
-  quote = λ a after x y. omega
-      arith;
+  quote = λ a after x y. omega arith;
 }
 
 block_stays : (b : Bool) (x : ItemBody) → if_block b (none_of (if b then Some x else None)) ≡ 0

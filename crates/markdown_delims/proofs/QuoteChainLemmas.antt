@@ -146,8 +146,7 @@ module _ (s : Setting) (tables : Tables) (old : Arena Item) (first : ℕ) (f : F
                 read = r.read;
                 stands = r.stands;
                 kept = kept_both h.touched old t u on.kept r.kept;
-                same
-                    = r.same ∙ on.same;
+                same = r.same ∙ on.same;
               };
               counted = omega (arith, e, one);
             }

@@ -34,8 +34,7 @@ module _ (stack : List Characters) (examined : ℕ) (b : LowerBounds) (sound : I
       ≡ record {
         runs = record { dropped = false; opener = c } ∷ open_runs b stack;
         examined = examined;
-        potential = potential_of stack
-            examined b + comparisons_per_delimiter;
+        potential = potential_of stack examined b + comparisons_per_delimiter;
       }
   openers_of-push c =
       rw (open_runs-pushed b stack c (drop_bound-within c.run.delimiter stack b sound.bound), potential-push c) refl

@@ -54,8 +54,7 @@ changed_writes ix change nodes l =
       item = here.item;
       child = here.child;
       next = here.next;
-      others = λ j d. same_at_other
-          ix j change nodes d;
+      others = λ j d. same_at_other ix j change nodes d;
     }
 
 same_both : (k k' k'' : View Item) (ix : ℕ) → SameAt k k' ix → SameAt k' k'' ix → SameAt k k'' ix
@@ -91,8 +90,7 @@ wrote_twice s t u ix i j c d n m v w =
     record {
       spine = w.spine ∙ v.spine;
       cursor = w.cursor ∙ v.cursor;
-      nodes = writes_twice (view_of s.nodes) (view_of t.nodes)
-          (view_of u.nodes) ix i j c d n m v.nodes w.nodes;
+      nodes = writes_twice (view_of s.nodes) (view_of t.nodes) (view_of u.nodes) ix i j c d n m v.nodes w.nodes;
     }
 
 -- the same write, its parts named otherwise
