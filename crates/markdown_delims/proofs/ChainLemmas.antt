@@ -138,14 +138,15 @@ module _ (s : Setting) (tables : Tables) (old : Arena Item) (first : ℕ) (f : F
     abbrev pub chain : Forest (Label ℕ)
     chain = labels s tables old.nodes f
 
-    pub chain_cut : Cut (is_among (roots f)) (view whole_chain old) (Some first) nil (Some first) chain (length old.nodes)
+    pub chain_cut : Cut (is_among (roots f)) (view whole_chain old) (Some first) nil (Some first) chain
+        (length old.nodes)
     unfolding whole_chain
     chain_cut = record {
       left = refl;
       right = holds_spelled s tables old.nodes (Some first) f c.spelled;
       rises_left = tt;
-      rises_right = rises_chain s tables old.nodes (is_among (roots f)) (Some first) f 0 (omega arith) c.spelled c.rising
-          c.apart;
+      rises_right = rises_chain s tables old.nodes (is_among (roots f)) (Some first) f 0 (omega arith) c.spelled
+          c.rising c.apart;
     }
 
     pub chain_touched : AllTouched (is_among (roots f)) chain
@@ -165,7 +166,7 @@ module _ (s : Setting) (tables : Tables) (old : Arena Item) (first : ℕ) (f : F
         let is = nothing_left (view whole_chain new) rest
         (subst (λ m. Holds (view whole_chain new) m rest) none cut.right) in
         let r = over_all (is_among (roots f)) (view whole_chain new) (Some first) left l nil (length old.nodes)
-        (subst (λ g. Cut (is_among (roots f)) (view whole_chain new) (Some first) left l g (length old.nodes)) is cut) in
+        (rw is at cut) in
         let holds = subst (λ m. Holds (view whole_chain new) m (read_back left nil)) r.cut.left r.cut.right in (
           record {
             spelled = spelled_holds s tables new.nodes (Some first) (read_back left nil) holds;

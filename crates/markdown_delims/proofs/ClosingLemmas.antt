@@ -252,7 +252,8 @@ module _ (h : Chain) (met : Characters) (met_vs : List (Label ℕ)) (begun : Lis
               vs = made.closing;
               turns = a.turns - 1;
               stands = record {
-                stands = rw (← (texts_link (view h u) rest (closer.number + opener.count) made.closing after (omega (arith, left, more)) from reads.stands.cut.right)) reads.stands;
+                stands = rw (← (texts_link (view h u) rest (closer.number + opener.count) made.closing after
+                    (omega (arith, left, more)) from reads.stands.cut.right)) reads.stands;
                 are = record { from = from; count = left };
               };
               kept = kept_both h.touched s t u a.kept reads.kept;

@@ -280,8 +280,8 @@ module _ (h : Chain) (t : Arena Item) (o c : Characters) (inner : Option ℕ) (b
         }
 
 -- the layer is written
-module _ (h : Chain) (t : Arena Item) (o c : Characters) (inner : Option ℕ) (g : Around) (n : ℕ) (next : NextLayer h g t o c inner n) (b : ItemBody) (shape : List ℕ → Shape)
-    (is : IsLayer b shape)
+module _ (h : Chain) (t : Arena Item) (o c : Characters) (inner : Option ℕ) (g : Around) (n : ℕ)
+    (next : NextLayer h g t o c inner n) (b : ItemBody) (shape : List ℕ → Shape) (is : IsLayer b shape)
     (u : Arena Item) (root end : ℕ) (m : Option ℕ)
     (w : Wrote t u root (record { start = (item_at t.nodes root).start; end = (item_at t.nodes end).end; body = b })
     inner m)
@@ -349,8 +349,8 @@ module _ (h : Chain) (g : Around) (s t u : Arena Item) (d : Delimiter) (o c : Ch
         let written = layer_written h t o c inner _ 2 n _ _ is u _ _ None w root_is end_is in
         let low : suc n.x.tag ≤ n.hi = Rises-le h.touched (suc n.x.tag) a.inside n.hi n.peeled.rises in
         let right = Holds-write_before h.touched (view h t) (view h u) n.x.tag _ inner None written n.root_touched
-        ((view h t).next n.v.tag) (suc n.v.tag) (texts n.vs g.after) h.bound (omega (arith, low, n.low, n.end_is)) n.rises
-        n.right in
+        ((view h t).next n.v.tag) (suc n.v.tag) (texts n.vs g.after) h.bound (omega (arith, low, n.low, n.end_is))
+        n.rises n.right in
         let some : 0 < length n.vs = omega (arith, n.closing_count, a.left_is, more) in
         record {
           opening = n.xs;

@@ -124,8 +124,8 @@ module _ (s : Setting) (tables : Tables) (old : Arena Item) (first : ℕ) (f : F
           ≡ kind_of_shape (shape_of tables source (item_at t.nodes ix).body))
           (ends : last ≡ is_none (sibling_of t.nodes ix))
           (counts : more ≡ counts_one (run_character (item_at t.nodes ix).body)) where
-        step_if : (rest : Forest (Label ℕ)) → QuotesOn h old t nil whole None false opened.single opened.double (Some ix)
-            rest
+        step_if : (rest : Forest (Label ℕ)) → QuotesOn h old t nil whole None false opened.single opened.double
+            (Some ix) rest
             → count + delimiters_in rest ≡ delimiters_in whole → QuotesTree k ix last t u opened opened'
             → QuotesSoFar u opened' (count + more) (sibling_of t.nodes ix)
         unfolding whole_chain
@@ -134,7 +134,8 @@ module _ (s : Setting) (tables : Tables) (old : Arena Item) (first : ℕ) (f : F
             let here : Some ix ≡ Some b.tag = on.stands.cut.right.0 in
             let is : ix ≡ b.tag = cc in
             let part = ap (view h t).item is ∙ on.stands.cut.right.2 in
-            let kind : k ≡ kind_of_shape b.part.shape = kinds tables _ ∙ ap (λ (p : Part). kind_of_shape p.shape) part in
+            let kind : k ≡ kind_of_shape b.part.shape =
+            kinds tables _ ∙ ap (λ (p : Part). kind_of_shape p.shape) part in
             let end : last ≡ is_end after = ends ∙ ap (λ i. is_none (sibling_of t.nodes i)) is
             ∙ none_at_end (view h t) (sibling_of t.nodes b.tag) after on.stands.cut.right.4 in
             let one : more ≡ counts_shape b.part.shape = counts ∙ sym (counts_as tables _ (item_at t.nodes ix).body)

@@ -18,8 +18,8 @@ read_tree-requires c =
     (labels p.setting p.tables
     c.args.tree.now.nodes p.forest) < 2 ^ 128 = p.room in
     record {
-      stands = can_go_on _ _ _ _ _ _ p.chain _ _ _ _ c.args.source.marks c.args.source.text.now c.in-Some.ix p.marks_are p.text_is
-          (omega (arith, c.requires.emptied.potential, room))
+      stands = can_go_on _ _ _ _ _ _ p.chain _ _ _ _ c.args.source.marks c.args.source.text.now c.in-Some.ix
+          p.marks_are p.text_is (omega (arith, c.requires.emptied.potential, room))
           (rw c.in-Some.is at (c.trees.invariant p.setting p.tables p.forest p.marks_are p.text_is p.chain));
     }
 

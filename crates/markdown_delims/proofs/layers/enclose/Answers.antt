@@ -71,7 +71,8 @@ layers-preserved c =
 
 pub returns-then-left-eq2 : goal.returns-then-left-eq2
 returns-then-left-eq2 c h g m e =
-    layers_two _ _ _ _ c.put_node-then-left-eq2.new.tree _ _ _ _ _ (c.layers.invariant.layers h g m e) c.layer_of_two-then-left-eq2.result
+    layers_two _ _ _ _ c.put_node-then-left-eq2.new.tree _ _ _ _ _ (c.layers.invariant.layers h g m e)
+    c.layer_of_two-then-left-eq2.result
     (layer_by c.layer_of_two-then-left-eq2.result (λ m. layer_of_two m c.args.opener.run.delimiter) _ _ m
     c.layer_of_two-then-left-eq2.ensures) _ _ _ refl refl c.if-left-eq2.true c.next-rest.ensures.value
     (wrote_as _ _ _ _ _ _ _ _ _ c.put_node-then-left-eq2.ensures c.spanned-item-then-left-eq2.ensures refl refl)

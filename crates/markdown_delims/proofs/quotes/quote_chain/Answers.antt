@@ -56,7 +56,8 @@ pub quote_tree-opened-requires : goal.quote_tree-opened-requires
 quote_tree-opened-requires c =
     let p = c.requires.chain in
     record {
-      stands = quote_here _ _ _ _ _ _ _ _ _ _ (rw c.in-Some.is at (c.trees.invariant.chain p.setting no_tables p.forest p.is));
+      stands = quote_here _ _ _ _ _ _ _ _ _ _
+          (rw c.in-Some.is at (c.trees.invariant.chain p.setting no_tables p.forest p.is));
     }
 
 flipped : (o : Option ℕ) (b : Bool) → is_some o ≡ not b → b ≡ is_none o

@@ -33,7 +33,8 @@ settle_run-requires c =
 pub read_run-requires : goal.read_run-requires
 read_run-requires c =
     let p = c.requires.stands in
-    let r = met_here _ _ _ _ _ _ p c.item-item.result.now c.in-Some.run' (c.item-item.ensures no_item) c.in-Some.ensures in
+    let r = met_here _ _ _ _ _ _ p c.item-item.result.now c.in-Some.run' (c.item-item.ensures no_item)
+    c.in-Some.ensures in
     let room : c.args.openers.now.potential + comparisons_per_delimiter * runs_in c.args.source.text.now p.rest < 2 ^
     128 = p.room in
     record {

@@ -96,7 +96,8 @@ loop-i-preserved c =
             | inl is ↦ rw is (here d)
             | inr other ↦ loop.invariant.failed k d (omega arith) high
           ];
-      same_search = passed_at _ _ _ c.self.invariant closer (loop.i - 1) (record { run = closer; number = 0; count = 0 }) (omega arith)
+      same_search = passed_at _ _ _ c.self.invariant closer (loop.i - 1)
+          (record { run = closer; number = 0; count = 0 }) (omega arith)
           (here (record { run = closer; number = 0; count = 0 })) whole;
     }
 
