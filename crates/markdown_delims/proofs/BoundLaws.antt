@@ -1,7 +1,6 @@
 -- What the bounds say of a stack, as it changes.
-use Rattle.std.proofs.Common.{◌≡◌, ℕ, ◌%◌, ◌<◌, ◌≤◌, min, false, List, length, take, get_or, inl, inr, refl, ap, sym}
-use Rattle.std.proofs.Common.{◌∙◌}
-use Rattle.std.proofs.Common.{subst, arith}
+use Rattle.std.proofs.Common.{◌≡◌, ℕ, ◌%◌, ◌<◌, ◌≤◌, min, Bool, true, false, List, length, take, get_or, inl, inr, refl}
+use Rattle.std.proofs.Common.{ap, sym, ◌∙◌, subst, arith}
 use Rattle.std.specs.Prelude.{All, if◌then◌else◌, ◌==◌}
 use Rattle.std.proofs.lemmas.List.{take_all, take-take, length-take-le, length-take, get_or-take}
 use Rattle.std.proofs.lemmas.List.Elements.{All-take}
@@ -15,10 +14,8 @@ use Rattle.markdown_delims.specs.declared.bounds.LowerBounds.{LowerBounds}
 use Rattle.markdown_delims.specs.MayPair.{can_do_both, may_pair, needs_equal_length}
 use Rattle.markdown_delims.specs.PairingLaws.{is_tilde_or_caret}
 use Rattle.markdown_delims.specs.Bounds.{IsOutOfStep, IsOfBoth, BoundCharacter, BoundStack, remainder_bound}
-use Rattle.markdown_delims.specs.Bounds.{character_bound_for, bound_at}
-use Rattle.markdown_delims.specs.Bounds.{bound_for, character_raised_for, raised_at, raised_for, character_lowered}
-use Rattle.markdown_delims.specs.Bounds.{lowered}
-use Rattle.markdown_delims.specs.Bounds.{drop_bound}
+use Rattle.markdown_delims.specs.Bounds.{character_bound_for, bound_at, bound_for, character_raised_for, raised_at}
+use Rattle.markdown_delims.specs.Bounds.{raised_for, character_lowered, lowered, drop_bound}
 use Rattle.markdown_delims.proofs.PairTests.{IsOutOfStep-failed, IsOfBoth-failed, may_pair-fails}
 
 -- what holds below a bound still holds below the lesser bound after a cut
@@ -48,72 +45,65 @@ BoundCharacter-cut d stack b n w h =
       remainder_two = All-cut (IsOutOfStep d 2) stack b.remainder_two n h.remainder_two;
     }
 
+-- the bound of a remainder, by the remainder
+remainder_case : (r : ℕ) (b : CharacterBounds) (P : ℕ → Type 0) → (r ≡ 0 → P b.remainder_zero)
+    → (r ≡ 1 → P b.remainder_one) → ((r ≡ 0 → ⊥) × (r ≡ 1 → ⊥) → P b.remainder_two) → P (remainder_bound r b)
+remainder_case r b P p q n =
+    cond_both (r == 0) b.remainder_zero (if r == 1 then b.remainder_one else b.remainder_two) P
+    (λ e. p (eqb-true r 0 e)) (λ e. cond_both (r == 1) b.remainder_one b.remainder_two P (λ f. q (eqb-true r 1 f))
+    (λ f. n (eqb-false r 0 e, eqb-false r 1 f)))
+
 module _ (closer : Run) (stack : List Characters) (b : CharacterBounds) where
   out_of_step : needs_equal_length closer.delimiter ≡ false → All (λ c. may_pair c.run closer ≡ false) stack → (r : ℕ)
       → closer.length % 3 ≡ r → All (IsOutOfStep closer.delimiter r) (take (length stack) stack)
   out_of_step n h r e =
       All-whole (IsOutOfStep closer.delimiter r) stack
-      (λ k x l. subst (λ q. IsOutOfStep closer.delimiter q (get_or stack k x)) e
-      (IsOutOfStep-failed (get_or stack k x) closer n (h k x l)))
+      (λ k x l. rw (← e) (IsOutOfStep-failed (get_or stack k x) closer n (h k x l)))
 
   -- the bounds that a failed search read may be raised to the top
+  raised : (P : Characters → Type 0) (b : Bool) (m : ℕ) → m ≤ length stack → All P (take m stack)
+      → (b ≡ true → All P (take (length stack) stack))
+      → (let n : ℕ = if b then length stack else m in (n ≤ length stack) × All P (take n stack))
+  raised P true m l a h = (omega arith, h refl)
+  raised P false m l a h = (l, a)
+
   pub BoundCharacter-raised : needs_equal_length closer.delimiter ≡ false → All (λ c. may_pair c.run closer ≡ false)
       stack
       → BoundCharacter closer.delimiter stack b
       → BoundCharacter closer.delimiter stack (character_raised_for closer (length stack) b)
   BoundCharacter-raised n h i =
+      let zero = raised (IsOutOfStep closer.delimiter 0) (closer.length % 3 == 0) b.remainder_zero i.zero_within
+      i.remainder_zero (λ e. out_of_step n h 0 (eqb-true (closer.length % 3) 0 e)) in
+      let one = raised (IsOutOfStep closer.delimiter 1) (closer.length % 3 == 1) b.remainder_one i.one_within
+      i.remainder_one (λ e. out_of_step n h 1 (eqb-true (closer.length % 3) 1 e)) in
+      let two = raised (IsOutOfStep closer.delimiter 2) (closer.length % 3 == 2) b.remainder_two i.two_within
+      i.remainder_two (λ e. out_of_step n h 2 (eqb-true (closer.length % 3) 2 e)) in
       record {
         cannot_open_within = cond_both (can_do_both closer) b.cannot_open (length stack) (λ m. m ≤ length stack)
-            (λ _. i.cannot_open_within)
-            (λ _. omega arith);
-        zero_within = cond_both (closer.length % 3 == 0) (length stack) b.remainder_zero (λ m. m ≤ length stack)
-            (λ _. omega arith)
-            (λ _. i.zero_within);
-        one_within = cond_both (closer.length % 3 == 1) (length stack) b.remainder_one (λ m. m ≤ length stack)
-            (λ _. omega arith)
-            (λ _. i.one_within);
-        two_within = cond_both (closer.length % 3 == 2) (length stack) b.remainder_two (λ m. m ≤ length stack)
-            (λ _. omega arith)
-            (λ _. i.two_within);
-        cannot_open =
-            cond_both (can_do_both closer) b.cannot_open (length stack)
+            (λ _. i.cannot_open_within) (λ _. omega arith);
+        zero_within = zero.0;
+        one_within = one.0;
+        two_within = two.0;
+        cannot_open = cond_both (can_do_both closer) b.cannot_open (length stack)
             (λ m. All (IsOfBoth closer.delimiter) (take m stack)) (λ _. i.cannot_open)
             (λ e. All-whole (IsOfBoth closer.delimiter) stack
             (λ k x l. IsOfBoth-failed (get_or stack k x) closer n e (h k x l)));
-        remainder_zero =
-            cond_both (closer.length % 3 == 0) (length stack) b.remainder_zero
-            (λ m. All (IsOutOfStep closer.delimiter 0) (take m stack))
-            (λ e. out_of_step n h 0 (eqb-true (closer.length % 3) 0 e)) (λ _. i.remainder_zero);
-        remainder_one =
-            cond_both (closer.length % 3 == 1) (length stack) b.remainder_one
-            (λ m. All (IsOutOfStep closer.delimiter 1) (take m stack))
-            (λ e. out_of_step n h 1 (eqb-true (closer.length % 3) 1 e)) (λ _. i.remainder_one);
-        remainder_two =
-            cond_both (closer.length % 3 == 2) (length stack) b.remainder_two
-            (λ m. All (IsOutOfStep closer.delimiter 2) (take m stack))
-            (λ e. out_of_step n h 2 (eqb-true (closer.length % 3) 2 e)) (λ _. i.remainder_two);
+        remainder_zero = zero.1;
+        remainder_one = one.1;
+        remainder_two = two.1;
       }
 
   -- what the bound of the closer's remainder says
   below_remainder : BoundCharacter closer.delimiter stack b
       → All (IsOutOfStep closer.delimiter (closer.length % 3)) (take (remainder_bound (closer.length % 3) b) stack)
   below_remainder i =
-      cond_both (closer.length % 3 == 0) b.remainder_zero
-      (if closer.length % 3 == 1 then b.remainder_one else b.remainder_two)
+      remainder_case (closer.length % 3) b
       (λ m. All (IsOutOfStep closer.delimiter (closer.length % 3)) (take m stack))
-      (λ e. subst (λ r. All (IsOutOfStep closer.delimiter r) (take b.remainder_zero stack))
-      (sym (eqb-true (closer.length % 3) 0 e))
-      i.remainder_zero)
-      (λ f. cond_both (closer.length % 3 == 1) b.remainder_one b.remainder_two
-      (λ m. All (IsOutOfStep closer.delimiter (closer.length % 3)) (take m stack))
-      (λ e. subst (λ r. All (IsOutOfStep closer.delimiter r) (take b.remainder_one stack))
-      (sym (eqb-true (closer.length % 3) 1 e))
-      i.remainder_one)
+      (λ e. rw e i.remainder_zero) (λ e. rw e i.remainder_one)
       (λ e.
-      let ne0 : closer.length % 3 ≡ 0 → ⊥ = eqb-false (closer.length % 3) 0 f in
-      let ne1 : closer.length % 3 ≡ 1 → ⊥ = eqb-false (closer.length % 3) 1 e in
-      let two : 2 ≡ closer.length % 3 = omega arith in
-      subst (λ r. All (IsOutOfStep closer.delimiter r) (take b.remainder_two stack)) two i.remainder_two))
+      let not_zero : closer.length % 3 ≡ 0 → ⊥ = e.0 in
+      let not_one : closer.length % 3 ≡ 1 → ⊥ = e.1 in
+      let two : closer.length % 3 ≡ 2 = omega arith in rw two i.remainder_two)
 
   -- no run below the closer's bound pairs with it
   pub NonePairs-below : BoundCharacter closer.delimiter stack b
@@ -131,9 +121,8 @@ module _ (closer : Run) (stack : List Characters) (b : CharacterBounds) where
       let s1 : take (min m n) (take m stack) ≡ take (min m n) stack = take-take (min m n) m stack (omega arith) in
       let s2 : take (min m n) (take n stack) ≡ take (min m n) stack = take-take (min m n) n stack (omega arith) in
       let a1 : All (IsOutOfStep closer.delimiter (closer.length % 3)) (take (min m n) stack) =
-      subst (All (IsOutOfStep closer.delimiter (closer.length % 3))) s1
-      (All-take (IsOutOfStep closer.delimiter (closer.length % 3))
-      (min m n) (take m stack) (below_remainder i)) in
+      rw (← s1)
+      (All-take (IsOutOfStep closer.delimiter (closer.length % 3)) (min m n) (take m stack) (below_remainder i)) in
       let a2 : All (IsOfBoth closer.delimiter) (take (min m n) stack) = subst (All (IsOfBoth closer.delimiter)) s2
       (All-take (IsOfBoth closer.delimiter) (min m n) (take n stack) i.cannot_open) in
       (λ k x l. may_pair-fails (get_or (take (min m n) stack) k x) closer (a1 k x l) (λ _. a2 k x l)))
@@ -158,10 +147,19 @@ joined_failures closer stack n a f k x l =
     elim (cases_lt k n) [
       | inl below ↦ let e : length (take n stack) ≡ min n (length stack) = length-take n stack in let g : get_or
           (take n stack) k x
-          ≡ get_or stack k x = get_or-take n stack k x below in subst (λ c. may_pair c.run closer ≡ false) g
-          (a k x (omega arith))
+          ≡ get_or stack k x = get_or-take n stack k x below in rw (← g) (a k x (omega arith))
       | inr above ↦ f k x above l
     ]
+
+raised_character : (d : Delimiter) (closer : Run) (stack : List Characters) (b : CharacterBounds) → d
+    ≡ closer.delimiter → needs_equal_length d ≡ false → BoundCharacter d stack b
+    → ((k : ℕ) (x : Characters) → character_bound_for closer b ≤ k → k < length stack
+    → may_pair (get_or stack k x).run closer ≡ false)
+    → BoundCharacter d stack (character_raised_for closer (length stack) b)
+raised_character d closer stack b e n h f =
+    let i : BoundCharacter closer.delimiter stack b = subst (λ d. BoundCharacter d stack b) e h in
+    rw e (BoundCharacter-raised closer stack b (sym (ap needs_equal_length e) ∙ n) (joined_failures closer stack
+    (character_bound_for closer b) (NonePairs-below closer stack b i) f) i)
 
 raised_at_each : (d : Delimiter) (closer : Run) (stack : List Characters) (b : LowerBounds) → d ≡ closer.delimiter
     → BoundStack stack b
@@ -169,43 +167,23 @@ raised_at_each : (d : Delimiter) (closer : Run) (stack : List Characters) (b : L
     ≡ false)
     → BoundStack stack (raised_at d closer (length stack) b)
 raised_at_each Star closer stack b e h f =
-    let i : BoundCharacter closer.delimiter stack b.star = subst (λ d. BoundCharacter d stack b.star) e h.star in
-    let n : needs_equal_length closer.delimiter ≡ false = sym (ap needs_equal_length e) in
     record {
-      star = subst (λ d. BoundCharacter d stack (character_raised_for closer (length stack) b.star)) (sym e)
-          (BoundCharacter-raised closer stack b.star n (joined_failures closer stack (character_bound_for closer b.star)
-          (NonePairs-below closer stack b.star i) f) i);
+      star = raised_character Star closer stack b.star e refl h.star f;
       underscore = h.underscore;
       tilde_within = h.tilde_within;
       caret_within = h.caret_within;
     }
 raised_at_each Underscore closer stack b e h f =
-    let i : BoundCharacter closer.delimiter stack b.underscore = subst (λ d. BoundCharacter d stack b.underscore) e
-    h.underscore in
-    let n : needs_equal_length closer.delimiter ≡ false = sym (ap needs_equal_length e) in
     record {
       star = h.star;
-      underscore = subst (λ d. BoundCharacter d stack (character_raised_for closer (length stack) b.underscore)) (sym e)
-          (BoundCharacter-raised closer stack b.underscore n
-          (joined_failures closer stack (character_bound_for closer b.underscore)
-          (NonePairs-below closer stack b.underscore i) f) i);
+      underscore = raised_character Underscore closer stack b.underscore e refl h.underscore f;
       tilde_within = h.tilde_within;
       caret_within = h.caret_within;
     }
-raised_at_each Tilde closer stack b e h f = record {
-  star = h.star;
-  underscore = h.underscore;
-  tilde_within = omega arith;
-  caret_within =
-      omega arith;
-}
-raised_at_each Caret closer stack b e h f = record {
-  star = h.star;
-  underscore = h.underscore;
-  tilde_within = omega arith;
-  caret_within =
-      omega arith;
-}
+raised_at_each Tilde closer stack b e h f =
+    record { star = h.star; underscore = h.underscore; tilde_within = omega arith; caret_within = omega arith }
+raised_at_each Caret closer stack b e h f =
+    record { star = h.star; underscore = h.underscore; tilde_within = omega arith; caret_within = omega arith }
 
 -- a search that failed may raise the bounds that it read
 pub BoundStack-raised : (closer : Run) (stack : List Characters) (b : LowerBounds) → BoundStack stack b
@@ -217,10 +195,7 @@ BoundStack-raised closer stack b h f = raised_at_each closer.delimiter closer st
 within_remainder : (r : ℕ) (d : Delimiter) (stack : List Characters) (b : CharacterBounds) → BoundCharacter d stack b
     → remainder_bound r b ≤ length stack
 within_remainder r d stack b h =
-    cond_both (r == 0) b.remainder_zero (if r == 1 then b.remainder_one else b.remainder_two) (λ m. m ≤ length stack)
-    (λ _. h.zero_within)
-    (λ _. cond_both (r == 1) b.remainder_one b.remainder_two (λ m. m ≤ length stack) (λ _. h.one_within)
-    (λ _. h.two_within))
+    remainder_case r b (λ m. m ≤ length stack) (λ _. h.zero_within) (λ _. h.one_within) (λ _. h.two_within)
 
 within_character : (closer : Run) (d : Delimiter) (stack : List Characters) (b : CharacterBounds)
     → BoundCharacter d stack b

@@ -1,7 +1,6 @@
 -- A chain is read from its first node to its last.
 use Rattle.std.proofs.Common.{◌≡◌, ℕ, suc, ◌+◌, ◌-◌, ◌*◌, ◌<◌, ◌≤◌, Bool, true, false, List, [], ◌∷◌, Option, Some}
-use Rattle.std.proofs.Common.{None, length, refl}
-use Rattle.std.proofs.Common.{ap, sym, ◌∙◌, subst, arith}
+use Rattle.std.proofs.Common.{None, length, refl, ap, sym, ◌∙◌, subst, arith}
 use Rattle.std.specs.Prelude.{◌==◌, ◌||◌, ◌^◌}
 use Rattle.std.specs.List.{AllByRecursion}
 use Rattle.std.proofs.lemmas.Bool.{eq-eqb}
@@ -17,8 +16,7 @@ use Rattle.markdown_document.specs.Tables.{Tables}
 use Rattle.markdown_delims.specs.declared.marks.Marks.{Marks}
 use Rattle.markdown_delims.specs.ChainForest.{RisesFrom}
 use Rattle.markdown_delims.specs.ChainReading.{runs_in, StandsWhole, ReadFurther, ReadsTree, PaysForTree, CanReadTree}
-use Rattle.markdown_delims.specs.ChainReading.{is_among, NoneBelow, labels, IsSpelled}
-use Rattle.markdown_delims.specs.ChainReading.{IsChainAt, IsPaired}
+use Rattle.markdown_delims.specs.ChainReading.{is_among, NoneBelow, labels, IsSpelled, IsChainAt, IsPaired}
 use Rattle.markdown_delims.specs.ChainStanding.{Chain, view, left_texts, flat, read_back}
 use Rattle.markdown_delims.specs.Layers.{marks_of}
 use Rattle.markdown_delims.specs.OpenRuns.{Openers}
@@ -61,10 +59,7 @@ module _ (s : Setting) (tables : Tables) (nodes : List (Node Item)) where
   pub labels_hold : (l : Option ℕ) (f : Forest (Label ℕ)) → Holds seen l f → labels s tables nodes (numbers_of f) ≡ f
   labels_hold l nil h = refl
   labels_hold l (node a below after) h =
-      ap (λ (p : Part). let b : Label ℕ = record { tag = a.tag; part = p } in
-      node b (labels s tables nodes (numbers_of below)) (labels s tables nodes (numbers_of after))) h.2
-      ∙ ap (λ f. node a f (labels s tables nodes (numbers_of after))) (labels_hold (child_of nodes a.tag) below h.3)
-      ∙ ap (node a below) (labels_hold (sibling_of nodes a.tag) after h.4)
+      rw (h.2, labels_hold (child_of nodes a.tag) below h.3, labels_hold (sibling_of nodes a.tag) after h.4) refl
 
   -- a forest without numbers of the chain may occur anywhere below
   Between-none : (own : ℕ → Bool) (lo : ℕ) (f : Forest ℕ) (hi : ℕ) → Each (λ n. own n ≡ false) f
@@ -143,14 +138,15 @@ module _ (s : Setting) (tables : Tables) (old : Arena Item) (first : ℕ) (f : F
     abbrev pub chain : Forest (Label ℕ)
     chain = labels s tables old.nodes f
 
-    pub chain_cut : Cut (is_among (roots f)) (view whole_chain old) (Some first) nil (Some first) chain (length old.nodes)
+    pub chain_cut : Cut (is_among (roots f)) (view whole_chain old) (Some first) nil (Some first) chain
+        (length old.nodes)
     unfolding whole_chain
     chain_cut = record {
       left = refl;
       right = holds_spelled s tables old.nodes (Some first) f c.spelled;
       rises_left = tt;
-      rises_right = rises_chain s tables old.nodes (is_among (roots f)) (Some first) f 0 (omega arith) c.spelled c.rising
-          c.apart;
+      rises_right = rises_chain s tables old.nodes (is_among (roots f)) (Some first) f 0 (omega arith) c.spelled
+          c.rising c.apart;
     }
 
     pub chain_touched : AllTouched (is_among (roots f)) chain
@@ -170,7 +166,7 @@ module _ (s : Setting) (tables : Tables) (old : Arena Item) (first : ℕ) (f : F
         let is = nothing_left (view whole_chain new) rest
         (subst (λ m. Holds (view whole_chain new) m rest) none cut.right) in
         let r = over_all (is_among (roots f)) (view whole_chain new) (Some first) left l nil (length old.nodes)
-        (subst (λ g. Cut (is_among (roots f)) (view whole_chain new) (Some first) left l g (length old.nodes)) is cut) in
+        (rw is at cut) in
         let holds = subst (λ m. Holds (view whole_chain new) m (read_back left nil)) r.cut.left r.cut.right in (
           record {
             spelled = spelled_holds s tables new.nodes (Some first) (read_back left nil) holds;
@@ -347,6 +343,4 @@ pub goes_down : (h : Chain) (t u : Arena Item) (begun : List (Read ℕ)) (chain 
     (suc ix)
     → numbers_left (length u.nodes) l < length t.nodes - ix
 goes_down h t u begun chain old new last l ix w e a =
-    subst (λ n. numbers_left (length u.nodes) l < n - ix) e
-    (fewer_left h.touched (view h u) l a.rest ix h.bound (rw e w)
-    a.stands.stands.cut.right a.further)
+    rw (← e) (fewer_left h.touched (view h u) l a.rest ix h.bound (rw e w) a.stands.stands.cut.right a.further)

@@ -1,8 +1,7 @@
 -- The search of the stack is the search of what was read; and what a find, or none, leaves.
 use Rattle.std.proofs.Common.{◌≡◌, ℕ, suc, ◌+◌, ◌-◌, ◌<◌, min, Bool, true, false, List, [], ◌∷◌, map, Option, Some}
-use Rattle.std.proofs.Common.{None, length}
-use Rattle.std.proofs.Common.{refl, ap, sym, ◌∙◌, subst, arith}
-use Rattle.std.specs.Prelude.{not, ◌&&◌, ◌||◌}
+use Rattle.std.proofs.Common.{None, length, refl, ap, sym, ◌∙◌, subst, arith}
+use Rattle.std.specs.Prelude.{⊤, if◌then◌else◌, not, ◌&&◌, ◌||◌}
 use Rattle.markdown_base.specs.declared.item.Item.{Item}
 use Rattle.markdown_base.specs.Arena.{Arena, sibling_of}
 use Rattle.markdown_base.specs.Forest.{Forest, nil, node}
@@ -12,8 +11,7 @@ use Rattle.markdown_delims.specs.declared.run.Characters.{Characters}
 use Rattle.markdown_delims.specs.declared.run.Delimiter.{Delimiter}
 use Rattle.markdown_delims.specs.declared.run.Run.{Run}
 use Rattle.markdown_delims.specs.ChainStanding.{Chain, view, texts, left_texts, flat, FirstFrom, LastFrom, AreFirst}
-use Rattle.markdown_delims.specs.ChainStanding.{AreLast, IsOpen, AreOpen}
-use Rattle.markdown_delims.specs.ChainStanding.{Stands, StandsAt, IsRead}
+use Rattle.markdown_delims.specs.ChainStanding.{AreLast, IsOpen, AreOpen, Stands, StandsAt, IsRead}
 use Rattle.markdown_delims.specs.MayPair.{drops, may_pair}
 use Rattle.markdown_delims.specs.Pairing.{Read, done_read, waiting, texts_before, characters_done, FoundOpener}
 use Rattle.markdown_delims.specs.Pairing.{found_if, nearest_opener, drop_read}
@@ -38,48 +36,49 @@ same_take : (closer : Run) (r : OpenRun) (dropped : Bool) (run : Run) (xs : List
 same_take closer r dropped run xs is = ap (λ d. not d && may_pair r.opener.run closer) is.dropped_is
     ∙ ap (λ o. not dropped && may_pair o closer) is.run_is
 
-pub found_as : (closer : Run) (runs : List OpenRun) (rs : List (Read ℕ)) (inside : Forest (Label ℕ)) (f : Found)
-    → AreOpen runs rs
-    → nearest_run closer runs ≡ Some f → FoundAs closer rs inside f
-found_as closer runs [] inside f a h = let none : nearest_run closer [] ≡ Some f = rw a at h in cc
-found_as closer runs (done_read b below ∷ rs) inside f a h =
-    let t = found_as closer runs rs (node b below inside) f a h in
-    record { found = t.found; finds = t.finds; run_is = t.run_is; are = t.are; before_are = t.before_are }
-found_as closer [] (waiting dropped run xs ∷ rs) inside f a h = absurd a
-found_as closer (r ∷ runs) (waiting dropped run xs ∷ rs) inside f a h =
-    here_or (not dropped && may_pair run closer) (found_as closer runs rs (texts_before xs inside) f a.1) refl
+-- the stack and what was read agree on what a search finds
+abbrev Agree : Option Found → Option (FoundOpener ℕ) → Type 0
+Agree None None = ⊤
+Agree (Some f) (Some found) =
+    (f.opener.run ≡ found.run) × AreLast f.opener found.characters × AreOpen f.before found.before
+Agree f found = ⊥
+
+agree : (closer : Run) (runs : List OpenRun) (rs : List (Read ℕ)) (inside : Forest (Label ℕ)) → AreOpen runs rs
+    → Agree (nearest_run closer runs) (nearest_opener closer rs inside)
+agree closer runs [] inside a = rw a tt
+agree closer runs (done_read b below ∷ rs) inside a = agree closer runs rs (node b below inside) a
+agree closer [] (waiting dropped run xs ∷ rs) inside a = absurd a
+agree closer (r ∷ runs) (waiting dropped run xs ∷ rs) inside a =
+    rw (same_take closer r dropped run xs a.0)
+    (here_or (not dropped && may_pair run closer) (agree closer runs rs (texts_before xs inside) a.1))
   where
-    here_or : (b : Bool) → (nearest_run closer runs ≡ Some f → FoundAs closer rs (texts_before xs inside) f)
-        → (not dropped && may_pair run closer) ≡ b → FoundAs closer (waiting dropped run xs ∷ rs) inside f
-    here_or true further e =
-        let here : Some (record { opener = r.opener; before = runs })
-        ≡ Some f = rw (same_take closer r dropped run xs a.0 ∙ e) at h in
-        let same : record { opener = r.opener; before = runs } ≡ f = cc in
-        record {
-          found = record { inside = inside; run = run; characters = xs; before = rs };
-          finds = rw e refl;
-          run_is = ap (λ (g : Found). g.opener.run) (sym same) ∙ a.0.run_is;
-          are = subst (λ (g : Found). AreLast g.opener xs) same a.0.are;
-          before_are = subst (λ (g : Found). AreOpen g.before rs) same a.1;
-        }
-    here_or false further e =
-        let t = further (rw (same_take closer r dropped run xs a.0 ∙ e) at h) in
-        record { found = t.found; finds = rw e t.finds; run_is = t.run_is; are = t.are; before_are = t.before_are }
+    here_or : (b : Bool) → Agree (nearest_run closer runs) (nearest_opener closer rs (texts_before xs inside))
+        → Agree (if b then Some (record { opener = r.opener; before = runs }) else nearest_run closer runs)
+        (found_if b (record { inside = inside; run = run; characters = xs; before = rs })
+        (nearest_opener closer rs (texts_before xs inside)))
+    here_or true further = (a.0.run_is, a.0.are, a.1)
+    here_or false further = further
+
+pub found_as : (closer : Run) (runs : List OpenRun) (rs : List (Read ℕ)) (inside : Forest (Label ℕ)) (f : Found)
+    → AreOpen runs rs → nearest_run closer runs ≡ Some f → FoundAs closer rs inside f
+found_as closer runs rs inside f a h =
+    by_found (nearest_opener closer rs inside) refl
+    (subst (λ o. Agree o (nearest_opener closer rs inside)) h (agree closer runs rs inside a))
+  where
+    by_found : (o : Option (FoundOpener ℕ)) → nearest_opener closer rs inside ≡ o → Agree (Some f) o
+        → FoundAs closer rs inside f
+    by_found None e g = absurd g
+    by_found (Some found) e g = record { found = found; finds = e; run_is = g.0; are = g.1; before_are = g.2 }
 
 pub found_none : (closer : Run) (runs : List OpenRun) (rs : List (Read ℕ)) (inside : Forest (Label ℕ)) → AreOpen runs rs
     → nearest_run closer runs ≡ None → nearest_opener closer rs inside ≡ None
-found_none closer runs [] inside a h = refl
-found_none closer runs (done_read b below ∷ rs) inside a h = found_none closer runs rs (node b below inside) a h
-found_none closer [] (waiting dropped run xs ∷ rs) inside a h = absurd a
-found_none closer (r ∷ runs) (waiting dropped run xs ∷ rs) inside a h =
-    none_if (not dropped && may_pair run closer) (found_none closer runs rs (texts_before xs inside) a.1) refl
+found_none closer runs rs inside a h =
+    none_by (nearest_opener closer rs inside)
+    (subst (λ o. Agree o (nearest_opener closer rs inside)) h (agree closer runs rs inside a))
   where
-    none_if : (b : Bool) → (nearest_run closer runs ≡ None → nearest_opener closer rs (texts_before xs inside) ≡ None)
-        → (not dropped && may_pair run closer) ≡ b → nearest_opener closer (waiting dropped run xs ∷ rs) inside ≡ None
-    none_if true further e =
-        let first : Found = record { opener = r.opener; before = runs } in
-        let here : Some first ≡ None = rw (same_take closer r dropped run xs a.0 ∙ e) at h in cc
-    none_if false further e = rw e (further (rw (same_take closer r dropped run xs a.0 ∙ e) at h))
+    none_by : (o : Option (FoundOpener ℕ)) → Agree None o → o ≡ None
+    none_by None g = refl
+    none_by (Some found) g = absurd g
 
 -- an opener that is found is in the chain
 stands_over : (xs : List (Label ℕ)) (before : Forest (Label ℕ)) → (top before ≡ None → ⊥) → top (left_texts xs before)
@@ -216,8 +215,7 @@ last_from : (number : ℕ) (vs xs : List (Label ℕ)) → FirstFrom (number + le
 last_from number [] xs f g = g
 last_from number (v ∷ vs) xs f g =
     last_from number vs (v ∷ xs)
-    (subst (λ n. FirstFrom n vs) (let e : suc (number + length xs) ≡ number + suc (length xs) = omega arith in e)
-    f.2) (f.0, f.1, g)
+    (rw (← (let e : suc (number + length xs) ≡ number + suc (length xs) = omega arith in e)) f.2) (f.0, f.1, g)
 
 last_count : (vs xs : List (Label ℕ)) → length (last_first vs xs) ≡ length vs + length xs
 last_count [] xs = omega arith
@@ -272,8 +270,7 @@ module _ (h : Chain) (s : Arena Item) (rs : List (Read ℕ)) (last : Option ℕ)
       record {
         reads = record {
           stands = record {
-            cut = subst (λ m. Cut h.touched (view h s) h.first (flat (left_over c.run vs rs)) m after h.bound) link
-                (rw flat_is over.1);
+            cut = rw (← link) (rw flat_is over.1);
             last_is = e ∙ there.1 ∙ ap top (sym flat_is);
             left_touched = rw flat_is touched.0;
             rest_touched = touched.1;

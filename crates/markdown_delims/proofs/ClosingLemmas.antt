@@ -1,7 +1,6 @@
 -- A closer goes on while it finds openers: what is read from here on, and what is found, are what the whole run gives.
 use Rattle.std.proofs.Common.{◌≡◌, ℕ, zero, suc, ◌+◌, ◌-◌, ◌<◌, ◌≤◌, Bool, true, false, List, [], ◌∷◌, map, Option}
-use Rattle.std.proofs.Common.{Some, None, length}
-use Rattle.std.proofs.Common.{refl, ap, sym, ◌∙◌, subst, arith}
+use Rattle.std.proofs.Common.{Some, None, length, refl, ap, sym, ◌∙◌, subst, arith}
 use Rattle.std.specs.Prelude.{not}
 use Rattle.markdown_base.specs.declared.item.Item.{Item}
 use Rattle.markdown_base.specs.Arena.{Arena}
@@ -11,48 +10,37 @@ use Rattle.markdown_document.specs.Setting.{Setting}
 use Rattle.markdown_delims.specs.declared.marks.Marks.{Marks}
 use Rattle.markdown_delims.specs.declared.run.Characters.{Characters}
 use Rattle.markdown_delims.specs.declared.run.Run.{Run}
-use Rattle.markdown_delims.specs.ChainStanding.{Chain, view, texts, AreFirst, AreLast, AreOpen, Stands, Reads, StandsAt}
-use Rattle.markdown_delims.specs.ChainStanding.{Finds, Pairs, CanPair, IsRead}
-use Rattle.markdown_delims.specs.ChainStanding.{Keeps, RunRead, CanRead}
+use Rattle.markdown_delims.specs.ChainStanding.{Chain, view, texts, AreLast, AreOpen, Reads, StandsAt, Finds}
+use Rattle.markdown_delims.specs.ChainStanding.{Pairs, CanPair, IsRead, Keeps, RunRead, CanRead}
 use Rattle.markdown_delims.specs.Layers.{marks_of}
 use Rattle.markdown_delims.specs.OpenRuns.{Openers}
-use Rattle.markdown_delims.specs.Pairing.{Read, nearest_opener, drop_read, Layers, layers, left_over, after_layers}
-use Rattle.markdown_delims.specs.Pairing.{after_search}
-use Rattle.markdown_delims.specs.Pairing.{still_waiting, closed_by, run_read}
+use Rattle.markdown_delims.specs.Pairing.{Read, FoundOpener, nearest_opener, drop_read, Layers, layers, left_over}
+use Rattle.markdown_delims.specs.Pairing.{after_layers, after_search, still_waiting, closed_by, run_read}
 use Rattle.markdown_delims.specs.PairingFinds.{search_finds, closer_finds, run_finds}
 use Rattle.markdown_delims.specs.RunSearch.{OpenRun, nearest_run, dropped_by}
 use Rattle.markdown_delims.specs.Views.{Kept}
 use Rattle.markdown_delims.proofs.CloseLemmas.{LayersLeave, FoundAs, found_as, found_none, opener_stands, flat-dropped}
-use Rattle.markdown_delims.proofs.CloseLemmas.{open-dropped, open-trees, layers_leave}
-use Rattle.markdown_delims.proofs.CloseLemmas.{stands_as}
+use Rattle.markdown_delims.proofs.CloseLemmas.{open-dropped, open-trees, layers_leave, stands_as}
 use Rattle.markdown_delims.proofs.EncloseLemmas.{texts_link}
 use Rattle.markdown_delims.proofs.WriteLemmas.{kept_none, kept_both}
 
 -- one turn of a closer with characters left
 module _ (s : Setting) (k : ℕ) (closer : Run) (rs : List (Read ℕ)) where
-  pub closed_turn : (vs : List (Label ℕ)) → 0 < length vs → closed_by s (suc k) closer vs rs
-      ≡ after_search s (λ left others. closed_by s k closer left others) closer vs rs (nearest_opener closer rs nil)
-  unfolding closed_by
+  closed_turn : (vs : List (Label ℕ)) → 0 < length vs
+      → (closed_by s (suc k) closer vs rs
+      ≡ after_search s (λ left others. closed_by s k closer left others) closer vs rs (nearest_opener closer rs nil))
+      × (closer_finds s (suc k) closer vs rs
+      ≡ search_finds s (λ left others. closer_finds s k closer left others) vs (nearest_opener closer rs nil))
+  unfolding closed_by closer_finds
   closed_turn [] some = absurd (omega arith)
-  closed_turn (v ∷ vs) some = refl
-
-  pub finds_turn : (vs : List (Label ℕ)) → 0 < length vs → closer_finds s (suc k) closer vs rs
-      ≡ search_finds s (λ left others. closer_finds s k closer left others) vs (nearest_opener closer rs nil)
-  unfolding closer_finds
-  finds_turn [] some = absurd (omega arith)
-  finds_turn (v ∷ vs) some = refl
+  closed_turn (v ∷ vs) some = (refl, refl)
 
   -- and of one without
-  finds_empty : (turns : ℕ) (vs : List (Label ℕ)) → length vs ≡ 0 → closer_finds s turns closer vs rs ≡ 0
-  unfolding closer_finds
-  finds_empty zero [] none = refl
-  finds_empty (suc turns) [] none = refl
-  finds_empty turns (v ∷ vs) none = absurd (omega (arith, none))
-
-  closed_empty : (turns : ℕ) (vs : List (Label ℕ)) → length vs ≡ 0 → closed_by s turns closer vs rs ≡ rs
-  unfolding closed_by
-  closed_empty zero [] none = refl
-  closed_empty (suc turns) [] none = refl
+  closed_empty : (turns : ℕ) (vs : List (Label ℕ)) → length vs ≡ 0
+      → (closed_by s turns closer vs rs ≡ rs) × (closer_finds s turns closer vs rs ≡ 0)
+  unfolding closed_by closer_finds
+  closed_empty zero [] none = (refl, refl)
+  closed_empty (suc turns) [] none = (refl, refl)
   closed_empty turns (v ∷ vs) none = absurd (omega (arith, none))
 
 -- a run that cannot close is read
@@ -113,18 +101,22 @@ module _ (h : Chain) (met : Characters) (met_vs : List (Label ℕ)) (begun : Lis
   left : 0 < length a.vs
   left = omega (arith, a.stands.are.count, some)
 
-  closed_is : closed_by h.setting (length met_vs) met.run met_vs begun
+  -- what its search finds decides what is read, and how many searches find
+  search_is : (o : Option (FoundOpener ℕ)) → nearest_opener closer.run a.rs nil ≡ o
+      → (closed_by h.setting (length met_vs) met.run met_vs begun
       ≡ after_search h.setting (λ left others. closed_by h.setting (a.turns - 1) closer.run left others) closer.run a.vs
-      a.rs
-      (nearest_opener closer.run a.rs nil)
-  closed_is = sym a.same ∙ ap (λ k. closed_by h.setting k closer.run a.vs a.rs) turn
-      ∙ closed_turn h.setting (a.turns - 1) closer.run a.rs a.vs left
-
-  finds_are : closer_finds h.setting a.turns closer.run a.vs a.rs
-      ≡ search_finds h.setting (λ left others. closer_finds h.setting (a.turns - 1) closer.run left others) a.vs
-      (nearest_opener closer.run a.rs nil)
-  finds_are = ap (λ k. closer_finds h.setting k closer.run a.vs a.rs) turn
-      ∙ finds_turn h.setting (a.turns - 1) closer.run a.rs a.vs left
+      a.rs o)
+      × (closer_finds h.setting a.turns closer.run a.vs a.rs
+      ≡ search_finds h.setting (λ left others. closer_finds h.setting (a.turns - 1) closer.run left others) a.vs o)
+  search_is o e =
+      let t = closed_turn h.setting (a.turns - 1) closer.run a.rs a.vs left in (
+        sym a.same ∙ ap (λ k. closed_by h.setting k closer.run a.vs a.rs) turn ∙ t.0
+            ∙ ap (after_search h.setting (λ left others. closed_by h.setting (a.turns - 1) closer.run left others)
+            closer.run a.vs a.rs) e,
+        ap (λ k. closer_finds h.setting k closer.run a.vs a.rs) turn ∙ t.1
+            ∙ ap (search_finds h.setting (λ left others. closer_finds h.setting (a.turns - 1) closer.run left others)
+            a.vs) e,
+      )
 
   -- a run that can close is read
   closed_read : (u : Arena Item) (new : Openers) (rs : List (Read ℕ)) (last' l : Option ℕ) → met.run.can_close ≡ true
@@ -168,24 +160,13 @@ module _ (h : Chain) (met : Characters) (met_vs : List (Label ℕ)) (begun : Lis
         → Keeps closer t dropped new.runs last' l
         → now.examined ≤ new.examined → RunRead h s t met.run met_vs begun old new last' l after
     closing_none new last' l closes keeps counted =
-        let e = found_none closer.run now.runs a.rs nil a.are none in
+        let e = search_is None (found_none closer.run now.runs a.rs nil a.are none) in
         let r = keeps h rs' last a.vs after stands_dropped are_dropped in
-        closed_read t new (left_over closer.run a.vs rs') last' l closes
-        (closed_is ∙ ap (after_search h.setting
-        (λ left others. closed_by h.setting (a.turns - 1) closer.run left others) closer.run a.vs a.rs) e)
+        closed_read t new (left_over closer.run a.vs rs') last' l closes e.0
         (record {
           reads = record { stands = r.reads.stands; kept = kept_both h.touched s t t a.kept r.reads.kept };
-          are
-              = r.are;
-        })
-        (omega (
-          arith,
-          a.found,
-          finds_are,
-          counted,
-          ap (search_finds h.setting (λ left others. closer_finds h.setting (a.turns - 1) closer.run
-              left others) a.vs) e,
-        ))
+          are = r.are;
+        }) (omega (arith, a.found, e.1, counted))
 
   -- where it finds an opener
   module _ (opener : Characters) (before : List OpenRun) (found : nearest_run closer.run now.runs
@@ -231,23 +212,12 @@ module _ (h : Chain) (met : Characters) (met_vs : List (Label ℕ)) (begun : Lis
 
         closed_on : closed_by h.setting (length met_vs) met.run met_vs begun
             ≡ closed_by h.setting (a.turns - 1) closer.run made.closing (after_layers taken.found made)
-        closed_on = closed_is
-            ∙ ap (after_search h.setting (λ left others. closed_by h.setting (a.turns - 1) closer.run left others)
-            closer.run
-            a.vs a.rs) taken.finds
+        closed_on = (search_is (Some taken.found) taken.finds).0
 
         found_one : (examined : ℕ) → now.examined < examined
             → old.examined + closer_finds h.setting (length met_vs) met.run met_vs begun
             ≤ examined + closer_finds h.setting (a.turns - 1) closer.run made.closing (after_layers taken.found made)
-        found_one examined counted =
-            omega (
-              arith,
-              a.found,
-              finds_are,
-              counted,
-              ap (search_finds h.setting (λ left others. closer_finds h.setting (a.turns - 1)
-                  closer.run left others) a.vs) taken.finds,
-            )
+        found_one examined counted = omega (arith, a.found, (search_is (Some taken.found) taken.finds).1, counted)
 
         -- the opener is used up
         none_open : (xs : List (Label ℕ)) → length xs ≡ 0
@@ -272,29 +242,22 @@ module _ (h : Chain) (met : Characters) (met_vs : List (Label ℕ)) (begun : Lis
             let l = leave in
             let n : l.next ≡ closer.number + opener.count = omega
             (arith, l.next_is, taken.are.count, a.stands.are.count, more) in
-            let first = subst (λ i. AreFirst (record closer { number = i; count = closer.count - opener.count })
-            made.closing) n
-            (record {
-              from = l.closing;
-              count = omega
-                  (arith, l.closing_count, taken.are.count, a.stands.are.count, more);
-            }) in
-            let none : length made.opening
-            ≡ 0 = omega (arith, l.opening_count, taken.are.count, a.stands.are.count, more) in
+            let left : length made.closing ≡ closer.count - opener.count =
+            omega (arith, l.closing_count, taken.are.count, a.stands.are.count, more) in
+            let from = rw n at l.closing in
+            let none : length made.opening ≡ 0 =
+            omega (arith, l.opening_count, taken.are.count, a.stands.are.count, more) in
             record {
               rs = after_layers taken.found made;
               vs = made.closing;
               turns = a.turns - 1;
               stands = record {
-                stands = subst (λ x. Stands h u (after_layers taken.found made) (Some root) x
-                    (texts made.closing after))
-                    (texts_link (view h u) rest (closer.number + opener.count) made.closing after
-                    (omega (arith, first.count, more)) first.from reads.stands.cut.right) reads.stands;
-                are = first;
+                stands = rw (← (texts_link (view h u) rest (closer.number + opener.count) made.closing after
+                    (omega (arith, left, more)) from reads.stands.cut.right)) reads.stands;
+                are = record { from = from; count = left };
               };
               kept = kept_both h.touched s t u a.kept reads.kept;
-              are = subst (λ runs. AreOpen runs (after_layers taken.found made)) (sym e)
-                  (open-trees before made.whole _ (none_open made.opening none));
+              are = rw e (open-trees before made.whole _ (none_open made.opening none));
               run_is = a.run_is;
               enough = omega (arith, a.enough, some_open);
               same = sym closed_on;
@@ -310,27 +273,16 @@ module _ (h : Chain) (met : Characters) (met_vs : List (Label ℕ)) (begun : Lis
             let none : length made.closing
             ≡ 0 = omega (arith, l.closing_count, taken.are.count, a.stands.are.count, all) in
             let no_texts : texts made.closing after ≡ after = no_characters made.closing none in
-            closed_read u new (after_layers taken.found made) (Some root) rest closes
-            (closed_on ∙ closed_empty h.setting 0 closer.run (after_layers taken.found made) (a.turns - 1) made.closing
-            none)
+            let empty = closed_empty h.setting 0 closer.run (after_layers taken.found made) (a.turns - 1) made.closing
+            none in
+            closed_read u new (after_layers taken.found made) (Some root) rest closes (closed_on ∙ empty.0)
             (record {
               reads = record {
-                stands = subst (λ f. Stands h u (after_layers taken.found made) (Some root) rest f) no_texts
-                    reads.stands;
+                stands = rw no_texts at reads.stands;
                 kept = kept_both h.touched s t u a.kept reads.kept;
               };
               are = open-trees new.runs made.whole _ open_runs;
-            })
-            (omega (
-              arith,
-              a.found,
-              finds_are,
-              counted,
-              ap (search_finds h.setting (λ left others. closer_finds h.setting (a.turns - 1)
-                  closer.run left others) a.vs) taken.finds,
-              finds_empty h.setting 0 closer.run (after_layers taken.found made) (a.turns - 1)
-                  made.closing none,
-            ))
+            }) (omega (arith, found_one new.examined counted, empty.1))
           where
             no_characters : (vs : List (Label ℕ)) → length vs ≡ 0 → texts vs after ≡ after
             no_characters [] e = refl
@@ -342,7 +294,7 @@ module _ (h : Chain) (met : Characters) (met_vs : List (Label ℕ)) (begun : Lis
         closing_used new e counted equal closes =
             let l = leave in
             ended new (omega (arith, equal)) closes counted
-            (subst (λ runs. AreOpen runs (still_waiting taken.found.run made.opening taken.found.before)) (sym e)
+            (rw e
             (none_open made.opening (omega (arith, l.opening_count, taken.are.count, a.stands.are.count, equal))))
 
         pub closing_left : (new : Openers) → new.runs
@@ -352,11 +304,9 @@ module _ (h : Chain) (met : Characters) (met_vs : List (Label ℕ)) (begun : Lis
         closing_left new e counted fewer closes =
             let l = leave in
             ended new (omega (arith, fewer)) closes counted
-            (subst (λ runs. AreOpen runs (still_waiting taken.found.run made.opening taken.found.before)) (sym e)
-            (some_open_still (record opener { count = opener.count - closer.count }) made.opening taken.run_is
+            (rw e (some_open_still (record opener { count = opener.count - closer.count }) made.opening taken.run_is
             (record {
               from = l.opening;
-              count = omega
-                  (arith, l.opening_count, taken.are.count, a.stands.are.count, fewer);
+              count = omega (arith, l.opening_count, taken.are.count, a.stands.are.count, fewer);
             })
             (omega (arith, fewer))))

@@ -59,65 +59,42 @@ Rises-raise own lo lo' nil hi l r = l
 Rises-raise own lo lo' (node a below after) hi l r = (l, r.1, r.2)
 
 -- a write at a node of the chain does not change what has other numbers: all before it, and all after it
-pub Holds-inside : (own : ℕ → Bool) (k k' : View Part) (ix : ℕ) (item : Part) (child next : Option ℕ)
-    → Writes k k' ix item child next
-    → own ix ≡ true
-    → (l : Option ℕ) (lo : ℕ) (f : Forest (Label ℕ)) (hi : ℕ) → ((n : ℕ) → lo ≤ n → n < hi → n ≡ ix → ⊥)
-    → Between own lo f hi → Holds k l f
-    → Holds k' l f
-Holds-inside own k k' ix item child next w o l lo nil hi b r h = h
-Holds-inside own k k' ix item child next w o l lo (node a below after) hi b r h =
-    let same = w.others a.tag (λ e. let here = r.0 (subst (λ n. own n ≡ true) (sym e) o) in b a.tag here.0 here.1 e) in
-    let inside : Holds k' (k.child a.tag) below = Holds-inside own k k' ix item child next w o (k.child a.tag) lo below
-    hi b r.1 h.3
-    in
-    let behind : Holds k' (k.next a.tag) after = Holds-inside own k k' ix item child next w o (k.next a.tag) lo after hi
-    b r.2 h.4 in
-    (h.0, rw w.size h.1, same.item ∙ h.2, rw same.child inside, rw same.next behind)
+module _ (own : ℕ → Bool) (k k' : View Part) (ix : ℕ) (item : Part) (child next : Option ℕ)
+    (w : Writes k k' ix item child next) (o : own ix ≡ true) where
+  Holds-inside : (l : Option ℕ) (lo : ℕ) (f : Forest (Label ℕ)) (hi : ℕ)
+      → ((n : ℕ) → lo ≤ n → n < hi → n ≡ ix → ⊥) → Between own lo f hi → Holds k l f → Holds k' l f
+  Holds-inside l lo nil hi b r h = h
+  Holds-inside l lo (node a below after) hi b r h =
+      let same = w.others a.tag
+      (λ e. let here = r.0 (subst (λ n. own n ≡ true) (sym e) o) in b a.tag here.0 here.1 e) in (
+        h.0,
+        rw w.size h.1,
+        same.item ∙ h.2,
+        rw same.child (Holds-inside (k.child a.tag) lo below hi b r.1 h.3),
+        rw same.next (Holds-inside (k.next a.tag) lo after hi b r.2 h.4),
+      )
 
-pub Holds-inside_before : (own : ℕ → Bool) (k k' : View Part) (ix : ℕ) (item : Part) (child next : Option ℕ)
-    → Writes k k' ix item child next
-    → own ix ≡ true
-    → (l : Option ℕ) (lo : ℕ) (f : Forest (Label ℕ)) (hi : ℕ) → ix < lo → Inside own lo f hi → Holds k l f
-    → Holds k' l f
-Holds-inside_before own k k' ix item child next w o l lo f hi b r h =
-    Holds-inside own k k' ix item child next w o l lo f hi (λ n p q e. omega arith) r.1 h
+  pub Holds-inside_before : (l : Option ℕ) (lo : ℕ) (f : Forest (Label ℕ)) (hi : ℕ) → ix < lo → Inside own lo f hi
+      → Holds k l f → Holds k' l f
+  Holds-inside_before l lo f hi b r h = Holds-inside l lo f hi (λ n p q e. omega arith) r.1 h
 
-pub Holds-inside_behind : (own : ℕ → Bool) (k k' : View Part) (ix : ℕ) (item : Part) (child next : Option ℕ)
-    → Writes k k' ix item child next
-    → own ix ≡ true
-    → (l : Option ℕ) (lo : ℕ) (f : Forest (Label ℕ)) (hi : ℕ) → hi ≤ ix → Inside own lo f hi → Holds k l f
-    → Holds k' l f
-Holds-inside_behind own k k' ix item child next w o l lo f hi b r h =
-    Holds-inside own k k' ix item child next w o l lo f hi (λ n p q e. omega arith) r.1 h
+  pub Holds-write_before : (l : Option ℕ) (lo : ℕ) (f : Forest (Label ℕ)) (hi : ℕ) → ix < lo → Rises own lo f hi
+      → Holds k l f → Holds k' l f
+  Holds-write_before l lo f hi b r h = Holds-inside_before l lo f hi b (Inside-of own lo f hi r) h
 
-pub Holds-write_before : (own : ℕ → Bool) (k k' : View Part) (ix : ℕ) (item : Part) (child next : Option ℕ)
-    → Writes k k' ix item child next
-    → own ix ≡ true
-    → (l : Option ℕ) (lo : ℕ) (f : Forest (Label ℕ)) (hi : ℕ) → ix < lo → Rises own lo f hi → Holds k l f → Holds k' l f
-Holds-write_before own k k' ix item child next w o l lo f hi b r h =
-    Holds-inside_before own k k' ix item child next w o l lo f hi b (Inside-of own lo f hi r) h
-
--- a write after a left list's numbers does not change it
-pub LeftHolds-write_behind : (own : ℕ → Bool) (k k' : View Part) (ix : ℕ) (item : Part) (child next : Option ℕ)
-    → Writes k k' ix item child next
-    → own ix ≡ true
-    → (first : Option ℕ) (f : Forest (Label ℕ)) (l : Option ℕ) (hi : ℕ) → hi ≤ ix → LeftRises own f hi
-    → LeftHolds k first f l
-    → LeftHolds k' first f l
-LeftHolds-write_behind own k k' ix item child next w o first nil l hi b r h = h
-LeftHolds-write_behind own k k' ix item child next w o first (node a below before) l hi b r h =
-    let within : suc a.tag ≤ hi = r.0.0 in
-    let same = w.others a.tag (λ e. omega arith) in
-    let inside : Holds k' (k.child a.tag) below = Holds-inside_behind own k k' ix item child next w o (k.child a.tag)
-    (suc a.tag)
-    below hi b r.0 h.2 in (
-      rw w.size h.0,
-      same.item ∙ h.1,
-      rw same.child inside,
-      same.next ∙ h.3,
-      LeftHolds-write_behind own k k' ix item child next w o first before (Some a.tag) a.tag (omega arith) r.1 h.4,
-    )
+  -- a write after a left list's numbers does not change it
+  pub LeftHolds-write_behind : (first : Option ℕ) (f : Forest (Label ℕ)) (l : Option ℕ) (hi : ℕ) → hi ≤ ix
+      → LeftRises own f hi → LeftHolds k first f l → LeftHolds k' first f l
+  LeftHolds-write_behind first nil l hi b r h = h
+  LeftHolds-write_behind first (node a below before) l hi b r h =
+      let within : suc a.tag ≤ hi = r.0.0 in
+      let same = w.others a.tag (λ e. omega arith) in (
+        rw w.size h.0,
+        same.item ∙ h.1,
+        rw same.child (Holds-inside (k.child a.tag) (suc a.tag) below hi (λ n p q e. omega arith) r.0.1 h.2),
+        same.next ∙ h.3,
+        LeftHolds-write_behind first before (Some a.tag) a.tag (omega arith) r.1 h.4,
+      )
 
 -- over one tree, to the right and to the left
 pub step_right : (own : ℕ → Bool) (k : View Part) (first : Option ℕ) (left : Forest (Label ℕ)) (l : Option ℕ)
@@ -145,6 +122,21 @@ step_left own k first a below before l right hi c =
       rises_right = (omega arith, c.rises_left.0, Rises-raise own 0 (suc a.tag) right hi above c.rises_right);
     }
 
+-- a node that a left list leads to encloses a chain
+pub enclosing : (own : ℕ → Bool) (k k' : View Part) (first : Option ℕ) (before : Forest (Label ℕ)) (a : Label ℕ)
+    (l m : Option ℕ)
+    (inside : Forest (Label ℕ)) (hi : ℕ) → own a.tag ≡ true
+    → a.tag < k.size → LeftHolds k first before (Some a.tag) → LeftRises own before a.tag → Holds k l inside
+    → Inside own (suc a.tag) inside hi
+    → Writes k k' a.tag a.part l m → LeftHolds k' first (node a inside before) m
+enclosing own k k' first before a l m inside hi o within left rises h r w = (
+  rw w.size within,
+  w.item,
+  rw w.child (Holds-inside_before own k k' a.tag a.part l m w o l (suc a.tag) inside hi (omega arith) r h),
+  w.next,
+  LeftHolds-write_behind own k k' a.tag a.part l m w o first before (Some a.tag) a.tag (omega arith) rises left,
+)
+
 -- the nearest tree now leads elsewhere; the chain that followed it is unchanged
 pub record Parted (k : View Part) (first : Option ℕ) (before : Forest (Label ℕ)) (m : Option ℕ) (l : Option ℕ)
     (after : Forest (Label ℕ)) : Type 0
@@ -160,34 +152,10 @@ pub parted : (own : ℕ → Bool) (k k' : View Part) (first : Option ℕ) (a : L
     → Parted k' first (node a below before) m l right
 parted own k k' first a below before l m right hi c o w =
     let above : suc a.tag ≤ next_number right hi = c.rises_left.0.0 in
-    let inside : Holds k' (k.child a.tag) below =
-    Holds-inside_before own k k' a.tag (k.item a.tag) (k.child a.tag) m w o (k.child a.tag) (suc a.tag) below
-    (next_number right hi) (omega arith) c.rises_left.0 c.left.2 in
     record {
-      left = (
-        rw w.size c.left.0,
-        w.item ∙ c.left.1,
-        rw w.child inside,
-        w.next,
-        LeftHolds-write_behind own k k' a.tag (k.item a.tag) (k.child a.tag) m w o first before (Some a.tag) a.tag
-            (omega arith) c.rises_left.1 c.left.4,
-      );
+      left = enclosing own k k' first before a (k.child a.tag) m below (next_number right hi) o c.left.0 c.left.4
+          c.rises_left.1 c.left.2 c.rises_left.0
+          (subst (λ p. Writes k k' a.tag p (k.child a.tag) m) c.left.1 w);
       right = Holds-write_before own k k' a.tag (k.item a.tag) (k.child a.tag) m w o l (suc a.tag) right hi
-          (omega arith)
-          (Rises-raise own 0 (suc a.tag) right hi above c.rises_right) c.right;
+          (omega arith) (Rises-raise own 0 (suc a.tag) right hi above c.rises_right) c.right;
     }
-
--- a node that a left list leads to encloses a chain
-pub enclosing : (own : ℕ → Bool) (k k' : View Part) (first : Option ℕ) (before : Forest (Label ℕ)) (a : Label ℕ)
-    (l m : Option ℕ)
-    (inside : Forest (Label ℕ)) (hi : ℕ) → own a.tag ≡ true
-    → a.tag < k.size → LeftHolds k first before (Some a.tag) → LeftRises own before a.tag → Holds k l inside
-    → Inside own (suc a.tag) inside hi
-    → Writes k k' a.tag a.part l m → LeftHolds k' first (node a inside before) m
-enclosing own k k' first before a l m inside hi o within left rises h r w = (
-  rw w.size within,
-  w.item,
-  rw w.child (Holds-inside_before own k k' a.tag a.part l m w o l (suc a.tag) inside hi (omega arith) r h),
-  w.next,
-  LeftHolds-write_behind own k k' a.tag a.part l m w o first before (Some a.tag) a.tag (omega arith) rises left,
-)

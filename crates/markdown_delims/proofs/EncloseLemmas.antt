@@ -1,7 +1,6 @@
 -- Characters of an opener become nodes, one layer at a time.
 use Rattle.std.proofs.Common.{◌≡◌, ℕ, suc, ◌+◌, ◌-◌, ◌<◌, ◌≤◌, min, Bool, true, List, [], ◌∷◌, Option, Some, None}
-use Rattle.std.proofs.Common.{length, refl, ap}
-use Rattle.std.proofs.Common.{sym, ◌∙◌, subst, arith}
+use Rattle.std.proofs.Common.{length, refl, ap, sym, ◌∙◌, subst, arith}
 use Rattle.std.specs.Prelude.{IfSome, slice_range, ◌^◌}
 use Rattle.markdown_base.specs.declared.item.Item.{Item}
 use Rattle.markdown_base.specs.declared.item.ItemBody.{ItemBody}
@@ -20,8 +19,7 @@ use Rattle.markdown_delims.specs.Pairing.{Layers, layers}
 use Rattle.markdown_delims.specs.Views.{View, Writes, Wrote, Holds, LeftHolds, next_number, Rises, LeftRises, Cut, Kept}
 use Rattle.markdown_delims.specs.Views.{AllTouched}
 use Rattle.markdown_delims.proofs.CutLemmas.{Rises-le, Rises-raise, Rises-lower, Inside-of, Inside-further}
-use Rattle.markdown_delims.proofs.CutLemmas.{Holds-write_before, step_left}
-use Rattle.markdown_delims.proofs.CutLemmas.{enclosing}
+use Rattle.markdown_delims.proofs.CutLemmas.{Holds-write_before, step_left, enclosing}
 use Rattle.markdown_delims.proofs.WriteLemmas.{parts_written, kept_none, kept_made}
 
 -- a chain's first number is not below where it begins
@@ -112,24 +110,8 @@ pub spanned_part : (s : Setting) (tables : Tables) (i j : Item) (x v : Label ℕ
     → part_of s.text tables i ≡ x.part → part_of s.text tables j ≡ v.part → x.part.block ≡ None → IsLayer b shape
     → part_of s.text tables (record { start = i.start; end = j.end; body = b }) ≡ (spanned s.text shape x v).part
 spanned_part s tables i j x v b shape e f none is =
-    ap (λ y. let p : Part = record { shape = y; range = record { start = i.start; end = j.end }; block = block_of b } in
-    p)
-    (is.reads tables (slice_range s.text i.start j.end))
-    ∙ ap (λ o. let p : Part = record {
-      shape = shape (slice_range s.text i.start j.end);
-      range = record { start = i.start; end = j.end };
-      block = o;
-    } in p) (is.made.inline ∙ sym none)
-    ∙ ap (λ (q : Part). let p : Part = record {
-      shape = shape (slice_range s.text q.range.start j.end);
-      range = record { start = q.range.start; end = j.end };
-      block = x.part.block;
-    } in p) e
-    ∙ ap (λ (q : Part). let p : Part = record {
-      shape = shape (slice_range s.text x.part.range.start q.range.end);
-      range = record { start = x.part.range.start; end = q.range.end };
-      block = x.part.block;
-    } in p) f
+    let apart : block_of i.body ≡ None = ap (λ (p : Part). p.block) e ∙ none in
+    rw (← e, ← f, is.reads tables (slice_range s.text i.start j.end), is.made.inline, apart) refl
 
 -- where the characters of one side are used up, no layer is left
 layers_end : (s : Setting) (d : Delimiter) (xs vs : List (Label ℕ)) (inside : Forest (Label ℕ))
@@ -142,11 +124,7 @@ layers_end s d (x ∷ xs) (v ∷ vs) inside e = absurd (omega (arith, e))
 layers_once : (s : Setting) (d : Delimiter) (x v : Label ℕ) (xs vs : List (Label ℕ)) (inside : Forest (Label ℕ))
     → min (length xs) (length vs) ≡ 0
     → layers s d (x ∷ xs) (v ∷ vs) inside
-    ≡ record {
-      whole = node (spanned s.text (layer_of_one (marks_of s.rules.options) d) x v) inside nil;
-      opening = xs;
-      closing = vs;
-    }
+    ≡ layers s d xs vs (node (spanned s.text (layer_of_one (marks_of s.rules.options) d) x v) inside nil)
 layers_once s d x v [] vs inside e = refl
 layers_once s d x v (y ∷ xs) [] inside e = refl
 layers_once s d x v (y ∷ xs) (w ∷ vs) inside e = absurd (omega (arith, e))
@@ -216,20 +194,27 @@ pub record NextLayer (h : Chain) (g : Around) (t : Arena Item) (o c : Characters
     pub right_touched : AllTouched h.touched (texts vs g.after)
 
 -- of two characters, and of one
+abbrev shape_of_two : Setting → Delimiter → List ℕ → Shape
+shape_of_two s d = layer_of_two (marks_of s.rules.options) d
+
+abbrev shape_of_one : Setting → Delimiter → List ℕ → Shape
+shape_of_one s d = layer_of_one (marks_of s.rules.options) d
+
 module _ (h : Chain) (t : Arena Item) (o c : Characters) (inner : Option ℕ) (before inside after : Forest (Label ℕ))
   where
     abbrev around : List (Label ℕ) → List (Label ℕ) → Around
     around xs vs = record { before = before; opening = xs; inside = inside; closing = vs; after = after }
 
-    pub record LayerOfTwo (opening closing : List (Label ℕ)) : Type 0 where
-      pub next : NextLayer h (around opening closing) t o c inner 2
-      pub layers_are : (s : Setting) (d : Delimiter) → layers s d opening closing inside
-          ≡ layers s d next.xs next.vs
-          (node (spanned s.text (layer_of_two (marks_of s.rules.options) d) next.x next.v) inside nil)
+    -- after a layer of n characters the characters that are left pair around it, if there are any
+    pub record LayerOf (n : ℕ) (shape : Setting → Delimiter → List ℕ → Shape) (opening closing : List (Label ℕ)) : Type
+        0 where
+      pub next : NextLayer h (around opening closing) t o c inner n
+      pub layers_are : (n ≡ 1 → min (length next.xs) (length next.vs) ≡ 0) → (s : Setting) (d : Delimiter)
+          → layers s d opening closing inside
+          ≡ layers s d next.xs next.vs (node (spanned s.text (shape s d) next.x next.v) inside nil)
 
     pub layer_of_two_at : (opening closing : List (Label ℕ)) → Encloses h (around opening closing) t o c inner
-        → 2 ≤ min o.count c.count
-        → LayerOfTwo opening closing
+        → 2 ≤ min o.count c.count → LayerOf 2 shape_of_two opening closing
     layer_of_two_at [] closing st m = absurd (omega (arith, st.opener_are.count, m))
     layer_of_two_at (x ∷ []) closing st m = absurd (omega (arith, st.opener_are.count, m))
     layer_of_two_at (x ∷ y ∷ xs) [] st m = absurd (omega (arith, st.closer_are.count, m))
@@ -248,8 +233,7 @@ module _ (h : Chain) (t : Arena Item) (o c : Characters) (inner : Option ℕ) (b
             none = st.opener_are.from.2.1;
             opening = st.opener_are.from.2.2;
             opening_count = omega (arith, st.opener_are.count);
-            closing = subst (λ n. FirstFrom n vs) (let e : suc (suc c.number) ≡ c.number + 2 = omega arith in e)
-                st.closer_are.from.2.2;
+            closing = rw (← (let e : suc (suc c.number) ≡ c.number + 2 = omega arith in e)) st.closer_are.from.2.2;
             closing_count = omega (arith, st.closer_are.count);
             peeled = peel_two h.touched (view h t) h.first y (left_texts xs before) inner inside st.hi x st.cut;
             root_touched = st.left_touched.1.0;
@@ -260,22 +244,11 @@ module _ (h : Chain) (t : Arena Item) (o c : Characters) (inner : Option ℕ) (b
             rises = st.rises.2.2;
             right_touched = st.right_touched.1.1;
           };
-          layers_are = λ s d. refl;
+          layers_are = λ last s d. refl;
         }
 
-    pub record LayerOfOne (opening closing : List (Label ℕ)) : Type 0 where
-      pub next : NextLayer h (around opening closing) t o c inner 1
-      pub layers_are : min (length next.xs) (length next.vs) ≡ 0 → (s : Setting) (d : Delimiter)
-          → layers s d opening closing inside
-          ≡ record {
-            whole = node (spanned s.text (layer_of_one (marks_of s.rules.options) d) next.x next.v) inside nil;
-            opening = next.xs;
-            closing = next.vs;
-          }
-
     pub layer_of_one_at : (opening closing : List (Label ℕ)) → Encloses h (around opening closing) t o c inner
-        → 1 ≤ min o.count c.count
-        → LayerOfOne opening closing
+        → 1 ≤ min o.count c.count → LayerOf 1 shape_of_one opening closing
     layer_of_one_at [] closing st m = absurd (omega (arith, st.opener_are.count, m))
     layer_of_one_at (x ∷ xs) [] st m = absurd (omega (arith, st.closer_are.count, m))
     layer_of_one_at (x ∷ xs) (v ∷ vs) st m =
@@ -292,8 +265,7 @@ module _ (h : Chain) (t : Arena Item) (o c : Characters) (inner : Option ℕ) (b
             none = st.opener_are.from.1;
             opening = st.opener_are.from.2;
             opening_count = omega (arith, st.opener_are.count);
-            closing = subst (λ n. FirstFrom n vs) (let e : suc c.number ≡ c.number + 1 = omega arith in e)
-                st.closer_are.from.2;
+            closing = rw (← (let e : suc c.number ≡ c.number + 1 = omega arith in e)) st.closer_are.from.2;
             closing_count = omega (arith, st.closer_are.count);
             peeled = peel_one h.touched (view h t) h.first x (left_texts xs before) inner inside st.hi st.cut;
             root_touched = st.left_touched.0;
@@ -304,41 +276,37 @@ module _ (h : Chain) (t : Arena Item) (o c : Characters) (inner : Option ℕ) (b
             rises = st.rises.2;
             right_touched = st.right_touched.1;
           };
-          layers_are = λ none s d. layers_once s d x v xs vs inside none;
+          layers_are = λ none s d. layers_once s d x v xs vs inside (none refl);
         }
 
-    -- the layer is written
-    module _ (g : Around) (n : ℕ) (next : NextLayer h g t o c inner n) (b : ItemBody) (shape : List ℕ → Shape)
-        (is : IsLayer b shape)
-        (u : Arena Item) (root end : ℕ) (m : Option ℕ)
-        (w : Wrote t u root (record { start = (item_at t.nodes root).start; end = (item_at t.nodes end).end; body = b })
-        inner m)
-        (root_is : root ≡ next.x.tag) (end_is : end ≡ next.v.tag) where
-      pub layer_written : Writes (view h t) (view h u) next.x.tag (spanned h.setting.text shape next.x next.v).part inner
-          m
-      layer_written =
-          let i : Item = record {
-            start = (item_at t.nodes next.x.tag).start;
-            end = (item_at t.nodes next.v.tag).end;
-            body
-                = b;
-          } in
-          let at : Wrote t u next.x.tag i inner m =
-          subst (λ e. Wrote t u next.x.tag
-          (record { start = (item_at t.nodes next.x.tag).start; end = (item_at t.nodes e).end; body = b }) inner
-          m) end_is
-          (subst (λ x. Wrote t u x
-          (record { start = (item_at t.nodes x).start; end = (item_at t.nodes end).end; body = b }) inner m)
-          root_is w) in
-          subst (λ p. Writes (view h t) (view h u) next.x.tag p inner m)
-          (spanned_part h.setting h.tables (item_at t.nodes next.x.tag) (item_at t.nodes next.v.tag) next.x next.v b shape
-          next.peeled.item
-          next.end_part next.none is)
-          (parts_written (part_of h.setting.text h.tables) t.nodes u.nodes next.x.tag i inner m at.nodes)
+-- the layer is written
+module _ (h : Chain) (t : Arena Item) (o c : Characters) (inner : Option ℕ) (g : Around) (n : ℕ)
+    (next : NextLayer h g t o c inner n) (b : ItemBody) (shape : List ℕ → Shape) (is : IsLayer b shape)
+    (u : Arena Item) (root end : ℕ) (m : Option ℕ)
+    (w : Wrote t u root (record { start = (item_at t.nodes root).start; end = (item_at t.nodes end).end; body = b })
+    inner m)
+    (root_is : root ≡ next.x.tag) (end_is : end ≡ next.v.tag) where
+  pub layer_written : Writes (view h t) (view h u) next.x.tag (spanned h.setting.text shape next.x next.v).part inner
+      m
+  layer_written =
+      let i : Item = record {
+        start = (item_at t.nodes next.x.tag).start;
+        end = (item_at t.nodes next.v.tag).end;
+        body = b;
+      } in
+      let at : Wrote t u next.x.tag i inner m =
+      rw (← end_is) (subst (λ x. Wrote t u x (record {
+        start = (item_at t.nodes x).start;
+        end = (item_at t.nodes end).end;
+        body = b;
+      }) inner m) root_is w) in
+      rw (← (spanned_part h.setting h.tables (item_at t.nodes next.x.tag) (item_at t.nodes next.v.tag) next.x next.v b
+      shape next.peeled.item next.end_part next.none is))
+      (parts_written (part_of h.setting.text h.tables) t.nodes u.nodes next.x.tag i inner m at.nodes)
 
-      pub layer_kept : (s : Arena Item) → Kept h.touched s t → Kept h.touched s u
-      layer_kept s k = kept_made h.touched s t u root _ inner m k
-          (subst (λ x. h.touched x ≡ true) (sym root_is) next.root_touched) w is.made
+  pub layer_kept : (s : Arena Item) → Kept h.touched s t → Kept h.touched s u
+  layer_kept s k = kept_made h.touched s t u root _ inner m k
+      (subst (λ x. h.touched x ≡ true) (sym root_is) next.root_touched) w is.made
 
 -- the nodes of the next layer are those of an arena
 pub record LayersFit (t : Arena Item) (o c : Characters) (left : ℕ) (inner : Option ℕ) : Type 0 where
@@ -354,125 +322,104 @@ pub record LayersFit (t : Arena Item) (o c : Characters) (left : ℕ) (inner : O
 -- one layer more
 module _ (h : Chain) (g : Around) (s t u : Arena Item) (d : Delimiter) (o c : Characters) (left : ℕ) (inner : Option ℕ)
     (a : LayersAt h g s t d o c left inner) where
-  abbrev two : 2 ≤ left → LayerOfTwo h t o c inner g.before a.inside g.after a.opening a.closing
+  abbrev two : 2 ≤ left → LayerOf h t o c inner g.before a.inside g.after 2 shape_of_two a.opening a.closing
   two l = layer_of_two_at h t o c inner g.before a.inside g.after a.opening a.closing a.stands
       (omega (arith, a.left_is, l))
 
-  abbrev one : 1 ≤ left → LayerOfOne h t o c inner g.before a.inside g.after a.opening a.closing
+  abbrev one : 1 ≤ left → LayerOf h t o c inner g.before a.inside g.after 1 shape_of_one a.opening a.closing
   one l = layer_of_one_at h t o c inner g.before a.inside g.after a.opening a.closing a.stands
       (omega (arith, a.left_is, l))
 
   module _ (b : ItemBody) where
-    abbrev LayerWritten : ℕ → Option ℕ → (root end : ℕ) → Type 0
-    LayerWritten n m root end =
+    abbrev LayerWritten : Option ℕ → (root end : ℕ) → Type 0
+    LayerWritten m root end =
         Wrote t u root (record { start = (item_at t.nodes root).start; end = (item_at t.nodes end).end; body = b })
         inner m
 
-    pub layers_more : IsLayer b (layer_of_two (marks_of h.setting.rules.options) d) → (root : ℕ) → root
-        ≡ o.number + (o.count - 2) → 2 < left
-        → LayerWritten 2 None root (c.number + 1)
+    pub layers_more : IsLayer b (layer_of_two (marks_of h.setting.rules.options) d) → (root : ℕ)
+        → root ≡ o.number + (o.count - 2) → 2 < left → LayerWritten None root (c.number + 1)
         → LayersAt h g s u d (record o { count = o.count - 2 })
-        (record c { number = c.number + 2; count = c.count - 2 }) (left - 2)
-        (Some root)
+        (record c { number = c.number + 2; count = c.count - 2 }) (left - 2) (Some root)
     layers_more is root e more w =
         let z = two (omega (arith, more)) in
         let n = z.next in
+        let layer : Label ℕ = spanned h.setting.text (layer_of_two (marks_of h.setting.rules.options) d) n.x n.v in
         let root_is : root ≡ n.x.tag = e ∙ sym n.root_is in
         let end_is : c.number + 1 ≡ n.v.tag = omega (arith, n.end_is) in
-        let written = layer_written h t o c inner g.before a.inside g.after _ 2 n b _ is u root (c.number + 1) None w
-        root_is end_is in
-        let k = layer_kept h t o c inner g.before a.inside g.after _ 2 n b _ is u root (c.number + 1) None w root_is
-        end_is s a.kept in
+        let written = layer_written h t o c inner _ 2 n _ _ is u _ _ None w root_is end_is in
         let low : suc n.x.tag ≤ n.hi = Rises-le h.touched (suc n.x.tag) a.inside n.hi n.peeled.rises in
         let right = Holds-write_before h.touched (view h t) (view h u) n.x.tag _ inner None written n.root_touched
-        ((view h t).next n.v.tag)
-        (suc n.v.tag) (texts n.vs g.after) h.bound (omega (arith, low, n.low, n.end_is)) n.rises n.right in
+        ((view h t).next n.v.tag) (suc n.v.tag) (texts n.vs g.after) h.bound (omega (arith, low, n.low, n.end_is))
+        n.rises n.right in
         let some : 0 < length n.vs = omega (arith, n.closing_count, a.left_is, more) in
         record {
           opening = n.xs;
           closing = n.vs;
-          inside = node (spanned h.setting.text (layer_of_two (marks_of h.setting.rules.options) d) n.x n.v) a.inside
-              nil;
+          inside = node layer a.inside nil;
           stands = record {
             opener_are = record { from = n.opening; count = omega (arith, n.opening_count) };
             closer_are = record { from = n.closing; count = omega (arith, n.closing_count) };
             hi = n.hi;
             low = omega (arith, n.low);
-            cut = subst (λ x. Cut h.touched (view h u) h.first (left_texts n.xs g.before) (Some x)
-                (node (spanned h.setting.text (layer_of_two (marks_of h.setting.rules.options) d) n.x n.v) a.inside nil)
-                n.hi) (sym root_is)
-                (layer_inside h.touched (view h t) h.first n.x (left_texts n.xs g.before) inner a.inside n.hi (view h u)
-                (spanned h.setting.text (layer_of_two (marks_of h.setting.rules.options) d) n.x n.v).part n.peeled
-                n.root_touched written);
-            right = subst (λ l. Holds (view h u) l (texts n.vs g.after))
-                (texts_link (view h u) _ (c.number + 2) n.vs g.after some n.closing
-                right) right;
+            cut = rw root_is (layer_inside h.touched (view h t) h.first n.x (left_texts n.xs g.before) inner a.inside
+                n.hi (view h u) layer.part n.peeled n.root_touched written);
+            right = rw (← (texts_link (view h u) _ (c.number + 2) n.vs g.after some n.closing right)) right;
             rises = subst (λ x. Rises h.touched x (texts n.vs g.after) h.bound) n.end_is n.rises;
             left_touched = n.left_touched;
             inside_touched = (n.root_touched, tt);
             right_touched = n.right_touched;
             few = subst (λ x. x ≤ 2 ^ 63) (sym w.nodes.size) a.stands.few;
           };
-          same = sym (z.layers_are h.setting d) ∙ a.same;
+          same = sym (z.layers_are (λ l. absurd (omega (arith, l))) h.setting d) ∙ a.same;
           left_is = omega (arith, a.left_is);
-          kept = k;
+          kept = layer_kept h t o c inner _ 2 n _ _ is u _ _ None w root_is end_is s a.kept;
         }
 
     -- the outermost layer
-    outermost : (n : ℕ) (next : NextLayer h (around h t o c inner g.before a.inside g.after a.opening a.closing) t o c
-        inner n)
-        (shape : List ℕ → Shape) → IsLayer b shape → (root end : ℕ) (rest : Option ℕ) → root ≡ next.x.tag → end
-        ≡ next.v.tag
-        → rest ≡ (view h t).next end → LayerWritten n rest root end → (made : Layers ℕ)
-        → made ≡ record {
-          whole = node (spanned h.setting.text shape next.x next.v) a.inside nil;
-          opening = next.xs;
-          closing = next.vs;
-        }
-        → IsEnclosed h g s u made root rest
-    outermost n next shape is root end rest root_is end_is rest_is w made e =
-        let written = layer_written h t o c inner g.before a.inside g.after _ n next b shape is u root end rest w
-        root_is end_is in
+    abbrev IsDone : ℕ → Option ℕ → Type 0
+    IsDone root rest = IsEnclosed h g s u (layers h.setting d g.opening g.closing g.inside) root rest
+
+    outermost : (n : ℕ) (shape : Setting → Delimiter → List ℕ → Shape)
+        (z : LayerOf h t o c inner g.before a.inside g.after n shape a.opening a.closing) → left ≡ n
+        → IsLayer b (shape h.setting d) → (root end : ℕ) (rest : Option ℕ) → root ≡ o.number + (o.count - n)
+        → suc end ≡ c.number + n → rest ≡ (view h t).next end → LayerWritten rest root end → IsDone root rest
+    outermost n shape z l is root end rest e f rest_is w =
+        let next = z.next in
+        let layer : Label ℕ = spanned h.setting.text (shape h.setting d) next.x next.v in
+        let root_is : root ≡ next.x.tag = e ∙ sym next.root_is in
+        let end_is : end ≡ next.v.tag = omega (arith, f, next.end_is) in
+        let written = layer_written h t o c inner _ n next _ _ is u _ _ rest w root_is end_is in
         let here : rest ≡ (view h t).next next.v.tag = rest_is ∙ ap (view h t).next end_is in
         let low : next.hi ≤ suc next.v.tag = omega (arith, next.low, next.end_is) in
-        subst (λ (l : Layers ℕ). IsEnclosed h g s u l root rest) (sym e)
+        let none : min (length next.xs) (length next.vs) ≡ 0 =
+        omega (arith, l, a.left_is, next.opening_count, next.closing_count) in
+        subst (λ (l : Layers ℕ). IsEnclosed h g s u l root rest)
+        (sym (layers_end h.setting d next.xs next.vs (node layer a.inside nil) none)
+        ∙ sym (z.layers_are (λ _. none) h.setting d) ∙ a.same)
         (record {
-          whole = spanned h.setting.text shape next.x next.v;
+          whole = layer;
           inside = a.inside;
           cut = layer_last h.touched (view h t) h.first next.x (left_texts next.xs g.before) inner a.inside next.hi
-              (view h u)
-              (spanned h.setting.text shape next.x next.v).part next.peeled next.root_touched rest
-              (texts next.vs g.after) (suc next.v.tag)
-              h.bound low (subst (λ l. Holds (view h t) l (texts next.vs g.after)) (sym here) next.right) next.rises
-              written;
+              (view h u) layer.part next.peeled next.root_touched rest (texts next.vs g.after) (suc next.v.tag) h.bound
+              low (subst (λ l. Holds (view h t) l (texts next.vs g.after)) (sym here) next.right) next.rises written;
           whole_is = refl;
           last = sym root_is;
           left_touched = (next.root_touched, next.left_touched);
           right_touched = next.right_touched;
-          kept = layer_kept h t o c inner g.before a.inside g.after _ n next b shape is u root end rest w root_is end_is
-              s a.kept;
+          kept = layer_kept h t o c inner _ n next _ _ is u _ _ rest w root_is end_is s a.kept;
         })
 
     pub layers_two : IsLayer b (layer_of_two (marks_of h.setting.rules.options) d) → (root end : ℕ) (rest : Option ℕ)
         → root ≡ o.number + (o.count - 2) → end ≡ c.number + 1 → left ≡ 2 → rest ≡ (view h t).next end
-        → LayerWritten 2 rest root end
-        → IsEnclosed h g s u (layers h.setting d g.opening g.closing g.inside) root rest
+        → LayerWritten rest root end → IsDone root rest
     layers_two is root end rest e f l r w =
-        let z = two (omega (arith, l)) in
-        let n = z.next in
-        outermost 2 n _ is root end rest (e ∙ sym n.root_is) (omega (arith, f, n.end_is)) r w _
-        (sym a.same ∙ z.layers_are h.setting d
-        ∙ layers_end h.setting d n.xs n.vs _ (omega (arith, l, a.left_is, n.opening_count, n.closing_count)))
+        outermost 2 shape_of_two (two (omega (arith, l))) l is root end rest e (omega (arith, f)) r w
 
     pub layers_one : IsLayer b (layer_of_one (marks_of h.setting.rules.options) d) → (root : ℕ) (rest : Option ℕ)
         → root ≡ o.number + (o.count - 1) → left ≡ 1 → rest ≡ (view h t).next c.number
-        → LayerWritten 1 rest root c.number
-        → IsEnclosed h g s u (layers h.setting d g.opening g.closing g.inside) root rest
+        → LayerWritten rest root c.number → IsDone root rest
     layers_one is root rest e l r w =
-        let z = one (omega (arith, l)) in
-        let n = z.next in
-        outermost 1 n _ is root c.number rest (e ∙ sym n.root_is) (omega (arith, n.end_is)) r w _
-        (sym a.same ∙ z.layers_are (omega (arith, l, a.left_is, n.opening_count, n.closing_count)) h.setting d)
+        outermost 1 shape_of_one (one (omega (arith, l))) l is root c.number rest e (omega arith) r w
 
   -- the nodes of the next layer are there
   pub layers_fit : 0 < left → LayersFit t o c left inner

@@ -1,32 +1,17 @@
 -- If the trees of a chain are in order, each after the one before it, those that pairing leaves are too, at every
 -- depth.
-use Rattle.std.proofs.Common.{◌≡◌, ℕ, zero, suc, ◌<◌, ◌≤◌, Bool, true, false, List, [], ◌∷◌, map, Option, Some, None}
-use Rattle.std.proofs.Common.{refl, ap, sym, ◌∙◌}
-use Rattle.std.proofs.Common.{subst, arith, inl}
-use Rattle.std.specs.Prelude.{⊤, ◌⊎◌, IfSome, not, ◌&&◌}
+use Rattle.std.proofs.Common.{◌≡◌, ℕ, suc, ◌<◌, ◌≤◌, Bool, false, List, refl, sym, subst, arith, inl}
+use Rattle.std.specs.Prelude.{⊤, ◌⊎◌, IfSome}
 use Rattle.std.specs.Str.{IsCharBoundary}
-use Rattle.std.proofs.lemmas.Option.{IfSome_then}
 use Rattle.markdown_base.specs.Forest.{Forest, nil, node, Throughout, first_root}
-use Rattle.markdown_document.specs.Document.{Label, is_unresolved}
+use Rattle.markdown_document.specs.ChainRest.{joined_chains}
+use Rattle.markdown_document.specs.Document.{Label, is_unresolved, as_text}
 use Rattle.markdown_document.specs.Setting.{Setting}
-use Rattle.markdown_document.specs.Waiting.{text_if, as_closed}
-use Rattle.markdown_delims.specs.declared.run.Delimiter.{Delimiter}
-use Rattle.markdown_delims.specs.declared.run.Run.{Run}
-use Rattle.markdown_delims.specs.ChainStanding.{texts}
 use Rattle.markdown_delims.specs.Layers.{marks_of, layer_of_one, layer_of_two, spanned}
-use Rattle.markdown_delims.specs.MayPair.{may_pair}
-use Rattle.markdown_delims.specs.Pairing.{Read, done_read, waiting, texts_before, characters_done, read_trees}
-use Rattle.markdown_delims.specs.Pairing.{FoundOpener, nearest_opener, drop_read}
-use Rattle.markdown_delims.specs.Pairing.{Layers, layers, trees_done, still_waiting, last_first, opened_if, left_over}
-use Rattle.markdown_delims.specs.Pairing.{after_layers, first_texts}
-use Rattle.markdown_delims.specs.Pairing.{runs_paired, paired}
+use Rattle.markdown_delims.specs.Pairing.{paired}
 use Rattle.markdown_delims.specs.Quotes.{first_turn, quotes_after, with_quotes}
-use Rattle.markdown_delims.proofs.KeepLemmas.{EachTree, EachFound, IsClosedTree, IsClosed, Holds, holds-on}
-use Rattle.markdown_delims.proofs.KeepLemmas.{nearest-keeps, found-keeps, makes-closed}
-use Rattle.markdown_delims.proofs.KeepLemmas.{readable, paired-closed}
-use Rattle.markdown_delims.proofs.LayerLawLemmas.{two-closed}
-use Rattle.markdown_delims.proofs.PairingLemmas.{followed_by, nothing_follows}
-use Rattle.markdown_delims.proofs.StepLawLemmas.{later, StaysTrue, found-if, reads-stay}
+use Rattle.markdown_delims.proofs.ChainLawLemmas.{KeptByPairing, kept-by-pairing, nothing_follows}
+use Rattle.markdown_delims.proofs.KeepLemmas.{EachTree, IsClosedTree, paired-closed}
 
 -- the range of a label lies in a text, between characters
 pub record Lies (text : List ℕ) (a : Label ℕ) : Type 0 where
@@ -55,74 +40,6 @@ InOrder text deep i n (node a below after) =
     (i ≤ a.part.range.start) × (n ≤ a.tag) × Lies text a × AreRight text deep below
     × InOrder text deep a.part.range.end (suc a.tag) after
 
--- how what was read is followed
-dropped_trees : (d : Delimiter) (rs : List (Read ℕ)) (after : Forest (Label ℕ))
-    → read_trees (map (drop_read d) rs) after
-    ≡ read_trees rs after
-dropped_trees d [] after = refl
-dropped_trees d (done_read a below ∷ rs) after = dropped_trees d rs (node a below after)
-dropped_trees d (waiting dropped run xs ∷ rs) after = dropped_trees d rs (texts_before xs after)
-
-done_trees : (xs : List (Label ℕ)) (rs : List (Read ℕ)) (after : Forest (Label ℕ))
-    → read_trees (characters_done xs rs) after
-    ≡ read_trees rs (texts_before xs after)
-done_trees [] rs after = refl
-done_trees (x ∷ xs) rs after = done_trees xs rs (node x nil after)
-
-opened_trees : (b : Bool) (run : Run) (xs : List (Label ℕ)) (rs : List (Read ℕ)) (after : Forest (Label ℕ))
-    → read_trees (opened_if b run xs rs) after ≡ read_trees rs (texts_before xs after)
-opened_trees true run xs rs after = refl
-opened_trees false run xs rs after = done_trees xs rs after
-
-left_trees : (run : Run) (vs : List (Label ℕ)) (rs : List (Read ℕ)) (after : Forest (Label ℕ))
-    → read_trees (left_over run vs rs) after
-    ≡ read_trees rs (texts vs after)
-left_trees run vs rs after = opened_trees run.can_open run (last_first vs []) rs after
-    ∙ ap (read_trees rs) (sym (back vs []))
-  where
-    back : (vs xs : List (Label ℕ)) → texts_before xs (texts vs after) ≡ texts_before (last_first vs xs) after
-    back [] xs = refl
-    back (v ∷ vs) xs = back vs (v ∷ xs)
-
-still_trees : (run : Run) (xs : List (Label ℕ)) (rs : List (Read ℕ)) (after : Forest (Label ℕ))
-    → read_trees (still_waiting run xs rs) after
-    ≡ read_trees rs (texts_before xs after)
-still_trees run [] rs after = refl
-still_trees run (x ∷ xs) rs after = refl
-
-trees_follow : (f : Forest (Label ℕ)) (rs : List (Read ℕ)) (after : Forest (Label ℕ))
-    → read_trees (trees_done f rs) after
-    ≡ read_trees rs (followed_by f after)
-trees_follow nil rs after = refl
-trees_follow (node a below rest) rs after = trees_follow rest (done_read a below ∷ rs) after
-
--- an opener that was found, in the chain
-abbrev Splits : (Forest (Label ℕ) → Forest (Label ℕ)) → FoundOpener ℕ → Type 0
-Splits whole f = (after : Forest (Label ℕ)) → whole after
-    ≡ read_trees f.before (texts_before f.characters (followed_by f.inside after))
-
-follow_texts : (xs : List (Label ℕ)) (inside after : Forest (Label ℕ)) → followed_by (texts_before xs inside) after
-    ≡ texts_before xs (followed_by inside after)
-follow_texts [] inside after = refl
-follow_texts (x ∷ xs) inside after = follow_texts xs (node x nil inside) after
-
-split_at : (closer : Run) (rs : List (Read ℕ)) (inside : Forest (Label ℕ))
-    → IfSome (nearest_opener closer rs inside) (Splits (λ after. read_trees rs (followed_by inside after)))
-split_at closer [] inside = tt
-split_at closer (done_read a below ∷ rs) inside = split_at closer rs (node a below inside)
-split_at closer (waiting dropped run xs ∷ rs) inside =
-    found-if (Splits (λ after. read_trees rs (texts_before xs (followed_by inside after))))
-    (not dropped && may_pair run closer)
-    (record { inside = inside; run = run; characters = xs; before = rs })
-    (nearest_opener closer rs (texts_before xs inside)) (λ after. refl)
-    (IfSome_then (nearest_opener closer rs (texts_before xs inside)) (split_at closer rs (texts_before xs inside))
-    (λ f h after. ap (read_trees rs) (sym (follow_texts xs inside after)) ∙ h after))
-
-of_both : {X : Type 0} (o : Option X) (P Q R : X → Type 0) → IfSome o P → IfSome o Q → ((x : X) → P x → Q x → R x)
-    → IfSome o R
-of_both None P Q R p q f = tt
-of_both (Some x) P Q R p q f = f x p q
-
 module _ (text : List ℕ) (deep : ℕ → Type 0) where
   abbrev Ordered : (i n : ℕ) → Forest (Label ℕ) → Type 0
   Ordered i n f = InOrder text deep i n f
@@ -139,18 +56,6 @@ module _ (text : List ℕ) (deep : ℕ → Type 0) where
       → KeepsOrder (node a below f) (node a below g)
   under_tree a below f g h i n o = (o.0, o.1, o.2, o.3, h a.part.range.end (suc a.tag) o.4)
 
-  under_texts : (xs : List (Label ℕ)) (f g : Forest (Label ℕ)) → KeepsOrder f g
-      → KeepsOrder (texts_before xs f) (texts_before xs g)
-  under_texts [] f g h = h
-  under_texts (x ∷ xs) f g h = under_texts xs (node x nil f) (node x nil g) (under_tree x nil f g h)
-
-  under_read : (rs : List (Read ℕ)) (f g : Forest (Label ℕ)) → KeepsOrder f g
-      → KeepsOrder (read_trees rs f) (read_trees rs g)
-  under_read [] f g h = h
-  under_read (done_read a below ∷ rs) f g h = under_read rs (node a below f) (node a below g) (under_tree a below f g h)
-  under_read (waiting dropped run xs ∷ rs) f g h = under_read rs (texts_before xs f) (texts_before xs g)
-      (under_texts xs f g h)
-
   -- what comes after a chain
   pub record After (i n : ℕ) (f : Forest (Label ℕ)) : Type 0 where
     pub byte : ℕ
@@ -159,7 +64,7 @@ module _ (text : List ℕ) (deep : ℕ → Type 0) where
     pub numbers : n ≤ number
     pub ordered : Ordered byte number f
 
-  past : (i n : ℕ) (f after : Forest (Label ℕ)) → Ordered i n (followed_by f after) → After i n after
+  past : (i n : ℕ) (f after : Forest (Label ℕ)) → Ordered i n (joined_chains f after) → After i n after
   past i n nil after h = record { byte = i; number = n; bytes = omega arith; numbers = omega arith; ordered = h }
   past i n (node a below rest) after h =
       let r = past a.part.range.end (suc a.tag) rest after h.4 in
@@ -172,7 +77,7 @@ module _ (text : List ℕ) (deep : ℕ → Type 0) where
       }
 
   -- a chain in order, none of whose trees is open, is right
-  all_right : (i n : ℕ) (f after : Forest (Label ℕ)) → EachTree IsClosedTree f → Ordered i n (followed_by f after)
+  all_right : (i n : ℕ) (f after : Forest (Label ℕ)) → EachTree IsClosedTree f → Ordered i n (joined_chains f after)
       → AreRight text deep f
   all_right i n nil after c h = tt
   all_right i n (node a below nil) after c h = (inl (c.0, h.2, tt), h.3, tt)
@@ -186,7 +91,7 @@ module _ (text : List ℕ) (deep : ℕ → Type 0) where
   around : (x v made : Label ℕ) (inside after : Forest (Label ℕ)) → made.tag ≡ x.tag → made.part.range.start
       ≡ x.part.range.start
       → made.part.range.end ≡ v.part.range.end → EachTree IsClosedTree inside
-      → KeepsOrder (node x nil (followed_by inside (node v nil after))) (node made inside after)
+      → KeepsOrder (node x nil (joined_chains inside (node v nil after))) (node made inside after)
   around x v made inside after t b e c i n h =
       let r = past x.part.range.end (suc x.tag) inside (node v nil after) h.4 in
       let o = r.ordered in (
@@ -208,120 +113,39 @@ module _ (text : List ℕ) (deep : ℕ → Type 0) where
   without a below after i n h = earlier i a.part.range.end n (suc a.tag) after (omega (arith, h.0, h.2.ordered))
       (omega (arith, h.1)) h.4
 
-  without_last : (v : Label ℕ) (inside after : Forest (Label ℕ)) → KeepsOrder (followed_by inside (node v nil after))
-      (followed_by inside after)
+  without_last : (v : Label ℕ) (inside after : Forest (Label ℕ)) → KeepsOrder (joined_chains inside (node v nil after))
+      (joined_chains inside after)
   without_last v nil after = without v nil after
-  without_last v (node a below rest) after = under_tree a below (followed_by rest (node v nil after))
-      (followed_by rest after)
+  without_last v (node a below rest) after = under_tree a below (joined_chains rest (node v nil after))
+      (joined_chains rest after)
       (without_last v rest after)
 
   -- without the inner characters of two
   without_inner : (x v : Label ℕ) (inside after : Forest (Label ℕ))
-      → KeepsOrder (node x nil (followed_by inside (node v nil after)))
-      (followed_by inside after)
+      → KeepsOrder (node x nil (joined_chains inside (node v nil after)))
+      (joined_chains inside after)
   without_inner x v inside after i n h = without_last v inside after i n
-      (without x nil (followed_by inside (node v nil after)) i n h)
+      (without x nil (joined_chains inside (node v nil after)) i n h)
 
-  -- the characters of an opener and of a closer around a chain become layers
-  abbrev Made : Layers ℕ → Forest (Label ℕ) → Forest (Label ℕ)
-  Made l rest = texts_before l.opening (followed_by l.whole (texts l.closing rest))
+  -- a chain is in order from a byte offset and a number on
+  abbrev From : ℕ × ℕ → Forest (Label ℕ) → Type 0
+  From i chain = Ordered i.0 i.1 chain
 
-  layers_ordered : (s : Setting) (d : Delimiter) (xs vs : List (Label ℕ)) (inside rest : Forest (Label ℕ))
-      → EachTree IsClosedTree inside
-      → KeepsOrder (texts_before xs (followed_by inside (texts vs rest))) (Made (layers s d xs vs inside) rest)
-  layers_ordered s d [] vs inside rest c i n h = h
-  layers_ordered s d (x ∷ xs) [] inside rest c i n h = h
-  layers_ordered s d (x ∷ []) (v ∷ vs) inside rest c i n h = around x v
-      (spanned s.text (layer_of_one (marks_of s.rules.options) d) x v)
-      inside (texts vs rest) refl refl refl c i n h
-  layers_ordered s d (x ∷ y ∷ xs) (v ∷ []) inside rest c i n h = under_texts (y ∷ xs)
-      (node x nil (followed_by inside (node v nil rest)))
-      (node (spanned s.text (layer_of_one (marks_of s.rules.options) d) x v) inside rest)
-      (around x v (spanned s.text (layer_of_one (marks_of s.rules.options) d) x v) inside rest refl refl refl c) i n h
-  layers_ordered s d (x ∷ y ∷ xs) (v ∷ w ∷ vs) inside rest c i n h =
-      let made : Label ℕ = spanned s.text (layer_of_two (marks_of s.rules.options) d) y w in
-      let z : Forest (Label ℕ) = texts vs rest in
-      layers_ordered s d xs vs (node made inside nil) rest (two-closed (marks_of s.rules.options) d _, tt) i n
-      (under_texts xs (node y nil (node x nil (followed_by inside (node v nil (node w nil z))))) (node made inside z)
-      (λ j k o. around y w made inside z refl refl refl c j k
-      (o.0, o.1, o.2, o.3, without_inner x v inside (node w nil z) y.part.range.end (suc y.tag) o.4)) i n h)
-
-  -- a closer's characters, what was read and what is still to be read
-  abbrev StaysOrdered : Setting → List (Label ℕ) → List (Read ℕ) → Forest (Label ℕ) → Type 0
-  StaysOrdered s vs rs rest = Ordered 0 0 (read_trees rs (texts vs rest))
-      × Holds IsClosed IsClosedTree s (makes-closed s) vs rs rest
-
-  closed_tree : (source : List ℕ) (b : Bool) (a : Label ℕ) (below after : Forest (Label ℕ))
-      → KeepsOrder (node a below after)
-      (node (text_if b source a) below after)
-  closed_tree source true a below after i n h
-      = (h.0, h.1, record { ordered = h.2.ordered; start = h.2.start; end = h.2.end }, h.3, h.4)
-  closed_tree source false a below after i n h = h
-
-  firsts_ordered : (source : List ℕ) (n : ℕ) (chain : Forest (Label ℕ))
-      → KeepsOrder chain (texts (first_texts source n chain) (later n chain))
-  firsts_ordered source zero chain i k h = h
-  firsts_ordered source (suc n) nil i k h = h
-  firsts_ordered source (suc n) (node a below after) i k h = (
-    h.0,
-    h.1,
-    record { ordered = h.2.ordered; start = h.2.start; end = h.2.end },
-    tt,
-    firsts_ordered source n after a.part.range.end (suc a.tag) h.4,
-  )
-
-  pair_ordered : (s : Setting) (vs : List (Label ℕ)) (rs : List (Read ℕ)) (rest : Forest (Label ℕ)) (f : FoundOpener ℕ)
-      → Ordered 0 0 (read_trees rs (texts vs rest)) → Splits (λ after. read_trees rs after) f
-      → EachTree IsClosedTree f.inside
-      → (let l : Layers ℕ = layers s f.run.delimiter f.characters vs f.inside in
-      Ordered 0 0 (read_trees (after_layers f l) (texts l.closing rest)))
-  pair_ordered s vs rs rest f h split closed =
-      let l : Layers ℕ = layers s f.run.delimiter f.characters vs f.inside in
-      subst (λ g. Ordered 0 0 g)
-      (sym (trees_follow l.whole (still_waiting f.run l.opening f.before) (texts l.closing rest)
-      ∙ still_trees f.run l.opening f.before (followed_by l.whole (texts l.closing rest))))
-      (under_read f.before (texts_before f.characters (followed_by f.inside (texts vs rest))) (Made l rest)
-      (layers_ordered s f.run.delimiter f.characters vs f.inside rest closed) 0 0
-      (subst (λ g. Ordered 0 0 g) (split (texts vs rest)) h))
-
-  ordered_on : (s : Setting) → StaysTrue s (StaysOrdered s)
-  ordered_on s =
-      let closed = holds-on IsClosed IsClosedTree s (makes-closed s) in
-      record {
-        tree = λ a below after rs h. (
-          under_read rs (node a below after) (node (as_closed s.text a) below after)
-              (closed_tree s.text (is_unresolved a.part.shape) a below
-              after) 0 0 h.0,
-          closed.tree a below after rs h.1,
-        );
-        skip = λ a below after rs h. (
-          under_read rs (node a below after) after (without a below after) 0 0 h.0,
-          closed.skip a below after rs
-              h.1,
-        );
-        texts = λ n chain rs h. (
-          under_read rs chain (texts (first_texts s.text n chain) (later n chain)) (firsts_ordered s.text n chain) 0 0
-              h.0,
-          closed.texts n chain rs h.1,
-        );
-        dropped = λ d vs rs rest h. (
-          subst (λ f. Ordered 0 0 f) (sym (dropped_trees d rs (texts vs rest))) h.0,
-          closed.dropped d vs rs rest h.1,
-        );
-        left = λ closer vs rs rest h. (
-          subst (λ f. Ordered 0 0 f) (sym (left_trees closer vs rs rest)) h.0,
-          closed.left closer vs rs rest h.1,
-        );
-        found = λ closer vs rs rest h. of_both (nearest_opener closer rs nil) (Splits (λ after. read_trees rs after))
-            (EachFound IsClosed IsClosedTree)
-            (λ f. let l : Layers ℕ = layers s f.run.delimiter f.characters vs f.inside in
-            StaysOrdered s l.closing (after_layers f l) rest) (split_at closer rs nil)
-            (nearest-keeps IsClosed IsClosedTree s (makes-closed s) closer rs nil h.1.1 tt)
-            (λ f split keeps. (
-              pair_ordered s vs rs rest f h.0 split keeps.0,
-              found-keeps IsClosed IsClosedTree s (makes-closed s) vs rest f h.1.0 h.1.2 keeps,
-            ));
-      }
+  ordered_kept : (s : Setting) → KeptByPairing s From
+  ordered_kept s = record {
+    behind = λ a below f g l i h. (h.0, h.1, h.2, h.3, l (a.part.range.end, suc a.tag) h.4);
+    text = λ a below f g l i h.
+        (h.0, h.1, as_text_lies s.text a h.2, tt, l (a.part.range.end, suc a.tag) h.4);
+    closed = λ a below after i h. (h.0, h.1, as_text_lies s.text a h.2, h.3, h.4);
+    one = λ d x v inside rest c i. around x v (spanned s.text (layer_of_one (marks_of s.rules.options) d) x v) inside
+        rest refl refl refl c i.0 i.1;
+    two = λ d x y v w inside rest c i h.
+        around y w (spanned s.text (layer_of_two (marks_of s.rules.options) d) y w) inside rest refl refl refl c i.0 i.1
+        (h.0, h.1, h.2, h.3, without_inner x v inside (node w nil rest) y.part.range.end (suc y.tag) h.4);
+  }
+    where
+      as_text_lies : (source : List ℕ) (a : Label ℕ) → Lies text a → Lies text (as_text source a)
+      as_text_lies source a l = record { ordered = l.ordered; start = l.start; end = l.end }
 
   quotes_ordered : (single double : Bool) (chain : Forest (Label ℕ))
       → KeepsOrder chain (quotes_after single double chain)
@@ -337,10 +161,9 @@ module _ (text : List ℕ) (deep : ℕ → Type 0) where
 
   -- the whole chain
   pub paired_right : (s : Setting) (chain : Forest (Label ℕ)) → Ordered 0 0 chain → AreRight text deep (paired s chain)
-  unfolding paired runs_paired with_quotes
+  unfolding paired with_quotes
   paired_right s chain h =
-      let quoted : Forest (Label ℕ) = quotes_after false false chain in
-      let r = reads-stay s (StaysOrdered s) (ordered_on s) 0 quoted []
-      (quotes_ordered false false chain 0 0 h, (tt, tt, readable s quoted)) in
       all_right 0 0 (paired s chain) nil (paired-closed s chain)
-      (subst (λ f. Ordered 0 0 f) (sym (nothing_follows (paired s chain))) r.0)
+      (rw (nothing_follows (paired s chain))
+      (kept-by-pairing s From (ordered_kept s) (0, 0) (quotes_after false false chain)
+      (quotes_ordered false false chain 0 0 h)))

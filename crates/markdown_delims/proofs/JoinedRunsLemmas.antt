@@ -1,10 +1,9 @@
 -- In a chain in which the tag of each character is its run, each tree that is made from a run is a character of it, or
 -- joins it to a run with which it may pair: this holds for all that is read, since the characters of a closer belong to
 -- one run, and so do those of an open run.
-use Rattle.std.proofs.Common.{◌≡◌, inl, inr, ℕ, zero, suc, ◌-◌, Bool, true, false, List, [], ◌∷◌, map, Option, Some}
-use Rattle.std.proofs.Common.{None, refl, ap, sym}
-use Rattle.std.proofs.Common.{subst, ◌∙◌, arith}
-use Rattle.std.specs.Prelude.{⊤, IfSome, not, ◌&&◌}
+use Rattle.std.proofs.Common.{◌≡◌, inl, inr, ℕ, zero, suc, ◌-◌, Bool, true, false, List, [], ◌∷◌, Option, Some, None}
+use Rattle.std.proofs.Common.{refl, ap, sym, subst, ◌∙◌, arith}
+use Rattle.std.specs.Prelude.{⊤}
 use Rattle.std.specs.List.{AllByRecursion}
 use Rattle.std.specs.declared.ops.Range.{Range}
 use Rattle.markdown_base.specs.Forest.{Forest, nil, node}
@@ -17,16 +16,16 @@ use Rattle.markdown_delims.specs.declared.run.Run.{Run}
 use Rattle.markdown_delims.specs.JoinedRuns.{HasCharacter, IsMadeOfRun, JoinedLaw, JoinsRuns}
 use Rattle.markdown_delims.specs.Layers.{marks_of, layer_of_one, layer_of_two, run_of, spanned}
 use Rattle.markdown_delims.specs.MayPair.{may_pair}
-use Rattle.markdown_delims.specs.Pairing.{Read, done_read, waiting, texts_before, characters_done, read_trees}
-use Rattle.markdown_delims.specs.Pairing.{FoundOpener, nearest_opener, drop_read}
-use Rattle.markdown_delims.specs.Pairing.{Layers, layers, trees_done, still_waiting, last_first, opened_if, left_over}
-use Rattle.markdown_delims.specs.Pairing.{after_layers}
-use Rattle.markdown_delims.specs.Pairing.{first_texts, reads_from, runs_paired, paired}
+use Rattle.markdown_delims.specs.Pairing.{Read, done_read, read_trees, FoundOpener, nearest_opener, Layers, layers}
+use Rattle.markdown_delims.specs.Pairing.{still_waiting, last_first, left_over, after_layers, first_texts, reads_from}
+use Rattle.markdown_delims.specs.Pairing.{runs_paired, paired}
 use Rattle.markdown_delims.specs.PairingLaws.{RunAt, further, no_run, run_at, with_runs}
 use Rattle.markdown_delims.specs.Quotes.{first_turn, quotes_after, with_quotes}
+use Rattle.markdown_delims.proofs.KeepLemmas.{EachTree, EachReadOf, FoundOf, AreTexts, dropped-keep, done-trees-keep}
+use Rattle.markdown_delims.proofs.KeepLemmas.{nearest-keeps-of, opened-keeps, still-keeps, trees-keep, turned-all}
 use Rattle.markdown_delims.proofs.LawLemmas.{joins-law}
 use Rattle.markdown_delims.proofs.MissedLawLemmas.{quotes_told}
-use Rattle.markdown_delims.proofs.StepLawLemmas.{StaysTrueOf, found-if, later, reads-stay-of}
+use Rattle.markdown_delims.proofs.StepLawLemmas.{StaysTrueOf, later, of_both, reads-stay-of}
 
 abbrev MaybeRun : Type 0
 MaybeRun = Option RunAt
@@ -55,10 +54,6 @@ fresh : (before : MaybeRun) (source : List ℕ) (chain : Forest Character) → F
 fresh before source nil h = tt
 fresh before source (node a below after) h = h
 
-both : {X : Type 0} (o : Option X) (p q : X → Type 0) → IfSome o p → IfSome o q → IfSome o (λ x. p x × q x)
-both None p q h k = tt
-both (Some x) p q h k = (h, k)
-
 module _ (whole : Forest Character) where
   -- a character of this run, as it is in the chain
   abbrev IsOf : RunAt → Character → Type 0
@@ -73,10 +68,11 @@ module _ (whole : Forest Character) where
   IsTree a below = IsMadeOfRun whole a.tag a.part.range below × JoinsRuns whole below
 
   -- what was read
+  abbrev IsOpen : Run → List Character → Type 0
+  IsOpen run xs = (run.can_open ≡ true) × AreOf run xs
+
   abbrev AllRead : List (Read MaybeRun) → Type 0
-  AllRead [] = ⊤
-  AllRead (done_read a below ∷ rs) = IsTree a below × AllRead rs
-  AllRead (waiting dropped run xs ∷ rs) = (run.can_open ≡ true) × AreOf run xs × AllRead rs
+  AllRead rs = EachReadOf IsOpen IsTree rs
 
   -- what is still to be read
   abbrev AreThere : Forest Character → Type 0
@@ -88,72 +84,23 @@ module _ (whole : Forest Character) where
   stays_text : (p : RunAt) (x : Character) → IsOf p x → IsTree x nil
   stays_text p x h = (subst (λ t. IsMadeOfRun whole t x.part.range nil) (sym h.0) (inl (refl, h.1)), tt)
 
-  texts_join : (p : RunAt) (xs : List Character) (chain : Forest Character) → AllByRecursion (IsOf p) xs
-      → JoinsRuns whole chain
-      → JoinsRuns whole (texts_before xs chain)
-  texts_join p [] chain a h = h
-  texts_join p (x ∷ xs) chain a h = texts_join p xs (node x nil chain) a.1 ((stays_text p x a.0).0, tt, h)
+  are_texts : (p : RunAt) (xs : List Character) → AllByRecursion (IsOf p) xs → AreTexts IsOpen IsTree xs
+  are_texts p [] a = tt
+  are_texts p (x ∷ xs) a = (stays_text p x a.0, are_texts p xs a.1)
 
-  trees_join : (rs : List (Read MaybeRun)) (chain : Forest Character) → AllRead rs → JoinsRuns whole chain
-      → JoinsRuns whole (read_trees rs chain)
-  trees_join [] chain r h = h
-  trees_join (done_read a below ∷ rs) chain r h = trees_join rs (node a below chain) r.1 (r.0.0, r.0.1, h)
-  trees_join (waiting dropped run xs ∷ rs) chain r h = trees_join rs (texts_before xs chain) r.2
-      (texts_join r.1.at xs chain r.1.all h)
+  open_texts : (run : Run) (xs : List Character) → IsOpen run xs → AreTexts IsOpen IsTree xs
+  open_texts run xs h = are_texts h.1.at xs h.1.all
 
-  done_join : (p : RunAt) (xs : List Character) (rs : List (Read MaybeRun)) → AllByRecursion (IsOf p) xs → AllRead rs
-      → AllRead (characters_done xs rs)
-  done_join p [] rs a r = r
-  done_join p (x ∷ xs) rs a r = (stays_text p x a.0, done_join p xs rs a.1 r)
-
-  turned_of : (p : RunAt) (xs ys : List Character) → AllByRecursion (IsOf p) xs → AllByRecursion (IsOf p) ys
-      → AllByRecursion (IsOf p) (last_first xs ys)
-  turned_of p [] ys a b = b
-  turned_of p (x ∷ xs) ys a b = turned_of p xs (x ∷ ys) a.1 (a.0, b)
-
-  opened_join : (b : Bool) (run : Run) (xs : List Character) (rs : List (Read MaybeRun)) → run.can_open ≡ b
-      → AreOf run xs → AllRead rs
-      → AllRead (opened_if b run xs rs)
-  opened_join true run xs rs e a r = (e, a, r)
-  opened_join false run xs rs e a r = done_join a.at xs rs a.all r
+  each_joins : (f : Forest Character) → EachTree IsTree f → JoinsRuns whole f
+  each_joins nil h = tt
+  each_joins (node a below after) h = (h.0.0, h.0.1, each_joins after h.1)
 
   left_join : (closer : Run) (vs : List Character) (rs : List (Read MaybeRun)) → AreOf closer vs → AllRead rs
       → AllRead (left_over closer vs rs)
   left_join closer vs rs a r =
-      opened_join closer.can_open closer (last_first vs []) rs refl
-      (record { at = a.at; same = a.same; all = turned_of a.at vs [] a.all tt }) r
-
-  dropped_join : (d : Delimiter) (rs : List (Read MaybeRun)) → AllRead rs → AllRead (map (drop_read d) rs)
-  dropped_join d [] r = r
-  dropped_join d (done_read a below ∷ rs) r = (r.0, dropped_join d rs r.1)
-  dropped_join d (waiting dropped run xs ∷ rs) r = (r.0, r.1, dropped_join d rs r.2)
-
-  still_join : (run : Run) (xs : List Character) (rs : List (Read MaybeRun)) → run.can_open ≡ true → AreOf run xs
-      → AllRead rs
-      → AllRead (still_waiting run xs rs)
-  still_join run [] rs o a r = r
-  still_join run (x ∷ xs) rs o a r = (o, a, r)
-
-  trees_read : (f : Forest Character) (rs : List (Read MaybeRun)) → JoinsRuns whole f → AllRead rs
-      → AllRead (trees_done f rs)
-  trees_read nil rs h r = r
-  trees_read (node a below after) rs h r = trees_read after (done_read a below ∷ rs) h.2 ((h.0, h.1), r)
-
-  -- an opener that was found
-  abbrev FoundJoins : FoundOpener MaybeRun → Type 0
-  FoundJoins f = (f.run.can_open ≡ true) × AreOf f.run f.characters × AllRead f.before × JoinsRuns whole f.inside
-
-  nearest_found : (closer : Run) (rs : List (Read MaybeRun)) (inside : Forest Character) → AllRead rs
-      → JoinsRuns whole inside
-      → IfSome (nearest_opener closer rs inside) FoundJoins
-  nearest_found closer [] inside r h = tt
-  nearest_found closer (done_read a below ∷ rs) inside r h = nearest_found closer rs (node a below inside) r.1
-      (r.0.0, r.0.1, h)
-  nearest_found closer (waiting dropped run xs ∷ rs) inside r h =
-      found-if FoundJoins (not dropped && may_pair run closer)
-      (record { inside = inside; run = run; characters = xs; before = rs })
-      (nearest_opener closer rs (texts_before xs inside)) (r.0, r.1, r.2, h)
-      (nearest_found closer rs (texts_before xs inside) r.2 (texts_join r.1.at xs inside r.1.all h))
+      let all = turned-all (IsOf a.at) vs [] a.all tt in
+      opened-keeps IsOpen IsTree closer.can_open closer (last_first vs []) rs
+      (λ e. (e, record { at = a.at; same = a.same; all = all })) (are_texts a.at (last_first vs []) all) r
 
   -- an opener p and a closer q that may pair
   record MayJoin (p q : RunAt) : Type 0 where
@@ -164,36 +111,38 @@ module _ (whole : Forest Character) where
   module _ (s : Setting) (p q : RunAt) (m : MayJoin p q) where
     -- a layer joins them
     layer_joins : (shape : List ℕ → Shape) (x v : Character) (inside : Forest Character) → IsOf p x → IsOf q v
-        → IsMadeOfRun whole (spanned s.text shape x v).tag (spanned s.text shape x v).part.range inside
-    layer_joins shape x v inside h k =
-        let range : Range ℕ = (spanned s.text shape x v).part.range in
-        subst (λ t. IsMadeOfRun whole t range inside) (sym h.0) (inr (record {
-          closer = q;
-          begins = has_other p (λ own. own ≡ x.part.range) (λ own. own.start ≡ range.start)
-              (λ r e. ap (λ (r : Range ℕ). r.start) e) whole
-              h.1;
-          ends = has_other q (λ own. own ≡ v.part.range) (λ own. own.end ≡ range.end)
-              (λ r e. ap (λ (r : Range ℕ). r.end) e) whole k.1;
-          can_open = m.can_open;
-          can_close = m.can_close;
-          may = m.may;
-        }))
+        → EachTree IsTree inside → IsTree (spanned s.text shape x v) inside
+    layer_joins shape x v inside h k i =
+        let range : Range ℕ = (spanned s.text shape x v).part.range in (
+          subst (λ t. IsMadeOfRun whole t range inside) (sym h.0) (inr (record {
+            closer = q;
+            begins = has_other p (λ own. own ≡ x.part.range) (λ own. own.start ≡ range.start)
+                (λ r e. ap (λ (r : Range ℕ). r.start) e) whole
+                h.1;
+            ends = has_other q (λ own. own ≡ v.part.range) (λ own. own.end ≡ range.end)
+                (λ r e. ap (λ (r : Range ℕ). r.end) e) whole k.1;
+            can_open = m.can_open;
+            can_close = m.can_close;
+            may = m.may;
+          })),
+          each_joins inside i,
+        )
 
     abbrev AreMade : Layers MaybeRun → Type 0
-    AreMade l = JoinsRuns whole l.whole × AllByRecursion (IsOf p) l.opening × AllByRecursion (IsOf q) l.closing
+    AreMade l = EachTree IsTree l.whole × AllByRecursion (IsOf p) l.opening × AllByRecursion (IsOf q) l.closing
 
     layers_join : (d : Delimiter) (xs vs : List Character) (inside : Forest Character) → AllByRecursion (IsOf p) xs
-        → AllByRecursion (IsOf q) vs → JoinsRuns whole inside → AreMade (layers s d xs vs inside)
+        → AllByRecursion (IsOf q) vs → EachTree IsTree inside → AreMade (layers s d xs vs inside)
     layers_join d [] vs inside a b h = (h, tt, b)
     layers_join d (x ∷ xs) [] inside a b h = (h, a, tt)
     layers_join d (x ∷ []) (v ∷ vs) inside a b h =
-        ((layer_joins (layer_of_one (marks_of s.rules.options) d) x v inside a.0 b.0, h, tt), tt, b.1)
+        ((layer_joins (layer_of_one (marks_of s.rules.options) d) x v inside a.0 b.0 h, tt), tt, b.1)
     layers_join d (x ∷ y ∷ xs) (v ∷ []) inside a b h =
-        ((layer_joins (layer_of_one (marks_of s.rules.options) d) x v inside a.0 b.0, h, tt), a.1, tt)
+        ((layer_joins (layer_of_one (marks_of s.rules.options) d) x v inside a.0 b.0 h, tt), a.1, tt)
     layers_join d (x ∷ y ∷ xs) (v ∷ w ∷ vs) inside a b h =
         let shape : List ℕ → Shape = layer_of_two (marks_of s.rules.options) d in
         layers_join d xs vs (node (spanned s.text shape y w) inside nil) a.1.1 b.1.1
-        (layer_joins shape y w inside a.1.0 b.1.0, h, tt)
+        (layer_joins shape y w inside a.1.0 b.1.0 h, tt)
 
   module _ (s : Setting) where
     -- the characters of a closer, what was read, and what is still to be read
@@ -202,24 +151,27 @@ module _ (whole : Forest Character) where
 
     pair_joins : (closer : Run) (vs : List Character) (rest : Forest Character) (f : FoundOpener MaybeRun)
         → closer.can_close ≡ true
-        → AreOf closer vs → Follows 0 None s.text rest × AreThere rest → may_pair f.run closer ≡ true → FoundJoins f
+        → AreOf closer vs → Follows 0 None s.text rest × AreThere rest → may_pair f.run closer ≡ true
+        → FoundOf IsOpen IsTree f
         → AreOf closer (layers s f.run.delimiter f.characters vs f.inside).closing
         × HoldsOf (layers s f.run.delimiter f.characters vs f.inside).closing
         (after_layers f (layers s f.run.delimiter f.characters vs f.inside)) rest
     pair_joins closer vs rest f c a follows may g =
-        let p : RunAt = g.1.at in
+        let o = g.1.1 in
+        let p : RunAt = o.at in
         let q : RunAt = a.at in
         let m : MayJoin p q = record {
-          can_open = ap (λ (r : Run). r.can_open) g.1.same ∙ g.0;
+          can_open = ap (λ (r : Run). r.can_open) o.same ∙ g.1.0;
           can_close = ap (λ (r : Run). r.can_close) a.same ∙ c;
-          may = ap (λ (r : Run). may_pair r q.run) g.1.same ∙ ap (may_pair f.run) a.same ∙ may;
+          may = ap (λ (r : Run). may_pair r q.run) o.same ∙ ap (may_pair f.run) a.same ∙ may;
         } in
         let made : Layers MaybeRun = layers s f.run.delimiter f.characters vs f.inside in
-        let l = layers_join s p q m f.run.delimiter f.characters vs f.inside g.1.all a.all g.3 in (
+        let l = layers_join s p q m f.run.delimiter f.characters vs f.inside o.all a.all g.0 in (
           record { at = q; same = a.same; all = l.2 },
           (
-            trees_read made.whole (still_waiting f.run made.opening f.before) l.0
-                (still_join f.run made.opening f.before g.0 (record { at = p; same = g.1.same; all = l.1 }) g.2),
+            done-trees-keep IsOpen IsTree made.whole (still_waiting f.run made.opening f.before) l.0
+                (still-keeps IsOpen IsTree f.run made.opening f.before
+                (g.1.0, record { at = p; same = o.same; all = l.1 }) g.2),
             follows.0,
             follows.1,
           ),
@@ -242,11 +194,8 @@ module _ (whole : Forest Character) where
     of_length zero p a below after e f h = firsts_of 0 p after f h.2
     of_length (suc n) p a below after e f h =
         let one : suc n - 1 ≡ n = omega arith in
-        let k = firsts_of n p after (subst (λ k. Follows k (Some p) s.text after) one f) h.2 in (
-          ((e, h.0 p e), k.0),
-          subst (λ k. Follows 0 None s.text (later k after)) (sym one) k.1,
-          subst (λ k. AreThere (later k after)) (sym one) k.2,
-        )
+        let k = firsts_of n p after (subst (λ k. Follows k (Some p) s.text after) one f) h.2 in
+        (((e, h.0 p e), k.0), rw one k.1, rw one k.2)
 
     run_holds : (run : Run) (a : Character) (below after : Forest Character) (rs : List (Read MaybeRun))
         → run_of s.text a.part ≡ Some run
@@ -279,22 +228,16 @@ module _ (whole : Forest Character) where
     join_on = record {
       tree = λ a below after rs e h. tree_holds a below after rs e h;
       run = λ run a below after rs e h. run_holds run a below after rs e h;
-      dropped = λ d vs rs rest h. (dropped_join d rs h.0, h.1, h.2);
+      dropped = λ d vs rs rest h. (dropped-keep IsOpen IsTree d rs h.0, h.1, h.2);
       left = λ closer vs rs rest a h. (left_join closer vs rs a h.0, h.1, h.2);
-      found = λ closer vs rs rest c a h. pairs (nearest_opener closer rs nil) closer vs rest c a (h.1, h.2)
-          (both (nearest_opener closer rs nil) (λ f. may_pair f.run closer ≡ true) FoundJoins (joins-law closer rs nil)
-          (nearest_found closer rs nil h.0 tt));
+      found = λ closer vs rs rest c a h. of_both (nearest_opener closer rs nil)
+          (λ f. may_pair f.run closer ≡ true) (FoundOf IsOpen IsTree)
+          (λ f. AreOf closer (layers s f.run.delimiter f.characters vs f.inside).closing
+          × HoldsOf (layers s f.run.delimiter f.characters vs f.inside).closing
+          (after_layers f (layers s f.run.delimiter f.characters vs f.inside)) rest)
+          (joins-law closer rs nil) (nearest-keeps-of IsOpen IsTree open_texts closer rs nil h.0 tt)
+          (λ f may g. pair_joins closer vs rest f c a (h.1, h.2) may g);
     }
-      where
-        pairs : (o : Option (FoundOpener MaybeRun)) (closer : Run) (vs : List Character) (rest : Forest Character)
-            → closer.can_close ≡ true
-            → AreOf closer vs → Follows 0 None s.text rest × AreThere rest
-            → IfSome o (λ f. (may_pair f.run closer ≡ true) × FoundJoins f)
-            → IfSome o (λ f. AreOf closer (layers s f.run.delimiter f.characters vs f.inside).closing
-            × HoldsOf (layers s f.run.delimiter f.characters vs f.inside).closing
-            (after_layers f (layers s f.run.delimiter f.characters vs f.inside)) rest)
-        pairs None closer vs rest c a follows h = tt
-        pairs (Some f) closer vs rest c a follows h = pair_joins closer vs rest f c a follows h.0 h.1
 
     -- quotes leave characters where they are
     quotes_there : (single double : Bool) (chain : Forest Character) → AreThere chain
@@ -311,7 +254,8 @@ module _ (whole : Forest Character) where
         → JoinsRuns whole (runs_paired s chain)
     unfolding runs_paired
     reads_join chain f h =
-        trees_join (reads_from s 0 chain []) nil (reads-stay-of s AreOf HoldsOf join_on 0 chain [] (tt, f, h)).0 tt
+        each_joins (read_trees (reads_from s 0 chain []) nil) (trees-keep IsOpen IsTree open_texts
+        (reads_from s 0 chain []) nil (reads-stay-of s AreOf HoldsOf join_on 0 chain [] (tt, f, h)).0 tt)
 
 -- below the trees of a chain with its runs told are none
 none_below : {A : Type 0} (whole : Forest Character) (f : Forest (Label A)) → JoinsRuns whole (retagged no_run f)
@@ -353,6 +297,5 @@ unfolding paired with_quotes
 joined-law {A} s chain =
     let told : Forest Character = with_runs s 0 None chain in
     reads_join told s (quotes_after false false told)
-    (subst (Follows 0 None s.text) (sym (quotes_told s 0 None chain false false))
-    (runs_follow s 0 None (quotes_after false false chain)))
+    (rw (quotes_told s 0 None chain false false) (runs_follow s 0 None (quotes_after false false chain)))
     (quotes_there told s false false told (runs_there s told 0 None chain (λ p r k. k)))

@@ -1,7 +1,7 @@
 -- What holds for the characters of a chain as Texts and for its trees, and for a layer if it holds for what the layer
 -- is made from, holds for each tree that pairing makes from the chain. So nothing of the chain stays open.
 use Rattle.std.proofs.Common.{◌≡◌, ℕ, zero, suc, Bool, true, false, List, [], ◌∷◌, refl, map}
-use Rattle.std.specs.Prelude.{⊤, IfSome, not, ◌&&◌, slice_range}
+use Rattle.std.specs.Prelude.{⊤, IfSome, not, ◌&&◌}
 use Rattle.std.specs.List.{AllByRecursion}
 use Rattle.std.proofs.lemmas.Option.{IfSome_then}
 use Rattle.markdown_base.specs.Forest.{Forest, nil, node}
@@ -13,10 +13,9 @@ use Rattle.markdown_delims.specs.declared.run.Run.{Run}
 use Rattle.markdown_delims.specs.Layers.{marks_of, layer_of_one, layer_of_two, spanned}
 use Rattle.markdown_delims.specs.MayPair.{may_pair}
 use Rattle.markdown_delims.specs.Pairing.{Read, done_read, waiting, texts_before, characters_done, read_trees}
-use Rattle.markdown_delims.specs.Pairing.{FoundOpener, nearest_opener, drop_read}
-use Rattle.markdown_delims.specs.Pairing.{Layers, layers, trees_done, still_waiting, last_first, opened_if}
-use Rattle.markdown_delims.specs.Pairing.{after_layers}
-use Rattle.markdown_delims.specs.Pairing.{first_texts, reads_from, runs_paired, paired}
+use Rattle.markdown_delims.specs.Pairing.{FoundOpener, nearest_opener, drop_read, Layers, layers, trees_done}
+use Rattle.markdown_delims.specs.Pairing.{still_waiting, last_first, opened_if, after_layers, first_texts, reads_from}
+use Rattle.markdown_delims.specs.Pairing.{runs_paired, paired}
 use Rattle.markdown_delims.specs.Quotes.{with_quotes}
 use Rattle.markdown_delims.proofs.LayerLawLemmas.{one-closed, two-closed}
 use Rattle.markdown_delims.proofs.StepLawLemmas.{later, StaysTrue, found-if, reads-stay}
@@ -35,57 +34,100 @@ pub record MakesTrees {A : Type 0} (s : Setting) (c : Label A → Type 0) (t : L
   pub two : (d : Delimiter) (x v : Label A) (inside : Forest (Label A)) → c x → EachTree t inside
       → t (spanned s.text (layer_of_two (marks_of s.rules.options) d) x v) inside
 
+pub turned-all : {A : Type 0} (c : Label A → Type 0) (xs ys : List (Label A)) → AllByRecursion c xs
+    → AllByRecursion c ys → AllByRecursion c (last_first xs ys)
+turned-all c [] ys h k = k
+turned-all c (x ∷ xs) ys h k = turned-all c xs (x ∷ ys) h.1 (h.0, k)
+
+-- w holds of each run that is open, with its characters, and t of each tree that was read
+module _ {A : Type 0} (w : Run → List (Label A) → Type 0) (t : Label A → Forest (Label A) → Type 0) where
+  abbrev pub EachReadOf : List (Read A) → Type 0
+  EachReadOf [] = ⊤
+  EachReadOf (done_read a below ∷ rs) = t a below × EachReadOf rs
+  EachReadOf (waiting dropped run xs ∷ rs) = w run xs × EachReadOf rs
+
+  abbrev pub FoundOf : FoundOpener A → Type 0
+  FoundOf f = EachTree t f.inside × w f.run f.characters × EachReadOf f.before
+
+  pub dropped-keep : (d : Delimiter) (rs : List (Read A)) → EachReadOf rs → EachReadOf (map (drop_read d) rs)
+  dropped-keep d [] h = h
+  dropped-keep d (done_read a below ∷ rs) h = (h.0, dropped-keep d rs h.1)
+  dropped-keep d (waiting dropped run xs ∷ rs) h = (h.0, dropped-keep d rs h.1)
+
+  pub done-trees-keep : (f : Forest (Label A)) (rs : List (Read A)) → EachTree t f → EachReadOf rs
+      → EachReadOf (trees_done f rs)
+  done-trees-keep nil rs h k = k
+  done-trees-keep (node a below after) rs h k = done-trees-keep after (done_read a below ∷ rs) h.1 (h.0, k)
+
+  pub still-keeps : (run : Run) (xs : List (Label A)) (rs : List (Read A)) → w run xs → EachReadOf rs
+      → EachReadOf (still_waiting run xs rs)
+  still-keeps run [] rs h k = k
+  still-keeps run (x ∷ xs) rs h k = (h, k)
+
+  -- the characters may become Texts
+  abbrev pub AreTexts : List (Label A) → Type 0
+  AreTexts xs = AllByRecursion (λ (x : Label A). t x nil) xs
+
+  texts_keep : (xs : List (Label A)) (chain : Forest (Label A)) → AreTexts xs → EachTree t chain
+      → EachTree t (texts_before xs chain)
+  texts_keep [] chain h k = k
+  texts_keep (x ∷ xs) chain h k = texts_keep xs (node x nil chain) h.1 (h.0, k)
+
+  done_keeps : (xs : List (Label A)) (rs : List (Read A)) → AreTexts xs → EachReadOf rs
+      → EachReadOf (characters_done xs rs)
+  done_keeps [] rs h k = k
+  done_keeps (x ∷ xs) rs h k = (h.0, done_keeps xs rs h.1 k)
+
+  pub opened-keeps : (b : Bool) (run : Run) (xs : List (Label A)) (rs : List (Read A)) → (b ≡ true → w run xs)
+      → AreTexts xs → EachReadOf rs → EachReadOf (opened_if b run xs rs)
+  opened-keeps true run xs rs o h k = (o refl, k)
+  opened-keeps false run xs rs o h k = done_keeps xs rs h k
+
+  module _ (texts : (run : Run) (xs : List (Label A)) → w run xs → AreTexts xs) where
+    pub trees-keep : (rs : List (Read A)) (after : Forest (Label A)) → EachReadOf rs → EachTree t after
+        → EachTree t (read_trees rs after)
+    trees-keep [] after h k = k
+    trees-keep (done_read a below ∷ rs) after h k = trees-keep rs (node a below after) h.1 (h.0, k)
+    trees-keep (waiting dropped run xs ∷ rs) after h k =
+        trees-keep rs (texts_before xs after) h.1 (texts_keep xs after (texts run xs h.0) k)
+
+    pub nearest-keeps-of : (closer : Run) (rs : List (Read A)) (inside : Forest (Label A)) → EachReadOf rs
+        → EachTree t inside → IfSome (nearest_opener closer rs inside) FoundOf
+    nearest-keeps-of closer [] inside h k = tt
+    nearest-keeps-of closer (done_read a below ∷ rs) inside h k =
+        nearest-keeps-of closer rs (node a below inside) h.1 (h.0, k)
+    nearest-keeps-of closer (waiting dropped run xs ∷ rs) inside h k =
+        found-if FoundOf (not dropped && may_pair run closer)
+        (record { inside = inside; run = run; characters = xs; before = rs })
+        (nearest_opener closer rs (texts_before xs inside)) (k, h.0, h.1)
+        (nearest-keeps-of closer rs (texts_before xs inside) h.1 (texts_keep xs inside (texts run xs h.0) k))
+
 module _ {A : Type 0} (c : Label A → Type 0) (t : Label A → Forest (Label A) → Type 0) where
   -- a tree that is still to be read
   abbrev pub IsReadable : Setting → Label A → Forest (Label A) → Type 0
   IsReadable s a below = c (as_text s.text a) × t (as_closed s.text a) below
 
   -- what was read
+  abbrev AreOpen : Run → List (Label A) → Type 0
+  AreOpen run xs = AllByRecursion c xs
+
   abbrev pub EachRead : List (Read A) → Type 0
-  EachRead [] = ⊤
-  EachRead (done_read a below ∷ rs) = t a below × EachRead rs
-  EachRead (waiting dropped run xs ∷ rs) = AllByRecursion c xs × EachRead rs
+  EachRead rs = EachReadOf AreOpen t rs
 
   abbrev pub EachFound : FoundOpener A → Type 0
-  EachFound f = EachTree t f.inside × AllByRecursion c f.characters × EachRead f.before
+  EachFound f = FoundOf AreOpen t f
 
   abbrev EachLayer : Layers A → Type 0
   EachLayer l = EachTree t l.whole × AllByRecursion c l.opening × AllByRecursion c l.closing
 
   module _ (s : Setting) (makes : MakesTrees s c t) where
-    texts_keep : (xs : List (Label A)) (chain : Forest (Label A)) → AllByRecursion c xs → EachTree t chain
-        → EachTree t (texts_before xs chain)
-    texts_keep [] chain h k = k
-    texts_keep (x ∷ xs) chain h k = texts_keep xs (node x nil chain) h.1 (makes.text x h.0, k)
-
-    trees_keep : (rs : List (Read A)) (after : Forest (Label A)) → EachRead rs → EachTree t after
-        → EachTree t (read_trees rs after)
-    trees_keep [] after h k = k
-    trees_keep (done_read a below ∷ rs) after h k = trees_keep rs (node a below after) h.1 (h.0, k)
-    trees_keep (waiting dropped run xs ∷ rs) after h k = trees_keep rs (texts_before xs after) h.1
-        (texts_keep xs after h.0 k)
-
-    done_keeps : (xs : List (Label A)) (rs : List (Read A)) → AllByRecursion c xs → EachRead rs
-        → EachRead (characters_done xs rs)
-    done_keeps [] rs h k = k
-    done_keeps (x ∷ xs) rs h k = (makes.text x h.0, done_keeps xs rs h.1 k)
+    are_texts : (run : Run) (xs : List (Label A)) → AreOpen run xs → AreTexts AreOpen t xs
+    are_texts run [] h = tt
+    are_texts run (x ∷ xs) h = (makes.text x h.0, are_texts run xs h.1)
 
     pub nearest-keeps : (closer : Run) (rs : List (Read A)) (inside : Forest (Label A)) → EachRead rs
-        → EachTree t inside
-        → IfSome (nearest_opener closer rs inside) EachFound
-    nearest-keeps closer [] inside h k = tt
-    nearest-keeps closer (done_read a below ∷ rs) inside h k = nearest-keeps closer rs (node a below inside) h.1
-        (h.0, k)
-    nearest-keeps closer (waiting dropped run xs ∷ rs) inside h k =
-        found-if EachFound (not dropped && may_pair run closer)
-        (record { inside = inside; run = run; characters = xs; before = rs })
-        (nearest_opener closer rs (texts_before xs inside)) (k, h.0, h.1)
-        (nearest-keeps closer rs (texts_before xs inside) h.1 (texts_keep xs inside h.0 k))
-
-    dropped_keep : (d : Delimiter) (rs : List (Read A)) → EachRead rs → EachRead (map (drop_read d) rs)
-    dropped_keep d [] h = h
-    dropped_keep d (done_read a below ∷ rs) h = (h.0, dropped_keep d rs h.1)
-    dropped_keep d (waiting dropped run xs ∷ rs) h = (h.0, dropped_keep d rs h.1)
+        → EachTree t inside → IfSome (nearest_opener closer rs inside) EachFound
+    nearest-keeps closer rs inside h k = nearest-keeps-of AreOpen t are_texts closer rs inside h k
 
     layers_keep : (d : Delimiter) (xs vs : List (Label A)) (inside : Forest (Label A)) → AllByRecursion c xs
         → AllByRecursion c vs
@@ -98,26 +140,6 @@ module _ {A : Type 0} (c : Label A → Type 0) (t : Label A → Forest (Label A)
         layers_keep d xs vs (node (spanned s.text (layer_of_two (marks_of s.rules.options) d) y w) inside nil) h.1.1
         k.1.1
         (makes.two d y w inside h.1.0 i, tt)
-
-    done_trees_keep : (f : Forest (Label A)) (rs : List (Read A)) → EachTree t f → EachRead rs
-        → EachRead (trees_done f rs)
-    done_trees_keep nil rs h k = k
-    done_trees_keep (node a below after) rs h k = done_trees_keep after (done_read a below ∷ rs) h.1 (h.0, k)
-
-    still_keeps : (run : Run) (xs : List (Label A)) (rs : List (Read A)) → AllByRecursion c xs → EachRead rs
-        → EachRead (still_waiting run xs rs)
-    still_keeps run [] rs h k = k
-    still_keeps run (x ∷ xs) rs h k = (h, k)
-
-    turned_keep : (xs ys : List (Label A)) → AllByRecursion c xs → AllByRecursion c ys
-        → AllByRecursion c (last_first xs ys)
-    turned_keep [] ys h k = k
-    turned_keep (x ∷ xs) ys h k = turned_keep xs (x ∷ ys) h.1 (h.0, k)
-
-    opened_keeps : (b : Bool) (run : Run) (xs : List (Label A)) (rs : List (Read A)) → AllByRecursion c xs → EachRead rs
-        → EachRead (opened_if b run xs rs)
-    opened_keeps true run xs rs h k = (h, k)
-    opened_keeps false run xs rs h k = done_keeps xs rs h k
 
     pub firsts-keep : (n : ℕ) (chain : Forest (Label A)) → EachTree (IsReadable s) chain
         → AllByRecursion c (first_texts s.text n chain)
@@ -138,8 +160,8 @@ module _ {A : Type 0} (c : Label A → Type 0) (t : Label A → Forest (Label A)
         let made : Layers A = layers s f.run.delimiter f.characters vs f.inside in
         let l = layers_keep f.run.delimiter f.characters vs f.inside g.1 h g.0 in (
           l.2,
-          done_trees_keep made.whole (still_waiting f.run made.opening f.before) l.0
-              (still_keeps f.run made.opening f.before l.1 g.2),
+          done-trees-keep AreOpen t made.whole (still_waiting f.run made.opening f.before) l.0
+              (still-keeps AreOpen t f.run made.opening f.before l.1 g.2),
           k,
         )
 
@@ -148,20 +170,22 @@ module _ {A : Type 0} (c : Label A → Type 0) (t : Label A → Forest (Label A)
       tree = λ a below after rs h. (tt, (h.2.0.1, h.1), h.2.1);
       skip = λ a below after rs h. (tt, h.1, h.2.1);
       texts = λ n chain rs h. ((firsts-keep n chain h.2).0, h.1, (firsts-keep n chain h.2).1);
-      dropped = λ d vs rs rest h. (h.0, dropped_keep d rs h.1, h.2);
-      left = λ closer vs rs rest h. (
-        tt,
-        opened_keeps closer.can_open closer (last_first vs []) rs (turned_keep vs [] h.0 tt) h.1,
-        h.2,
-      );
+      dropped = λ d vs rs rest h. (h.0, dropped-keep AreOpen t d rs h.1, h.2);
+      left = λ closer vs rs rest h.
+          let turned = turned-all c vs [] h.0 tt in (
+            tt,
+            opened-keeps AreOpen t closer.can_open closer (last_first vs []) rs (λ _. turned)
+                (are_texts closer (last_first vs []) turned) h.1,
+            h.2,
+          );
       found = λ closer vs rs rest h. IfSome_then (nearest_opener closer rs nil) (nearest-keeps closer rs nil h.1 tt)
           (λ f g. found-keeps vs rest f h.0 h.2 g);
     }
 
     pub runs-keep : (chain : Forest (Label A)) → EachTree (IsReadable s) chain → EachTree t (runs_paired s chain)
     unfolding runs_paired
-    runs-keep chain h = trees_keep (reads_from s 0 chain []) nil (reads-stay s Holds holds-on 0 chain [] (tt, tt, h)).1
-        tt
+    runs-keep chain h = trees-keep AreOpen t are_texts (reads_from s 0 chain []) nil
+        (reads-stay s Holds holds-on 0 chain [] (tt, tt, h)).1 tt
 
 -- a label is not open; nor is that of a tree
 abbrev pub IsClosed : {A : Type 0} → Label A → Type 0
@@ -187,10 +211,8 @@ readable s (node a below after) = ((refl, as_closed-closed s.text a), readable s
 pub makes-closed : {A : Type 0} (s : Setting) → MakesTrees {A = A} s IsClosed IsClosedTree
 makes-closed s = record {
   text = λ x h. h;
-  one = λ d x v inside h i. one-closed (marks_of s.rules.options) d
-      (slice_range s.text x.part.range.start v.part.range.end);
-  two = λ d x v inside h i. two-closed (marks_of s.rules.options) d
-      (slice_range s.text x.part.range.start v.part.range.end);
+  one = λ d x v inside h i. one-closed (marks_of s.rules.options) d _;
+  two = λ d x v inside h i. two-closed (marks_of s.rules.options) d _;
 }
 
 -- nothing of the chain stays open

@@ -1,6 +1,6 @@
 -- The laws of pairing, from its lemmas.
 use Rattle.std.proofs.Common.{◌≡◌, Bool, true, false, List, [], ◌∷◌, Option, Some, None, refl, ap, sym, ◌∙◌}
-use Rattle.std.specs.Prelude.{not, ◌&&◌, IfSome, IfNone, slice_range}
+use Rattle.std.specs.Prelude.{not, ◌&&◌, IfSome, IfNone}
 use Rattle.markdown_base.specs.Forest.{Forest, nil, node, Each}
 use Rattle.markdown_document.specs.Document.{Label, is_unresolved, shaped, as_text}
 use Rattle.markdown_document.specs.Labels.{retagged, retag}
@@ -13,8 +13,7 @@ use Rattle.markdown_delims.specs.Pairing.{paired, NothingOpen}
 use Rattle.markdown_delims.specs.PairingFinds.{finds_in}
 use Rattle.markdown_delims.specs.Layers.{marks_of}
 use Rattle.markdown_delims.specs.PairingLaws.{below_trees, NonePairs, PairingClosedLaw, PairingOrderLaw, JoinsLaw}
-use Rattle.markdown_delims.specs.PairingLaws.{MissesNoneLaw, KeepsLaw}
-use Rattle.markdown_delims.specs.PairingLaws.{PairingTagLaw}
+use Rattle.markdown_delims.specs.PairingLaws.{MissesNoneLaw, KeepsLaw, PairingTagLaw}
 use Rattle.markdown_delims.specs.Quotes.{first_turn, quotes_after, with_quotes}
 use Rattle.markdown_delims.proofs.KeepLemmas.{EachTree, MakesTrees, IsReadable, runs-keep, IsClosedTree}
 use Rattle.markdown_delims.proofs.KeepLemmas.{as_closed-closed, paired-closed}
@@ -69,16 +68,8 @@ module _ {A : Type 0} (p : Label A → Type 0) (stays : (a b : Label A) → p a 
   makes_such : MakesTrees s p HoldsBelow
   makes_such = record {
     text = λ x h. (h, tt);
-    one = λ d x v inside h i. (
-      stays x _ h refl (one-closed (marks_of s.rules.options) d
-          (slice_range s.text x.part.range.start v.part.range.end)),
-      each_holds inside i,
-    );
-    two = λ d x v inside h i. (
-      stays x _ h refl (two-closed (marks_of s.rules.options) d
-          (slice_range s.text x.part.range.start v.part.range.end)),
-      each_holds inside i,
-    );
+    one = λ d x v inside h i. (stays x _ h refl (one-closed (marks_of s.rules.options) d _), each_holds inside i);
+    two = λ d x v inside h i. (stays x _ h refl (two-closed (marks_of s.rules.options) d _), each_holds inside i);
   }
 
   same_block : (b : Bool) (a : Label A) → (text_if b s.text a).part.block ≡ a.part.block

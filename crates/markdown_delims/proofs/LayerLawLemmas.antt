@@ -3,7 +3,7 @@
 use Rattle.std.proofs.Common.{◌≡◌, ℕ, Bool, true, false, List, refl}
 use Rattle.std.specs.Prelude.{◌&&◌, if◌then◌else◌}
 use Rattle.markdown_base.specs.Event.{TagView}
-use Rattle.markdown_document.specs.Document.{Shape, leaf, enclosed, plain, backslash_break, unresolved, is_unresolved}
+use Rattle.markdown_document.specs.Document.{Shape, plain, unresolved, is_unresolved}
 use Rattle.markdown_document.specs.Document.{text_over}
 use Rattle.markdown_document.specs.Labels.{GivesFirst, is_plain}
 use Rattle.markdown_delims.specs.declared.marks.Marks.{Marks}
@@ -32,11 +32,8 @@ one-gives m Caret source = enclosed_gives m.superscript _ (text_over source) tt
 
 -- what gives an event first is not open
 gives_closed : (shape : Shape) → GivesFirst shape → is_unresolved shape ≡ false
-gives_closed (leaf e origins) h = refl
-gives_closed (enclosed tag) h = refl
-gives_closed plain h = refl
-gives_closed backslash_break h = refl
 gives_closed (unresolved b) h = absurd h
+gives_closed other h = refl
 
 pub two-closed : (m : Marks) (d : Delimiter) (source : List ℕ) → is_unresolved (layer_of_two m d source) ≡ false
 two-closed m d source = gives_closed (layer_of_two m d source) (two-gives m d source)
@@ -46,11 +43,9 @@ one-closed m d source = gives_closed (layer_of_one m d source) (one-gives m d so
 
 -- a shape that is neither open nor plain gives an event first
 pub gives-first : (shape : Shape) → is_plain shape ≡ false → is_unresolved shape ≡ false → GivesFirst shape
-gives-first (leaf e origins) p h = tt
-gives-first (enclosed tag) p h = tt
 gives-first plain p h = cc
-gives-first backslash_break p h = tt
 gives-first (unresolved b) p h = cc
+gives-first other p h = tt
 
 -- what holds of a shape and of each Text of one character holds of what a turn makes of the shape
 module _ (p : Shape → Type 0) (of_text : (c : ℕ) → p (synthesized c)) where
@@ -67,12 +62,16 @@ module _ (p : Shape → Type 0) (of_text : (c : ℕ) → p (synthesized c)) wher
   double_made true opens single double = of_text 8221
   double_made false opens single double = of_text 8220
 
+  pub turn-gives : (k : Kind) (shape : Shape) (single double later last : Bool) → (k ≡ kind.Break → p shape)
+      → (k ≡ kind.Other → p shape) → p (turn_by k shape single double later last).made
+  turn-gives (kind.Single opens closes) shape single double later last h i = single_made (single && closes) opens single
+      double later
+  turn-gives (kind.Double opens closes) shape single double later last h i = double_made (double && closes) opens single
+      double
+  turn-gives kind.Break shape single double later true h i = of_text 92
+  turn-gives kind.Break shape single double later false h i = h refl
+  turn-gives kind.Other shape single double later last h i = i refl
+
   pub turn-made : (k : Kind) (shape : Shape) (single double later last : Bool) → p shape
       → p (turn_by k shape single double later last).made
-  turn-made (kind.Single opens closes) shape single double later last h = single_made (single && closes) opens single
-      double later
-  turn-made (kind.Double opens closes) shape single double later last h = double_made (double && closes) opens single
-      double
-  turn-made kind.Break shape single double later true h = of_text 92
-  turn-made kind.Break shape single double later false h = h
-  turn-made kind.Other shape single double later last h = h
+  turn-made k shape single double later last h = turn-gives k shape single double later last (λ _. h) (λ _. h)

@@ -1,41 +1,35 @@
 -- Of two runs of `*` or `_` that may pair, some pair encloses what is left of one and not of the other: no two such
 -- runs have characters left in the same chain, at any depth, once a chain is read.
 use Rattle.std.proofs.Common.{◌≡◌, ℕ, zero, suc, ◌-◌, ◌<◌, Bool, true, false, List, [], ◌∷◌, length, Option, Some, None}
-use Rattle.std.proofs.Common.{refl, ap, sym, ◌∙◌}
-use Rattle.std.proofs.Common.{subst, arith, map, ◌≤◌}
-use Rattle.std.specs.Prelude.{⊤, IfSome, IfNone, not, ◌&&◌, ◌||◌, slice_range, slice_index}
+use Rattle.std.proofs.Common.{refl, ap, sym, ◌∙◌, subst, arith, inl, inr, map, min, ◌+◌, ◌≤◌}
+use Rattle.std.specs.Prelude.{⊤, ◌⊎◌, IfSome, IfNone, not, ◌&&◌, ◌||◌, slice_range, slice_index}
 use Rattle.std.specs.List.{AllByRecursion}
 use Rattle.markdown_base.specs.Forest.{Forest, nil, node}
 use Rattle.markdown_base.proofs.ForestLemmas.{relabelled-relabelled}
-use Rattle.markdown_document.specs.Document.{Shape, leaf, backslash_break, unresolved, Label, Plain, is_unresolved}
-use Rattle.markdown_document.specs.Document.{shaped}
+use Rattle.markdown_document.specs.Document.{Shape, leaf, backslash_break, unresolved, Label, is_unresolved, shaped}
 use Rattle.markdown_document.specs.Labels.{retag, retagged}
 use Rattle.markdown_document.specs.Setting.{Setting}
 use Rattle.markdown_document.specs.Waiting.{text_if, as_closed}
-use Rattle.markdown_delims.specs.declared.marks.Marks.{Marks}
 use Rattle.markdown_delims.specs.declared.run.Delimiter.{Delimiter}
 use Rattle.markdown_delims.specs.declared.run.Delimiter.TheVariants.{Star, Underscore, Tilde, Caret}
 use Rattle.markdown_delims.specs.declared.run.Run.{Run}
-use Rattle.markdown_delims.specs.Layers.{marks_of, layer_of_one, layer_of_two, run_of_shape, run_of}
+use Rattle.markdown_delims.specs.Layers.{marks_of, layer_of_one, layer_of_two, run_of_shape, run_of, spanned}
 use Rattle.markdown_delims.specs.MayPair.{delimiter_of, drops, may_pair}
 use Rattle.markdown_delims.specs.Pairing.{paired, Read, done_read, waiting, texts_before, characters_done, read_trees}
-use Rattle.markdown_delims.specs.Pairing.{FoundOpener, nearest_opener}
-use Rattle.markdown_delims.specs.Pairing.{drop_read, Layers, layers, trees_done, still_waiting, last_first, opened_if}
-use Rattle.markdown_delims.specs.Pairing.{left_over, after_layers, after_search, closed_by, run_read, first_texts}
-use Rattle.markdown_delims.specs.Pairing.{after_tree, reads_from}
-use Rattle.markdown_delims.specs.Pairing.{runs_paired}
+use Rattle.markdown_delims.specs.Pairing.{FoundOpener, nearest_opener, drop_read, Layers, layers, trees_done}
+use Rattle.markdown_delims.specs.Pairing.{still_waiting, last_first, opened_if, left_over, after_layers, after_search}
+use Rattle.markdown_delims.specs.Pairing.{closed_by, run_read, first_texts, after_tree, reads_from, runs_paired}
 use Rattle.markdown_delims.specs.Quotes.{kind_of_shape, closes_later, is_closed_later, is_end, QuoteTurn, turn_by}
-use Rattle.markdown_delims.specs.Quotes.{first_turn, quotes_after}
-use Rattle.markdown_delims.specs.Quotes.{with_quotes}
+use Rattle.markdown_delims.specs.Quotes.{first_turn, quotes_after, with_quotes}
 use Rattle.markdown_delims.specs.declared.quotes.Kind.TheVariants as kind
 use Rattle.markdown_base.specs.declared.item.ItemBody.TheVariants as body
 use Rattle.markdown_delims.specs.PairingLaws.{is_tilde_or_caret, NonePairs, RunAt, run_at, further, no_run, with_runs}
 use Rattle.markdown_delims.specs.PairingLaws.{run_if_text, kept_run, DoNotPair}
 use Rattle.markdown_delims.specs.PairingLaws.{NonePairsLater, NoneMissed, without_tags, NoneMissedLaw}
-use Rattle.markdown_delims.proofs.BeginLawLemmas.{some-long}
+use Rattle.markdown_delims.proofs.KeepLemmas.{turned-all}
 use Rattle.markdown_delims.proofs.LawLemmas.{misses-law, tag-law}
 use Rattle.markdown_delims.proofs.LayerLawLemmas.{turn-made}
-use Rattle.markdown_delims.proofs.StepLawLemmas.{found-if}
+use Rattle.markdown_delims.proofs.StepLawLemmas.{found-if, some-long}
 
 -- the run of a character, or none
 abbrev MaybeRun : Type 0
@@ -255,16 +249,9 @@ drop_earlier d k (waiting dropped run xs ∷ rs) h = (h.0, drop_earlier d k rs h
 
 -- no `*` and no `_` is dropped
 drops_tilde : (d e : Delimiter) → drops d e ≡ true → is_tilde_or_caret e ≡ true
-drops_tilde d Tilde h = refl
-drops_tilde d Caret h = refl
-drops_tilde Star Star h = h
-drops_tilde Underscore Star h = h
-drops_tilde Tilde Star h = h
-drops_tilde Caret Star h = h
-drops_tilde Star Underscore h = h
-drops_tilde Underscore Underscore h = h
-drops_tilde Tilde Underscore h = h
-drops_tilde Caret Underscore h = h
+drops_tilde Tilde Tilde h = refl
+drops_tilde Caret Caret h = refl
+drops_tilde d e h = cc
 
 drop_tilde : (dropped : Bool) (d e : Delimiter) → (dropped ≡ true → is_tilde_or_caret e ≡ true) → (dropped || drops d e)
     ≡ true
@@ -282,8 +269,7 @@ drop_fine d (waiting dropped run xs ∷ rs) h = (
     same = h.1.same;
     all = h.1.all;
     some = h.1.some;
-    earlier = drop_earlier d (Some h.1.at) rs
-        h.1.earlier;
+    earlier = drop_earlier d (Some h.1.at) rs h.1.earlier;
   },
   drop_fine d rs h.2,
 )
@@ -299,10 +285,6 @@ module _ (p : RunAt) where
         (is_shut p x a.0 s, is_earlier p x a.0 (characters_done xs rs) k.1, tt, k.0),
         (is_first p x a.0 (Some p) (same_run p), k.1),
       )
-
-  turned_of : (xs ys : List Character) → AreOf p xs → AreOf p ys → AreOf p (last_first xs ys)
-  turned_of [] ys a b = b
-  turned_of (x ∷ xs) ys a b = turned_of xs (x ∷ ys) a.1 (a.0, b)
 
   some_turned : (xs ys : List Character) → HasSome ys → HasSome (last_first xs ys)
   some_turned [] ys h = h
@@ -328,7 +310,7 @@ module _ (p : RunAt) where
       → NoneEarlier (Some p) rs → Fine (left_over run vs rs)
   left_fine run [] rs g a s h e = absurd s
   left_fine run (v ∷ vs) rs g a s h e = opened_fine run.can_open run (last_first (v ∷ vs) []) rs refl g
-      (turned_of (v ∷ vs) [] a tt)
+      (turned-all (λ (x : Character). x.tag ≡ Some p) (v ∷ vs) [] a tt)
       (some_turned vs (v ∷ []) tt) h e
 
   still_fine : (run : Run) (xs : List Character) (rs : List (Read MaybeRun)) → p.run ≡ run → AreOf p xs → Fine rs
@@ -339,20 +321,6 @@ module _ (p : RunAt) where
       = (still_open run (x ∷ xs) rs g a tt h e, (all_first p (Some p) (x ∷ xs) a (same_run p), e))
 
   -- a layer of p
-  one_shut : (m : Marks) (d : Delimiter) (source : List ℕ) → p.run.delimiter ≡ d
-      → Shut (run_if_text (layer_of_one m d source) (Some p))
-  one_shut m Star source e = tt
-  one_shut m Underscore source e = tt
-  one_shut m Tilde source e = shut_text (layer_of_one m Tilde source) (Some p) (tilde_shut p (ap is_tilde_or_caret e))
-  one_shut m Caret source e = shut_text (layer_of_one m Caret source) (Some p) (tilde_shut p (ap is_tilde_or_caret e))
-
-  two_shut : (m : Marks) (d : Delimiter) (source : List ℕ) → p.run.delimiter ≡ d
-      → Shut (run_if_text (layer_of_two m d source) (Some p))
-  two_shut m Star source e = tt
-  two_shut m Underscore source e = tt
-  two_shut m Tilde source e = shut_text (layer_of_two m Tilde source) (Some p) (tilde_shut p (ap is_tilde_or_caret e))
-  two_shut m Caret source e = shut_text (layer_of_two m Caret source) (Some p) (tilde_shut p (ap is_tilde_or_caret e))
-
   abbrev IsLayer : Forest Character → Type 0
   IsLayer nil = ⊥
   IsLayer (node a below nil) = (a.tag ≡ Some p) × Shut (kept_run a) × NoneMissed below
@@ -370,74 +338,62 @@ module _ (p : RunAt) where
   layer_fine (node a below (node b under after)) rs l h e = absurd l
 
   module _ (s : Setting) where
-    one_layer : (d : Delimiter) (x v : Character) (inside : Forest Character) → p.run.delimiter ≡ d → x.tag ≡ Some p
-        → NoneMissed inside
-        → IsLayer (layers s d (x ∷ []) (v ∷ []) inside).whole
-    one_layer d x v inside e t m =
-        let source : List ℕ = slice_range s.text x.part.range.start v.part.range.end in (
-          t,
-          subst (λ r. Shut (run_if_text (layer_of_one (marks_of s.rules.options) d source) r)) (sym t)
-              (one_shut (marks_of s.rules.options) d source e),
-          m,
-        )
+    made_layer : (shape : Delimiter → List ℕ → Shape)
+        → ((source : List ℕ) → Shut (run_if_text (shape Star source) (Some p)))
+        → ((source : List ℕ) → Shut (run_if_text (shape Underscore source) (Some p))) → (d : Delimiter)
+        (x v : Character) (inside : Forest Character) → p.run.delimiter ≡ d → x.tag ≡ Some p → NoneMissed inside
+        → IsLayer (node (spanned s.text (shape d) x v) inside nil)
+    made_layer shape star underscore d x v inside e t m =
+        (t, subst (λ r. Shut (run_if_text (shape d source) r)) (sym t) (by_delimiter d e), m)
+      where
+        source : List ℕ
+        source = slice_range s.text x.part.range.start v.part.range.end
 
-    two_layer : (d : Delimiter) (x y v w : Character) (inside : Forest Character) → p.run.delimiter ≡ d → y.tag ≡ Some p
-        → NoneMissed inside
-        → IsLayer (layers s d (x ∷ y ∷ []) (v ∷ w ∷ []) inside).whole
-    two_layer d x y v w inside e t m =
-        let source : List ℕ = slice_range s.text y.part.range.start w.part.range.end in (
-          t,
-          subst (λ r. Shut (run_if_text (layer_of_two (marks_of s.rules.options) d source) r)) (sym t)
-              (two_shut (marks_of s.rules.options) d source e),
-          m,
-        )
+        by_delimiter : (d : Delimiter) → p.run.delimiter ≡ d → Shut (run_if_text (shape d source) (Some p))
+        by_delimiter Star e = star source
+        by_delimiter Underscore e = underscore source
+        by_delimiter Tilde e = shut_text (shape Tilde source) (Some p) (tilde_shut p (ap is_tilde_or_caret e))
+        by_delimiter Caret e = shut_text (shape Caret source) (Some p) (tilde_shut p (ap is_tilde_or_caret e))
+
+    one_layer : (d : Delimiter) (x v : Character) (inside : Forest Character) → p.run.delimiter ≡ d → x.tag ≡ Some p
+        → NoneMissed inside → IsLayer (node (spanned s.text (layer_of_one (marks_of s.rules.options) d) x v) inside nil)
+    one_layer = made_layer (layer_of_one (marks_of s.rules.options)) (λ _. tt) (λ _. tt)
 
     abbrev AreMade : RunAt → Layers MaybeRun → Type 0
     AreMade q l = IsLayer l.whole × AreOf p l.opening × AreOf q l.closing
 
-    more_layers : (q : RunAt) (d : Delimiter) (xs vs : List Character) (inside : Forest Character) → p.run.delimiter ≡ d
-        → AreOf p xs
-        → AreOf q vs → IsLayer inside → AreMade q (layers s d xs vs inside)
-    more_layers q d [] vs inside e a b l = (l, tt, b)
-    more_layers q d (x ∷ xs) [] inside e a b l = (l, a, tt)
-    more_layers q d (x ∷ []) (v ∷ vs) inside e a b l = (one_layer d x v inside e a.0 (layer_missed inside l), tt, b.1)
-    more_layers q d (x ∷ y ∷ xs) (v ∷ []) inside e a b l
-        = (one_layer d x v inside e a.0 (layer_missed inside l), a.1, tt)
-    more_layers q d (x ∷ y ∷ xs) (v ∷ w ∷ vs) inside e a b l =
-        more_layers q d xs vs (layers s d (x ∷ y ∷ []) (v ∷ w ∷ []) inside).whole e a.1.1 b.1.1
-        (two_layer d x y v w inside e a.1.0 (layer_missed inside l))
-
-    first_layers : (q : RunAt) (d : Delimiter) (xs vs : List Character) (inside : Forest Character) → p.run.delimiter
-        ≡ d → HasSome xs
-        → HasSome vs → AreOf p xs → AreOf q vs → NoneMissed inside
+    -- there are characters on both sides, or the chain is a layer already
+    layers_made : (q : RunAt) (d : Delimiter) (xs vs : List Character) (inside : Forest Character) → p.run.delimiter ≡ d
+        → AreOf p xs → AreOf q vs → NoneMissed inside → (HasSome xs × HasSome vs) ⊎ IsLayer inside
         → AreMade q (layers s d xs vs inside)
-    first_layers q d [] vs inside e i j a b m = absurd i
-    first_layers q d (x ∷ xs) [] inside e i j a b m = absurd j
-    first_layers q d (x ∷ []) (v ∷ vs) inside e i j a b m = (one_layer d x v inside e a.0 m, tt, b.1)
-    first_layers q d (x ∷ y ∷ xs) (v ∷ []) inside e i j a b m = (one_layer d x v inside e a.0 m, a.1, tt)
-    first_layers q d (x ∷ y ∷ xs) (v ∷ w ∷ vs) inside e i j a b m =
-        more_layers q d xs vs (layers s d (x ∷ y ∷ []) (v ∷ w ∷ []) inside).whole e a.1.1 b.1.1
-        (two_layer d x y v w inside e a.1.0 m)
+    layers_made q d [] vs inside e a b m (inl i) = absurd i.0
+    layers_made q d [] vs inside e a b m (inr l) = (l, tt, b)
+    layers_made q d (x ∷ xs) [] inside e a b m (inl i) = absurd i.1
+    layers_made q d (x ∷ xs) [] inside e a b m (inr l) = (l, a, tt)
+    layers_made q d (x ∷ []) (v ∷ vs) inside e a b m i = (one_layer d x v inside e a.0 m, tt, b.1)
+    layers_made q d (x ∷ y ∷ xs) (v ∷ []) inside e a b m i = (one_layer d x v inside e a.0 m, a.1, tt)
+    layers_made q d (x ∷ y ∷ xs) (v ∷ w ∷ vs) inside e a b m i =
+        let whole : Forest Character = (layers s d (x ∷ y ∷ []) (v ∷ w ∷ []) inside).whole in
+        let l : IsLayer whole = made_layer (layer_of_two (marks_of s.rules.options)) (λ _. tt) (λ _. tt) d y w inside e
+        a.1.0 m in
+        layers_made q d xs vs whole e a.1.1 b.1.1 (layer_missed whole l) (inr l)
 
 -- a closer pairs: fewer of its characters are left
 module _ (s : Setting) where
-  closing_shrinks : (d : Delimiter) (xs vs : List Character) (inside : Forest Character)
-      → length (layers s d xs vs inside).closing ≤ length vs
-  closing_shrinks d [] vs inside = omega arith
-  closing_shrinks d (x ∷ xs) [] inside = omega arith
-  closing_shrinks d (x ∷ []) (v ∷ vs) inside = omega arith
-  closing_shrinks d (x ∷ y ∷ xs) (v ∷ []) inside = omega arith
-  closing_shrinks d (x ∷ y ∷ xs) (v ∷ w ∷ vs) inside =
-      let rest = closing_shrinks d xs vs (layers s d (x ∷ y ∷ []) (v ∷ w ∷ []) inside).whole in omega (arith, rest)
+  closing_left : (d : Delimiter) (xs vs : List Character) (inside : Forest Character)
+      → length (layers s d xs vs inside).closing + min (length xs) (length vs) ≡ length vs
+  closing_left d [] vs inside = omega arith
+  closing_left d (x ∷ xs) [] inside = omega arith
+  closing_left d (x ∷ []) (v ∷ vs) inside = omega arith
+  closing_left d (x ∷ y ∷ xs) (v ∷ []) inside = omega arith
+  closing_left d (x ∷ y ∷ xs) (v ∷ w ∷ vs) inside =
+      omega (arith, closing_left d xs vs (layers s d (x ∷ y ∷ []) (v ∷ w ∷ []) inside).whole)
 
   fewer_left : (d : Delimiter) (xs vs : List Character) (inside : Forest Character) → HasSome xs → HasSome vs
       → length (layers s d xs vs inside).closing < length vs
   fewer_left d [] vs inside i j = absurd i
   fewer_left d (x ∷ xs) [] inside i j = absurd j
-  fewer_left d (x ∷ []) (v ∷ vs) inside i j = omega arith
-  fewer_left d (x ∷ y ∷ xs) (v ∷ []) inside i j = omega arith
-  fewer_left d (x ∷ y ∷ xs) (v ∷ w ∷ vs) inside i j =
-      let rest = closing_shrinks d xs vs (layers s d (x ∷ y ∷ []) (v ∷ w ∷ []) inside).whole in omega (arith, rest)
+  fewer_left d (x ∷ xs) (v ∷ vs) inside i j = omega (arith, closing_left d (x ∷ xs) (v ∷ vs) inside)
 
   pair_fine : (q : RunAt) (vs : List Character) (f : FoundOpener MaybeRun) → HasSome vs → AreOf q vs → FoundFine f
       → AreOf q (layers s f.run.delimiter f.characters vs f.inside).closing
@@ -445,9 +401,8 @@ module _ (s : Setting) where
   pair_fine q vs f i a g =
       let p : RunAt = g.0.at in
       let made : Layers MaybeRun = layers s f.run.delimiter f.characters vs f.inside in
-      let l = first_layers p s q f.run.delimiter f.characters vs f.inside (ap (λ (r : Run). r.delimiter) g.0.same)
-      g.0.some i g.0.all a g.2
-      in
+      let l = layers_made p s q f.run.delimiter f.characters vs f.inside (ap (λ (r : Run). r.delimiter) g.0.same)
+      g.0.all a g.2 (inl (g.0.some, i)) in
       let k = still_fine p f.run made.opening f.before g.0.same l.1 g.1 g.0.earlier in
       (l.2, layer_fine p made.whole (still_waiting f.run made.opening f.before) l.0 k.0 k.1)
 
@@ -512,9 +467,7 @@ module _ (s : Setting) where
     run_of_length p (suc n) a below after h = (
       (
         refl,
-        subst (λ k. AreOf p (first_texts s.text n (with_runs s k (Some p) after)))
-            (let e : n ≡ suc n - 1 = omega arith in e)
-            (firsts_of p n after),
+        rw (← (let e : n ≡ suc n - 1 = omega arith in e)) (firsts_of p n after),
       ),
       tt,
     )
@@ -598,25 +551,18 @@ module _ {A : Type 0} (s : Setting) where
       (quotes_after (first_turn a after single double).single
       (first_turn a after single double).double after)
   quotes_node single double r more a below after h =
-      ap (λ (t : QuoteTurn). node (shaped t.made (retag (λ _. r) a)) (retagged no_run below)
-      (quotes_after t.single t.double (with_runs s more r after)))
-      (ap (λ l. turn_by (kind_of_shape a.part.shape) a.part.shape single double l (is_end (with_runs s more r after)))
-      (told_later more r after)
-      ∙ ap (λ e. turn_by (kind_of_shape a.part.shape) a.part.shape single double (is_closed_later after) e)
-      (told_end more r after))
-      ∙ ap (λ (f : Forest Character). node (retag (λ _. r) (shaped (first_turn a after single double).made a))
-      (retagged no_run below) f)
-      (h (first_turn a after single double).single (first_turn a after single double).double)
+      rw (
+        told_later more r after,
+        told_end more r after,
+        h (first_turn a after single double).single (first_turn a after single double).double,
+      ) refl
 
   untagged_node : (r : MaybeRun) (more : ℕ) (a : Label A) (below after : Forest (Label A))
       → without_tags (with_runs s more r after)
       ≡ without_tags after
       → without_tags (with_run s r more a below after) ≡ without_tags (node a below after)
   untagged_node r more a below after h =
-      let here : Plain = retag (λ _. tt) a in
-      ap (λ (f : Forest Plain). node here f (without_tags (with_runs s more r after)))
-      (relabelled-relabelled (retag no_run) (retag (λ _. tt))
-      below) ∙ ap (λ (f : Forest Plain). node here (without_tags below) f) h
+      rw (relabelled-relabelled (retag no_run) (retag (λ _. tt {0})) below, h) refl
 
   pub quotes_told : (more : ℕ) (before : MaybeRun) (chain : Forest (Label A)) (single double : Bool)
       → quotes_after single double (with_runs s more before chain)
@@ -627,13 +573,9 @@ module _ {A : Type 0} (s : Setting) where
   quotes_told zero before (node a below after) single double =
       let here : MaybeRun = run_at a.part.range.start (run_of s.text a.part) in
       let t : QuoteTurn = first_turn a after single double in
-      quotes_node single double here (further here) a below after (λ i j. quotes_told (further here) here after i j)
-      ∙ ap (λ (o : Option Run). with_run s (run_at a.part.range.start o) (further (run_at a.part.range.start o))
-      (shaped t.made a) below
-      (quotes_after t.single t.double after))
-      (sym (turned_run a.part.shape (delimiter_of (slice_index s.text a.part.range.start)) single double
-      (is_closed_later after)
-      (is_end after)))
+      rw (turned_run a.part.shape (delimiter_of (slice_index s.text a.part.range.start)) single double
+      (is_closed_later after) (is_end after))
+      (quotes_node single double here (further here) a below after (λ i j. quotes_told (further here) here after i j))
 
 -- runs in the tags change nothing else
 told_untagged : {A : Type 0} (s : Setting) (more : ℕ) (before : MaybeRun) (chain : Forest (Label A))
@@ -650,8 +592,7 @@ pub missed-law : {A : Type 0} → NoneMissedLaw A
 unfolding paired with_quotes
 missed-law {A} s chain =
     let told : Forest Character = with_runs s 0 None chain in (
-      subst (λ f. NoneMissed (runs_paired s f)) (sym (quotes_told s 0 None chain false false))
-          (runs-missed s (quotes_after false false chain)),
+      rw (quotes_told s 0 None chain false false) (runs-missed s (quotes_after false false chain)),
       sym (tag-law (λ (r : MaybeRun). tt) s told) ∙ ap (paired s) (told_untagged s 0 None chain)
           ∙ tag-law (λ (a : A). tt) s chain,
     )

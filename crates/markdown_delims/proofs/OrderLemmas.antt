@@ -1,28 +1,25 @@
 -- Pairing a chain, and changing what is below each of its trees and the tags of its labels, may be done in either
 -- order, if the change of a chain in which nothing is open only changes what is below its trees and its tags.
-use Rattle.std.proofs.Common.{◌≡◌, ℕ, zero, suc, ◌+◌, ◌-◌, Bool, true, false, List, [], ◌∷◌, length, Option, Some, None}
+use Rattle.std.proofs.Common.{◌≡◌, ℕ, zero, suc, ◌-◌, Bool, true, false, List, [], ◌∷◌, length, Option, Some, None}
 use Rattle.std.proofs.Common.{refl, ap, sym, ◌∙◌, map}
-use Rattle.std.specs.Prelude.{IfSome, not, ◌&&◌, ◌||◌, slice_range}
+use Rattle.std.specs.Prelude.{IfSome, not, ◌&&◌}
 use Rattle.std.specs.List.{AllByRecursion}
 use Rattle.std.proofs.lemmas.List.{length-map}
 use Rattle.markdown_base.specs.Forest.{Forest, nil, node}
-use Rattle.markdown_document.specs.Document.{Label, is_unresolved, as_text, shaped}
+use Rattle.markdown_document.specs.Document.{Label, is_unresolved, as_text}
 use Rattle.markdown_document.specs.Labels.{retag}
 use Rattle.markdown_document.specs.Setting.{Setting}
 use Rattle.markdown_document.specs.Waiting.{text_if, as_closed}
 use Rattle.markdown_delims.specs.declared.run.Delimiter.{Delimiter}
 use Rattle.markdown_delims.specs.declared.run.Run.{Run}
-use Rattle.markdown_delims.specs.Layers.{marks_of, layer_of_one, layer_of_two, spanned, run_of}
-use Rattle.markdown_delims.specs.MayPair.{drops, may_pair}
+use Rattle.markdown_delims.specs.Layers.{marks_of, layer_of_two, spanned, run_of}
+use Rattle.markdown_delims.specs.MayPair.{may_pair}
 use Rattle.markdown_delims.specs.Pairing.{Read, done_read, waiting, texts_before, characters_done, read_trees}
-use Rattle.markdown_delims.specs.Pairing.{FoundOpener, found_if, nearest_opener}
-use Rattle.markdown_delims.specs.Pairing.{drop_read, Layers, layers, trees_done, still_waiting, last_first, opened_if}
-use Rattle.markdown_delims.specs.Pairing.{left_over, after_layers, after_search, closed_by, run_read, first_texts}
-use Rattle.markdown_delims.specs.Pairing.{after_tree, reads_from}
-use Rattle.markdown_delims.specs.Pairing.{runs_paired, paired}
+use Rattle.markdown_delims.specs.Pairing.{FoundOpener, found_if, nearest_opener, drop_read, Layers, layers, trees_done}
+use Rattle.markdown_delims.specs.Pairing.{still_waiting, last_first, opened_if, left_over, after_layers, after_search}
+use Rattle.markdown_delims.specs.Pairing.{closed_by, run_read, first_texts, after_tree, reads_from, runs_paired, paired}
 use Rattle.markdown_delims.specs.PairingFinds.{search_finds, closer_finds, run_finds, tree_finds, finds_from, finds_in}
-use Rattle.markdown_delims.specs.Quotes.{kind_of_shape, closes_later, is_closed_later, is_end, QuoteTurn, turn_by}
-use Rattle.markdown_delims.specs.Quotes.{first_turn, quotes_after}
+use Rattle.markdown_delims.specs.Quotes.{kind_of_shape, closes_later, is_closed_later, is_end, first_turn, quotes_after}
 use Rattle.markdown_delims.specs.Quotes.{with_quotes}
 use Rattle.markdown_delims.proofs.KeepLemmas.{EachTree, EachRead, EachFound, Holds, nearest-keeps, found-keeps}
 use Rattle.markdown_delims.proofs.KeepLemmas.{firsts-keep, holds-on}
@@ -59,8 +56,7 @@ module _ {A B : Type 0} (to : A → B) (within : Forest (Label A) → Forest (La
     inside = deep f.inside;
     run = f.run;
     characters = moved f.characters;
-    before = deep_reads
-        f.before;
+    before = deep_reads f.before;
   }
 
   abbrev deep_found : Option (FoundOpener A) → Option (FoundOpener B)
@@ -75,9 +71,7 @@ module _ {A B : Type 0} (to : A → B) (within : Forest (Label A) → Forest (La
     texts_deep : (xs : List (Label A)) (chain : Forest (Label A)) → texts_before (moved xs) (deep chain)
         ≡ deep (texts_before xs chain)
     texts_deep [] chain = refl
-    texts_deep (x ∷ xs) chain = ap
-        (λ (f : Forest (Label B)). texts_before (moved xs) (node (retag to x) f (deep chain))) (sym within_nil)
-        ∙ texts_deep xs (node x nil chain)
+    texts_deep (x ∷ xs) chain = rw within_nil at (texts_deep xs (node x nil chain))
 
     trees_deep : (rs : List (Read A)) (after : Forest (Label A)) → read_trees (deep_reads rs) (deep after)
         ≡ deep (read_trees rs after)
@@ -106,44 +100,25 @@ module _ {A B : Type 0} (to : A → B) (within : Forest (Label A) → Forest (La
     nearest_deep closer (done_read a below ∷ rs) inside = nearest_deep closer rs (node a below inside)
     nearest_deep closer (waiting dropped run xs ∷ rs) inside =
         let f : FoundOpener A = record { inside = inside; run = run; characters = xs; before = rs } in
-        ap (found_if (not dropped && may_pair run closer) (deep_opener f)) (ap (nearest_opener closer (deep_reads rs))
-        (texts_deep xs inside) ∙ nearest_deep closer rs (texts_before xs inside))
-        ∙ found_deep (not dropped && may_pair run closer) f (nearest_opener closer rs (texts_before xs inside))
+        rw (texts_deep xs inside, nearest_deep closer rs (texts_before xs inside))
+        (found_deep (not dropped && may_pair run closer) f (nearest_opener closer rs (texts_before xs inside)))
 
     dropped_deep : (d : Delimiter) (rs : List (Read A)) → map (drop_read d) (deep_reads rs)
         ≡ deep_reads (map (drop_read d) rs)
     dropped_deep d [] = refl
-    dropped_deep d (done_read a below ∷ rs) = ap (λ (os : List (Read B)). done_read (retag to a) (within below) ∷ os)
-        (dropped_deep d rs)
-    dropped_deep d (waiting dropped run xs ∷ rs) = ap
-        (λ (os : List (Read B)). waiting (dropped || drops d run.delimiter) run
-        (moved xs) ∷ os) (dropped_deep d rs)
+    dropped_deep d (done_read a below ∷ rs) = rw (dropped_deep d rs) refl
+    dropped_deep d (waiting dropped run xs ∷ rs) = rw (dropped_deep d rs) refl
 
     layers_deep : (d : Delimiter) (xs vs : List (Label A)) (inside : Forest (Label A)) → IsClosedChain inside
         → layers s d (moved xs) (moved vs) (deep inside) ≡ deep_layers (layers s d xs vs inside)
     layers_deep d [] vs inside h = refl
     layers_deep d (x ∷ xs) [] inside h = refl
-    layers_deep d (x ∷ []) (v ∷ vs) inside h =
-        ap (λ (f : Forest (Label B)). let l : Layers B =
-        record {
-          whole = node (retag to (spanned s.text (layer_of_one (marks_of s.rules.options) d) x v)) f nil;
-          opening = [];
-          closing =
-              moved vs;
-        } in l) (sym (stays inside h))
-    layers_deep d (x ∷ y ∷ xs) (v ∷ []) inside h =
-        ap (λ (f : Forest (Label B)). let l : Layers B =
-        record {
-          whole = node (retag to (spanned s.text (layer_of_one (marks_of s.rules.options) d) x v)) f nil;
-          opening =
-              moved (y ∷ xs);
-          closing = [];
-        } in l) (sym (stays inside h))
+    layers_deep d (x ∷ []) (v ∷ vs) inside h = rw (stays inside h) refl
+    layers_deep d (x ∷ y ∷ xs) (v ∷ []) inside h = rw (stays inside h) refl
     layers_deep d (x ∷ y ∷ xs) (v ∷ w ∷ vs) inside h =
-        ap (λ (f : Forest (Label B)). layers s d (moved xs) (moved vs)
-        (node (retag to (spanned s.text (layer_of_two (marks_of s.rules.options) d) y w)) f nil)) (sym (stays inside h))
-        ∙ layers_deep d xs vs (node (spanned s.text (layer_of_two (marks_of s.rules.options) d) y w) inside nil)
-        (two-closed (marks_of s.rules.options) d (slice_range s.text y.part.range.start w.part.range.end), tt)
+        rw (stays inside h) at
+        (layers_deep d xs vs (node (spanned s.text (layer_of_two (marks_of s.rules.options) d) y w) inside nil)
+        (two-closed (marks_of s.rules.options) d _, tt))
 
     done_trees_deep : (f : Forest (Label A)) (rs : List (Read A)) → trees_done (deep f) (deep_reads rs)
         ≡ deep_reads (trees_done f rs)
@@ -171,103 +146,73 @@ module _ {A B : Type 0} (to : A → B) (within : Forest (Label A) → Forest (La
         (turned_deep vs [])
         ∙ opened_deep run.can_open run (last_first vs []) rs
 
-    abbrev IsDeep : (List (Label B) → List (Read B) → List (Read B)) → (List (Label A) → List (Read A) → List (Read A))
+    -- what goes on from a closer's characters and from what was read: it reads, and finds as many openers
+    abbrev IsDeep : (reads' : List (Label B) → List (Read B) → List (Read B))
+        → (finds' : List (Label B) → List (Read B) → ℕ)
+        → (reads : List (Label A) → List (Read A) → List (Read A)) → (finds : List (Label A) → List (Read A) → ℕ)
         → Type 0
-    IsDeep again' again = (vs : List (Label A)) (rs : List (Read A)) → AreClosed vs → Good rs
-        → again' (moved vs) (deep_reads rs)
-        ≡ deep_reads (again vs rs)
+    IsDeep reads' finds' reads finds = (vs : List (Label A)) (rs : List (Read A)) → AreClosed vs → Good rs
+        → (reads' (moved vs) (deep_reads rs) ≡ deep_reads (reads vs rs))
+        × (finds' (moved vs) (deep_reads rs) ≡ finds vs rs)
 
     -- a pair
-    pair_deep : (vs : List (Label A)) (f : FoundOpener A) → EachFound IsClosed IsClosedTree f
-        → (let made : Layers A = layers s f.run.delimiter f.characters vs f.inside in
-        (layers s f.run.delimiter (moved f.characters) (moved vs) (deep f.inside) ≡ deep_layers made)
-        × (after_layers (deep_opener f) (deep_layers made) ≡ deep_reads (after_layers f made)))
-    pair_deep vs f g =
-        let made : Layers A = layers s f.run.delimiter f.characters vs f.inside in (
-          layers_deep f.run.delimiter f.characters vs f.inside g.0,
-          ap (trees_done (deep made.whole)) (still_deep f.run made.opening f.before)
-              ∙ done_trees_deep made.whole (still_waiting f.run made.opening f.before),
+    pair_deep : {C : Type 0} (go : List (Label B) → List (Read B) → C) (vs : List (Label A)) (f : FoundOpener A)
+        → EachFound IsClosed IsClosedTree f
+        → (let l : Layers B = layers s f.run.delimiter (moved f.characters) (moved vs) (deep f.inside) in
+        let made : Layers A = layers s f.run.delimiter f.characters vs f.inside in
+        go l.closing (after_layers (deep_opener f) l) ≡ go (moved made.closing) (deep_reads (after_layers f made)))
+    pair_deep go vs f g =
+        let made : Layers A = layers s f.run.delimiter f.characters vs f.inside in
+        ap (λ (l : Layers B). go l.closing (after_layers (deep_opener f) l))
+        (layers_deep f.run.delimiter f.characters vs f.inside g.0)
+        ∙ ap (go (moved made.closing))
+        (ap (trees_done (deep made.whole)) (still_deep f.run made.opening f.before)
+        ∙ done_trees_deep made.whole (still_waiting f.run made.opening f.before))
+
+    searched_deep : (reads' : List (Label B) → List (Read B) → List (Read B))
+        (finds' : List (Label B) → List (Read B) → ℕ) (reads : List (Label A) → List (Read A) → List (Read A))
+        (finds : List (Label A) → List (Read A) → ℕ) (closer : Run) (vs : List (Label A)) (rs : List (Read A))
+        (o : Option (FoundOpener A)) → IsDeep reads' finds' reads finds → AreClosed vs
+        → IfSome o (EachFound IsClosed IsClosedTree)
+        → (after_search s reads' closer (moved vs) (deep_reads rs) (deep_found o)
+        ≡ deep_reads (after_search s reads closer vs rs o))
+        × (search_finds s finds' (moved vs) (deep_found o) ≡ search_finds s finds vs o)
+    searched_deep reads' finds' reads finds closer vs rs None h k g = (
+      ap (left_over closer (moved vs)) (dropped_deep closer.delimiter rs)
+          ∙ left_deep closer vs (map (drop_read closer.delimiter) rs),
+      refl,
+    )
+    searched_deep reads' finds' reads finds closer vs rs (Some f) h k g =
+        let made : Layers A = layers s f.run.delimiter f.characters vs f.inside in
+        let holds = found-keeps IsClosed IsClosedTree s (makes-closed s) vs nil f k tt g in
+        let rest = h made.closing (after_layers f made) holds.0 holds.1 in
+        (pair_deep reads' vs f g ∙ rest.0, ap suc (pair_deep finds' vs f g ∙ rest.1))
+
+    closed_deep : (turns : ℕ) (closer : Run)
+        → IsDeep (λ vs rs. closed_by s turns closer vs rs) (λ vs rs. closer_finds s turns closer vs rs)
+        (λ vs rs. closed_by s turns closer vs rs) (λ vs rs. closer_finds s turns closer vs rs)
+    unfolding closed_by closer_finds
+    closed_deep zero closer [] rs h k = (refl, refl)
+    closed_deep (suc turns) closer [] rs h k = (refl, refl)
+    closed_deep zero closer (v ∷ vs) rs h k = (left_deep closer (v ∷ vs) rs, refl)
+    closed_deep (suc turns) closer (v ∷ vs) rs h k =
+        let found = nearest_deep closer rs nil in
+        let r = searched_deep (λ vs rs. closed_by s turns closer vs rs) (λ vs rs. closer_finds s turns closer vs rs)
+        (λ vs rs. closed_by s turns closer vs rs) (λ vs rs. closer_finds s turns closer vs rs) closer (v ∷ vs) rs
+        (nearest_opener closer rs nil) (closed_deep turns closer) h
+        (nearest-keeps IsClosed IsClosedTree s (makes-closed s) closer rs nil k tt) in (
+          rw found r.0,
+          rw found r.1,
         )
 
-    searched_deep : (again' : List (Label B) → List (Read B) → List (Read B)) (again : List (Label A) → List (Read A)
-        → List (Read A)) (closer : Run) (vs : List (Label A)) (rs : List (Read A))
-        (o : Option (FoundOpener A)) → IsDeep again' again → AreClosed vs → IfSome o (EachFound IsClosed IsClosedTree)
-        → after_search s again' closer (moved vs) (deep_reads rs) (deep_found o)
-        ≡ deep_reads (after_search s again closer vs rs o)
-    searched_deep again' again closer vs rs None h k g =
-        ap (left_over closer (moved vs)) (dropped_deep closer.delimiter rs)
-        ∙ left_deep closer vs (map (drop_read closer.delimiter) rs)
-    searched_deep again' again closer vs rs (Some f) h k g =
-        let made : Layers A = layers s f.run.delimiter f.characters vs f.inside in
-        let holds = found-keeps IsClosed IsClosedTree s (makes-closed s) vs nil f k tt g in
-        let pair = pair_deep vs f g in
-        ap (λ (l : Layers B). again' l.closing (after_layers (deep_opener f) l)) pair.0
-        ∙ ap (again' (moved made.closing)) pair.1
-        ∙ h made.closing (after_layers f made) holds.0 holds.1
-
-    -- the same number of searches find
-    abbrev FindsSame : (List (Label B) → List (Read B) → ℕ) → (List (Label A) → List (Read A) → ℕ) → Type 0
-    FindsSame again' again = (vs : List (Label A)) (rs : List (Read A)) → AreClosed vs → Good rs
-        → again' (moved vs) (deep_reads rs)
-        ≡ again vs rs
-
-    searched_finds : (again' : List (Label B) → List (Read B) → ℕ) (again : List (Label A) → List (Read A) → ℕ)
-        (vs : List (Label A))
-        (o : Option (FoundOpener A)) → FindsSame again' again → AreClosed vs
-        → IfSome o (EachFound IsClosed IsClosedTree)
-        → search_finds s again' (moved vs) (deep_found o) ≡ search_finds s again vs o
-    searched_finds again' again vs None h k g = refl
-    searched_finds again' again vs (Some f) h k g =
-        let made : Layers A = layers s f.run.delimiter f.characters vs f.inside in
-        let holds = found-keeps IsClosed IsClosedTree s (makes-closed s) vs nil f k tt g in
-        let pair = pair_deep vs f g in
-        ap suc (ap (λ (l : Layers B). again' l.closing (after_layers (deep_opener f) l)) pair.0
-        ∙ ap (again' (moved made.closing)) pair.1
-        ∙ h made.closing (after_layers f made) holds.0 holds.1)
-
-    closer_finds_same : (turns : ℕ) (closer : Run) → FindsSame (λ vs rs. closer_finds s turns closer vs rs)
-        (λ vs rs. closer_finds s turns
-        closer vs rs)
-    unfolding closer_finds
-    closer_finds_same zero closer [] rs h k = refl
-    closer_finds_same (suc turns) closer [] rs h k = refl
-    closer_finds_same zero closer (v ∷ vs) rs h k = refl
-    closer_finds_same (suc turns) closer (v ∷ vs) rs h k =
-        ap (search_finds s (λ left others. closer_finds s turns closer left others) (moved (v ∷ vs)))
-        (nearest_deep closer rs nil)
-        ∙ searched_finds (λ left others. closer_finds s turns closer left others)
-        (λ left others. closer_finds s turns closer left others)
-        (v ∷ vs) (nearest_opener closer rs nil) (closer_finds_same turns closer) h
-        (nearest-keeps IsClosed IsClosedTree s (makes-closed s) closer rs nil k tt)
-
-    run_finds_same : (b : Bool) (run : Run) → FindsSame (λ vs rs. run_finds s b run vs rs)
-        (λ vs rs. run_finds s b run vs rs)
-    run_finds_same true run vs rs h k = ap (λ n. closer_finds s n run (moved vs) (deep_reads rs))
-        (length-map vs (retag to))
-        ∙ closer_finds_same (length vs) run vs rs h k
-    run_finds_same false run vs rs h k = refl
-
-    closed_deep : (turns : ℕ) (closer : Run) (vs : List (Label A)) (rs : List (Read A)) → AreClosed vs → Good rs
-        → closed_by s turns closer (moved vs) (deep_reads rs) ≡ deep_reads (closed_by s turns closer vs rs)
-    unfolding closed_by
-    closed_deep zero closer [] rs h k = refl
-    closed_deep (suc turns) closer [] rs h k = refl
-    closed_deep zero closer (v ∷ vs) rs h k = left_deep closer (v ∷ vs) rs
-    closed_deep (suc turns) closer (v ∷ vs) rs h k =
-        ap (after_search s (λ left others. closed_by s turns closer left others) closer (moved (v ∷ vs))
-        (deep_reads rs))
-        (nearest_deep closer rs nil)
-        ∙ searched_deep (λ left others. closed_by s turns closer left others)
-        (λ left others. closed_by s turns closer left others) closer
-        (v ∷ vs) rs (nearest_opener closer rs nil)
-        (λ left others a b. closed_deep turns closer left others a b) h
-        (nearest-keeps IsClosed IsClosedTree s (makes-closed s) closer rs nil k tt)
-
-    run_deep : (b : Bool) (run : Run) (vs : List (Label A)) (rs : List (Read A)) → AreClosed vs → Good rs
-        → run_read s b run (moved vs) (deep_reads rs) ≡ deep_reads (run_read s b run vs rs)
-    run_deep true run vs rs h k = ap (λ n. closed_by s n run (moved vs) (deep_reads rs)) (length-map vs (retag to))
-        ∙ closed_deep (length vs) run vs rs h k
-    run_deep false run vs rs h k = left_deep run vs rs
+    run_deep : (b : Bool) (run : Run) → IsDeep (λ vs rs. run_read s b run vs rs) (λ vs rs. run_finds s b run vs rs)
+        (λ vs rs. run_read s b run vs rs) (λ vs rs. run_finds s b run vs rs)
+    run_deep true run vs rs h k =
+        let r = closed_deep (length vs) run vs rs h k in (
+          rw (length-map vs (retag to)) r.0,
+          rw (length-map vs (retag to)) r.1,
+        )
+    run_deep false run vs rs h k = (left_deep run vs rs, refl)
 
     firsts_deep : (n : ℕ) (chain : Forest (Label A)) → first_texts s.text n (deep chain)
         ≡ moved (first_texts s.text n chain)
@@ -280,80 +225,47 @@ module _ {A B : Type 0} (to : A → B) (within : Forest (Label A) → Forest (La
     text_deep true a = refl
     text_deep false a = refl
 
-    abbrev NextDeep : (ℕ → List (Read B) → List (Read B)) → (ℕ → List (Read A) → List (Read A)) → Type 0
-    NextDeep go_on' go_on = (skip : ℕ) (fs : List (Read A)) → Good fs → go_on' skip (deep_reads fs)
-        ≡ deep_reads (go_on skip fs)
+    abbrev NextDeep : (reads' : ℕ → List (Read B) → List (Read B)) → (finds' : ℕ → List (Read B) → ℕ)
+        → (reads : ℕ → List (Read A) → List (Read A)) → (finds : ℕ → List (Read A) → ℕ) → Type 0
+    NextDeep reads' finds' reads finds = (skip : ℕ) (fs : List (Read A)) → Good fs
+        → (reads' skip (deep_reads fs) ≡ deep_reads (reads skip fs)) × (finds' skip (deep_reads fs) ≡ finds skip fs)
 
-    tree_deep : (go_on' : ℕ → List (Read B) → List (Read B)) (go_on : ℕ → List (Read A)
-        → List (Read A)) (a : Label A) (below after : Forest (Label A)) (rs : List (Read A)) (o : Option Run)
-        → NextDeep go_on' go_on
-        → Good rs → after_tree s go_on' (retag to a) (within below) (deep after) (deep_reads rs) o
-        ≡ deep_reads (after_tree s go_on a below after rs o)
-    tree_deep go_on' go_on a below after rs None h k =
-        ap (λ (l : Label B). go_on' 0 (done_read l (within below) ∷ deep_reads rs))
-        (text_deep (is_unresolved a.part.shape) a)
-        ∙ h 0 (done_read (as_closed s.text a) below ∷ rs) (as_closed-closed s.text a, k)
-    tree_deep go_on' go_on a below after rs (Some run) h k =
+    tree_deep : (reads' : ℕ → List (Read B) → List (Read B)) (finds' : ℕ → List (Read B) → ℕ)
+        (reads : ℕ → List (Read A) → List (Read A)) (finds : ℕ → List (Read A) → ℕ) (a : Label A)
+        (below after : Forest (Label A)) (rs : List (Read A)) (o : Option Run) → NextDeep reads' finds' reads finds
+        → Good rs
+        → (after_tree s reads' (retag to a) (within below) (deep after) (deep_reads rs) o
+        ≡ deep_reads (after_tree s reads a below after rs o))
+        × (tree_finds s finds' (retag to a) (within below) (deep after) (deep_reads rs) o
+        ≡ tree_finds s finds a below after rs o)
+    tree_deep reads' finds' reads finds a below after rs None h k =
+        let is = text_deep (is_unresolved a.part.shape) a in
+        let rest = h 0 (done_read (as_closed s.text a) below ∷ rs) (as_closed-closed s.text a, k) in
+        (rw is rest.0, rw is rest.1)
+    tree_deep reads' finds' reads finds a below after rs (Some run) h k =
+        let n : ℕ = run.length - 1 in
         let vs : List (Label A) = first_texts s.text run.length (node a below after) in
-        let closed : AreClosed vs
-        = (firsts-keep IsClosed IsClosedTree s (makes-closed s) run.length (node a below after)
+        let closed : AreClosed vs =
+        (firsts-keep IsClosed IsClosedTree s (makes-closed s) run.length (node a below after)
         (readable s (node a below after))).0 in
-        ap (λ (xs : List (Label B)). go_on' (run.length - 1) (run_read s run.can_close run xs (deep_reads rs)))
-        (firsts_deep run.length (node a below after))
-        ∙ ap (go_on' (run.length - 1)) (run_deep run.can_close run vs rs closed k)
-        ∙ h (run.length - 1) (run_read s run.can_close run vs rs)
+        let firsts = firsts_deep run.length (node a below after) in
+        let read = run_deep run.can_close run vs rs closed k in
+        let rest = h n (run_read s run.can_close run vs rs)
         (run-stays s (Holds IsClosed IsClosedTree s (makes-closed s))
-        (holds-on IsClosed IsClosedTree s (makes-closed s)) run
-        vs rs nil (closed, k, tt)).1
+        (holds-on IsClosed IsClosedTree s (makes-closed s)) run vs rs nil (closed, k, tt)).1 in
+        (rw (firsts, read.0) rest.0, rw (firsts, read.1, read.0, rest.1) refl)
 
     reads_deep : (skip : ℕ) (chain : Forest (Label A)) (rs : List (Read A)) → Good rs
-        → reads_from s skip (deep chain) (deep_reads rs)
-        ≡ deep_reads (reads_from s skip chain rs)
-    unfolding reads_from
-    reads_deep skip nil rs k = refl
+        → (reads_from s skip (deep chain) (deep_reads rs) ≡ deep_reads (reads_from s skip chain rs))
+        × (finds_from s skip (deep chain) (deep_reads rs) ≡ finds_from s skip chain rs)
+    unfolding reads_from finds_from
+    reads_deep skip nil rs k = (refl, refl)
     reads_deep (suc skip) (node a below after) rs k = reads_deep skip after rs k
     reads_deep zero (node a below after) rs k =
-        tree_deep (λ skip others. reads_from s skip (deep after) others) (λ skip others. reads_from s skip after others)
-        a below after rs
-        (run_of s.text a.part) (λ skip fs g. reads_deep skip after fs g) k
-
-    tree_finds_same : (go_on' : ℕ → List (Read B) → ℕ) (go_on : ℕ → List (Read A) → ℕ) (a : Label A)
-        (below after : Forest (Label A))
-        (rs : List (Read A)) (o : Option Run)
-        → ((skip : ℕ) (fs : List (Read A)) → Good fs → go_on' skip (deep_reads fs) ≡ go_on skip fs) → Good rs
-        → tree_finds s go_on' (retag to a) (within below) (deep after) (deep_reads rs) o
-        ≡ tree_finds s go_on a below after rs o
-    tree_finds_same go_on' go_on a below after rs None h k =
-        ap (λ (l : Label B). go_on' 0 (done_read l (within below) ∷ deep_reads rs))
-        (text_deep (is_unresolved a.part.shape) a)
-        ∙ h 0 (done_read (as_closed s.text a) below ∷ rs) (as_closed-closed s.text a, k)
-    tree_finds_same go_on' go_on a below after rs (Some run) h k =
-        let vs : List (Label A) = first_texts s.text run.length (node a below after) in
-        let closed : AreClosed vs
-        = (firsts-keep IsClosed IsClosedTree s (makes-closed s) run.length (node a below after)
-        (readable s (node a below after))).0 in
-        let read = run_deep run.can_close run vs rs closed k in
-        let rest = h (run.length - 1) (run_read s run.can_close run vs rs)
-        (run-stays s (Holds IsClosed IsClosedTree s (makes-closed s))
-        (holds-on IsClosed IsClosedTree s (makes-closed s)) run
-        vs rs nil (closed, k, tt)).1 in
-        ap (λ (xs : List (Label B)). run_finds s run.can_close run xs (deep_reads rs)
-        + go_on' (run.length - 1) (run_read s run.can_close run xs (deep_reads rs)))
-        (firsts_deep run.length (node a below after))
-        ∙ ap (λ n. n + go_on' (run.length - 1) (run_read s run.can_close run (moved vs) (deep_reads rs)))
-        (run_finds_same run.can_close run vs rs closed k)
-        ∙ ap (λ n. run_finds s run.can_close run vs rs + n) (ap (go_on' (run.length - 1)) read ∙ rest)
-
-    finds_same : (skip : ℕ) (chain : Forest (Label A)) (rs : List (Read A)) → Good rs
-        → finds_from s skip (deep chain) (deep_reads rs)
-        ≡ finds_from s skip chain rs
-    unfolding finds_from
-    finds_same skip nil rs k = refl
-    finds_same (suc skip) (node a below after) rs k = finds_same skip after rs k
-    finds_same zero (node a below after) rs k =
-        tree_finds_same (λ skip others. finds_from s skip (deep after) others)
-        (λ skip others. finds_from s skip after others) a below after
-        rs (run_of s.text a.part) (λ skip fs g. finds_same skip after fs g) k
+        tree_deep (λ skip others. reads_from s skip (deep after) others)
+        (λ skip others. finds_from s skip (deep after) others) (λ skip others. reads_from s skip after others)
+        (λ skip others. finds_from s skip after others) a below after rs (run_of s.text a.part)
+        (λ skip fs g. reads_deep skip after fs g) k
 
     later_deep : (chain : Forest (Label A)) → is_closed_later (deep chain) ≡ is_closed_later chain
     later_deep nil = refl
@@ -367,25 +279,21 @@ module _ {A B : Type 0} (to : A → B) (within : Forest (Label A) → Forest (La
         ≡ deep (quotes_after single double chain)
     quotes_deep single double nil = refl
     quotes_deep single double (node a below after) =
-        ap (λ (t : QuoteTurn). node (shaped t.made (retag to a)) (within below)
-        (quotes_after t.single t.double (deep after)))
-        (ap (λ l. turn_by (kind_of_shape a.part.shape) a.part.shape single double l (is_end (deep after)))
-        (later_deep after)
-        ∙ ap (λ e. turn_by (kind_of_shape a.part.shape) a.part.shape single double (is_closed_later after) e)
-        (end_deep after))
-        ∙ ap (λ (f : Forest (Label B)). node (shaped (first_turn a after single double).made (retag to a))
-        (within below) f)
-        (quotes_deep (first_turn a after single double).single (first_turn a after single double).double after)
+        rw (
+          later_deep after,
+          end_deep after,
+          quotes_deep (first_turn a after single double).single (first_turn a after single double).double after,
+        ) refl
 
     -- in either order
     pub paired-deep : (chain : Forest (Label A)) → paired s (deep chain) ≡ deep (paired s chain)
     unfolding paired runs_paired with_quotes
     paired-deep chain =
         ap (λ (f : Forest (Label B)). read_trees (reads_from s 0 f []) nil) (quotes_deep false false chain)
-        ∙ ap (λ (rs : List (Read B)). read_trees rs nil) (reads_deep 0 (quotes_after false false chain) [] tt)
+        ∙ ap (λ (rs : List (Read B)). read_trees rs nil) (reads_deep 0 (quotes_after false false chain) [] tt).0
         ∙ trees_deep (reads_from s 0 (quotes_after false false chain) []) nil
 
     pub finds-deep : (chain : Forest (Label A)) → finds_in s (deep chain) ≡ finds_in s chain
     unfolding finds_in with_quotes
     finds-deep chain = ap (λ (f : Forest (Label B)). finds_from s 0 f []) (quotes_deep false false chain)
-        ∙ finds_same 0 (quotes_after false false chain) [] tt
+        ∙ (reads_deep 0 (quotes_after false false chain) [] tt).1

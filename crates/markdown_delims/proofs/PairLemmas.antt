@@ -1,7 +1,6 @@
 -- One pair: the chain is cut before the closer, and the opener encloses what follows it.
 use Rattle.std.proofs.Common.{◌≡◌, ◌≤◌, ℕ, ◌+◌, ◌-◌, ◌<◌, Bool, true, false, List, [], ◌∷◌, Option, Some, None, length}
-use Rattle.std.proofs.Common.{refl, ap, sym, ◌∙◌}
-use Rattle.std.proofs.Common.{subst, arith}
+use Rattle.std.proofs.Common.{refl, ap, sym, ◌∙◌, subst, arith}
 use Rattle.std.specs.Prelude.{not, ◌&&◌, ◌^◌}
 use Rattle.markdown_base.specs.declared.item.Item.{Item}
 use Rattle.markdown_base.specs.Arena.{Arena, child_of}
@@ -17,8 +16,7 @@ use Rattle.markdown_delims.specs.Enclosing.{Around, Encloses, EnclosesAll, inner
 use Rattle.markdown_delims.specs.Layers.{marks_of}
 use Rattle.markdown_delims.specs.MayPair.{may_pair}
 use Rattle.markdown_delims.specs.Pairing.{Read, done_read, waiting, texts_before, FoundOpener, found_if, nearest_opener}
-use Rattle.markdown_delims.specs.Pairing.{Layers, layers}
-use Rattle.markdown_delims.specs.Pairing.{trees_done, still_waiting, after_layers}
+use Rattle.markdown_delims.specs.Pairing.{Layers, layers, trees_done, still_waiting, after_layers}
 use Rattle.markdown_delims.specs.Views.{View, Writes, Wrote, LeftHolds, next_number, LeftRises, Cut, AllTouched, top}
 use Rattle.markdown_delims.proofs.CutLemmas.{Rises-raise, Holds-write_before, step_left, Parted, parted}
 use Rattle.markdown_delims.proofs.WriteLemmas.{parts_written, kept_links, kept_both}
@@ -90,20 +88,13 @@ parted_top own k k' first (node a below before) last l right hi c e o w =
     parted own k k' first a below before l None right hi c (subst (λ i. own i ≡ true) same o)
     (subst (λ i. Writes k k' i (k.item i) (k.child i) None) same w)
 
-pub top_within : (k : View Part) (first : Option ℕ) (f : Forest (Label ℕ)) (last : ℕ) (l : Option ℕ)
-    → LeftHolds k first f l
-    → Some last ≡ top f → last < k.size
-top_within k first nil last l h e = cc
-top_within k first (node a below before) last l h e = let same : last ≡ a.tag = cc in omega (arith, h.0, same)
-
-top_below : (own : ℕ → Bool) (f : Forest (Label ℕ)) (last hi : ℕ) → LeftRises own f hi → Some last ≡ top f → last < hi
-top_below own nil last hi h e = cc
-top_below own (node a below before) last hi h e = let same : last ≡ a.tag = cc in omega (arith, h.0.0, same)
-
-top_touched : (touched : ℕ → Bool) (f : Forest (Label ℕ)) (last : ℕ) → AllTouched touched f → Some last ≡ top f
-    → touched last ≡ true
-top_touched touched nil last h e = cc
-top_touched touched (node a below before) last h e = let same : last ≡ a.tag = cc in rw same h.0
+-- where the last node of a left list is
+top_is : (own : ℕ → Bool) (k : View Part) (first : Option ℕ) (f : Forest (Label ℕ)) (last hi : ℕ) (l : Option ℕ)
+    → LeftHolds k first f l → LeftRises own f hi → AllTouched own f → Some last ≡ top f
+    → (last < k.size) × (last < hi) × (own last ≡ true)
+top_is own k first nil last hi l h r t e = cc
+top_is own k first (node a below before) last hi l h r t e =
+    let same : last ≡ a.tag = cc in (omega (arith, h.0, same), omega (arith, r.0.0, same), rw same t.0)
 
 -- the link after the last of an opener's characters
 pub last_link : (k : View Part) (first : Option ℕ) (o : Characters) (xs : List (Label ℕ)) (before : Forest (Label ℕ))
@@ -140,8 +131,12 @@ module _ (h : Chain) (s : Arena Item) (rs : List (Read ℕ)) (vs : List (Label �
     (opener closer : Characters) (last : ℕ) (st : StandsAt h s rs (Some last) closer vs after)
     (finds : Finds rs opener closer found)
     (some_open : 0 < opener.count) (some_close : 0 < closer.count) where
+  top_last : (last < length s.nodes) × (last < next_number (texts vs after) h.bound) × (h.touched last ≡ true)
+  top_last = top_is h.touched (view h s) h.first (flat rs) last (next_number (texts vs after) h.bound)
+      (Some closer.number) st.stands.cut.left st.stands.cut.rises_left st.stands.left_touched st.stands.last_is
+
   pub last_within : last < length s.nodes
-  last_within = top_within (view h s) h.first (flat rs) last (Some closer.number) st.stands.cut.left st.stands.last_is
+  last_within = top_last.0
 
   pub around_opener : Around
   around_opener = record {
@@ -154,7 +149,7 @@ module _ (h : Chain) (s : Arena Item) (rs : List (Read ℕ)) (vs : List (Label �
 
   module _ (t : Arena Item) (w : Wrote s t last (item_at s.nodes last) (child_of s.nodes last) None) where
     touched_last : h.touched last ≡ true
-    touched_last = top_touched h.touched (flat rs) last st.stands.left_touched st.stands.last_is
+    touched_last = top_last.2
 
     parts : Writes (view h s) (view h t) last ((view h s).item last) ((view h s).child last) None
     parts = parts_written (part_of h.setting.text h.tables) s.nodes t.nodes last (item_at s.nodes last)
@@ -167,9 +162,7 @@ module _ (h : Chain) (s : Arena Item) (rs : List (Read ℕ)) (vs : List (Label �
         st.are in
         let rises = Rises-raise h.touched 0 closer.number (texts vs after) h.bound (omega (arith, first))
         st.stands.cut.rises_right in
-        let below : last < closer.number = subst (λ n. last < n) first
-        (top_below h.touched (flat rs) last (next_number (texts vs after)
-        h.bound) st.stands.cut.rises_left st.stands.last_is) in
+        let below : last < closer.number = rw (← first) top_last.1 in
         let p = parted_top h.touched (view h s) (view h t) h.first (flat rs) last (Some closer.number) (texts vs after)
         h.bound
         st.stands.cut st.stands.last_is touched_last parts in
@@ -187,9 +180,7 @@ module _ (h : Chain) (s : Arena Item) (rs : List (Read ℕ)) (vs : List (Label �
           closer_are = st.are;
           hi = closer.number;
           low = omega arith;
-          cut = subst (λ l. Cut h.touched (view h t) h.first (left_texts found.characters (flat found.before)) l
-              found.inside closer.number)
-              link at.cut;
+          cut = rw (← link) at.cut;
           right = Holds-write_before h.touched (view h s) (view h t) last _ _ None parts touched_last
               (Some closer.number) closer.number
               (texts vs after) h.bound below rises st.stands.cut.right;

@@ -1,7 +1,6 @@
 -- A chain that was paired in place reads as its labels paired, and has no node more.
 use Rattle.std.proofs.Common.{◌≡◌, ℕ, ◌+◌, ◌≤◌, Bool, true, false, List, [], Some, length, refl, ap, sym, ◌∙◌, subst}
-use Rattle.std.proofs.Common.{arith}
-use Rattle.std.proofs.Common.{inl, inr}
+use Rattle.std.proofs.Common.{arith, inl, inr}
 use Rattle.std.specs.Prelude.{◌==◌, ◌||◌, ◌⊎◌, ◌^◌, slice_range}
 use Rattle.std.proofs.lemmas.Bool.{eqb-true}
 use Rattle.markdown_base.specs.Arena.{Arena}
@@ -23,8 +22,7 @@ use Rattle.markdown_document.specs.Totals.{total, same, weight_if, weight_at}
 use Rattle.markdown_document.proofs.FoundLemmas.{found}
 use Rattle.markdown_document.proofs.TablesLemmas.{same-refl}
 use Rattle.markdown_delims.specs.ChainForest.{RisesFrom}
-use Rattle.markdown_delims.specs.ChainReading.{is_among, NoneBelow, AreWhole, labels, IsSpelled, IsChainAt, IsPaired}
-use Rattle.markdown_delims.specs.ChainReading.{runs_in}
+use Rattle.markdown_delims.specs.ChainReading.{is_among, NoneBelow, labels, IsSpelled, IsChainAt, IsPaired, runs_in}
 use Rattle.markdown_delims.specs.PairedChain.{CanPair, PairsChain}
 use Rattle.markdown_delims.specs.Pairing.{runs_paired, paired}
 use Rattle.markdown_delims.specs.PairingFinds.{finds_from, finds_in}
@@ -101,9 +99,7 @@ module _ (s : Setting) (tables : Tables) (old mid : Arena Item) (first : ℕ) (c
   pub runs_are_few : runs_in s.text (labels s tables mid.nodes (trees old.nodes first))
       ≤ delimiters_of (relabelled (numbered old.nodes) (trees old.nodes first))
   unfolding with_quotes
-  runs_are_few = subst (λ g. runs_in s.text g ≤ delimiters_of (relabelled (numbered old.nodes) (trees old.nodes first)))
-      (sym q.quotes)
-      (whole_quoted s tables old.nodes false false (trees old.nodes first) c.whole c.waits).1
+  runs_are_few = rw q.quotes (whole_quoted s tables old.nodes false false (trees old.nodes first) c.whole c.waits).1
 
   pub chain_is : (count : ℕ) → count ≡ delimiters_of (relabelled (numbered old.nodes) (trees old.nodes first))
       → length mid.nodes ≤ 2 ^ 63
@@ -112,8 +108,7 @@ module _ (s : Setting) (tables : Tables) (old mid : Arena Item) (first : ℕ) (c
   chain_is count e few = record {
     is = record { spelled = q.spelled; rising = c.rising; apart = apart (trees old.nodes first) c.once };
     counted = omega (arith, runs_are_few, e);
-    whole = subst (λ g. AreWhole s.text g) (sym q.quotes)
-        (whole_quoted s tables old.nodes false false (trees old.nodes first) c.whole c.waits).0;
+    whole = rw q.quotes (whole_quoted s tables old.nodes false false (trees old.nodes first) c.whole c.waits).0;
     few = few;
   }
 
@@ -165,8 +160,7 @@ tags_count count s = record {
   text = λ a. omega arith;
   one = λ d x v. omega arith;
   two = λ d x v. omega arith;
-  quote = λ a after x y. omega
-      arith;
+  quote = λ a after x y. omega arith;
 }
 
 -- weights

@@ -1,8 +1,7 @@
 -- A chain of an arena whose runs are whole, once its quotes are read: its labels tell of the same runs.
 use Rattle.std.proofs.Common.{◌≡◌, ℕ, zero, suc, ◌<◌, ◌≤◌, Bool, true, false, List, [], ◌∷◌, Option, Some, None, refl}
-use Rattle.std.proofs.Common.{ap, sym, ◌∙◌}
-use Rattle.std.proofs.Common.{subst, arith}
-use Rattle.std.specs.Prelude.{if◌then◌else◌, ◌==◌, ◌&&◌, IfSome, IsTrue, slice_index, slice_range, is_some}
+use Rattle.std.proofs.Common.{ap, sym, ◌∙◌, subst, arith}
+use Rattle.std.specs.Prelude.{if◌then◌else◌, ◌==◌, ◌||◌, IfSome, IsTrue, slice_index, slice_range, is_some}
 use Rattle.markdown_base.specs.declared.item.Item.{Item}
 use Rattle.markdown_base.specs.declared.item.ItemBody.{ItemBody}
 use Rattle.markdown_base.specs.declared.item.ItemBody.TheVariants as body
@@ -11,14 +10,12 @@ use Rattle.markdown_base.specs.BlockTree.{Numbered, numbered, item_at}
 use Rattle.markdown_base.specs.Forest.{Forest, nil, node, relabelled}
 use Rattle.markdown_base.specs.Item.{is_open}
 use Rattle.markdown_base.specs.WellFormed.{RunCharacter, run_character, is_delimiter, RunGoesOn}
-use Rattle.markdown_document.specs.Document.{Shape, leaf, enclosed, plain, backslash_break, unresolved, Label, shaped}
-use Rattle.markdown_document.specs.Document.{is_unresolved}
-use Rattle.markdown_document.specs.Document.{shape_of, block_of, part_of}
+use Rattle.markdown_document.specs.Document.{Shape, unresolved, Label, shaped}
+use Rattle.markdown_document.specs.Document.{is_unresolved, shape_of, block_of, part_of}
 use Rattle.markdown_document.specs.Setting.{Setting}
 use Rattle.markdown_document.specs.Tables.{Tables}
 use Rattle.markdown_document.specs.Waiting.{waits_for_pairing}
 use Rattle.markdown_document.proofs.PlaceLemmas.{shape-open}
-use Rattle.markdown_delims.specs.declared.quotes.Kind.{Kind}
 use Rattle.markdown_delims.specs.declared.quotes.Kind.TheVariants as kind
 use Rattle.markdown_delims.specs.declared.run.Delimiter.{Delimiter}
 use Rattle.markdown_delims.specs.declared.run.Delimiter.TheVariants.{Star, Underscore, Tilde, Caret}
@@ -29,11 +26,12 @@ use Rattle.markdown_delims.specs.MayPair.{delimiter_of}
 use Rattle.markdown_delims.specs.PairedChain.{WaitsForPairing}
 use Rattle.markdown_delims.specs.Pairing.{Read, done_read, read_trees, trees_done, reads_from, runs_paired}
 use Rattle.markdown_delims.specs.PairingFinds.{finds_from}
-use Rattle.markdown_delims.specs.Quotes.{left_single, right_single, kind_of_shape, is_closed_later, is_end, QuoteTurn}
-use Rattle.markdown_delims.specs.Quotes.{single_turn}
-use Rattle.markdown_delims.specs.Quotes.{double_turn, turn_by, first_turn, quotes_after}
+use Rattle.markdown_delims.specs.Quotes.{kind_of_shape, is_closed_later, is_end, QuoteTurn}
+use Rattle.markdown_delims.specs.Quotes.{turn_by, first_turn, quotes_after}
 use Rattle.markdown_delims.specs.RunReading.{StandsWhole, HasWholeRuns, counts_one, delimiters_of}
-use Rattle.markdown_delims.proofs.ReadLemmas.{reads_none, finds_none}
+use Rattle.markdown_delims.proofs.ChainLawLemmas.{nothing_follows, trees_before}
+use Rattle.markdown_delims.proofs.LayerLawLemmas.{turn-gives}
+use Rattle.markdown_delims.proofs.ReadLemmas.{reads_none}
 
 -- what is open, and nothing else, reads as what is
 pub open_agrees : (tables : Tables) (source : List ℕ) (b : ItemBody) → is_unresolved (shape_of tables source b)
@@ -49,33 +47,21 @@ closed_shape tables source b e = open_agrees tables source b ∙ e
 -- a delimiter's byte is one of the four
 pub delimiter_some : (i : ℕ) → IsTrue (is_delimiter i) → (d : Delimiter) × (delimiter_of i ≡ Some d)
 delimiter_some i h =
-    star (i == 42) refl
+    one_of (i == 42) (i == 95) (i == 126) (i == 94) h
   where
-    caret : (b : Bool) → (i == 94) ≡ b → (i == 42) ≡ false → (i == 95) ≡ false → (i == 126) ≡ false
-        → (d : Delimiter) × (delimiter_of i ≡ Some d)
-    caret true e p q r = (Caret, rw (p, q, r, e) refl)
-    caret false e p q r = absurd (let no : false ≡ true = rw (p, q, r, e) at h in cc)
-
-    tilde : (b : Bool) → (i == 126) ≡ b → (i == 42) ≡ false → (i == 95) ≡ false → (d : Delimiter)
-        × (delimiter_of i ≡ Some d)
-    tilde true e p q = (Tilde, rw (p, q, e) refl)
-    tilde false e p q = caret (i == 94) refl p q e
-
-    underscore : (b : Bool) → (i == 95) ≡ b → (i == 42) ≡ false → (d : Delimiter) × (delimiter_of i ≡ Some d)
-    underscore true e p = (Underscore, rw (p, e) refl)
-    underscore false e p = tilde (i == 126) refl p e
-
-    star : (b : Bool) → (i == 42) ≡ b → (d : Delimiter) × (delimiter_of i ≡ Some d)
-    star true e = (Star, rw e refl)
-    star false e = underscore (i == 95) refl e
+    one_of : (a b c d : Bool) → IsTrue (a || (b || (c || d)))
+        → (x : Delimiter) × ((if a then Some Star else if b then Some Underscore else if c then Some Tilde
+        else if d then Some Caret else None) ≡ Some x)
+    one_of true b c d h = (Star, refl)
+    one_of false true c d h = (Underscore, refl)
+    one_of false false true d h = (Tilde, refl)
+    one_of false false false true h = (Caret, refl)
+    one_of false false false false h = absurd (let no : false ≡ true = h in cc)
 
 -- what is not open begins no run
 run_of_closed : (shape : Shape) (d : Option Delimiter) → is_unresolved shape ≡ false → run_of_shape shape d ≡ None
-run_of_closed (leaf e origins) d h = refl
-run_of_closed (enclosed tag) d h = refl
-run_of_closed plain d h = refl
-run_of_closed backslash_break d h = refl
 run_of_closed (unresolved b) d h = cc h
+run_of_closed other d h = refl
 
 pub count_some : (text : List ℕ) (a : Numbered) (n : ℕ) (opens closes : Bool) (next : Option Numbered)
     → RunGoesOn text a n opens closes next → 0 < n
@@ -91,7 +77,7 @@ quote_kind : (q x y : Bool) → (if q then kind.Single x y else kind.Double x y)
 quote_kind true x y e = cc
 quote_kind false x y e = cc
 
-quote_break : (q x y : Bool) → kind.Break ≡ (if q then kind.Single x y else kind.Double x y) → ⊥
+quote_break : (q x y : Bool) → (if q then kind.Single x y else kind.Double x y) ≡ kind.Break → ⊥
 quote_break true x y e = cc
 quote_break false x y e = cc
 
@@ -143,36 +129,10 @@ block_of_run : (b : ItemBody) (c : RunCharacter) → run_character b ≡ Some c 
 block_of_run (body.MaybeEmphasis n x y) c e = refl
 block_of_run other c e = cc
 
--- a turn leaves nothing open
-left_closed : (b : Bool) → is_unresolved (if b then left_single else right_single) ≡ false
-left_closed true = refl
-left_closed false = refl
-
-single_closed : (is_closing opens single double later : Bool)
-    → is_unresolved (single_turn is_closing opens single double later).made ≡ false
-single_closed true opens single double later = refl
-single_closed false opens single double later = left_closed (opens && later)
-
-double_closed : (is_closing opens single double : Bool)
-    → is_unresolved (double_turn is_closing opens single double).made ≡ false
-double_closed true opens single double = refl
-double_closed false opens single double = refl
-
-break_closed : (shape : Shape) → kind.Break ≡ kind_of_shape shape → is_unresolved shape ≡ false
+break_closed : (shape : Shape) → kind_of_shape shape ≡ kind.Break → is_unresolved shape ≡ false
 break_closed (unresolved (body.MaybeSmartQuote quote x y)) e = absurd (quote_break (quote == 39) x y e)
 break_closed (unresolved other) e = cc
 break_closed other e = refl
-
-made_closed : (k : Kind) (shape : Shape) (single double later last : Bool) → k ≡ kind_of_shape shape
-    → (k ≡ kind.Other → is_unresolved shape ≡ false) → is_unresolved (turn_by k shape single double later last).made
-    ≡ false
-made_closed (kind.Single opens closes) shape single double later last e h = single_closed (single && closes) opens
-    single double later
-made_closed (kind.Double opens closes) shape single double later last e h = double_closed (double && closes) opens
-    single double
-made_closed kind.Break shape single double later true e h = refl
-made_closed kind.Break shape single double later false e h = break_closed shape e
-made_closed kind.Other shape single double later last e h = h refl
 
 one_at_most : (b : Bool) → one_if b ≤ 1
 one_at_most true = omega arith
@@ -220,9 +180,7 @@ module _ (s : Setting) (tables : Tables) (nodes : List (Node Item)) where
         refl,
         none_below ix below (node j inside after) _ e w,
         block_of_run (item_at nodes ix).body _ e,
-        subst (λ i. BeginsRun i (suc n) (quotes_after t.single t.double (labels s tables nodes (node j inside after))))
-            g.number
-            (begins_run (suc n) opens closes t.single t.double j inside after g.body w.1),
+        rw (← g.number) (begins_run (suc n) opens closes t.single t.double j inside after g.body w.1),
       )
 
   -- a tree, by whether it is a character of a run
@@ -243,16 +201,15 @@ module _ (s : Setting) (tables : Tables) (nodes : List (Node Item)) where
   tree_whole single double ix below after w waits None e =
       let t = turn single double ix after in
       let source : List ℕ = slice_range s.text (item_at nodes ix).start (item_at nodes ix).end in
-      let closed : is_unresolved t.made ≡ false = made_closed (kind_of_shape (label ix).part.shape)
-      (label ix).part.shape single double
-      (is_closed_later (labels s tables nodes after)) (is_end (labels s tables nodes after)) refl
+      let closed : is_unresolved t.made ≡ false =
+      turn-gives (λ shape. is_unresolved shape ≡ false) (λ c. refl) (kind_of_shape (label ix).part.shape)
+      (label ix).part.shape single double (is_closed_later (labels s tables nodes after))
+      (is_end (labels s tables nodes after)) (break_closed (label ix).part.shape)
       (other_closed tables source (item_at nodes ix).body waits.0 e) in
       let none : run_of s.text (shaped t.made (label ix)).part ≡ None = run_of_closed t.made _ closed in
       record {
         counts = closed_count t.made closed;
-        whole = subst (λ o. IsWhole o (shaped t.made (label ix)) (labels s tables nodes below)
-            (quotes_after t.single t.double
-            (labels s tables nodes after))) (sym none) closed;
+        whole = rw none closed;
         counted = omega (arith, ap (λ o. one_if (is_some o)) none);
       }
   tree_whole single double ix below after w waits (Some c) e =
@@ -265,14 +222,10 @@ module _ (s : Setting) (tables : Tables) (nodes : List (Node Item)) where
       (is_closed_later (labels s tables nodes after)) (is_end (labels s tables nodes after)) e in
       let run : Run = record { delimiter = d.0; length = c.count; can_open = c.can_open; can_close = c.can_close } in
       let is : run_of s.text (shaped t.made (label ix)).part ≡ Some run =
-      ap (λ z. run_of_shape z (delimiter_of (slice_index s.text (item_at nodes ix).start))) made
-      ∙ ap (run_of_shape (label ix).part.shape) d.1 ∙ shown_run tables source (item_at nodes ix).body c d.0 e some in
+      rw (made, d.1) (shown_run tables source (item_at nodes ix).body c d.0 e some) in
       record {
         counts = subst ShowsCount (sym made) (shown_count tables source (item_at nodes ix).body c e some);
-        whole = subst (λ o. IsWhole o (shaped t.made (label ix)) (labels s tables nodes below)
-            (quotes_after t.single t.double
-            (labels s tables nodes after))) (sym is)
-            (begins_run c.count c.can_open c.can_close single double ix below after e w);
+        whole = rw is (begins_run c.count c.can_open c.can_close single double ix below after e w);
         counted = omega (arith, one_at_most (is_some (run_of s.text (shaped t.made (label ix)).part)), ap counts_one e);
       }
 
@@ -287,15 +240,6 @@ module _ (s : Setting) (tables : Tables) (nodes : List (Node Item)) where
       let here = tree_whole single double ix below after w waits (run_character (item_at nodes ix).body) refl in
       let rest = whole_quoted t.single t.double after w.1 waits.1 in
       ((here.counts, here.whole, rest.0), omega (arith, here.counted, rest.1))
-
--- a chain followed by another
-abbrev pub followed_by : Forest (Label ℕ) → Forest (Label ℕ) → Forest (Label ℕ)
-followed_by nil after = after
-followed_by (node a below rest) after = node a below (followed_by rest after)
-
-pub nothing_follows : (chain : Forest (Label ℕ)) → followed_by chain nil ≡ chain
-nothing_follows nil = refl
-nothing_follows (node a below after) = ap (node a below) (nothing_follows after)
 
 -- without runs, reading a chain changes nothing
 module _ (s : Setting) where
@@ -313,17 +257,12 @@ module _ (s : Setting) where
           × (finds_from s 0 (node a below after) rs ≡ 0)
       by_run None is rest =
           let closed : is_unresolved a.part.shape ≡ false = subst (λ o. IsWhole o a below after) is w.1 in
-          (reads_none s a below after rs is closed ∙ rest.0, finds_none s a below after rs is closed ∙ rest.1)
+          let here = reads_none s a below after rs is closed in (here.0 ∙ rest.0, here.1 ∙ rest.1)
       by_run (Some run) is rest = absurd (omega (arith, e, ap (λ o. one_if (is_some o)) is))
-
-  trees_back : (chain after : Forest (Label ℕ)) (rs : List (Read ℕ)) → read_trees (trees_done chain rs) after
-      ≡ read_trees rs (followed_by chain after)
-  trees_back nil after rs = refl
-  trees_back (node a below rest) after rs = trees_back rest after (done_read a below ∷ rs)
 
   pub paired_none : (chain : Forest (Label ℕ)) → AreWhole s.text chain → runs_in s.text chain ≡ 0
       → (runs_paired s chain ≡ chain) × (finds_from s 0 chain [] ≡ 0)
   unfolding runs_paired
   paired_none chain w e =
       let r = no_runs chain [] w e in
-      (ap (λ rs. read_trees rs nil) r.0 ∙ trees_back chain nil [] ∙ nothing_follows chain, r.1)
+      (ap (λ rs. read_trees rs nil) r.0 ∙ trees_before chain [] nil ∙ nothing_follows chain, r.1)

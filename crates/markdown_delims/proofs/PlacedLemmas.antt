@@ -1,8 +1,7 @@
 -- A chain that is paired in place keeps its place: its items are placed as they were, at every depth, and what preceded
 -- it still does.
 use Rattle.std.proofs.Common.{◌≡◌, ℕ, zero, suc, ◌+◌, ◌-◌, ◌≤◌, Bool, true, false, List, Option, Some, None, refl, ap}
-use Rattle.std.proofs.Common.{sym, ◌∙◌, subst, arith}
-use Rattle.std.proofs.Common.{inl, inr}
+use Rattle.std.proofs.Common.{sym, ◌∙◌, subst, arith, inl, inr}
 use Rattle.std.specs.Prelude.{IfSome, ◌⊎◌, if◌then◌else◌, slice_range}
 use Rattle.std.specs.Option.{option_map}
 use Rattle.markdown_base.specs.Arena.{child_of, sibling_of}
@@ -116,8 +115,7 @@ module _ (s : Setting) (tables : Tables) (old : List (Node Item)) (own : ℕ →
       text = rw e.text tt;
       link = rw e.link tt;
       alignments = rw e.alignments tt;
-      attributes = rw
-          e.attributes tt;
+      attributes = rw e.attributes tt;
     };
     slices = slices-unnamed s.text tables (origin_start s.text item.start) item.end item.body e.text e.link;
   }
@@ -145,10 +143,9 @@ module _ (s : Setting) (tables : Tables) (old : List (Node Item)) (own : ℕ →
           lies = subst (LiesIn s.text) item d.placed.lies;
           named = subst (λ (i : Item). NamesEntries tables i.body) item d.placed.named;
           slices = subst (ComesFromPlace s.text tables) item d.placed.slices;
-          keeps = subst (λ x. KeepsItemRules s.text (numbered new ix) (child_of new ix) x) next
-              (subst (λ x. KeepsItemRules s.text (numbered new ix) x (next_at old ix)) (sym here.child)
-              (subst (λ (i : Item). let a : Numbered = record { number = ix; item = i } in
-              KeepsItemRules s.text a (child_of old ix) (next_at old ix)) item d.placed.keeps));
+          keeps = rw (← next) (subst (λ x. KeepsItemRules s.text (numbered new ix) x (next_at old ix)) (sym here.child)
+              (subst (λ (i : Item). let a : Numbered = record { number = ix; item = i } in KeepsItemRules s.text a
+              (child_of old ix) (next_at old ix)) item d.placed.keeps));
         }
       where
         same_next : (l : Option ℕ) → IfSome l (λ n. own n ≡ false) → option_map (numbered old) l
@@ -222,8 +219,7 @@ moved_count s nodes = record {
   text = λ a. omega arith;
   one = λ d x v. omega arith;
   two = λ d x v. omega arith;
-  quote = λ a after x y. omega
-      arith;
+  quote = λ a after x y. omega arith;
 }
 
 block_stays : (b : Bool) (x : ItemBody) → if_block b (none_of (if b then Some x else None)) ≡ 0

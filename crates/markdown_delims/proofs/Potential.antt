@@ -11,9 +11,8 @@ use Rattle.markdown_delims.specs.declared.bounds.CharacterBounds.{CharacterBound
 use Rattle.markdown_delims.specs.declared.bounds.LowerBounds.{LowerBounds}
 use Rattle.markdown_delims.specs.MayPair.{can_do_both}
 use Rattle.markdown_delims.specs.Bounds.{BoundCharacter, BoundStack, character_bound_for, bound_at, bound_for}
-use Rattle.markdown_delims.specs.Bounds.{character_raised_for}
-use Rattle.markdown_delims.specs.Bounds.{raised_at, raised_for, character_lowered, lowered, character_above}
-use Rattle.markdown_delims.specs.Bounds.{above_bounds}
+use Rattle.markdown_delims.specs.Bounds.{character_raised_for, raised_at, raised_for, character_lowered, lowered}
+use Rattle.markdown_delims.specs.Bounds.{character_above, above_bounds}
 
 -- a run that is pushed is above each bound of a character
 character_above-push : (d : Delimiter) (stack : List Characters) (b : CharacterBounds) → BoundCharacter d stack b

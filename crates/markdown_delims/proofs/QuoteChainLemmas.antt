@@ -24,21 +24,18 @@ use Rattle.markdown_delims.specs.Quoting.{remembered_as, quoted_from, QuotesOn, 
 use Rattle.markdown_delims.specs.RunReading.{counts_one, delimiters_of}
 use Rattle.markdown_delims.specs.Views.{View, Holds, Rises}
 use Rattle.markdown_delims.proofs.ChainLemmas.{numbers_of, numbers_of-labels, whole_chain, chain_cut, chain_touched}
-use Rattle.markdown_delims.proofs.ChainLemmas.{AllRead, chain_read, numbers_left}
-use Rattle.markdown_delims.proofs.ChainLemmas.{fewer_left}
+use Rattle.markdown_delims.proofs.ChainLemmas.{AllRead, chain_read, numbers_left, fewer_left}
 use Rattle.markdown_delims.proofs.WriteLemmas.{kept_none, kept_both}
 
 -- a shape counts as its body does, at most once
 counts_as : (tables : Tables) (source : List ℕ) (b : ItemBody) → counts_shape (shape_of tables source b)
     ≡ counts_one (run_character b)
-counts_as tables source body.Paragraph = refl
 counts_as tables source (body.HardBreak true) = refl
 counts_as tables source (body.HardBreak false) = refl
 counts_as tables source other = refl
 
 one_at_most : (shape : Shape) → counts_shape shape ≤ 1
 one_at_most (unresolved (body.MaybeEmphasis n opens closes)) = omega arith
-one_at_most (unresolved other) = omega arith
 one_at_most other = omega arith
 
 delimiters_are : (s : Setting) (tables : Tables) (nodes : List (Node Item)) (f : Forest ℕ)
@@ -127,8 +124,8 @@ module _ (s : Setting) (tables : Tables) (old : Arena Item) (first : ℕ) (f : F
           ≡ kind_of_shape (shape_of tables source (item_at t.nodes ix).body))
           (ends : last ≡ is_none (sibling_of t.nodes ix))
           (counts : more ≡ counts_one (run_character (item_at t.nodes ix).body)) where
-        step_if : (rest : Forest (Label ℕ)) → QuotesOn h old t nil whole None false opened.single opened.double (Some ix)
-            rest
+        step_if : (rest : Forest (Label ℕ)) → QuotesOn h old t nil whole None false opened.single opened.double
+            (Some ix) rest
             → count + delimiters_in rest ≡ delimiters_in whole → QuotesTree k ix last t u opened opened'
             → QuotesSoFar u opened' (count + more) (sibling_of t.nodes ix)
         unfolding whole_chain
@@ -137,7 +134,8 @@ module _ (s : Setting) (tables : Tables) (old : Arena Item) (first : ℕ) (f : F
             let here : Some ix ≡ Some b.tag = on.stands.cut.right.0 in
             let is : ix ≡ b.tag = cc in
             let part = ap (view h t).item is ∙ on.stands.cut.right.2 in
-            let kind : k ≡ kind_of_shape b.part.shape = kinds tables _ ∙ ap (λ (p : Part). kind_of_shape p.shape) part in
+            let kind : k ≡ kind_of_shape b.part.shape =
+            kinds tables _ ∙ ap (λ (p : Part). kind_of_shape p.shape) part in
             let end : last ≡ is_end after = ends ∙ ap (λ i. is_none (sibling_of t.nodes i)) is
             ∙ none_at_end (view h t) (sibling_of t.nodes b.tag) after on.stands.cut.right.4 in
             let one : more ≡ counts_shape b.part.shape = counts ∙ sym (counts_as tables _ (item_at t.nodes ix).body)
@@ -149,8 +147,7 @@ module _ (s : Setting) (tables : Tables) (old : Arena Item) (first : ℕ) (f : F
                 read = r.read;
                 stands = r.stands;
                 kept = kept_both h.touched old t u on.kept r.kept;
-                same
-                    = r.same ∙ on.same;
+                same = r.same ∙ on.same;
               };
               counted = omega (arith, e, one);
             }

@@ -2,7 +2,7 @@
 use Rattle.std.proofs.Common.{◌≡◌, ℕ, suc, ◌<◌, Bool, true, false, List, Option, Some, None, length, refl, ap, sym, ◌∙◌}
 use Rattle.std.proofs.Common.{subst, arith, inl, inr}
 use Rattle.std.specs.Prelude.{◌⊎◌, ◌||◌, ◌&&◌, ◌==◌, if◌then◌else◌, IfSome, is_some}
-use Rattle.std.proofs.lemmas.Bool.{eqb-true, eqb-false, eq-eqb}
+use Rattle.std.proofs.lemmas.Bool.{cond_both, eqb-true, eqb-false, eq-eqb}
 use Rattle.markdown_base.specs.Bytes.{backslash}
 use Rattle.markdown_base.specs.declared.item.Item.{Item}
 use Rattle.markdown_base.specs.declared.item.ItemBody.{ItemBody}
@@ -16,8 +16,7 @@ use Rattle.markdown_delims.specs.declared.quotes.Kind.{Kind}
 use Rattle.markdown_delims.specs.declared.quotes.Kind.TheVariants as kind
 use Rattle.markdown_delims.specs.ChainStanding.{Chain, view, read_back}
 use Rattle.markdown_delims.specs.Quotes.{synthesized, left_single, right_single, left_double, right_double}
-use Rattle.markdown_delims.specs.Quotes.{kind_of_shape}
-use Rattle.markdown_delims.specs.Quotes.{closes_later, is_closed_later, is_end, turn_by, quotes_after}
+use Rattle.markdown_delims.specs.Quotes.{kind_of_shape, closes_later, is_closed_later, is_end, turn_by, quotes_after}
 use Rattle.markdown_delims.specs.Quoting.{IsRoot, left_quoted, remembered_as, quoted_from, QuotesStand, QuotesOn}
 use Rattle.markdown_delims.specs.Views.{View, Writes, WroteBody, Holds, LeftHolds, next_number, LeftRises, IsMade, Kept}
 use Rattle.markdown_delims.specs.Views.{AllTouched}
@@ -32,25 +31,17 @@ root_below own ix nil hi r i = absurd i
 root_below own ix (node a below before) hi r (inl e) = omega (arith, e.0, r.0.0)
 root_below own ix (node a below before) hi r (inr i) = omega (arith, root_below own ix before a.tag r.1 i, r.0.0)
 
-root_within : (k : View Part) (first : Option ℕ) (ix : ℕ) (f : Forest (Label ℕ)) (l : Option ℕ) → LeftHolds k first f l
-    → IsRoot ix f
-    → ix < k.size
-root_within k first ix nil l h i = absurd i
-root_within k first ix (node a below before) l h (inl e) = omega (arith, e.0, h.0)
-root_within k first ix (node a below before) l h (inr i) = root_within k first ix before (Some a.tag) h.4 i
-
-root_touched : (touched : ℕ → Bool) (ix : ℕ) (f : Forest (Label ℕ)) → AllTouched touched f → IsRoot ix f → touched ix
-    ≡ true
-root_touched touched ix nil h i = absurd i
-root_touched touched ix (node a below before) h (inl e) = subst (λ x. touched x ≡ true) e.0 h.0
-root_touched touched ix (node a below before) h (inr i) = root_touched touched ix before h.1 i
-
-root_block : (k : View Part) (first : Option ℕ) (ix : ℕ) (f : Forest (Label ℕ)) (l : Option ℕ) → LeftHolds k first f l
-    → IsRoot ix f
-    → (k.item ix).block ≡ None
-root_block k first ix nil l h i = absurd i
-root_block k first ix (node a below before) l h (inl e) = ap (λ (p : Part). p.block) (ap k.item (sym e.0) ∙ h.1) ∙ e.1
-root_block k first ix (node a below before) l h (inr i) = root_block k first ix before (Some a.tag) h.4 i
+-- it is a node that may be written, and no block
+root_is : (own : ℕ → Bool) (k : View Part) (first : Option ℕ) (ix : ℕ) (f : Forest (Label ℕ)) (l : Option ℕ)
+    → LeftHolds k first f l → AllTouched own f → IsRoot ix f
+    → (ix < k.size) × (own ix ≡ true) × ((k.item ix).block ≡ None)
+root_is own k first ix nil l h t i = absurd i
+root_is own k first ix (node a below before) l h t (inl e) = (
+  omega (arith, e.0, h.0),
+  rw e.0 at t.0,
+  ap (λ (p : Part). p.block) (ap k.item (sym e.0) ∙ h.1) ∙ e.1,
+)
+root_is own k first ix (node a below before) l h t (inr i) = root_is own k first ix before (Some a.tag) h.4 t.1 i
 
 other_root : (ix : ℕ) (a : Label ℕ) (before : Forest (Label ℕ)) → (a.tag ≡ ix → ⊥)
     → ((a.tag ≡ ix) × (a.part.block ≡ None)) ⊎ IsRoot ix before
@@ -62,73 +53,52 @@ other_root ix a before d (inr i) = i
 module _ (own : ℕ → Bool) (k k' : View Part) (first : Option ℕ) (ix : ℕ) (o : own ix ≡ true)
     (w : Writes k k' ix (record { shape = left_single; range = (k.item ix).range; block = (k.item ix).block })
     (k.child ix) (k.next ix)) where
-  left_written_if : (b : Bool) (a : Label ℕ) (below before : Forest (Label ℕ)) (l : Option ℕ) (hi : ℕ) → (a.tag == ix)
-      ≡ b
-      → (IsRoot ix before → LeftRises own before a.tag → LeftHolds k first before (Some a.tag)
-      → LeftHolds k' first (left_quoted ix before) (Some a.tag))
-      → IsRoot ix (node a below before) → LeftRises own (node a below before) hi
-      → LeftHolds k first (node a below before) l
-      → LeftHolds k' first (if b then node (shaped left_single a) below before else node a below
-      (left_quoted ix before)) l
-  left_written_if true a below before l hi e rest i r h =
-      let same : a.tag ≡ ix = eqb-true a.tag ix e in
-      let inside : Holds k' (k.child a.tag) below = Holds-inside_before own k k' ix _ (k.child ix) (k.next ix) w o
-      (k.child a.tag)
-      (suc a.tag) below hi (omega arith) r.0 h.2 in (
+  pub left_written : (f : Forest (Label ℕ)) (l : Option ℕ) (hi : ℕ) → IsRoot ix f → LeftRises own f hi
+      → LeftHolds k first f l → LeftHolds k' first (left_quoted ix f) l
+  left_written nil l hi i r h = absurd i
+  left_written (node a below before) l hi i r h =
+      let inside : ix < suc a.tag → Holds k' (k.child a.tag) below =
+      λ low. Holds-inside_before own k k' ix _ (k.child ix) (k.next ix) w o (k.child a.tag) (suc a.tag) below hi low r.0
+      h.2 in
+      cond_both (a.tag == ix) (node (shaped left_single a) below before) (node a below (left_quoted ix before))
+      (λ f. LeftHolds k' first f l)
+      (λ e.
+      let same : a.tag ≡ ix = eqb-true a.tag ix e in (
         rw w.size h.0,
         ap k'.item same ∙ w.item
             ∙ ap (λ (j : Part). let p : Part = record { shape = left_single; range = j.range; block = j.block } in p)
-            (ap k.item (sym same)
-            ∙ h.1),
-        subst (λ m. Holds k' m below) (sym (ap k'.child same ∙ w.child ∙ ap k.child (sym same))) inside,
+            (ap k.item (sym same) ∙ h.1),
+        subst (λ m. Holds k' m below) (sym (ap k'.child same ∙ w.child ∙ ap k.child (sym same))) (inside (omega arith)),
         ap k'.next same ∙ w.next ∙ ap k.next (sym same) ∙ h.3,
         LeftHolds-write_behind own k k' ix _ (k.child ix) (k.next ix) w o first before (Some a.tag) a.tag (omega arith)
             r.1 h.4,
-      )
-  left_written_if false a below before l hi e rest i r h =
+      ))
+      (λ e.
       let differ : a.tag ≡ ix → ⊥ = eqb-false a.tag ix e in
       let j : IsRoot ix before = other_root ix a before differ i in
       let low : ix < a.tag = root_below own ix before a.tag r.1 j in
-      let same = w.others a.tag differ in
-      let inside : Holds k' (k.child a.tag) below = Holds-inside_before own k k' ix _ (k.child ix) (k.next ix) w o
-      (k.child a.tag)
-      (suc a.tag) below hi (omega arith) r.0 h.2 in
-      (rw w.size h.0, same.item ∙ h.1, rw same.child inside, same.next ∙ h.3, rest j r.1 h.4)
-
-  pub left_written : (f : Forest (Label ℕ)) (l : Option ℕ) (hi : ℕ) → IsRoot ix f → LeftRises own f hi
-      → LeftHolds k first f l
-      → LeftHolds k' first (left_quoted ix f) l
-  left_written nil l hi i r h = absurd i
-  left_written (node a below before) l hi i r h =
-      left_written_if (a.tag == ix) a below before l hi refl (λ j q g. left_written before (Some a.tag) a.tag j q g) i r
-      h
+      let same = w.others a.tag differ in (
+        rw w.size h.0,
+        same.item ∙ h.1,
+        rw same.child (inside (omega arith)),
+        same.next ∙ h.3,
+        left_written before (Some a.tag) a.tag j r.1 h.4,
+      ))
 
 -- the numbers stay
-left_rises_if : (own : ℕ → Bool) (b : Bool) (ix : ℕ) (a : Label ℕ) (below before : Forest (Label ℕ)) (hi : ℕ)
-    → (LeftRises own before a.tag → LeftRises own (left_quoted ix before) a.tag)
-    → LeftRises own (node a below before) hi
-    → LeftRises own (if b then node (shaped left_single a) below before else node a below (left_quoted ix before)) hi
-left_rises_if own true ix a below before hi rest r = r
-left_rises_if own false ix a below before hi rest r = (r.0, rest r.1)
-
 left_rises : (own : ℕ → Bool) (ix : ℕ) (f : Forest (Label ℕ)) (hi : ℕ) → LeftRises own f hi
     → LeftRises own (left_quoted ix f) hi
 left_rises own ix nil hi r = r
-left_rises own ix (node a below before) hi r = left_rises_if own (a.tag == ix) ix a below before hi
-    (left_rises own ix before a.tag) r
-
-left_touched_if : (b : Bool) (touched : ℕ → Bool) (ix : ℕ) (a : Label ℕ) (below before : Forest (Label ℕ))
-    → (AllTouched touched before → AllTouched touched (left_quoted ix before))
-    → AllTouched touched (node a below before)
-    → AllTouched touched (if b then node (shaped left_single a) below before else node a below (left_quoted ix before))
-left_touched_if true touched ix a below before rest h = h
-left_touched_if false touched ix a below before rest h = (h.0, rest h.1)
+left_rises own ix (node a below before) hi r =
+    cond_both (a.tag == ix) (node (shaped left_single a) below before) (node a below (left_quoted ix before))
+    (λ f. LeftRises own f hi) (λ _. r) (λ _. (r.0, left_rises own ix before a.tag r.1))
 
 left_all_touched : (touched : ℕ → Bool) (ix : ℕ) (f : Forest (Label ℕ)) → AllTouched touched f
     → AllTouched touched (left_quoted ix f)
 left_all_touched touched ix nil h = h
-left_all_touched touched ix (node a below before) h = left_touched_if (a.tag == ix) touched ix a below before
-    (left_all_touched touched ix before) h
+left_all_touched touched ix (node a below before) h =
+    cond_both (a.tag == ix) (node (shaped left_single a) below before) (node a below (left_quoted ix before))
+    (AllTouched touched) (λ _. h) (λ _. (h.0, left_all_touched touched ix before h.1))
 
 still_root : (single : Option ℕ) (a : Label ℕ) (below before : Forest (Label ℕ)) → IfSome single (λ x. IsRoot x before)
     → IfSome single (λ x. IsRoot x (node a below before))
@@ -142,13 +112,9 @@ remembered_over : (single : Option ℕ) (later : Bool) (a : Label ℕ) (below be
 remembered_over None later a below before h = refl
 remembered_over (Some x) false a below before h = refl
 remembered_over (Some x) true a below before h =
-    quoted_over (a.tag == x) refl
-  where
-    quoted_over : (b : Bool) → (a.tag == x) ≡ b
-        → (if b then node (shaped left_single a) below before else node a below (left_quoted x before))
-        ≡ node a below (left_quoted x before)
-    quoted_over true e = absurd (let same : a.tag ≡ x = eqb-true a.tag x e in omega arith)
-    quoted_over false e = refl
+    cond_both (a.tag == x) (node (shaped left_single a) below before) (node a below (left_quoted x before))
+    (λ f. f ≡ node a below (left_quoted x before))
+    (λ e. absurd (let same : a.tag ≡ x = eqb-true a.tag x e in omega arith)) (λ _. refl)
 
 left_quoted-here : (a : Label ℕ) (below before : Forest (Label ℕ)) → left_quoted a.tag (node a below before)
     ≡ node (shaped left_single a) below before
@@ -184,19 +150,11 @@ module _ (begun : Forest (Label ℕ)) (a : Label ℕ) (below after : Forest (Lab
   pub turn_break : (single : Option ℕ) (double : Bool) → IfSome single (λ x. x < a.tag) → is_end after ≡ true
       → quoted_from single double (node (shaped (synthesized backslash) a) below begun) after
       ≡ turned single double kind.Break
-  turn_break single double low e =
-      stays single double (synthesized backslash) low
-      ∙ ap (λ l. read_back (node (shaped (if l then synthesized backslash else a.part.shape) a) below
-      (remembered_as single (is_closed_later after)
-      begun)) (quotes_after (is_some single) double after)) (sym e)
+  turn_break single double low e = rw e (stays single double (synthesized backslash) low)
 
   pub turn_no_break : (single : Option ℕ) (double : Bool) → IfSome single (λ x. x < a.tag) → is_end after ≡ false
       → quoted_from single double (node a below begun) after ≡ turned single double kind.Break
-  turn_no_break single double low e =
-      stays single double a.part.shape low
-      ∙ ap (λ l. read_back (node (shaped (if l then synthesized backslash else a.part.shape) a) below
-      (remembered_as single (is_closed_later after)
-      begun)) (quotes_after (is_some single) double after)) (sym e)
+  turn_no_break single double low e = rw e (stays single double a.part.shape low)
 
   pub turn_double_closes : (single : Option ℕ) (opens : Bool) → IfSome single (λ x. x < a.tag)
       → quoted_from single false (node (shaped right_double a) below begun) after
@@ -258,8 +216,6 @@ pub quote_block : (tables : Tables) (source : List ℕ) (b : ItemBody)
     → block_of b ≡ None
 quote_block tables source (body.MaybeSmartQuote quote opens closes) h = refl
 quote_block tables source (body.HardBreak x) h = refl
-quote_block tables source body.Paragraph h = absurd (h refl)
-quote_block tables source body.TightParagraph h = absurd (h refl)
 quote_block tables source other h = absurd (h refl)
 
 -- a Text of one character is made by pairing
@@ -297,9 +253,7 @@ module _ (h : Chain) (s : Arena Item) (begun : Forest (Label ℕ)) (single : Opt
       let part = body_part h.setting.text h.tables (item_at s.nodes a.tag) a (body.SynthesizeChar c) (synthesized c)
       st.cut.right.2 refl
       (sym none) in
-      let written = subst (λ p. Writes (view h s) (view h t) a.tag p (child_of s.nodes a.tag)
-      (sibling_of s.nodes a.tag)) part
-      (parts_written (part_of h.setting.text h.tables) s.nodes t.nodes a.tag _ _ _ w.nodes) in
+      let written = rw part at (parts_written (part_of h.setting.text h.tables) s.nodes t.nodes a.tag _ _ _ w.nodes) in
       record {
         cut = rw number_is (written_over h.touched (view h s) (view h t) h.first begun (Some ix) a below after h.bound
             (shaped (synthesized c) a).part st.cut st.rest_touched.0 written);
@@ -359,8 +313,9 @@ put_left : (h : Chain) (s t : Arena Item) (read : Forest (Label ℕ)) (left : �
     → QuotesStand h t (left_quoted left read) None l rest
 put_left h s t read left l rest st w =
     let low = root_below h.touched left read (next_number rest h.bound) st.cut.rises_left st.remembered in
-    let none = root_block (view h s) h.first left read l st.cut.left st.remembered in
-    let own = root_touched h.touched left read st.left_touched st.remembered in
+    let is = root_is h.touched (view h s) h.first left read l st.cut.left st.left_touched st.remembered in
+    let none = is.2 in
+    let own = is.1 in
     let written = subst (λ o. Writes (view h s) (view h t) left (record {
       shape = left_single;
       range = ((view h s).item left).range;
@@ -400,12 +355,11 @@ close_on h s t u begun left ix a below after double opens st e v w =
     let on : sibling_of t.nodes ix ≡ sibling_of s.nodes ix = (v.nodes.others ix (λ x. omega (arith, is, x, low))).next
     in
     let k = kept_made h.touched s s t left _ _ _ (kept_none h.touched s)
-    (root_touched h.touched left begun st.left_touched st.remembered) v
+    (root_is h.touched (view h s) h.first left begun (Some ix) st.cut.left st.left_touched st.remembered).1 v
     (made_character 8216) in
     record {
       read = node (shaped right_single a) below (left_quoted left begun);
-      stands = subst (λ l. QuotesStand h u (node (shaped right_single a) below (left_quoted left begun)) None l after)
-          on q;
+      stands = rw (← on) q;
       kept = kept_made h.touched s t u ix _ _ _ k (rw is st.rest_touched.0) w (made_character 8217);
       same = turn_some_closes begun a below after left double opens ∙ turned_whole begun a below after (Some left)
           double
@@ -422,4 +376,5 @@ can_here h s begun (node a below after) single ix st = let here : Some ix ≡ So
 
 pub can_left : (h : Chain) (s : Arena Item) (begun rest : Forest (Label ℕ)) (left : ℕ) (l : Option ℕ)
     → QuotesStand h s begun (Some left) l rest → left < length s.nodes
-can_left h s begun rest left l st = root_within (view h s) h.first left begun l st.cut.left st.remembered
+can_left h s begun rest left l st =
+    (root_is h.touched (view h s) h.first left begun l st.cut.left st.left_touched st.remembered).0

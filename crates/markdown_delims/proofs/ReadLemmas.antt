@@ -1,7 +1,6 @@
 -- A whole run is read at its first character, and another tree by itself.
 use Rattle.std.proofs.Common.{◌≡◌, ℕ, zero, suc, ◌+◌, ◌-◌, ◌<◌, ◌≤◌, Bool, false, List, ◌∷◌, Option, Some, None, length}
-use Rattle.std.proofs.Common.{refl, ap}
-use Rattle.std.proofs.Common.{sym, ◌∙◌, subst, arith}
+use Rattle.std.proofs.Common.{refl, ap, sym, ◌∙◌, subst, arith}
 use Rattle.std.specs.Prelude.{is_some}
 use Rattle.markdown_base.specs.declared.item.Item.{Item}
 use Rattle.markdown_base.specs.declared.item.ItemBody.{ItemBody}
@@ -10,43 +9,23 @@ use Rattle.markdown_base.specs.Arena.{Arena, sibling_of}
 use Rattle.markdown_base.specs.BlockTree.{item_at}
 use Rattle.markdown_base.specs.Forest.{Forest, nil, node}
 use Rattle.markdown_document.specs.Counts.{comparisons_per_delimiter}
-use Rattle.markdown_document.specs.Document.{Shape, leaf, enclosed, plain, backslash_break, unresolved, Part, Label}
-use Rattle.markdown_document.specs.Document.{is_unresolved, shape_of}
-use Rattle.markdown_document.specs.Document.{part_of}
+use Rattle.markdown_document.specs.Document.{Part, Label, is_unresolved, shape_of, part_of}
 use Rattle.markdown_document.specs.Setting.{Setting}
 use Rattle.markdown_document.specs.Tables.{Tables}
 use Rattle.markdown_document.specs.Waiting.{text_if, as_closed}
 use Rattle.markdown_delims.specs.declared.marks.Marks.{Marks}
-use Rattle.markdown_delims.specs.declared.run.Delimiter.{Delimiter}
 use Rattle.markdown_delims.specs.declared.run.Run.{Run}
 use Rattle.markdown_delims.specs.ChainReading.{HasCount, ShowsCount, trees_after, BeginsRun, IsWhole, AreWhole, one_if}
-use Rattle.markdown_delims.specs.ChainReading.{runs_in, Settles}
-use Rattle.markdown_delims.specs.ChainReading.{StandsWhole, ReadFurther, CanReadTree}
+use Rattle.markdown_delims.specs.ChainReading.{runs_in, Settles, StandsWhole, ReadFurther, CanReadTree}
 use Rattle.markdown_delims.specs.ChainStanding.{Chain, view, flat, RunRead}
-use Rattle.markdown_delims.specs.Layers.{run_by, run_of_shape, run_of}
+use Rattle.markdown_delims.specs.Layers.{run_of}
 use Rattle.markdown_delims.specs.OpenRuns.{Openers}
-use Rattle.markdown_delims.specs.Pairing.{Read, done_read, run_read, first_texts, after_tree, reads_from}
-use Rattle.markdown_delims.specs.PairingFinds.{run_finds, tree_finds, finds_from}
+use Rattle.markdown_delims.specs.Pairing.{Read, done_read, run_read, first_texts, reads_from}
+use Rattle.markdown_delims.specs.PairingFinds.{run_finds, finds_from}
 use Rattle.markdown_delims.specs.Views.{Rises}
 use Rattle.markdown_delims.proofs.CutLemmas.{Rises-lower, step_right}
+use Rattle.markdown_delims.proofs.StepLawLemmas.{run-long}
 use Rattle.markdown_delims.proofs.WriteLemmas.{kept_none, kept_both}
-
--- a run has a character
-some_by : (n : ℕ) (opens closes : Bool) (d : Option Delimiter) (run : Run) → run_by n opens closes d ≡ Some run
-    → 0 < run.length
-some_by n opens closes None run e = cc
-some_by zero opens closes (Some d) run e = cc
-some_by (suc n) opens closes (Some d) run e =
-    let same : record { delimiter = d; length = suc n; can_open = opens; can_close = closes } ≡ run = cc in
-    omega (arith, ap (λ (r : Run). r.length) same)
-
-some_shape : (shape : Shape) (d : Option Delimiter) (run : Run) → run_of_shape shape d ≡ Some run → 0 < run.length
-some_shape (leaf e origins) d run h = cc
-some_shape (enclosed tag) d run h = cc
-some_shape plain d run h = cc
-some_shape backslash_break d run h = cc
-some_shape (unresolved (body.MaybeEmphasis n opens closes)) d run h = some_by n opens closes d run h
-some_shape (unresolved other) d run h = cc
 
 -- the count that a body's shape shows is the body's
 pub has_count : (tables : Tables) (source : List ℕ) (b : ItemBody) → ShowsCount (shape_of tables source b) → HasCount b
@@ -63,19 +42,13 @@ shown_run text source tables item i o e f h is =
     ∙ sym (is tables (subst (λ (x : Item). HasCount x.body) (sym f) h))
 
 -- the trees of a run that was read are passed over
-skip_run : (s : Setting) (n : ℕ) (chain : Forest (Label ℕ)) (rs : List (Read ℕ)) → reads_from s n chain rs
-    ≡ reads_from s 0 (trees_after n chain) rs
-unfolding reads_from
-skip_run s zero chain rs = refl
-skip_run s (suc n) nil rs = refl
+skip_run : (s : Setting) (n : ℕ) (chain : Forest (Label ℕ)) (rs : List (Read ℕ))
+    → (reads_from s n chain rs ≡ reads_from s 0 (trees_after n chain) rs)
+    × (finds_from s n chain rs ≡ finds_from s 0 (trees_after n chain) rs)
+unfolding reads_from finds_from
+skip_run s zero chain rs = (refl, refl)
+skip_run s (suc n) nil rs = (refl, refl)
 skip_run s (suc n) (node a below after) rs = skip_run s n after rs
-
-skip_finds : (s : Setting) (n : ℕ) (chain : Forest (Label ℕ)) (rs : List (Read ℕ)) → finds_from s n chain rs
-    ≡ finds_from s 0 (trees_after n chain) rs
-unfolding finds_from
-skip_finds s zero chain rs = refl
-skip_finds s (suc n) nil rs = refl
-skip_finds s (suc n) (node a below after) rs = skip_finds s n after rs
 
 -- what is whole, counted or in order remains so without the first trees
 whole_after : (text : List ℕ) (n : ℕ) (chain : Forest (Label ℕ)) → AreWhole text chain
@@ -109,44 +82,30 @@ closed_stays source a e = ap (λ b. text_if b source a) e
 -- one tree, by the run that it begins
 module _ (s : Setting) (a : Label ℕ) (below after : Forest (Label ℕ)) (rs : List (Read ℕ)) where
   pub reads_none : run_of s.text a.part ≡ None → is_unresolved a.part.shape ≡ false
-      → reads_from s 0 (node a below after) rs ≡ reads_from s 0 after (done_read a below ∷ rs)
-  unfolding reads_from
+      → (reads_from s 0 (node a below after) rs ≡ reads_from s 0 after (done_read a below ∷ rs))
+      × (finds_from s 0 (node a below after) rs ≡ finds_from s 0 after (done_read a below ∷ rs))
+  unfolding reads_from finds_from
   reads_none e c =
-      ap (after_tree s (λ skip others. reads_from s skip after others) a below after rs) e
-      ∙ ap (λ (x : Label ℕ). reads_from s 0 after (done_read x below ∷ rs)) (closed_stays s.text a c)
+      let same = closed_stays s.text a c in (
+        rw e (ap (λ (x : Label ℕ). reads_from s 0 after (done_read x below ∷ rs)) same),
+        rw e (ap (λ (x : Label ℕ). finds_from s 0 after (done_read x below ∷ rs)) same),
+      )
 
-  pub finds_none : run_of s.text a.part ≡ None → is_unresolved a.part.shape ≡ false
-      → finds_from s 0 (node a below after) rs ≡ finds_from s 0 after (done_read a below ∷ rs)
-  unfolding finds_from
-  finds_none e c =
-      ap (tree_finds s (λ skip others. finds_from s skip after others) a below after rs) e
-      ∙ ap (λ (x : Label ℕ). finds_from s 0 after (done_read x below ∷ rs)) (closed_stays s.text a c)
-
-  module _ (run : Run) (e : run_of s.text a.part ≡ Some run) where
-    abbrev vs : List (Label ℕ)
-    vs = first_texts s.text run.length (node a below after)
-
-    some : 0 < run.length
-    some = some_shape a.part.shape _ run e
-
-    reads_some : reads_from s 0 (node a below after) rs
-        ≡ reads_from s 0 (trees_after run.length (node a below after)) (run_read s run.can_close run vs rs)
-    unfolding reads_from
-    reads_some =
-        ap (after_tree s (λ skip others. reads_from s skip after others) a below after rs) e
-        ∙ skip_run s (run.length - 1) after (run_read s run.can_close run vs rs)
-        ∙ ap (λ f. reads_from s 0 f (run_read s run.can_close run vs rs))
-        (sym (after_first run.length a below after some))
-
-    finds_some : finds_from s 0 (node a below after) rs ≡ run_finds s run.can_close run vs rs
-        + finds_from s 0 (trees_after run.length (node a below after)) (run_read s run.can_close run vs rs)
-    unfolding finds_from
-    finds_some =
-        ap (tree_finds s (λ skip others. finds_from s skip after others) a below after rs) e
-        ∙ ap (λ n. run_finds s run.can_close run vs rs + n)
-        (skip_finds s (run.length - 1) after (run_read s run.can_close run vs rs)
-        ∙ ap (λ f. finds_from s 0 f (run_read s run.can_close run vs rs))
-        (sym (after_first run.length a below after some)))
+  reads_some : (run : Run) → run_of s.text a.part ≡ Some run
+      → (let rest : Forest (Label ℕ) = trees_after run.length (node a below after) in
+      let vs : List (Label ℕ) = first_texts s.text run.length (node a below after) in
+      let read : List (Read ℕ) = run_read s run.can_close run vs rs in
+      (reads_from s 0 (node a below after) rs ≡ reads_from s 0 rest read)
+      × (finds_from s 0 (node a below after) rs ≡ run_finds s run.can_close run vs rs + finds_from s 0 rest read))
+  unfolding reads_from finds_from
+  reads_some run e =
+      let vs : List (Label ℕ) = first_texts s.text run.length (node a below after) in
+      let read : List (Read ℕ) = run_read s run.can_close run vs rs in
+      let skip = skip_run s (run.length - 1) after read in
+      let first = sym (after_first run.length a below after (run-long s.text a.part run e)) in (
+        rw e (skip.0 ∙ ap (λ f. reads_from s 0 f read) first),
+        rw e (ap (λ n. run_finds s run.can_close run vs rs + n) (skip.1 ∙ ap (λ f. finds_from s 0 f read) first)),
+      )
 
 -- the first tree of the rest, at the link to it
 module _ (h : Chain) (s : Arena Item) (rs : List (Read ℕ)) (last : Option ℕ) (ix : ℕ) (o : Openers) where
@@ -170,8 +129,7 @@ module _ (h : Chain) (s : Arena Item) (rs : List (Read ℕ)) (last : Option ℕ)
   head_count nil st = let no : Some ix ≡ None = st.stands.cut.right in cc
   head_count (node a below after) st =
       has_count h.tables _ (item_at s.nodes ix).body
-      (subst (λ (p : Part). ShowsCount p.shape) (sym (head_part a below after st).1)
-      st.whole.0)
+      (subst (λ (p : Part). ShowsCount p.shape) (sym (head_part a below after st).1) st.whole.0)
 
   pub read_none : (chain : Forest (Label ℕ)) → StandsWhole h s rs last (Some ix) chain o → run_of h.setting.text here
       ≡ None
@@ -197,9 +155,9 @@ module _ (h : Chain) (s : Arena Item) (rs : List (Read ℕ)) (last : Option ℕ)
           are = st.are;
         };
         kept = kept_none h.touched s;
-        same = sym (reads_none h.setting a below after rs none closed);
+        same = sym (reads_none h.setting a below after rs none closed).0;
         paid = omega arith;
-        found = omega (arith, finds_none h.setting a below after rs none closed);
+        found = omega (arith, (reads_none h.setting a below after rs none closed).1);
         further = st.stands.cut.rises_right.2;
       })
 
@@ -224,25 +182,22 @@ module _ (h : Chain) (s : Arena Item) (rs : List (Read ℕ)) (last : Option ℕ)
   run_here run (node a below after) st e =
       let p = head_part a below after st in
       let is : run_of h.setting.text a.part ≡ Some run = ap (run_of h.setting.text) (sym p.1) ∙ e in
-      let many : 0 < run.length = some h.setting a below after rs run is in
+      let many : 0 < run.length = run-long h.setting.text a.part run is in
       let rest = after_first run.length a below after many in
       record {
-        begins = subst (λ n. BeginsRun n run.length (node a below after)) p.0
-            (subst (λ o. IsWhole o a below after) is st.whole.1);
+        begins = rw (← p.0) (subst (λ o. IsWhole o a below after) is st.whole.1);
         some = many;
-        same = reads_some h.setting a below after rs run is;
-        finds = finds_some h.setting a below after rs run is;
-        whole = subst (λ f. AreWhole h.setting.text f) (sym rest)
-            (whole_after h.setting.text (run.length - 1) after st.whole.2);
+        same = (reads_some h.setting a below after rs run is).0;
+        finds = (reads_some h.setting a below after rs run is).1;
+        whole = rw rest (whole_after h.setting.text (run.length - 1) after st.whole.2);
         fewer = omega (
           arith,
           ap (runs_in h.setting.text) rest,
           fewer_after h.setting.text (run.length - 1) after,
           ap (λ o. one_if (is_some o)) is,
         );
-        rises = subst (λ f. Rises h.touched (suc ix) f h.bound) (sym rest)
-            (rises_after h.touched (suc ix) (run.length - 1) after h.bound
-            (subst (λ n. Rises h.touched (suc n) after h.bound) p.0 st.stands.cut.rises_right.2));
+        rises = rw rest (rises_after h.touched (suc ix) (run.length - 1) after h.bound (subst (λ n. Rises h.touched
+            (suc n) after h.bound) p.0 st.stands.cut.rises_right.2));
       }
 
   pub read_some : (run : Run) (chain : Forest (Label ℕ)) (new : Openers) (last' l : Option ℕ) (t u : Arena Item)

@@ -1,7 +1,6 @@
 -- The result of a search down a stack, step by step.
 use Rattle.std.proofs.Common.{◌≡◌, ℕ, zero, suc, ◌+◌, ◌<◌, ◌≤◌, min, Bool, true, false, List, [], ◌∷◌, ◌++◌, length}
-use Rattle.std.proofs.Common.{take, get_or, Some}
-use Rattle.std.proofs.Common.{None, inl, inr, refl, ap, sym, ◌∙◌, subst, arith, ltb, map, add-one}
+use Rattle.std.proofs.Common.{take, get_or, Some, None, inl, inr, refl, ap, sym, ◌∙◌, subst, arith, ltb, map, add-one}
 use Rattle.std.specs.Prelude.{not, ◌&&◌, ◌||◌, if◌then◌else◌}
 use Rattle.std.proofs.lemmas.List.{take_more, length-take-le, get_or-take}
 use Rattle.std.proofs.lemmas.Bool.{cases_Bool, lt-ltb, le-ltb, cases_lt, and_parts}
@@ -101,18 +100,7 @@ one_delimiter Star Star h = refl
 one_delimiter Underscore Underscore h = refl
 one_delimiter Tilde Tilde h = refl
 one_delimiter Caret Caret h = refl
-one_delimiter Star Underscore h = cc
-one_delimiter Star Tilde h = cc
-one_delimiter Star Caret h = cc
-one_delimiter Underscore Star h = cc
-one_delimiter Underscore Tilde h = cc
-one_delimiter Underscore Caret h = cc
-one_delimiter Tilde Star h = cc
-one_delimiter Tilde Underscore h = cc
-one_delimiter Tilde Caret h = cc
-one_delimiter Caret Star h = cc
-one_delimiter Caret Underscore h = cc
-one_delimiter Caret Tilde h = cc
+one_delimiter a b h = cc
 
 -- a run that may not pair is not taken
 pub may_take-fails : (closer : Run) (t : LowerBounds) (i : ℕ) (c : Characters) → may_pair c.run closer ≡ false
@@ -184,8 +172,7 @@ none_upto closer t [] (suc n) h f = refl
 none_upto closer t (c ∷ cs) (suc n) h f =
     subst (λ m. nearest_run closer (open_runs t (take m (c ∷ cs))) ≡ None) (add-one n)
     (nearest-passed closer t (c ∷ cs) n c (omega arith) (f n c (omega arith))
-    ∙ none_upto closer t (c ∷ cs) n (omega arith)
-    (λ i x l. f i x (omega arith)))
+    ∙ none_upto closer t (c ∷ cs) n (omega arith) (λ i x l. f i x (omega arith)))
 
 -- below its bound a closer finds none
 pub nearest-below : (closer : Run) (stack : List Characters) (b : LowerBounds) → BoundStack stack b
@@ -202,15 +189,13 @@ nearest-below closer stack b h =
           stack w in
           let g : get_or (take (bound_for closer b) stack) i x ≡ get_or stack i x = get_or-take (bound_for closer b)
           stack i x l in
-          subst (λ c. may_pair c.run closer ≡ false) g
-          (below_bound_fails closer.delimiter closer stack b refl pairing h i x (omega arith)))
+          rw (← g) (below_bound_fails closer.delimiter closer stack b refl pairing h i x (omega arith)))
     ])
   where
     last_two : (d : Delimiter) → is_tilde_or_caret d ≡ true → {i : ℕ} → i < bound_at d closer b → i < drop_bound d b
-    last_two Star q l = cc
-    last_two Underscore q l = cc
     last_two Tilde q l = l
     last_two Caret q l = l
+    last_two d q l = cc
 
 -- a failed search changes the runs as the dropping says
 pub open_runs-raised : (closer : Run) (stack : List Characters) (b : LowerBounds)

@@ -1,11 +1,10 @@
 -- The characters of a run become texts, from the first on.
 use Rattle.std.proofs.Common.{◌≡◌, ◌≤◌, ℕ, zero, suc, ◌+◌, ◌<◌, Bool, true, List, [], ◌∷◌, Option, Some, length, refl}
-use Rattle.std.proofs.Common.{ap, sym, ◌∙◌, subst}
-use Rattle.std.proofs.Common.{arith}
+use Rattle.std.proofs.Common.{ap, sym, ◌∙◌, subst, arith}
 use Rattle.std.specs.Prelude.{false, ◌^◌}
 use Rattle.markdown_base.specs.declared.item.Item.{Item}
 use Rattle.markdown_base.specs.declared.item.ItemBody.TheVariants as body
-use Rattle.markdown_base.specs.Arena.{Arena, child_of, sibling_of}
+use Rattle.markdown_base.specs.Arena.{Arena, sibling_of}
 use Rattle.markdown_base.specs.BlockTree.{item_at}
 use Rattle.markdown_base.specs.Forest.{Forest, nil, node}
 use Rattle.markdown_document.specs.Document.{Part, Label, as_text, part_of}
@@ -110,9 +109,7 @@ module _ (h : Chain) (s t : Arena Item) (rs : List (Read ℕ)) (number n i : ℕ
       } in
       let part = body_part h.setting.text h.tables (item_at t.nodes a.tag) a (body.Text false) _ c.right.2
       (ap (λ (p : Part). (as_text h.setting.text (record { tag = a.tag; part = p })).part.shape) c.right.2) (sym b.2) in
-      let written = subst (λ p. Writes (view h t) (view h u) a.tag p (child_of t.nodes a.tag)
-      (sibling_of t.nodes a.tag)) part
-      (parts_written (part_of h.setting.text h.tables) t.nodes u.nodes a.tag _ _ _ w.nodes) in
+      let written = rw part at (parts_written (part_of h.setting.text h.tables) t.nodes u.nodes a.tag _ _ _ w.nodes) in
       record {
         xs = as_text h.setting.text a ∷ xs;
         left = left;
@@ -171,12 +168,10 @@ settling_done h s t rs met i last chain some e st b a =
     cut.right in (
       record {
         stands = record {
-          cut = subst (λ l. Cut h.touched (view h t) h.first (flat rs) l (texts vs (trees_after met.count chain))
-              h.bound) link cut;
+          cut = rw (← link) cut;
           last_is = st.last_is;
           left_touched = st.left_touched;
-          rest_touched = subst (λ f. AllTouched h.touched f) all
-              (touched_over h.touched a.xs (flat rs) a.rest a.left_touched a.rest_touched);
+          rest_touched = rw (← all) (touched_over h.touched a.xs (flat rs) a.rest a.left_touched a.rest_touched);
           few = subst (λ n. n ≤ 2 ^ 63) (sym a.kept.size) st.few;
         };
         are = record { from = f.0; count = f.1 };

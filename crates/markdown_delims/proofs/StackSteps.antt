@@ -1,7 +1,6 @@
 -- A push, a search that finds and one that does not, of the stack and its bounds.
 use Rattle.std.proofs.Common.{◌≡◌, ℕ, ◌+◌, ◌-◌, ◌<◌, ◌≤◌, true, false, List, [], ◌∷◌, ◌++◌, length, take, get_or, Some}
-use Rattle.std.proofs.Common.{None, refl, ap}
-use Rattle.std.proofs.Common.{sym, ◌∙◌, subst, arith}
+use Rattle.std.proofs.Common.{None, refl, ap, sym, ◌∙◌, subst, arith}
 use Rattle.std.proofs.lemmas.List.{length-take-le, length_push}
 use Rattle.std.proofs.lemmas.List.Elements.{All-take}
 use Rattle.markdown_document.specs.Counts.{comparisons_per_delimiter}
@@ -15,8 +14,10 @@ use Rattle.markdown_delims.specs.OpenRuns.{open_runs, openers_of, potential_of, 
 use Rattle.markdown_delims.proofs.BoundLaws.{BoundStack-cut, BoundStack-raised, bound_at-within, drop_bound-within}
 use Rattle.markdown_delims.proofs.Potential.{above_bounds-push, above_bounds-cut, above_bounds-raised}
 use Rattle.markdown_delims.proofs.Searches.{open_runs-pushed, open_runs-lowered, nearest-passed, nearest-taken}
-use Rattle.markdown_delims.proofs.Searches.{nearest-below}
-use Rattle.markdown_delims.proofs.Searches.{may_take-fails, may_take-holds}
+use Rattle.markdown_delims.proofs.Searches.{nearest-below, may_take-fails, may_take-holds}
+
+below : (x y z : ℕ) → x ≤ y → y < z → x < z
+below x y z p q = omega arith
 
 module _ (stack : List Characters) (examined : ℕ) (b : LowerBounds) (sound : IsSound stack examined b) where
   potential-push : (c : Characters) → potential_of (stack ++ c ∷ []) examined b
@@ -33,8 +34,7 @@ module _ (stack : List Characters) (examined : ℕ) (b : LowerBounds) (sound : I
       ≡ record {
         runs = record { dropped = false; opener = c } ∷ open_runs b stack;
         examined = examined;
-        potential = potential_of stack
-            examined b + comparisons_per_delimiter;
+        potential = potential_of stack examined b + comparisons_per_delimiter;
       }
   openers_of-push c =
       rw (open_runs-pushed b stack c (drop_bound-within c.run.delimiter stack b sound.bound), potential-push c) refl
@@ -56,9 +56,6 @@ module _ (stack : List Characters) (examined : ℕ) (b : LowerBounds) (sound : I
         counts = All-take (λ d. 0 < d.count) i stack sound.counts;
         fits = below _ _ _ (potential-cut i after h e) sound.fits;
       }
-    where
-      below : (x y z : ℕ) → x ≤ y → y < z → x < z
-      below x y z p q = omega arith
 
   -- a search that fails has paid for them with the bounds that it raises
   pub potential-raised : (closer : Run) (after : ℕ) → after + bound_for closer b ≡ examined + length stack
@@ -80,9 +77,6 @@ module _ (stack : List Characters) (examined : ℕ) (b : LowerBounds) (sound : I
         counts = sound.counts;
         fits = below _ _ _ (potential-raised closer after e) sound.fits;
       }
-    where
-      below : (x y z : ℕ) → x ≤ y → y < z → x < z
-      below x y z p q = omega arith
 
   -- the search from here on is the whole search
   pub found_at : (closer : Run) (i : ℕ) (opener : Characters) → bound_for closer b ≤ i → i < length stack → opener

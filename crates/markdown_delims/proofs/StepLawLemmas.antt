@@ -1,15 +1,16 @@
 -- What each step in reading a chain keeps, reading the chain keeps.
-use Rattle.std.proofs.Common.{◌≡◌, ℕ, zero, suc, ◌-◌, Bool, true, false, List, [], ◌∷◌, map, length, Option, Some, None}
-use Rattle.std.proofs.Common.{refl, subst, arith}
+use Rattle.std.proofs.Common.{◌≡◌, ℕ, zero, suc, ◌-◌, ◌<◌, Bool, true, false, List, [], ◌∷◌, map, length, Option}
+use Rattle.std.proofs.Common.{Some, None, refl, subst, arith}
 use Rattle.std.specs.Prelude.{⊤, IfSome}
 use Rattle.std.proofs.lemmas.Option.{IfSome_then}
 use Rattle.markdown_base.specs.Forest.{Forest, nil, node}
-use Rattle.markdown_document.specs.Document.{Label}
+use Rattle.markdown_base.specs.declared.item.ItemBody.TheVariants as body
+use Rattle.markdown_document.specs.Document.{Shape, unresolved, Part, Label}
 use Rattle.markdown_document.specs.Setting.{Setting}
 use Rattle.markdown_document.specs.Waiting.{as_closed}
 use Rattle.markdown_delims.specs.declared.run.Delimiter.{Delimiter}
 use Rattle.markdown_delims.specs.declared.run.Run.{Run}
-use Rattle.markdown_delims.specs.Layers.{run_of}
+use Rattle.markdown_delims.specs.Layers.{run_of_shape, run_of}
 use Rattle.markdown_delims.specs.Pairing.{Read, done_read, FoundOpener, found_if, nearest_opener, drop_read, layers}
 use Rattle.markdown_delims.specs.Pairing.{left_over, after_layers}
 use Rattle.markdown_delims.specs.Pairing.{after_search, closed_by, run_read, first_texts, after_tree, reads_from}
@@ -68,6 +69,22 @@ pub record StaysTrueOf {A : Type 0} (s : Setting) (g : Run → List (Label A) �
       → IfSome (nearest_opener closer rs nil) (λ f. g closer (layers s f.run.delimiter f.characters vs f.inside).closing
       × i (layers s f.run.delimiter f.characters vs f.inside).closing
       (after_layers f (layers s f.run.delimiter f.characters vs f.inside)) rest)
+
+pub of_both : {X : Type 0} (o : Option X) (P Q R : X → Type 0) → IfSome o P → IfSome o Q
+    → ((x : X) → P x → Q x → R x) → IfSome o R
+of_both None P Q R p q f = tt
+of_both (Some x) P Q R p q f = f x p q
+
+-- a run has a character
+pub some-long : (shape : Shape) (d : Option Delimiter) → IfSome (run_of_shape shape d) (λ run. 0 < run.length)
+some-long (unresolved (body.MaybeEmphasis zero opens closes)) None = tt
+some-long (unresolved (body.MaybeEmphasis zero opens closes)) (Some d) = tt
+some-long (unresolved (body.MaybeEmphasis (suc n) opens closes)) None = tt
+some-long (unresolved (body.MaybeEmphasis (suc n) opens closes)) (Some d) = omega arith
+some-long other d = tt
+
+pub run-long : (source : List ℕ) (part : Part) (run : Run) → run_of source part ≡ Some run → 0 < run.length
+run-long source part run e = subst (λ o. IfSome o (λ run. 0 < run.length)) e (some-long part.shape _)
 
 module _ {A : Type 0} (s : Setting) (g : Run → List (Label A) → Type 0)
     (i : List (Label A) → List (Read A) → Forest (Label A) → Type 0)
@@ -137,6 +154,9 @@ module _ {A : Type 0} (s : Setting) (g : Run → List (Label A) → Type 0)
       (λ skip others k. reads-stay-of skip after others k) h
 
 -- where nothing is known of runs
+abbrev pub Any : {A : Type 0} → Run → List (Label A) → Type 0
+Any run vs = ⊤
+
 module _ {A : Type 0} (s : Setting) (i : List (Label A) → List (Read A) → Forest (Label A) → Type 0)
     (stays : StaysTrue s i) where
   -- of a run of n the first character is read here
@@ -145,14 +165,9 @@ module _ {A : Type 0} (s : Setting) (i : List (Label A) → List (Read A) → Fo
       → i (first_texts s.text n (node a below after)) rs (later (n - 1) after)
   texts_stay zero a below after rs h = stays.skip a below after rs h
   texts_stay (suc n) a below after rs h =
-      subst (λ k. i (first_texts s.text (suc n) (node a below after)) rs (later k after))
-      (let e : n ≡ suc n - 1 = omega arith in e)
-      (stays.texts (suc n) (node a below after) rs h)
+      rw (← (let e : n ≡ suc n - 1 = omega arith in e)) (stays.texts (suc n) (node a below after) rs h)
 
-  abbrev Any : Run → List (Label A) → Type 0
-  Any run vs = ⊤
-
-  of_any : StaysTrueOf s Any i
+  pub of_any : StaysTrueOf s Any i
   of_any = record {
     tree = λ a below after rs e h. stays.tree a below after rs h;
     run = λ run a below after rs e h. (tt, texts_stay run.length a below after rs h);

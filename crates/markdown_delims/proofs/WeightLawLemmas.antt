@@ -1,6 +1,5 @@
 -- Pairing does not increase the weight of a chain: what it makes weighs at most what it replaces.
 use Rattle.std.proofs.Common.{◌≡◌, ℕ, ◌≤◌, Bool, false, refl, sym, subst, arith}
-use Rattle.std.specs.Prelude.{slice_range}
 use Rattle.markdown_base.specs.Forest.{Forest, nil, node}
 use Rattle.markdown_document.specs.Document.{Label, is_unresolved}
 use Rattle.markdown_document.specs.Labels.{weight}
@@ -24,10 +23,8 @@ least b c e = subst (λ x. weight_if x ≤ weight_if c) (sym e) (some_weight c)
 pub weights-count : {A : Type 0} (s : Setting) → CountsNoMore {A = A} s weighs
 weights-count s = record {
   text = λ a. some_weight (is_unresolved a.part.shape);
-  one = λ d x v. least _ (is_unresolved x.part.shape) (one-closed (marks_of s.rules.options) d
-      (slice_range s.text x.part.range.start v.part.range.end));
-  two = λ d x v. least _ (is_unresolved x.part.shape) (two-closed (marks_of s.rules.options) d
-      (slice_range s.text x.part.range.start v.part.range.end));
+  one = λ d x v. least _ (is_unresolved x.part.shape) (one-closed (marks_of s.rules.options) d _);
+  two = λ d x v. least _ (is_unresolved x.part.shape) (two-closed (marks_of s.rules.options) d _);
   quote = λ a after single double.
       turn-made (λ shape. weight_if (is_unresolved shape) ≤ weighs a) (λ c. some_weight (is_unresolved a.part.shape))
       (kind_of_shape a.part.shape) a.part.shape single double (is_closed_later after) (is_end after)

@@ -1,7 +1,6 @@
 -- What a change of one node is to the view of an arena.
 use Rattle.std.proofs.Common.{◌≡◌, ℕ, zero, suc, ◌<◌, Bool, true, false, List, [], ◌∷◌, Option, length, refl, ap, sym}
-use Rattle.std.proofs.Common.{◌∙◌, subst, arith}
-use Rattle.std.proofs.Common.{inl, inr}
+use Rattle.std.proofs.Common.{◌∙◌, subst, arith, inl, inr}
 use Rattle.std.specs.Prelude.{◌⊎◌, ◌==◌, slice_range}
 use Rattle.std.proofs.lemmas.Bool.{eqb-true, eqb-false}
 use Rattle.markdown_base.specs.declared.item.Item.{Item}
@@ -9,7 +8,6 @@ use Rattle.markdown_base.specs.declared.node.Node.{Node}
 use Rattle.markdown_base.specs.Arena.{Arena, child_of, sibling_of}
 use Rattle.markdown_base.specs.ArenaChanges.{changed_at}
 use Rattle.markdown_base.specs.BlockTree.{item_at}
-use Rattle.markdown_base.specs.Item.{range_of}
 use Rattle.markdown_base.specs.declared.item.ItemBody.{ItemBody}
 use Rattle.markdown_document.specs.Document.{Shape, Part, Label, shaped, part_of, shape_of, block_of}
 use Rattle.markdown_document.specs.Tables.{Tables}
@@ -56,9 +54,12 @@ changed_writes ix change nodes l =
       item = here.item;
       child = here.child;
       next = here.next;
-      others = λ j d. same_at_other
-          ix j change nodes d;
+      others = λ j d. same_at_other ix j change nodes d;
     }
+
+same_both : (k k' k'' : View Item) (ix : ℕ) → SameAt k k' ix → SameAt k' k'' ix → SameAt k k'' ix
+same_both k k' k'' ix v w =
+    record { item = w.item ∙ v.item; child = w.child ∙ v.child; next = w.next ∙ v.next }
 
 -- two writes at one node
 pub writes_twice : (k k' k'' : View Item) (ix : ℕ) (i j : Item) (c d n m : Option ℕ) → Writes k k' ix i c n
@@ -70,11 +71,7 @@ writes_twice k k' k'' ix i j c d n m v w =
       item = w.item;
       child = w.child;
       next = w.next;
-      others = λ x e. record {
-        item = (w.others x e).item ∙ (v.others x e).item;
-        child = (w.others x e).child ∙ (v.others x e).child;
-        next = (w.others x e).next ∙ (v.others x e).next;
-      };
+      others = λ x e. same_both k k' k'' x (v.others x e) (w.others x e);
     }
 
 -- of arenas
@@ -93,8 +90,7 @@ wrote_twice s t u ix i j c d n m v w =
     record {
       spine = w.spine ∙ v.spine;
       cursor = w.cursor ∙ v.cursor;
-      nodes = writes_twice (view_of s.nodes) (view_of t.nodes)
-          (view_of u.nodes) ix i j c d n m v.nodes w.nodes;
+      nodes = writes_twice (view_of s.nodes) (view_of t.nodes) (view_of u.nodes) ix i j c d n m v.nodes w.nodes;
     }
 
 -- the same write, its parts named otherwise
@@ -121,10 +117,7 @@ pub body_part : (source : List ℕ) (tables : Tables) (item : Item) (a : Label �
     → part_of source tables item ≡ a.part → shape_of tables (slice_range source item.start item.end) b ≡ shape
     → block_of b ≡ a.part.block
     → part_of source tables (record { start = item.start; end = item.end; body = b }) ≡ (shaped shape a).part
-body_part source tables item a b shape is e f =
-    ap (λ x. let p : Part = record { shape = x; range = range_of item; block = block_of b } in p) e
-    ∙ ap (λ o. let p : Part = record { shape = shape; range = range_of item; block = o } in p) f
-    ∙ ap (λ (q : Part). let p : Part = record { shape = shape; range = q.range; block = a.part.block } in p) is
+body_part source tables item a b shape is e f = rw (e, f, ← is) refl
 
 -- an item stays, or is made by pairing
 abbrev StaysOr : (new old : Item) → Type 0
@@ -140,8 +133,7 @@ item_written : (nodes new : List (Node Item)) (ix : ℕ) (i : Item) (c n : Optio
     → StaysOr i (item_at nodes ix) → (j : ℕ) (b : Bool) → (j == ix) ≡ b → StaysOr (item_at new j) (item_at nodes j)
 item_written nodes new ix i c n w m j true e =
     let is : j ≡ ix = eqb-true j ix e in
-    subst (λ x. StaysOr (item_at new x) (item_at nodes x)) (sym is)
-    (subst (λ x. StaysOr x (item_at nodes ix)) (sym w.item) m)
+    rw is (subst (λ x. StaysOr x (item_at nodes ix)) (sym w.item) m)
 item_written nodes new ix i c n w m j false e = inl (w.others j (eqb-false j ix e)).item
 
 -- writes of nodes that may be written, one after another
@@ -160,15 +152,7 @@ kept_both touched s t u k m =
       spine = m.spine ∙ k.spine;
       cursor = m.cursor ∙ k.cursor;
       size = m.size ∙ k.size;
-      others = λ j e.
-          let after = m.others j e in
-          let before = k.others j e in
-          record {
-            item = after.item ∙ before.item;
-            child = after.child ∙ before.child;
-            next = after.next
-                ∙ before.next;
-          };
+      others = λ j e. same_both (view_of s.nodes) (view_of t.nodes) (view_of u.nodes) j (k.others j e) (m.others j e);
       items = λ j. stays_both (item_at s.nodes j) (item_at t.nodes j) (item_at u.nodes j) (m.items j) (k.items j);
     }
 

@@ -109,76 +109,52 @@ pair_runs-done-requires-clause-chain c =
       );
     }
 
-pub returns-clause-pairs : goal.returns-clause-pairs
-returns-clause-pairs c =
-    on_ok c.pair_runs-done.result
-    (λ pairs rules same.
-    let s : Setting = setting_of c.args.source.text.now rules in
-    pairs_chain s c.args.tree.now c.pair_runs-done.new.tree c.args.first c.requires.chain
-    (λ tables. chain_done s tables c.args.tree.now c.quote_chain-delimiters.new.tree c.args.first
-    c.quote_chain-delimiters.result
-    c.requires.chain c.quote_chain-delimiters.ensures.quotes c.quote_chain-delimiters.ensures.count
-    c.quote_chain-delimiters.ensures.few
-    c.of_options.result c.as_bytes.result.now c.pair_runs-done.new.tree (ap marks_of same ∙ sym c.of_options.ensures)
-    (sym c.as_bytes.ensures.value) pairs))
-    c.pair_runs-done.ensures.pairs
-
-pub returns-clause-place : goal.returns-clause-place
-returns-clause-place c =
-    on_ok c.pair_runs-done.result
-    (λ pairs.
+pub returns : goal.returns
+returns c =
+    let old = c.args.tree.now in
+    let q = c.quote_chain-delimiters in
+    let done = c.pair_runs-done in
     let s : Setting = setting_of c.args.source.text.now (rules_by c.args.source.options) in
-    let r = chain_done s no_tables c.args.tree.now c.quote_chain-delimiters.new.tree c.args.first
-    c.quote_chain-delimiters.result
-    c.requires.chain c.quote_chain-delimiters.ensures.quotes c.quote_chain-delimiters.ensures.count
-    c.quote_chain-delimiters.ensures.few
-    c.of_options.result c.as_bytes.result.now c.pair_runs-done.new.tree (sym c.of_options.ensures)
-    (sym c.as_bytes.ensures.value) pairs in
-    place_is c.args.tree.now c.pair_runs-done.new.tree r.kept.spine r.kept.cursor)
-    c.pair_runs-done.ensures.pairs
-
-pub returns-clause-found : goal.returns-clause-found
-returns-clause-found c =
-    on_ok c.pair_runs-done.result
-    (λ found rules tables same.
-    let s : Setting = setting_of c.args.source.text.now rules in
-    let all = chain_found s tables c.args.tree.now c.quote_chain-delimiters.new.tree c.args.first
-    c.quote_chain-delimiters.result
-    c.requires.chain c.quote_chain-delimiters.ensures.quotes c.quote_chain-delimiters.ensures.count
-    c.quote_chain-delimiters.ensures.few
-    c.of_options.result c.as_bytes.result.now c.clear.new.self c.pair_runs-done.new.openers
-    (ap marks_of same ∙ sym c.of_options.ensures)
-    (sym c.as_bytes.ensures.value) found in
-    let none : c.clear.new.self.examined ≡ 0 = ap (λ o. o.examined) c.clear.ensures in
-    let rises = risen_at_least c.examined.result
-    (finds_in s (trees_from c.args.source.text.now tables c.args.tree.now.nodes (Some c.args.first)))
-    c.args.work.now.examined (omega (arith, all, none, c.examined.ensures.value)) in
-    rw c.count_pairing.ensures rises)
-    c.pair_runs-done.ensures.found
-
-pub returns-clause-examined : goal.returns-clause-examined
-returns-clause-examined c =
-    let s : Setting = setting_of c.args.source.text.now (rules_by c.args.source.options) in
-    let paid = chain_paid s no_tables c.args.tree.now c.quote_chain-delimiters.new.tree c.args.first
-    c.quote_chain-delimiters.result
-    c.requires.chain c.quote_chain-delimiters.ensures.quotes c.quote_chain-delimiters.ensures.count
-    c.quote_chain-delimiters.ensures.few
-    c.of_options.result c.as_bytes.result.now c.clear.new.self c.pair_runs-done.new.openers (sym c.of_options.ensures)
-    (sym c.as_bytes.ensures.value) c.pair_runs-done.ensures.paid in
-    let none : c.clear.new.self.potential ≡ 0 = ap (λ o. o.potential) c.clear.ensures in
+    let marks = sym c.of_options.ensures in
+    let text = sym c.as_bytes.ensures.value in
     record {
-      more = c.examined.result;
-      within = omega (arith, paid, none, c.examined.ensures.value, c.examined.ensures.within);
-      counted = ap (λ (w : Work). w.examined) c.count_pairing.ensures;
+      pairs = on_ok done.result
+          (λ pairs rules same. pairs_chain (setting_of c.args.source.text.now rules) old done.new.tree c.args.first
+          c.requires.chain (λ tables. chain_done (setting_of c.args.source.text.now rules) tables old q.new.tree
+          c.args.first q.result c.requires.chain q.ensures.quotes q.ensures.count q.ensures.few c.of_options.result
+          c.as_bytes.result.now done.new.tree (ap marks_of same ∙ marks) text pairs))
+          done.ensures.pairs;
+      place = on_ok done.result
+          (λ pairs.
+          let r = chain_done s no_tables old q.new.tree c.args.first q.result c.requires.chain q.ensures.quotes
+          q.ensures.count q.ensures.few c.of_options.result c.as_bytes.result.now done.new.tree marks text pairs in
+          place_is old done.new.tree r.kept.spine r.kept.cursor)
+          done.ensures.pairs;
+      found = on_ok done.result
+          (λ found rules tables same.
+          let all = chain_found (setting_of c.args.source.text.now rules) tables old q.new.tree c.args.first q.result
+          c.requires.chain q.ensures.quotes q.ensures.count q.ensures.few c.of_options.result c.as_bytes.result.now
+          c.clear.new.self done.new.openers (ap marks_of same ∙ marks) text found in
+          let none : c.clear.new.self.examined ≡ 0 = ap (λ o. o.examined) c.clear.ensures in
+          let rises = risen_at_least c.examined.result
+          (finds_in (setting_of c.args.source.text.now rules)
+          (trees_from c.args.source.text.now tables old.nodes (Some c.args.first)))
+          c.args.work.now.examined (omega (arith, all, none, c.examined.ensures.value)) in
+          rw c.count_pairing.ensures rises)
+          done.ensures.found;
+      examined =
+          let paid = chain_paid s no_tables old q.new.tree c.args.first q.result c.requires.chain q.ensures.quotes
+          q.ensures.count q.ensures.few c.of_options.result c.as_bytes.result.now c.clear.new.self done.new.openers
+          marks text done.ensures.paid in
+          let none : c.clear.new.self.potential ≡ 0 = ap (λ o. o.potential) c.clear.ensures in
+          record {
+            more = c.examined.result;
+            within = omega (arith, paid, none, c.examined.ensures.value, c.examined.ensures.within);
+            counted = ap (λ (w : Work). w.examined) c.count_pairing.ensures;
+          };
+      counted = rw (
+        c.count_pairing.ensures,
+        counted s no_tables old q.new.tree c.args.first q.result c.requires.chain q.ensures.quotes q.ensures.count
+            q.ensures.few,
+      ) refl;
     }
-
-pub returns-clause-counted : goal.returns-clause-counted
-returns-clause-counted c =
-    let s : Setting = setting_of c.args.source.text.now (rules_by c.args.source.options) in
-    rw (
-      c.count_pairing.ensures,
-      counted s no_tables c.args.tree.now c.quote_chain-delimiters.new.tree c.args.first
-          c.quote_chain-delimiters.result c.requires.chain c.quote_chain-delimiters.ensures.quotes
-          c.quote_chain-delimiters.ensures.count
-          c.quote_chain-delimiters.ensures.few,
-    ) refl

@@ -1,8 +1,8 @@
 -- Tree by tree.
-use Rattle.std.proofs.Common.{◌+◌, ◌*◌, ◌^◌, ◌<◌, ap, subst, arith}
+use Rattle.std.proofs.Common.{◌+◌, ◌*◌, ◌^◌, ◌<◌, ap, arith}
 use Rattle.markdown_document.specs.Counts.{comparisons_per_delimiter}
-use Rattle.markdown_delims.specs.ChainReading.{StandsWhole, labels, runs_in}
-use Rattle.markdown_delims.proofs.ChainLemmas.{RunsRead, none_paired, runs_chain, starts_reading, read_on, reads_more}
+use Rattle.markdown_delims.specs.ChainReading.{labels, runs_in}
+use Rattle.markdown_delims.proofs.ChainLemmas.{none_paired, runs_chain, starts_reading, read_on, reads_more}
 use Rattle.markdown_delims.proofs.ChainLemmas.{pays, all_paid, can_go_on, all_read, all_found, goes_down}
 use Rattle.markdown_delims.proofs.ReadLemmas.{head_within}
 use Rattle.markdown_delims.proofs.chain.pair_runs.Goals as goal
@@ -18,41 +18,25 @@ read_tree-requires c =
     (labels p.setting p.tables
     c.args.tree.now.nodes p.forest) < 2 ^ 128 = p.room in
     record {
-      stands = can_go_on p.setting p.tables c.args.tree.now c.args.first c.args.count p.forest p.chain c.trees.tree
-          c.args.openers.now c.trees.openers
-          c.trees.last c.args.source.marks c.args.source.text.now c.in-Some.ix p.marks_are p.text_is
-          (omega (arith, c.requires.emptied.potential, room))
-          (subst (λ l. RunsRead p.setting p.tables c.args.tree.now c.args.first c.args.count p.forest p.chain
-          c.trees.tree c.args.openers.now
-          c.trees.openers c.trees.last l) c.in-Some.is
-          (c.trees.invariant p.setting p.tables p.forest p.marks_are p.text_is p.chain));
+      stands = can_go_on _ _ _ _ _ _ p.chain _ _ _ _ c.args.source.marks c.args.source.text.now c.in-Some.ix
+          p.marks_are p.text_is (omega (arith, c.requires.emptied.potential, room))
+          (rw c.in-Some.is at (c.trees.invariant p.setting p.tables p.forest p.marks_are p.text_is p.chain));
     }
 
 pub trees-preserved : goal.trees-preserved
 trees-preserved c s tables f m t ch =
-    reads_more s tables c.args.tree.now c.args.first c.args.count f ch c.trees.tree c.args.openers.now c.trees.openers
-    c.trees.last
-    c.args.source.marks c.args.source.text.now c.read_tree.new.tree c.read_tree.new.openers c.in_ok-read.read
-    c.in_ok-read.next
-    c.in-Some.ix m t
-    (subst (λ l. RunsRead s tables c.args.tree.now c.args.first c.args.count f ch c.trees.tree c.args.openers.now
-    c.trees.openers c.trees.last l)
-    c.in-Some.is (c.trees.invariant s tables f m t ch))
-    c.in_ok-read.ensures.ok
+    reads_more s tables c.args.tree.now _ _ _ ch _ _ _ _ c.args.source.marks c.args.source.text.now
+    c.read_tree.new.tree c.read_tree.new.openers c.in_ok-read.read c.in_ok-read.next c.in-Some.ix m t
+    (rw c.in-Some.is at (c.trees.invariant s tables f m t ch)) c.in_ok-read.ensures.ok
 
 pub trees-smaller : goal.trees-smaller
 trees-smaller c =
     let p = c.requires.chain in
     let h = runs_chain p.setting p.tables c.args.tree.now c.args.first c.args.count p.forest p.chain in
-    let a = subst (λ l. RunsRead p.setting p.tables c.args.tree.now c.args.first c.args.count p.forest p.chain
-    c.trees.tree c.args.openers.now
-    c.trees.openers c.trees.last l) c.in-Some.is
-    (c.trees.invariant p.setting p.tables p.forest p.marks_are p.text_is p.chain) in
-    let b = read_on p.setting p.tables c.args.tree.now c.args.first c.args.count p.forest p.chain c.trees.tree
-    c.args.openers.now c.trees.openers
-    c.trees.last c.args.source.marks c.args.source.text.now c.read_tree.new.tree c.read_tree.new.openers
-    c.in_ok-read.read
-    c.in_ok-read.next c.in-Some.ix p.marks_are p.text_is a c.in_ok-read.ensures.ok in
+    let a = rw c.in-Some.is at (c.trees.invariant p.setting p.tables p.forest p.marks_are p.text_is p.chain) in
+    let b = read_on _ _ _ _ _ _ p.chain _ _ _ _ c.args.source.marks c.args.source.text.now c.read_tree.new.tree
+    c.read_tree.new.openers c.in_ok-read.read c.in_ok-read.next c.in-Some.ix p.marks_are p.text_is a
+    c.in_ok-read.ensures.ok in
     let w = head_within h c.trees.tree a.rs c.trees.last c.in-Some.ix c.trees.openers a.rest a.stands in
     rw c.in-Some.is
     (goes_down h c.trees.tree c.read_tree.new.tree a.rs a.rest c.trees.openers c.read_tree.new.openers
@@ -60,25 +44,15 @@ trees-smaller c =
 
 pub returns-clause-pairs : goal.returns-clause-pairs
 returns-clause-pairs c s tables f m t ch =
-    all_read s tables c.args.tree.now c.args.first c.args.count f ch c.trees.tree c.args.openers.now c.trees.openers
-    c.trees.last
-    (subst (λ l. RunsRead s tables c.args.tree.now c.args.first c.args.count f ch c.trees.tree c.args.openers.now
-    c.trees.openers c.trees.last l)
-    c.in_default.is (c.trees.invariant s tables f m t ch))
+    all_read s tables c.args.tree.now _ _ _ ch _ _ _ _ (rw c.in_default.is at (c.trees.invariant s tables f m t ch))
 
 pub returns-clause-found : goal.returns-clause-found
 returns-clause-found c s tables f m t ch =
-    all_found s tables c.args.tree.now c.args.first c.args.count f ch c.trees.tree c.args.openers.now c.trees.openers
-    c.trees.last
-    (subst (λ l. RunsRead s tables c.args.tree.now c.args.first c.args.count f ch c.trees.tree c.args.openers.now
-    c.trees.openers c.trees.last l)
-    c.in_default.is (c.trees.invariant s tables f m t ch))
+    all_found s tables c.args.tree.now _ _ _ ch _ _ _ _ (rw c.in_default.is at (c.trees.invariant s tables f m t ch))
 
 pub returns-clause-paid : goal.returns-clause-paid
 returns-clause-paid c s tables f m t ch =
-    let paid = all_paid s tables c.args.tree.now c.args.first c.args.count f ch c.trees.tree c.args.openers.now
-    c.trees.openers c.trees.last _
-    (c.trees.invariant s tables f m t ch) in
+    let paid = all_paid s tables c.args.tree.now _ _ _ ch _ _ _ _ _ (c.trees.invariant s tables f m t ch) in
     omega (arith, paid, ap (λ x. runs_in x (labels s tables c.args.tree.now.nodes f)) t)
 
 -- the tree at which memory was refused stands in what was left
@@ -86,10 +60,8 @@ pub returns-in_err-read-clause-paid : goal.returns-in_err-read-clause-paid
 returns-in_err-read-clause-paid c s tables f m t ch =
     let h = runs_chain s tables c.args.tree.now c.args.first c.args.count f ch in
     let a = c.trees.invariant s tables f m t ch in
-    let stands = subst (λ l. StandsWhole h c.trees.tree a.rs c.trees.last l a.rest c.trees.openers) c.in-Some.is
-    a.stands in
-    let paid = all_paid s tables c.args.tree.now c.args.first c.args.count f ch c.trees.tree c.args.openers.now
-    c.trees.openers c.trees.last _ a in
+    let stands = rw c.in-Some.is at a.stands in
+    let paid = all_paid s tables c.args.tree.now _ _ _ ch _ _ _ _ _ a in
     omega (
       arith,
       paid,

@@ -1,7 +1,5 @@
 -- The characters stay where they are.
-use Rattle.std.proofs.Common.{[], ap, subst, sym, refl, arith}
-use Rattle.markdown_delims.specs.ChainStanding.{AreOpen}
-use Rattle.markdown_delims.specs.Pairing.{last_first, opened_if}
+use Rattle.std.proofs.Common.{ap, refl, arith}
 use Rattle.markdown_delims.proofs.CloseLemmas.{last_within, characters_kept, opened_open, opened_lone}
 use Rattle.markdown_delims.proofs.close.keep.Goals as goal
 
@@ -22,15 +20,11 @@ next-next-requires c =
 pub returns-in_ok-push-clause-ok : goal.returns-in_ok-push-clause-ok
 returns-in_ok-push-clause-ok c h rs last vs after st a =
     characters_kept h c.args.tree.now rs last c.args.left vs after st c.requires.some _ _ _ refl
-    c.next-next.ensures.value
-    (subst (λ runs. AreOpen runs (opened_if c.args.left.run.can_open c.args.left.run (last_first vs []) rs))
-    (sym (ap (λ o. o.runs) c.in_ok-push.ensures.ok))
-    (opened_open h c.args.tree.now rs last c.args.left vs after st c.requires.some c.args.openers.now.runs a
-    c.if-left.true))
+    c.next-next.ensures.value (rw (ap (λ o. o.runs) c.in_ok-push.ensures.ok) (opened_open h c.args.tree.now rs last
+    c.args.left vs after st c.requires.some c.args.openers.now.runs a c.if-left.true))
 
 pub returns-else-left-clause-ok : goal.returns-else-left-clause-ok
 returns-else-left-clause-ok c h rs last vs after st a =
     characters_kept h c.args.tree.now rs last c.args.left vs after st c.requires.some _ _ _ refl
-    c.next-next.ensures.value
-    (opened_lone h c.args.tree.now rs last c.args.left vs after st c.requires.some c.args.openers.now.runs a
-    c.if-left.false)
+    c.next-next.ensures.value (opened_lone h c.args.tree.now rs last c.args.left vs after st c.requires.some
+    c.args.openers.now.runs a c.if-left.false)

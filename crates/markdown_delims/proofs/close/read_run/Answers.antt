@@ -4,8 +4,7 @@ use Rattle.std.specs.Prelude.{IfOk, IsSome, Result}
 use Rattle.std.proofs.lemmas.Bool.{not-false}
 use Rattle.markdown_delims.proofs.CloseLemmas.{last_within}
 use Rattle.markdown_delims.proofs.ClosingLemmas.{kept_read, closing_begin, closing_none, can_keep, opener_before}
-use Rattle.markdown_delims.proofs.ClosingLemmas.{can_pair, closing_more}
-use Rattle.markdown_delims.proofs.ClosingLemmas.{closing_used, closing_left}
+use Rattle.markdown_delims.proofs.ClosingLemmas.{can_pair, closing_more, closing_used, closing_left}
 use Rattle.markdown_delims.proofs.close.read_run.Goals as goal
 
 if_ok : {A E : Type 0} (P Q : A → Type 0) (r : Result A E) → ((x : A) → P x → Q x) → IfOk r P → IfOk r Q
@@ -36,23 +35,16 @@ turns-init c = record {
 pub unwrap-requires : goal.unwrap-requires
 unwrap-requires c =
     let p = c.requires.stands in
-    is_some c.turns.before
-    (opener_before p.chain c.args.met p.vs p.rs p.after c.args.tree.now c.turns.tree c.args.openers.now c.turns.openers
-    c.turns.closer
-    c.turns.before (c.turns.invariant.goes_on p.chain p.rs p.vs p.after p.marks_are p.stands p.are)
-    c.turns.invariant.some
-    c.in-Some.opener c.take_nearest.new.self.runs c.in-Some.ensures.found c.in-Some.ensures.some)
+    is_some c.turns.before (opener_before _ _ _ _ _ _ _ _ _ _ _ (c.turns.invariant.goes_on p.chain p.rs p.vs p.after
+    p.marks_are p.stands p.are) c.turns.invariant.some c.in-Some.opener c.take_nearest.new.self.runs
+    c.in-Some.ensures.found c.in-Some.ensures.some)
 
 pub pair-root-requires-clause-stands : goal.pair-root-requires-clause-stands
 pair-root-requires-clause-stands c =
     let p = c.requires.stands in
-    can_pair p.chain c.args.met p.vs p.rs p.after c.args.tree.now c.turns.tree c.args.openers.now c.turns.openers
-    c.turns.closer
-    c.turns.before (c.turns.invariant.goes_on p.chain p.rs p.vs p.after p.marks_are p.stands p.are)
-    c.turns.invariant.some
-    c.in-Some.opener c.take_nearest.new.self.runs c.in-Some.ensures.found c.in-Some.ensures.some c.args.marks
-    p.marks_are c.unwrap.result
-    c.unwrap.ensures
+    can_pair _ _ _ _ _ _ _ _ _ _ _ (c.turns.invariant.goes_on p.chain p.rs p.vs p.after p.marks_are p.stands p.are)
+    c.turns.invariant.some c.in-Some.opener c.take_nearest.new.self.runs c.in-Some.ensures.found c.in-Some.ensures.some
+    c.args.marks p.marks_are c.unwrap.result c.unwrap.ensures
 
 pub overflow_add-closer : goal.overflow_add-closer
 overflow_add-closer c =
@@ -67,24 +59,17 @@ pub returns-then-closer-opener-clause-ok : goal.returns-then-closer-opener-claus
 returns-then-closer-opener-clause-ok c h rs vs after m st a =
     let same : c.push.new.self.examined ≡ c.take_nearest.new.self.examined = ap (λ o. o.examined)
     c.in_ok-push.ensures.ok in
-    closing_left h c.args.met vs rs after c.args.tree.now c.turns.tree c.args.openers.now c.turns.openers c.turns.closer
-    c.turns.before
-    (c.turns.invariant.goes_on h rs vs after m st a) c.turns.invariant.some
+    closing_left _ _ _ _ _ _ _ _ _ _ _ (c.turns.invariant.goes_on h rs vs after m st a) c.turns.invariant.some
     c.in-Some.opener c.take_nearest.new.self.runs c.in-Some.ensures.found c.in-Some.ensures.some c.args.marks m
-    c.unwrap.result
-    c.unwrap.ensures c.pair-root.new.tree c.pair-root.result.0 c.pair-root.result.1 c.pair-root.ensures
+    c.unwrap.result c.unwrap.ensures c.pair-root.new.tree c.pair-root.result.0 c.pair-root.result.1 c.pair-root.ensures
     c.push.new.self (ap (λ o. o.runs) c.in_ok-push.ensures.ok) (omega (arith, same, c.in-Some.ensures.counted))
-    c.if-closer-opener.true
-    (not-false c.args.met.run.can_close c.if-not-met.false)
+    c.if-closer-opener.true (not-false c.args.met.run.can_close c.if-not-met.false)
 
 pub returns-then-closer-opener-2-clause-ok : goal.returns-then-closer-opener-2-clause-ok
 returns-then-closer-opener-2-clause-ok c h rs vs after m st a =
-    closing_used h c.args.met vs rs after c.args.tree.now c.turns.tree c.args.openers.now c.turns.openers c.turns.closer
-    c.turns.before
-    (c.turns.invariant.goes_on h rs vs after m st a) c.turns.invariant.some
+    closing_used _ _ _ _ _ _ _ _ _ _ _ (c.turns.invariant.goes_on h rs vs after m st a) c.turns.invariant.some
     c.in-Some.opener c.take_nearest.new.self.runs c.in-Some.ensures.found c.in-Some.ensures.some c.args.marks m
-    c.unwrap.result
-    c.unwrap.ensures c.pair-root.new.tree c.pair-root.result.0 c.pair-root.result.1 c.pair-root.ensures
+    c.unwrap.result c.unwrap.ensures c.pair-root.new.tree c.pair-root.result.0 c.pair-root.result.1 c.pair-root.ensures
     c.take_nearest.new.self refl c.in-Some.ensures.counted c.if-closer-opener-2.true
     (not-false c.args.met.run.can_close c.if-not-met.false)
 
@@ -94,13 +79,10 @@ turns-preserved c =
     let more : c.in-Some.opener.count < c.turns.closer.count = omega arith in
     record {
       goes_on = λ h rs vs after m st a.
-          closing_more h c.args.met vs rs after c.args.tree.now c.turns.tree c.args.openers.now c.turns.openers
-          c.turns.closer
-          c.turns.before (c.turns.invariant.goes_on h rs vs after m st a) c.turns.invariant.some
+          closing_more _ _ _ _ _ _ _ _ _ _ _ (c.turns.invariant.goes_on h rs vs after m st a) c.turns.invariant.some
           c.in-Some.opener c.take_nearest.new.self.runs c.in-Some.ensures.found c.in-Some.ensures.some c.args.marks m
-          c.unwrap.result
-          c.unwrap.ensures c.pair-root.new.tree c.pair-root.result.0 c.pair-root.result.1 c.pair-root.ensures
-          c.take_nearest.new.self refl c.in-Some.ensures.counted more;
+          c.unwrap.result c.unwrap.ensures c.pair-root.new.tree c.pair-root.result.0 c.pair-root.result.1
+          c.pair-root.ensures c.take_nearest.new.self refl c.in-Some.ensures.counted more;
       some = omega arith;
       paid = omega (arith, c.in-Some.ensures.paid);
     }
@@ -110,9 +92,7 @@ keep-requires-2-clause-stands c =
     let p = c.requires.stands in (
       c.args.marks,
       c.turns.before,
-      can_keep p.chain c.args.met p.vs p.rs p.after c.args.tree.now c.turns.tree c.args.openers.now c.turns.openers
-          c.turns.closer
-          c.turns.before (c.turns.invariant.goes_on p.chain p.rs p.vs p.after p.marks_are p.stands p.are)
+      can_keep _ _ _ _ _ _ _ _ _ _ _ (c.turns.invariant.goes_on p.chain p.rs p.vs p.after p.marks_are p.stands p.are)
           c.turns.invariant.some
           c.take_nearest.new.self.runs c.in_default.ensures.missed.0 c.in_default.ensures.missed.1 c.args.marks
           p.marks_are,
@@ -122,11 +102,10 @@ pub returns-clause-ok : goal.returns-clause-ok
 returns-clause-ok c =
     if_ok _ _ c.keep-2.result
     (λ r keeps h rs vs after m st a.
-    closing_none h c.args.met vs rs after c.args.tree.now c.turns.tree c.args.openers.now c.turns.openers c.turns.closer
-    c.turns.before
-    (c.turns.invariant.goes_on h rs vs after m st a) c.turns.invariant.some c.take_nearest.new.self.runs
-    c.in_default.ensures.missed.0
-    c.in_default.ensures.missed.1 c.keep-2.new.openers r.0 r.1 (not-false c.args.met.run.can_close c.if-not-met.false)
-    keeps
-    (omega (arith, c.keep-2.ensures.counted, c.in_default.ensures.rises)))
-    c.keep-2.ensures.ok
+    closing_none _ _ _ _ _ _ _ _ _ _ _ (c.turns.invariant.goes_on h rs vs after m st a) c.turns.invariant.some
+    c.take_nearest.new.self.runs c.in_default.ensures.missed.0 c.in_default.ensures.missed.1 c.keep-2.new.openers r.0
+    r.1 (not-false c.args.met.run.can_close c.if-not-met.false) keeps (omega (
+      arith,
+      c.keep-2.ensures.counted,
+      c.in_default.ensures.rises,
+    ))) c.keep-2.ensures.ok

@@ -58,12 +58,10 @@ layers-preserved c =
     (record c.layers.closer { number = c.layers.closer.number + 2; count = c.layers.closer.count - 2 })
     (c.layers.left - 2)
     (Some (c.layers.opener.number + (c.layers.opener.count - 2))) =
-    λ h g m e. layers_more h g c.args.tree.now c.layers.tree c.put_node.new.tree c.args.opener.run.delimiter
-    c.layers.opener
-    c.layers.closer c.layers.left c.layers.inner (c.layers.invariant.layers h g m e) c.layer_of_two.result
+    λ h g m e. layers_more _ _ _ _ c.put_node.new.tree _ _ _ _ _ (c.layers.invariant.layers h g m e)
+    c.layer_of_two.result
     (layer_by c.layer_of_two.result (λ m. layer_of_two m c.args.opener.run.delimiter) _ _ m c.layer_of_two.ensures) _
-    refl
-    c.layers-test.true (wrote_as _ _ _ _ _ _ _ _ _ c.put_node.ensures c.spanned-item.ensures refl refl) in
+    refl c.layers-test.true (wrote_as _ _ _ _ _ _ _ _ _ c.put_node.ensures c.spanned-item.ensures refl refl) in
     record {
       layers = more;
       some = omega arith;
@@ -73,9 +71,8 @@ layers-preserved c =
 
 pub returns-then-left-eq2 : goal.returns-then-left-eq2
 returns-then-left-eq2 c h g m e =
-    layers_two h g c.args.tree.now c.layers.tree c.put_node-then-left-eq2.new.tree c.args.opener.run.delimiter
-    c.layers.opener
-    c.layers.closer c.layers.left c.layers.inner (c.layers.invariant.layers h g m e) c.layer_of_two-then-left-eq2.result
+    layers_two _ _ _ _ c.put_node-then-left-eq2.new.tree _ _ _ _ _ (c.layers.invariant.layers h g m e)
+    c.layer_of_two-then-left-eq2.result
     (layer_by c.layer_of_two-then-left-eq2.result (λ m. layer_of_two m c.args.opener.run.delimiter) _ _ m
     c.layer_of_two-then-left-eq2.ensures) _ _ _ refl refl c.if-left-eq2.true c.next-rest.ensures.value
     (wrote_as _ _ _ _ _ _ _ _ _ c.put_node-then-left-eq2.ensures c.spanned-item-then-left-eq2.ensures refl refl)
@@ -83,10 +80,7 @@ returns-then-left-eq2 c h g m e =
 pub returns-else-left-eq2 : goal.returns-else-left-eq2
 returns-else-left-eq2 c h g m e =
     let not_two : c.layers.left ≡ 2 → ⊥ = c.if-left-eq2.false in
-    layers_one h g c.args.tree.now c.layers.tree c.put_node-else-left-eq2.new.tree c.args.opener.run.delimiter
-    c.layers.opener
-    c.layers.closer c.layers.left c.layers.inner (c.layers.invariant.layers h g m e) c.layer_of_one.result
-    (layer_by c.layer_of_one.result (λ m. layer_of_one m c.args.opener.run.delimiter) _ _ m c.layer_of_one.ensures) _ _
-    refl
-    (omega (arith, c.layers.invariant.some)) c.next-rest-else-left-eq2.ensures.value
+    layers_one _ _ _ _ c.put_node-else-left-eq2.new.tree _ _ _ _ _ (c.layers.invariant.layers h g m e)
+    c.layer_of_one.result (layer_by c.layer_of_one.result (λ m. layer_of_one m c.args.opener.run.delimiter) _ _ m
+    c.layer_of_one.ensures) _ _ refl (omega (arith, c.layers.invariant.some)) c.next-rest-else-left-eq2.ensures.value
     (wrote_as _ _ _ _ _ _ _ _ _ c.put_node-else-left-eq2.ensures c.spanned-item-else-left-eq2.ensures refl refl)

@@ -1,21 +1,11 @@
 -- One change is a write.
-use Rattle.std.proofs.Common.{subst}
-use Rattle.markdown_base.specs.declared.item.Item.{Item}
 use Rattle.markdown_base.specs.BlockTree.{no_item}
-use Rattle.markdown_base.specs.Arena.{child_of, sibling_of}
-use Rattle.markdown_delims.specs.Views.{Wrote}
 use Rattle.markdown_delims.proofs.WriteLemmas.{wrote_once}
 use Rattle.markdown_delims.proofs.nodes.put_body.Goals as goal
 
 pub returns : goal.returns
 returns c =
-    subst (λ (i : Item). Wrote c.args.tree.now c.set_item.new.self c.args.ix
-    (record { start = i.start; end = i.end; body = c.args.body })
-    (child_of c.args.tree.now.nodes c.args.ix) (sibling_of c.args.tree.now.nodes c.args.ix))
-    (c.item-item.ensures no_item)
-    (wrote_once c.args.tree.now c.set_item.new.self c.args.ix
-    (λ n. record n {
-      item = record
-          { start = c.item-item.result.now.start; end = c.item-item.result.now.end; body = c.args.body };
+    rw (← (c.item-item.ensures no_item)) (wrote_once c.args.tree.now c.set_item.new.self c.args.ix (λ n. record n {
+      item = record { start = c.item-item.result.now.start; end = c.item-item.result.now.end; body = c.args.body };
     })
     c.requires c.set_item.ensures)

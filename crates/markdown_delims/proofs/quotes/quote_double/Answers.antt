@@ -1,12 +1,8 @@
 -- Each way in which a `"` is read.
-use Rattle.std.proofs.Common.{◌≡◌, Bool, true, false, ap, sym, ◌∙◌, refl, inl, inr}
-use Rattle.std.specs.Prelude.{◌⊎◌, ◌&&◌, ◌||◌}
-use Rattle.markdown_base.specs.Forest.{node}
+use Rattle.std.proofs.Common.{◌≡◌, Bool, true, false, refl, inl, inr}
+use Rattle.std.specs.Prelude.{◌⊎◌, ◌&&◌}
 use Rattle.markdown_delims.specs.declared.quotes.Kind.TheVariants as kind
-use Rattle.markdown_delims.specs.Quotes.{left_double}
-use Rattle.markdown_document.specs.Document.{shaped}
-use Rattle.markdown_delims.specs.Quoting.{quoted_from}
-use Rattle.markdown_delims.proofs.QuoteLemmas.{turned, turn_double_closes, turn_double_opens, remembered_low}
+use Rattle.markdown_delims.proofs.QuoteLemmas.{turn_double_closes, turn_double_opens, remembered_low}
 use Rattle.markdown_delims.proofs.QuoteLemmas.{still_there, put_on, can_here}
 use Rattle.markdown_delims.proofs.quotes.quote_double.Goals as goal
 
@@ -14,15 +10,11 @@ pub returns-then-closes : goal.returns-then-closes
 returns-then-closes c =
     record {
       quotes = λ single last h begun a below after st e n.
-          put_on h c.args.tree.now begun single c.args.ix a below after st c.put_body.new.tree 8221
-          (kind.Double c.args.opens c.args.closes) c.args.double single false c.put_body.ensures e (λ q. cc)
-          (still_there h c.args.tree.now begun single c.args.ix a below after st 8221)
-          (turn_double_closes begun a below after single c.args.opens
-          (remembered_low h c.args.tree.now begun single c.args.ix a below after
-          st)
-          ∙ ap (λ d. turned begun a below after single d (kind.Double c.args.opens true)) (sym c.if-double.true)
-          ∙ ap (λ b. turned begun a below after single c.args.double (kind.Double c.args.opens b))
-          (sym c.if-closes.true));
+          put_on _ _ _ _ _ _ _ _ st c.put_body.new.tree 8221 (kind.Double c.args.opens c.args.closes) c.args.double
+          single false c.put_body.ensures e (λ q. cc) (still_there _ _ _ _ _ _ _ _ st 8221) (rw (
+            c.if-double.true,
+            c.if-closes.true,
+          ) (turn_double_closes begun a below after single c.args.opens (remembered_low _ _ _ _ _ _ _ _ st)));
     }
 
 not_both : (d c : Bool) → ((d ≡ true) × (c ≡ false)) ⊎ (d ≡ false) → (d && c) ≡ false
@@ -33,30 +25,20 @@ pub returns-then-opens : goal.returns-then-opens
 returns-then-opens c =
     record {
       quotes = λ single last h begun a below after st e n.
-          put_on h c.args.tree.now begun single c.args.ix a below after st c.put_body-else-double.new.tree 8220
-          (kind.Double c.args.opens c.args.closes) c.args.double single c.args.opens c.put_body-else-double.ensures e
-          (λ q. cc)
-          (still_there h c.args.tree.now begun single c.args.ix a below after st 8220)
-          (ap (λ b. quoted_from single b (node (shaped left_double a) below begun) after) (c.if-opens.true
-          ∙ sym (ap (λ b. b || c.args.double) c.if-opens.true))
-          ∙ turn_double_opens begun a below after single c.args.double c.args.opens c.args.closes
-          (remembered_low h c.args.tree.now begun single c.args.ix a below after st)
-          (not_both c.args.double c.args.closes c.else-double.either));
+          put_on _ _ _ _ _ _ _ _ st c.put_body-else-double.new.tree 8220 (kind.Double c.args.opens c.args.closes)
+          c.args.double single c.args.opens c.put_body-else-double.ensures e (λ q. cc) (still_there _ _ _ _ _ _ _ _ st
+          8220) (rw c.if-opens.true (turn_double_opens begun a below after single c.args.double true c.args.closes
+          (remembered_low _ _ _ _ _ _ _ _ st) (not_both c.args.double c.args.closes c.else-double.either)));
     }
 
 pub returns-else-opens : goal.returns-else-opens
 returns-else-opens c =
     record {
       quotes = λ single last h begun a below after st e n.
-          put_on h c.args.tree.now begun single c.args.ix a below after st c.put_body-else-double.new.tree 8220
-          (kind.Double c.args.opens c.args.closes) c.args.double single c.args.double c.put_body-else-double.ensures e
-          (λ q. cc)
-          (still_there h c.args.tree.now begun single c.args.ix a below after st 8220)
-          (ap (λ b. quoted_from single b (node (shaped left_double a) below begun) after)
-          (sym (ap (λ b. b || c.args.double) c.if-opens.false))
-          ∙ turn_double_opens begun a below after single c.args.double c.args.opens c.args.closes
-          (remembered_low h c.args.tree.now begun single c.args.ix a below after st)
-          (not_both c.args.double c.args.closes c.else-double.either));
+          put_on _ _ _ _ _ _ _ _ st c.put_body-else-double.new.tree 8220 (kind.Double c.args.opens c.args.closes)
+          c.args.double single c.args.double c.put_body-else-double.ensures e (λ q. cc) (still_there _ _ _ _ _ _ _ _ st
+          8220) (rw c.if-opens.false (turn_double_opens begun a below after single c.args.double false c.args.closes
+          (remembered_low _ _ _ _ _ _ _ _ st) (not_both c.args.double c.args.closes c.else-double.either)));
     }
 
 pub put_body-requires : goal.put_body-requires

@@ -11,14 +11,13 @@ use Rattle.markdown_delims.proofs.read.read_tree.Goals as goal
 pub item-item-requires : goal.item-item-requires
 item-item-requires c =
     let p = c.requires.stands in
-    head_within p.chain c.args.tree.now p.rs c.args.last c.args.ix c.args.openers.now p.rest p.stands
+    head_within _ _ _ _ _ _ _ p.stands
 
 pub settle_run-requires : goal.settle_run-requires
 settle_run-requires c =
     let p = c.requires.stands in
-    let r = met_here c.args.source.marks c.args.source.text.now c.args.ix c.args.last c.args.tree.now c.args.openers.now
-    p
-    c.item-item.result.now c.in-Some.run' (c.item-item.ensures no_item) c.in-Some.ensures in
+    let r = met_here _ _ _ _ _ _ p c.item-item.result.now c.in-Some.run' (c.item-item.ensures no_item)
+    c.in-Some.ensures in
     record {
       stands = record {
         chain = p.chain;
@@ -31,45 +30,31 @@ settle_run-requires c =
       };
     }
 
-pub read_run-requires-clause-some : goal.read_run-requires-clause-some
-read_run-requires-clause-some c =
+pub read_run-requires : goal.read_run-requires
+read_run-requires c =
     let p = c.requires.stands in
-    (met_here c.args.source.marks c.args.source.text.now c.args.ix c.args.last c.args.tree.now c.args.openers.now p
-    c.item-item.result.now c.in-Some.run' (c.item-item.ensures no_item) c.in-Some.ensures).some
-
-pub read_run-requires-clause-room : goal.read_run-requires-clause-room
-read_run-requires-clause-room c =
-    let p = c.requires.stands in
-    let r = met_here c.args.source.marks c.args.source.text.now c.args.ix c.args.last c.args.tree.now c.args.openers.now
-    p
-    c.item-item.result.now c.in-Some.run' (c.item-item.ensures no_item) c.in-Some.ensures in
+    let r = met_here _ _ _ _ _ _ p c.item-item.result.now c.in-Some.run' (c.item-item.ensures no_item)
+    c.in-Some.ensures in
     let room : c.args.openers.now.potential + comparisons_per_delimiter * runs_in c.args.source.text.now p.rest < 2 ^
     128 = p.room in
-    omega (arith, r.fewer, room, ap (λ t. runs_in t p.rest) p.text_is)
-
-pub read_run-requires-clause-stands : goal.read_run-requires-clause-stands
-read_run-requires-clause-stands c =
-    let p = c.requires.stands in
-    let r = met_here c.args.source.marks c.args.source.text.now c.args.ix c.args.last c.args.tree.now c.args.openers.now
-    p
-    c.item-item.result.now c.in-Some.run' (c.item-item.ensures no_item) c.in-Some.ensures in
     record {
-      chain = p.chain;
-      marks_are = p.marks_are;
-      rs = p.rs;
-      vs = _;
-      after = _;
-      stands = (c.settle_run.ensures p.chain p.rs c.args.last p.rest p.stands.stands r.begins).0;
-      are = p.stands.are;
+      some = r.some;
+      room = omega (arith, r.fewer, room, ap (λ t. runs_in t p.rest) p.text_is);
+      stands = record {
+        chain = p.chain;
+        marks_are = p.marks_are;
+        rs = p.rs;
+        vs = _;
+        after = _;
+        stands = (c.settle_run.ensures p.chain p.rs c.args.last p.rest p.stands.stands r.begins).0;
+        are = p.stands.are;
+      };
     }
 
 pub returns-in-None-clause-ok : goal.returns-in-None-clause-ok
 returns-in-None-clause-ok c h rs chain m t st =
-    rw c.next.ensures.value
-    (read_none h c.args.tree.now rs c.args.last c.args.ix c.args.openers.now chain st
-    (shown_run c.args.source.text.now h.setting.text h.tables c.item-item.result.now _ None t
-    (c.item-item.ensures no_item)
-    (head_count h c.args.tree.now rs c.args.last c.args.ix c.args.openers.now chain st) c.in-None.ensures))
+    rw c.next.ensures.value (read_none _ _ _ _ _ _ _ st (shown_run c.args.source.text.now h.setting.text h.tables
+    c.item-item.result.now _ None t (c.item-item.ensures no_item) (head_count _ _ _ _ _ _ _ st) c.in-None.ensures))
 
 if_ok : {A E : Type 0} (P Q : A → Type 0) (r : Result A E) → ((x : A) → P x → Q x) → IfOk r P → IfOk r Q
 if_ok P Q (Ok x) h i = h x i
@@ -83,10 +68,9 @@ pub returns-in-Some-clause-ok : goal.returns-in-Some-clause-ok
 returns-in-Some-clause-ok c =
     if_ok _ _ c.read_run.result
     (λ x on h rs chain m t st.
-    let r = run_here h c.args.tree.now rs c.args.last c.args.ix c.args.openers.now c.in-Some.run' chain st
-    (shown_run c.args.source.text.now h.setting.text h.tables c.item-item.result.now _ (Some c.in-Some.run') t
-    (c.item-item.ensures no_item)
-    (head_count h c.args.tree.now rs c.args.last c.args.ix c.args.openers.now chain st) c.in-Some.ensures) in
+    let r = run_here _ _ _ _ _ _ c.in-Some.run' _ st (shown_run c.args.source.text.now h.setting.text h.tables
+    c.item-item.result.now _ (Some c.in-Some.run') t (c.item-item.ensures no_item) (head_count _ _ _ _ _ _ _ st)
+    c.in-Some.ensures) in
     read_some h c.args.tree.now rs c.args.last c.args.ix c.args.openers.now c.in-Some.run' chain c.read_run.new.openers
     x.0 x.1
     c.settle_run.new.tree c.read_run.new.tree st r c.settle_run.ensures c.read_run.ensures.paid
@@ -97,8 +81,7 @@ pub returns-in-Some-clause-paid : goal.returns-in-Some-clause-paid
 returns-in-Some-clause-paid c =
     if_err c.read_run.result
     (λ h rs chain t st.
-    let r = run_here h c.args.tree.now rs c.args.last c.args.ix c.args.openers.now c.in-Some.run' chain st
-    (shown_run c.args.source.text.now h.setting.text h.tables c.item-item.result.now _ (Some c.in-Some.run') t
-    (c.item-item.ensures no_item)
-    (head_count h c.args.tree.now rs c.args.last c.args.ix c.args.openers.now chain st) c.in-Some.ensures) in
+    let r = run_here _ _ _ _ _ _ c.in-Some.run' _ st (shown_run c.args.source.text.now h.setting.text h.tables
+    c.item-item.result.now _ (Some c.in-Some.run') t (c.item-item.ensures no_item) (head_count _ _ _ _ _ _ _ st)
+    c.in-Some.ensures) in
     omega (arith, r.fewer, c.read_run.ensures.paid, ap (λ x. runs_in x chain) t))

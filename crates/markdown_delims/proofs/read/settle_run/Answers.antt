@@ -1,7 +1,6 @@
 -- Each character is written over.
-use Rattle.std.proofs.Common.{◌≡◌, ◌+◌, suc, arith, subst}
-use Rattle.markdown_delims.proofs.SettleLemmas.{SettlingAt, settling_within, settling_begin, settling_more}
-use Rattle.markdown_delims.proofs.SettleLemmas.{settling_done}
+use Rattle.std.proofs.Common.{◌≡◌, ◌+◌, suc, arith}
+use Rattle.markdown_delims.proofs.SettleLemmas.{settling_within, settling_begin, settling_more, settling_done}
 use Rattle.markdown_delims.proofs.read.settle_run.Goals as goal
 
 pub settle-init : goal.settle-init
@@ -10,12 +9,8 @@ settle-init c h rs last chain st b = settling_begin h c.args.tree.now rs c.args.
 
 pub settle-preserved : goal.settle-preserved
 settle-preserved c h rs last chain st b =
-    subst (λ i. SettlingAt h c.args.tree.now c.put_body.new.tree rs c.args.met.number c.args.met.count i chain)
-    (let e : suc c.settle.i
-    ≡ c.settle.i + 1 = omega arith in e)
-    (settling_more h c.args.tree.now c.settle.tree rs c.args.met.number c.args.met.count c.settle.i chain
-    c.put_body.new.tree
-    c.settle-test.true (c.settle.invariant h rs last chain st b) c.put_body.ensures)
+    rw (← (let e : suc c.settle.i ≡ c.settle.i + 1 = omega arith in e))
+    (settling_more _ _ _ _ _ _ _ _ _ c.settle-test.true (c.settle.invariant h rs last chain st b) c.put_body.ensures)
 
 pub returns : goal.returns
 returns c h rs last chain st b =
@@ -26,15 +21,12 @@ returns c h rs last chain st b =
 pub put_body-requires : goal.put_body-requires
 put_body-requires c =
     let p = c.requires.stands in
-    settling_within p.chain c.args.tree.now c.settle.tree p.rs c.args.met.number c.args.met.count c.settle.i p.rest
-    c.settle-test.true
+    settling_within _ _ _ _ _ _ _ _ c.settle-test.true
     (c.settle.invariant p.chain p.rs p.last p.rest p.stands p.begins)
 
 pub overflow_add-met : goal.overflow_add-met
 overflow_add-met c =
     let p = c.requires.stands in
     let a = c.settle.invariant p.chain p.rs p.last p.rest p.stands p.begins in
-    let w = settling_within p.chain c.args.tree.now c.settle.tree p.rs c.args.met.number c.args.met.count c.settle.i
-    p.rest
-    c.settle-test.true a in
+    let w = settling_within _ _ _ _ _ _ _ _ c.settle-test.true a in
     omega (arith, w, a.kept.size, p.stands.few)
