@@ -1,5 +1,5 @@
 -- What a `]` becomes is put, in each of its forms.
-use Rattle.std.proofs.Common.{ℕ, List, Some, sym, subst}
+use Rattle.std.proofs.Common.{ℕ, List, sym, subst}
 use Rattle.markdown_brackets.specs.BracketDecision.{Becomes}
 use Rattle.markdown_brackets.specs.DecisionView.{IsBecome}
 use Rattle.markdown_brackets.specs.TargetOrigins.{IsTargetFrom}
@@ -20,8 +20,7 @@ settle-requires c =
     let tables = tables_of c.args.tables.now in (
       source,
       tables,
-      stands_rest source tables c.args.tree.now.nodes c.requires.1 (Some c.args.closer) c.requires.2
-          c.requires.6.stands,
+      stands_rest c.requires.6.stands,
     )
 
 pub returns-in-Text-clause-puts : goal.returns-in-Text-clause-puts
@@ -35,7 +34,7 @@ returns-in-Text-clause-puts c source first left w closing becomes closes is =
     let so = subst (ClosesAt source tables old first closer left w closing) same closes in
     subst (λ (b : Becomes ℕ). PutsClosed source first closer next left w closing b old new tables tables) (sym same)
     (text_closed source tables old new first closer next left w closing so
-    (c.settle.ensures.puts source tables (stands_rest source tables old first (Some closer) left so.stands)))
+    (c.settle.ensures.puts source tables (stands_rest so.stands)))
 
 pub returns-in-Link-clause-puts : goal.returns-in-Link-clause-puts
 returns-in-Link-clause-puts c =
@@ -51,8 +50,7 @@ returns-in-Link-clause-puts c =
     (puts source first left w closing b.split
     (subst (ClosesAt source tables old first closer left w closing) b.is closes) b.opener_is
     (subst (λ (bytes : List ℕ). IsTargetFrom bytes (start_of b.split.opener) c.in-Link.end c.in-Link.target)
-    closes.text_is b.from)))
-    c.put_target.ensures.puts
+    closes.text_is b.from))) c.put_target.ensures.puts
 
 pub returns-in-Footnote-clause-puts : goal.returns-in-Footnote-clause-puts
 returns-in-Footnote-clause-puts c =
@@ -63,8 +61,7 @@ returns-in-Footnote-clause-puts c =
     let new = c.put_reference.new.tree.nodes in
     let closer = c.args.closer in
     let b = becomes_footnote w becomes c.in-Footnote.opener c.in-Footnote.name
-    (subst (λ (found : ClosedBracket). IsBecome w becomes found)
-    c.in-Footnote.is is) in
+    (subst (λ (found : ClosedBracket). IsBecome w becomes found) c.in-Footnote.is is) in
     subst (λ (x : Becomes ℕ). PutsClosed source first closer next left w closing x old new tables tables') (sym b.is)
     (puts source first left w closing b.split
     (subst (ClosesAt source tables old first closer left w closing) b.is closes) b.opener_is))
@@ -74,5 +71,4 @@ pub returns-in-Wikilinked-clause-puts : goal.returns-in-Wikilinked-clause-puts
 returns-in-Wikilinked-clause-puts c =
     if_ok c.put_wikilink.result _ _ (λ next puts. λ source first left w closing becomes closes is.
     puts source first left w closing becomes closes
-    (subst (λ (found : ClosedBracket). IsBecome w becomes found) c.in-Wikilinked.is is))
-    c.put_wikilink.ensures.puts
+    (subst (λ (found : ClosedBracket). IsBecome w becomes found) c.in-Wikilinked.is is)) c.put_wikilink.ensures.puts
