@@ -68,10 +68,10 @@ all_past source tables nodes low byte l (node ix below after) s placed quiet fir
     )
 
 -- all that follow the first item of a chain are past it
-pub rest_past : (source : List ℕ) (tables : Tables) (nodes : List (Node Item)) (ix : ℕ)
+pub rest_past : {source : List ℕ} {tables : Tables} {nodes : List (Node Item)} {ix : ℕ}
     → CanResolve source tables nodes (Some ix)
     → AllPast nodes ix (item_at nodes ix).end (roots (forest_at (links_of nodes) (sibling_of nodes ix)))
-rest_past source tables nodes ix ready =
+rest_past {source} {tables} {nodes} {ix} ready =
     let o = opens (links_of nodes) (IsPlaced source tables nodes) ix ready.reaches in
     let quiet = rw o.here at ready.quiet_below in
     all_past source tables nodes ix (item_at nodes ix).end (sibling_of nodes ix)

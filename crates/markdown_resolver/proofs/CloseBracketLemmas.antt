@@ -178,7 +178,7 @@ may_close step source rules above tables nodes first ix left could_be limit limi
     h in
     record {
       stands = stands;
-      before = stands_before source tables nodes first ix d.left_then c could_be stands refl refl is;
+      before = stands_before stands refl refl is;
       rises = left_rises source tables nodes first (Some ix) d.left_then stands;
       closes = record {
         stands = stands;
@@ -186,7 +186,7 @@ may_close step source rules above tables nodes first ix left could_be limit limi
         label_is = refl;
         rest_is = refl;
         text_is = refl;
-        unmade = unmade_after source tables nodes ix (stands_rest h) (ap is_open is) (ap waits_for_pairing is) unread;
+        unmade = unmade_after (stands_rest h) (ap is_open is) (ap waits_for_pairing is) unread;
         splits = d.splits;
         ends = ends_well source tables nodes first ix left w c p d.becomes q h refl refl refl utf8 refl decides;
       };
@@ -213,8 +213,7 @@ decides_here step place prefix tree old new ix (Ok found) text options_are prefi
       let could_be = could_be_reference (item_at tree.nodes ix).body in
       let held = old.lookup.tables in
       let c = closing_at place.text.now (tables_of held) tree.nodes old.waiting.spent could_be ix in
-      let before = stands_before place.text.now (tables_of held) tree.nodes first ix left c could_be can.so_far refl
-      refl (closer_body (item_at tree.nodes ix).body closes) in
+      let before = stands_before can.so_far refl refl (closer_body (item_at tree.nodes ix).body closes) in
       let d = decides (above_cursor place.text.now tree).bodies (length_by prefix) left c (λ rest. refl) before refl
       can.openers.brackets_are can.openers.wikilinks_are in
       let here = subst (λ (w : Around). Decides step w c left old.lookup.limit new.lookup.limit (uses_of held.footdefs)

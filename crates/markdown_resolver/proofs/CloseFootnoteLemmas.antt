@@ -26,10 +26,10 @@ use Rattle.markdown_resolver.specs.declared.rest.Rest.{Rest}
 use Rattle.markdown_resolver.specs.ClosedOver.{CanClose, CanPutMark, CanPutOver, PutsOver, after_mark, in_place_of}
 use Rattle.markdown_resolver.specs.Closes.{ClosesAt, PutsClosed}
 use Rattle.markdown_resolver.specs.Rewritten.{CanPut}
+use Rattle.markdown_resolver.proofs.CodeSpanLemmas.{can_put_text, text_item_over, PutsText}
 use Rattle.markdown_resolver.proofs.SettlingLemmas.{names_nothing}
 use Rattle.markdown_resolver.proofs.PutFoundLemmas.{same_before}
 use Rattle.markdown_resolver.proofs.CloseLemmas.{OpenerAt, can_close, opener_at, opener_before, puts_closed}
-use Rattle.markdown_resolver.proofs.CodeSpanLemmas.{PutsText}
 use Rattle.markdown_resolver.proofs.SplitLemmas.{inside_numbers, opens_numbered}
 use Rattle.markdown_resolver.proofs.StandsToLemmas.{footnote_stands}
 
@@ -44,26 +44,11 @@ pub becomes_footnote : (w : Around) (becomes : Becomes ℕ) (opener : Opener) (f
 becomes_footnote w (a_footnote o name) opener found h = record { split = o; is = rw h.1 refl; opener_is = h.0 }
 becomes_footnote w other opener found h = absurd h
 
--- a footnote reference of an entry, over bytes; a Text over bytes
+-- a footnote reference of an entry, over bytes
 abbrev pub footnote_over : CowIndex → (start end : ℕ) → Item
 footnote_over number start end = record { start = start; end = end; body = body.FootnoteReference number }
 
-abbrev pub text_item_over : (start end : ℕ) → Item
-text_item_over start end = record { start = start; end = end; body = body.Text false }
-
--- a Text can be put in place where it lies in the text; it refers to nothing
-pub can_put_text : (source : List ℕ) (tables tables' : Tables) (start end : ℕ) → start ≤ end
-    → IsCharBoundary source start → IsCharBoundary source end → CanPut source tables tables' (text_item_over start end)
-can_put_text source tables tables' start end ordered from to = record {
-  closed = refl;
-  no_block = refl;
-  lies = record { ordered = ordered; start = from; end = to };
-  named = record { text = tt; link = tt; alignments = tt; attributes = tt };
-  slices = tt;
-  new_names = λ n h. names_nothing n;
-}
-
--- so can the footnote reference
+-- it can be put in place where it lies in the text
 pub can_put_footnote : (source : List ℕ) (tables tables' : Tables) (number : CowIndex) (name : List ℕ) (start end : ℕ)
     → PutsText tables tables' number name → start ≤ end → IsCharBoundary source start → IsCharBoundary source end
     → CanPut source tables tables' (footnote_over number start end)

@@ -55,7 +55,7 @@ pub opener_at : {source : List ℕ} {tables : Tables} {nodes : List (Node Item)}
     {left : List (Entry ℕ)} {o : Split ℕ} → StandsTo source tables nodes first (Some closer) left → IsSplit left o
     → OpenerAt source tables nodes first closer o
 opener_at {source} {tables} {nodes} {first} {closer} {left} {o} stands splits =
-    let at = stands_at_opener source tables nodes first (Some closer) left o stands splits in
+    let at = stands_at_opener stands splits in
     let ready' = stands_rest stands in
     record {
       stands = at.stands;
@@ -184,8 +184,7 @@ puts_closed source first closer rest left w c becomes o old new tables tables' b
     let opened = opens_numbered at.ready in
     let is : trees a (first_trees (length (inside_numbers o)) after)
     ≡ without_numbers what = ap (trees a) at.around.inside_is ∙ reads in
-    let put_there = over_trees source ix closer (inside_numbers o) trees goes_on standing rest old new tables tables' a
-    (trees_from source tables old (child_of old ix)) after at.ready opened.trees
+    let put_there = over_trees at.ready opened.trees
     (subst IsQuiet (sym is) (quiet_tagged (λ n. tt) what quiet)) over many in
     let so : PutsTrees source ix next (without_numbers what) (past_byte goes_on behind) old new tables tables' =
     subst (λ (f : Forest Plain). PutsTrees source ix next (without_numbers what) (past_byte goes_on f) old new tables

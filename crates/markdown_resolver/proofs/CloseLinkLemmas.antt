@@ -1,6 +1,6 @@
 -- A link or an image, put in the place of its opener: what can be put there, and what it reads as.
-use Rattle.std.proofs.Common.{◌≡◌, ℕ, ◌<◌, ◌≤◌, Bool, true, false, List, [], ◌∷◌, length, Some, None, refl, sym, ap}
-use Rattle.std.proofs.Common.{subst, arith, if◌then◌else◌}
+use Rattle.std.proofs.Common.{◌≡◌, ℕ, ◌≤◌, Bool, true, false, List, [], ◌∷◌, length, Some, None, refl, sym, ap, subst}
+use Rattle.std.proofs.Common.{arith, if◌then◌else◌}
 use Rattle.std.specs.Prelude.{IsCharBoundary}
 use Rattle.markdown_base.specs.BlockTree.{item_at}
 use Rattle.markdown_base.specs.Event.{LinkView, image, link, link_view}
@@ -24,16 +24,13 @@ use Rattle.markdown_document.specs.Document.{Label, Plain, enclosed, label_of}
 use Rattle.markdown_document.specs.LinkOrigins.{IsLinkFrom, IsTitleFrom, LinkOrigins, destination_origin}
 use Rattle.markdown_document.specs.Origins.{made, origin_of}
 use Rattle.markdown_document.specs.Tables.{Tables, link_at, link_origins, tables_of}
-use Rattle.markdown_document.specs.NamedEntries.{Named, number_of, size_for, some_link, times_named}
 use Rattle.markdown_resolver.specs.declared.rest.Rest.{Rest}
 use Rattle.markdown_resolver.specs.ClosedOver.{CanClose, CanPutOver, PutsOver, over_inside}
 use Rattle.markdown_resolver.specs.Closes.{ClosesAt, PutsClosed}
 use Rattle.markdown_resolver.specs.PutsTrees.{numbered_label, without_numbers}
-use Rattle.markdown_resolver.specs.Rewritten.{CanPut}
-use Rattle.markdown_resolver.proofs.PutFoundLemmas.{same_before}
+use Rattle.markdown_resolver.proofs.MarkupItemLemmas.{can_put_link, link_over, PutsLink, link_put}
 use Rattle.markdown_resolver.proofs.CloseLemmas.{OpenerAt, can_close, opener_at, opener_before, puts_closed}
 use Rattle.markdown_resolver.proofs.CloseLemmas.{quiet_inside}
-use Rattle.markdown_resolver.proofs.MarkupItemLemmas.{PutsLink, link_put}
 use Rattle.markdown_resolver.proofs.SplitLemmas.{inside_numbers, opens_numbered}
 use Rattle.markdown_resolver.proofs.StandsToLemmas.{link_stands}
 use Rattle.markdown_defs.specs.Allocations.{Allocated, LinkParts}
@@ -57,12 +54,7 @@ becomes_link w (a_link o target e n) opener found end next h = record {
 }
 becomes_link w other opener found end next h = absurd h
 
--- a link or an image with an entry and a range
-abbrev pub link_over : (is_image : Bool) → LinkIndex → (start end : ℕ) → Item
-link_over is_image number start end = record
-    { start = start; end = end; body = if is_image then body.Image number else body.Link number }
-
--- from an opener on
+-- a link or an image from an opener on
 abbrev pub link_from : List (Node Item) → Opener → LinkIndex → (end : ℕ) → Item
 link_from nodes opener number end = link_over opener.is_image number (item_at nodes opener.node).start end
 
@@ -75,37 +67,7 @@ made_link : (source : List ℕ) (start end : ℕ) (origins : LinkOrigins) (view 
     ≡ made → IsTitleFrom source start end view.kind origins.title view.title → IsLinkFrom source start end origins view
 made_link source start end origins view other title = record { leads = λ slice. cc (other, slice); title = title }
 
--- it can be put in place, where it lies in the text
-pub can_put_link : (source : List ℕ) (tables tables' : Tables) (is_image : Bool) (number : LinkIndex) (view : LinkView)
-    (start end : ℕ) → PutsLink source start end tables tables' number view
-    → start ≤ end → IsCharBoundary source start → IsCharBoundary source end
-    → CanPut source tables tables' (link_over is_image number start end)
-can_put_link source tables tables' true number view start end put ordered from to = record {
-  closed = refl;
-  no_block = refl;
-  lies = record { ordered = ordered; start = from; end = to };
-  named = record { text = tt; link = put.within; alignments = tt; attributes = tt };
-  slices = put.slices;
-  new_names = by_image;
-}
-  where
-    by_image : (n : Named) → number_of n < size_for tables n → times_named n (body.Image number) ≡ 0
-    by_image (some_link n) h = same_before n number.0 (omega (arith, h, put.number))
-    by_image other h = refl
-can_put_link source tables tables' false number view start end put ordered from to = record {
-  closed = refl;
-  no_block = refl;
-  lies = record { ordered = ordered; start = from; end = to };
-  named = record { text = tt; link = put.within; alignments = tt; attributes = tt };
-  slices = put.slices;
-  new_names = by_link;
-}
-  where
-    by_link : (n : Named) → number_of n < size_for tables n → times_named n (body.Link number) ≡ 0
-    by_link (some_link n) h = same_before n number.0 (omega (arith, h, put.number))
-    by_link other h = refl
-
--- and reads as its entry
+-- a link reads as its entry
 link_label : (source : List ℕ) (tables : Tables) (tag : ℕ) (is_image : Bool) (number : LinkIndex) (view : LinkView)
     (start start' end : ℕ) → start ≡ start' → link_at tables.links number.0 ≡ view
     → label_of source tables (link_over is_image number start end) ≡ record {

@@ -38,8 +38,9 @@ use Rattle.markdown_resolver.specs.Closes.{ClosesAt, FirstLies, NoneOpenAround, 
 use Rattle.markdown_resolver.specs.Kept.{IsQuiet}
 use Rattle.markdown_resolver.specs.PutsTrees.{numbered_from, numbered_label, without_numbers}
 use Rattle.markdown_resolver.specs.Rewritten.{CanPut, first_past}
+use Rattle.markdown_resolver.proofs.CodeSpanLemmas.{can_put_text, text_item_over}
 use Rattle.markdown_resolver.proofs.PassOneQuietLemmas.{later_quiet}
-use Rattle.markdown_resolver.proofs.CloseFootnoteLemmas.{can_put_text, text_item_over, text_label}
+use Rattle.markdown_resolver.proofs.CloseFootnoteLemmas.{text_label}
 use Rattle.markdown_resolver.proofs.CloseLemmas.{OpenerAt, can_close, none_open, opener_at, puts_closed, quiet_inside}
 use Rattle.markdown_resolver.proofs.CloseLinkLemmas.{item_over, link_from, link_over_opener, linked_label}
 use Rattle.markdown_resolver.proofs.MarkupItemLemmas.{PutsLink, link_put}

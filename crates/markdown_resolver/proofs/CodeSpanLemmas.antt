@@ -36,9 +36,9 @@ use Rattle.markdown_spans.specs.declared.span_text.SpanKind.TheVariants.{Code}
 use Rattle.markdown_defs.specs.Allocations.{Allocated, LinkParts}
 use Rattle.markdown_defs.specs.AllocationCalls.{with_cow}
 use Rattle.markdown_spans.proofs.SliceLemmas.{sliced_wider}
+use Rattle.markdown_resolver.specs.Rewritten.{CanPut, IsFoundAt, first_past, settled}
 use Rattle.markdown_resolver.specs.Chains.{CanResolve}
 use Rattle.markdown_resolver.specs.PutCode.{CanPutCode, CanPutSpan, code_standing}
-use Rattle.markdown_resolver.specs.Rewritten.{IsFoundAt, first_past, settled}
 use Rattle.markdown_resolver.specs.StoredText.{CanCut, StoresText, text_between, origin_between}
 use Rattle.markdown_resolver.proofs.SettlingLemmas.{names_nothing}
 use Rattle.markdown_resolver.proofs.PutFoundLemmas.{same_before}
@@ -55,11 +55,11 @@ number_back nodes None = refl
 number_back nodes (Some x) = refl
 
 -- what closes code among the nodes that follow its opener
-pub closes_by_number : (source : List ℕ) (tables : Tables) (nodes : List (Node Item)) (ix count : ℕ) (escaped : Bool)
-    (found : Option ℕ)
+pub closes_by_number : {source : List ℕ} {tables : Tables} {nodes : List (Node Item)} {ix count : ℕ} {escaped : Bool}
+    {found : Option ℕ}
     → CanResolve source tables nodes (Some ix) → (item_at nodes ix).body ≡ body.MaybeCode count escaped
     → ClosesCode nodes ix found → code_close (item_at nodes) (body.MaybeCode count escaped) (followers nodes ix) ≡ found
-closes_by_number source tables nodes ix count escaped found ready is closes =
+closes_by_number {source} {tables} {nodes} {ix} {count} {escaped} {found} ready is closes =
     let o = opens_chain ready in
     let xs = followers nodes ix in
     sym (number_back nodes (code_close (item_at nodes) (body.MaybeCode count escaped) xs))
@@ -81,7 +81,7 @@ code_read s above tables nodes ix count escaped found ready is closes =
     let xs = followers nodes ix in
     ap (code_found s above (show ix)) (ap (code_close as_item (body.MaybeCode count escaped)) o.labels
     ∙ code_close_shown as_item show nodes (label_alike s.text tables nodes) count escaped xs
-    ∙ ap (option_map show) (closes_by_number s.text tables nodes ix count escaped found ready is closes))
+    ∙ ap (option_map show) (closes_by_number ready is closes))
 
 -- where nothing closes it, a Text is read
 pub nothing_reads : (s : Setting) (above : Above) (tables : Tables) (nodes : List (Node Item)) (ix count : ℕ)
@@ -167,13 +167,12 @@ code_open : (n : ℕ) (b : ItemBody) → is_code_of n b ≡ true → (is_open b 
 code_open n (body.MaybeCode count escaped) h = (refl, refl)
 code_open n other h = cc h
 
-pub closed_code : (source : List ℕ) (tables : Tables) (nodes : List (Node Item)) (ix x count : ℕ) (escaped : Bool)
+pub closed_code : {source : List ℕ} {tables : Tables} {nodes : List (Node Item)} {ix x count : ℕ} {escaped : Bool}
     → CanResolve source tables nodes (Some ix) → (item_at nodes ix).body ≡ body.MaybeCode count escaped
     → ClosesCode nodes ix (Some x) → ((closing_count count escaped == 0) ≡ false) × ClosedCode source tables nodes ix x
-closed_code source tables nodes ix x count escaped ready is closes =
+closed_code {source} {tables} {nodes} {ix} {x} {count} {escaped} ready is closes =
     let o = opens_chain ready in
-    let there = code_close_among nodes count escaped (followers nodes ix) x
-    (closes_by_number source tables nodes ix count escaped (Some x) ready is closes) in
+    let there = code_close_among nodes count escaped (followers nodes ix) x (closes_by_number ready is closes) in
     let among = there.1.among in
     let kind = code_open (closing_count count escaped) (item_at nodes x).body there.1.is_code in
     let around = order_around nodes (item_at nodes ix).end among.before x among.after
@@ -269,6 +268,21 @@ code_names : (tables : Tables) (cow : CowIndex) (n : Named) → cow.0 ≡ length
 code_names tables cow (some_text n) e h = same_before n cow.0 (omega (arith, h, e))
 code_names tables cow other e h = refl
 
+-- a Text over bytes can be put in place where it lies in the text
+abbrev pub text_item_over : (start end : ℕ) → Item
+text_item_over start end = record { start = start; end = end; body = body.Text false }
+
+pub can_put_text : (source : List ℕ) (tables tables' : Tables) (start end : ℕ) → start ≤ end
+    → IsCharBoundary source start → IsCharBoundary source end → CanPut source tables tables' (text_item_over start end)
+can_put_text source tables tables' start end ordered from to = record {
+  closed = refl;
+  no_block = refl;
+  lies = record { ordered = ordered; start = from; end = to };
+  named = record { text = tt; link = tt; alignments = tt; attributes = tt };
+  slices = tt;
+  new_names = λ n h. names_nothing n;
+}
+
 -- the code span can be put in the place of its opener
 two_at_least : (count : ℕ) → (closing_count count true == 0) ≡ false → 2 ≤ count
 two_at_least zero h = cc h
@@ -283,7 +297,7 @@ can_put_code : (source : List ℕ) (tables tables' : Tables) (nodes : List (Node
     → CanPutCode source tables tables' nodes ix x (body.Code cow)
 can_put_code source tables tables' nodes ix x count escaped cow origin ready is closes within puts =
     let o = opens_chain ready in
-    let there = closed_code source tables nodes ix x count escaped ready is closes in
+    let there = closed_code ready is closes in
     record {
       grown = puts.grown;
       found = there.1.found;
@@ -297,7 +311,7 @@ can_put_code source tables tables' nodes ix x count escaped cow origin ready is 
         → CanPutSpan source tables tables' nodes ix x (body.Code cow) e
     by false e two =
         let o = opens_chain ready in
-        let there = (closed_code source tables nodes ix x count escaped ready is closes).1 in
+        let there = (closed_code ready is closes).1 in
         record {
           closed = refl;
           no_block = refl;
@@ -315,21 +329,15 @@ can_put_code source tables tables' nodes ix x count escaped cow origin ready is 
         }
     by true e two =
         let o = opens_chain ready in
-        let there = (closed_code source tables nodes ix x count escaped ready is closes).1 in
+        let there = (closed_code ready is closes).1 in
         let item = item_at nodes ix in
         let markup : StandsOverMarkup (slice_range source item.start item.end) (body.MaybeCode count true) =
         subst (StandsOverMarkup (slice_range source item.start item.end)) e o.placed.keeps.markup_is_there in
         let byte = next_byte source item.start item.end count 96 markup.0 (two_at_least count two) (omega arith)
         o.placed.lies.ordered o.placed.lies.end.0 in
         record {
-          puts_first = record {
-            closed = refl;
-            no_block = refl;
-            lies = record { ordered = omega arith; start = o.placed.lies.start; end = byte.1 };
-            named = record { text = tt; link = tt; alignments = tt; attributes = tt };
-            slices = tt;
-            new_names = λ n old. names_nothing n;
-          };
+          puts_first = can_put_text source tables tables' item.start (item.start + 1) (omega arith) o.placed.lies.start
+              byte.1;
           puts_second = record {
             closed = refl;
             no_block = refl;
@@ -356,15 +364,15 @@ can_put_code source tables tables' nodes ix x count escaped cow origin ready is 
         }
 
 -- the bytes between the opener and what closes it can be cut out
-pub code_cut : (source : List ℕ) (tables : Tables) (nodes : List (Node Item)) (ix x count : ℕ) (escaped : Bool)
-    (opener closer : Item) (found : Option ℕ)
+pub code_cut : {source : List ℕ} {tables : Tables} {nodes : List (Node Item)} {ix x count : ℕ} {escaped : Bool}
+    {opener closer : Item} {found : Option ℕ}
     → CanResolve source tables nodes (Some ix) → (item_at nodes ix).body ≡ body.MaybeCode count escaped
     → ClosesCode nodes ix found → found ≡ Some x
     → opener ≡ item_at nodes ix → closer ≡ item_at nodes x → CanCut source opener.end closer.start
-code_cut source tables nodes ix x count escaped opener closer found ready is closes here opens ends =
+code_cut {source} {tables} {nodes} {ix} {x} {count} {escaped} {opener} {closer} {found} ready is closes here opens ends
+    =
     let o = opens_chain ready in
-    let there = (closed_code source tables nodes ix x count escaped ready is
-    (subst (ClosesCode nodes ix) here closes)).1 in
+    let there = (closed_code ready is (subst (ClosesCode nodes ix) here closes)).1 in
     rw (opens, ends) (record { ordered = there.behind; from = o.placed.lies.end; to = there.lies.start })
 
 -- all of it, once the text is in its table
@@ -373,14 +381,14 @@ pub record FoundCode (source : List ℕ) (tables tables' : Tables) (nodes : List
   pub closes : ClosesCode nodes ix (Some x)
   pub can : CanPutCode source tables tables' nodes ix x (body.Code cow)
 
-pub found_code : (source : List ℕ) (tables tables' : Tables) (nodes : List (Node Item)) (ix x count : ℕ)
-    (escaped : Bool) (cow : CowIndex) (origin : Origin) (found : Option ℕ) (opener closer : Item)
+pub found_code : {source : List ℕ} {tables tables' : Tables} {nodes : List (Node Item)} {ix x count : ℕ}
+    {escaped : Bool} {cow : CowIndex} {origin : Origin} {found : Option ℕ} {opener closer : Item}
     → CanResolve source tables nodes (Some ix) → (item_at nodes ix).body ≡ body.MaybeCode count escaped
     → ClosesCode nodes ix found → found ≡ Some x → IfSome found (λ x. x < length nodes)
     → opener ≡ item_at nodes ix → closer ≡ item_at nodes x → StoresText source opener.end closer.start tables tables'
     cow origin → FoundCode source tables tables' nodes ix x cow
-found_code source tables tables' nodes ix x count escaped cow origin found opener closer ready is closes here within
-    opens ends stored =
+found_code {source} {tables} {tables'} {nodes} {ix} {x} {count} {escaped} {cow} {origin} {found} {opener} {closer} ready
+    is closes here within opens ends stored =
     let there : ClosesCode nodes ix (Some x) = subst (ClosesCode nodes ix) here closes in
     record {
       closes = there;

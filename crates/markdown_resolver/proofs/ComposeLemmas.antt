@@ -33,8 +33,8 @@ use Rattle.markdown_document.proofs.TablesLemmas.{entries-longer}
 use Rattle.markdown_resolver.specs.Chains.{CanResolve, ChangesChain}
 
 -- a node that stayed, and stayed again
-pub same_trans : (a b c : List (Node Item)) (n : ℕ) → IsSameAt a b n → IsSameAt b c n → IsSameAt a c n
-same_trans a b c n p q = record { child = q.child ∙ p.child; next = q.next ∙ p.next; item = q.item ∙ p.item }
+pub same_trans : {a b c : List (Node Item)} {n : ℕ} → IsSameAt a b n → IsSameAt b c n → IsSameAt a c n
+same_trans p q = record { child = q.child ∙ p.child; next = q.next ∙ p.next; item = q.item ∙ p.item }
 
 -- the chain from a link on exists, and nothing occurs or is referred to twice in it
 pub record Stands (source : List ℕ) (tables : Tables) (nodes : List (Node Item)) (l : Option ℕ) : Type 0 where
@@ -110,7 +110,7 @@ moves_twice {source} {l} {l'} {l''} {a} {b} {c} {t} {u} {v} p q =
       stands = q.stands;
       of_chain = λ n h. omega (arith, p.of_chain n h, q.of_chain n (omega (arith, h, more)));
       more_nodes = omega (arith, p.more_nodes, q.more_nodes);
-      outside = λ n h z. same_trans a b c n (p.outside n h z)
+      outside = λ n h z. same_trans (p.outside n h z)
           (q.outside n (omega (arith, h, more)) (omega (arith, p.of_chain n h, z)));
       grown = grown-twice t u v p.grown q.grown;
       named = λ n h. omega (arith, p.named n h, q.named n (omega (arith, h, longer.sizes n)));
@@ -338,7 +338,7 @@ module _ (source : List ℕ) (ix : ℕ) (old mid new : List (Node Item)) (tables
       let other = λ (e : n ≡ ix). let one : same n ix ≡ 1 = subst (λ (m : ℕ). same n m ≡ 1) e (same-refl n)
       in let y : ⊥ = absurd (omega (arith, x, one)) in y in
       let apart : times_in mid (sibling_of old ix) n ≡ 0 = rw a.rest.forest (omega (arith, x)) in
-      same_trans old mid new n (h.others n l other) (m.outside n (omega (arith, l, size)) apart)
+      same_trans (h.others n l other) (m.outside n (omega (arith, l, size)) apart)
 
   pub head_moves : ComesBefore (numbered mid ix) (option_map (numbered new) (sibling_of mid ix))
       → RunsAreWhole source (numbered mid ix) (option_map (numbered new) (sibling_of mid ix))
@@ -406,7 +406,7 @@ below_kept {source} {ix} {old} {mid} {new} {tables} {tables'} {later} l' s h m c
     (λ x. absurd (omega (arith, times-past (links_of old) (child_of old ix) f n a.below.spelled x, l)))
     (cases_lt n (length old)) in
     let apart : times_in mid (sibling_of old ix) n ≡ 0 = rw a.rest.forest (omega (arith, once, l)) in
-    same_trans old mid new n (h.others n within other) (m.outside n (omega (arith, within, size)) apart)) (λ n l.
+    same_trans (h.others n within other) (m.outside n (omega (arith, within, size)) apart)) (λ n l.
     let within : number_of n < size_for tables n = ⊎_elim (λ x. x)
     (λ x. absurd (omega (arith, named-past source tables old f n a.below.each x, l)))
     (cases_lt (number_of n) (size_for tables n)) in

@@ -330,7 +330,7 @@ module _ {source : List ℕ} {tables : Tables} {old new : List (Node Item)} {ope
   -- its items are placed
   closer_past : StandsPast old opener (item_at old opener).end closer
   closer_past = past_at old opener (item_at old opener).end closer inside can.after
-      (rw can.follows at (rest_past source tables old opener can.ready))
+      (rw can.follows at (rest_past can.ready))
 
   placed_opener : IsPlaced source tables old opener → IsPlaced source tables new opener
   placed_opener p = record {
@@ -468,8 +468,7 @@ enclosed_nodes old opener last closer inside within last_within inside_is =
       last_next = λ d. (changed_other b opener leads last d).next ∙ (changed_other a opener hangs last d).next ∙ p.next;
       last_child = λ d. (changed_other b opener leads last d).child ∙ (changed_other a opener hangs last d).child
           ∙ p.child;
-      others = λ n d e. same_trans old b c n
-          (same_trans old a b n (changed_other old last ends n e) (changed_other a opener hangs n d))
+      others = λ n d e. same_trans (same_trans (changed_other old last ends n e) (changed_other a opener hangs n d))
           (changed_other b opener leads n d);
     }
 

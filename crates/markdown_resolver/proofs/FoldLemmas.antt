@@ -135,7 +135,7 @@ module _ {source : List ℕ} {tables : Tables} {old : List (Node Item)} {opener 
 
   pub closer_past : StandsPast old opener (item_at old opener).end closer
   closer_past = past_at old opener (item_at old opener).end closer inside can.after
-      (rw can.follows at (rest_past source tables old opener can.ready))
+      (rw can.follows at (rest_past can.ready))
 
   closer_roots : roots (trees_past k f) ≡ closer ∷ can.after
   closer_roots = ap (λ (g : Forest ℕ). roots g) closer_opens.is ∙ ap (λ (ns : List ℕ). closer ∷ ns) closer_opens.follow
@@ -187,7 +187,7 @@ module _ {source : List ℕ} {tables : Tables} {old : List (Node Item)} {opener 
     pub behind_past : AllPast new opener (item_at old opener).end (roots (forest_at (links_of new) (Some closer)))
     behind_past =
         let all : AllPast old opener (item_at old opener).end (inside ++ closer ∷ can.after) = rw can.follows at
-        (rest_past source tables old opener can.ready) in
+        (rest_past can.ready) in
         let some : AllPast old opener (item_at old opener).end (roots (trees_past k f)) = rw closer_roots
         (past_behind old opener (item_at old opener).end inside (closer ∷ can.after) all) in
         rw behind_forest (past_kept old new opener (item_at old opener).end (trees_past k f) (λ n l. (behind n l).item)

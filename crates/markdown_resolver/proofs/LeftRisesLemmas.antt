@@ -78,12 +78,12 @@ holds_numbered source tables nodes l (node ix below after) s = (
 )
 
 -- after a left list there is a `]`, and then what follows it
-pub stands_before : (source : List ℕ) (tables : Tables) (nodes : List (Node Item)) (first closer : ℕ)
-    (left : List (Entry ℕ)) (c : Closing ℕ) (could_be : Bool)
+pub stands_before : {source : List ℕ} {tables : Tables} {nodes : List (Node Item)} {first closer : ℕ}
+    {left : List (Entry ℕ)} {c : Closing ℕ} {could_be : Bool}
     → StandsTo source tables nodes first (Some closer) left → c.label ≡ numbered_label source tables nodes closer
     → c.rest ≡ numbered_from source tables nodes (sibling_of nodes closer)
     → (item_at nodes closer).body ≡ body.MaybeLinkClose could_be → StandsBefore nodes closer left c
-stands_before source tables nodes first closer left c could_be h label rest closes =
+stands_before {source} {tables} {nodes} {first} {closer} {left} {c} {could_be} h label rest closes =
     let ready = stands_rest h in
     let o = opens (links_of nodes) (IsPlaced source tables nodes) closer ready.reaches in
     let is_open_here : is_open (item_at nodes closer).body ≡ true = rw closes refl in

@@ -257,6 +257,6 @@ found_at source tables nodes ix end ready unread is closed =
           let found = first_placed source tables nodes end next (forest_at (links_of nodes) (sibling_of nodes ix))
           after.each e in
           first_cut source tables nodes end next (forest_at (links_of nodes) (sibling_of nodes ix))
-          (unmade_after source tables nodes ix ready (rw is refl) (rw is refl) unread) e
+          (unmade_after ready (rw is refl) (rw is refl) unread) e
           (none_cut source tables nodes next end 62 found.0 (omega arith, omega arith) closed starts found.1);
     }

@@ -1,8 +1,8 @@
 -- The items that are put in place where markup was found can be put there, and read as the trees that replace the `<`.
 use Rattle.markdown_base.specs.declared.item.ItemBody.TheVariants as body
-use Rattle.std.proofs.Common.{◌≡◌, ℕ, zero, suc, ◌+◌, ◌-◌, ◌<◌, ◌≤◌, ◌⊎◌, inl, inr, false, List, [], ◌∷◌, ◌++◌, Option}
-use Rattle.std.proofs.Common.{Some, None, length, take, drop, get_or, refl, sym, ap, ◌∙◌, subst, arith, append-nil}
-use Rattle.std.proofs.Common.{length-append}
+use Rattle.std.proofs.Common.{Bool, true, if◌then◌else◌, ◌≡◌, ℕ, zero, suc, ◌+◌, ◌-◌, ◌<◌, ◌≤◌, ◌⊎◌, inl, inr, false, List}
+use Rattle.std.proofs.Common.{[], ◌∷◌, ◌++◌, Option, Some, None, length, take, drop, get_or, refl, sym, ap, ◌∙◌, subst}
+use Rattle.std.proofs.Common.{arith, append-nil, length-append}
 use Rattle.std.specs.Prelude.{IfSome, codes, slice_index, slice_range}
 use Rattle.std.specs.Option.{option_map}
 use Rattle.std.specs.Str.{IsCharBoundary}
@@ -28,8 +28,8 @@ use Rattle.markdown_document.specs.Places.{label_at, trees_from}
 use Rattle.markdown_document.specs.PlacedNodes.{HasSliceLink, IsPlaced}
 use Rattle.markdown_document.specs.Setting.{Rules, setting_of}
 use Rattle.markdown_document.specs.Tables.{Tables, link_at, link_origins, tables_of}
-use Rattle.markdown_document.specs.NamedEntries.{HasGrown, Named, link_origins_at, number_of, size_for}
-use Rattle.markdown_document.specs.NamedEntries.{some_link, some_text, times_named}
+use Rattle.markdown_document.specs.NamedEntries.{HasGrown, Named, link_origins_at, number_of, size_for, some_link}
+use Rattle.markdown_document.specs.NamedEntries.{some_text, times_named}
 use Rattle.markdown_spans.specs.AfterLess.{Markup, autolink, html_markup, markup_at}
 use Rattle.markdown_spans.specs.Finds.{address, markup_trees}
 use Rattle.markdown_raw_html.specs.HtmlTag.{html_tag}
@@ -42,10 +42,10 @@ use Rattle.markdown_resolver.specs.declared.rest.Rest.{Rest}
 use Rattle.markdown_resolver.specs.Chains.{CanResolve}
 use Rattle.markdown_resolver.specs.MarkupItems.{IsAddress, address_to, item_to, standing_for}
 use Rattle.markdown_resolver.specs.Rewritten.{CanPut, CanPutParent, Puts, Standing, one_item, parent, replaced}
+use Rattle.markdown_resolver.proofs.CodeSpanLemmas.{can_put_text, PutsText}
 use Rattle.markdown_resolver.proofs.SettlingLemmas.{names_nothing}
 use Rattle.markdown_resolver.proofs.PutFoundLemmas.{same_before}
 use Rattle.markdown_resolver.proofs.FollowersLemmas.{opens_chain}
-use Rattle.markdown_resolver.proofs.CodeSpanLemmas.{PutsText}
 use Rattle.markdown_resolver.proofs.MarkupEndLemmas.{EndsClosed}
 
 -- a boundary of a text is one of the text's beginning up to some byte behind it
@@ -95,9 +95,9 @@ one_byte_long source tables nodes ix ready is =
     )
 
 -- the item of a node that may be read lies in the text
-pub lies_at : (source : List ℕ) (tables : Tables) (nodes : List (Node Item)) (ix : ℕ)
+pub lies_at : {source : List ℕ} {tables : Tables} {nodes : List (Node Item)} {ix : ℕ}
     → CanResolve source tables nodes (Some ix) → LiesIn source (item_at nodes ix)
-lies_at source tables nodes ix ready
+lies_at {source} {tables} {nodes} {ix} ready
     = (opens (links_of nodes) (IsPlaced source tables nodes) ix ready.reaches).holds.lies
 
 -- past the end of a text nothing is found
@@ -165,6 +165,41 @@ address_from source start end title uri slice = record {
   title = tt;
 }
 
+-- a link or an image with an entry and a range
+abbrev pub link_over : (is_image : Bool) → LinkIndex → (start end : ℕ) → Item
+link_over is_image number start end = record
+    { start = start; end = end; body = if is_image then body.Image number else body.Link number }
+
+-- it can be put in place, where it lies in the text
+pub can_put_link : (source : List ℕ) (tables tables' : Tables) (is_image : Bool) (number : LinkIndex) (view : LinkView)
+    (start end : ℕ) → PutsLink source start end tables tables' number view
+    → start ≤ end → IsCharBoundary source start → IsCharBoundary source end
+    → CanPut source tables tables' (link_over is_image number start end)
+can_put_link source tables tables' true number view start end put ordered from to = record {
+  closed = refl;
+  no_block = refl;
+  lies = record { ordered = ordered; start = from; end = to };
+  named = record { text = tt; link = put.within; alignments = tt; attributes = tt };
+  slices = put.slices;
+  new_names = by_image;
+}
+  where
+    by_image : (n : Named) → number_of n < size_for tables n → times_named n (body.Image number) ≡ 0
+    by_image (some_link n) h = same_before n number.0 (omega (arith, h, put.number))
+    by_image other h = refl
+can_put_link source tables tables' false number view start end put ordered from to = record {
+  closed = refl;
+  no_block = refl;
+  lies = record { ordered = ordered; start = from; end = to };
+  named = record { text = tt; link = put.within; alignments = tt; attributes = tt };
+  slices = put.slices;
+  new_names = by_link;
+}
+  where
+    by_link : (n : Named) → number_of n < size_for tables n → times_named n (body.Link number) ≡ 0
+    by_link (some_link n) h = same_before n number.0 (omega (arith, h, put.number))
+    by_link other h = refl
+
 -- raw HTML as it is in the source
 pub can_put_html : (source : List ℕ) (tables : Tables) (nodes : List (Node Item)) (ix end : ℕ)
     → LiesIn source (item_to nodes ix end (body.Text false))
@@ -207,29 +242,12 @@ pub can_put_autolink : (source : List ℕ) (tables tables' : Tables) (number : L
     → LiesIn source (item_to nodes ix end (body.Text false)) → IsAddress source nodes ix end uri
     → CanPutParent source tables tables' nodes ix (item_to nodes ix end (body.Link number)) (address_to nodes ix end)
 can_put_autolink source tables tables' number uri nodes ix end put lies there = record {
-  puts = record {
-    closed = refl;
-    no_block = refl;
-    lies = record { ordered = lies.ordered; start = lies.start; end = lies.end };
-    named = record { text = tt; link = put.within; alignments = tt; attributes = tt };
-    slices = put.slices;
-    new_names = by_link;
-  };
-  puts_inside = record {
-    closed = refl;
-    no_block = refl;
-    lies = there.lies;
-    named = record { text = tt; link = tt; alignments = tt; attributes = tt };
-    slices = tt;
-    new_names = λ n h. names_nothing n;
-  };
+  puts = can_put_link source tables tables' false number (address uri) (item_at nodes ix).start end put lies.ordered
+      lies.start lies.end;
+  puts_inside = can_put_text source tables tables' _ _ there.lies.ordered there.lies.start there.lies.end;
   names_nothing = names_nothing;
   starts = refl;
 }
-  where
-    by_link : (n : Named) → number_of n < size_for tables n → times_named n (body.Link number) ≡ 0
-    by_link (some_link n) h = same_before n number.0 (omega (arith, h, put.number))
-    by_link other h = refl
 
 -- they read as the trees that replace what was found
 abbrev pub ReadsFor : List ℕ → Rules → Tables → List (Node Item) → ℕ → Standing → Markup → Type 0
@@ -299,7 +317,7 @@ pub lies_to : (source : List ℕ) (tables : Tables) (nodes : List (Node Item)) (
     → (item_at nodes ix).start < end → IsCharBoundary (take last source) end
     → LiesIn source (item_to nodes ix end (body.Text false))
 lies_to source tables nodes ix last end ready boundary after at =
-    let lies = lies_at source tables nodes ix ready in
+    let lies = lies_at ready in
     record { ordered = omega (arith, after); start = lies.start; end = boundary_after source last end boundary at }
 
 -- the text of an autolink too
@@ -307,7 +325,7 @@ pub address_lies : (source : List ℕ) (tables : Tables) (nodes : List (Node Ite
     → CanResolve source tables nodes (Some ix)
     → EndsClosed (take last source) (item_at nodes ix).end end → LiesIn source (address_to nodes ix end)
 address_lies source tables nodes ix last end ready ends =
-    let lies = lies_at source tables nodes ix ready in
+    let lies = lies_at ready in
     let inside : end - 1 < last = omega (arith, ends.within, ends.after, length-take last source) in
     let within : end - 1 < length source = omega (arith, ends.within, ends.after, length-take last source) in
     let byte : get_or source (end - 1) 0 ≡ 62 = sym (get_or-take last source (end - 1) 0 inside) ∙ ends.closed in

@@ -234,7 +234,7 @@ scan_ends : (place : ChainPlace) (tree : Arena Item) (held : Allocated) (ix : �
 scan_ends place tree held ix prefix m is =
     let item = item_at tree.nodes ix in
     let long = one_byte_long place.text.now (tables_of held) tree.nodes ix is.can.ready is.opener in
-    let lies = lies_at place.text.now (tables_of held) tree.nodes ix is.can.ready in
+    let lies = lies_at is.can.ready in
     let before : item.end ≤ length (take place.block_end place.text.now)
     = (boundary_before place.text.now place.block_end item.end lies.end is.inside).0 in
     markup_ends (λ rest. Some (length_by prefix rest)) (take place.block_end place.text.now) item.start item.end m

@@ -68,10 +68,10 @@ close_back nodes None = refl
 close_back nodes (Some m) = refl
 
 -- what closes math among the nodes that follow its opener
-pub math_by_number : (source : List ℕ) (tables : Tables) (nodes : List (Node Item)) (ix : ℕ) (found : Option FoundMath)
+pub math_by_number : {source : List ℕ} {tables : Tables} {nodes : List (Node Item)} {ix : ℕ} {found : Option FoundMath}
     → CanResolve source tables nodes (Some ix) → ClosesMath nodes ix found
     → math_close_from (item_at nodes) (item_at nodes ix) (followers nodes ix) ≡ option_map close_of found
-math_by_number source tables nodes ix found ready closes =
+math_by_number {source} {tables} {nodes} {ix} {found} ready closes =
     let o = opens_chain ready in
     let xs = followers nodes ix in
     sym (close_back nodes (math_close_from (item_at nodes) (item_at nodes ix) xs))
@@ -127,7 +127,7 @@ math_read s above tables nodes ix opens closes context found ready is closed =
     ∙ ap (math_found s above (show ix) (map show xs)) (ap (λ (i : Item). math_close_from as_item i (map show xs))
     (opener_item s tables nodes ix (body.MaybeMath opens closes context) is
     refl) ∙ math_from_shown as_item show nodes (label_alike s.text tables nodes) (item_at nodes ix) xs
-    ∙ ap (option_map (shown_close show)) (math_by_number s.text tables nodes ix found ready closed))
+    ∙ ap (option_map (shown_close show)) (math_by_number ready closed))
 
 -- where nothing closes it, a Text is read
 pub no_math_reads : (s : Setting) (above : Above) (tables : Tables) (nodes : List (Node Item)) (ix : ℕ)
@@ -337,12 +337,12 @@ start_boundary source tables nodes ix ready = by (forest_at (links_of nodes) (si
         either false = o.placed.lies.end
 
 -- what closes the math span of an opener is in the chain
-pub stands_of : (source : List ℕ) (tables : Tables) (nodes : List (Node Item)) (ix : ℕ) (m : FoundMath)
+pub stands_of : {source : List ℕ} {tables : Tables} {nodes : List (Node Item)} {ix : ℕ} {m : FoundMath}
     → CanResolve source tables nodes (Some ix) → ClosesMath nodes ix (Some m)
     → MathStands nodes (item_at nodes ix).end (context_of (item_at nodes ix).body) (followers nodes ix) m
-stands_of source tables nodes ix m ready closes =
+stands_of {source} {tables} {nodes} {ix} {m} ready closes =
     math_stands nodes (item_at nodes ix) (followers nodes ix) m (opens_chain ready).ordered
-    (math_by_number source tables nodes ix (Some m) ready closes)
+    (math_by_number ready closes)
 
 -- the math span can be put in the place of its opener
 math_names : (tables : Tables) (cow : CowIndex) (display : Bool) (n : Named) → cow.0 ≡ length tables.cows
@@ -377,18 +377,18 @@ text_later source tables nodes ix o = by (followers nodes ix) o.ordered
     by [] ordered = o.placed.lies.ordered
     by (x ∷ xs) ordered = by_second (is_dollar (item_at nodes x).body) x ordered.0 ordered.1
 
-pub puts_math : (source : List ℕ) (tables tables' : Tables) (nodes : List (Node Item)) (ix : ℕ) (m : FoundMath)
-    (opener last : Item) (cow : CowIndex) (origin : Origin) (found : Option FoundMath) (start : ℕ) (closer : Item)
+pub puts_math : {source : List ℕ} {tables tables' : Tables} {nodes : List (Node Item)} {ix : ℕ} {m : FoundMath}
+    {opener last : Item} {cow : CowIndex} {origin : Origin} {found : Option FoundMath} {start : ℕ} {closer : Item}
     → CanResolve source tables nodes (Some ix) → is_dollar (item_at nodes ix).body ≡ true → ClosesMath nodes ix found
     → found ≡ Some m → opener ≡ item_at nodes ix → last ≡ item_at nodes m.last → closer ≡ item_at nodes m.closer → start
     ≡ text_start nodes ix → StoresText source start closer.start tables tables' cow origin
     → PutsMath source tables tables' nodes ix m cow (span_of opener last m cow)
-puts_math source tables tables' nodes ix m opener last cow origin found start closes_at ready dollar closed here opens
-    ends closer_is start_is_text stored =
+puts_math {source} {tables} {tables'} {nodes} {ix} {m} {opener} {last} {cow} {origin} {found} {start} {closer =
+    closes_at} ready dollar closed here opens ends closer_is start_is_text stored =
     let is = (dollar_body (item_at nodes ix).body dollar).is in
     let o = opens_chain ready in
     let closes : ClosesMath nodes ix (Some m) = subst (ClosesMath nodes ix) here closed in
-    let there = stands_of source tables nodes ix m ready closes in
+    let there = stands_of ready closes in
     let rest = forest_at (links_of nodes) (sibling_of nodes ix) in
     let last_placed = each_root (IsPlaced source tables nodes) rest there.last.before m.last there.last.after
     o.all_placed there.last.parts in
@@ -430,14 +430,14 @@ start_is source tables nodes ix start ready e =
     (start_linked nodes (suc ix) (sibling_of nodes ix) (followers nodes ix) (opens_chain ready).leads)
 
 -- the bytes between the delimiters can be cut out
-pub math_cut : (source : List ℕ) (tables : Tables) (nodes : List (Node Item)) (ix : ℕ) (m : FoundMath) (start : ℕ)
-    (closer : Item) (found : Option FoundMath)
+pub math_cut : {source : List ℕ} {tables : Tables} {nodes : List (Node Item)} {ix : ℕ} {m : FoundMath} {start : ℕ}
+    {closer : Item} {found : Option FoundMath}
     → CanResolve source tables nodes (Some ix) → ClosesMath nodes ix found → found ≡ Some m
     → start ≡ option_map_or (λ second. (item_at nodes second).end) (dollar_at nodes (sibling_of nodes ix))
     (item_at nodes ix).end → closer ≡ item_at nodes m.closer → CanCut source start closer.start
-math_cut source tables nodes ix m start closer found ready closes here starts ends =
+math_cut {source} {tables} {nodes} {ix} {m} {start} {closer} {found} ready closes here starts ends =
     let o = opens_chain ready in
-    let there = stands_of source tables nodes ix m ready (subst (ClosesMath nodes ix) here closes) in
+    let there = stands_of ready (subst (ClosesMath nodes ix) here closes) in
     let placed = each_root (IsPlaced source tables nodes) (forest_at (links_of nodes) (sibling_of nodes ix))
     there.before m.closer there.after o.all_placed there.parts in
     rw (start_is source tables nodes ix start ready starts, ends)

@@ -154,8 +154,7 @@ pair_changes step s above first old mid nodes quiet r p =
       once = λ n. omega (arith, p.times n, c.once n);
       of_chain = λ n l. omega (arith, p.times n, c.of_chain n l);
       more_nodes = omega (arith, p.same_size, c.more_nodes);
-      outside = λ n l none. same_trans old.nodes mid.nodes nodes n (c.outside n l none)
-          (p.outside n (omega (arith, c.of_chain n l, none)));
+      outside = λ n l none. same_trans (c.outside n l none) (p.outside n (omega (arith, c.of_chain n l, none)));
       grown = c.grown;
       named_once = λ n. omega (arith, p.named n, c.named_once n);
       named = λ n l. omega (arith, p.named n, c.named n l);

@@ -209,9 +209,9 @@ boundary_begun source start i s b = ⊎_elim
     (λ (l : i ≤ start). let e : start ≡ max start i = omega arith in subst (λ (n : ℕ). IsCharBoundary source n) e s)
     (cases_lt start i)
 
-pub tree_same : (a b : Plain) (below below' after after' : Forest Plain) → a ≡ b → below ≡ below' → after ≡ after'
+pub tree_same : {a b : Plain} {below below' after after' : Forest Plain} → a ≡ b → below ≡ below' → after ≡ after'
     → node a below after ≡ node b below' after'
-tree_same a b below below' after after' p q r = rw (p, q, r) refl
+tree_same p q r = rw (p, q, r) refl
 
 -- the first item of a chain begins at a byte
 pub record Begun (source : List ℕ) (tables : Tables) (l : Option ℕ) (i : ℕ) (nodes nodes' : List (Node Item)) : Type 0
@@ -269,7 +269,7 @@ begun_moves source tables nodes ix i s boundary le closed cut =
     = ap (λ (l : Option ℕ). trees_from source tables new l) c.next ∙ a.rest.trees in
     record {
       moves = hm.moves;
-      reads = rw o.here (hm.trees ∙ tree_same _ _ _ _ _ _ label kept.trees after);
+      reads = rw o.here (hm.trees ∙ tree_same label kept.trees after);
     }
 
 -- where there is one

@@ -113,7 +113,7 @@ put_written source ix item rest old mid tables t inside trees finds puts starts 
       starts = rw w.item_is starts;
     } in
     let p = rest_past_is source ix item.end old mid tables t next (item_at old ix).end s w.head past.next_is
-    (rest_past source tables old ix finds.ready) (λ n e. finds.between n (sym past.next_is ∙ e)) puts.lies.end in
+    (rest_past finds.ready) (λ n e. finds.between n (sym past.next_is ∙ e)) puts.lies.end in
     let place = begun_from next item.end mid in
     let whole : (rule : Forest Plain → Forest Plain) (new : List (Node Item)) (later : Tables)
     → Rewrites source rule next place new t later
@@ -129,10 +129,10 @@ put_written source ix item rest old mid tables t inside trees finds puts starts 
     ap (λ (l : Option ℕ). trees_from source later new l) w.next_is ∙ r.rewritten ∙ ap rule p.reads in
     whole_put source ix old mid new tables t later trees (Some item.end) rule finds.ready w.head hm
     (λ x stands. before_closed ix old mid x closes stands) (runs_closed source ix old mid closes)
-    (tree_same _ _ _ _ _ _ (ap (λ x. label_of source t x) w.item_is) b.reads after
+    (tree_same (ap (λ x. label_of source t x) w.item_is) b.reads after
     ∙ ap (λ (f : Forest Plain). joined_chains f (rule behind))
     (sym (stand (label_at source tables old ix) (trees_from source tables old (child_of old ix))))) in
-    let all = whole (λ f. f) place t (rewrites_none source next place t p.moves.stands) in
+    let all = whole (λ f. f) place t (rewrites_none p.moves.stands) in
     record {
       whole = whole;
       leaves = leaves_rest source ix old mid place tables t t next (Some item.end) finds.ready w.head p.moves p.reads;
@@ -322,8 +322,7 @@ hung_below s t mid ix child item inside next within h w =
     record {
       item_is = w.item_is;
       next_is = w.next_is;
-      others = λ n l d. same_trans old t.nodes mid n
-          (same_trans old more t.nodes n (added_same old (single inside) n l) (hung n d)) (w.others n d);
+      others = λ n l d. same_trans (same_trans (added_same old (single inside) n l) (hung n d)) (w.others n d);
       new_below = record {
         size = w.size ∙ hung_size s t ix child inside h;
         link = w.child_is ∙ child_is;

@@ -43,9 +43,9 @@ use Rattle.markdown_resolver.proofs.ChainOrderLemmas.{AllPast, IsFirstPast, firs
 use Rattle.markdown_resolver.proofs.ChainOrderLemmas.{leads_left, numbered_left, numbered_begun, numbered_past_is}
 
 -- nothing is rewritten
-pub rewrites_none : (source : List ℕ) (l : Option ℕ) (nodes : List (Node Item)) (tables : Tables)
+pub rewrites_none : {source : List ℕ} {l : Option ℕ} {nodes : List (Node Item)} {tables : Tables}
     → Stands source tables nodes l → Rewrites source (λ f. f) l nodes nodes tables tables
-rewrites_none source l nodes tables s = record {
+rewrites_none s = record {
   changes = moves_change (moves_none s) (λ a h. h);
   runs = λ a h. h;
   rewritten = refl;
@@ -122,7 +122,7 @@ leaves_rest source ix old mid new tables t tables' next goes_on ready h m reads 
           let other = λ (e : n ≡ ix). let at : same n ix ≡ 1 = subst (λ (m : ℕ). same n m ≡ 1) e one
           in let y : ⊥ = absurd (omega (arith, x, at)) in y in
           let apart : times_in mid (sibling_of old ix) n ≡ 0 = rw a.rest.forest (omega (arith, x)) in
-          same_trans old mid new n (h.others n l other) (m.outside n (omega (arith, l, size)) apart);
+          same_trans (h.others n l other) (m.outside n (omega (arith, l, size)) apart);
     }
 
 -- in the end, the whole is rewritten by the trees that replace the first, and the rule
@@ -255,10 +255,10 @@ rest_within {source} {ix} {old} {mid} {tables} {t} s h n k =
       k,
     ))) (cases_lt n (length old))
 
-pub rest_same : (source : List ℕ) (ix : ℕ) (old mid : List (Node Item)) (tables t : Tables)
+pub rest_same : {source : List ℕ} {ix : ℕ} {old mid : List (Node Item)} {tables t : Tables}
     → Stands source tables old (Some ix) → HeadWritten source ix old mid tables t
     → (n : ℕ) → n < length old → 0 < times_in old (sibling_of old ix) n → IsSameAt old mid n
-rest_same source ix old mid tables t s h n l k =
+rest_same {source} {ix} {old} {mid} {tables} {t} s h n l k =
     let apart = (after_head s h).not_after in
     h.others n l (λ e. let z : times_in old (sibling_of old ix) n
     ≡ 0 = subst (λ (m : ℕ). times_in old (sibling_of old ix) m ≡ 0) (sym e) apart in absurd (omega (arith, k, z)))
@@ -295,8 +295,7 @@ rest_past_is source ix i old mid tables t next byte s h next_is past_all between
     let l = sibling_of old ix in
     let f = forest_at (links_of old) l in
     let within : (n : ℕ) → 0 < total (same n) f → n < length old = λ n k. rest_within s h n k in
-    let kept : (n : ℕ) → 0 < total (same n) f → IsSameAt old mid n = λ n k. rest_same source ix old mid tables t s h n
-    (within n k) k in
+    let kept : (n : ℕ) → 0 < total (same n) f → IsSameAt old mid n = λ n k. rest_same s h n (within n k) k in
     let there : (n : ℕ) → next ≡ Some n → 0 < total (same n) f = λ n e. first_there old i n f (sym next_is ∙ e) in
     let first : (n : ℕ) → next ≡ Some n → IsFirstPast old ix byte i n = λ n e. first_is_past old ix byte i n (roots f)
     past_all (sym next_is ∙ e) in

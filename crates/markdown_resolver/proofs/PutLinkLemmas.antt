@@ -92,13 +92,13 @@ pub record HeadStands (source : List ℕ) (ix i : ℕ) (item : Item) (rule : For
       ≡ node (label_of source t item) (trees_from source tables nodes (child_of nodes ix))
       (rule (past_byte i (trees_from source tables nodes (sibling_of nodes ix))))
 
-pub head_stands : (source : List ℕ) (ix i : ℕ) (item : Item) (next : Option ℕ) (nodes mid : List (Node Item))
-    (tables t : Tables) → Stands source tables nodes (Some ix)
+pub head_stands : {source : List ℕ} {ix i : ℕ} {item : Item} {next : Option ℕ} {nodes mid : List (Node Item)}
+    {tables t : Tables} → Stands source tables nodes (Some ix)
     → child_of mid ix ≡ child_of nodes ix → HeadPut source ix i item next nodes mid tables t
     → (rule : Forest Plain → Forest Plain) (new : List (Node Item)) (later : Tables)
     → Rewrites source rule next (begun_from next i mid) new t later
     → HeadStands source ix i item rule nodes mid new tables t later
-head_stands source ix i item next nodes mid tables t s child p rule new later r =
+head_stands {source} {ix} {i} {item} {next} {nodes} {mid} {tables} {t} s child p rule new later r =
     let m = moves_twice p.rest.moves (changes_move r.changes) in
     let closed : is_open (item_at mid ix).body ≡ false = rw p.item_is p.closed in
     let kept = below_kept next s p.head m child (rw closed (some_weight (is_open (item_at nodes ix).body))) in
@@ -112,7 +112,7 @@ head_stands source ix i item next nodes mid tables t s child p rule new later r 
     ap (λ (l : Option ℕ). trees_from source later new l) p.next_is ∙ r.rewritten ∙ ap rule p.rest.reads in
     record {
       moved = hm;
-      reads = hm.trees ∙ tree_same _ _ _ _ _ _ (ap (λ x. label_of source t x) p.item_is) kept.trees after;
+      reads = hm.trees ∙ tree_same (ap (λ x. label_of source t x) p.item_is) kept.trees after;
     }
 
 -- an item is where another was that was neither open nor a block
@@ -276,7 +276,7 @@ module _ {source : List ℕ} {opener closer : ℕ} {item : Item} {byte : ℕ} {i
       ap (λ (g : Forest ℕ). total (same n) g) o.is in
       let parts = total_parts (same n) k f in
       let once = stands_once can n in
-      same_trans old folded mid n (v.behind n (omega (arith, one, l)))
+      same_trans (v.behind n (omega (arith, one, l)))
       (w.others n (λ q. let self : same n opener ≡ 1 = subst (λ (m : ℕ). same n m ≡ 1) q (same-refl n)
       in absurd (omega (arith, once, self, parts, one, l))))
 
@@ -296,8 +296,7 @@ module _ {source : List ℕ} {opener closer : ℕ} {item : Item} {byte : ℕ} {i
         → Rewrites source rule next place new t later
         → Rewrites source (closed_over k (over_shape source t item shown) byte rule) (Some opener) old new tables later
     fold_whole rule new later r =
-        let h = head_stands source opener byte item next folded mid tables t moved.stands w.child_is puts rule new later
-        r in
+        let h = head_stands moved.stands w.child_is puts rule new later r in
         let m = moves_twice moved h.moved.moves in
         let item_is : item_at new opener ≡ item = h.moved.item ∙ puts.item_is in
         record {
@@ -305,12 +304,12 @@ module _ {source : List ℕ} {opener closer : ℕ} {item : Item} {byte : ℕ} {i
               (λ a stands. before_text opener old new a (first_no_block source tables old opener can.ready)
               (rw item_is over.starts) stands);
           runs = runs_text source opener old new can.opener_closed (rw item_is puts.closed);
-          rewritten = h.reads ∙ tree_same _ _ _ _ _ _ refl reads (ap rule rest_is) ∙ rw whole_old refl;
+          rewritten = h.reads ∙ tree_same refl reads (ap rule rest_is) ∙ rw whole_old refl;
         }
 
     fold_numbers : roots (forest_at (links_of place) (Some opener)) ≡ opener ∷ roots (forest_at (links_of place) next)
     fold_numbers =
-        let r = fold_whole (λ g. g) place t (rewrites_none source next place t left_moves.stands) in
+        let r = fold_whole (λ g. g) place t (rewrites_none left_moves.stands) in
         over_numbers source opener next place t r.changes.reaches (next_from mid next byte opener ∙ w.next_is)
 
     pub fold_puts : PutsOver source opener closer inside (over_shape source t item shown) byte (opener ∷ []) rest old

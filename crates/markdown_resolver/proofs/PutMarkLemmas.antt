@@ -83,7 +83,7 @@ module _ (source : List ℕ) (opener closer : ℕ) (mark item : Item) (inside : 
 
   number : opener < closer
   number = (past_at old opener (item_at old opener).end closer inside can.after
-      (rw can.follows at (rest_past source tables old opener can.ready))).number
+      (rw can.follows at (rest_past can.ready))).number
 
   closer_same : IsSameAt old mid closer
   closer_same = v.others closer (λ e. absurd (let p = number in omega (arith, p, e)))
@@ -127,7 +127,7 @@ module _ (source : List ℕ) (opener closer : ℕ) (mark item : Item) (inside : 
     place = begun_from next item.end last
 
     items_same : (n : ℕ) → 0 < total (same n) f → item_at mid n ≡ item_at old n
-    items_same n z = (rest_same source opener old mid tables tables stands head n (rest_within stands head n z) z).item
+    items_same n z = (rest_same stands head n (rest_within stands head n z) z).item
 
     next_first : first_past old item.end can.after ≡ next
     next_first = next_behind can ∙ sym past.next_is
@@ -143,15 +143,14 @@ module _ (source : List ℕ) (opener closer : ℕ) (mark item : Item) (inside : 
     puts : HeadPut source closer item.end item next mid last tables t
     puts =
         head_put source closer item.end item next mid last tables t grown closer_stands over.puts (omega arith) w
-        (item_at mid closer).end (rest_past source tables mid closer skipped_there.ready)
+        (item_at mid closer).end (rest_past skipped_there.ready)
         link (λ n e. rw (items_same n (first_there old item.end n f (next_all ∙ e))) (can.between n (next_first ∙ e)))
         can.boundary
 
     closer_put : (rule : Forest Plain → Forest Plain) (new : List (Node Item)) (later : Tables)
         → Rewrites source rule next place new t later
         → HeadStands source closer item.end item rule mid last new tables t later
-    closer_put rule new later r = head_stands source closer item.end item next mid last tables t closer_stands
-        w.child_is puts rule new later r
+    closer_put rule new later r = head_stands closer_stands w.child_is puts rule new later r
 
     mark_closed : is_open (item_at mid opener).body ≡ false
     mark_closed = rw v.item_is over.puts_mark.closed
@@ -177,14 +176,14 @@ module _ (source : List ℕ) (opener closer : ℕ) (mark item : Item) (inside : 
         let label = label_of_none source tables t mid opener grown (rw v.item_is over.names_nothing)
         ∙ ap (λ x. label_of source t x) v.item_is in
         let after = ap (λ (x : Option ℕ). trees_from source later new x) v.next_is ∙ h.reads
-        ∙ tree_same _ _ _ _ _ _ refl none' (ap rule behind_reads) in
+        ∙ tree_same refl none' (ap rule behind_reads) in
         let item_is : item_at new opener ≡ mark = hm.item ∙ v.item_is in
         record {
           changes = moves_change hm.moves
               (λ a before. before_text opener old new a (first_no_block source tables old opener can.ready)
               (rw item_is over.starts) before);
           runs = runs_text source opener old new can.opener_closed (rw item_is over.puts_mark.closed);
-          rewritten = hm.trees ∙ tree_same _ _ _ _ _ _ label (kept.trees ∙ none) after ∙ rw whole_old refl;
+          rewritten = hm.trees ∙ tree_same label (kept.trees ∙ none) after ∙ rw whole_old refl;
         }
 
     left_from : Moves source l next mid place tables t
@@ -210,8 +209,7 @@ module _ (source : List ℕ) (opener closer : ℕ) (mark item : Item) (inside : 
         ap (λ (g : Forest ℕ). total (same n) g) o.is in
         let parts = total_parts (same n) k f in
         let once : same n opener + total (same n) f ≤ 1 = (let z = rw whole_old at (can.ready.once n) in omega arith) in
-        same_trans old mid last n
-        (v.others n (λ q. let self : same n opener ≡ 1 = subst (λ (m : ℕ). same n m ≡ 1) q (same-refl n)
+        same_trans (v.others n (λ q. let self : same n opener ≡ 1 = subst (λ (m : ℕ). same n m ≡ 1) q (same-refl n)
         in absurd (omega (arith, once, self, parts, one, x))))
         (w.others n (λ q. let self : same n closer ≡ 1 = subst (λ (m : ℕ). same n m ≡ 1) q (same-refl n)
         in absurd (omega (arith, once, self, parts, one, x))))
@@ -227,8 +225,8 @@ module _ (source : List ℕ) (opener closer : ℕ) (mark item : Item) (inside : 
     mark_numbers : roots (forest_at (links_of place) (Some opener))
         ≡ opener ∷ closer ∷ roots (forest_at (links_of place) next)
     mark_numbers =
-        let r = mark_whole (λ g. g) place t (rewrites_none source next place t left_moves.stands) in
-        let h = closer_put (λ g. g) place t (rewrites_none source next place t left_moves.stands) in
+        let r = mark_whole (λ g. g) place t (rewrites_none left_moves.stands) in
+        let h = closer_put (λ g. g) place t (rewrites_none left_moves.stands) in
         let opener_next : sibling_of place opener ≡ Some closer = next_from last next item.end opener
         ∙ (w.others opener (λ e. absurd (let p = number in omega (arith, p, e)))).next ∙ v.next_is in
         over_numbers source opener (Some closer) place t r.changes.reaches opener_next

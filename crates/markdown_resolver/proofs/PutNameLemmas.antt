@@ -71,7 +71,7 @@ hung_tree s t u hung opener first inside opener_within first_within apart e1 e2 
       item_is = w'.item_is;
       child_is = w'.child_is ∙ q.child;
       next_is = w'.next_is;
-      others = λ n d d'. same_trans s.nodes b hung n (same_trans s.nodes a b n (changed_other s.nodes opener hangs n d)
+      others = λ n d d'. same_trans (same_trans (changed_other s.nodes opener hangs n d)
           (changed_other a first ends n d')) (w'.others n d');
     }
 
@@ -176,7 +176,7 @@ module _ (source : List ℕ) (tables t : Tables) (grown : HasGrown tables t) (ol
     }
 
     other_same : (n : ℕ) → (n ≡ opener → ⊥) → (n ≡ first → ⊥) → IsSameAt old folded n
-    other_same n d d' = same_trans old hung folded n (v.others n d d')
+    other_same n d d' = same_trans (v.others n d d')
         (changed_other hung opener (λ n. record n { next = Some closer }) n d)
 
     behind_same : (n : ℕ) → 0 < total (same n) (trees_past k f) → IsSameAt old folded n

@@ -148,8 +148,7 @@ skips source tables nodes i closer (n ∷ before) after (Some ix) ready e end =
     let rest : roots (forest_at (links_of nodes) (sibling_of nodes ix)) ≡ before ++ closer ∷ after = cc all in
     let r = skips source tables nodes i closer before after (sibling_of nodes ix)
     (ready_next source tables nodes ix ready) rest end in
-    let past : AllPast nodes ix (item_at nodes ix).end (before ++ closer ∷ after) = rw rest at
-    (rest_past source tables nodes ix ready) in
+    let past : AllPast nodes ix (item_at nodes ix).end (before ++ closer ∷ after) = rw rest at (rest_past ready) in
     let at = past_at nodes ix (item_at nodes ix).end closer before after past in
     let starts = at.start in
     let ordered = (opens (links_of nodes) (IsPlaced source tables nodes) closer r.ready.reaches).holds.lies.ordered in
@@ -213,7 +212,7 @@ pair_begun source ix closer first second old mid tables t grown finds can v =
     let listed : roots (forest_at (links_of mid) l) ≡ can.before ++ closer ∷ can.after = ap (λ (f : Forest ℕ). roots f)
     a.rest.forest ∙ can.follows in
     let past : AllPast old ix (item_at old ix).end (can.before ++ closer ∷ can.after) = rw can.follows at
-    (rest_past source tables old ix finds.ready) in
+    (rest_past finds.ready) in
     let number : ix < closer = (past_at old ix (item_at old ix).end closer can.before can.after past).number in
     let same_closer = v.others closer (λ e. absurd (omega (arith, number, e))) in
     let end : second.end ≡ (item_at mid closer).end = can.ends ∙ ap (λ (x : Item). x.end) (sym same_closer.item) in
@@ -286,8 +285,7 @@ module _ (source : List ℕ) (ix closer : ℕ) (first second : Item) (rest : Res
 
   -- no open item has bytes both before and after that end
   items_same : (n : ℕ) → 0 < times_in old l n → item_at mid n ≡ item_at old n
-  items_same n z = (rest_same source ix old mid tables tables opener_stands begun.head n
-      (rest_within opener_stands begun.head n z) z).item
+  items_same n z = (rest_same opener_stands begun.head n (rest_within opener_stands begun.head n z) z).item
 
   link : next ≡ first_past mid second.end (roots (forest_at (links_of mid) (sibling_of mid closer)))
   link =
@@ -301,7 +299,7 @@ module _ (source : List ℕ) (ix closer : ℕ) (first second : Item) (rest : Res
   left : RestPast source closer second.end mid last tables t next
   left =
       rest_past_is source closer second.end mid last tables t next (item_at mid closer).end closer_stands closer_head
-      link (rest_past source tables mid closer begun.skips.ready) between can.puts_second.lies.end
+      link (rest_past begun.skips.ready) between can.puts_second.lies.end
 
   left_reads : trees_from source t place next ≡ past_byte second.end (trees_from source tables old l)
   left_reads = left.reads ∙ sym begun.skips.reads ∙ ap (λ (f : Forest Plain). past_byte second.end f)
@@ -326,8 +324,7 @@ module _ (source : List ℕ) (ix closer : ℕ) (first second : Item) (rest : Res
       let m = moves_twice left.moves (changes_move r.changes) in
       let b = none_below closer_stands closer_head m closer_was_open closer_closed w.child_is in
       let after = ap (λ (x : Option ℕ). trees_from source later new x) w.next_is ∙ r.rewritten ∙ ap rule left_reads in
-      (second_moves rule new later r).trees ∙ tree_same _ _ _ _ _ _ (ap (λ x. label_of source t x) w.item_is) b.reads
-      after
+      (second_moves rule new later r).trees ∙ tree_same (ap (λ x. label_of source t x) w.item_is) b.reads after
 
   -- and the first before that
   whole_pair : (rule : Forest Plain → Forest Plain) (new : List (Node Item)) (later : Tables)
@@ -348,12 +345,12 @@ module _ (source : List ℕ) (ix closer : ℕ) (first second : Item) (rest : Res
       whole_put source ix old mid new tables tables later (pair source t first second) (Some second.end) rule
       finds.ready begun.head hm
       (λ x stands. before_closed ix old mid x opener_closes stands) (runs_closed source ix old mid opener_closes)
-      (tree_same _ _ _ _ _ _ label b.reads after)
+      (tree_same label b.reads after)
 
   -- both are in the chain
   pair_numbers : roots (forest_at (links_of place) (Some ix)) ≡ ix ∷ closer ∷ roots (forest_at (links_of place) next)
   pair_numbers =
-      let none = rewrites_none source next place t left.moves.stands in
+      let none = rewrites_none left.moves.stands in
       let all = whole_pair (λ f. f) place t none in
       let second_moved = second_moves (λ f. f) place t none in
       let number = begun.number in
@@ -374,7 +371,7 @@ module _ (source : List ℕ) (ix closer : ℕ) (first second : Item) (rest : Res
     passes = passes_past source tables t old place ix second.end rest opener_stands past left_reads;
     leads = λ low chain e.
         let kept = leads_kept old mid l (forest_at (links_of old) l) low chain opener_after.after.spelled
-        begun.head.more (λ n x z. rest_same source ix old mid tables tables opener_stands begun.head n x z) e in
+        begun.head.more (λ n x z. rest_same opener_stands begun.head n x z) e in
         let d = begun.skips.leads low chain kept in
         rw d.same_left (left.leads low d.rest d.leads);
     standing = ix ∷ closer ∷ [];

@@ -96,7 +96,7 @@ module _ (source : List ℕ) (opener closer : ℕ) (item : Item) (inside : List 
     puts : HeadPut source opener item.end item next old mid tables t
     puts =
         head_put source opener item.end item next old mid tables t grown stands over.puts over.ends w
-        (item_at old opener).end (rest_past source tables old opener can.ready)
+        (item_at old opener).end (rest_past can.ready)
         (sym (first_behind can ends ∙ next_first)) (λ n e. can.between n (next_first ∙ e)) can.boundary
 
     none_inside : trees_from source tables old (child_of old opener) ≡ nil
@@ -106,14 +106,14 @@ module _ (source : List ℕ) (opener closer : ℕ) (item : Item) (inside : List 
         → Rewrites source rule next place new t later
         → Rewrites source (closed_over k (in_place_of source t item) item.end rule) (Some opener) old new tables later
     reference_whole rule new later r =
-        let h = head_stands source opener item.end item next old mid tables t stands w.child_is puts rule new later r in
+        let h = head_stands stands w.child_is puts rule new later r in
         let item_is : item_at new opener ≡ item = h.moved.item ∙ puts.item_is in
         record {
           changes = moves_change h.moved.moves
               (λ a before. before_text opener old new a (first_no_block source tables old opener can.ready)
               (rw item_is over.starts) before);
           runs = runs_text source opener old new can.opener_closed (rw item_is puts.closed);
-          rewritten = h.reads ∙ tree_same _ _ _ _ _ _ refl none_inside (ap rule behind_reads) ∙ rw whole refl;
+          rewritten = h.reads ∙ tree_same refl none_inside (ap rule behind_reads) ∙ rw whole refl;
         }
 
     left_moves : Moves source (Some opener) next old place tables t
@@ -148,7 +148,7 @@ module _ (source : List ℕ) (opener closer : ℕ) (item : Item) (inside : List 
     reference_numbers : roots (forest_at (links_of place) (Some opener))
         ≡ opener ∷ roots (forest_at (links_of place) next)
     reference_numbers =
-        let r = reference_whole (λ g. g) place t (rewrites_none source next place t left_moves.stands) in
+        let r = reference_whole (λ g. g) place t (rewrites_none left_moves.stands) in
         over_numbers source opener next place t r.changes.reaches (next_from mid next item.end opener ∙ w.next_is)
 
     -- so the item replaces what was found

@@ -268,7 +268,7 @@ module _ {source : List ℕ} {tables : Tables} {old enclosed : List (Node Item)}
 
   other_same : (n : ℕ) → IsSameAt old enclosed n → (n ≡ opener → ⊥) → (n ≡ first → ⊥) → IsSameAt old place n
   other_same n at d d' =
-      same_trans old hung place n (same_trans old enclosed hung n at (hung_same n d))
+      same_trans (same_trans at (hung_same n d))
       (changed_other hung first (λ n. record n { item = begun_item from (item_at hung first) }) n d')
 
   behind_shown : (n : ℕ) → 0 < total (same n) (trees_past k f) → IsSameAt old place n

@@ -144,8 +144,7 @@ put_trees {source} {ix} {trees} {goes_on} {rest} {old} {new} {tables} {tables'} 
     let a = label_at source tables old ix in
     let below = trees_from source tables old (child_of old ix) in
     let after = trees_from source tables old (sibling_of old ix) in
-    let w = puts.whole (λ f. f) new tables'
-    (rewrites_none source rest.next new tables' (stands_ready puts.leaves.ready)) in
+    let w = puts.whole (λ f. f) new tables' (rewrites_none (stands_ready puts.leaves.ready)) in
     puts_trees source ix rest.next (trees a below) (past goes_on after) puts.standing old new tables tables' w.changes
     w.runs (w.rewritten ∙ ap (replaced trees goes_on (λ f. f)) o.trees) puts.numbers (puts.as_many a below) quiet
     puts.leaves.ready

@@ -250,17 +250,17 @@ settle_puts source tables nodes ix ready =
     whole_put source ix nodes mid new tables tables later (settled source) None rule ready h hm
     (λ b stands. before_settled b nodes mid ix c.item stands)
     (λ b whole. rw c.item (run_settled source b (numbered nodes ix) (run_character b.item.body) whole))
-    (tree_same _ _ _ _ _ _ (ap (λ x. label_of source tables x) c.item) kept.trees rest
+    (tree_same (ap (λ x. label_of source tables x) c.item) kept.trees rest
     ∙ settled_reads source tables item (trees_from source tables nodes (child_of nodes ix))
     (rule (trees_from source tables nodes l)) none) in
-    let all = whole (λ f. f) mid tables (rewrites_none source l mid tables a.stands) in
+    let all = whole (λ f. f) mid tables (rewrites_none a.stands) in
     record {
       whole = whole;
       leaves = leaves_rest source ix nodes mid mid tables tables tables l None ready h
           (moves_none a.stands) a.rest.trees;
       passes = rw (o.here, a.rest.forest) (omega arith);
       leads = λ low chain k. leads_kept nodes mid l (forest_at (links_of nodes) l) low chain a.after.spelled h.more
-          (rest_same source ix nodes mid tables tables s h) k;
+          (rest_same s h) k;
       standing = ix ∷ [];
       numbers = over_numbers source ix l mid tables all.changes.reaches c.next;
       as_many = λ x below. one_settled (is_quiet x.part.shape) source x below;

@@ -69,7 +69,8 @@ items_put source ix trees goes_on rest old new tables tables' ready puts =
     (puts.leads (suc ix) chain o.leads)
 
 -- no search is made for backticks that open nothing
-pub unless_code : (b : ItemBody) (chain : List Numbered) → opens_code b ≡ false → looked_for_code_close item_in b chain ≡ 0
+pub unless_code : (b : ItemBody) (chain : List Numbered) → opens_code b ≡ false → looked_for_code_close item_in b chain
+    ≡ 0
 unless_code (body.MaybeCode count escaped) chain h = by (closing_count count escaped == 0) h
   where
     by : (none : Bool) → not none ≡ false
@@ -175,28 +176,26 @@ pub code_up_to : (source : List ℕ) (tables : Tables) (nodes : List (Node Item)
     → ClosesCode nodes ix (Some x)
     → FoundUpTo (code_search (item_at nodes ix)) nodes (followers nodes ix) (item_at nodes x).end
 code_up_to source tables nodes ix x count escaped ready is closes =
-    let among = (closed_code source tables nodes ix x count escaped ready is closes).1.among in
+    let among = (closed_code ready is closes).1.among in
     let xs = followers nodes ix in
     record {
       item = x;
       among = among;
       ends = omega arith;
       up_to = subst (λ (b : ItemBody). looked_for_code_close item_in b (map (numbered nodes) xs) + length among.after ≤
-          length xs) (sym is) (up_to_closer nodes count escaped xs x among
-          (closes_by_number source tables nodes ix count escaped (Some x) ready is closes));
+          length xs) (sym is) (up_to_closer nodes count escaped xs x among (closes_by_number ready is closes));
     }
 
 pub math_up_to : (source : List ℕ) (tables : Tables) (nodes : List (Node Item)) (ix : ℕ) (m : FoundMath)
     → CanResolve source tables nodes (Some ix) → ClosesMath nodes ix (Some m)
     → FoundUpTo (math_search (item_at nodes ix)) nodes (followers nodes ix) (item_at nodes m.last).end
 math_up_to source tables nodes ix m ready closes =
-    let there = stands_of source tables nodes ix m ready closes in
+    let there = stands_of ready closes in
     record {
       item = m.closer;
       among = record { before = there.before; after = there.after; parts = there.parts };
       ends = there.to_last;
-      up_to = up_to_dollar nodes (item_at nodes ix) (followers nodes ix) m
-          (math_by_number source tables nodes ix (Some m) ready closes) there;
+      up_to = up_to_dollar nodes (item_at nodes ix) (followers nodes ix) m (math_by_number ready closes) there;
     }
 
 module _ {source : List ℕ} {tables : Tables} {old : List (Node Item)} {ix : ℕ} (search : Search) (learned : Learned)

@@ -198,10 +198,10 @@ pub record AtOpener (source : List ℕ) (tables : Tables) (nodes : List (Node It
   pub label : numbered_label source tables nodes o.opener.tag ≡ o.opener
   pub ready : CanResolve source tables nodes (Some o.opener.tag)
 
-pub stands_at_opener : (source : List ℕ) (tables : Tables) (nodes : List (Node Item)) (first : ℕ) (at : Option ℕ)
-    (left : List (Entry ℕ)) (o : Split ℕ)
+pub stands_at_opener : {source : List ℕ} {tables : Tables} {nodes : List (Node Item)} {first : ℕ} {at : Option ℕ}
+    {left : List (Entry ℕ)} {o : Split ℕ}
     → StandsTo source tables nodes first at left → IsSplit left o → AtOpener source tables nodes first at o
-stands_at_opener source tables nodes first at left o h split =
+stands_at_opener {source} {tables} {nodes} {first} {at} {left} {o} h split =
     let later = numbered_from source tables nodes at in
     let rest = node o.opener nil (trees_onto o.after later) in
     let onto : (f : Forest (Label ℕ)) → trees_onto left f

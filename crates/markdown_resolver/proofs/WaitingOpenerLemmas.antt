@@ -84,8 +84,7 @@ waits_open source tables nodes first closer whole after (waits m a ∷ left) clo
     let o : Split ℕ = record { mark = m; opener = a; after = after; before = left } in
     let split : IsSplit whole o = record { after_then = after; mark_then = m; left_is = e; same_trees = λ later. refl }
     in (
-      at_opener source tables nodes first closer o closes
-          (stands_at_opener source tables nodes first (Some closer) whole o h split),
+      at_opener source tables nodes first closer o closes (stands_at_opener h split),
       waits_open source tables nodes first closer whole (after ++ waits m a ∷ []) left closes h (e
           ∙ sym (append_assoc after (waits m a ∷ []) left)),
     )

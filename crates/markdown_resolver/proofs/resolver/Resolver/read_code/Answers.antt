@@ -67,9 +67,7 @@ pub store_text-requires : goal.store_text-requires
 store_text-requires g c κs =
     let above = has_blocks c.args.place.now.text.now c.args.tree.now (Some c.args.ix) c.requires.ready.chain.above in
     let cut =
-    code_cut c.args.place.now.text.now (tables_of c.args.self.now.lookup.tables) c.args.tree.now.nodes c.args.ix
-    c.in-Some.closer c.requires.opener.0 c.requires.opener.1
-    c.item.result.now c.item-2.result.now c.in_ok-closer.field-0 c.requires.ready.chain.ready c.requires.opener.2
+    code_cut c.requires.ready.chain.ready c.requires.opener.2
     c.in_ok-closer.ensures.found c.in-Some.is (c.item.ensures no_item) (c.item-2.ensures no_item) in
     ((refl, tt), (c.requires.ready.chain.stands, (above, cut)))
 
@@ -82,10 +80,7 @@ put_code-requires g c =
       c.args.place.now.text.now,
       tables,
       tables',
-      (found_code c.args.place.now.text.now tables tables' c.args.tree.now.nodes c.args.ix c.in-Some.closer
-          c.requires.opener.0
-          c.requires.opener.1 c.in_ok-cow.cow _ c.in_ok-closer.field-0 c.item.result.now c.item-2.result.now
-          c.requires.ready.chain.ready c.requires.opener.2 found.found c.in-Some.is found.within
+      (found_code c.requires.ready.chain.ready c.requires.opener.2 found.found c.in-Some.is found.within
           (c.item.ensures no_item) (c.item-2.ensures no_item) c.in_ok-cow.ensures.stored
           ).can,
     )
@@ -104,8 +99,7 @@ returns-clause-reads g c =
     let o = c.requires.opener in
     let found = c.in_ok-closer.ensures in
     let result : Result Rest Fault = Ok c.put_code.result in
-    let here = found_code place.text.now tables tables' nodes ix x o.0 o.1 c.in_ok-cow.cow _ c.in_ok-closer.field-0
-    c.item.result.now c.item-2.result.now ready o.2 found.found c.in-Some.is found.within (c.item.ensures no_item)
+    let here = found_code ready o.2 found.found c.in-Some.is found.within (c.item.ensures no_item)
     (c.item-2.ensures no_item) c.in_ok-cow.ensures.stored in
     let was_put = c.put_code.ensures.puts place.text.now tables tables' here.can in
     let text = rw (c.item.ensures no_item, c.item-2.ensures no_item) at c.in_ok-cow.ensures.text in

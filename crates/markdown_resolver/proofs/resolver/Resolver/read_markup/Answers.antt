@@ -64,8 +64,7 @@ scan_after_less-requires-clause-start g c =
     let last = c.args.place.now.block_end in
     let start = c.item-item.result.now.start in
     let same = c.item-item.ensures no_item in
-    let lies = lies_at source (tables_of c.args.self.now.lookup.tables) c.args.tree.now.nodes c.args.ix
-    c.requires.ready.chain.ready in
+    let lies = lies_at c.requires.ready.chain.ready in
     let boundary = boundary_before source last start (rw same lies.start)
     (omega (arith, c.if-item-place.false, ap (λ (i : Item). i.start) same, ap (λ (i : Item). i.end) same, lies.ordered))
     in
@@ -78,8 +77,7 @@ scan_after_less-requires-clause-after g c =
     let last = c.args.place.now.block_end in
     let end = c.item-item.result.now.end in
     let same = c.item-item.ensures no_item in
-    let lies = lies_at source (tables_of c.args.self.now.lookup.tables) c.args.tree.now.nodes c.args.ix
-    c.requires.ready.chain.ready in
+    let lies = lies_at c.requires.ready.chain.ready in
     let boundary = boundary_before source last end (rw same lies.end) c.if-item-place.false in
     subst (λ (xs : List ℕ). IsCharBoundary xs end) (sym (c.range-text.ensures.value ∙ whole_range source last)) boundary
 

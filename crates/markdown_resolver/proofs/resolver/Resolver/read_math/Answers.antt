@@ -73,9 +73,7 @@ pub store_text-requires : goal.store_text-requires
 store_text-requires g c κs =
     let above = has_blocks c.args.place.now.text.now c.args.tree.now (Some c.args.ix) c.requires.ready.chain.above in
     let cut =
-    math_cut c.args.place.now.text.now (tables_of c.args.self.now.lookup.tables) c.args.tree.now.nodes c.args.ix
-    c.in-Some.math c.math_text_start.result c.item.result.now
-    c.in_ok-math.field-0 c.requires.ready.chain.ready c.in_ok-math.ensures.found c.in-Some.is c.math_text_start.ensures
+    math_cut c.requires.ready.chain.ready c.in_ok-math.ensures.found c.in-Some.is c.math_text_start.ensures
     (c.item.ensures no_item) in
     ((refl, tt), (c.requires.ready.chain.stands, (above, cut)))
 
@@ -86,10 +84,7 @@ put_found-requires g c =
     let tables' = tables_of c.store_text.new.self.lookup.tables in
     let opens = c.item-2.ensures no_item in
     let stored = c.in_ok-cow.ensures.stored in
-    let p = puts_math c.args.place.now.text.now tables tables' c.args.tree.now.nodes c.args.ix c.in-Some.math
-    c.item-2.result.now
-    c.item-3.result.now c.in_ok-cow.cow _ c.in_ok-math.field-0 c.math_text_start.result c.item.result.now
-    c.requires.ready.chain.ready
+    let p = puts_math c.requires.ready.chain.ready
     c.requires.opener c.in_ok-math.ensures.found c.in-Some.is opens (c.item-3.ensures no_item) (c.item.ensures no_item)
     (start_is c.args.place.now.text.now (tables_of c.args.self.now.lookup.tables) c.args.tree.now.nodes c.args.ix
     c.math_text_start.result c.requires.ready.chain.ready c.math_text_start.ensures) stored in
@@ -113,8 +108,7 @@ returns-clause-reads g c =
     let standing_item = math_item nodes ix m c.in_ok-cow.cow in
     let here : PutsMath place.text.now tables tables' nodes ix m c.in_ok-cow.cow
     (span_of c.item-2.result.now c.item-3.result.now m c.in_ok-cow.cow) =
-    puts_math place.text.now tables tables' nodes ix m c.item-2.result.now c.item-3.result.now c.in_ok-cow.cow _
-    c.in_ok-math.field-0 c.math_text_start.result c.item.result.now ready c.requires.opener found.found c.in-Some.is
+    puts_math ready c.requires.opener found.found c.in-Some.is
     (c.item-2.ensures no_item) (c.item-3.ensures no_item) (c.item.ensures no_item) start c.in_ok-cow.ensures.stored in
     let was_put : Puts place.text.now ix (one_item place.text.now tables' standing_item) (Some standing_item.end)
     c.put_found.result nodes c.put_found.new.tree.nodes tables tables' =
