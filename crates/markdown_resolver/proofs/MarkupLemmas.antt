@@ -259,10 +259,10 @@ has_address place tree held ix (autolink end uri) can ends = record {
       ends.address.1));
 }
 
-pub markup_stands : (place : ChainPlace) (tree : Arena Item) (held : Allocated) (ix : ℕ) (prefix : ContainerPrefix)
-    (m : Markup) → IsScanned place tree held ix prefix (Some m)
+pub markup_stands : {place : ChainPlace} {tree : Arena Item} {held : Allocated} {ix : ℕ} {prefix : ContainerPrefix}
+    {m : Markup} → IsScanned place tree held ix prefix (Some m)
     → IsMarkupAt place.text.now (tables_of held) tree.nodes ix m
-markup_stands place tree held ix prefix m is =
+markup_stands {place} {tree} {held} {ix} {prefix} {m} is =
     let at = scan_ends place tree held ix prefix m is in
     let source = place.text.now in
     let end = end_of_markup m in
@@ -275,13 +275,13 @@ markup_stands place tree held ix prefix m is =
     }
 
 -- where nothing is found the item is read as it is settled
-pub reads_text : (place : ChainPlace) (tree : Arena Item) (held : Allocated) (ix : ℕ) (rules : Rules) (rest : Rest)
-    (new : List (Node Item)) → CanReadItem place tree held ix
+pub reads_text : {place : ChainPlace} {tree : Arena Item} {held : Allocated} {ix : ℕ} {rules : Rules} {rest : Rest}
+    {new : List (Node Item)} → CanReadItem place tree held ix
     → (item_at tree.nodes ix).body ≡ body.MaybeHtml → found_by place tree held ix rules ≡ nothing
     → Puts place.text.now ix (settled place.text.now) None rest tree.nodes new (tables_of held) (tables_of held)
     → ReadsItem (setting_of place.text.now rules) (above_cursor place.text.now tree) ix rest tree.nodes new
     (tables_of held) (tables_of held)
-reads_text place tree held ix rules rest new can opener none p =
+reads_text {place} {tree} {held} {ix} {rules} {rest} {new} can opener none p =
     let s = setting_of place.text.now rules in
     let above = above_cursor place.text.now tree in
     reads_item can.ready (settled_reads s above (tables_of held) tree.nodes ix opener none) p

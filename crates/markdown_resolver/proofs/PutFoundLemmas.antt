@@ -144,12 +144,12 @@ put_written source ix item rest old mid tables t inside trees finds puts starts 
     }
 
 -- nothing is put below it
-pub found_puts : (source : List ℕ) (ix : ℕ) (item : Item) (rest : Rest) (old mid : List (Node Item)) (tables t : Tables)
+pub found_puts : {source : List ℕ} {ix : ℕ} {item : Item} {rest : Rest} {old mid : List (Node Item)} {tables t : Tables}
     → HasGrown tables t
     → IsFoundAt source tables old ix item.end → CanPut source tables t item → item.start ≡ (item_at old ix).start
     → IsRestPast old item.end (sibling_of old ix) rest → IsWritten old mid ix item rest.next
     → Puts source ix (one_item source t item) (Some item.end) rest old (begun_from rest.next item.end mid) tables t
-found_puts source ix item rest old mid tables t grown finds puts starts past w =
+found_puts {source} {ix} {item} {rest} {old} {mid} {tables} {t} grown finds puts starts past w =
     let s = stands_ready finds.ready in
     let size = w.size in
     let h = closed_head source ix item old mid tables t grown puts.closed puts.lies puts.named puts.slices
@@ -230,13 +230,14 @@ leaf_below source ix inside old mid new tables t later next s h m b puts names w
     }
 
 -- an item with one child is put there
-pub parent_puts : (source : List ℕ) (ix : ℕ) (item inside : Item) (rest : Rest) (old mid : List (Node Item))
-    (tables t : Tables) → HasGrown tables t
+pub parent_puts : {source : List ℕ} {ix : ℕ} {item inside : Item} {rest : Rest} {old mid : List (Node Item)}
+    {tables t : Tables} → HasGrown tables t
     → IsFoundAt source tables old ix item.end → CanPutParent source tables t old ix item inside
     → IsRestPast old item.end (sibling_of old ix) rest → item_at mid ix ≡ item → sibling_of mid ix ≡ rest.next
     → ((n : ℕ) → n < length old → (n ≡ ix → ⊥) → IsSameAt old mid n) → NewBelow ix inside old mid
     → Puts source ix (parent source t item inside) (Some item.end) rest old (begun_from rest.next item.end mid) tables t
-parent_puts source ix item inside rest old mid tables t grown finds can past item_is next_is others b =
+parent_puts {source} {ix} {item} {inside} {rest} {old} {mid} {tables} {t} grown finds can past item_is next_is others b
+    =
     let s = stands_ready finds.ready in
     let puts = can.puts in
     let size = b.size in

@@ -43,8 +43,8 @@ use Rattle.markdown_resolver.proofs.PutPairLemmas.{Skips, skips, past_at, entrie
 use Rattle.markdown_resolver.proofs.PutReferenceLemmas.{past_inside, first_behind}
 
 -- the mark was written, and is followed by the closer; then the closer was written
-module _ (source : List ℕ) (opener closer : ℕ) (mark item : Item) (inside : List ℕ) (old mid : List (Node Item))
-    (tables t : Tables) (grown : HasGrown tables t) (can : CanClose source tables old opener closer inside item.end)
+module _ {source : List ℕ} {opener closer : ℕ} {mark item : Item} {inside : List ℕ} {old mid : List (Node Item)}
+    {tables t : Tables} (grown : HasGrown tables t) (can : CanClose source tables old opener closer inside item.end)
     (over : CanPutMark source tables t old opener closer mark item)
     (v : IsWritten old mid opener mark (Some closer)) where
   abbrev k : ℕ

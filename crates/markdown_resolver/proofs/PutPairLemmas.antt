@@ -230,8 +230,8 @@ pair_begun source ix closer first second old mid tables t grown finds can v =
     }
 
 -- the closer is written too, and what is left begins at its end
-module _ (source : List ℕ) (ix closer : ℕ) (first second : Item) (rest : Rest) (old mid last : List (Node Item))
-    (tables t : Tables) (grown : HasGrown tables t)
+module _ {source : List ℕ} {ix closer : ℕ} {first second : Item} {rest : Rest} {old mid last : List (Node Item)}
+    {tables t : Tables} (grown : HasGrown tables t)
     (finds : IsFoundAt source tables old ix second.end) (can : CanPutPair source tables t old ix closer first second)
     (past : IsRestPast old second.end (sibling_of old ix) rest) (v : IsWritten old mid ix first (Some closer))
     (w : IsWritten mid last closer second rest.next) where

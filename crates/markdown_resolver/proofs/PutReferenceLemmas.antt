@@ -61,8 +61,8 @@ module _ {source : List ℕ} {tables : Tables} {old : List (Node Item)} {opener 
   first_behind = skipped_there.first ∙ sym (next_behind can)
 
 -- an opener is written in place of what is inside
-module _ (source : List ℕ) (opener closer : ℕ) (item : Item) (inside : List ℕ) (old : List (Node Item))
-    (tables t : Tables) (grown : HasGrown tables t) (can : CanClose source tables old opener closer inside item.end)
+module _ {source : List ℕ} {opener closer : ℕ} {item : Item} {inside : List ℕ} {old : List (Node Item)}
+    {tables t : Tables} (grown : HasGrown tables t) (can : CanClose source tables old opener closer inside item.end)
     (over : CanPutOver source tables t old opener item item.end) (ends : item.end ≡ (item_at old closer).end) where
   abbrev k : ℕ
   k = length inside

@@ -332,8 +332,8 @@ module _ {source : List ℕ} {tables : Tables} {old enclosed : List (Node Item)}
   opener_shown = omega (arith, place_size, opener_within)
 
 -- so a wikilink is put over what it shows
-pub shown_puts : (source : List ℕ) (opener last closer : ℕ) (item : Item) (inside skipped : List ℕ) (first from : ℕ)
-    (rest : Rest) (old enclosed place mid : List (Node Item)) (tables t : Tables)
+pub shown_puts : {source : List ℕ} {opener last closer : ℕ} {item : Item} {inside skipped : List ℕ} {first from : ℕ}
+    {rest : Rest} {old enclosed place mid : List (Node Item)} {tables t : Tables}
     → HasGrown tables t → CanClose source tables old opener closer inside item.end
     → CanPutOver source tables t old opener item item.end → last_inside opener inside ≡ last
     → IsEnclosed old enclosed opener last closer → CanShow source old inside skipped first from
@@ -341,8 +341,8 @@ pub shown_puts : (source : List ℕ) (opener last closer : ℕ) (item : Item) (i
     → IsRestPast old item.end (sibling_of old closer) rest → IsWritten place mid opener item rest.next
     → PutsOver source opener closer inside (over_shown source t item (length skipped) from) item.end (opener ∷ []) rest
     old (begun_from rest.next item.end mid) tables t
-shown_puts source opener last closer item inside skipped first from rest old enclosed place mid tables t grown can over
-    is v shows place_is past w =
+shown_puts {source} {opener} {last} {closer} {item} {inside} {skipped} {first} {from} {rest} {old} {enclosed} {place}
+    {mid} {tables} {t} grown can over is v shows place_is past w =
     let there = begun_from (Some first) from (with_child opener (Some first) enclosed) in
     let folds = shown_folds can is v shows in
     fold_puts grown can over folds past (rw place_is at w) (λ g. past_byte from (trees_past (length skipped) g))

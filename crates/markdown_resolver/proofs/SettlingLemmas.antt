@@ -217,11 +217,11 @@ one_settled true source a below = refl
 one_settled false source a below = refl
 
 -- what replaces it is put in place
-pub settle_puts : (source : List ℕ) (tables : Tables) (nodes : List (Node Item)) (ix : ℕ)
+pub settle_puts : {source : List ℕ} {tables : Tables} {nodes : List (Node Item)} {ix : ℕ}
     → CanResolve source tables nodes (Some ix)
     → Puts source ix (settled source) None (record { next = sibling_of nodes ix; passed = 0 }) nodes
     (settled_at ix nodes) tables tables
-settle_puts source tables nodes ix ready =
+settle_puts {source} {tables} {nodes} {ix} ready =
     let s = stands_ready ready in
     let item = item_at nodes ix in
     let mid = settled_at ix nodes in

@@ -49,5 +49,4 @@ returns-clause-puts c source tables tables' grown finds can =
     c.args.inside c.in_ok-child.ensures.number c.in_ok-child.ensures.made c.set_child.ensures in
     let h = hung_below c.args.tree.now c.set_child.new.self mid c.args.ix c.in_ok-child.child c.args.item c.args.inside
     rest.next (node_within finds.ready) hung c.write_node.ensures.written in
-    rw nodes (parent_puts source c.args.ix c.args.item c.args.inside rest old mid tables tables' grown finds can past
-    h.item_is h.next_is h.others h.new_below)
+    rw nodes (parent_puts grown finds can past h.item_is h.next_is h.others h.new_below)

@@ -14,4 +14,4 @@ pub returns-clause-puts : goal.returns-clause-puts
 returns-clause-puts c source tables ready =
     let nodes : c.settle_node.new.tree.nodes ≡ settled_at c.args.ix c.args.tree.now.nodes = ap (λ t. t.nodes)
     c.settle_node.ensures in
-    rw (c.next-next.ensures.value, nodes) (settle_puts source tables c.args.tree.now.nodes c.args.ix ready)
+    rw (c.next-next.ensures.value, nodes) (settle_puts ready)

@@ -24,6 +24,4 @@ returns-clause-puts c source tables tables' inside grown can over ends =
     let past = rw c.next.ensures.value at c.first_past-rest.ensures.past in
     let nodes : c.begin_from.new.tree.nodes ≡ begun_from rest.next c.args.item.end mid = ap (λ t. t.nodes)
     c.begin_from.ensures in
-    rw nodes
-    (reference_puts source c.args.brackets.opener c.args.brackets.closer c.args.item inside old tables tables' grown can
-    over ends rest mid past c.write_node.ensures.written)
+    rw nodes (reference_puts grown can over ends rest mid past c.write_node.ensures.written)

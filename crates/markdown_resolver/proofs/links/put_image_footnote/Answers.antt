@@ -31,6 +31,4 @@ returns-clause-puts c source tables tables' inside grown can over =
     let past = rw c.next.ensures.value at c.first_past-rest.ensures.past in
     let nodes : c.begin_from.new.tree.nodes ≡ begun_from rest.next c.args.item.end last = ap (λ t. t.nodes)
     c.begin_from.ensures in
-    rw nodes
-    (mark_puts source c.args.brackets.opener c.args.brackets.closer c.args.mark c.args.item inside old mid tables
-    tables' grown can over c.write_node.ensures.written rest last past c.write_node-2.ensures.written)
+    rw nodes (mark_puts grown can over c.write_node.ensures.written rest last past c.write_node-2.ensures.written)

@@ -80,8 +80,4 @@ returns-clause-puts c source tables tables' inside skipped grown can over shows 
     let past = rw c.next.ensures.value at c.first_past-rest.ensures.past in
     let nodes : c.begin_from-2.new.tree.nodes ≡ begun_from rest.next c.args.item.end c.write_node.new.tree.nodes =
     ap (λ t. t.nodes) c.begin_from-2.ensures in
-    rw nodes
-    (shown_puts source c.args.brackets.opener c.last_before.result c.args.brackets.closer c.args.item inside skipped
-    c.args.first c.args.from rest c.args.tree.now.nodes c.enclose.new.tree.nodes
-    c.begin_from.new.tree.nodes c.write_node.new.tree.nodes tables tables' grown can over last
-    c.enclose.ensures.enclosed shows place past c.write_node.ensures.written)
+    rw nodes (shown_puts grown can over last c.enclose.ensures.enclosed shows place past c.write_node.ensures.written)

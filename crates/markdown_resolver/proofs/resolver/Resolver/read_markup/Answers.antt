@@ -40,14 +40,10 @@ returns-then-item-place-clause-reads g c =
     let reads : (rules : Rules) → gfm_footnotes_on rules.options ≡ gfm_footnotes_on place.options
     → ReadsItem (setting_of place.text.now rules) (above_cursor place.text.now tree) c.args.ix c.settle.result
     tree.nodes c.settle.new.tree.nodes (tables_of held) (tables_of held) = λ rules gfm. elim c.then-item-place.branch [
-      | then-item-place-via-then-item-place w ↦
-          reads_text place tree held c.args.ix rules c.settle.result c.settle.new.tree.nodes c.requires.ready.chain
-          c.requires.opener
+      | then-item-place-via-then-item-place w ↦ reads_text c.requires.ready.chain c.requires.opener
           (none_past_block place tree held c.args.ix rules c.item-item.result.now c.requires.ready.chain
           c.requires.opener same w.if-item-place.true) puts
-      | then-item-place-via-else-item-place+then-not-starts_at w ↦
-          reads_text place tree held c.args.ix rules c.settle.result c.settle.new.tree.nodes c.requires.ready.chain
-          c.requires.opener
+      | then-item-place-via-else-item-place+then-not-starts_at w ↦ reads_text c.requires.ready.chain c.requires.opener
           (none_follows place tree held c.args.ix rules c.item-item.result.now w.next.result c.requires.ready.chain same
           w.next.ensures.value (sym w.if-not-starts_at.true ∙ w.starts_at.ensures)) puts
     ] in
@@ -92,7 +88,7 @@ put_markup-requires g c =
     (c.item-item.ensures no_item) c.if-item-place.false c.next.ensures.value c.if-not-starts_at.ensures
     c.new-prefix.ensures.tree
     (c.new-prefix.ensures.footnotes ∙ c.gfm_footnotes.ensures) c.range-text.ensures.value c.range-text.utf8 value in
-    (place.text.now, markup_stands place tree held c.args.ix prefix (markup_of c.in-Some.found) scanned)
+    (place.text.now, markup_stands scanned)
 
 pub returns-in-None-clause-reads : goal.returns-in-None-clause-reads
 returns-in-None-clause-reads g c =
@@ -108,7 +104,7 @@ returns-in-None-clause-reads g c =
     (c.new-prefix.ensures.footnotes ∙ c.gfm_footnotes.ensures) c.range-text.ensures.value c.range-text.utf8 value in
     let result : Result Rest Fault = Ok c.settle-in-None.result in
     only_reads result place tree s s c.args.ix c.settle-in-None.new.tree c.requires.ready c.settle-in-None.ensures.place
-    (λ rules gfm. reads_text place tree held c.args.ix rules c.settle-in-None.result c.settle-in-None.new.tree.nodes
+    (λ rules gfm. reads_text
     c.requires.ready.chain c.requires.opener (scan_finds place tree held c.args.ix prefix None rules scanned gfm)
     (c.settle-in-None.ensures.puts place.text.now (tables_of held) c.requires.ready.chain.ready)) refl refl refl
 
@@ -130,8 +126,7 @@ returns-in-Some-clause-reads g c =
     c.put_markup.ensures.place (if_ok c.put_markup.result _ _ (λ next puts. λ rules gfm.
     reads_found place tree held c.args.ix prefix m rules next c.put_markup.new.tree.nodes
     (tables_of c.put_markup.new.tables) scanned gfm
-    (puts place.text.now rules (markup_stands place tree held c.args.ix prefix m scanned))) c.put_markup.ensures.puts)
-    refl refl refl
+    (puts place.text.now rules (markup_stands scanned))) c.put_markup.ensures.puts) refl refl refl
 
 pub returns-in-Some-clause-stops : goal.returns-in-Some-clause-stops
 returns-in-Some-clause-stops g c =
