@@ -178,16 +178,13 @@ module _ {source : List ℕ} {tables : Tables} {old : List (Node Item)} {first c
       let from = (item_at old o.opener.tag).start in
       let to = (item_at old closer).end in
       let mark : o.mark.is_image ≡ false = sym (ap (λ (x : Opener). x.is_image) is) ∙ plain in
-      puts_closed source first closer rest left w c (a_footnote o name) o old new tables tables'
-      (before_footnote o.before) (in_place_of source tables' (footnote_over number from to))
-      (node (footnote_from o.opener name (start_of o.opener) (end_of c.label)) nil nil) to
-      (o.opener.tag ∷ []) closes at_opener
+      puts_closed (node (footnote_from o.opener name (start_of o.opener) (end_of c.label)) nil nil) closes at_opener
+      (rw (r.starts, r.ends, is) at over)
       (footnote_stands source tables old first (Some o.opener.tag) o.before at_opener.stands) (record {
         left_is = λ p e. one_onto w c o.mark.is_image o.opener name (before_footnote o.before) mark;
         goes = λ p. ap Some end_is;
       }) (ap (λ (a : Plain). node a nil nil) (footnote_label source tables' number name from (start_of o.opener) to
       (end_of c.label) (sym start_is) (sym end_is) r.put.found)) (refl, refl, tt, tt) (λ a i. refl)
-      (rw (r.starts, r.ends, is) at over)
 
   pub image_reference_closed : {tables' : Tables} {number : CowIndex} {start end : ℕ} {mark : Item}
       {new : List (Node Item)} {rest : Rest}
@@ -210,12 +207,10 @@ module _ {source : List ℕ} {tables : Tables} {old : List (Node Item)} {first c
         footnote_label source tables' number name (from + 1) (opens + 1) to (end_of c.label) next (sym end_is)
             r.put.found,
       ) refl in
-      puts_closed source first closer rest left w c (a_footnote o name) o old new tables tables'
-      (before_footnote o.before)
-      (after_mark source tables' (text_item_over from (from + 1)) (footnote_over number (from + 1) to))
-      (node (text_from w o.opener opens (opens + 1)) nil
-      (node (footnote_from c.label name (opens + 1) (end_of c.label)) nil nil)) to (o.opener.tag ∷ closer ∷ []) closes
-      at_opener (footnote_stands source tables old first (Some o.opener.tag) o.before at_opener.stands) (record {
+      puts_closed (node (text_from w o.opener opens (opens + 1)) nil
+      (node (footnote_from c.label name (opens + 1) (end_of c.label)) nil nil)) closes at_opener
+      (rw (e, r.starts, r.ends, is) at over)
+      (footnote_stands source tables old first (Some o.opener.tag) o.before at_opener.stands) (record {
         left_is = λ p e. two_onto w c o.mark.is_image o.opener name (before_footnote o.before) is_image;
         goes = λ p. ap Some end_is;
-      }) reads (refl, refl, tt, (refl, refl, tt, tt)) (λ a i. refl) (rw (e, r.starts, r.ends, is) at over)
+      }) reads (refl, refl, tt, (refl, refl, tt, tt)) (λ a i. refl)

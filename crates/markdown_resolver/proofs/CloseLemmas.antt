@@ -163,19 +163,17 @@ pub record PutsWhat (w : Around) (c : Closing ℕ) (left : List (Entry ℕ)) (be
   pub goes : (p : Progress ℕ) → (put w c becomes p).goes_on ≡ Some goes_on
 
 -- so it is in the left list
-pub puts_closed : (source : List ℕ) (first closer : ℕ) (rest : Rest) (left : List (Entry ℕ)) (w : Around)
-    (c : Closing ℕ) (becomes : Becomes ℕ) (o : Split ℕ) (old new : List (Node Item))
-    (tables tables' : Tables) (before : List (Entry ℕ)) (trees : Enclosing) (what : Forest (Label ℕ)) (goes_on : ℕ)
-    (standing : List ℕ)
+pub puts_closed : {source : List ℕ} {first closer : ℕ} {rest : Rest} {left : List (Entry ℕ)} {w : Around}
+    {c : Closing ℕ} {becomes : Becomes ℕ} {o : Split ℕ} {old new : List (Node Item)} {tables tables' : Tables}
+    {before : List (Entry ℕ)} {trees : Enclosing} {goes_on : ℕ} {standing : List ℕ} (what : Forest (Label ℕ))
     → ClosesAt source tables old first closer left w c becomes → OpenerAt source tables old first closer o
-    → StandsTo source tables old first (Some o.opener.tag) before
-    → PutsWhat w c left becomes what before goes_on → trees (label_at source tables old o.opener.tag)
-    (without_numbers (inside o)) ≡ without_numbers what → IsQuiet what
-    → ((a : Plain) (i : Forest Plain) → length (roots (trees a i)) ≡ length standing)
     → PutsOver source o.opener.tag closer (inside_numbers o) trees goes_on standing rest old new tables tables'
+    → StandsTo source tables old first (Some o.opener.tag) before → PutsWhat w c left becomes what before goes_on
+    → trees (label_at source tables old o.opener.tag) (without_numbers (inside o)) ≡ without_numbers what → IsQuiet what
+    → ((a : Plain) (i : Forest Plain) → length (roots (trees a i)) ≡ length standing)
     → PutsClosed source first closer rest left w c becomes old new tables tables'
-puts_closed source first closer rest left w c becomes o old new tables tables' before trees what goes_on standing closes
-    at stands puts reads quiet many over =
+puts_closed {source} {first} {closer} {rest} {left} {w} {c} {becomes} {o} {old} {new} {tables} {tables'} {before}
+    {trees} {goes_on} {standing} what closes at over stands puts reads quiet many =
     let ix = o.opener.tag in
     let a = label_at source tables old ix in
     let after = trees_from source tables old (sibling_of old ix) in

@@ -13,7 +13,7 @@ use Rattle.markdown_base.specs.declared.node.Node.{Node}
 use Rattle.markdown_brackets.specs.BracketDecision.{Around, Becomes, Closing, a_link}
 use Rattle.markdown_brackets.specs.ClosingBracket.{linked}
 use Rattle.markdown_brackets.specs.DecisionView.{IsBecome, opener_of}
-use Rattle.markdown_brackets.specs.LeftList.{Entry, Split, before_link, inside}
+use Rattle.markdown_brackets.specs.LeftList.{Entry, Split, inside}
 use Rattle.markdown_brackets.specs.LookupView.{target_view}
 use Rattle.markdown_brackets.specs.TargetOrigins.{IsTargetFrom}
 use Rattle.markdown_brackets.specs.declared.closing_bracket.ClosedBracket.TheVariants.{Link}
@@ -158,10 +158,8 @@ pub link_closed : {source : List ℕ} {tables tables' : Tables} {old new : List 
 link_closed {source} {tables} {tables'} {old} {new} {first} {closer} {rest} {left} {w} {c} {o} {opener} {number} {view}
     {end} {byte} {item} closes is r over =
     let at = opener_at closes.stands closes.splits in
-    puts_closed source first closer rest left w c (a_link o view end byte) o old new tables tables'
-    (before_link o.mark.is_image o.before) (over_inside source tables' (link_from old (opener_of o) number end))
-    (node (linked o view end) (inside o) nil) byte (o.opener.tag ∷ []) closes at
+    puts_closed (node (linked o view end) (inside o) nil) closes at (rw (r.is, is) at over)
     (link_stands source tables old first (Some o.opener.tag) o.before at.stands o.mark.is_image)
     (record { left_is = λ p e. refl; goes = λ p. refl }) (ap (λ (a : Plain). node a (without_numbers (inside o)) nil)
     (linked_label source tables tables' old o number view end at.around.label_is r.put))
-    (refl, refl, quiet_inside left o closes.splits closes.stands.quiet, tt) (λ a i. refl) (rw (r.is, is) at over)
+    (refl, refl, quiet_inside left o closes.splits closes.stands.quiet, tt) (λ a i. refl)

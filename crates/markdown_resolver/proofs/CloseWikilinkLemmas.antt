@@ -19,7 +19,7 @@ use Rattle.markdown_brackets.specs.BracketDecision.{text_from}
 use Rattle.markdown_brackets.specs.ChainHeld.{link_to, numbers_of}
 use Rattle.markdown_brackets.specs.ClosingBracket.{linked, wikilink_target}
 use Rattle.markdown_brackets.specs.DecisionView.{IsBecome, first_shown, opener_of, shown_of, IsShownAfterPipe}
-use Rattle.markdown_brackets.specs.LeftList.{Entry, Split, before_wikilink, inside}
+use Rattle.markdown_brackets.specs.LeftList.{Entry, Split, inside}
 use Rattle.markdown_brackets.specs.declared.closing_bracket.ClosedBracket.TheVariants.{Wikilinked}
 use Rattle.markdown_brackets.specs.declared.openers.Opener.{Opener}
 use Rattle.markdown_brackets.specs.declared.wikilink_nodes.ShownNodes.{ShownNodes}
@@ -437,16 +437,14 @@ module _ {source : List ℕ} {tables tables' : Tables} {old : List (Node Item)} 
       let o = r.split in
       let v = r.found in
       let target = wikilink_target v in
-      let link : Plain = label_of source tables' (link_from old (opener_of o) number end) in
-      rw r.is (puts_closed source first closer rest left w c (a_wikilink o v end) o old new tables tables'
-      (before_wikilink o.before) (λ a inside. node link (shows inside) nil) (node (linked o target end) v.children nil)
-      end (o.opener.tag ∷ []) r.closes at_opener
+      rw r.is (puts_closed (node (linked o target end) v.children nil) r.closes at_opener
+      (rw (r.item_is, r.opener_is) at over)
       (wikilink_stands source tables old first (Some o.opener.tag) o.before at_opener.stands)
       (record { left_is = λ p e. refl; goes = λ p. refl })
       (ap (λ (a : Plain). node a (shows (without_numbers (inside o))) nil)
       (linked_label source tables tables' old o number target end at_opener.around.label_is r.put)
       ∙ ap (λ (f : Forest Plain). node (record { tag = tt; part = (linked o target end).part }) f nil) reads)
-      (refl, refl, quiet, tt) (λ a i. refl) (rw (r.item_is, r.opener_is) at over))
+      (refl, refl, quiet, tt) (λ a i. refl))
 
   pub name_closed : {inner : Item} {n from to : ℕ} {new : List (Node Item)} {rest : Rest}
       → CanName source tables tables' w r.split r.found n from to → inner ≡ text_item_over from to
