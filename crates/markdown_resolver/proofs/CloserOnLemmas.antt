@@ -8,8 +8,7 @@ use Rattle.markdown_base.specs.Arena.{child_of, sibling_of}
 use Rattle.markdown_base.specs.BlockTree.{item_at}
 use Rattle.markdown_base.specs.Forest.{Forest}
 use Rattle.markdown_base.specs.Questions.{Question, Answer, Answers}
-use Rattle.markdown_brackets.specs.BracketDecision.{Around, Becomes, Closing, Decision, Progress, a_footnote, a_link}
-use Rattle.markdown_brackets.specs.BracketDecision.{a_text, a_wikilink}
+use Rattle.markdown_brackets.specs.BracketDecision.{Around, Becomes, Closing, Decision, Progress, a_text}
 use Rattle.markdown_brackets.specs.BracketTags.{retag_progress}
 use Rattle.markdown_brackets.specs.ClosingBracket.{closed, put, put_decided}
 use Rattle.markdown_brackets.specs.Decides.{Decides}
@@ -43,9 +42,7 @@ use Rattle.markdown_resolver.proofs.StopsLemmas.{all_asks}
 put_keeps : {A : Type 0} (w : Around) (c : Closing A) (becomes : Becomes A) (p : Progress A)
     → put w c becomes p ≡ record p { left = (put w c becomes p).left; goes_on = (put w c becomes p).goes_on }
 put_keeps w c a_text p = refl
-put_keeps w c (a_link o target end next) p = refl
-put_keeps w c (a_footnote o name) p = refl
-put_keeps w c (a_wikilink o found end) p = refl
+put_keeps w c other p = refl
 
 -- two stacks hold the openers of the left list in which that was put
 pub record HoldsPut (w : Around) (c : Closing ℕ) (becomes : Becomes ℕ) (left : List (Entry ℕ))
