@@ -27,20 +27,16 @@ use Rattle.markdown_resolver.specs.PutsTrees.{PutsTrees, numbered_from, numbered
 use Rattle.markdown_resolver.specs.ReadOn.{EachWaits, IsOpener, PutsBehind, StandsTo}
 use Rattle.markdown_resolver.specs.Rewritten.{RunsGoOn}
 use Rattle.markdown_resolver.proofs.ComposeLemmas.{Stands, changes_move, moves_change, first_leaves, HeadWritten}
-use Rattle.markdown_resolver.proofs.ComposeLemmas.{after_head, below_kept}
-use Rattle.markdown_resolver.proofs.ComposeLemmas.{head_moves}
+use Rattle.markdown_resolver.proofs.ComposeLemmas.{after_head, below_kept, head_moves}
 use Rattle.markdown_resolver.proofs.LeftTreesLemmas.{onto_split, times_onto, done_onto, quiet_joined, quiet_untagged}
-use Rattle.markdown_resolver.proofs.LeftTreesLemmas.{quiet_is_below}
-use Rattle.markdown_resolver.proofs.LeftTreesLemmas.{below_joined, waits_done, waits_mapped}
+use Rattle.markdown_resolver.proofs.LeftTreesLemmas.{quiet_is_below, below_joined, waits_done, waits_mapped}
 use Rattle.markdown_resolver.proofs.StandsToLemmas.{numbers_are, same_link, numbered_opens, numbered_none}
-use Rattle.markdown_resolver.proofs.StandsToLemmas.{quiet_numbered, quiet_plain}
-use Rattle.markdown_resolver.proofs.StandsToLemmas.{rest_of, stands_from, some_nodes}
+use Rattle.markdown_resolver.proofs.StandsToLemmas.{quiet_numbered, quiet_plain, rest_of, stands_from, some_nodes}
 
 module _ (source : List ℕ) (old new : List (Node Item)) (tables tables' : Tables) where
   -- nodes that stay have the same labels
   numbered_stays : (f : Forest ℕ) → Each (Stays tables tables' old new) f
-      → relabelled (numbered_label source tables' new) f
-      ≡ relabelled (numbered_label source tables old) f
+      → relabelled (numbered_label source tables' new) f ≡ relabelled (numbered_label source tables old) f
   numbered_stays nil h = refl
   numbered_stays (node n below after) h =
       let same : numbered_label source tables' new n ≡ numbered_label source tables old n =
@@ -71,17 +67,15 @@ module _ (source : List ℕ) (old new : List (Node Item)) (tables tables' : Tabl
   }
 
   further : (ix : ℕ) → Stands source tables old (Some ix) → ChangesChain source (sibling_of old ix) old new tables
-      tables'
-      → RunsGoOn source old new (sibling_of old ix) → Further ix
+      tables' → RunsGoOn source old new (sibling_of old ix) → Further ix
   further ix s c runs =
       let o = opens (links_of old) (IsPlaced source tables old) ix s.reaches in
       let h = unwritten ix o.holds in
-      let a = after_head source ix old old tables tables s h in
-      let m = changes_move source (sibling_of old ix) old new tables tables' c in
-      let kept = below_kept source ix old old new tables tables tables' (sibling_of old ix) s h m refl (omega arith) in
+      let a = after_head s h in
+      let m = changes_move c in
+      let kept = below_kept (sibling_of old ix) s h m refl (omega arith) in
       let hm = head_moves source ix old old new tables tables tables' s h m kept.below
-      (c.before (numbered old ix) o.holds.keeps.in_order)
-      (runs (numbered old ix) o.holds.keeps.runs_are_whole) in
+      (c.before (numbered old ix) o.holds.keeps.in_order) (runs (numbered old ix) o.holds.keeps.runs_are_whole) in
       let here : IsSameAt old new ix = c.outside ix a.within a.not_after in
       let longer = grown-longer tables tables' c.grown in
       let f = forest_at (links_of old) (child_of old ix) in
@@ -91,19 +85,15 @@ module _ (source : List ℕ) (old new : List (Node Item)) (tables tables' : Tabl
       let within : n < length old = ⊎_elim (λ x. x)
       (λ x. absurd (omega (arith, times-past (links_of old) (child_of old ix) f n o.below.spelled x, l)))
       (cases_lt n (length old)) in
-      c.outside n within (omega (arith, once, l)))
-      (λ n l.
-      grown-same tables tables' n c.grown
+      c.outside n within (omega (arith, once, l))) (λ n l. grown-same tables tables' n c.grown
       (⊎_elim (λ x. x) (λ x. absurd (omega (arith, named-past source tables old f n o.below.each x, l)))
       (cases_lt (number_of n) (size_for tables n)))) in
       let b = framed source tables tables' old new (child_of old ix) c.more_nodes longer o.below stay in
       let below : numbered_from source tables' new (child_of old ix) ≡ numbered_from source tables old (child_of old ix)
-      = rw b.forest
-      (numbered_stays f stay) in
+      = rw b.forest (numbered_stays f stay) in
       let plain = label-same source tables tables' old new ix (record {
         at = here;
-        entries = λ n l. grown-same tables tables' n c.grown
-            (⊎_elim (λ x. x) (λ x. absurd
+        entries = λ n l. grown-same tables tables' n c.grown (⊎_elim (λ x. x) (λ x. absurd
             (omega (arith, named-apart n tables (item_at old ix).body o.holds.named x, l)))
             (cases_lt (number_of n) (size_for tables n)));
         headings = longer.headings;
@@ -111,7 +101,7 @@ module _ (source : List ℕ) (old new : List (Node Item)) (tables tables' : Tabl
       let label : numbered_label source tables' new ix ≡ numbered_label source tables old ix =
       ap (λ (p : Plain). let q : Label ℕ = record { tag = ix; part = p.part } in q) plain in
       record {
-        changes = moves_change source (Some ix) old new tables tables' hm.moves (λ x stands. rw hm.item stands);
+        changes = moves_change hm.moves (λ x stands. rw hm.item stands);
         runs = λ x whole. rw hm.item whole;
         trees = numbered_opens source tables' new ix hm.moves.stands ∙ rw (here.child, here.next, label, below) refl;
       }
@@ -123,11 +113,9 @@ module _ (source : List ℕ) (old new : List (Node Item)) (tables tables' : Tabl
     pub trees : numbered_from source tables' new l ≡ joined_chains head (numbered_from source tables' new (Some ix))
 
   pub behind : (ix : ℕ) (head : Forest (Label ℕ)) (l : Option ℕ) → 0 < length old
-      → ChangesChain source (Some ix) old new tables tables'
-      → RunsGoOn source old new (Some ix)
+      → ChangesChain source (Some ix) old new tables tables' → RunsGoOn source old new (Some ix)
       → Stands source tables old l → numbered_from source tables old l
-      ≡ joined_chains head (numbered_from source tables old (Some ix))
-      → Behind ix head l
+      ≡ joined_chains head (numbered_from source tables old (Some ix)) → Behind ix head l
   behind ix nil l some c runs s e =
       let here : Some ix ≡ l = sym (same_link source tables old l (Some ix) some e) in
       subst (λ (k : Option ℕ). Behind ix nil k) here (record { changes = c; runs = runs; trees = refl })
@@ -144,7 +132,7 @@ module _ (source : List ℕ) (old new : List (Node Item)) (tables tables' : Tabl
       let is_below : numbered_from source tables old (child_of old n) ≡ below = cc q in
       let is_after : numbered_from source tables old (sibling_of old n)
       ≡ joined_chains after (numbered_from source tables old (Some ix)) = cc q in
-      let r = behind ix after (sibling_of old n) some c runs (first_leaves source n old tables s).stands is_after in
+      let r = behind ix after (sibling_of old n) some c runs (first_leaves s).stands is_after in
       let more = further n s r.changes r.runs in
       record {
         changes = more.changes;
@@ -154,22 +142,17 @@ module _ (source : List ℕ) (old new : List (Node Item)) (tables tables' : Tabl
 
 -- an opener of a left list stays where what follows the left list is changed
 pub openers_stay : (source : List ℕ) (tables tables' : Tables) (old new : List (Node Item)) (first ix : ℕ)
-    (before : List (Entry ℕ))
-    → StandsTo source tables old first (Some ix) before
+    (before : List (Entry ℕ)) → StandsTo source tables old first (Some ix) before
     → ChangesChain source (Some ix) old new tables tables' → EachWaits (IsOpener source new) before
 openers_stay source tables tables' old new first ix before h c =
-    waits_mapped (IsOpener source old) (IsOpener source new) before
-    (λ n there o.
+    waits_mapped (IsOpener source old) (IsOpener source new) before (λ n there o.
     let once : times_in old (Some first) n ≤ 1 = h.ready.once n in
     let e : forest_at (links_of old) (Some first)
-    ≡ relabelled (λ a. a.tag) (trees_onto before (numbered_from source tables old (Some ix)))
-    =
+    ≡ relabelled (λ a. a.tag) (trees_onto before (numbered_from source tables old (Some ix))) =
     sym (numbers_are source tables old (forest_at (links_of old) (Some first)))
-    ∙ ap (λ (g : Forest (Label ℕ)). relabelled (λ a. a.tag) g)
-    h.stands in
+    ∙ ap (λ (g : Forest (Label ℕ)). relabelled (λ a. a.tag) g) h.stands in
     let whole : times_in old (Some first) n ≡ times_of n (trees_onto before (numbered_from source tables old (Some ix)))
-    =
-    ap (λ (g : Forest ℕ). total (same n) g) e in
+    = ap (λ (g : Forest ℕ). total (same n) g) e in
     let parts = times_onto n before (numbered_from source tables old (Some ix)) in
     let later : times_of n (numbered_from source tables old (Some ix)) ≡ times_in old (Some ix) n =
     ap (λ (g : Forest ℕ). total (same n) g) (numbers_are source tables old (forest_at (links_of old) (Some ix))) in
@@ -181,26 +164,22 @@ openers_stay source tables tables' old new first ix before h c =
       mark = rw stays.item o.mark;
       closed = rw stays.item o.closed;
       childless = rw stays.child o.childless;
-    })
-    h.waiting
+    }) h.waiting
 
 -- trees were put after a left list where they were put in place of what was there
-pub puts_behind : (source : List ℕ) (first ix : ℕ) (next : Option ℕ) (before : List (Entry ℕ))
-    (trees rest : Forest Plain)
-    (old new : List (Node Item)) (tables tables' : Tables)
+pub puts_behind : {source : List ℕ} {first ix : ℕ} {next : Option ℕ} {before : List (Entry ℕ)}
+    {trees rest : Forest Plain} {old new : List (Node Item)} {tables tables' : Tables}
     → StandsTo source tables old first (Some ix) before → PutsTrees source ix next trees rest old new tables tables'
     → PutsBehind source first next before trees rest old new tables tables'
-puts_behind source first ix next before trees rest old new tables tables' h p =
+puts_behind {source} {first} {ix} {next} {before} {trees} {rest} {old} {new} {tables} {tables'} h p =
     let head = trees_onto before nil in
     let later = numbered_from source tables' new next in
     let r = rest_of source tables old first (Some ix) before h in
     let b = behind source old new tables tables' ix head (Some first)
-    (some_nodes source tables old first (Some ix) before h) p.changes
-    p.runs
+    (some_nodes source tables old first (Some ix) before h) p.changes p.runs
     (stands_from source tables old first (Some ix) before h) r.whole in
     let whole : numbered_from source tables' new (Some first) ≡ joined_chains head (joined_chains p.standing later)
-    = b.trees
-    ∙ ap (λ (g : Forest (Label ℕ)). joined_chains head g) p.stands in
+    = b.trees ∙ ap (λ (g : Forest (Label ℕ)). joined_chains head g) p.stands in
     let quiet : IsQuiet p.standing = quiet_untagged (λ n. tt) p.standing
     (subst (λ (g : Forest Plain). IsQuiet g) (sym p.reads) p.quiet) in
     let all : IsQuietBelow (joined_chains head (joined_chains p.standing later)) =
@@ -224,8 +203,7 @@ puts_behind source first ix next before trees rest old new tables tables' h p =
             (sym (done_onto p.standing before nil ∙ onto_split before (joined_chains p.standing nil)))
             (quiet_joined head (joined_chains p.standing nil) h.quiet (quiet_joined p.standing nil quiet tt));
         waiting = waits_done (IsOpener source new) p.standing before
-            (openers_stay source tables tables' old new first ix before h
-            p.changes);
+            (openers_stay source tables tables' old new first ix before h p.changes);
       };
       reads = p.reads;
       rest_is = p.rest_is;

@@ -41,8 +41,7 @@ no_block b h = by_block (is_block b) h
 pub next_above : (source : List ℕ) (tables : Tables) (nodes : List (Node Item)) (ix : ℕ) (l : Option ℕ) (f : Forest ℕ)
     → Spells (links_of nodes) l f → is_block (item_at nodes ix).body ≡ false
     → IsQuietBelow (relabelled (label_at source tables nodes) f)
-    → ComesBefore (numbered nodes ix) (option_map (numbered nodes) l)
-    → IfSome l (λ n. suc ix ≤ n)
+    → ComesBefore (numbered nodes ix) (option_map (numbered nodes) l) → IfSome l (λ n. suc ix ≤ n)
 next_above source tables nodes ix l nil s b q stands = rw s tt
 next_above source tables nodes ix l (node j below after) s b q stands =
     rw s.0 (let p = (rw s.0 at stands) b (no_block (item_at nodes j).body q.0) in omega (arith, p.numbers))
@@ -69,22 +68,18 @@ any_link (Some n) = omega arith
 
 -- links lead along the items of a chain that can be resolved
 pub leads_items : (source : List ℕ) (tables : Tables) (nodes : List (Node Item)) (l : Option ℕ)
-    → CanResolve source tables nodes l
-    → LeadsThrough nodes 0 l (items_along nodes (forest_at (links_of nodes) l))
+    → CanResolve source tables nodes l → LeadsThrough nodes 0 l (items_along nodes (forest_at (links_of nodes) l))
 leads_items source tables nodes l ready =
     leads_along source tables nodes 0 l (forest_at (links_of nodes) l) ready.reaches.spelled ready.reaches.each
-    ready.quiet_below
-    (any_link l)
+    ready.quiet_below (any_link l)
 
-pub chain_leads : (source : List ℕ) (tables : Tables) (nodes : List (Node Item)) (l : Option ℕ)
-    → CanResolve source tables nodes l
-    → HasChain nodes l
-chain_leads source tables nodes l ready =
+pub chain_leads : {source : List ℕ} {tables : Tables} {nodes : List (Node Item)} {l : Option ℕ}
+    → CanResolve source tables nodes l → HasChain nodes l
+chain_leads {source} {tables} {nodes} {l} ready =
     record {
       low = 0;
       chain = items_along nodes (forest_at (links_of nodes) l);
-      leads = leads_items source tables nodes
-          l ready;
+      leads = leads_items source tables nodes l ready;
     }
 
 abbrev begun_number : ℕ → Numbered → Numbered
@@ -106,8 +101,7 @@ holds_past_byte kind learned nodes i low l (a ∷ after) h holds =
     by_end false later = holds_alike kind (a ∷ after) (begun_number i a ∷ after) learned (λ n stands. stands) refl holds
 
 holds_of_past : (kind : SpanKind) (learned : Learned) (nodes : List (Node Item)) (goes_on : Option ℕ) (low : ℕ)
-    (l : Option ℕ)
-    (chain : List Numbered)
+    (l : Option ℕ) (chain : List Numbered)
     → LeadsThrough nodes low l chain → HoldsOf kind learned chain → HoldsOf kind learned (numbered_past goes_on chain)
 holds_of_past kind learned nodes None low l chain h holds = holds
 holds_of_past kind learned nodes (Some i) low l chain h holds = holds_past_byte kind learned nodes i low l chain h holds

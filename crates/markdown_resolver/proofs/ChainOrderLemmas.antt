@@ -1,9 +1,9 @@
 -- The items of a chain in order, by their numbers and in the text; and the links that lead through them.
+use Rattle.markdown_resolver.proofs.ChainLeadsLemmas.{no_block}
 use Rattle.std.proofs.Common.{◌≡◌, ℕ, suc, ◌<◌, ◌≤◌, Bool, true, false, List, [], ◌∷◌, length, Option, Some, None, refl}
-use Rattle.std.proofs.Common.{sym, ◌∙◌, subst}
-use Rattle.std.proofs.Common.{arith, if◌then◌else◌, nat_le}
+use Rattle.std.proofs.Common.{sym, ◌∙◌, subst, arith, if◌then◌else◌, nat_le}
 use Rattle.std.proofs.lemmas.Bool.Decides.{nat_tests}
-use Rattle.std.specs.Prelude.{⊤, is_some, IfSome}
+use Rattle.std.specs.Prelude.{⊤, IfSome}
 use Rattle.std.specs.Option.{option_map}
 use Rattle.markdown_base.specs.Arena.{sibling_of}
 use Rattle.markdown_base.specs.ArenaForest.{Spells, forest_at, links_of}
@@ -11,7 +11,6 @@ use Rattle.markdown_base.specs.BlockTree.{Numbered, numbered, item_at}
 use Rattle.markdown_base.specs.Forest.{Forest, nil, node, Each, relabelled, roots}
 use Rattle.markdown_base.specs.Item.{is_block}
 use Rattle.markdown_base.specs.declared.item.Item.{Item}
-use Rattle.markdown_base.specs.declared.item.ItemBody.{ItemBody}
 use Rattle.markdown_base.specs.declared.node.Node.{Node}
 use Rattle.markdown_base.proofs.ArenaForestLemmas.{opens}
 use Rattle.markdown_document.specs.ItemRules.{ComesBefore}
@@ -34,10 +33,6 @@ abbrev pub AllPast : List (Node Item) → (low byte : ℕ) → List ℕ → Type
 AllPast nodes low byte [] = ⊤
 AllPast nodes low byte (n ∷ ns) = StandsPast nodes low byte n × AllPast nodes low byte ns
 
-no_block : (is : Bool) (b : ItemBody) → is_some (if is then Some b else None) ≡ false → is ≡ false
-no_block true b h = cc h
-no_block false b h = refl
-
 -- the item after one is past it
 next_past : (source : List ℕ) (tables : Tables) (nodes : List (Node Item)) (ix : ℕ) (l : Option ℕ) (f : Forest ℕ)
     → is_block (item_at nodes ix).body ≡ false → Spells (links_of nodes) l f
@@ -46,7 +41,7 @@ next_past : (source : List ℕ) (tables : Tables) (nodes : List (Node Item)) (ix
     → IfSome l (λ n. StandsPast nodes ix (item_at nodes ix).end n)
 next_past source tables nodes ix l nil here s quiet h = rw s tt
 next_past source tables nodes ix l (node jx below after) here s quiet h =
-    let p = (rw s.0 at h) here (no_block (is_block (item_at nodes jx).body) (item_at nodes jx).body quiet.0) in
+    let p = (rw s.0 at h) here (no_block (item_at nodes jx).body quiet.0) in
     rw s.0 (record { number = p.numbers; start = p.ends })
 
 past_more : (nodes : List (Node Item)) (low low' byte byte' : ℕ) (l : Option ℕ) → low ≤ low' → byte ≤ byte'
@@ -65,7 +60,7 @@ all_past source tables nodes low byte l (node ix below after) s placed quiet fir
     let ordered = placed.0.lies.ordered in
     let start = p.start in
     let number = p.number in
-    let next = next_past source tables nodes ix (sibling_of nodes ix) after (no_block (is_block (item_at nodes ix).body)
+    let next = next_past source tables nodes ix (sibling_of nodes ix) after (no_block
     (item_at nodes ix).body quiet.0) s.3 quiet.2 placed.0.keeps.in_order in (
       p,
       all_past source tables nodes low byte (sibling_of nodes ix) after s.3 placed.2 quiet.2
@@ -73,18 +68,16 @@ all_past source tables nodes low byte l (node ix below after) s placed quiet fir
     )
 
 -- all that follow the first item of a chain are past it
-pub rest_past : (source : List ℕ) (tables : Tables) (nodes : List (Node Item)) (ix : ℕ)
+pub rest_past : {source : List ℕ} {tables : Tables} {nodes : List (Node Item)} {ix : ℕ}
     → CanResolve source tables nodes (Some ix)
     → AllPast nodes ix (item_at nodes ix).end (roots (forest_at (links_of nodes) (sibling_of nodes ix)))
-rest_past source tables nodes ix ready =
+rest_past {source} {tables} {nodes} {ix} ready =
     let o = opens (links_of nodes) (IsPlaced source tables nodes) ix ready.reaches in
     let quiet = rw o.here at ready.quiet_below in
     all_past source tables nodes ix (item_at nodes ix).end (sibling_of nodes ix)
-    (forest_at (links_of nodes) (sibling_of nodes ix))
-    o.after.spelled o.after.each quiet.2
+    (forest_at (links_of nodes) (sibling_of nodes ix)) o.after.spelled o.after.each quiet.2
     (next_past source tables nodes ix (sibling_of nodes ix) (forest_at (links_of nodes) (sibling_of nodes ix))
-    (no_block (is_block (item_at nodes ix).body) (item_at nodes ix).body quiet.0)
-    o.after.spelled quiet.2 o.holds.keeps.in_order)
+    (no_block (item_at nodes ix).body quiet.0) o.after.spelled quiet.2 o.holds.keeps.in_order)
 
 -- so is the first of them that ends past a byte offset
 pub record IsFirstPast (nodes : List (Node Item)) (low byte i ix : ℕ) : Type 0 where
@@ -92,8 +85,7 @@ pub record IsFirstPast (nodes : List (Node Item)) (low byte i ix : ℕ) : Type 0
   pub ends : i < (item_at nodes ix).end
 
 first_if : (b : Bool) (nodes : List (Node Item)) (low byte i n ix : ℕ) (l : Option ℕ) → nat_le (item_at nodes n).end i
-    ≡ b
-    → StandsPast nodes low byte n → (l ≡ Some ix → IsFirstPast nodes low byte i ix)
+    ≡ b → StandsPast nodes low byte n → (l ≡ Some ix → IsFirstPast nodes low byte i ix)
     → (if b then l else Some n) ≡ Some ix → IsFirstPast nodes low byte i ix
 first_if true nodes low byte i n ix l test here rest e = rest e
 first_if false nodes low byte i n ix l test here rest e =
@@ -116,8 +108,7 @@ leads_lower nodes low low' l (a ∷ after) le h = (h.0, omega (arith, le, h.1), 
 
 -- through nodes that stay
 pub leads_kept : (old new : List (Node Item)) (l : Option ℕ) (f : Forest ℕ) (low : ℕ) (chain : List Numbered)
-    → Spells (links_of old) l f
-    → length old ≤ length new
+    → Spells (links_of old) l f → length old ≤ length new
     → ((n : ℕ) → n < length old → 0 < total (same n) f → IsSameAt old new n) → LeadsThrough old low l chain
     → LeadsThrough new low l chain
 leads_kept old new l f low [] s more kept h = h
@@ -130,17 +121,14 @@ leads_kept old new l (node ix below rest) low (a ∷ after) s more kept h =
     let at : IsSameAt old new a.number = subst (λ (n : ℕ). IsSameAt old new n) same_number
     (kept ix s.1 (omega (arith, one))) in
     let spelled : Spells (links_of old) (sibling_of old a.number) rest = subst
-    (λ (n : ℕ). Spells (links_of old) (sibling_of old n) rest)
-    same_number s.3 in
+    (λ (n : ℕ). Spells (links_of old) (sibling_of old n) rest) same_number s.3 in
     let go = leads_kept old new (sibling_of old a.number) rest (suc a.number) after spelled more
-    (λ n l k. kept n l (omega (arith, k))) h.4
-    in
+    (λ n l k. kept n l (omega (arith, k))) h.4 in
     (h.0, h.1, omega (arith, h.2, more), at.item ∙ h.3, rw at.next go)
 
 -- through numbers that are no lower, where nodes stay
 pub leads_above : (old new : List (Node Item)) (l : Option ℕ) (low : ℕ) (chain : List Numbered)
-    → length old ≤ length new
-    → ((n : ℕ) → low ≤ n → IsSameAt old new n)
+    → length old ≤ length new → ((n : ℕ) → low ≤ n → IsSameAt old new n)
     → LeadsThrough old low l chain → LeadsThrough new low l chain
 leads_above old new l low [] more kept h = h
 leads_above old new l low (a ∷ after) more kept h =
@@ -190,14 +178,11 @@ leads_left nodes i l (node ix below rest) low (a ∷ after) s h =
     let e : Some ix ≡ Some a.number = sym s.0 ∙ h.0 in
     let same_number : ix ≡ a.number = cc e in
     let spelled : Spells (links_of nodes) (sibling_of nodes a.number) rest = subst
-    (λ (n : ℕ). Spells (links_of nodes) (sibling_of nodes n)
-    rest) same_number s.3 in
+    (λ (n : ℕ). Spells (links_of nodes) (sibling_of nodes n) rest) same_number s.3 in
     let least = h.1 in
     let go = leads_lower nodes low (suc a.number) (first_past nodes i (roots rest)) (numbered_left i after)
-    (omega (arith, least))
-    (leads_left nodes i (sibling_of nodes a.number) rest (suc a.number) after spelled h.4) in
+    (omega (arith, least)) (leads_left nodes i (sibling_of nodes a.number) rest (suc a.number) after spelled h.4) in
     let all = left_if (nat_le a.item.end i) nodes low (first_past nodes i (roots rest)) a after (numbered_left i after)
-    go
-    (refl, h.1, h.2, h.3, h.4) in
+    go (refl, h.1, h.2, h.3, h.4) in
     let item_is : item_at nodes ix ≡ a.item = subst (λ (n : ℕ). item_at nodes n ≡ a.item) (sym same_number) h.3 in
     rw (item_is, same_number) all

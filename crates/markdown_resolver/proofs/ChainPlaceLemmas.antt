@@ -1,20 +1,19 @@
 -- What is above a chain: of the nodes that were entered, only the blocks contribute to a line's prefix, and each is a
 -- node of the tree.
 use Rattle.std.proofs.Common.{◌≡◌, ℕ, zero, suc, ◌<◌, ◌≤◌, ◌+◌, Bool, true, false, List, [], ◌∷◌, ◌++◌, Option, Some}
-use Rattle.std.proofs.Common.{None, length, map, IsUtf8}
-use Rattle.std.proofs.Common.{drop, get_or, refl, sym, ap, ◌∙◌, arith, append_assoc, append-nil}
+use Rattle.std.proofs.Common.{None, length, map, IsUtf8, drop, get_or, refl, sym, ap, ◌∙◌, arith, append_assoc}
+use Rattle.std.proofs.Common.{append-nil}
 use Rattle.std.specs.Prelude.{if◌then◌else◌, slice_index}
 use Rattle.std.specs.Str.{IsCharBoundary}
 use Rattle.std.proofs.lemmas.List.{drop_all, drop_more}
 use Rattle.std.proofs.lemmas.Str.{IsCharBoundary-end}
 use Rattle.markdown_base.specs.Arena.{Arena}
 use Rattle.markdown_base.specs.BlockTree.{item_at}
-use Rattle.markdown_base.specs.Item.{LiesIn, is_block, range_of}
+use Rattle.markdown_base.specs.Item.{LiesIn, is_block, range_of, is_table_cell}
 use Rattle.markdown_base.specs.declared.item.Item.{Item}
 use Rattle.markdown_base.specs.declared.item.ItemBody.{ItemBody}
 use Rattle.markdown_base.specs.declared.item.ItemBody.TheVariants as body
 use Rattle.markdown_base.specs.declared.node.Node.{Node}
-use Rattle.markdown_base.specs.Item.{is_table_cell}
 use Rattle.markdown_document.specs.Above.{Above, inside_block, inside_all, inside_item, no_blocks}
 use Rattle.markdown_document.specs.Stages.{above_cursor}
 use Rattle.markdown_document.specs.Document.{block_of}
@@ -41,16 +40,14 @@ blocks_in nodes (ix ∷ deeper) = with_block (block_of (item_at nodes ix).body) 
 
 -- these are what the nodes of a spine add
 bodies_inside : (nodes : List (Node Item)) (spine : List ℕ) (above : Above) → (inside_all nodes spine above).bodies
-    ≡ above.bodies
-    ++ blocks_in nodes spine
+    ≡ above.bodies ++ blocks_in nodes spine
 unfolding blocks_in with_block
 bodies_inside nodes [] above = sym (append-nil above.bodies)
 bodies_inside nodes (ix ∷ deeper) above =
     bodies_inside nodes deeper (inside_item (item_at nodes ix) above) ∙ added (block_of (item_at nodes ix).body)
   where
     added : (block : Option ItemBody) → (inside_block block (range_of (item_at nodes ix)) above).bodies ++ blocks_in
-        nodes deeper ≡ above.bodies
-        ++ with_block block (blocks_in nodes deeper)
+        nodes deeper ≡ above.bodies ++ with_block block (blocks_in nodes deeper)
     added None = refl
     added (Some block) = append_assoc above.bodies (block ∷ []) (blocks_in nodes deeper)
 
@@ -72,9 +69,7 @@ same_left gfm nodes (ix ∷ deeper) line = by_block (is_block (item_at nodes ix)
   where
     read : (found : Option LineLeft)
         → ((after : LineLeft) → past_blocks gfm (map (λ n. (item_at nodes n).body) deeper) after
-        ≡ past_blocks gfm (blocks_in nodes deeper)
-        after)
-        → elim found as (λ x. LineLeft)
+        ≡ past_blocks gfm (blocks_in nodes deeper) after) → elim found as (λ x. LineLeft)
         [ Some after ↦ past_blocks gfm (map (λ n. (item_at nodes n).body) deeper) after | None ↦ line ]
         ≡ elim found as (λ x. LineLeft) [ Some after ↦ past_blocks gfm (blocks_in nodes deeper) after | None ↦ line ]
     read None later = refl
@@ -83,8 +78,7 @@ same_left gfm nodes (ix ∷ deeper) line = by_block (is_block (item_at nodes ix)
     by_block : (is : Bool) → is_block (item_at nodes ix).body ≡ is
         → ((after : LineLeft) → past_blocks gfm (map (λ n. (item_at nodes n).body) deeper) after
         ≡ past_blocks gfm (blocks_in nodes deeper)
-        after)
-        → elim (past_block gfm (item_at nodes ix).body line) as (λ x. LineLeft)
+        after) → elim (past_block gfm (item_at nodes ix).body line) as (λ x. LineLeft)
         [ Some after ↦ past_blocks gfm (map (λ n. (item_at nodes n).body) deeper) after | None ↦ line ]
         ≡ past_blocks gfm (with_block (if is then Some (item_at nodes ix).body else None) (blocks_in nodes deeper)) line
     by_block true e later = read (past_block gfm (item_at nodes ix).body line) later
@@ -104,8 +98,7 @@ prefix_is prefix s e bytes =
 
 -- each node that was entered is a node of the tree
 within_nodes : (source : List ℕ) (nodes : List (Node Item)) (l : Option ℕ) (spine : List ℕ)
-    → AreAbove source nodes l spine
-    → (k : ℕ) → k < length spine → slice_index spine k < length nodes
+    → AreAbove source nodes l spine → (k : ℕ) → k < length spine → slice_index spine k < length nodes
 within_nodes source nodes l [] above k h = absurd (omega (arith, h))
 within_nodes source nodes l (ix ∷ deeper) above zero h = above.0.within
 within_nodes source nodes l (ix ∷ deeper) above (suc k) h = within_nodes source nodes l deeper above.1 k
@@ -138,17 +131,14 @@ nothing_read source place nodes spine i first text ends table = record {
 
 -- the node of a number in a spine lies in the text
 lies_above : (source : List ℕ) (nodes : List (Node Item)) (l : Option ℕ) (spine : List ℕ) (i : ℕ)
-    → AreAbove source nodes l spine
-    → i < length spine
-    → LiesIn source (item_at nodes (get_or spine i 0))
+    → AreAbove source nodes l spine → i < length spine → LiesIn source (item_at nodes (get_or spine i 0))
 lies_above source nodes l [] i above h = absurd (omega (arith, h))
 lies_above source nodes l (ix ∷ deeper) zero above h = above.0.lies
 lies_above source nodes l (ix ∷ deeper) (suc i) above h = lies_above source nodes l deeper i above.1 (omega (arith, h))
 
 -- what is inside one more node
 read_next : (nodes : List (Node Item)) (spine : List ℕ) (i : ℕ) (above : Above) (block : Option ItemBody)
-    → i < length spine
-    → block_of (item_at nodes (get_or spine i 0)).body ≡ block
+    → i < length spine → block_of (item_at nodes (get_or spine i 0)).body ≡ block
     → inside_all nodes (drop i spine) above ≡ inside_all nodes (drop (i + 1) spine)
     (inside_block block (range_of (item_at nodes (get_or spine i 0))) above)
 read_next nodes spine i above block within is =
@@ -158,8 +148,7 @@ read_next nodes spine i above block within is =
 
 -- one more block: the place is that of its end
 pub block_read : (source : List ℕ) (place place' : ChainPlace) (nodes : List (Node Item)) (l : Option ℕ)
-    (spine : List ℕ) (i : ℕ)
-    (item : Item) → AreAbove source nodes l spine → i < length spine
+    (spine : List ℕ) (i : ℕ) (item : Item) → AreAbove source nodes l spine → i < length spine
     → item ≡ item_at nodes (get_or spine i 0) → is_block item.body ≡ true
     → place'.text.now ≡ place.text.now → place'.block_end ≡ item.end → place'.in_table ≡ is_table_cell item.body
     → IsReadUpTo source place nodes spine i → IsReadUpTo source place' nodes spine (i + 1)
@@ -189,8 +178,7 @@ other_read source place nodes spine i item within same is r =
       bodies = r.bodies;
       reads = sym (read_next nodes spine i below None within block) ∙ r.reads;
       boundary = r.boundary;
-      text =
-          r.text;
+      text = r.text;
     }
 
 -- after the last it is that of the chain
@@ -200,8 +188,7 @@ all_above_read source place tree i past utf8 r =
     let e = ap (λ (rest : List ℕ). inside_all tree.nodes rest (record {
       block_end = place.block_end;
       in_table = place.in_table;
-      bodies =
-          r.bodies;
+      bodies = r.bodies;
     })) (sym (drop_all i tree.spine past)) ∙ r.reads in
     record {
       block_end = rw r.text (ap (λ (a : Above). a.block_end) e);

@@ -7,8 +7,7 @@ use Rattle.markdown_base.specs.BlockTree.{Numbered, tree_of}
 use Rattle.markdown_base.specs.Forest.{Forest, nil, node, relabelled, first_root, roots}
 use Rattle.markdown_base.specs.Item.{is_inline, is_open}
 use Rattle.markdown_base.specs.WellFormed.{AllKeepRules, InlineInOrder, IsWellFormed, PartCounts, StandsOverMarkup}
-use Rattle.markdown_base.specs.WellFormed.{all_inline}
-use Rattle.markdown_base.specs.WellFormed.{counts_of, has_open}
+use Rattle.markdown_base.specs.WellFormed.{all_inline, counts_of, has_open}
 use Rattle.markdown_base.specs.declared.block_parts.BlockParts.{BlockParts}
 use Rattle.markdown_base.specs.declared.item.Item.{Item}
 use Rattle.markdown_base.specs.declared.item.ItemBody.{ItemBody}
@@ -77,8 +76,7 @@ module _ (source : List ℕ) (tables : Tables) (counts : PartCounts) where
   seen a = label_of source tables a.item
 
   before_next : (a : Numbered) (after : Forest Numbered) → InlineInOrder a (first_root after)
-      → IsTrue (is_inline a.item.body)
-      → IsTrue (all_inline after)
+      → IsTrue (is_inline a.item.body) → IsTrue (all_inline after)
       → IfSome (first_root (relabelled seen after)) (λ b. end_of (seen a) ≤ start_of b)
   before_next a nil h inline all = tt
   before_next a (node b below after) h inline all =
@@ -119,8 +117,7 @@ module _ (source : List ℕ) (tables : Tables) (counts : PartCounts) where
           rw is refl
 
 pub document_in_line : (source : List ℕ) (nodes : List (Node Item)) (parts : BlockParts) (tables : Tables)
-    → IsWellFormed source nodes parts
-    → EachChain (StandInLine source) (document source tables nodes)
+    → IsWellFormed source nodes parts → EachChain (StandInLine source) (document source tables nodes)
 document_in_line source nodes parts tables formed =
     chains_in_line source tables (counts_of parts) (tree_of nodes) formed.rules
     (λ opens. absurd (cc (opens, formed.top_is_closed)))

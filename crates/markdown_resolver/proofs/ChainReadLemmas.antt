@@ -34,11 +34,9 @@ use Rattle.markdown_document.specs.Places.{trees_from}
 -- the setting of a chain stays where its text, the options, the reference definitions, the names of its footnotes, and
 -- whether there is a callback stay
 pub same_setting : (text text' : List ℕ) (options options' : Options) (held held' : Allocated) (asks asks' : Bool)
-    → text' ≡ text
-    → options' ≡ options → held'.refdefs ≡ held.refdefs
+    → text' ≡ text → options' ≡ options → held'.refdefs ≡ held.refdefs
     → ((name : List ℕ) → is_some (footnote_at held'.footdefs name) ≡ is_some (footnote_at held.footdefs name)) → asks'
-    ≡ asks
-    → setting_of text' (rules_from options' held' asks') ≡ setting_of text (rules_from options held asks)
+    ≡ asks → setting_of text' (rules_from options' held' asks') ≡ setting_of text (rules_from options held asks)
 same_setting text text' options options' held held' asks asks' of_text of_options definitions footnotes same =
     let names : (λ name. is_some (footnote_at held'.footdefs name)) ≡ (λ name. is_some (footnote_at held.footdefs name))
     = fun_ext footnotes
@@ -46,8 +44,7 @@ same_setting text text' options options' held held' asks asks' of_text of_option
     rw (of_text, of_options, definitions, same) (ap (λ (names : List ℕ → Bool). let x : Setting =
     record {
       text = text;
-      rules = record
-          { options = options; definitions = held.refdefs; is_footnote = names; asks = asks };
+      rules = record { options = options; definitions = held.refdefs; is_footnote = names; asks = asks };
     } in x) names)
 
 -- the blocks above a chain stay where it is changed
@@ -63,20 +60,18 @@ inside_changed source l old new tables tables' (n ∷ deeper) outer c above =
 
 -- where a chain was read up to an item, that item can be read
 pub can_read_item : {place : ChainPlace} {tree : Arena Item} {held : Allocated} {brackets wikilinks : List Waiting}
-    {first ix : ℕ}
-    {left : List (Entry ℕ)}
+    {first ix : ℕ} {left : List (Entry ℕ)}
     → CanReadOn place tree held brackets wikilinks first ix left → CanReadItem place tree held ix
 can_read_item {place} {tree} {held} {brackets} {wikilinks} {first} {ix} {left} can = record {
   stands = can.stands;
-  ready = stands_rest place.text.now (tables_of held) tree.nodes first (Some ix) left can.so_far;
+  ready = stands_rest can.so_far;
   unread = can.unread;
   above = above_rest place.text.now (tables_of held) tree.nodes first (Some ix) left tree.spine can.so_far can.above;
 }
 
 -- a chain was read in place from the node `first` up to a link
 pub record ReadsUpTo {C : Type 0} (step : C → Question → Option Answer → C → Type 0) (s : Setting) (first : ℕ)
-    (at : Option ℕ)
-    (old now : Arena Item) (held held' : Allocated) (limit limit' : ℕ)
+    (at : Option ℕ) (old now : Arena Item) (held held' : Allocated) (limit limit' : ℕ)
     (callback callback' : Option C) (spent : SpentEnds) (brackets wikilinks : List Waiting) : Type 0 where
   pub tree : now ≡ record old { nodes = now.nodes }
   pub begun : SpentEnds
@@ -87,8 +82,7 @@ pub record ReadsUpTo {C : Type 0} (step : C → Question → Option Answer → C
 
 -- none of it was read yet
 pub up_to_none : {C : Type 0} (step : C → Question → Option Answer → C → Type 0) (s : Setting) (first : ℕ)
-    (old : Arena Item)
-    (held : Allocated) (limit : ℕ) (callback : Option C) (spent : SpentEnds)
+    (old : Arena Item) (held : Allocated) (limit : ℕ) (callback : Option C) (spent : SpentEnds)
     (brackets wikilinks : List Waiting) → CanResolve s.text (tables_of held) old.nodes (Some first)
     → IsUnread (trees_from s.text (tables_of held) old.nodes (Some first)) → AreSpent spent [] → brackets ≡ []
     → wikilinks ≡ []
@@ -105,8 +99,7 @@ up_to_none step s first old held limit callback spent brackets wikilinks ready u
     }
 
 module _ {C : Type 0} {step : C → Question → Option Answer → C → Type 0} {s : Setting} {first : ℕ} {at : Option ℕ}
-    {old now : Arena Item}
-    {held held' : Allocated} {limit limit' : ℕ}
+    {old now : Arena Item} {held held' : Allocated} {limit limit' : ℕ}
     {callback callback' : Option C} {spent : SpentEnds} {brackets wikilinks : List Waiting}
     (r : ReadsUpTo step s first at old now held held' limit limit' callback callback' spent brackets wikilinks)
     (is_above : AreAbove s.text old.nodes (Some first) old.spine) where
@@ -116,15 +109,13 @@ module _ {C : Type 0} {step : C → Question → Option Answer → C → Type 0}
   -- the same blocks are above it
   pub still_above : AreAbove s.text now.nodes (Some first) now.spine
   still_above = rw same_spine (above_changed s.text (Some first) old.nodes now.nodes (tables_of held) (tables_of held')
-      old.spine
-      r.reads.changes is_above)
+      old.spine r.reads.changes is_above)
 
   pub same_above : above_cursor s.text now ≡ above_cursor s.text old
   same_above =
       ap (λ (spine : List ℕ). above_at s.text now.nodes spine) same_spine
       ∙ inside_changed s.text (Some first) old.nodes now.nodes (tables_of held) (tables_of held') old.spine
-      (no_blocks s.text)
-      r.reads.changes is_above
+      (no_blocks s.text) r.reads.changes is_above
 
   -- there is still a callback, or still none
   pub still_asks : is_some callback' ≡ is_some callback
@@ -150,12 +141,10 @@ module _ {C : Type 0} {step : C → Question → Option Answer → C → Type 0}
 
   -- more was read
   pub up_to_more : (s' : Setting) (ix : ℕ) (next : Option ℕ) (new : Arena Item) (held'' : Allocated) (limit'' : ℕ)
-      (callback'' : Option C)
-      (spent'' : SpentEnds) (brackets'' wikilinks'' : List Waiting) → s' ≡ s → at ≡ Some ix
+      (callback'' : Option C) (spent'' : SpentEnds) (brackets'' wikilinks'' : List Waiting) → s' ≡ s → at ≡ Some ix
       → new ≡ record now { nodes = new.nodes }
       → ReadsOn step s' (above_cursor s'.text now) first (Some ix) next r.reads.left_then
-      (stage now held' limit' callback')
-      (stage new held'' limit'' callback'') spent spent'' brackets'' wikilinks''
+      (stage now held' limit' callback') (stage new held'' limit'' callback'') spent spent'' brackets'' wikilinks''
       → (IsUnread (trees_from s'.text (tables_of held') now.nodes (Some ix))
       → IsUnread (trees_from s'.text (tables_of held'') new.nodes next))
       → ReadsUpTo step s first next old new held held'' limit limit'' callback callback'' spent'' brackets'' wikilinks''
@@ -164,27 +153,21 @@ module _ {C : Type 0} {step : C → Question → Option Answer → C → Type 0}
       let between = stage now held' limit' callback' in
       let after = stage new held'' limit'' callback'' in
       let from : ReadsOn step s' (above_cursor s'.text now) first at next r.reads.left_then between after spent spent''
-      brackets''
-      wikilinks'' =
+      brackets'' wikilinks'' =
       subst (λ (l : Option ℕ). ReadsOn step s' (above_cursor s'.text now) first l next r.reads.left_then between after
-      spent spent''
-      brackets'' wikilinks'') (sym is) reads in
+      spent spent'' brackets'' wikilinks'') (sym is) reads in
       let here : ReadsOn step s (above_cursor s.text now) first at next r.reads.left_then between after spent spent''
-      brackets'' wikilinks''
-      =
+      brackets'' wikilinks'' =
       subst (λ (x : Setting). ReadsOn step x (above_cursor x.text now) first at next r.reads.left_then between after
-      spent spent''
-      brackets'' wikilinks'') same from in
+      spent spent'' brackets'' wikilinks'') same from in
       let there = subst (λ (a : Above). ReadsOn step s a first at next r.reads.left_then between after spent spent''
-      brackets'' wikilinks'')
-      same_above here in
+      brackets'' wikilinks'') same_above here in
       record {
         tree = e ∙ ap (λ (t : Arena Item). let u : Arena Item = record t { nodes = new.nodes } in u) r.tree;
         begun = r.begun;
         none = r.none;
         reads = reads_on_twice step s (above_cursor s.text old) first (Some first) at [] before between r.begun spent
-            brackets wikilinks
-            r.reads next after spent'' brackets'' wikilinks'' there;
+            brackets wikilinks r.reads next after spent'' brackets'' wikilinks'' there;
         unread = subst (λ (x : Setting). IsUnread (trees_from x.text (tables_of held'') new.nodes next)) same
             (unread (rw (same, ← is) r.unread));
       }
@@ -197,14 +180,12 @@ module _ {C : Type 0} {step : C → Question → Option Answer → C → Type 0}
       let after = stage now held' limit' callback' in
       reads_on_all step s (above_cursor s.text old) first before after r.begun spent brackets wikilinks r.none
       (subst (λ (l : Option ℕ). ReadsOn step s (above_cursor s.text old) first (Some first) l [] before after r.begun
-      spent brackets
-      wikilinks) none r.reads)
+      spent brackets wikilinks) none r.reads)
 
   -- memory was refused to what follows
   pub up_to_stops : (s' : Setting) (ix : ℕ) (callback'' : Option C) → s' ≡ s → at ≡ Some ix
       → StopsOn step s' (above_cursor s'.text now) (Some ix) r.reads.left_then (stage now held' limit' callback') spent
-      callback''
-      → StopsInPassOne step s (above_cursor s.text old) first (stage old held limit callback) callback''
+      callback'' → StopsInPassOne step s (above_cursor s.text old) first (stage old held limit callback) callback''
   up_to_stops s' ix callback'' same is stops =
       let before = stage old held limit callback in
       let between = stage now held' limit' callback' in
@@ -218,5 +199,4 @@ module _ {C : Type 0} {step : C → Question → Option Answer → C → Type 0}
       in
       stops_pass_one step s (above_cursor s.text old) first before r.begun callback'' r.none
       (stops_later step s (above_cursor s.text old) first (Some first) at [] before between r.begun spent brackets
-      wikilinks r.reads
-      callback'' there)
+      wikilinks r.reads callback'' there)

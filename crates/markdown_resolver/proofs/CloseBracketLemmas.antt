@@ -2,8 +2,7 @@
 -- in place.
 use Rattle.markdown_base.specs.declared.item.ItemBody.TheVariants as body
 use Rattle.std.proofs.Common.{◌≡◌, ℕ, ◌-◌, ◌<◌, Bool, not, ◌&&◌, List, [], ◌++◌, Option, Some, None, length, drop, refl}
-use Rattle.std.proofs.Common.{sym, ap, ◌∙◌}
-use Rattle.std.proofs.Common.{subst, arith, true}
+use Rattle.std.proofs.Common.{sym, ap, ◌∙◌, subst, arith, true}
 use Rattle.std.proofs.Math.Path.{fun_ext}
 use Rattle.std.proofs.lemmas.List.{length-drop, length-take}
 use Rattle.std.specs.Prelude.{Result, Ok, Err, IfErr, IfOk, is_some, slice_range}
@@ -17,7 +16,7 @@ use Rattle.markdown_base.specs.declared.item.ItemBody.{ItemBody}
 use Rattle.markdown_base.specs.declared.node.Node.{Node}
 use Rattle.markdown_base.specs.declared.options.Options.{Options}
 use Rattle.markdown_brackets.specs.BracketDecision.{Around, Becomes, Closing, Progress, decided}
-use Rattle.markdown_brackets.specs.Decides.{Decides, EachOpener, StandsBefore}
+use Rattle.markdown_brackets.specs.Decides.{Decides, EachOpener, StandsBefore, CanTry}
 use Rattle.markdown_brackets.specs.ClosingBracket.{put}
 use Rattle.markdown_brackets.specs.DecisionView.{GoesOnBehind, IsBecome, around_at}
 use Rattle.markdown_brackets.specs.Finish.{LeftRises, SplitsAs}
@@ -25,7 +24,6 @@ use Rattle.markdown_brackets.specs.LeftList.{Entry}
 use Rattle.markdown_brackets.specs.HeldOpeners.{brackets_of, wikilinks_of}
 use Rattle.markdown_brackets.specs.Openers.{Waiting}
 use Rattle.markdown_brackets.specs.SpentEnds.{is_spent}
-use Rattle.markdown_brackets.specs.Decides.{CanTry}
 use Rattle.markdown_brackets.specs.WikilinkNodes.{CanFindWikilink}
 use Rattle.markdown_brackets.specs.declared.chain_openers.ChainOpeners.{ChainOpeners}
 use Rattle.markdown_brackets.specs.declared.closing_bracket.ClosedBracket.{ClosedBracket}
@@ -75,8 +73,7 @@ pub record IsPrefixOf (place : ChainPlace) (prefix : ContainerPrefix) (tree : Ar
 
 -- brackets are decided by the rules of pass one
 pub around_is : (place : ChainPlace) (prefix : ContainerPrefix) (tree : Arena Item) (source : List ℕ)
-    (options : Options)
-    (held : Allocated) (asks : Bool)
+    (options : Options) (held : Allocated) (asks : Bool)
     → place.text.now ≡ source → place.options ≡ options → IsPlaceOf place tree → IsPrefixOf place prefix tree
     → around_at place (length_by prefix) (above_cursor source tree).bodies held.refdefs held.footdefs asks
     ≡ around (setting_of source (rules_from options held asks)) (above_cursor source tree)
@@ -100,27 +97,24 @@ some_byte : (source : List ℕ) (tables : Tables) (nodes : List (Node Item)) (ix
     → 0 < (item_at nodes ix).end
 some_byte source tables nodes ix could_be ready is =
     let item = item_at nodes ix in
-    let o = opens_chain source tables nodes ix ready in
+    let o = opens_chain ready in
     let over : StandsOverMarkup (slice_range source item.start item.end) (body.MaybeLinkClose could_be) =
     subst (StandsOverMarkup (slice_range source item.start item.end)) is o.placed.keeps.markup_is_there in
     let size : length (slice_range source item.start item.end) ≡ 1 = ap length over in
     omega (arith, size, length-take (item.end - item.start) (drop item.start source), length-drop item.start source)
 
 module _ {place : ChainPlace} {tree : Arena Item} {held : Allocated} {brackets wikilinks : List Waiting} {first ix : ℕ}
-    {left : List (Entry ℕ)}
-    (can : CanReadOn place tree held brackets wikilinks first ix left) (could_be : Bool)
-    (is : (item_at tree.nodes ix).body
-    ≡ body.MaybeLinkClose could_be) where
+    {left : List (Entry ℕ)} (can : CanReadOn place tree held brackets wikilinks first ix left) (could_be : Bool)
+    (is : (item_at tree.nodes ix).body ≡ body.MaybeLinkClose could_be) where
   here_ready : CanResolve place.text.now (tables_of held) tree.nodes (Some ix)
-  here_ready = stands_rest place.text.now (tables_of held) tree.nodes first (Some ix) left can.so_far
+  here_ready = stands_rest can.so_far
 
   -- each opener that a stack holds can be tried, and a wikilink looked for
   pub tries_each : EachOpener (CanTry tree.nodes place ix) brackets
   tries_each =
       let source = place.text.now in
       let each = each_bracket (StandsOpen source (tables_of held) tree.nodes ix) left
-      (each_open source (tables_of held) tree.nodes first ix
-      left can.so_far) in
+      (each_open source (tables_of held) tree.nodes first ix left can.so_far) in
       subst (λ (w : List Waiting). EachOpener (CanTry tree.nodes place ix) w) (sym can.openers.brackets_are)
       (each_follows (StandsOpen source (tables_of held) tree.nodes ix) (CanTry tree.nodes place ix) _
       (λ n o. can_try (tables_of held) tree.nodes place ix n here_ready
@@ -130,8 +124,7 @@ module _ {place : ChainPlace} {tree : Arena Item} {held : Allocated} {brackets w
   finds_each =
       let source = place.text.now in
       let each = each_wikilink (StandsOpen source (tables_of held) tree.nodes ix) left
-      (each_open source (tables_of held) tree.nodes first
-      ix left can.so_far) in
+      (each_open source (tables_of held) tree.nodes first ix left can.so_far) in
       subst (λ (w : List Waiting). EachOpener (λ n. CanFindWikilink tree.nodes source n ix) w)
       (sym can.openers.wikilinks_are)
       (each_follows (StandsOpen source (tables_of held) tree.nodes ix) (λ n. CanFindWikilink tree.nodes source n ix) _
@@ -140,31 +133,24 @@ module _ {place : ChainPlace} {tree : Arena Item} {held : Allocated} {brackets w
 -- it was decided what becomes of a `]`: the left list that is left is where the first was, its numbers rise, and the
 -- result can be put in place
 pub record MayClose (source : List ℕ) (tables : Tables) (nodes : List (Node Item)) (first ix : ℕ) (w : Around)
-    (c : Closing ℕ)
-    (left_then : List (Entry ℕ)) (becomes : Becomes ℕ) : Type 0 where
+    (c : Closing ℕ) (left_then : List (Entry ℕ)) (becomes : Becomes ℕ) : Type 0 where
   pub stands : StandsTo source tables nodes first (Some ix) left_then
   pub before : StandsBefore nodes ix left_then c
   pub rises : LeftRises left_then
   pub closes : ClosesAt source tables nodes first ix left_then w c becomes
 
 pub may_close : {C : Type 0} (step : C → Question → Option Answer → C → Type 0) (source : List ℕ) (rules : Rules)
-    (above : Above)
-    (tables : Tables) (nodes : List (Node Item)) (first ix : ℕ) (left : List (Entry ℕ))
+    (above : Above) (tables : Tables) (nodes : List (Node Item)) (first ix : ℕ) (left : List (Entry ℕ))
     (could_be : Bool) (limit limit' : ℕ) (uses uses' : List ℕ → ℕ) (spent spent' : SpentEnds)
-    (callback callback' : Option C)
-    (brackets wikilinks : List Waiting) (found : ClosedBracket)
+    (callback callback' : Option C) (brackets wikilinks : List Waiting) (found : ClosedBracket)
     → IsUtf8 source → StandsTo source tables nodes first (Some ix) left
-    → IsUnread (trees_from source tables nodes (Some ix))
-    → (item_at nodes ix).body ≡ body.MaybeLinkClose could_be
+    → IsUnread (trees_from source tables nodes (Some ix)) → (item_at nodes ix).body ≡ body.MaybeLinkClose could_be
     → (d : Decides step (around (setting_of source rules) above) (closing_at source tables nodes spent could_be ix)
-    left limit limit' uses
-    uses' spent spent' callback callback' brackets wikilinks found)
+    left limit limit' uses uses' spent spent' callback callback' brackets wikilinks found)
     → MayClose source tables nodes first ix (around (setting_of source rules) above)
-    (closing_at source tables nodes spent could_be ix)
-    d.left_then d.becomes
+    (closing_at source tables nodes spent could_be ix) d.left_then d.becomes
 may_close step source rules above tables nodes first ix left could_be limit limit' uses uses' spent spent' callback
-    callback' brackets
-    wikilinks found utf8 h unread is d =
+    callback' brackets wikilinks found utf8 h unread is d =
     let w = around (setting_of source rules) above in
     let c = closing_at source tables nodes spent could_be ix in
     let p : Progress ℕ = record {
@@ -174,8 +160,7 @@ may_close step source rules above tables nodes first ix left could_be limit limi
       asked = [];
       known = record {
         limit = limit;
-        answers = d.answers
-            ++ [];
+        answers = d.answers ++ [];
         uses = uses;
       };
       made = 0;
@@ -184,8 +169,7 @@ may_close step source rules above tables nodes first ix left could_be limit limi
       left = d.left_then;
       goes_on = None;
       spent = d.more ++ [];
-      asked = []
-          ++ d.questions;
+      asked = [] ++ d.questions;
       known = record { limit = limit'; answers = []; uses = uses' };
       made = 0;
     } in
@@ -194,7 +178,7 @@ may_close step source rules above tables nodes first ix left could_be limit limi
     h in
     record {
       stands = stands;
-      before = stands_before source tables nodes first ix d.left_then c could_be stands refl refl is;
+      before = stands_before stands refl refl is;
       rises = left_rises source tables nodes first (Some ix) d.left_then stands;
       closes = record {
         stands = stands;
@@ -202,9 +186,7 @@ may_close step source rules above tables nodes first ix left could_be limit limi
         label_is = refl;
         rest_is = refl;
         text_is = refl;
-        unmade = unmade_after source tables nodes ix (stands_rest source tables nodes first (Some ix) left h)
-            (ap is_open is)
-            (ap waits_for_pairing is) unread;
+        unmade = unmade_after (stands_rest h) (ap is_open is) (ap waits_for_pairing is) unread;
         splits = d.splits;
         ends = ends_well source tables nodes first ix left w c p d.becomes q h refl refl refl utf8 refl decides;
       };
@@ -225,16 +207,13 @@ pub decides_here : {C E : Type 0} (step : C → Question → Option Answer → C
     left old.lookup.limit new.lookup.limit (uses_of old.lookup.tables.footdefs) (uses_of new.lookup.tables.footdefs)
     old.waiting.spent
     new.waiting.spent old.lookup.callback new.lookup.callback new.waiting.openers.brackets new.waiting.openers.wikilinks
-    found)
-    → IfOk r (λ found. DecidesClosing step place tree ix old new found)
+    found) → IfOk r (λ found. DecidesClosing step place tree ix old new found)
 decides_here step place prefix tree old new ix (Ok found) text options_are prefix_is_its closes decides = record {
   decides = λ first left can.
       let could_be = could_be_reference (item_at tree.nodes ix).body in
       let held = old.lookup.tables in
       let c = closing_at place.text.now (tables_of held) tree.nodes old.waiting.spent could_be ix in
-      let before = stands_before place.text.now (tables_of held) tree.nodes first ix left c could_be can.so_far refl
-      refl
-      (closer_body (item_at tree.nodes ix).body closes) in
+      let before = stands_before can.so_far refl refl (closer_body (item_at tree.nodes ix).body closes) in
       let d = decides (above_cursor place.text.now tree).bodies (length_by prefix) left c (λ rest. refl) before refl
       can.openers.brackets_are can.openers.wikilinks_are in
       let here = subst (λ (w : Around). Decides step w c left old.lookup.limit new.lookup.limit (uses_of held.footdefs)
@@ -255,8 +234,7 @@ decides_here step place prefix tree old new ix (Err fault) text options_are pref
 
 -- what is left after a `]` was not read
 unread_closed : (source : List ℕ) (tables tables' : Tables) (old new : List (Node Item)) (first closer : ℕ)
-    (rest : Rest)
-    (left : List (Entry ℕ)) (w : Around) (c : Closing ℕ) (becomes : Becomes ℕ)
+    (rest : Rest) (left : List (Entry ℕ)) (w : Around) (c : Closing ℕ) (becomes : Becomes ℕ)
     → CanResolve source tables old (Some closer)
     → PutsClosed source first closer rest left w c becomes old new tables tables'
     → IsUnread (trees_from source tables old (Some closer)) → IsUnread (trees_from source tables' new rest.next)
@@ -321,8 +299,7 @@ module _ {C : Type 0} (step : C → Question → Option Answer → C → Type 0)
   closes_there first left was_read =
       let d = decision.decides first left was_read in
       subst (λ (t : Tables). ClosesAt old.text.now t tree.nodes first ix d.left_then around_here closing_here d.becomes)
-      (sym tables)
-      (closes_here first left was_read).closes
+      (sym tables) (closes_here first left was_read).closes
 
   -- it can be put in place: the openers that are left are nodes
   pub record MayPut : Type 0 where
@@ -339,8 +316,7 @@ module _ {C : Type 0} (step : C → Question → Option Answer → C → Type 0)
       record {
         within = subst (λ (w : List Waiting). EachOpener (λ n. n < length tree.nodes) w) (sym d.wikilinks_are)
             (each_follows (IsOpener old.text.now tree.nodes) (λ n. n < length tree.nodes) (wikilinks_of d.left_then)
-            (λ n o. o.within)
-            (each_wikilink (IsOpener old.text.now tree.nodes) d.left_then
+            (λ n o. o.within) (each_wikilink (IsOpener old.text.now tree.nodes) d.left_then
             (closes_here can.first can.left can.was_read).stands.waiting));
         left_then = d.left_then;
         becomes = d.becomes;
@@ -364,8 +340,7 @@ module _ {C : Type 0} (step : C → Question → Option Answer → C → Type 0)
         (p : Progress ℕ)
         → StandsBefore tree.nodes closer left c → LeftRises left → SplitsAs left becomes → IsBecome w becomes found
         → mid.waiting.openers.brackets ≡ brackets_of left → mid.waiting.openers.wikilinks ≡ wikilinks_of left → p.left
-        ≡ left
-        → (openers.brackets ≡ brackets_of (put w c becomes p).left)
+        ≡ left → (openers.brackets ≡ brackets_of (put w c becomes p).left)
         × (openers.wikilinks ≡ wikilinks_of (put w c becomes p).left)
 
     abbrev pub put_then : Resolver C
@@ -375,21 +350,17 @@ module _ {C : Type 0} (step : C → Question → Option Answer → C → Type 0)
     }
 
     puts_here : (rest : Rest) (first : ℕ) (left : List (Entry ℕ)) (was_read : WasReadTo place tree old first ix left)
-        → PutsEach rest
-        → (let d = decision.decides first left was_read in
+        → PutsEach rest → (let d = decision.decides first left was_read in
         PutsClosed old.text.now first ix rest d.left_then around_here closing_here d.becomes tree.nodes tree'.nodes
-        (tables_of old.lookup.tables)
-        (tables_of held))
+        (tables_of old.lookup.tables) (tables_of held))
     puts_here rest first left was_read puts =
         let d = decision.decides first left was_read in
         subst (λ (t : Tables). PutsClosed old.text.now first ix rest d.left_then around_here closing_here d.becomes
-        tree.nodes tree'.nodes t
-        (tables_of held)) tables
+        tree.nodes tree'.nodes t (tables_of held)) tables
         (puts old.text.now first d.left_then around_here closing_here d.becomes (closes_there first left was_read) d.is)
 
     pub reads_closed : {E : Type 0} (r : Result Rest E) → held.footdefs ≡ mid.lookup.tables.footdefs → FinishesEach
-        → IfOk r PutsEach
-        → IfOk r (λ rest. tree' ≡ record tree { nodes = tree'.nodes })
+        → IfOk r PutsEach → IfOk r (λ rest. tree' ≡ record tree { nodes = tree'.nodes })
         → IfOk r (λ rest. ReadsBracket step place ix rest tree tree' old put_then)
     reads_closed (Ok rest) footdefs finishes puts place_is =
         let here = puts_here rest can.first can.left can.was_read puts in
@@ -401,27 +372,22 @@ module _ {C : Type 0} (step : C → Question → Option Answer → C → Type 0)
                 subst (λ (f : FootnoteDefs). ReadsOn step (setting_by old) (above_cursor old.text.now tree) first
                 (Some ix) rest.next left
                 (stage_by tree old) (record (stage_by tree' put_then) { uses = uses_of f }) old.waiting.spent
-                mid.waiting.spent openers.brackets
-                openers.wikilinks) (sym footdefs)
+                mid.waiting.spent openers.brackets openers.wikilinks) (sym footdefs)
                 (reads_on_closer step (setting_by old) (above_cursor old.text.now tree) first ix left could_be
                 (stage_by tree old)
                 (record (stage_by tree' put_then) { uses = uses_of mid.lookup.tables.footdefs }) old.waiting.spent
                 mid.waiting.spent mid.waiting.openers.brackets
                 mid.waiting.openers.wikilinks found rest openers.brackets openers.wikilinks d
-                (here_stands first left was_read) is
-                (puts_here rest first left was_read puts)
-                (record {
+                (here_stands first left was_read) is (puts_here rest first left was_read puts) (record {
                   holds = λ q e. finishes around_here closing_here ix d.left_then d.becomes q m.before m.rises d.splits
-                      d.is d.brackets_are
-                      d.wikilinks_are e;
+                      d.is d.brackets_are d.wikilinks_are e;
                 }));
             passes = here.passes;
             unread = λ h. unread_closed old.text.now (tables_of old.lookup.tables) (tables_of held) tree.nodes
                 tree'.nodes can.first ix rest
                 (decision.decides can.first can.left can.was_read).left_then around_here closing_here
                 (decision.decides can.first can.left can.was_read).becomes
-                (stands_rest old.text.now (tables_of old.lookup.tables) tree.nodes
-                can.first (Some ix) can.left (here_stands can.first can.left can.was_read)) here h;
+                (stands_rest (here_stands can.first can.left can.was_read)) here h;
             place_is = place_is;
           };
           holds = here.holds;
@@ -434,5 +400,4 @@ module _ {C : Type 0} (step : C → Question → Option Answer → C → Type 0)
   stops_decided (Err fault) = λ first left was_read.
       stops_at_closer step (setting_by old) (above_cursor old.text.now tree) first ix left could_be (stage_by tree old)
       (stage_by tree mid) old.waiting.spent mid.waiting.spent mid.waiting.openers.brackets mid.waiting.openers.wikilinks
-      found (decision.decides first left was_read)
-      (here_stands first left was_read) is
+      found (decision.decides first left was_read) (here_stands first left was_read) is

@@ -1,10 +1,9 @@
 -- What a `]` becomes is put in the place of its opener in the left list, over what is inside: what can be put there,
 -- and what is there then.
 use Rattle.std.proofs.Common.{◌≡◌, ℕ, suc, ◌<◌, ◌≤◌, Bool, true, false, List, [], ◌∷◌, length, Option, Some, refl, sym}
-use Rattle.std.proofs.Common.{ap, ◌∙◌, subst}
-use Rattle.std.proofs.Common.{if◌then◌else◌, nat_le}
+use Rattle.std.proofs.Common.{ap, ◌∙◌, subst, if◌then◌else◌, nat_le}
 use Rattle.std.specs.Prelude.{slice_range}
-use Rattle.markdown_base.specs.Arena.{child_of, sibling_of}
+use Rattle.markdown_base.specs.Arena.{sibling_of}
 use Rattle.markdown_base.specs.ArenaForest.{forest_at, links_of}
 use Rattle.markdown_base.specs.BlockTree.{item_at}
 use Rattle.markdown_base.specs.Forest.{Forest, nil, node, relabelled, roots}
@@ -52,21 +51,18 @@ pub record OpenerAt (source : List ℕ) (tables : Tables) (nodes : List (Node It
   pub ready_closer : CanResolve source tables nodes (Some closer)
   pub around : InsideOf source tables nodes closer o
 
-pub opener_at : (source : List ℕ) (tables : Tables) (nodes : List (Node Item)) (first closer : ℕ)
-    (left : List (Entry ℕ)) (o : Split ℕ)
-    → StandsTo source tables nodes first (Some closer) left
-    → IsSplit left o
+pub opener_at : {source : List ℕ} {tables : Tables} {nodes : List (Node Item)} {first closer : ℕ}
+    {left : List (Entry ℕ)} {o : Split ℕ} → StandsTo source tables nodes first (Some closer) left → IsSplit left o
     → OpenerAt source tables nodes first closer o
-opener_at source tables nodes first closer left o stands splits =
-    let at = stands_at_opener source tables nodes first (Some closer) left o stands splits in
-    let ready' = stands_rest source tables nodes first (Some closer) left stands in
+opener_at {source} {tables} {nodes} {first} {closer} {left} {o} stands splits =
+    let at = stands_at_opener stands splits in
+    let ready' = stands_rest stands in
     record {
       stands = at.stands;
       opener = at.opener;
       ready = at.ready;
       ready_closer = ready';
-      around = inside_of source tables nodes closer
-          o at.ready ready' at.trees;
+      around = inside_of source tables nodes closer o at.ready ready' at.trees;
     }
 
 -- an item whose label is not open is not open
@@ -91,10 +87,8 @@ none_open source tables nodes byte next (node n below after) h first before =
         (NoneOpenAround byte (relabelled (numbered_label source tables nodes) after))
         → (if ended then first_past nodes byte (roots after) else Some n) ≡ Some next
         → (NoneOpenAround byte (relabelled (numbered_label source tables nodes) after)
-        → first_past nodes byte (roots after) ≡ Some next
-        → (item_at nodes next).start < byte
-        → is_open (item_at nodes next).body ≡ false)
-        → is_open (item_at nodes next).body ≡ false
+        → first_past nodes byte (roots after) ≡ Some next → (item_at nodes next).start < byte
+        → is_open (item_at nodes next).body ≡ false) → is_open (item_at nodes next).body ≡ false
     by true h first later = later h first before
     by false h first later =
         let same : n ≡ next = cc first in
@@ -104,13 +98,11 @@ none_open source tables nodes byte next (node n below after) h first before =
         (h (subst (λ (m : ℕ). (item_at nodes m).start < byte) (sym same) before)))
 
 -- something that is found can end at a byte offset there
-pub can_close : (source : List ℕ) (tables : Tables) (nodes : List (Node Item)) (first closer : ℕ)
-    (left : List (Entry ℕ)) (w : Around)
-    (c : Closing ℕ) (becomes : Becomes ℕ) (o : Split ℕ) (byte : ℕ)
+pub can_close : {source : List ℕ} {tables : Tables} {nodes : List (Node Item)} {first closer : ℕ}
+    {left : List (Entry ℕ)} {w : Around} {c : Closing ℕ} {becomes : Becomes ℕ} {o : Split ℕ} {byte : ℕ}
     → ClosesAt source tables nodes first closer left w c becomes → OpenerAt source tables nodes first closer o
-    → CanGoOn source c byte
-    → CanClose source tables nodes o.opener.tag closer (inside_numbers o) byte
-can_close source tables nodes first closer left w c becomes o byte closes at can = record {
+    → CanGoOn source c byte → CanClose source tables nodes o.opener.tag closer (inside_numbers o) byte
+can_close {source} {tables} {nodes} {first} {closer} {left} {w} {c} {becomes} {o} {byte} closes at can = record {
   ready = at.ready;
   opener_closed = at.opener.closed;
   childless = at.opener.childless;
@@ -127,11 +119,10 @@ can_close source tables nodes first closer left w c becomes o byte closes at can
 }
 
 -- the opener ends where the `]` starts at the latest
-pub opener_before : (source : List ℕ) (tables : Tables) (nodes : List (Node Item)) (first closer : ℕ) (o : Split ℕ)
-    → OpenerAt source tables nodes first closer o
-    → (item_at nodes o.opener.tag).end ≤ (item_at nodes closer).start
-opener_before source tables nodes first closer o at =
-    let chain = opens_chain source tables nodes o.opener.tag at.ready in
+pub opener_before : {source : List ℕ} {tables : Tables} {nodes : List (Node Item)} {first closer : ℕ} {o : Split ℕ}
+    → OpenerAt source tables nodes first closer o → (item_at nodes o.opener.tag).end ≤ (item_at nodes closer).start
+opener_before {source} {tables} {nodes} {first} {closer} {o} at =
+    let chain = opens_chain at.ready in
     (order_around nodes (item_at nodes o.opener.tag).end (inside_numbers o) closer
     (roots (forest_at (links_of nodes) (sibling_of nodes closer)))
     (subst (InOrder nodes (item_at nodes o.opener.tag).end) at.around.follows chain.ordered)).from
@@ -167,63 +158,50 @@ quiet_inside left o splits quiet =
 
 -- what is put in place: these trees after this left list, up to a byte offset
 pub record PutsWhat (w : Around) (c : Closing ℕ) (left : List (Entry ℕ)) (becomes : Becomes ℕ)
-    (trees : Forest (Label ℕ))
-    (before : List (Entry ℕ)) (goes_on : ℕ) : Type 0 where
+    (trees : Forest (Label ℕ)) (before : List (Entry ℕ)) (goes_on : ℕ) : Type 0 where
   pub left_is : (p : Progress ℕ) → p.left ≡ left → (put w c becomes p).left ≡ all_done trees before
   pub goes : (p : Progress ℕ) → (put w c becomes p).goes_on ≡ Some goes_on
 
 -- so it is in the left list
-pub puts_closed : (source : List ℕ) (first closer : ℕ) (rest : Rest) (left : List (Entry ℕ)) (w : Around)
-    (c : Closing ℕ)
-    (becomes : Becomes ℕ) (o : Split ℕ) (old new : List (Node Item))
-    (tables tables' : Tables) (before : List (Entry ℕ)) (trees : Enclosing) (what : Forest (Label ℕ)) (goes_on : ℕ)
-    (standing : List ℕ)
+pub puts_closed : {source : List ℕ} {first closer : ℕ} {rest : Rest} {left : List (Entry ℕ)} {w : Around}
+    {c : Closing ℕ} {becomes : Becomes ℕ} {o : Split ℕ} {old new : List (Node Item)} {tables tables' : Tables}
+    {before : List (Entry ℕ)} {trees : Enclosing} {goes_on : ℕ} {standing : List ℕ} (what : Forest (Label ℕ))
     → ClosesAt source tables old first closer left w c becomes → OpenerAt source tables old first closer o
-    → StandsTo source tables old first (Some o.opener.tag) before
-    → PutsWhat w c left becomes what before goes_on → trees (label_at source tables old o.opener.tag)
-    (without_numbers (inside o))
-    ≡ without_numbers what → IsQuiet what
-    → ((a : Plain) (i : Forest Plain) → length (roots (trees a i)) ≡ length standing)
     → PutsOver source o.opener.tag closer (inside_numbers o) trees goes_on standing rest old new tables tables'
+    → StandsTo source tables old first (Some o.opener.tag) before → PutsWhat w c left becomes what before goes_on
+    → trees (label_at source tables old o.opener.tag) (without_numbers (inside o)) ≡ without_numbers what → IsQuiet what
+    → ((a : Plain) (i : Forest Plain) → length (roots (trees a i)) ≡ length standing)
     → PutsClosed source first closer rest left w c becomes old new tables tables'
-puts_closed source first closer rest left w c becomes o old new tables tables' before trees what goes_on standing closes
-    at stands puts
-    reads quiet many over =
+puts_closed {source} {first} {closer} {rest} {left} {w} {c} {becomes} {o} {old} {new} {tables} {tables'} {before}
+    {trees} {goes_on} {standing} what closes at over stands puts reads quiet many =
     let ix = o.opener.tag in
     let a = label_at source tables old ix in
     let after = trees_from source tables old (sibling_of old ix) in
     let next = rest.next in
     let behind = trees_from source tables old (sibling_of old closer) in
-    let opened = opens_numbered source tables old ix at.ready in
+    let opened = opens_numbered at.ready in
     let is : trees a (first_trees (length (inside_numbers o)) after)
     ≡ without_numbers what = ap (trees a) at.around.inside_is ∙ reads in
-    let put_there = over_trees source ix closer (inside_numbers o) trees goes_on standing rest old new tables tables' a
-    (trees_from source tables old (child_of old ix)) after at.ready opened.trees
+    let put_there = over_trees at.ready opened.trees
     (subst IsQuiet (sym is) (quiet_tagged (λ n. tt) what quiet)) over many in
     let so : PutsTrees source ix next (without_numbers what) (past_byte goes_on behind) old new tables tables' =
     subst (λ (f : Forest Plain). PutsTrees source ix next (without_numbers what) (past_byte goes_on f) old new tables
-    tables')
-    at.around.behind_is
-    (subst (λ (f : Forest Plain). PutsTrees source ix next f
-    (past_byte goes_on (trees_past (suc (length (inside_numbers o))) after)) old
-    new tables tables') is put_there) in
-    let b = puts_behind source first ix next before (without_numbers what) (past_byte goes_on behind) old new tables
-    tables' stands so in
+    tables') at.around.behind_is (subst (λ (f : Forest Plain). PutsTrees source ix next f
+    (past_byte goes_on (trees_past (suc (length (inside_numbers o))) after)) old new tables tables') is put_there) in
+    let b = puts_behind stands so in
     record {
       changes = b.changes;
       left_then = all_done b.standing before;
       stands = b.stands;
       puts = λ p e. without_done b.standing before ∙ ap (λ (f : Forest Plain). all_done f (left_without_numbers before))
-          b.reads
-          ∙ sym (without_done what before)
-          ∙ ap left_without_numbers (sym (puts.left_is p e));
+          b.reads ∙ sym (without_done what before) ∙ ap left_without_numbers (sym (puts.left_is p e));
       brackets = λ p e. brackets_done b.standing before ∙ sym (brackets_done what before)
           ∙ ap brackets_of (sym (puts.left_is p e));
       wikilinks = λ p e. wikilinks_done b.standing before ∙ sym (wikilinks_done what before)
           ∙ ap wikilinks_of (sym (puts.left_is p e));
       rest_is = λ p e. b.rest_is ∙ ap (λ (g : Option ℕ). past g behind) (sym (puts.goes p));
       passes = passes_past source tables tables' old new closer goes_on rest
-          (stands_ready source tables old (Some closer) at.ready_closer) over.past b.rest_is;
+          (stands_ready at.ready_closer) over.past b.rest_is;
       holds = λ kind learned. holds_past kind learned old new closer (Some goes_on) next
-          (chain_at old closer (chain_leads source tables old (Some closer) at.ready_closer)).later over.leads;
+          (chain_at old closer (chain_leads at.ready_closer)).later over.leads;
     }

@@ -1,20 +1,19 @@
 -- A link or an image, put in the place of its opener: what can be put there, and what it reads as.
-use Rattle.std.proofs.Common.{◌≡◌, ℕ, ◌<◌, ◌≤◌, Bool, true, false, List, [], ◌∷◌, length, Some, None, refl, sym, ap}
-use Rattle.std.proofs.Common.{subst, arith}
-use Rattle.std.proofs.Common.{if◌then◌else◌}
+use Rattle.std.proofs.Common.{◌≡◌, ℕ, ◌≤◌, Bool, true, false, List, [], ◌∷◌, length, Some, None, refl, sym, ap, subst}
+use Rattle.std.proofs.Common.{arith, if◌then◌else◌}
 use Rattle.std.specs.Prelude.{IsCharBoundary}
 use Rattle.markdown_base.specs.BlockTree.{item_at}
 use Rattle.markdown_base.specs.Event.{LinkView, image, link, link_view}
-use Rattle.markdown_base.specs.Forest.{Forest, nil, node}
+use Rattle.markdown_base.specs.Forest.{nil, node}
 use Rattle.markdown_base.specs.declared.index.LinkIndex.{LinkIndex}
 use Rattle.markdown_base.specs.declared.item.Item.{Item}
 use Rattle.markdown_base.specs.declared.item.ItemBody.{ItemBody}
 use Rattle.markdown_base.specs.declared.item.ItemBody.TheVariants as body
 use Rattle.markdown_base.specs.declared.node.Node.{Node}
-use Rattle.markdown_brackets.specs.BracketDecision.{Around, Becomes, Closing, a_footnote, a_link, a_text, a_wikilink}
+use Rattle.markdown_brackets.specs.BracketDecision.{Around, Becomes, Closing, a_link}
 use Rattle.markdown_brackets.specs.ClosingBracket.{linked}
 use Rattle.markdown_brackets.specs.DecisionView.{IsBecome, opener_of}
-use Rattle.markdown_brackets.specs.LeftList.{Entry, Split, before_link, inside}
+use Rattle.markdown_brackets.specs.LeftList.{Entry, Split, inside}
 use Rattle.markdown_brackets.specs.LookupView.{target_view}
 use Rattle.markdown_brackets.specs.TargetOrigins.{IsTargetFrom}
 use Rattle.markdown_brackets.specs.declared.closing_bracket.ClosedBracket.TheVariants.{Link}
@@ -25,17 +24,13 @@ use Rattle.markdown_document.specs.Document.{Label, Plain, enclosed, label_of}
 use Rattle.markdown_document.specs.LinkOrigins.{IsLinkFrom, IsTitleFrom, LinkOrigins, destination_origin}
 use Rattle.markdown_document.specs.Origins.{made, origin_of}
 use Rattle.markdown_document.specs.Tables.{Tables, link_at, link_origins, tables_of}
-use Rattle.markdown_document.specs.NamedEntries.{Named, number_of, size_for, some_alignments, some_link, some_text}
-use Rattle.markdown_document.specs.NamedEntries.{times_named}
 use Rattle.markdown_resolver.specs.declared.rest.Rest.{Rest}
 use Rattle.markdown_resolver.specs.ClosedOver.{CanClose, CanPutOver, PutsOver, over_inside}
 use Rattle.markdown_resolver.specs.Closes.{ClosesAt, PutsClosed}
 use Rattle.markdown_resolver.specs.PutsTrees.{numbered_label, without_numbers}
-use Rattle.markdown_resolver.specs.Rewritten.{CanPut}
+use Rattle.markdown_resolver.proofs.MarkupItemLemmas.{can_put_link, link_over, PutsLink, link_put}
 use Rattle.markdown_resolver.proofs.CloseLemmas.{OpenerAt, can_close, opener_at, opener_before, puts_closed}
 use Rattle.markdown_resolver.proofs.CloseLemmas.{quiet_inside}
-use Rattle.markdown_resolver.proofs.CodeSpanLemmas.{same_below}
-use Rattle.markdown_resolver.proofs.MarkupItemLemmas.{PutsLink, link_put}
 use Rattle.markdown_resolver.proofs.SplitLemmas.{inside_numbers, opens_numbered}
 use Rattle.markdown_resolver.proofs.StandsToLemmas.{link_stands}
 use Rattle.markdown_defs.specs.Allocations.{Allocated, LinkParts}
@@ -50,87 +45,36 @@ pub record BecomesLink (text : List ℕ) (becomes : Becomes ℕ) (opener : Opene
     pub from : IsTargetFrom text (start_of split.opener) end found
 
 pub becomes_link : (w : Around) (becomes : Becomes ℕ) (opener : Opener) (found : Target) (end next : ℕ)
-    → IsBecome w becomes (Link opener found end next)
-    → BecomesLink w.setting.text becomes opener found end next
-becomes_link w a_text opener found end next h = absurd h
+    → IsBecome w becomes (Link opener found end next) → BecomesLink w.setting.text becomes opener found end next
 becomes_link w (a_link o target e n) opener found end next h = record {
   split = o;
   is = rw (h.1, h.2, h.3) refl;
   opener_is = h.0;
   from = rw h.2 h.4;
 }
-becomes_link w (a_footnote o name) opener found end next h = absurd h
-becomes_link w (a_wikilink o v e) opener found end next h = absurd h
+becomes_link w other opener found end next h = absurd h
 
--- a link or an image with an entry and a range
-abbrev pub link_over : (is_image : Bool) → LinkIndex → (start end : ℕ) → Item
-link_over is_image number start end = record
-    { start = start; end = end; body = if is_image then body.Image number else body.Link number }
-
--- from an opener on
+-- a link or an image from an opener on
 abbrev pub link_from : List (Node Item) → Opener → LinkIndex → (end : ℕ) → Item
 link_from nodes opener number end = link_over opener.is_image number (item_at nodes opener.node).start end
 
--- an item with a range; and the one that is made of the start of an opener's item and of a link's body
+-- an item with a range
 abbrev pub item_over : (start end : ℕ) → ItemBody → Item
 item_over start end b = record { start = start; end = end; body = b }
 
-pub link_item : (nodes : List (Node Item)) (opener : Opener) (number : LinkIndex) (end : ℕ) (begin : Item)
-    (b : ItemBody)
-    → begin ≡ item_at nodes opener.node → b ≡ (if opener.is_image then body.Image number else body.Link number)
-    → item_over begin.start end b ≡ link_from nodes opener number end
-link_item nodes opener number end begin b begins is = rw (begins, is) refl
-
 -- its destination may have been made, unless it is an autolink or a wikilink
 made_link : (source : List ℕ) (start end : ℕ) (origins : LinkOrigins) (view : LinkView) → destination_origin view.kind
-    ≡ made
-    → IsTitleFrom source start end view.kind origins.title view.title → IsLinkFrom source start end origins view
+    ≡ made → IsTitleFrom source start end view.kind origins.title view.title → IsLinkFrom source start end origins view
 made_link source start end origins view other title = record { leads = λ slice. cc (other, slice); title = title }
 
--- it can be put in place, where it lies in the text
-pub can_put_link : (source : List ℕ) (tables tables' : Tables) (is_image : Bool) (number : LinkIndex) (view : LinkView)
-    (start end : ℕ)
-    → PutsLink source start end tables tables' number view
-    → start ≤ end → IsCharBoundary source start → IsCharBoundary source end
-    → CanPut source tables tables' (link_over is_image number start end)
-can_put_link source tables tables' true number view start end put ordered from to = record {
-  closed = refl;
-  no_block = refl;
-  lies = record { ordered = ordered; start = from; end = to };
-  named = record { text = tt; link = put.within; alignments = tt; attributes = tt };
-  slices = put.slices;
-  new_names = by_image;
-}
-  where
-    by_image : (n : Named) → number_of n < size_for tables n → times_named n (body.Image number) ≡ 0
-    by_image (some_text n) h = refl
-    by_image (some_link n) h = same_below n number.0 (omega (arith, h, put.number))
-    by_image (some_alignments n) h = refl
-can_put_link source tables tables' false number view start end put ordered from to = record {
-  closed = refl;
-  no_block = refl;
-  lies = record { ordered = ordered; start = from; end = to };
-  named = record { text = tt; link = put.within; alignments = tt; attributes = tt };
-  slices = put.slices;
-  new_names = by_link;
-}
-  where
-    by_link : (n : Named) → number_of n < size_for tables n → times_named n (body.Link number) ≡ 0
-    by_link (some_text n) h = refl
-    by_link (some_link n) h = same_below n number.0 (omega (arith, h, put.number))
-    by_link (some_alignments n) h = refl
-
--- and reads as its entry
+-- a link reads as its entry
 link_label : (source : List ℕ) (tables : Tables) (tag : ℕ) (is_image : Bool) (number : LinkIndex) (view : LinkView)
-    (start start' end : ℕ)
-    → start ≡ start' → link_at tables.links number.0 ≡ view
-    → label_of source tables (link_over is_image number start end)
-    ≡ record {
+    (start start' end : ℕ) → start ≡ start' → link_at tables.links number.0 ≡ view
+    → label_of source tables (link_over is_image number start end) ≡ record {
       tag = tt;
       part = record {
         shape = enclosed (if is_image then image view else link view);
-        range =
-            record { start = start'; end = end };
+        range = record { start = start'; end = end };
         block = None;
       };
     }
@@ -138,118 +82,84 @@ link_label source tables tag true number view start start' end e found = rw (e, 
 link_label source tables tag false number view start start' end e found = rw (e, found) refl
 
 pub linked_label : (source : List ℕ) (tables tables' : Tables) (nodes : List (Node Item)) (o : Split ℕ)
-    (number : LinkIndex)
-    (view : LinkView) (end : ℕ)
-    → o.opener ≡ numbered_label source tables nodes o.opener.tag
+    (number : LinkIndex) (view : LinkView) (end : ℕ) → o.opener ≡ numbered_label source tables nodes o.opener.tag
     → PutsLink source (item_at nodes o.opener.tag).start end tables tables' number view
     → label_of source tables' (link_from nodes (opener_of o) number end)
     ≡ record { tag = tt; part = (linked o view end).part }
 linked_label source tables tables' nodes o number view end is put =
     link_label source tables' o.opener.tag o.mark.is_image number view (item_at nodes o.opener.tag).start
-    (start_of o.opener) end
-    (sym (ap (λ (a : Label ℕ). start_of a) is)) put.found
+    (start_of o.opener) end (sym (ap (λ (a : Label ℕ). start_of a) is)) put.found
 
 -- a link that ends between characters, at the `]` or later
 pub link_over_opener : (source : List ℕ) (tables tables' : Tables) (nodes : List (Node Item)) (first closer : ℕ)
-    (o : Split ℕ)
-    (number : LinkIndex) (view : LinkView) (end byte : ℕ)
-    → OpenerAt source tables nodes first closer o
-    → PutsLink source (item_at nodes o.opener.tag).start end tables tables' number view
-    → IsCharBoundary source end
+    (o : Split ℕ) (number : LinkIndex) (view : LinkView) (end byte : ℕ) → OpenerAt source tables nodes first closer o
+    → PutsLink source (item_at nodes o.opener.tag).start end tables tables' number view → IsCharBoundary source end
     → (item_at nodes closer).end ≤ end → end ≤ byte
     → CanPutOver source tables tables' nodes o.opener.tag (link_from nodes (opener_of o) number end) byte
 link_over_opener source tables tables' nodes first closer o number view end byte at put between behind le =
-    let here = (opens_numbered source tables nodes o.opener.tag at.ready).placed.lies in
-    let last = (opens_numbered source tables nodes closer at.ready_closer).placed.lies in
-    let before = opener_before source tables nodes first closer o at in
+    let here = (opens_numbered at.ready).placed.lies in
+    let last = (opens_numbered at.ready_closer).placed.lies in
+    let before = opener_before at in
     let ordered = here.ordered in
     let ordered' = last.ordered in
     record {
       puts = can_put_link source tables tables' o.mark.is_image number view (item_at nodes o.opener.tag).start end put
-          (omega arith)
-          here.start between;
+          (omega arith) here.start between;
       starts = refl;
       ends = le;
     }
 
 -- it can be put in place of an opener, up to a byte offset, once its entry is in its table
 pub record MayLink (source : List ℕ) (tables tables' : Tables) (nodes : List (Node Item)) (closer : ℕ) (o : Split ℕ)
-    (opener : Opener)
-    (number : LinkIndex) (view : LinkView) (end byte : ℕ) (item : Item) : Type 0 where
+    (opener : Opener) (number : LinkIndex) (view : LinkView) (end byte : ℕ) (item : Item) : Type 0 where
   pub put : PutsLink source (item_at nodes o.opener.tag).start end tables tables' number view
   pub is : item ≡ link_from nodes opener number end
   pub close : CanClose source tables nodes opener.node closer (inside_numbers o) byte
   pub over : CanPutOver source tables tables' nodes opener.node item byte
 
 pub may_link : {source : List ℕ} {nodes : List (Node Item)} {first closer : ℕ} {left : List (Entry ℕ)} {w : Around}
-    {c : Closing ℕ}
-    {o : Split ℕ} {opener : Opener} {view : LinkView} {end byte : ℕ} (held held' : Allocated) (parts : LinkParts)
-    (number : LinkIndex)
-    (begin : Item) (b : ItemBody) → ClosesAt source (tables_of held) nodes first closer left w c
-    (a_link o view end byte)
+    {c : Closing ℕ} {o : Split ℕ} {opener : Opener} {view : LinkView} {end byte : ℕ} (held held' : Allocated)
+    (parts : LinkParts) (number : LinkIndex) (begin : Item) (b : ItemBody)
+    → ClosesAt source (tables_of held) nodes first closer left w c (a_link o view end byte)
     → opener ≡ opener_of o → IsTitleFrom source (start_of o.opener) end view.kind (origin_of parts.2) view.title
     → held' ≡ with_link held parts → number.0 ≡ length held.links → link_view parts ≡ view
     → begin ≡ item_at nodes opener.node → b ≡ (if opener.is_image then body.Image number else body.Link number)
     → MayLink source (tables_of held) (tables_of held') nodes closer o opener number view end byte
     (item_over begin.start end b)
 may_link {source} {nodes} {first} {closer} {left} {w} {c} {o} {opener} {view} {end} {byte} held held' parts number begin
-    b closes is
-    title put last same begins body_is =
+    b closes is title put last same begins body_is =
     let tables = tables_of held in
-    let tables' = tables_of held' in
-    let at = opener_at source tables nodes first closer left o closes.stands closes.splits in
-    let begins_there : start_of o.opener ≡ (item_at nodes o.opener.tag).start = ap (λ (a : Label ℕ). start_of a)
-    at.around.label_is in
-    let there = link_put source (item_at nodes o.opener.tag).start end held held' parts number view put last
-    (made_link source (item_at nodes o.opener.tag).start end (link_origins parts) view closes.ends.4
+    let at = opener_at closes.stands closes.splits in
+    let start = (item_at nodes o.opener.tag).start in
+    let begins_there : start_of o.opener ≡ start = ap (λ (a : Label ℕ). start_of a) at.around.label_is in
+    let there = link_put source start end held held' parts number view put last (made_link source start end
+    (link_origins parts) view closes.ends.4
     (subst (λ (start : ℕ). IsTitleFrom source start end view.kind (origin_of parts.2) view.title) begins_there title))
     same in
     let behind : (item_at nodes closer).end ≤ end = subst (λ (a : Label ℕ). end_of a ≤ end) closes.label_is
     closes.ends.2 in
-    let item : item_over begin.start end b ≡ link_from nodes opener number end = link_item nodes opener number end begin
-    b begins body_is in
-    record {
+    rw (begins, body_is, is) (record {
       put = there;
-      is = item;
-      close = rw is (can_close source tables nodes first closer left w c (a_link o view end byte) o byte closes at
-          closes.ends.0);
-      over = subst (λ (i : Item). CanPutOver source tables tables' nodes opener.node i byte) (sym item)
-          (subst (λ (x : Opener). CanPutOver source tables tables' nodes x.node (link_from nodes x number end) byte)
-          (sym is)
-          (link_over_opener source tables tables' nodes first closer o number view end byte at there closes.ends.1
-          behind closes.ends.3));
-    }
+      is = refl;
+      close = can_close closes at closes.ends.0;
+      over = link_over_opener source tables (tables_of held') nodes first closer o number view end byte at there
+          closes.ends.1 behind closes.ends.3;
+    })
 
 -- so it is in the left list
 pub link_closed : {source : List ℕ} {tables tables' : Tables} {old new : List (Node Item)} {first closer : ℕ}
-    {rest : Rest}
-    {left : List (Entry ℕ)} {w : Around} {c : Closing ℕ} {o : Split ℕ} {opener : Opener} {number : LinkIndex}
-    {view : LinkView}
-    {end byte : ℕ} {item : Item} → ClosesAt source tables old first closer left w c (a_link o view end byte) → opener
-    ≡ opener_of o
+    {rest : Rest} {left : List (Entry ℕ)} {w : Around} {c : Closing ℕ} {o : Split ℕ} {opener : Opener}
+    {number : LinkIndex} {view : LinkView} {end byte : ℕ} {item : Item}
+    → ClosesAt source tables old first closer left w c (a_link o view end byte) → opener ≡ opener_of o
     → MayLink source tables tables' old closer o opener number view end byte item
     → PutsOver source opener.node closer (inside_numbers o) (over_inside source tables' item) byte (opener.node ∷ [])
-    rest old new tables
+    rest old new tables tables' → PutsClosed source first closer rest left w c (a_link o view end byte) old new tables
     tables'
-    → PutsClosed source first closer rest left w c (a_link o view end byte) old new tables tables'
 link_closed {source} {tables} {tables'} {old} {new} {first} {closer} {rest} {left} {w} {c} {o} {opener} {number} {view}
-    {end} {byte} {item}
-    closes is r over =
-    let at = opener_at source tables old first closer left o closes.stands closes.splits in
-    let what : Forest (Label ℕ) = node (linked o view end) (inside o) nil in
-    let there = subst (λ (i : Item). PutsOver source opener.node closer (inside_numbers o)
-    (over_inside source tables' i) byte
-    (opener.node ∷ []) rest old new tables tables') r.is over in
-    let here = subst (λ (x : Opener). PutsOver source x.node closer (inside_numbers o)
-    (over_inside source tables' (link_from old x number end)) byte (x.node ∷ []) rest old new tables tables') is
-    there in
-    let reads = ap (λ (a : Plain). node a (without_numbers (inside o)) nil)
-    (linked_label source tables tables' old o number view end
-    at.around.label_is r.put) in
-    puts_closed source first closer rest left w c (a_link o view end byte) o old new tables tables'
-    (before_link o.mark.is_image o.before)
-    (over_inside source tables' (link_from old (opener_of o) number end)) what
-    byte (o.opener.tag ∷ []) closes at
+    {end} {byte} {item} closes is r over =
+    let at = opener_at closes.stands closes.splits in
+    puts_closed (node (linked o view end) (inside o) nil) closes at (rw (r.is, is) at over)
     (link_stands source tables old first (Some o.opener.tag) o.before at.stands o.mark.is_image)
-    (record { left_is = λ p e. refl; goes = λ p. refl }) reads
-    (refl, refl, quiet_inside left o closes.splits closes.stands.quiet, tt) (λ a i. refl) here
+    (record { left_is = λ p e. refl; goes = λ p. refl }) (ap (λ (a : Plain). node a (without_numbers (inside o)) nil)
+    (linked_label source tables tables' old o number view end at.around.label_is r.put))
+    (refl, refl, quiet_inside left o closes.splits closes.stands.quiet, tt) (λ a i. refl)

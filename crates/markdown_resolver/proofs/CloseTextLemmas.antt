@@ -1,5 +1,5 @@
 -- A `]` that is a Text, after a left list in an arena.
-use Rattle.std.proofs.Common.{◌≡◌, ℕ, Bool, false, List, Option, Some, None, refl, sym, ap, ◌∙◌, subst}
+use Rattle.std.proofs.Common.{◌≡◌, ℕ, Bool, false, List, Option, None, refl, sym, ap, ◌∙◌, subst}
 use Rattle.std.specs.Prelude.{is_some, slice_range}
 use Rattle.markdown_base.specs.Arena.{child_of, sibling_of}
 use Rattle.markdown_base.specs.BlockTree.{item_at}
@@ -8,7 +8,7 @@ use Rattle.markdown_base.specs.declared.item.Item.{Item}
 use Rattle.markdown_base.specs.declared.item.ItemBody.{ItemBody}
 use Rattle.markdown_base.specs.declared.item.ItemBody.TheVariants as body
 use Rattle.markdown_base.specs.declared.node.Node.{Node}
-use Rattle.markdown_brackets.specs.BracketDecision.{Around, Becomes, Closing, a_footnote, a_link, a_text, a_wikilink}
+use Rattle.markdown_brackets.specs.BracketDecision.{Around, Becomes, Closing, a_text}
 use Rattle.markdown_brackets.specs.DecisionView.{IsBecome}
 use Rattle.markdown_brackets.specs.LeftList.{Entry, all_done}
 use Rattle.markdown_brackets.specs.HeldOpeners.{brackets_of, wikilinks_of}
@@ -32,9 +32,7 @@ use Rattle.markdown_resolver.proofs.StandsToLemmas.{stands_rest}
 
 pub becomes_text : (w : Around) (becomes : Becomes ℕ) → IsBecome w becomes Text → becomes ≡ a_text
 becomes_text w a_text h = refl
-becomes_text w (a_link o target end next) h = absurd h
-becomes_text w (a_footnote o name) h = absurd h
-becomes_text w (a_wikilink o v end) h = absurd h
+becomes_text w other h = absurd h
 
 -- a `]` is settled as a Text
 closer_settled : (source : List ℕ) (tables : Tables) (nodes : List (Node Item)) (closer : ℕ) (could_be : Bool)
@@ -51,22 +49,19 @@ closer_settled source tables nodes closer could_be is =
 pub text_closed : (source : List ℕ) (tables : Tables) (old new : List (Node Item)) (first closer : ℕ) (rest : Rest)
     (left : List (Entry ℕ)) (w : Around) (c : Closing ℕ)
     → ClosesAt source tables old first closer left w c a_text → Puts source closer (settled source) None rest old new
-    tables tables
-    → PutsClosed source first closer rest left w c a_text old new tables tables
+    tables tables → PutsClosed source first closer rest left w c a_text old new tables tables
 text_closed source tables old new first closer rest left w c closes puts =
     let next = rest.next in
-    let ready = stands_rest source tables old first (Some closer) left closes.stands in
+    let ready = stands_rest closes.stands in
     let a = label_at source tables old closer in
     let behind = trees_from source tables old (sibling_of old closer) in
     let what : Forest (Label ℕ) = node (as_text w.setting.text c.label) nil nil in
     let is = closer_settled source tables old closer closes.closes.0 closes.closes.1 in
     let no_block : is_some a.part.block ≡ false = ap (λ (b : ItemBody). is_some (block_of b)) closes.closes.1 in
     let quiet : IsQuiet (node (as_text source a) nil nil) = (refl, no_block, tt, tt) in
-    let p = put_trees source closer (settled source) None rest old new tables tables ready puts
-    (subst IsQuiet (sym is) quiet) in
-    let b = puts_behind source first closer next left (node (as_text source a) nil nil) behind old new tables tables
-    closes.stands
-    (subst (λ (f : Forest Plain). PutsTrees source closer next f behind old new tables tables) is p) in
+    let p = put_trees ready puts (subst IsQuiet (sym is) quiet) in
+    let b = puts_behind
+    closes.stands (subst (λ (f : Forest Plain). PutsTrees source closer next f behind old new tables tables) is p) in
     let reads : node (as_text source a) nil nil ≡ without_numbers what =
     ap (λ (text : List ℕ). node (as_text text a) nil nil) (sym closes.text_is)
     ∙ ap (λ (l : Label ℕ). without_numbers (node (as_text w.setting.text l) nil nil)) (sym closes.label_is) in
@@ -75,8 +70,7 @@ text_closed source tables old new first closer rest left w c closes puts =
       left_then = all_done b.standing left;
       stands = b.stands;
       puts = λ q e. without_done b.standing left ∙ ap (λ (f : Forest Plain). all_done f (left_without_numbers left))
-          (b.reads ∙ reads)
-          ∙ ap (λ (l : List (Entry ℕ)). left_without_numbers (all_done what l)) (sym e);
+          (b.reads ∙ reads) ∙ ap (λ (l : List (Entry ℕ)). left_without_numbers (all_done what l)) (sym e);
       brackets = λ q e. brackets_done b.standing left ∙ ap brackets_of (sym e);
       wikilinks = λ q e. wikilinks_done b.standing left ∙ ap wikilinks_of (sym e);
       rest_is = λ q e. b.rest_is ∙ ap (λ (g : Option ℕ). past g behind) (sym e);

@@ -1,7 +1,6 @@
 -- A wikilink, put in the place of its opener: over a Text, or over what is inside from a byte offset on.
 use Rattle.std.proofs.Common.{◌≡◌, ℕ, zero, suc, ◌<◌, ◌≤◌, Bool, true, false, List, [], ◌∷◌, ◌++◌, length, max, Some}
-use Rattle.std.proofs.Common.{Bor, refl}
-use Rattle.std.proofs.Common.{sym, ap, ◌∙◌, subst, arith, if◌then◌else◌, nat_le}
+use Rattle.std.proofs.Common.{Bor, refl, sym, ap, ◌∙◌, subst, arith, if◌then◌else◌, nat_le}
 use Rattle.std.proofs.lemmas.Bool.Decides.{nat_tests}
 use Rattle.std.specs.Prelude.{IsCharBoundary}
 use Rattle.markdown_base.specs.Arena.{sibling_of}
@@ -15,24 +14,21 @@ use Rattle.markdown_base.specs.declared.item.ItemBody.{ItemBody}
 use Rattle.markdown_base.specs.declared.item.ItemBody.TheVariants as body
 use Rattle.markdown_base.specs.declared.node.Node.{Node}
 use Rattle.markdown_base.specs.declared.tag.LinkType.TheVariants as kind
-use Rattle.markdown_brackets.specs.BracketDecision.{Around, Becomes, Closing, Wikilink, a_footnote, a_link, a_text}
-use Rattle.markdown_brackets.specs.BracketDecision.{a_wikilink, past_second}
+use Rattle.markdown_brackets.specs.BracketDecision.{Around, Becomes, Closing, Wikilink, a_wikilink, past_second}
 use Rattle.markdown_brackets.specs.BracketDecision.{text_from}
 use Rattle.markdown_brackets.specs.ChainHeld.{link_to, numbers_of}
 use Rattle.markdown_brackets.specs.ClosingBracket.{linked, wikilink_target}
 use Rattle.markdown_brackets.specs.DecisionView.{IsBecome, first_shown, opener_of, shown_of, IsShownAfterPipe}
-use Rattle.markdown_brackets.specs.LeftList.{Entry, Split, before_wikilink, inside}
+use Rattle.markdown_brackets.specs.LeftList.{Entry, Split, inside}
 use Rattle.markdown_brackets.specs.declared.closing_bracket.ClosedBracket.TheVariants.{Wikilinked}
 use Rattle.markdown_brackets.specs.declared.openers.Opener.{Opener}
 use Rattle.markdown_brackets.specs.declared.wikilink_nodes.ShownNodes.{ShownNodes}
 use Rattle.markdown_brackets.specs.declared.wikilink_nodes.ShownNodes.TheVariants.{From, Over}
-use Rattle.markdown_document.specs.ChainRest.{begun_at, cut_shape, end_of, past_byte, start_of}
-use Rattle.markdown_document.specs.Document.{Label, Plain, Shape, backslash_break, enclosed, label_of, leaf, plain}
-use Rattle.markdown_document.specs.Document.{unresolved}
+use Rattle.markdown_document.specs.ChainRest.{begun_at, end_of, past_byte, start_of}
+use Rattle.markdown_document.specs.Document.{Label, Plain, label_of}
 use Rattle.markdown_document.specs.LinkOrigins.{IsLinkFrom, LinkOrigins}
 use Rattle.markdown_document.specs.Origins.{IsSliceWithin, origin_of, sliced}
 use Rattle.markdown_document.specs.Tables.{Tables, link_origins, tables_of}
-use Rattle.markdown_document.specs.Waiting.{is_quiet}
 use Rattle.markdown_defs.specs.Allocations.{Allocated, LinkParts}
 use Rattle.markdown_defs.specs.AllocationCalls.{with_link}
 use Rattle.markdown_resolver.specs.declared.rest.Rest.{Rest}
@@ -42,9 +38,11 @@ use Rattle.markdown_resolver.specs.Closes.{ClosesAt, FirstLies, NoneOpenAround, 
 use Rattle.markdown_resolver.specs.Kept.{IsQuiet}
 use Rattle.markdown_resolver.specs.PutsTrees.{numbered_from, numbered_label, without_numbers}
 use Rattle.markdown_resolver.specs.Rewritten.{CanPut, first_past}
-use Rattle.markdown_resolver.proofs.CloseFootnoteLemmas.{can_put_text, text_item_over, text_label}
+use Rattle.markdown_resolver.proofs.CodeSpanLemmas.{can_put_text, text_item_over}
+use Rattle.markdown_resolver.proofs.PassOneQuietLemmas.{later_quiet}
+use Rattle.markdown_resolver.proofs.CloseFootnoteLemmas.{text_label}
 use Rattle.markdown_resolver.proofs.CloseLemmas.{OpenerAt, can_close, none_open, opener_at, puts_closed, quiet_inside}
-use Rattle.markdown_resolver.proofs.CloseLinkLemmas.{item_over, link_from, link_item, link_over_opener, linked_label}
+use Rattle.markdown_resolver.proofs.CloseLinkLemmas.{item_over, link_from, link_over_opener, linked_label}
 use Rattle.markdown_resolver.proofs.MarkupItemLemmas.{PutsLink, link_put}
 use Rattle.markdown_resolver.proofs.PutsTreesLemmas.{first_joined, relabelled_first}
 use Rattle.markdown_resolver.proofs.SplitLemmas.{inside_numbers}
@@ -55,8 +53,7 @@ use Rattle.markdown_resolver.proofs.FollowersLemmas.{InOrder, opens_chain}
 
 -- what becomes a wikilink
 pub record IsWikilink (w : Around) (becomes : Becomes ℕ) (opener : Opener) (name : List ℕ) (has_pothole : Bool)
-    (shown : ShownNodes)
-    (end : ℕ) : Type 0 where
+    (shown : ShownNodes) (end : ℕ) : Type 0 where
   pub split : Split ℕ
   pub found : Wikilink ℕ
   pub is : becomes ≡ a_wikilink split found end
@@ -68,13 +65,8 @@ pub record IsWikilink (w : Around) (becomes : Becomes ℕ) (opener : Opener) (na
   pub piped : IsShownAfterPipe w.setting.text shown
 
 pub wikilink_is : (w : Around) (becomes : Becomes ℕ) (opener : Opener) (name : Bor (List ℕ)) (has_pothole : Bool)
-    (shown : ShownNodes)
-    (end : ℕ)
-    → IsBecome w becomes (Wikilinked opener name has_pothole shown end)
+    (shown : ShownNodes) (end : ℕ) → IsBecome w becomes (Wikilinked opener name has_pothole shown end)
     → IsWikilink w becomes opener name.now has_pothole shown end
-wikilink_is w a_text opener name has_pothole shown end h = absurd h
-wikilink_is w (a_link o target e next) opener name has_pothole shown end h = absurd h
-wikilink_is w (a_footnote o n) opener name has_pothole shown end h = absurd h
 wikilink_is w (a_wikilink o v e) opener name has_pothole shown end h = record {
   split = o;
   found = v;
@@ -86,6 +78,7 @@ wikilink_is w (a_wikilink o v e) opener name has_pothole shown end h = record {
   first_is = h.4;
   piped = h.6;
 }
+wikilink_is w other opener name has_pothole shown end h = absurd h
 
 -- what is left past a byte: without the numbers, and quiet
 without_past : (i : ℕ) (f : Forest (Label ℕ)) → past_byte i (without_numbers f) ≡ without_numbers (past_byte i f)
@@ -94,18 +87,10 @@ without_past i (node a below after) = by (nat_le (end_of a) i) (without_past i a
   where
     by : (b : Bool) → past_byte i (without_numbers after) ≡ without_numbers (past_byte i after)
         → (if b then past_byte i (without_numbers after) else node (begun_at i (record { tag = tt; part = a.part }))
-        (without_numbers below)
-        (without_numbers after))
+        (without_numbers below) (without_numbers after))
         ≡ without_numbers (if b then past_byte i after else node (begun_at i a) below after)
     by true e = e
     by false e = refl
-
-quiet_cut : (n : ℕ) (s : Shape) → is_quiet s ≡ true → is_quiet (cut_shape n s) ≡ true
-quiet_cut n (leaf e origins) h = h
-quiet_cut n (enclosed tag) h = h
-quiet_cut n plain h = h
-quiet_cut n backslash_break h = h
-quiet_cut n (unresolved b) h = h
 
 quiet_left : (i : ℕ) (f : Forest (Label ℕ)) → IsQuiet f → IsQuiet (past_byte i f)
 quiet_left i nil h = h
@@ -114,7 +99,7 @@ quiet_left i (node a below after) h = by (nat_le (end_of a) i) (quiet_left i aft
     by : (b : Bool) → IsQuiet (past_byte i after)
         → IsQuiet (if b then past_byte i after else node (begun_at i a) below after)
     by true later = later
-    by false later = (quiet_cut _ a.part.shape h.0, h.1, h.2, h.3)
+    by false later = (later_quiet _ a.part.shape h.0, h.1, h.2, h.3)
 
 quiet_second : (f : Forest (Label ℕ)) → IsQuiet f → IsQuiet (past_second f)
 quiet_second nil h = tt
@@ -134,8 +119,7 @@ inside_is source tables nodes first closer o at =
     let all = forest_at (links_of nodes) (sibling_of nodes o.opener.tag) in
     let is : inside o ≡ relabelled label (first_trees k all) =
     sym (first_joined (inside o) (numbered_from source tables nodes (Some closer)))
-    ∙ ap (first_trees k) (sym at.around.numbered)
-    ∙ sym (relabelled_first label k all) in
+    ∙ ap (first_trees k) (sym at.around.numbered) ∙ sym (relabelled_first label k all) in
     record {
       numbers = first_trees k all;
       is = is;
@@ -167,8 +151,7 @@ shown_at source tables nodes at first (node n under g) e = by (nat_le (item_at n
   where
     by : (b : Bool) → nat_le (item_at nodes n).end at ≡ b
         → (link_to (past_byte at (relabelled (numbered_label source tables nodes) g)) ≡ Some first
-        → ShownAt source tables nodes at first g)
-        → ShownAt source tables nodes at first (node n under g)
+        → ShownAt source tables nodes at first g) → ShownAt source tables nodes at first (node n under g)
     by true ends after =
         let left : link_to (past_byte at (relabelled (numbered_label source tables nodes) g))
         ≡ Some first = rw ends at e in
@@ -198,33 +181,6 @@ shown_at source tables nodes at first (node n under g) e = by (nat_le (item_at n
           first_is = rw ends refl;
         })
 
--- what can be put over the opener of a wikilink
-record CanWikilink (source : List ℕ) (tables tables' : Tables) (nodes : List (Node Item)) (closer : ℕ) (o : Split ℕ)
-    (opener : Opener)
-    (number : LinkIndex) (end : ℕ) : Type 0 where
-  pub close : CanClose source tables nodes opener.node closer (inside_numbers o) end
-  pub over : CanPutOver source tables tables' nodes opener.node (link_from nodes opener number end) end
-
-can_wikilink : (source : List ℕ) (tables tables' : Tables) (nodes : List (Node Item)) (first closer : ℕ)
-    (left : List (Entry ℕ))
-    (w : Around) (c : Closing ℕ) (o : Split ℕ) (opener : Opener)
-    (number : LinkIndex) (v : Wikilink ℕ) (end : ℕ) → ClosesAt source tables nodes first closer left w c
-    (a_wikilink o v end)
-    → opener ≡ opener_of o
-    → PutsLink source (item_at nodes o.opener.tag).start end tables tables' number (wikilink_target v)
-    → CanWikilink source tables tables' nodes closer o opener number end
-can_wikilink source tables tables' nodes first closer left w c o opener number v end closes is put =
-    let at = opener_at source tables nodes first closer left o closes.stands closes.splits in
-    let goes = closes.ends.0 in
-    let behind : (item_at nodes closer).end ≤ end = subst (λ (a : Label ℕ). end_of a ≤ end) closes.label_is goes.behind
-    in
-    rw is (record {
-      close = can_close source tables nodes first closer left w c (a_wikilink o v end) o end closes at goes;
-      over = link_over_opener source tables tables' nodes first closer o number (wikilink_target v) end end at put
-          goes.between behind
-          (omega arith);
-    })
-
 target_is : (has_pothole : Bool) (name : List ℕ) (v : Wikilink ℕ) → has_pothole ≡ v.has_pothole → name ≡ v.name
     → record { kind = kind.WikiLink has_pothole; destination = name; title = []; label = [] } ≡ wikilink_target v
 target_is has_pothole name v e e' = rw (e, e') refl
@@ -239,8 +195,7 @@ name_from source start end origins v is slice = record {
 
 -- which is after its opener
 name_after : (source : List ℕ) (tables : Tables) (nodes : List (Node Item)) (start low end : ℕ) (f : Forest (Label ℕ))
-    (g : Forest ℕ)
-    (after : List ℕ) (name : List ℕ) → f ≡ relabelled (numbered_label source tables nodes) g
+    (g : Forest ℕ) (after : List ℕ) (name : List ℕ) → f ≡ relabelled (numbered_label source tables nodes) g
     → InOrder nodes low (roots g ++ after)
     → start ≤ low → IsNamedIn source (past_second f) end name → IsSliceWithin source start end name
 name_after source tables nodes start low end f nil after name is order le h =
@@ -249,44 +204,37 @@ name_after source tables nodes start low end f (node b under nil) after name is 
     absurd (subst (λ (f : Forest (Label ℕ)). IsNamedIn source (past_second f) end name) is h)
 name_after source tables nodes start low end f (node b under (node n below later)) after name is order le h =
     slice_wider source (item_at nodes n).start end start end name (omega (arith, le, order.0, order.1, order.2.0))
-    (omega arith)
-    (subst (λ (f : Forest (Label ℕ)). IsNamedIn source (past_second f) end name) is h)
+    (omega arith) (subst (λ (f : Forest (Label ℕ)). IsNamedIn source (past_second f) end name) is h)
 
 name_in_range : (source : List ℕ) (tables : Tables) (nodes : List (Node Item)) (first closer : ℕ) (o : Split ℕ)
     (end : ℕ) (name : List ℕ)
     → OpenerAt source tables nodes first closer o → IsNamedIn source (past_second (inside o)) end name
     → IsSliceWithin source (item_at nodes o.opener.tag).start end name
 name_in_range source tables nodes first closer o end name at h =
-    let chain = opens_chain source tables nodes o.opener.tag at.ready in
+    let chain = opens_chain at.ready in
     let i = inside_is source tables nodes first closer o at in
     let behind = closer ∷ roots (forest_at (links_of nodes) (sibling_of nodes closer)) in
     let order : InOrder nodes (item_at nodes o.opener.tag).end (roots i.numbers ++ behind) =
     subst (λ (l : List ℕ). InOrder nodes (item_at nodes o.opener.tag).end (l ++ behind)) i.listed
     (subst (InOrder nodes (item_at nodes o.opener.tag).end) at.around.follows chain.ordered) in
     name_after source tables nodes (item_at nodes o.opener.tag).start (item_at nodes o.opener.tag).end end (inside o)
-    i.numbers behind name
-    i.is order chain.placed.lies.ordered h
+    i.numbers behind name i.is order chain.placed.lies.ordered h
 
 -- its opener is a node
 pub opener_there : {source : List ℕ} {tables : Tables} {nodes : List (Node Item)} {first closer : ℕ}
-    {left : List (Entry ℕ)} {w : Around}
-    {c : Closing ℕ} {becomes : Becomes ℕ} (opener : Opener) (name : Bor (List ℕ)) (has_pothole : Bool)
-    (shown : ShownNodes) (end : ℕ)
-    → ClosesAt source tables nodes first closer left w c becomes
-    → IsBecome w becomes (Wikilinked opener name has_pothole shown end)
-    → opener.node < length nodes
+    {left : List (Entry ℕ)} {w : Around} {c : Closing ℕ} {becomes : Becomes ℕ} (opener : Opener) (name : Bor (List ℕ))
+    (has_pothole : Bool) (shown : ShownNodes) (end : ℕ) → ClosesAt source tables nodes first closer left w c becomes
+    → IsBecome w becomes (Wikilinked opener name has_pothole shown end) → opener.node < length nodes
 opener_there {source} {tables} {nodes} {first} {closer} {left} {w} {c} {becomes} opener name has_pothole shown end
     closes h =
     let i = wikilink_is w becomes opener name has_pothole shown end h in
     let so = subst (ClosesAt source tables nodes first closer left w c) i.is closes in
-    rw i.opener_is (opener_at source tables nodes first closer left i.split so.stands so.splits).opener.within
+    rw i.opener_is (opener_at so.stands so.splits).opener.within
 
 -- what becomes a wikilink can be put in place, as an item, once its entry is in its table
 pub record MayShow (source : List ℕ) (tables tables' : Tables) (nodes : List (Node Item)) (first closer : ℕ)
-    (left : List (Entry ℕ))
-    (w : Around) (c : Closing ℕ) (becomes : Becomes ℕ) (opener : Opener) (shown : ShownNodes) (number : LinkIndex)
-    (end : ℕ)
-    (item : Item) : Type 0 where
+    (left : List (Entry ℕ)) (w : Around) (c : Closing ℕ) (becomes : Becomes ℕ) (opener : Opener) (shown : ShownNodes)
+    (number : LinkIndex) (end : ℕ) (item : Item) : Type 0 where
   pub split : Split ℕ
   pub found : Wikilink ℕ
   pub is : becomes ≡ a_wikilink split found end
@@ -301,53 +249,47 @@ pub record MayShow (source : List ℕ) (tables tables' : Tables) (nodes : List (
   pub piped : IsShownAfterPipe source shown
 
 pub may_show : {source : List ℕ} {nodes : List (Node Item)} {first closer : ℕ} {left : List (Entry ℕ)} {w : Around}
-    {c : Closing ℕ}
-    {becomes : Becomes ℕ} (held held' : Allocated) (opener : Opener) (name : Bor (List ℕ)) (has_pothole : Bool)
-    (shown : ShownNodes)
-    (end : ℕ) (link : LinkParts) (number : LinkIndex) (begin : Item) (b : ItemBody)
-    → ClosesAt source (tables_of held) nodes first closer left w c becomes
+    {c : Closing ℕ} {becomes : Becomes ℕ} (held held' : Allocated) (opener : Opener) (name : Bor (List ℕ))
+    (has_pothole : Bool) (shown : ShownNodes) (end : ℕ) (link : LinkParts) (number : LinkIndex) (begin : Item)
+    (b : ItemBody) → ClosesAt source (tables_of held) nodes first closer left w c becomes
     → IsBecome w becomes (Wikilinked opener name has_pothole shown end) → held' ≡ with_link held link → number.0
-    ≡ length held.links
-    → origin_of link.1 ≡ sliced → link_view link ≡ record {
+    ≡ length held.links → origin_of link.1 ≡ sliced → link_view link ≡ record {
       kind = kind.WikiLink has_pothole;
       destination = name.now;
       title = [];
-      label =
-          [];
+      label = [];
     } → begin ≡ item_at nodes opener.node → b ≡ (if opener.is_image then body.Image number else body.Link number)
     → MayShow source (tables_of held) (tables_of held') nodes first closer left w c becomes opener shown number end
     (item_over begin.start end b)
 may_show {source} {nodes} {first} {closer} {left} {w} {c} {becomes} held held' opener name has_pothole shown end link
-    number begin b closes
-    h put last origin view begins body_is =
+    number begin b closes h put last origin view begins body_is =
     let tables = tables_of held in
     let tables' = tables_of held' in
     let i = wikilink_is w becomes opener name has_pothole shown end h in
     let so = subst (ClosesAt source tables nodes first closer left w c) i.is closes in
     let start = (item_at nodes i.split.opener.tag).start in
-    let at = opener_at source tables nodes first closer left i.split so.stands so.splits in
+    let at = opener_at so.stands so.splits in
     let there = link_put source start end held held' link number (wikilink_target i.found) put last
     (name_from source start end (link_origins link) i.found origin
     (name_in_range source tables nodes first closer i.split end i.found.name at so.ends.2))
     (view ∙ target_is has_pothole name.now i.found i.pothole_is i.name_is) in
-    let can = can_wikilink source tables tables' nodes first closer left w c i.split opener number i.found end so
-    i.opener_is there in
-    let item : item_over begin.start end b ≡ link_from nodes opener number end = link_item nodes opener number end begin
-    b begins body_is in
-    record {
+    let goes = so.ends.0 in
+    let behind : (item_at nodes closer).end ≤ end = subst (λ (a : Label ℕ). end_of a ≤ end) so.label_is goes.behind in
+    rw (begins, body_is, i.opener_is) (record {
       split = i.split;
       found = i.found;
       is = i.is;
-      opener_is = i.opener_is;
+      opener_is = refl;
       closes = so;
       put = there;
-      item_is = item;
-      close = can.close;
-      over = subst (λ (i : Item). CanPutOver source tables tables' nodes opener.node i end) (sym item) can.over;
+      item_is = refl;
+      close = can_close so at goes;
+      over = link_over_opener source tables tables' nodes first closer i.split number (wikilink_target i.found) end end
+          at there goes.between behind (omega arith);
       shown_is = i.shown_is;
       first_is = i.first_is;
       piped = subst (λ (text : List ℕ). IsShownAfterPipe text shown) closes.text_is i.piped;
-    }
+    })
 
 -- its name, as a Text in the second node inside
 pub record CanName (source : List ℕ) (tables tables' : Tables) (w : Around) (o : Split ℕ) (v : Wikilink ℕ)
@@ -361,19 +303,16 @@ pub record CanName (source : List ℕ) (tables tables' : Tables) (w : Around) (o
     pub children_are : v.children ≡ node (text_from w label start end) nil nil
 
 first_text : (w : Around) (body children : Forest (Label ℕ)) (first start end : ℕ)
-    → shown_of w body (Over first start end) ≡ children
-    → link_to children ≡ Some first
+    → shown_of w body (Over first start end) ≡ children → link_to children ≡ Some first
     → (a : Label ℕ) × (below : Forest (Label ℕ)) × (after : Forest (Label ℕ)) × (body ≡ node a below after)
-    × (a.tag ≡ first)
-    × (children ≡ node (text_from w a start end) nil nil)
+    × (a.tag ≡ first) × (children ≡ node (text_from w a start end) nil nil)
 first_text w nil children first start end so e = cc (so, e)
 first_text w (node a below after) children first start end so e =
     let tag : Some a.tag ≡ Some first = ap link_to so ∙ e in
     (a, below, after, refl, (cc tag), sym so)
 
 second_numbers : (f : Forest (Label ℕ)) (a : Label ℕ) (below after : Forest (Label ℕ)) (first : ℕ) → past_second f
-    ≡ node a below after
-    → a.tag ≡ first
+    ≡ node a below after → a.tag ≡ first
     → (skipped : List ℕ) × (shown : List ℕ) × (roots (numbers_of f) ≡ skipped ++ first ∷ shown)
 second_numbers nil a below after first e tag = cc e
 second_numbers (node b under rest) a below after first e tag = (
@@ -382,92 +321,6 @@ second_numbers (node b under rest) a below after first e tag = (
   ap (λ (f : Forest (Label ℕ)). b.tag ∷ roots (numbers_of f)) e
       ∙ ap (λ (n : ℕ). b.tag ∷ n ∷ roots (numbers_of after)) tag,
 )
-
-can_name : (source : List ℕ) (tables tables' : Tables) (nodes : List (Node Item)) (first closer : ℕ)
-    (left : List (Entry ℕ))
-    (w : Around) (c : Closing ℕ) (o : Split ℕ) (v : Wikilink ℕ)
-    (end n from to : ℕ) → ClosesAt source tables nodes first closer left w c (a_wikilink o v end)
-    → shown_of w (past_second (inside o)) (Over n from to) ≡ v.children → link_to v.children ≡ Some n
-    → CanName source tables tables' w o v n from to
-can_name source tables tables' nodes first closer left w c o v end n from to closes so e =
-    let t = first_text w (past_second (inside o)) v.children n from to so e in
-    let parts = second_numbers (inside o) t.0 t.1 t.2 n t.3 t.4 in
-    let lies : FirstLies source (node (text_from w t.0 from to) nil nil) = subst (FirstLies source) t.5
-    closes.ends.1.lies in
-    record {
-      skipped = parts.0;
-      shown = parts.1;
-      parts = parts.2;
-      puts = can_put_text source tables tables' from to lies.0 lies.1 lies.2;
-      label = t.0;
-      children_are = t.5;
-    }
-
-pub named_over : {source : List ℕ} {tables tables' : Tables} {nodes : List (Node Item)} {first closer : ℕ}
-    {left : List (Entry ℕ)}
-    {w : Around} {c : Closing ℕ} {becomes : Becomes ℕ} {opener : Opener} {shown : ShownNodes} {number : LinkIndex}
-    {end : ℕ} {item : Item}
-    {n from to : ℕ} (r : MayShow source tables tables' nodes first closer left w c becomes opener shown number end item)
-    → shown ≡ Over n from to → CanName source tables tables' w r.split r.found n from to
-named_over {source} {tables} {tables'} {nodes} {first} {closer} {left} {w} {c} {end = end} {n = n} {from = from}
-    {to = to} r is =
-    can_name source tables tables' nodes first closer left w c r.split r.found end n from to r.closes
-    (subst (λ (s : ShownNodes). shown_of w (past_second (inside r.split)) s ≡ r.found.children) is r.shown_is)
-    (r.first_is
-    ∙ ap (λ (s : ShownNodes). Some (first_shown s)) is)
-
--- so the wikilink is in the left list
-by_name : (source : List ℕ) (tables tables' : Tables) (old new : List (Node Item)) (first closer : ℕ) (rest : Rest)
-    (left : List (Entry ℕ)) (w : Around) (c : Closing ℕ) (o : Split ℕ)
-    (opener : Opener) (number : LinkIndex) (v : Wikilink ℕ) (end n from to : ℕ)
-    → ClosesAt source tables old first closer left w c (a_wikilink o v end) → opener ≡ opener_of o
-    → PutsLink source (item_at old o.opener.tag).start end tables tables' number (wikilink_target v)
-    → CanName source tables tables' w o v n from to
-    → PutsOver source opener.node closer (inside_numbers o) (over_text source tables' (link_from old opener number end)
-    (text_item_over from to)) end (opener.node ∷ []) rest old new tables tables'
-    → PutsClosed source first closer rest left w c (a_wikilink o v end) old new tables tables'
-by_name source tables tables' old new first closer rest left w c o opener number v end n from to closes is put can over
-    =
-    let at = opener_at source tables old first closer left o closes.stands closes.splits in
-    let what : Forest (Label ℕ) = node (linked o (wikilink_target v) end) v.children nil in
-    let shows : node (label_of source tables' (text_item_over from to)) nil nil ≡ without_numbers v.children =
-    ap (λ (a : Plain). node a nil nil) (text_label source tables' w can.label from from to to refl refl closes.text_is)
-    ∙ ap without_numbers (sym can.children_are) in
-    let here = subst (λ (x : Opener). PutsOver source x.node closer (inside_numbers o)
-    (over_text source tables' (link_from old x number end) (text_item_over from to)) end (x.node ∷ []) rest old new
-    tables tables') is over in
-    let reads : node (label_of source tables' (link_from old (opener_of o) number end))
-    (node (label_of source tables' (text_item_over from to)) nil nil) nil ≡ without_numbers what =
-    ap (λ (a : Plain). node a (node (label_of source tables' (text_item_over from to)) nil nil) nil)
-    (linked_label source tables tables' old o number (wikilink_target v) end at.around.label_is put)
-    ∙ ap (λ (f : Forest Plain). node (record { tag = tt; part = (linked o (wikilink_target v) end).part }) f nil) shows
-    in
-    let quiet : IsQuiet v.children = subst IsQuiet (sym can.children_are) (refl, refl, tt, tt) in
-    puts_closed source first closer rest left w c (a_wikilink o v end) o old new tables tables'
-    (before_wikilink o.before)
-    (over_text source tables' (link_from old (opener_of o) number end) (text_item_over from to)) what
-    end (o.opener.tag ∷ []) closes at (wikilink_stands source tables old first (Some o.opener.tag) o.before at.stands)
-    (record { left_is = λ p e. refl; goes = λ p. refl }) reads
-    (refl, refl, quiet, tt) (λ a i. refl) here
-
-pub name_closed : {source : List ℕ} {tables tables' : Tables} {old new : List (Node Item)} {first closer : ℕ}
-    {rest : Rest}
-    {left : List (Entry ℕ)} {w : Around} {c : Closing ℕ} {becomes : Becomes ℕ} {opener : Opener} {shown : ShownNodes}
-    {number : LinkIndex}
-    {end : ℕ} {item inner : Item} {n from to : ℕ}
-    (r : MayShow source tables tables' old first closer left w c becomes opener shown number end item)
-    → CanName source tables tables' w r.split r.found n from to → inner ≡ text_item_over from to
-    → PutsOver source opener.node closer (inside_numbers r.split) (over_text source tables' item inner) end
-    (opener.node ∷ []) rest old new
-    tables tables'
-    → PutsClosed source first closer rest left w c becomes old new tables tables'
-name_closed {source} {tables} {tables'} {old} {new} {first} {closer} {rest} {left} {w} {c} {becomes} {opener} {shown}
-    {number} {end} {item}
-    {inner} {n} {from} {to} r can text over =
-    subst (λ (b : Becomes ℕ). PutsClosed source first closer rest left w c b old new tables tables') (sym r.is)
-    (by_name source tables tables' old new first closer rest left w c r.split opener number r.found end n from to
-    r.closes r.opener_is r.put
-    can (rw (text, r.item_is) at over))
 
 -- what is inside from a byte offset on
 pub record ShowsFrom (source : List ℕ) (nodes : List (Node Item)) (o : Split ℕ) (v : Wikilink ℕ) (n from : ℕ) : Type 0
@@ -489,16 +342,14 @@ begins_there source at a below after lies before =
     subst (IsCharBoundary source) same lies.1
 
 second_shows : (source : List ℕ) (tables : Tables) (nodes : List (Node Item)) (n from : ℕ)
-    (f children : Forest (Label ℕ)) (g : Forest ℕ)
-    → f ≡ relabelled (numbered_label source tables nodes) g
+    (f children : Forest (Label ℕ)) (g : Forest ℕ) → f ≡ relabelled (numbered_label source tables nodes) g
     → past_byte from (past_second f) ≡ children → link_to children ≡ Some n → FirstLies source children
     → NoneOpenAround from (past_second f) → follows_pipe source from ≡ true
     → (skipped : List ℕ) × CanShow source nodes (roots g) skipped n from
     × (past_byte from (trees_past (length skipped) f) ≡ children)
 second_shows source tables nodes n from f children nil is so e lies none_open_there piped =
     let none : link_to (past_byte from (past_second (relabelled (numbered_label source tables nodes) nil)))
-    ≡ Some n = ap (λ (x : Forest (Label ℕ)). link_to (past_byte from (past_second x))) (sym is)
-    ∙ ap link_to so ∙ e in
+    ≡ Some n = ap (λ (x : Forest (Label ℕ)). link_to (past_byte from (past_second x))) (sym is) ∙ ap link_to so ∙ e in
     cc none
 second_shows source tables nodes n from f children (node b under g) is so e lies none_open_there piped =
     let label = numbered_label source tables nodes in
@@ -506,8 +357,7 @@ second_shows source tables nodes n from f children (node b under g) is so e lies
     let left : past_byte from (relabelled label g) ≡ children = ap (past_byte from) (sym rest) ∙ so in
     let shown = shown_at source tables nodes from n g (ap link_to left ∙ e) in
     let here : FirstLies source (node (begun_at from (label n)) shown.below shown.after) = subst (FirstLies source)
-    (sym left
-    ∙ shown.begins) lies in (
+    (sym left ∙ shown.begins) lies in (
       b ∷ shown.skipped,
       record {
         shown = shown.shown;
@@ -527,87 +377,90 @@ without_trees zero f = refl
 without_trees (suc k) nil = refl
 without_trees (suc k) (node a below after) = without_trees k after
 
-shows_from_byte : (source : List ℕ) (tables : Tables) (nodes : List (Node Item)) (first closer : ℕ)
-    (left : List (Entry ℕ)) (w : Around)
-    (c : Closing ℕ) (o : Split ℕ) (v : Wikilink ℕ)
-    (end n from : ℕ) → ClosesAt source tables nodes first closer left w c (a_wikilink o v end)
-    → shown_of w (past_second (inside o)) (From n from) ≡ v.children → link_to v.children ≡ Some n
-    → follows_pipe source from ≡ true → ShowsFrom source nodes o v n from
-shows_from_byte source tables nodes first closer left w c o v end n from closes so e piped =
-    let at = opener_at source tables nodes first closer left o closes.stands closes.splits in
-    let i = inside_is source tables nodes first closer o at in
-    let is : past_byte from (past_second (inside o)) ≡ v.children = sym (is_past w (past_second (inside o)) n from)
-    ∙ so in
-    let well = closes.ends.1 in
-    let s = second_shows source tables nodes n from (inside o) v.children i.numbers i.is is e well.lies
-    (well.not_cut from is) piped in
-    let k = length s.0 in
-    record {
-      skipped = s.0;
-      can = subst (λ (l : List ℕ). CanShow source nodes l s.0 n from) (sym i.listed) s.1;
-      reads = ap (past_byte from) (without_trees k (inside o)) ∙ without_past from (trees_past k (inside o))
-          ∙ ap without_numbers s.2;
-      quiet = subst IsQuiet is (quiet_left from (past_second (inside o))
-          (quiet_second (inside o) (quiet_inside left o closes.splits closes.stands.quiet)));
-    }
-
-pub shows_over : {source : List ℕ} {tables tables' : Tables} {nodes : List (Node Item)} {first closer : ℕ}
-    {left : List (Entry ℕ)}
+module _ {source : List ℕ} {tables tables' : Tables} {old : List (Node Item)} {first closer : ℕ} {left : List (Entry ℕ)}
     {w : Around} {c : Closing ℕ} {becomes : Becomes ℕ} {opener : Opener} {shown : ShownNodes} {number : LinkIndex}
     {end : ℕ} {item : Item}
-    {n from : ℕ} (r : MayShow source tables tables' nodes first closer left w c becomes opener shown number end item)
-    → shown ≡ From n from → ShowsFrom source nodes r.split r.found n from
-shows_over {source} {tables} {tables'} {nodes} {first} {closer} {left} {w} {c} {end = end} {n = n} {from = from} r is =
-    shows_from_byte source tables nodes first closer left w c r.split r.found end n from r.closes
-    (subst (λ (s : ShownNodes). shown_of w (past_second (inside r.split)) s ≡ r.found.children) is r.shown_is)
-    (r.first_is
-    ∙ ap (λ (s : ShownNodes). Some (first_shown s)) is)
-    (subst (IsShownAfterPipe source) is r.piped)
+    (r : MayShow source tables tables' old first closer left w c becomes opener shown number end item) where
+  at_opener : OpenerAt source tables old first closer r.split
+  at_opener = opener_at r.closes.stands r.closes.splits
 
-by_shown : (source : List ℕ) (tables tables' : Tables) (old new : List (Node Item)) (first closer : ℕ) (rest : Rest)
-    (left : List (Entry ℕ)) (w : Around) (c : Closing ℕ) (o : Split ℕ)
-    (opener : Opener) (number : LinkIndex) (v : Wikilink ℕ) (end n from : ℕ)
-    → ClosesAt source tables old first closer left w c (a_wikilink o v end) → opener ≡ opener_of o
-    → PutsLink source (item_at old o.opener.tag).start end tables tables' number (wikilink_target v)
-    → (s : ShowsFrom source old o v n from)
-    → PutsOver source opener.node closer (inside_numbers o)
-    (over_shown source tables' (link_from old opener number end) (length s.skipped)
-    from) end (opener.node ∷ []) rest old new tables tables'
-    → PutsClosed source first closer rest left w c (a_wikilink o v end) old new tables tables'
-by_shown source tables tables' old new first closer rest left w c o opener number v end n from closes is put s over =
-    let at = opener_at source tables old first closer left o closes.stands closes.splits in
-    let what : Forest (Label ℕ) = node (linked o (wikilink_target v) end) v.children nil in
-    let here = subst (λ (x : Opener). PutsOver source x.node closer (inside_numbers o)
-    (over_shown source tables' (link_from old x number end) (length s.skipped) from) end (x.node ∷ []) rest old new
-    tables tables') is over in
-    let reads : node (label_of source tables' (link_from old (opener_of o) number end))
-    (past_byte from (trees_past (length s.skipped) (without_numbers (inside o)))) nil ≡ without_numbers what =
-    ap (λ (a : Plain). node a (past_byte from (trees_past (length s.skipped) (without_numbers (inside o)))) nil)
-    (linked_label source tables tables' old o number (wikilink_target v) end at.around.label_is put)
-    ∙ ap (λ (f : Forest Plain). node (record { tag = tt; part = (linked o (wikilink_target v) end).part }) f nil)
-    s.reads in
-    puts_closed source first closer rest left w c (a_wikilink o v end) o old new tables tables'
-    (before_wikilink o.before)
-    (over_shown source tables' (link_from old (opener_of o) number end) (length s.skipped) from) what
-    end (o.opener.tag ∷ []) closes at (wikilink_stands source tables old first (Some o.opener.tag) o.before at.stands)
-    (record { left_is = λ p e. refl; goes = λ p. refl }) reads
-    (refl, refl, s.quiet, tt) (λ a i. refl) here
+  -- what it shows, by the form in which that was decided
+  shown_as : {s : ShownNodes} → shown ≡ s → (shown_of w (past_second (inside r.split)) s ≡ r.found.children)
+      × (link_to r.found.children ≡ Some (first_shown s))
+  shown_as {s} is = (
+    subst (λ (s : ShownNodes). shown_of w (past_second (inside r.split)) s ≡ r.found.children) is r.shown_is,
+    r.first_is ∙ ap (λ (s : ShownNodes). Some (first_shown s)) is,
+  )
 
-pub shown_closed : {source : List ℕ} {tables tables' : Tables} {old new : List (Node Item)} {first closer : ℕ}
-    {rest : Rest}
-    {left : List (Entry ℕ)} {w : Around} {c : Closing ℕ} {becomes : Becomes ℕ} {opener : Opener} {shown : ShownNodes}
-    {number : LinkIndex}
-    {end : ℕ} {item : Item} {n from : ℕ}
-    (r : MayShow source tables tables' old first closer left w c becomes opener shown number end item)
-    (s : ShowsFrom source old r.split r.found n from)
-    → PutsOver source opener.node closer (inside_numbers r.split)
-    (over_shown source tables' item (length s.skipped) from) end
-    (opener.node ∷ []) rest old new tables tables'
-    → PutsClosed source first closer rest left w c becomes old new tables tables'
-shown_closed {source} {tables} {tables'} {old} {new} {first} {closer} {rest} {left} {w} {c} {becomes} {opener} {shown}
-    {number} {end} {item}
-    {n} {from} r s over =
-    subst (λ (b : Becomes ℕ). PutsClosed source first closer rest left w c b old new tables tables') (sym r.is)
-    (by_shown source tables tables' old new first closer rest left w c r.split opener number r.found end n from r.closes
-    r.opener_is r.put
-    s (rw r.item_is at over))
+  pub named_over : {n from to : ℕ} → shown ≡ Over n from to → CanName source tables tables' w r.split r.found n from to
+  named_over {n} {from} {to} is =
+      let so = shown_as is in
+      let t = first_text w (past_second (inside r.split)) r.found.children n from to so.0 so.1 in
+      let parts = second_numbers (inside r.split) t.0 t.1 t.2 n t.3 t.4 in
+      let lies : FirstLies source (node (text_from w t.0 from to) nil nil) = subst (FirstLies source) t.5
+      r.closes.ends.1.lies in
+      record {
+        skipped = parts.0;
+        shown = parts.1;
+        parts = parts.2;
+        puts = can_put_text source tables tables' from to lies.0 lies.1 lies.2;
+        label = t.0;
+        children_are = t.5;
+      }
+
+  pub shows_over : {n from : ℕ} → shown ≡ From n from → ShowsFrom source old r.split r.found n from
+  shows_over {n} {from} s_is =
+      let so = shown_as s_is in
+      let i = inside_is source tables old first closer r.split at_opener in
+      let is : past_byte from (past_second (inside r.split)) ≡ r.found.children =
+      sym (is_past w (past_second (inside r.split)) n from) ∙ so.0 in
+      let well = r.closes.ends.1 in
+      let s = second_shows source tables old n from (inside r.split) r.found.children i.numbers i.is is so.1 well.lies
+      (well.not_cut from is) (subst (IsShownAfterPipe source) s_is r.piped) in
+      let k = length s.0 in
+      record {
+        skipped = s.0;
+        can = subst (λ (l : List ℕ). CanShow source old l s.0 n from) (sym i.listed) s.1;
+        reads = ap (past_byte from) (without_trees k (inside r.split)) ∙ without_past from (trees_past k
+            (inside r.split)) ∙ ap without_numbers s.2;
+        quiet = subst IsQuiet is (quiet_left from (past_second (inside r.split)) (quiet_second (inside r.split)
+            (quiet_inside left r.split r.closes.splits r.closes.stands.quiet)));
+      }
+
+  -- so the wikilink is in the left list
+  wikilink_closed : {new : List (Node Item)} {rest : Rest} (shows : Forest Plain → Forest Plain)
+      → shows (without_numbers (inside r.split)) ≡ without_numbers r.found.children → IsQuiet r.found.children
+      → PutsOver source opener.node closer (inside_numbers r.split)
+      (λ a inside. node (label_of source tables' item) (shows inside) nil) end (opener.node ∷ []) rest old new tables
+      tables' → PutsClosed source first closer rest left w c becomes old new tables tables'
+  wikilink_closed {new} {rest} shows reads quiet over =
+      let o = r.split in
+      let v = r.found in
+      let target = wikilink_target v in
+      rw r.is (puts_closed (node (linked o target end) v.children nil) r.closes at_opener
+      (rw (r.item_is, r.opener_is) at over)
+      (wikilink_stands source tables old first (Some o.opener.tag) o.before at_opener.stands)
+      (record { left_is = λ p e. refl; goes = λ p. refl })
+      (ap (λ (a : Plain). node a (shows (without_numbers (inside o))) nil)
+      (linked_label source tables tables' old o number target end at_opener.around.label_is r.put)
+      ∙ ap (λ (f : Forest Plain). node (record { tag = tt; part = (linked o target end).part }) f nil) reads)
+      (refl, refl, quiet, tt) (λ a i. refl))
+
+  pub name_closed : {inner : Item} {n from to : ℕ} {new : List (Node Item)} {rest : Rest}
+      → CanName source tables tables' w r.split r.found n from to → inner ≡ text_item_over from to
+      → PutsOver source opener.node closer (inside_numbers r.split) (over_text source tables' item inner) end
+      (opener.node ∷ []) rest old new tables tables'
+      → PutsClosed source first closer rest left w c becomes old new tables tables'
+  name_closed {inner} {n} {from} {to} can text over =
+      wikilink_closed (λ f. node (label_of source tables' (text_item_over from to)) nil nil)
+      (ap (λ (a : Plain). node a nil nil)
+      (text_label source tables' w can.label from from to to refl refl r.closes.text_is)
+      ∙ ap without_numbers (sym can.children_are)) (subst IsQuiet (sym can.children_are) (refl, refl, tt, tt))
+      (rw text at over)
+
+  pub shown_closed : {n from : ℕ} {new : List (Node Item)} {rest : Rest}
+      (s : ShowsFrom source old r.split r.found n from) → PutsOver source opener.node closer (inside_numbers r.split)
+      (over_shown source tables' item (length s.skipped) from) end (opener.node ∷ []) rest old new tables tables'
+      → PutsClosed source first closer rest left w c becomes old new tables tables'
+  shown_closed {n} {from} s over =
+      wikilink_closed (λ f. past_byte from (trees_past (length s.skipped) f)) s.reads s.quiet over

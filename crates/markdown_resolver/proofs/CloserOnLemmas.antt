@@ -8,9 +8,7 @@ use Rattle.markdown_base.specs.Arena.{child_of, sibling_of}
 use Rattle.markdown_base.specs.BlockTree.{item_at}
 use Rattle.markdown_base.specs.Forest.{Forest}
 use Rattle.markdown_base.specs.Questions.{Question, Answer, Answers}
-use Rattle.markdown_base.specs.declared.item.ItemBody.{ItemBody}
-use Rattle.markdown_brackets.specs.BracketDecision.{Around, Becomes, Closing, Decision, Progress, a_footnote, a_link}
-use Rattle.markdown_brackets.specs.BracketDecision.{a_text, a_wikilink}
+use Rattle.markdown_brackets.specs.BracketDecision.{Around, Becomes, Closing, Decision, Progress, a_text}
 use Rattle.markdown_brackets.specs.BracketTags.{retag_progress}
 use Rattle.markdown_brackets.specs.ClosingBracket.{closed, put, put_decided}
 use Rattle.markdown_brackets.specs.Decides.{Decides}
@@ -22,20 +20,21 @@ use Rattle.markdown_brackets.specs.declared.closing_bracket.ClosedBracket.{Close
 use Rattle.markdown_brackets.specs.declared.spent_ends.SpentEnds.{SpentEnds}
 use Rattle.markdown_brackets.proofs.BracketTagLemmas.{closing_retag}
 use Rattle.markdown_document.specs.Above.{Above}
-use Rattle.markdown_document.specs.ChainRest.{end_of, open_body, past}
-use Rattle.markdown_document.specs.Document.{Plain, plain_tags, shape_of}
+use Rattle.markdown_document.specs.ChainRest.{end_of, past}
+use Rattle.markdown_document.specs.Document.{Plain, plain_tags}
 use Rattle.markdown_document.specs.Places.{label_at, trees_from}
 use Rattle.markdown_document.specs.Setting.{Setting}
 use Rattle.markdown_document.specs.Stages.{Stage, chain_at, known_at}
-use Rattle.markdown_document.proofs.PlaceLemmas.{shape-open}
+use Rattle.markdown_base.specs.Item.{is_open}
 use Rattle.markdown_resolver.specs.declared.rest.Rest.{Rest}
 use Rattle.markdown_resolver.specs.Closes.{PutsClosed, closing_at}
 use Rattle.markdown_resolver.specs.PassOne.{around}
 use Rattle.markdown_resolver.specs.ReadOn.{AreSpent, ReadsOn, StandsTo, StopsOn, all_read, at_left}
 use Rattle.markdown_resolver.specs.ReadOn.{left_without_numbers}
+use Rattle.markdown_resolver.proofs.PutsTreesLemmas.{plain_from}
+use Rattle.markdown_resolver.proofs.SpanFindLemmas.{body_open}
 use Rattle.markdown_resolver.proofs.FollowersLemmas.{opens_chain}
 use Rattle.markdown_resolver.proofs.PassOneLemmas.{reads_closer}
-use Rattle.markdown_resolver.proofs.ReadOnLemmas.{trees_unnumbered}
 use Rattle.markdown_resolver.proofs.StandsToLemmas.{stands_rest}
 use Rattle.markdown_resolver.proofs.StopsLemmas.{all_asks}
 
@@ -43,9 +42,7 @@ use Rattle.markdown_resolver.proofs.StopsLemmas.{all_asks}
 put_keeps : {A : Type 0} (w : Around) (c : Closing A) (becomes : Becomes A) (p : Progress A)
     → put w c becomes p ≡ record p { left = (put w c becomes p).left; goes_on = (put w c becomes p).goes_on }
 put_keeps w c a_text p = refl
-put_keeps w c (a_link o target end next) p = refl
-put_keeps w c (a_footnote o name) p = refl
-put_keeps w c (a_wikilink o found end) p = refl
+put_keeps w c other p = refl
 
 -- two stacks hold the openers of the left list in which that was put
 pub record HoldsPut (w : Around) (c : Closing ℕ) (becomes : Becomes ℕ) (left : List (Entry ℕ))
@@ -63,8 +60,7 @@ module _ {C : Type 0} (step : C → Question → Option Answer → C → Type 0)
   -- it was decided what becomes of it
   abbrev pub IsDecided : Type 0
   IsDecided = Decides step (around s above) the_closing left old.limit new.limit old.uses new.uses spent spent'
-      old.callback new.callback
-      brackets wikilinks found
+      old.callback new.callback brackets wikilinks found
 
   -- how far the chain was read by numbers, before that and after it
   abbrev numbered : (p : Progress (Unit {0})) → Answers → Progress ℕ
@@ -73,8 +69,7 @@ module _ {C : Type 0} (step : C → Question → Option Answer → C → Type 0)
     goes_on = None;
     spent = p.spent;
     asked = p.asked;
-    known = known_at old
-        answers;
+    known = known_at old answers;
     made = p.made;
   }
 
@@ -88,37 +83,35 @@ module _ {C : Type 0} (step : C → Question → Option Answer → C → Type 0)
     made = p.made;
   }
 
+  abbrev read_to : IsDecided → Progress (Unit {0}) → Answers → List (Entry (Unit {0})) → Progress (Unit {0})
+  read_to d p later trees = record p {
+    left = trees;
+    goes_on = None;
+    spent = d.more ++ p.spent;
+    asked = p.asked ++ d.questions;
+    known = known_at new later;
+  }
+
   -- a `]` is closed as it was decided
-  closed_is : (d : IsDecided)
-      → (p : Progress (Unit {0})) (later : Answers)
+  closed_is : (d : IsDecided) → (p : Progress (Unit {0})) (later : Answers)
       → closed (around s above) the_closing (numbered p (d.answers ++ later))
-      ≡ put (around s above) the_closing d.becomes
-      (after_decision d p later)
+      ≡ put (around s above) the_closing d.becomes (after_decision d p later)
   unfolding closed
   closed_is d p later = ap (λ (x : Decision ℕ). put_decided (around s above) the_closing x)
-      (d.decides (numbered p (d.answers ++ later))
-      later)
+      (d.decides (numbered p (d.answers ++ later)) later)
 
   -- so the chain from it on is read: from what was put on
   closer_reads : (d : IsDecided)
       → StandsTo s.text old.tables old.nodes first (Some ix) left → (item_at old.nodes ix).body
-      ≡ body.MaybeLinkClose could_be
-      → (p : Progress (Unit {0})) (later : Answers) → AreSpent spent p.spent
+      ≡ body.MaybeLinkClose could_be → (p : Progress (Unit {0})) (later : Answers) → AreSpent spent p.spent
       → all_read s above (chain_at s.text old (Some ix)) (at_left left old (d.answers ++ later) p)
       ≡ (let r : Progress ℕ = put (around s above) the_closing d.becomes (after_decision d p later) in
       all_read s above (past r.goes_on (trees_from s.text old.tables old.nodes (sibling_of old.nodes ix)))
-      (record p {
-        left = left_without_numbers r.left;
-        goes_on = None;
-        spent = d.more ++ p.spent;
-        asked = p.asked
-            ++ d.questions;
-        known = known_at new later;
-      }))
+      (read_to d p later (left_without_numbers r.left)))
   closer_reads d stands is p later are =
       let w = around s above in
       let c = the_closing in
-      let ready = stands_rest s.text old.tables old.nodes first (Some ix) left stands in
+      let ready = stands_rest stands in
       let a = label_at s.text old.tables old.nodes ix in
       let below = trees_from s.text old.tables old.nodes (child_of old.nodes ix) in
       let rest = trees_from s.text old.tables old.nodes (sibling_of old.nodes ix) in
@@ -126,42 +119,28 @@ module _ {C : Type 0} (step : C → Question → Option Answer → C → Type 0)
       let by_number : Progress ℕ = numbered p (d.answers ++ later) in
       let same : closing_of could_be c.label c.rest by_number ≡ c =
       ap (λ (x : Bool). let k : Closing ℕ = record
-      { label = c.label; could_be_reference = could_be && not x; rest = c.rest } in k)
-      (sym (are (end_of c.label))) in
+      { label = c.label; could_be_reference = could_be && not x; rest = c.rest } in k) (sym (are (end_of c.label))) in
       let closes : closed w (closing_of could_be a rest from) from
       ≡ retag_progress (λ n. tt) (put w c d.becomes (after_decision d p later)) =
       ap (λ (f : Forest Plain). closed w (closing_of could_be a f from) from)
-      (sym (trees_unnumbered s.text old.tables old.nodes (sibling_of old.nodes ix)))
+      (sym (plain_from s.text old.tables old.nodes (sibling_of old.nodes ix)))
       ∙ closing_retag (λ n. tt) w could_be c.label c.rest by_number
       ∙ ap (λ (k : Closing ℕ). retag_progress (λ n. tt) (closed w k by_number)) same
       ∙ ap (λ (x : Progress ℕ). retag_progress (λ n. tt) x) (closed_is d p later) in
-      ap (λ (f : Forest Plain). all_read s above f from) (opens_chain s.text old.tables old.nodes ix ready).trees
-      ∙ reads_closer s plain_tags above could_be a below rest from refl (closer_is (item_at old.nodes ix).body is)
+      ap (λ (f : Forest Plain). all_read s above f from) (opens_chain ready).trees
+      ∙ reads_closer s plain_tags above could_be a below rest from refl
+      (body_open old.tables (slice_range s.text (item_at old.nodes ix).start (item_at old.nodes ix).end)
+      (item_at old.nodes ix).body (ap is_open is) ∙ is)
       ∙ ap (λ (x : Progress (Unit {0})). all_read s above (past x.goes_on rest) (record x { goes_on = None })) closes
       ∙ ap (λ (x : Progress ℕ). all_read s above (past x.goes_on rest)
-      (record (retag_progress (λ n. tt) x) { goes_on = None }))
-      (put_keeps w c d.becomes (after_decision d p later))
-    where
-      closer_is : (b : ItemBody) → b ≡ body.MaybeLinkClose could_be
-          → open_body (shape_of old.tables (slice_range s.text (item_at old.nodes ix).start (item_at old.nodes ix).end)
-          b)
-          ≡ body.MaybeLinkClose could_be
-      closer_is b e =
-          ap (λ (b : ItemBody). open_body
-          (shape_of old.tables (slice_range s.text (item_at old.nodes ix).start (item_at old.nodes ix).end)
-          b)) e
-          ∙ ap open_body (shape-open old.tables
-          (slice_range s.text (item_at old.nodes ix).start (item_at old.nodes ix).end)
-          (body.MaybeLinkClose could_be) refl)
+      (record (retag_progress (λ n. tt) x) { goes_on = None })) (put_keeps w c d.becomes (after_decision d p later))
 
   -- what it became was put
-  pub reads_on_closer : (rest : Rest) (brackets' wikilinks' : List Waiting)
-      → (d : IsDecided)
+  pub reads_on_closer : (rest : Rest) (brackets' wikilinks' : List Waiting) → (d : IsDecided)
       → StandsTo s.text old.tables old.nodes first (Some ix) left → (item_at old.nodes ix).body
       ≡ body.MaybeLinkClose could_be
       → PutsClosed s.text first ix rest d.left_then (around s above) the_closing d.becomes old.nodes new.nodes
-      old.tables new.tables
-      → HoldsPut (around s above) the_closing d.becomes d.left_then brackets' wikilinks'
+      old.tables new.tables → HoldsPut (around s above) the_closing d.becomes d.left_then brackets' wikilinks'
       → ReadsOn step s above first (Some ix) rest.next left old new spent spent' brackets' wikilinks'
   reads_on_closer rest brackets' wikilinks' d stands is puts held =
       let next = rest.next in
@@ -188,37 +167,18 @@ module _ {C : Type 0} (step : C → Question → Option Answer → C → Type 0)
             let q : Progress ℕ = after_decision d p later in
             let r = put w c d.becomes q in
             let made : p.made ≡ p.made + 0 = omega arith in
-            closer_reads d stands is p later are
-            ∙ ap (λ (f : Forest Plain). all_read s above f (record p {
-              left = left_without_numbers r.left;
-              goes_on = None;
-              spent = d.more
-                  ++ p.spent;
-              asked = p.asked ++ d.questions;
-              known = known_at new later;
-            }))
-            (sym (puts.rest_is q refl))
-            ∙ ap (λ (l : List (Entry (Unit {0}))). all_read s above (chain_at s.text new next)
-            (record p {
-              left = l;
-              goes_on = None;
-              spent = d.more ++ p.spent;
-              asked = p.asked ++ d.questions;
-              known
-                  = known_at new later;
-            }))
-            (sym (puts.puts q refl))
-            ∙ ap (λ (made : ℕ). all_read s above (chain_at s.text new next)
+            closer_reads d stands is p later are ∙ ap (λ (f : Forest Plain). all_read s above f
+            (read_to d p later (left_without_numbers r.left))) (sym (puts.rest_is q refl))
+            ∙ ap (λ (l : List (Entry (Unit {0}))). all_read s above (chain_at s.text new next) (read_to d p later l))
+            (sym (puts.puts q refl)) ∙ ap (λ (made : ℕ). all_read s above (chain_at s.text new next)
             (at_left puts.left_then new later
-            (record p { spent = d.more ++ p.spent; asked = p.asked ++ d.questions; made = made })))
-            made;
+            (record p { spent = d.more ++ p.spent; asked = p.asked ++ d.questions; made = made }))) made;
       }
 
   -- memory was refused before it was put
   pub stops_at_closer : (d : IsDecided)
       → StandsTo s.text old.tables old.nodes first (Some ix) left → (item_at old.nodes ix).body
-      ≡ body.MaybeLinkClose could_be
-      → StopsOn step s above (Some ix) left old spent new.callback
+      ≡ body.MaybeLinkClose could_be → StopsOn step s above (Some ix) left old spent new.callback
   stops_at_closer d stands is = record {
     answers = d.answers;
     questions = d.questions;
@@ -227,16 +187,8 @@ module _ {C : Type 0} (step : C → Question → Option Answer → C → Type 0)
         let r : Progress ℕ = put (around s above) the_closing d.becomes (after_decision d p later) in
         let then_asks = all_asks s above
         (past r.goes_on (trees_from s.text old.tables old.nodes (sibling_of old.nodes ix)))
-        (record p {
-          left = left_without_numbers r.left;
-          goes_on = None;
-          spent = d.more ++ p.spent;
-          asked = p.asked
-              ++ d.questions;
-          known = known_at new later;
-        }) in (
+        (read_to d p later (left_without_numbers r.left)) in (
           then_asks.more,
-          ap (λ (q : Progress (Unit {0})). q.asked) (closer_reads d stands is p later are)
-              ∙ then_asks.asked,
+          ap (λ (q : Progress (Unit {0})). q.asked) (closer_reads d stands is p later are) ∙ then_asks.asked,
         );
   }

@@ -28,13 +28,13 @@ use Rattle.markdown_document.proofs.FoundLemmas.{found}
 use Rattle.markdown_document.proofs.FrameLemmas.{Stays, label-same, stay_throughout, Framed, framed, slices-same}
 use Rattle.markdown_document.proofs.PlaceLemmas.{times-past, named-past}
 use Rattle.markdown_document.proofs.TablesLemmas.{same-refl, same-apart, named-once, named-apart, same_entry-trans}
-use Rattle.markdown_document.proofs.TablesLemmas.{grown-same, grown-longer}
-use Rattle.markdown_document.proofs.TablesLemmas.{grown-nothing, grown-twice, longer-trans, entries-longer}
+use Rattle.markdown_document.proofs.TablesLemmas.{grown-same, grown-longer, grown-nothing, grown-twice, longer-trans}
+use Rattle.markdown_document.proofs.TablesLemmas.{entries-longer}
 use Rattle.markdown_resolver.specs.Chains.{CanResolve, ChangesChain}
 
 -- a node that stayed, and stayed again
-pub same_trans : (a b c : List (Node Item)) (n : ℕ) → IsSameAt a b n → IsSameAt b c n → IsSameAt a c n
-same_trans a b c n p q = record { child = q.child ∙ p.child; next = q.next ∙ p.next; item = q.item ∙ p.item }
+pub same_trans : {a b c : List (Node Item)} {n : ℕ} → IsSameAt a b n → IsSameAt b c n → IsSameAt a c n
+same_trans p q = record { child = q.child ∙ p.child; next = q.next ∙ p.next; item = q.item ∙ p.item }
 
 -- the chain from a link on exists, and nothing occurs or is referred to twice in it
 pub record Stands (source : List ℕ) (tables : Tables) (nodes : List (Node Item)) (l : Option ℕ) : Type 0 where
@@ -42,11 +42,9 @@ pub record Stands (source : List ℕ) (tables : Tables) (nodes : List (Node Item
   pub once : (n : ℕ) → times_in nodes l n ≤ 1
   pub named_once : (n : Named) → named_in nodes l n ≤ 1
 
-pub stands_ready : (source : List ℕ) (tables : Tables) (nodes : List (Node Item)) (l : Option ℕ)
-    → CanResolve source tables nodes l
-    → Stands source tables nodes l
-stands_ready source tables nodes l ready = record
-    { reaches = ready.reaches; once = ready.once; named_once = ready.named_once }
+pub stands_ready : {source : List ℕ} {tables : Tables} {nodes : List (Node Item)} {l : Option ℕ}
+    → CanResolve source tables nodes l → Stands source tables nodes l
+stands_ready ready = record { reaches = ready.reaches; once = ready.once; named_once = ready.named_once }
 
 -- the chain from the link l on became what the link l' leads to
 pub record Moves (source : List ℕ) (l l' : Option ℕ) (old new : List (Node Item)) (tables tables' : Tables) : Type 0
@@ -60,9 +58,9 @@ pub record Moves (source : List ℕ) (l l' : Option ℕ) (old new : List (Node I
     pub no_heavier : weight_in new l' ≤ weight_in old l
 
 -- a change from a link on that stays is such a change
-pub changes_move : (source : List ℕ) (l : Option ℕ) (old new : List (Node Item)) (tables tables' : Tables)
+pub changes_move : {source : List ℕ} {l : Option ℕ} {old new : List (Node Item)} {tables tables' : Tables}
     → ChangesChain source l old new tables tables' → Moves source l l old new tables tables'
-changes_move source l old new tables tables' c = record {
+changes_move c = record {
   stands = record { reaches = c.reaches; once = c.once; named_once = c.named_once };
   of_chain = c.of_chain;
   more_nodes = c.more_nodes;
@@ -72,11 +70,11 @@ changes_move source l old new tables tables' c = record {
   no_heavier = c.no_heavier;
 }
 
-pub moves_change : (source : List ℕ) (l : Option ℕ) (old new : List (Node Item)) (tables tables' : Tables)
+pub moves_change : {source : List ℕ} {l : Option ℕ} {old new : List (Node Item)} {tables tables' : Tables}
     → Moves source l l old new tables tables'
     → ((a : Numbered) → ComesBefore a (option_map (numbered old) l) → ComesBefore a (option_map (numbered new) l))
     → ChangesChain source l old new tables tables'
-moves_change source l old new tables tables' m before = record {
+moves_change m before = record {
   reaches = m.stands.reaches;
   once = m.stands.once;
   of_chain = m.of_chain;
@@ -90,10 +88,9 @@ moves_change source l old new tables tables' m before = record {
 }
 
 -- nothing is changed
-pub moves_none : (source : List ℕ) (l : Option ℕ) (nodes : List (Node Item)) (tables : Tables)
-    → Stands source tables nodes l
-    → Moves source l l nodes nodes tables tables
-moves_none source l nodes tables s = record {
+pub moves_none : {source : List ℕ} {l : Option ℕ} {nodes : List (Node Item)} {tables : Tables}
+    → Stands source tables nodes l → Moves source l l nodes nodes tables tables
+moves_none {source} {l} {nodes} {tables} s = record {
   stands = s;
   of_chain = λ n h. omega arith;
   more_nodes = omega arith;
@@ -104,17 +101,16 @@ moves_none source l nodes tables s = record {
 }
 
 -- one change, and then another
-pub moves_twice : (source : List ℕ) (l l' l'' : Option ℕ) (a b c : List (Node Item)) (t u v : Tables)
-    → Moves source l l' a b t u
-    → Moves source l' l'' b c u v → Moves source l l'' a c t v
-moves_twice source l l' l'' a b c t u v p q =
+pub moves_twice : {source : List ℕ} {l l' l'' : Option ℕ} {a b c : List (Node Item)} {t u v : Tables}
+    → Moves source l l' a b t u → Moves source l' l'' b c u v → Moves source l l'' a c t v
+moves_twice {source} {l} {l'} {l''} {a} {b} {c} {t} {u} {v} p q =
     let longer = grown-longer t u p.grown in
     let more : length a ≤ length b = p.more_nodes in
     record {
       stands = q.stands;
       of_chain = λ n h. omega (arith, p.of_chain n h, q.of_chain n (omega (arith, h, more)));
       more_nodes = omega (arith, p.more_nodes, q.more_nodes);
-      outside = λ n h z. same_trans a b c n (p.outside n h z)
+      outside = λ n h z. same_trans (p.outside n h z)
           (q.outside n (omega (arith, h, more)) (omega (arith, p.of_chain n h, z)));
       grown = grown-twice t u v p.grown q.grown;
       named = λ n h. omega (arith, p.named n h, q.named n (omega (arith, h, longer.sizes n)));
@@ -122,10 +118,9 @@ moves_twice source l l' l'' a b c t u v p q =
     }
 
 -- the first item leaves the chain
-pub first_leaves : (source : List ℕ) (ix : ℕ) (nodes : List (Node Item)) (tables : Tables)
-    → Stands source tables nodes (Some ix)
-    → Moves source (Some ix) (sibling_of nodes ix) nodes nodes tables tables
-first_leaves source ix nodes tables s =
+pub first_leaves : {source : List ℕ} {ix : ℕ} {nodes : List (Node Item)} {tables : Tables}
+    → Stands source tables nodes (Some ix) → Moves source (Some ix) (sibling_of nodes ix) nodes nodes tables tables
+first_leaves {source} {ix} {nodes} {tables} s =
     let o = opens (links_of nodes) (IsPlaced source tables nodes) ix s.reaches in
     record {
       stands = record {
@@ -161,18 +156,15 @@ head_longer source ix nodes nodes' tables tables' h = grown-longer tables tables
 
 -- a forest without that node stays
 rest_stays : (source : List ℕ) (ix : ℕ) (nodes nodes' : List (Node Item)) (tables tables' : Tables) (l : Option ℕ)
-    (f : Forest ℕ)
-    → HeadWritten source ix nodes nodes' tables tables'
+    (f : Forest ℕ) → HeadWritten source ix nodes nodes' tables tables'
     → total (same ix) f ≡ 0 → Spells (links_of nodes) l f → Each (IsPlaced source tables nodes) f
     → Each (Stays tables tables' nodes nodes') f
 rest_stays source ix nodes nodes' tables tables' l f h z spelled placed =
     stay_throughout tables tables' nodes nodes' f (head_longer source ix nodes nodes' tables tables' h).headings
-    (λ n k. h.others n
-    (⊎_elim (λ x. x) (λ x. absurd (omega (arith, times-past (links_of nodes) l f n spelled x, k)))
+    (λ n k. h.others n (⊎_elim (λ x. x) (λ x. absurd (omega (arith, times-past (links_of nodes) l f n spelled x, k)))
     (cases_lt n (length nodes)))
     (λ e. let none : total (same n) f ≡ 0 = subst (λ (m : ℕ). total (same m) f ≡ 0) (sym e) z in absurd
-    (omega (arith, k, none))))
-    (λ n k. grown-same tables tables' n h.grown
+    (omega (arith, k, none)))) (λ n k. grown-same tables tables' n h.grown
     (⊎_elim (λ x. x) (λ x. absurd (omega (arith, named-past source tables nodes f n placed x, k)))
     (cases_lt (number_of n) (size_for tables n))))
 
@@ -189,20 +181,18 @@ pub record After (source : List ℕ) (ix : ℕ) (nodes nodes' : List (Node Item)
   pub rest : Framed source tables tables' nodes nodes' (sibling_of nodes ix)
   pub stands : Stands source tables' nodes' (sibling_of nodes ix)
 
-pub after_head : (source : List ℕ) (ix : ℕ) (nodes nodes' : List (Node Item)) (tables tables' : Tables)
+pub after_head : {source : List ℕ} {ix : ℕ} {nodes nodes' : List (Node Item)} {tables tables' : Tables}
     → Stands source tables nodes (Some ix) → HeadWritten source ix nodes nodes' tables tables'
     → After source ix nodes nodes' tables tables'
-after_head source ix nodes nodes' tables tables' s h =
+after_head {source} {ix} {nodes} {nodes'} {tables} {tables'} s h =
     let o = opens (links_of nodes) (IsPlaced source tables nodes) ix s.reaches in
     let once = rw o.here at (s.once ix) in
     let one = same-refl ix in
     let z : times_in nodes (sibling_of nodes ix) ix ≡ 0 = omega (arith, once, one) in
     let rest = framed source tables tables' nodes nodes' (sibling_of nodes ix) h.more
-    (head_longer source ix nodes nodes' tables tables' h)
-    o.after
+    (head_longer source ix nodes nodes' tables tables' h) o.after
     (rest_stays source ix nodes nodes' tables tables' (sibling_of nodes ix)
-    (forest_at (links_of nodes) (sibling_of nodes ix)) h z
-    o.after.spelled o.after.each) in
+    (forest_at (links_of nodes) (sibling_of nodes ix)) h z o.after.spelled o.after.each) in
     record {
       within = o.within;
       holds = o.holds;
@@ -250,17 +240,17 @@ module _ (source : List ℕ) (ix : ℕ) (old mid new : List (Node Item)) (tables
   -- the written node stays while what follows it is changed
   head_stays : IsSameAt mid new ix
   head_stays =
-      let a = after_head source ix old mid tables tables' s h in
+      let a = after_head s h in
       let size = h.more in
       m.outside ix (omega (arith, a.within, size)) (rw a.rest.forest a.not_after)
 
   -- what follows it then was in the chain
   rest_times : (n : ℕ) → n < length mid → times_in new (sibling_of mid ix) n ≤ times_in old (sibling_of old ix) n
-  rest_times n l = rw (← (after_head source ix old mid tables tables' s h).rest.forest) (m.of_chain n l)
+  rest_times n l = rw (← (after_head s h).rest.forest) (m.of_chain n l)
 
   rest_named : (n : Named) → number_of n < size_for tables' n → named_in new (sibling_of mid ix) n ≤ named_in old
       (sibling_of old ix) n
-  rest_named n l = rw (← (after_head source ix old mid tables tables' s h).rest.naming n) (m.named n l)
+  rest_named n l = rw (← (after_head s h).rest.naming n) (m.named n l)
 
   -- nothing occurs twice in the whole
   abbrev now : Forest ℕ
@@ -268,30 +258,27 @@ module _ (source : List ℕ) (ix : ℕ) (old mid new : List (Node Item)) (tables
 
   now_spelled : Spells (links_of new) (Some ix) now
   now_spelled =
-      let within = (after_head source ix old mid tables tables' s h).within in
+      let within = (after_head s h).within in
       let size = h.more in
       let more = m.more_nodes in (
         refl,
         omega (arith, within, size, more),
         rw head_stays.child below.reaches.spelled,
-        rw head_stays.next
-            m.stands.reaches.spelled,
+        rw head_stays.next m.stands.reaches.spelled,
       )
 
   now_once : (n : ℕ) → total (same n) now ≤ 1
   now_once n =
-      let a = after_head source ix old mid tables tables' s h in
+      let a = after_head s h in
       let size = h.more in
-      ⊎_elim
-      (λ (l : n < length old). let x = rw a.here at (s.once n) in let y = rest_times n (omega (arith, l, size))
+      ⊎_elim (λ (l : n < length old). let x = rw a.here at (s.once n) in let y = rest_times n (omega (arith, l, size))
       in let z = below.of_chain n l in omega arith)
       (λ (l : length old ≤ n). let x = same-apart n ix (omega (arith, a.within, l)) in
       let none = times-past (links_of old) (sibling_of old ix) (forest_at (links_of old) (sibling_of old ix)) n
       a.after.spelled l in ⊎_elim
       (λ (k : n < length mid). let y = rest_times n k in let z = below.once n in omega arith)
       (λ (k : length mid ≤ n). let y = m.stands.once n in let z = below.none_new n k in omega arith)
-      (cases_lt n (length mid)))
-      (cases_lt n (length old))
+      (cases_lt n (length mid))) (cases_lt n (length old))
 
   now_here : forest_at (links_of new) (Some ix) ≡ now
   now_here = found (links_of new) (Some ix) now now_spelled now_once
@@ -300,11 +287,10 @@ module _ (source : List ℕ) (ix : ℕ) (old mid new : List (Node Item)) (tables
   now_named_once : (n : Named)
       → naming mid n ix + (named_in new (child_of mid ix) n + named_in new (sibling_of mid ix) n) ≤ 1
   now_named_once n =
-      let a = after_head source ix old mid tables tables' s h in
+      let a = after_head s h in
       let z = below.named n in
       let longer = head_longer source ix old mid tables tables' h in
-      ⊎_elim
-      (λ (l : number_of n < size_for tables n). let x = rw a.here at (s.named_once n) in let k = h.named n l
+      ⊎_elim (λ (l : number_of n < size_for tables n). let x = rw a.here at (s.named_once n) in let k = h.named n l
       in let y = rest_named n (omega (arith, l, longer.sizes n)) in omega arith)
       (λ (l : size_for tables n ≤ number_of n).
       let none = named-past source tables old (forest_at (links_of old) (child_of old ix)) n a.below.each l in
@@ -312,8 +298,7 @@ module _ (source : List ℕ) (ix : ℕ) (old mid new : List (Node Item)) (tables
       let one = named-once n (item_at mid ix).body in ⊎_elim
       (λ (k : number_of n < size_for tables' n). let y = rest_named n k in omega arith)
       (λ (k : size_for tables' n ≤ number_of n). let x = named-apart n tables' (item_at mid ix).body h.entries k
-      in let y = m.stands.named_once n in omega arith)
-      (cases_lt (number_of n) (size_for tables' n)))
+      in let y = m.stands.named_once n in omega arith) (cases_lt (number_of n) (size_for tables' n)))
       (cases_lt (number_of n) (size_for tables n))
 
   -- its item is placed, if it directly precedes what follows it
@@ -345,7 +330,7 @@ module _ (source : List ℕ) (ix : ℕ) (old mid new : List (Node Item)) (tables
 
   whole_outside : (n : ℕ) → n < length old → times_in old (Some ix) n ≡ 0 → IsSameAt old new n
   whole_outside n l z =
-      let a = after_head source ix old mid tables tables' s h in
+      let a = after_head s h in
       let size = h.more in
       let x : total (same n)
       (node ix (forest_at (links_of old) (child_of old ix)) (forest_at (links_of old) (sibling_of old ix)))
@@ -353,13 +338,13 @@ module _ (source : List ℕ) (ix : ℕ) (old mid new : List (Node Item)) (tables
       let other = λ (e : n ≡ ix). let one : same n ix ≡ 1 = subst (λ (m : ℕ). same n m ≡ 1) e (same-refl n)
       in let y : ⊥ = absurd (omega (arith, x, one)) in y in
       let apart : times_in mid (sibling_of old ix) n ≡ 0 = rw a.rest.forest (omega (arith, x)) in
-      same_trans old mid new n (h.others n l other) (m.outside n (omega (arith, l, size)) apart)
+      same_trans (h.others n l other) (m.outside n (omega (arith, l, size)) apart)
 
   pub head_moves : ComesBefore (numbered mid ix) (option_map (numbered new) (sibling_of mid ix))
       → RunsAreWhole source (numbered mid ix) (option_map (numbered new) (sibling_of mid ix))
       → HeadMoved source ix old mid new tables tables' later
   head_moves follows goes_on =
-      let a = after_head source ix old mid tables tables' s h in
+      let a = after_head s h in
       let size = h.more in
       let more = m.more_nodes in
       let longer = head_longer source ix old mid tables tables' h in
@@ -400,21 +385,19 @@ pub record KeptBelow (source : List ℕ) (ix : ℕ) (old mid new : List (Node It
   pub below : Below source ix old mid new later
   pub trees : trees_from source later new (child_of mid ix) ≡ trees_from source tables old (child_of old ix)
 
-pub below_kept : (source : List ℕ) (ix : ℕ) (old mid new : List (Node Item)) (tables tables' later : Tables)
-    (l' : Option ℕ)
-    → Stands source tables old (Some ix) → HeadWritten source ix old mid tables tables'
+pub below_kept : {source : List ℕ} {ix : ℕ} {old mid new : List (Node Item)} {tables tables' later : Tables}
+    (l' : Option ℕ) → Stands source tables old (Some ix) → HeadWritten source ix old mid tables tables'
     → Moves source (sibling_of old ix) l' mid new tables' later
     → child_of mid ix ≡ child_of old ix → weight_at mid ix ≤ weight_at old ix
     → KeptBelow source ix old mid new tables later
-below_kept source ix old mid new tables tables' later l' s h m child lighter =
-    let a = after_head source ix old mid tables tables' s h in
+below_kept {source} {ix} {old} {mid} {new} {tables} {tables'} {later} l' s h m child lighter =
+    let a = after_head s h in
     let size : length old ≤ length mid = h.more in
     let more : length mid ≤ length new = m.more_nodes in
     let longer_head = head_longer source ix old mid tables tables' h in
     let longer_all = longer-trans tables tables' later longer_head (grown-longer tables' later m.grown) in
     let f = forest_at (links_of old) (child_of old ix) in
-    let stay = stay_throughout tables later old new f longer_all.headings
-    (λ n l.
+    let stay = stay_throughout tables later old new f longer_all.headings (λ n l.
     let once = rw a.here at (s.once n) in
     let other = λ (e : n ≡ ix). let z : total (same n) f ≡ 0 = subst (λ (m : ℕ). total (same m) f ≡ 0) (sym e)
     a.not_below
@@ -423,8 +406,7 @@ below_kept source ix old mid new tables tables' later l' s h m child lighter =
     (λ x. absurd (omega (arith, times-past (links_of old) (child_of old ix) f n a.below.spelled x, l)))
     (cases_lt n (length old)) in
     let apart : times_in mid (sibling_of old ix) n ≡ 0 = rw a.rest.forest (omega (arith, once, l)) in
-    same_trans old mid new n (h.others n within other) (m.outside n (omega (arith, within, size)) apart))
-    (λ n l.
+    same_trans (h.others n within other) (m.outside n (omega (arith, within, size)) apart)) (λ n l.
     let within : number_of n < size_for tables n = ⊎_elim (λ x. x)
     (λ x. absurd (omega (arith, named-past source tables old f n a.below.each x, l)))
     (cases_lt (number_of n) (size_for tables n)) in
@@ -448,8 +430,7 @@ below_kept source ix old mid new tables tables' later l' s h m child lighter =
 
 -- what follows the written node is the same item
 following_of : (source : List ℕ) (ix : ℕ) (nodes nodes' : List (Node Item)) (tables tables' : Tables) (l : Option ℕ)
-    (f : Forest ℕ)
-    → HeadWritten source ix nodes nodes' tables tables'
+    (f : Forest ℕ) → HeadWritten source ix nodes nodes' tables tables'
     → Spells (links_of nodes) l f → total (same ix) f ≡ 0 → option_map (numbered nodes') l
     ≡ option_map (numbered nodes) l
 following_of source ix nodes nodes' tables tables' l nil h s z = rw s refl
@@ -463,17 +444,16 @@ pub following_kept : (source : List ℕ) (ix : ℕ) (nodes nodes' : List (Node I
     → Stands source tables nodes (Some ix) → HeadWritten source ix nodes nodes' tables tables'
     → option_map (numbered nodes') (sibling_of nodes ix) ≡ option_map (numbered nodes) (sibling_of nodes ix)
 following_kept source ix nodes nodes' tables tables' s h =
-    let a = after_head source ix nodes nodes' tables tables' s h in
+    let a = after_head s h in
     following_of source ix nodes nodes' tables tables' (sibling_of nodes ix)
-    (forest_at (links_of nodes) (sibling_of nodes ix)) h
-    a.after.spelled a.not_after
+    (forest_at (links_of nodes) (sibling_of nodes ix)) h a.after.spelled a.not_after
 
 -- the first item is written, and then leaves the chain
-pub head_leaves : (source : List ℕ) (ix : ℕ) (nodes nodes' : List (Node Item)) (tables tables' : Tables)
+pub head_leaves : {source : List ℕ} {ix : ℕ} {nodes nodes' : List (Node Item)} {tables tables' : Tables}
     → Stands source tables nodes (Some ix) → HeadWritten source ix nodes nodes' tables tables'
     → Moves source (Some ix) (sibling_of nodes ix) nodes nodes' tables tables'
-head_leaves source ix nodes nodes' tables tables' s h =
-    let a = after_head source ix nodes nodes' tables tables' s h in
+head_leaves {source} {ix} {nodes} {nodes'} {tables} {tables'} s h =
+    let a = after_head s h in
     record {
       stands = a.stands;
       of_chain = λ n l. rw (a.rest.forest, a.here) (omega arith);

@@ -4,9 +4,7 @@ use Rattle.std.proofs.Common.{◌≡◌, ℕ, List, Option, Some, None, refl, sy
 use Rattle.markdown_base.specs.declared.item.Item.{Item}
 use Rattle.markdown_base.specs.declared.node.Node.{Node}
 use Rattle.markdown_brackets.specs.BracketDecision.{Around, Becomes, Closing, Decision, Written, Progress, carried_out}
-use Rattle.markdown_brackets.specs.BracketDecision.{decided, footnote_label}
-use Rattle.markdown_brackets.specs.BracketDecision.{found, inline_link, left_for_one, link_reference, second_end}
-use Rattle.markdown_brackets.specs.BracketDecision.{wikilink}
+use Rattle.markdown_brackets.specs.BracketDecision.{decided, found, inline_link, left_for_one, second_end, wikilink}
 use Rattle.markdown_brackets.specs.LeftList.{Entry, bracket_taken, opens_bracket, opens_wikilink, without_bracket}
 use Rattle.markdown_brackets.specs.LeftList.{without_wikilink}
 use Rattle.markdown_brackets.proofs.ClosingBracketLemmas.{Stays, all_stays}
@@ -19,19 +17,15 @@ carried_left : {A : Type 0} (w : Around) (x : Option (Written A)) (q : Progress 
     ≡ q.left
 carried_left w None q = refl
 carried_left w (Some (inline_link o t)) q = refl
-carried_left w (Some (link_reference o r)) q = refl
-carried_left w (Some (footnote_label o name)) q = refl
-carried_left w (Some (wikilink o v end)) q = refl
+carried_left w (Some other) q = refl
 
 pub decided_left : {A : Type 0} (w : Around) (c : Closing A) (p : List (Entry A) → Type 0) → Stays p → (q : Progress A)
-    → p q.left
-    → p (decided w c q).progress.left
+    → p q.left → p (decided w c q).progress.left
 unfolding decided
 decided_left w c p stays q h =
     let second = second_end w c.rest in
     subst p (sym (carried_left w (found w c second q.left)
-    (record q { left = bracket_taken (left_for_one second q.left) })))
-    (all_stays w c p stays second q.left h)
+    (record q { left = bracket_taken (left_for_one second q.left) }))) (all_stays w c p stays second q.left h)
 
 -- so the left list is still where it was
 pub decided_stands : (source : List ℕ) (tables : Tables) (nodes : List (Node Item)) (first : ℕ) (at : Option ℕ)

@@ -7,8 +7,7 @@ use Rattle.std.specs.Option.{option_map}
 use Rattle.markdown_base.specs.BlockTree.{Numbered, tree_of}
 use Rattle.markdown_base.specs.Forest.{Forest, nil, node, relabelled, first_root}
 use Rattle.markdown_base.specs.WellFormed.{AllKeepRules, IsWellFormed, PartCounts, RunCharacter, run_character, EndsRun}
-use Rattle.markdown_base.specs.WellFormed.{RunGoesOn}
-use Rattle.markdown_base.specs.WellFormed.{StandsInRun, RunsAreWhole, byte_of, counts_of}
+use Rattle.markdown_base.specs.WellFormed.{RunGoesOn, StandsInRun, RunsAreWhole, byte_of, counts_of}
 use Rattle.markdown_base.specs.declared.block_parts.BlockParts.{BlockParts}
 use Rattle.markdown_base.specs.declared.item.Item.{Item}
 use Rattle.markdown_base.specs.declared.item.ItemBody.{ItemBody}
@@ -62,15 +61,13 @@ module _ (source : List ℕ) (tables : Tables) where
   run_if a next (Some c) h = record {
     one_byte = h.one_byte;
     delimiter = h.delimiter;
-    goes_on = goes_on a next c.count c.can_open
-        c.can_close h.one_byte h.goes_on;
+    goes_on = goes_on a next c.count c.can_open c.can_close h.one_byte h.goes_on;
   }
 
   whole_placed : (a : Numbered) (next : Option Numbered) → RunsAreWhole source a next
       → RunsAreWhole source (placed a) (option_map placed next)
   whole_placed a next h = subst (λ o. IfSome o (StandsInRun source (placed a) (option_map placed next)))
-      (sym (run_placed a))
-      (run_if a next (run_character a.item.body) h)
+      (sym (run_placed a)) (run_if a next (run_character a.item.body) h)
 
   -- what follows a label is the label of what follows
   first_placed : (f : Forest Numbered) → option_map placed (first_root f)
@@ -88,7 +85,6 @@ module _ (source : List ℕ) (tables : Tables) where
   )
 
 pub document-whole : (source : List ℕ) (nodes : List (Node Item)) (parts : BlockParts) (tables : Tables)
-    → IsWellFormed source nodes parts
-    → RunsStandWhole source (document source tables nodes)
+    → IsWellFormed source nodes parts → RunsStandWhole source (document source tables nodes)
 document-whole source nodes parts tables formed = forest-whole source tables (counts_of parts) (tree_of nodes)
     formed.rules

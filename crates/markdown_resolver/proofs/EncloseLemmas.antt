@@ -1,7 +1,6 @@
 -- What is between an opener and its closer goes below the opener's node: the chain as it is then.
 use Rattle.std.proofs.Common.{◌≡◌, ℕ, zero, suc, ◌+◌, ◌<◌, ◌≤◌, Bool, true, false, List, [], ◌∷◌, ◌++◌, length, Option}
-use Rattle.std.proofs.Common.{Some, None, refl}
-use Rattle.std.proofs.Common.{sym, ap, ◌∙◌, subst, ⊎_elim, arith}
+use Rattle.std.proofs.Common.{Some, None, refl, sym, ap, ◌∙◌, subst, ⊎_elim, arith}
 use Rattle.std.proofs.lemmas.Bool.{cases_eq, cases_lt}
 use Rattle.std.specs.Prelude.{IfSome}
 use Rattle.std.specs.Option.{option_map}
@@ -105,8 +104,7 @@ opens_at (x ∷ inside) after closer (node n below rest) e =
 
 -- links that stay spell what they did
 pub spelled_kept : (old new : List (Node Item)) (l : Option ℕ) (f : Forest ℕ) → length old ≤ length new
-    → ((n : ℕ) → 0 < total (same n) f → IsSameAt old new n)
-    → Spells (links_of old) l f → Spells (links_of new) l f
+    → ((n : ℕ) → 0 < total (same n) f → IsSameAt old new n) → Spells (links_of old) l f → Spells (links_of new) l f
 spelled_kept old new l nil more kept s = s
 spelled_kept old new l (node ix below after) more kept s =
     let at = kept ix (omega (arith, same-refl ix)) in (
@@ -125,8 +123,7 @@ spelled_past nodes [] after closer l (node n below rest) e s =
     subst (λ (m : ℕ). Spells (links_of nodes) (Some m) (node n below rest)) is (rw s.0 at s)
 spelled_past nodes (x ∷ inside) after closer l nil e s = cc e
 spelled_past nodes (x ∷ inside) after closer l (node n below rest) e s = spelled_past nodes inside after closer
-    (sibling_of nodes n) rest
-    (cc e) s.3
+    (sibling_of nodes n) rest (cc e) s.3
 
 -- a chain is cut after a node: the links lead through the trees up to there, and the next is the closer
 record CutBehind (old new : List (Node Item)) (l : Option ℕ) (last closer k : ℕ) (f : Forest ℕ) : Type 0 where
@@ -139,8 +136,7 @@ cut_behind : (old new : List (Node Item)) (last closer x : ℕ) (inside after : 
     → child_of new last ≡ child_of old last → sibling_of new last ≡ None → last_inside x inside ≡ last
     → roots f ≡ x ∷ (inside ++ closer ∷ after)
     → ((n : ℕ) → total (same n) f ≤ 1) → ((n : ℕ) → 0 < total (same n) f → (n ≡ last → ⊥) → IsSameAt old new n)
-    → Spells (links_of old) l f
-    → CutBehind old new l last closer (suc (length inside)) f
+    → Spells (links_of old) l f → CutBehind old new l last closer (suc (length inside)) f
 cut_behind old new last closer x [] after l nil more child next is e once kept s = cc e
 cut_behind old new last closer x [] after l (node n below rest) more child next is e once kept s =
     let here : n ≡ last = cc (e, is) in
@@ -153,8 +149,7 @@ cut_behind old new last closer x [] after l (node n below rest) more child next 
         s.0,
         omega (arith, s.1, more),
         rw (subst (λ (m : ℕ). child_of new m ≡ child_of old m) (sym here) child)
-            (spelled_kept old new (child_of old n) below more
-            (λ m l. kept m (omega (arith, l))
+            (spelled_kept old new (child_of old n) below more (λ m l. kept m (omega (arith, l))
             (λ q. let z : 0 < total (same n) below = subst (λ (p : ℕ). 0 < total (same p) below) (q
             ∙ sym here) l in absurd (omega (arith, one, self, z)))) s.2),
         subst (λ (m : ℕ). sibling_of new m ≡ None) (sym here) next,
@@ -183,8 +178,7 @@ cut_behind old new last closer x (y ∷ inside) after l (node n below rest) more
       spelled = (
         s.0,
         omega (arith, s.1, more),
-        rw at.child (spelled_kept old new (child_of old n) below more
-            (λ m l. kept m (omega (arith, l))
+        rw at.child (spelled_kept old new (child_of old n) below more (λ m l. kept m (omega (arith, l))
             (λ q. let z : 0 < total (same last) below = subst (λ (p : ℕ). 0 < total (same p) below) q l
             in absurd (omega (arith, one, in_rest, there, z)))) s.2),
         rw at.next r.spelled,
@@ -211,8 +205,7 @@ record CutsAt (old new : List (Node Item)) (opener last closer k : ℕ) (f : For
 cuts_at : (old new : List (Node Item)) (opener last closer : ℕ) (inside after : List ℕ) (f : Forest ℕ)
     → IsEnclosed old new opener last closer → last_inside opener inside ≡ last
     → roots f ≡ inside ++ closer ∷ after → Spells (links_of old) (sibling_of old opener) f
-    → ((n : ℕ) → same n opener + total (same n) f ≤ 1)
-    → CutsAt old new opener last closer (length inside) f
+    → ((n : ℕ) → same n opener + total (same n) f ≤ 1) → CutsAt old new opener last closer (length inside) f
 cuts_at old new opener last closer [] after f v is e s once =
     let one : same last opener ≡ 1 = subst (λ (m : ℕ). same m opener ≡ 1) is (same-refl opener) in
     record {
@@ -233,9 +226,7 @@ cuts_at old new opener last closer (x ∷ inside) after f v is e s once =
     ≡ 1 = subst (λ (m : ℕ). same n m ≡ 1) q (same-refl n) in absurd (let z = once n in omega (arith, one, l)) in
     let size = v.size in
     let r = cut_behind old new last closer x inside after (sibling_of old opener) f (omega (arith, size))
-    (v.last_child d) (v.last_next d)
-    is e
-    (λ n. let z = once n in omega arith) (λ n l q. v.others n (other n l) q) s in
+    (v.last_child d) (v.last_next d) is e (λ n. let z = once n in omega arith) (λ n l q. v.others n (other n l) q) s in
     let held = r.there in
     record {
       inside = rw (v.inside_is d) r.spelled;
@@ -255,7 +246,7 @@ goes_on_none source a b zero opens closes none h = h
 goes_on_none source a b (suc zero) opens closes none h = tt
 goes_on_none source a b (suc (suc n)) opens closes none h = cc (none, h.body)
 
-run_none : (source : List ℕ) (a b : Numbered) (o : Option RunCharacter) → run_character b.item.body ≡ None
+pub run_none : (source : List ℕ) (a b : Numbered) (o : Option RunCharacter) → run_character b.item.body ≡ None
     → IfSome o (StandsInRun source a (Some b)) → IfSome o (StandsInRun source a None)
 run_none source a b None none h = h
 run_none source a b (Some c) none h = record {
@@ -270,9 +261,8 @@ following_is old new None h = refl
 following_is old new (Some n) h = rw (h n) refl
 
 -- the chain then
-module _ (source : List ℕ) (tables : Tables) (old new : List (Node Item)) (opener last closer : ℕ) (inside : List ℕ)
-    (byte : ℕ)
-    (can : CanClose source tables old opener closer inside byte)
+module _ {source : List ℕ} {tables : Tables} {old new : List (Node Item)} {opener last closer : ℕ} {inside : List ℕ}
+    {byte : ℕ} (can : CanClose source tables old opener closer inside byte)
     (is : last_inside opener inside ≡ last) (v : IsEnclosed old new opener last closer) where
   abbrev f : Forest ℕ
   f = forest_at (links_of old) (sibling_of old opener)
@@ -306,8 +296,7 @@ module _ (source : List ℕ) (tables : Tables) (old new : List (Node Item)) (ope
   rest_spelled =
       let size = v.size in
       spelled_kept old new (Some closer) (trees_past k f) (omega (arith, size)) rest_kept
-      (spelled_past old inside can.after closer
-      (sibling_of old opener) f can.follows opened.after.spelled)
+      (spelled_past old inside can.after closer (sibling_of old opener) f can.follows opened.after.spelled)
 
   abbrev now : Forest ℕ
   now = node opener (first_trees k f) (trees_past k f)
@@ -327,10 +316,6 @@ module _ (source : List ℕ) (tables : Tables) (old new : List (Node Item)) (ope
   inside_forest = found (links_of new) (child_of new opener) (first_trees k f) cuts.inside (λ n. let z = whole_once n
       in let parts = total_parts (same n) k f in omega arith)
 
-  pub rest_forest : forest_at (links_of new) (Some closer) ≡ trees_past k f
-  rest_forest = found (links_of new) (Some closer) (trees_past k f) rest_spelled (λ n. let z = whole_once n
-      in let parts = total_parts (same n) k f in omega arith)
-
   -- it reads so
   labels : (n : ℕ) → label_at source tables new n ≡ label_at source tables old n
   labels n = ap (λ x. label_of source tables x) (v.items n)
@@ -339,14 +324,13 @@ module _ (source : List ℕ) (tables : Tables) (old new : List (Node Item)) (ope
       ≡ first_trees k (trees_from source tables old (sibling_of old opener))
   inside_reads =
       ap (λ (g : Forest ℕ). relabelled (label_at source tables new) g) inside_forest
-      ∙ read_equal (label_at source tables old)
-      (label_at source tables new) (first_trees k f) labels
+      ∙ read_equal (label_at source tables old) (label_at source tables new) (first_trees k f) labels
       ∙ read_first (label_at source tables old) k f
 
   -- its items are placed
   closer_past : StandsPast old opener (item_at old opener).end closer
   closer_past = past_at old opener (item_at old opener).end closer inside can.after
-      (rw can.follows at (rest_past source tables old opener can.ready))
+      (rw can.follows at (rest_past can.ready))
 
   placed_opener : IsPlaced source tables old opener → IsPlaced source tables new opener
   placed_opener p = record {
@@ -378,8 +362,7 @@ module _ (source : List ℕ) (tables : Tables) (old new : List (Node Item)) (ope
           markup_is_there = rw (v.items last) p.keeps.markup_is_there;
           runs_are_whole = rw (v.last_next d, v.items last)
               (run_none source (numbered old last) (numbered old closer) (run_character (item_at old last).body)
-              can.closer_no_run
-              (rw before at p.keeps.runs_are_whole));
+              can.closer_no_run (rw before at p.keeps.runs_are_whole));
           childless = rw (v.items last, v.last_child d) p.keeps.childless;
         };
       }
@@ -393,15 +376,11 @@ module _ (source : List ℕ) (tables : Tables) (old new : List (Node Item)) (ope
   }
 
   placed_new : (n : ℕ) → IsPlaced source tables old n → IsPlaced source tables new n
-  placed_new n p = ⊎_elim
-      (λ (e : n ≡ opener). subst (IsPlaced source tables new) (sym e)
-      (placed_opener (subst (IsPlaced source tables old) e p)))
-      (λ (d : n ≡ opener → ⊥). ⊎_elim
+  placed_new n p = ⊎_elim (λ (e : n ≡ opener). subst (IsPlaced source tables new) (sym e)
+      (placed_opener (subst (IsPlaced source tables old) e p))) (λ (d : n ≡ opener → ⊥). ⊎_elim
       (λ (e : n ≡ last). subst (IsPlaced source tables new) (sym e)
       (placed_last (λ q. d (e ∙ q)) (subst (IsPlaced source tables old) e p)))
-      (λ (d' : n ≡ last → ⊥). placed_other n (v.others n d d') p)
-      (cases_eq n last))
-      (cases_eq n opener)
+      (λ (d' : n ≡ last → ⊥). placed_other n (v.others n d d') p) (cases_eq n last)) (cases_eq n opener)
 
   now_placed : Each (IsPlaced source tables new) now
   now_placed = each_from (IsPlaced source tables new) now (λ n some.
@@ -431,10 +410,8 @@ module _ (source : List ℕ) (tables : Tables) (old new : List (Node Item)) (ope
         outside = λ n l z.
             let none : same n opener + total (same n) f ≡ 0 = (let x = rw whole_is at z in omega arith) in
             let held = cuts.last_held in
-            v.others n
-            (λ q. let one : same n opener ≡ 1 = subst (λ (m : ℕ). same n m ≡ 1) q (same-refl n) in absurd
-            (omega (arith, one, none)))
-            (λ q. let here : 0 < same n opener + total (same n) f = subst
+            v.others n (λ q. let one : same n opener ≡ 1 = subst (λ (m : ℕ). same n m ≡ 1) q (same-refl n) in absurd
+            (omega (arith, one, none))) (λ q. let here : 0 < same n opener + total (same n) f = subst
             (λ (m : ℕ). 0 < same m opener + total (same m) f) (sym q) held
             in absurd (omega (arith, here, none)));
         grown = grown-nothing tables;
@@ -444,8 +421,7 @@ module _ (source : List ℕ) (tables : Tables) (old new : List (Node Item)) (ope
 
 -- the writes that do so
 next_items : (nodes : List (Node Item)) (jx : ℕ) (next : Option ℕ) (n : ℕ)
-    → item_at (changed_at jx (λ m. record m { next = next }) nodes) n
-    ≡ item_at nodes n
+    → item_at (changed_at jx (λ m. record m { next = next }) nodes) n ≡ item_at nodes n
 next_items [] jx next n = refl
 next_items (m ∷ nodes) zero next zero = refl
 next_items (m ∷ nodes) zero next (suc n) = refl
@@ -467,8 +443,7 @@ abbrev pub with_child : ℕ → Option ℕ → List (Node Item) → List (Node I
 with_child ix child nodes = changed_at ix (λ n. record n { child = child }) nodes
 
 pub enclosed_nodes : (old : List (Node Item)) (opener last closer : ℕ) (inside : Option ℕ) → opener < length old
-    → last < length old
-    → inside ≡ sibling_of (with_next last None old) opener
+    → last < length old → inside ≡ sibling_of (with_next last None old) opener
     → IsEnclosed old (with_next opener (Some closer) (with_child opener inside (with_next last None old))) opener last
     closer
 enclosed_nodes old opener last closer inside within last_within inside_is =
@@ -493,17 +468,14 @@ enclosed_nodes old opener last closer inside within last_within inside_is =
       last_next = λ d. (changed_other b opener leads last d).next ∙ (changed_other a opener hangs last d).next ∙ p.next;
       last_child = λ d. (changed_other b opener leads last d).child ∙ (changed_other a opener hangs last d).child
           ∙ p.child;
-      others = λ n d e. same_trans old b c n
-          (same_trans old a b n (changed_other old last ends n e) (changed_other a opener hangs n d))
+      others = λ n d e. same_trans (same_trans (changed_other old last ends n e) (changed_other a opener hangs n d))
           (changed_other b opener leads n d);
     }
 
 pub enclosed_tree : (s t u w : Arena Item) (opener last closer : ℕ) (inside : Option ℕ) → opener < length s.nodes
-    → last < length s.nodes
-    → inside ≡ sibling_of t.nodes opener
+    → last < length s.nodes → inside ≡ sibling_of t.nodes opener
     → t ≡ record s { nodes = with_next last None s.nodes } → u ≡ record t { nodes = with_child opener inside t.nodes }
-    → w ≡ record u { nodes = with_next opener (Some closer) u.nodes }
-    → IsEnclosed s.nodes w.nodes opener last closer
+    → w ≡ record u { nodes = with_next opener (Some closer) u.nodes } → IsEnclosed s.nodes w.nodes opener last closer
 enclosed_tree s t u w opener last closer inside within last_within inside_is e1 e2 e3 =
     let t_is : t.nodes ≡ with_next last None s.nodes = ap (λ (a : Arena Item). a.nodes) e1 in
     let u_is : u.nodes ≡ with_child opener inside (with_next last None s.nodes) = ap (λ (a : Arena Item). a.nodes) e2
@@ -531,8 +503,7 @@ pub record AreWithin (nodes : List (Node Item)) (opener last closer : ℕ) : Typ
   pub end : closer < length nodes
 
 last_within : (nodes : List (Node Item)) (opener closer : ℕ) (inside after : List ℕ) (l : Option ℕ) (f : Forest ℕ)
-    → opener < length nodes
-    → roots f ≡ inside ++ closer ∷ after
+    → opener < length nodes → roots f ≡ inside ++ closer ∷ after
     → Spells (links_of nodes) l f → last_inside opener inside < length nodes
 last_within nodes opener closer [] after l f within e s = within
 last_within nodes opener closer (x ∷ inside) after l f within e s =
@@ -540,11 +511,9 @@ last_within nodes opener closer (x ∷ inside) after l f within e s =
     ⊎_elim (λ h. h) (λ h. absurd (omega (arith, times-past (links_of nodes) l f (last_inside x inside) s h, there)))
     (cases_lt (last_inside x inside) (length nodes))
 
-pub closer_within : (source : List ℕ) (tables : Tables) (nodes : List (Node Item)) (opener closer : ℕ) (inside : List ℕ)
-    (byte : ℕ)
-    → CanClose source tables nodes opener closer inside byte
-    → closer < length nodes
-closer_within source tables nodes opener closer inside byte can =
+pub closer_within : {source : List ℕ} {tables : Tables} {nodes : List (Node Item)} {opener closer : ℕ} {inside : List ℕ}
+    {byte : ℕ} → CanClose source tables nodes opener closer inside byte → closer < length nodes
+closer_within {source} {tables} {nodes} {opener} {closer} {inside} {byte} can =
     let o = opens (links_of nodes) (IsPlaced source tables nodes) opener can.ready.reaches in
     let f = forest_at (links_of nodes) (sibling_of nodes opener) in
     let at = opens_at inside can.after closer f can.follows in
@@ -552,11 +521,10 @@ closer_within source tables nodes opener closer inside byte can =
     rw at.is at (spelled_past nodes inside can.after closer (sibling_of nodes opener) f can.follows o.after.spelled) in
     spelled.1
 
-pub are_within : (source : List ℕ) (tables : Tables) (nodes : List (Node Item)) (opener last closer : ℕ)
-    (inside : List ℕ) (byte : ℕ)
-    → CanClose source tables nodes opener closer inside byte
+pub are_within : {source : List ℕ} {tables : Tables} {nodes : List (Node Item)} {opener last closer : ℕ}
+    {inside : List ℕ} {byte : ℕ} → CanClose source tables nodes opener closer inside byte
     → last_inside opener inside ≡ last → AreWithin nodes opener last closer
-are_within source tables nodes opener last closer inside byte can is =
+are_within {source} {tables} {nodes} {opener} {last} {closer} {inside} {byte} can is =
     let o = opens (links_of nodes) (IsPlaced source tables nodes) opener can.ready.reaches in
     let f = forest_at (links_of nodes) (sibling_of nodes opener) in
     record {
@@ -564,5 +532,5 @@ are_within source tables nodes opener last closer inside byte can is =
       inner = subst (λ (n : ℕ). n < length nodes) is
           (last_within nodes opener closer inside can.after (sibling_of nodes opener) f o.within
           can.follows o.after.spelled);
-      end = closer_within source tables nodes opener closer inside byte can;
+      end = closer_within can;
     }

@@ -2,8 +2,7 @@
 -- after the `]` itself, or, for a wikilink, where the next `]` ends; and what a wikilink shows starts and ends between
 -- characters.
 use Rattle.std.proofs.Common.{◌≡◌, ◌⊎◌, ⊎_elim, ℕ, ◌+◌, ◌-◌, ◌<◌, ◌≤◌, Bool, true, false, ◌&&◌, List, [], ◌∷◌, Option}
-use Rattle.std.proofs.Common.{Some, None, IsUtf8, ◌==◌, length}
-use Rattle.std.proofs.Common.{drop, get_or, refl, sym, ap, ◌∙◌, subst, arith}
+use Rattle.std.proofs.Common.{Some, None, IsUtf8, ◌==◌, length, drop, get_or, refl, sym, ap, ◌∙◌, subst, arith}
 use Rattle.std.specs.Prelude.{IfSome, if◌then◌else◌, unwrap_or}
 use Rattle.std.specs.Option.{option_map}
 use Rattle.std.specs.Str.{IsCharBoundary}
@@ -20,9 +19,8 @@ use Rattle.markdown_base.specs.declared.block_parts.LinkDef.{LinkDef}
 use Rattle.markdown_base.specs.declared.tag.LinkType.{LinkType}
 use Rattle.markdown_base.specs.declared.tag.LinkType.TheVariants as kind
 use Rattle.markdown_brackets.specs.BracketDecision.{Around, Becomes, Closing, Decision, Written, LinkReference}
-use Rattle.markdown_brackets.specs.BracketDecision.{Progress, Wikilink, a_link, a_text}
-use Rattle.markdown_brackets.specs.BracketDecision.{block_text, carried_out, closer_ends_at, decided, form_of, found}
-use Rattle.markdown_brackets.specs.BracketDecision.{left_for_one, lines}
+use Rattle.markdown_brackets.specs.BracketDecision.{Progress, Wikilink, a_link, a_text, block_text, carried_out}
+use Rattle.markdown_brackets.specs.BracketDecision.{closer_ends_at, decided, form_of, found, left_for_one, lines}
 use Rattle.markdown_brackets.specs.BracketDecision.{past_second, question_at, second_end, start_of_first_past}
 use Rattle.markdown_brackets.specs.BracketDecision.{wikilink_in}
 use Rattle.markdown_brackets.proofs.ClosingBracketLemmas.{IsFull, IsOwn, either, found_cases}
@@ -33,8 +31,7 @@ use Rattle.markdown_brackets.specs.LeftList.{trees_onto, without_bracket, withou
 use Rattle.markdown_brackets.specs.LinkTail.{LinkTail, link_tail}
 use Rattle.markdown_brackets.specs.Lookup.{answered, asked, defined_or_asked, finds_nothing, look_up, unknown}
 use Rattle.markdown_brackets.specs.Reference.{FoundLabel, collapsed, form_at, form_by_label, is_closer, is_opener}
-use Rattle.markdown_brackets.specs.Reference.{bracket_label}
-use Rattle.markdown_brackets.specs.Reference.{reference, shortcut, stands_at}
+use Rattle.markdown_brackets.specs.Reference.{bracket_label, reference, shortcut, stands_at}
 use Rattle.markdown_brackets.specs.declared.footnote.FootnoteStyle.{FootnoteStyle}
 use Rattle.markdown_brackets.proofs.OpenerHeldLemmas.{trees_stay}
 use Rattle.markdown_document.specs.ChainRest.{as_item, end_of, open_body, start_of}
@@ -50,8 +47,7 @@ use Rattle.markdown_resolver.specs.PutsTrees.{numbered_from, numbered_label}
 use Rattle.markdown_resolver.specs.ReadOn.{StandsTo}
 use Rattle.markdown_resolver.proofs.FollowersLemmas.{InOrder, opens_chain}
 use Rattle.markdown_resolver.proofs.GoesOnLemmas.{EndsThere, StandsBehind, ends_there, goes_on_closed, goes_on_here}
-use Rattle.markdown_resolver.proofs.GoesOnLemmas.{goes_on_there}
-use Rattle.markdown_resolver.proofs.GoesOnLemmas.{second_ends}
+use Rattle.markdown_resolver.proofs.GoesOnLemmas.{goes_on_there, second_ends}
 use Rattle.markdown_resolver.proofs.StandsToLemmas.{stands_rest}
 use Rattle.markdown_resolver.proofs.TailEndLemmas.{tail_closes}
 use Rattle.markdown_resolver.proofs.WikilinkShowsLemmas.{AllLie, inside_lies, left_lies, names_slice, shows_well}
@@ -61,8 +57,7 @@ collapsed_stands : (style : FootnoteStyle) (skipped : List ℕ → Option ℕ) (
     (next after : Option Item)
     → form_at style skipped in_table text p next after ≡ collapsed → stands_at (p + 1) is_closer after ≡ true
 collapsed_stands style skipped in_table text p next after = by (stands_at p is_opener next)
-    (stands_at (p + 1) is_closer after)
-    (stands_at p (λ b. true) next)
+    (stands_at (p + 1) is_closer after) (stands_at p (λ b. true) next)
   where
     labelled : (found : Option FoundLabel) → form_by_label p found ≡ collapsed → ⊥
     labelled None e = cc e
@@ -73,10 +68,8 @@ collapsed_stands style skipped in_table text p next after = by (stands_at p is_o
         in_style true e = cc e
         in_style false e = cc e
 
-    by : (opens closes follows : Bool)
-        → (if opens && closes then collapsed else if follows then form_by_label p
-        (bracket_label style skipped in_table (drop p text))
-        else shortcut) ≡ collapsed → closes ≡ true
+    by : (opens closes follows : Bool) → (if opens && closes then collapsed else if follows then form_by_label p
+        (bracket_label style skipped in_table (drop p text)) else shortcut) ≡ collapsed → closes ≡ true
     by true true follows e = refl
     by true false true e = absurd (labelled (bracket_label style skipped in_table (drop p text)) e)
     by true false false e = absurd (cc e)
@@ -87,8 +80,7 @@ collapsed_stands style skipped in_table text p next after = by (stands_at p is_o
 pub record MayGoOn (source : List ℕ) (w : Around) (c : Closing ℕ) : Type 0 where
   pub here : CanGoOn source c (end_of c.label)
   pub closed : (t : LinkTail) → link_tail (lines w) (start_of_first_past c.rest) (block_text w) (end_of c.label)
-      ≡ Some t
-      → CanGoOn source c t.ends
+      ≡ Some t → CanGoOn source c t.ends
   pub labelled : (i : ℕ) → closer_ends_at i c.rest ≡ true → CanGoOn source c i
   pub emptied : form_of w c ≡ collapsed → CanGoOn source c (end_of c.label + 2)
   pub doubled : (a : Label ℕ) (below after : Forest (Label ℕ)) → c.rest ≡ node a below after
@@ -101,8 +93,7 @@ pub record MayGoOn (source : List ℕ) (w : Around) (c : Closing ℕ) : Type 0 w
 
 -- a name that ends before a byte offset ends before a later one
 named_later : (source : List ℕ) (f : Forest (Label ℕ)) (end end' : ℕ) (name : List ℕ) → end ≤ end'
-    → IsNamedIn source f end name
-    → IsNamedIn source f end' name
+    → IsNamedIn source f end name → IsNamedIn source f end' name
 named_later source nil end end' name le h = h
 named_later source (node a below after) end end' name le h = slice_wider source (start_of a) end (start_of a) end' name
     (omega arith) le h
@@ -124,8 +115,7 @@ IsNoSlice : Option LinkView → Type 0
 IsNoSlice target = IfSome target (λ t. destination_origin t.kind ≡ made)
 
 looked_up_made : (defined : List Labelled) (asks : Bool) (limit : ℕ) (answers : Answers) (q : Question)
-    → destination_origin q.link_type ≡ made
-    → IsNoSlice (look_up defined asks limit answers q).target
+    → destination_origin q.link_type ≡ made → IsNoSlice (look_up defined asks limit answers q).target
 unfolding IsNoSlice
 looked_up_made defined asks limit answers q e = by_limit (limit == 0)
   where
@@ -159,28 +149,23 @@ module _ (source : List ℕ) (w : Around) (c : Closing ℕ) (may : MayGoOn sourc
   -- a reference ends so, and its type is neither that of an autolink nor that of a wikilink
   reference_so : (r : LinkReference) → IsFull w c r ⊎ IsOwn w c r
       → EndsSo source c r.end r.next × (destination_origin r.link_type ≡ made)
-  reference_so r way = ⊎_elim
-      (λ (h : IsFull w c r). (
-        subst (EndsSo source c r.end) (sym (ap (λ (r : LinkReference). r.next) h.is))
-            (ends_so r.end (may.labelled r.end h.closes)),
-        ap (λ (r : LinkReference). destination_origin r.link_type) h.is,
-      ))
-      (λ (h : IsOwn w c r). subst (λ end. EndsSo source c end r.next × (destination_origin r.link_type ≡ made))
-      (sym h.end)
-      (⊎_elim
+  reference_so r way = ⊎_elim (λ (h : IsFull w c r). (
+    subst (EndsSo source c r.end) (sym (ap (λ (r : LinkReference). r.next) h.is))
+        (ends_so r.end (may.labelled r.end h.closes)),
+    ap (λ (r : LinkReference). destination_origin r.link_type) h.is,
+  )) (λ (h : IsOwn w c r). subst (λ end. EndsSo source c end r.next × (destination_origin r.link_type ≡ made))
+      (sym h.end) (⊎_elim
       (λ (f : (r.link_type ≡ kind.Collapsed) × (r.next ≡ end_of c.label + 2) × (form_of w c ≡ collapsed)). (
         subst (EndsSo source c (end_of c.label)) (sym f.1)
             (may.emptied f.2, may.here.between, omega arith, omega arith),
         ap destination_origin f.0,
-      ))
-      (λ (f : (r.link_type ≡ kind.Shortcut) × (r.next ≡ end_of c.label)). (
+      )) (λ (f : (r.link_type ≡ kind.Shortcut) × (r.next ≡ end_of c.label)). (
         subst (EndsSo source c (end_of c.label)) (sym f.1) (ends_so (end_of c.label) may.here),
         ap destination_origin f.0,
       )) h.form)) way
 
   target_well : (o : Split ℕ) (r : LinkReference) (target : Option LinkView) → EndsSo source c r.end r.next
-      → IsNoSlice target
-      → EndsWell source c (unwrap_or (option_map (λ t. a_link o t r.end r.next) target) a_text)
+      → IsNoSlice target → EndsWell source c (unwrap_or (option_map (λ t. a_link o t r.end r.next) target) a_text)
   unfolding IsNoSlice
   target_well o r None h k = tt
   target_well o r (Some target) h k = (h.0, h.1, h.2, h.3, k)
@@ -202,12 +187,10 @@ module _ (source : List ℕ) (w : Around) (c : Closing ℕ) (may : MayGoOn sourc
       let now : Progress ℕ = record p { left = bracket_taken (left_for_one second p.left) } in
       let Well : Option (Written ℕ) → Type 0 = λ x. EndsWell source c (carried_out w x now).becomes in
       let rules = w.setting.rules in
-      either Well (found w c second p.left) tt
-      (found_cases w c (λ left. AllLie source (trees_onto left nil)) (record {
+      either Well (found w c second p.left) tt (found_cases w c (λ left. AllLie source (trees_onto left nil)) (record {
         bracket = λ left h. subst (AllLie source) (sym (trees_stay opens_bracket without_bracket left nil)) h;
         wikilink = λ left h. subst (AllLie source) (sym (trees_stay opens_wikilink without_wikilink left nil)) h;
-      }) (λ x. Well (Some x)) second
-      (λ left o h e live. record {
+      }) (λ x. Well (Some x)) second (λ left o h e live. record {
         inline = λ t is. let so = ends_so t.ends (may.closed t is) in (so.0, so.1, so.2, so.3, refl);
         refers = λ r way.
             let so = reference_so r way in
@@ -215,8 +198,7 @@ module _ (source : List ℕ) (w : Around) (c : Closing ℕ) (may : MayGoOn sourc
             (question_at o r)).target so.0
             (looked_up_made rules.definitions rules.asks p.known.limit p.known.answers (question_at o r) so.1);
         footnote = λ name. may.here;
-      })
-      (λ left o v end h e live is s.
+      }) (λ left o v end h e live is s.
       let on = second_on c.rest end refl s in (
         on,
         may.shows (past_second (inside o)) v (inside_lies source opens_wikilink left o h e) is,
@@ -228,8 +210,7 @@ module _ (source : List ℕ) (w : Around) (c : Closing ℕ) (may : MayGoOn sourc
 may_go_on : (source : List ℕ) (tables : Tables) (nodes : List (Node Item)) (w : Around) (c : Closing ℕ) (f : Forest ℕ)
     → StandsBehind source tables nodes c f
     → IsCharBoundary source (start_of c.label) → start_of c.label ≤ end_of c.label → w.setting.text ≡ source
-    → IsUtf8 source
-    → MayGoOn source w c
+    → IsUtf8 source → MayGoOn source w c
 may_go_on source tables nodes w c f k starts ordered text utf8 = record {
   here = goes_on_here source tables nodes c f k;
   closed = λ t e.
@@ -242,25 +223,21 @@ may_go_on source tables nodes w c f k starts ordered text utf8 = record {
       ap (λ (bytes : List ℕ). get_or bytes (t.ends - 1) 0) (sym text)
       ∙ (sym (get_or-take w.above.block_end w.setting.text (t.ends - 1) 0 below) ∙ closes.closed) in
       goes_on_closed source tables nodes c f k t.ends utf8 closes.after inside_text byte;
-  labelled = λ i h. goes_on_there source tables nodes c f k i
-      (ends_there source tables nodes i f
+  labelled = λ i h. goes_on_there source tables nodes c f k i (ends_there source tables nodes i f
       (subst (λ (rest : Forest (Label ℕ)). closer_ends_at i rest ≡ true) k.rest_is h));
   emptied = λ e.
       let stands = collapsed_stands (footnote_style w.setting.rules.options) (lines w) w.above.in_table (block_text w)
       (end_of c.label)
       (option_map as_item (first_root c.rest)) (option_map as_item (first_root (past_second c.rest))) e in
       let closes = subst (λ (rest : Forest (Label ℕ)). stands_at (end_of c.label + 1) is_closer
-      (option_map as_item (first_root (past_second rest))) ≡ true) k.rest_is
-      stands
-      in
+      (option_map as_item (first_root (past_second rest))) ≡ true) k.rest_is stands in
       let there = second_ends source tables nodes (end_of c.label + 1) f closes k.placed in
       let place : end_of c.label + 1 + 1 ≡ end_of c.label + 2 = omega arith in
       subst (CanGoOn source c) place (goes_on_there source tables nodes c f k (end_of c.label + 1 + 1) there);
   doubled = λ a below after e. first_ends f a below after k (sym k.rest_is ∙ e);
   shows = λ g v lies e.
       subst (λ (bytes : List ℕ). IsUtf8 bytes → AllLie bytes g → IsCharBoundary bytes (start_of c.label)
-      → ShowsWell bytes g v.children) text
-      (λ u l b. shows_well w g (start_of c.label) v u l b e) utf8 lies starts;
+      → ShowsWell bytes g v.children) text (λ u l b. shows_well w g (start_of c.label) v u l b e) utf8 lies starts;
   names = λ g v e.
       named_later source g (start_of c.label) (end_of c.label) v.name ordered
       (subst (λ (bytes : List ℕ). IsNamedIn bytes g (start_of c.label) v.name) text
@@ -268,8 +245,7 @@ may_go_on source tables nodes w c f k starts ordered text utf8 = record {
 }
   where
     first_ends : (g : Forest ℕ) (a : Label ℕ) (below after : Forest (Label ℕ)) → StandsBehind source tables nodes c g
-        → relabelled (numbered_label source tables nodes) g ≡ node a below after
-        → CanGoOn source c (end_of a)
+        → relabelled (numbered_label source tables nodes) g ≡ node a below after → CanGoOn source c (end_of a)
     first_ends nil a below after k e = absurd (cc e)
     first_ends (node ix inner later) a below after k e =
         let same : numbered_label source tables nodes ix ≡ a = cc e in
@@ -281,21 +257,18 @@ may_go_on source tables nodes w c f k starts ordered text utf8 = record {
           ends = refl;
         } in
         subst (λ (b : Label ℕ). CanGoOn source c (end_of b)) same
-        (goes_on_there source tables nodes c (node ix inner later) k
-        (item_at nodes ix).end there)
+        (goes_on_there source tables nodes c (node ix inner later) k (item_at nodes ix).end there)
 
 -- what a `]` becomes after a left list ends well
 pub ends_well : (source : List ℕ) (tables : Tables) (nodes : List (Node Item)) (first closer : ℕ)
-    (left : List (Entry ℕ)) (w : Around)
-    (c : Closing ℕ)
+    (left : List (Entry ℕ)) (w : Around) (c : Closing ℕ)
     (p : Progress ℕ) (becomes : Becomes ℕ) (q : Progress ℕ) → StandsTo source tables nodes first (Some closer) left
     → c.label ≡ numbered_label source tables nodes closer → c.rest
     ≡ numbered_from source tables nodes (sibling_of nodes closer)
     → w.setting.text ≡ source → IsUtf8 source → p.left ≡ left → decided w c p
-    ≡ record { becomes = becomes; progress = q }
-    → EndsWell source c becomes
+    ≡ record { becomes = becomes; progress = q } → EndsWell source c becomes
 ends_well source tables nodes first closer left w c p becomes q h label rest text utf8 stands e =
-    let o = opens_chain source tables nodes closer (stands_rest source tables nodes first (Some closer) left h) in
+    let o = opens_chain (stands_rest h) in
     let f = forest_at (links_of nodes) (sibling_of nodes closer) in
     let end : (item_at nodes closer).end ≡ end_of c.label = ap (λ (a : Label ℕ). end_of a) (sym label) in
     let start : (item_at nodes closer).start ≡ start_of c.label = ap (λ (a : Label ℕ). start_of a) (sym label) in
@@ -308,6 +281,5 @@ ends_well source tables nodes first closer left w c p becomes q h label rest tex
     let may = may_go_on source tables nodes w c f k (subst (IsCharBoundary source) start o.placed.lies.start)
     (rw label o.placed.lies.ordered) text utf8 in
     let lies : AllLie source (trees_onto p.left nil) = subst (λ (l : List (Entry ℕ)). AllLie source (trees_onto l nil))
-    (sym stands)
-    (left_lies source tables nodes first (Some closer) left h) in
+    (sym stands) (left_lies source tables nodes first (Some closer) left h) in
     subst (λ (d : Decision ℕ). EndsWell source c d.becomes) e (decided_well source w c may p lies)

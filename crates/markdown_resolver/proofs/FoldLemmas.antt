@@ -1,8 +1,7 @@
 -- What was inside went below the opener's node in some form, and the closer follows that: the chain as it is then. What
 -- is below the opener is no more than was inside.
 use Rattle.std.proofs.Common.{◌≡◌, ℕ, zero, suc, ◌+◌, ◌<◌, ◌≤◌, true, false, List, [], ◌∷◌, ◌++◌, length, Some, refl}
-use Rattle.std.proofs.Common.{sym, ap, ◌∙◌, arith}
-use Rattle.std.proofs.Common.{nat_le}
+use Rattle.std.proofs.Common.{sym, ap, ◌∙◌, arith, nat_le}
 use Rattle.std.proofs.lemmas.Bool.Decides.{nat_tests}
 use Rattle.markdown_base.specs.Arena.{child_of, sibling_of}
 use Rattle.markdown_base.specs.ArenaForest.{Spells, forest_at, links_of}
@@ -28,8 +27,7 @@ use Rattle.markdown_resolver.specs.Rewritten.{first_past}
 use Rattle.markdown_resolver.proofs.ChainOrderLemmas.{AllPast, StandsPast, rest_past}
 use Rattle.markdown_resolver.proofs.ComposeLemmas.{Stands, Moves}
 use Rattle.markdown_resolver.proofs.EncloseLemmas.{OpensAt, opens_at, enclosed_moves, inside_forest, read_past}
-use Rattle.markdown_resolver.proofs.EncloseLemmas.{rest_kept, spelled_past}
-use Rattle.markdown_resolver.proofs.EncloseLemmas.{total_equal, total_parts}
+use Rattle.markdown_resolver.proofs.EncloseLemmas.{rest_kept, spelled_past, total_equal, total_parts}
 use Rattle.markdown_resolver.proofs.PutLemmas.{first_kept, first_there, no_run_here}
 use Rattle.markdown_resolver.proofs.PutPairLemmas.{past_at}
 
@@ -79,14 +77,12 @@ counted_among count n (x ∷ before) after (node m below rest) e = omega
 
 -- of numbers past a number, those after others; and those whose items stay
 past_behind : (nodes : List (Node Item)) (low byte : ℕ) (before after : List ℕ)
-    → AllPast nodes low byte (before ++ after)
-    → AllPast nodes low byte after
+    → AllPast nodes low byte (before ++ after) → AllPast nodes low byte after
 past_behind nodes low byte [] after h = h
 past_behind nodes low byte (n ∷ before) after h = past_behind nodes low byte before after h.1
 
 past_kept : (old new : List (Node Item)) (low byte : ℕ) (f : Forest ℕ)
-    → ((n : ℕ) → 0 < total (same n) f → item_at new n ≡ item_at old n)
-    → AllPast old low byte (roots f)
+    → ((n : ℕ) → 0 < total (same n) f → item_at new n ≡ item_at old n) → AllPast old low byte (roots f)
     → AllPast new low byte (roots f)
 past_kept old new low byte nil kept all = tt
 past_kept old new low byte (node n below after) kept all =
@@ -96,7 +92,7 @@ past_kept old new low byte (node n below after) kept all =
     )
 
 -- the chain before that
-module _ (source : List ℕ) (tables : Tables) (old : List (Node Item)) (opener closer : ℕ) (inside : List ℕ) (byte : ℕ)
+module _ {source : List ℕ} {tables : Tables} {old : List (Node Item)} {opener closer : ℕ} {inside : List ℕ} {byte : ℕ}
     (can : CanClose source tables old opener closer inside byte) where
   abbrev f : Forest ℕ
   f = forest_at (links_of old) (sibling_of old opener)
@@ -127,8 +123,7 @@ module _ (source : List ℕ) (tables : Tables) (old : List (Node Item)) (opener 
   pub closer_reaches : Reaches (links_of old) (IsPlaced source tables old) (Some closer)
   closer_reaches = record {
     spelled = rw closer_forest closer_old;
-    each = rw closer_forest (each_past (IsPlaced source tables old) k f
-        opened.after.each);
+    each = rw closer_forest (each_past (IsPlaced source tables old) k f opened.after.each);
   }
 
   pub closer_stands_there : 0 < total (same closer) (trees_past k f)
@@ -140,7 +135,7 @@ module _ (source : List ℕ) (tables : Tables) (old : List (Node Item)) (opener 
 
   pub closer_past : StandsPast old opener (item_at old opener).end closer
   closer_past = past_at old opener (item_at old opener).end closer inside can.after
-      (rw can.follows at (rest_past source tables old opener can.ready))
+      (rw can.follows at (rest_past can.ready))
 
   closer_roots : roots (trees_past k f) ≡ closer ∷ can.after
   closer_roots = ap (λ (g : Forest ℕ). roots g) closer_opens.is ∙ ap (λ (ns : List ℕ). closer ∷ ns) closer_opens.follow
@@ -162,14 +157,12 @@ module _ (source : List ℕ) (tables : Tables) (old : List (Node Item)) (opener 
 
   -- where all from the closer on stays, it reads as it did
   module _ (new : List (Node Item)) (size : length new ≡ length old)
-      (behind : (n : ℕ) → 0 < total (same n) (trees_past k f)
-      → IsSameAt old new n) where
+      (behind : (n : ℕ) → 0 < total (same n) (trees_past k f) → IsSameAt old new n) where
     pub behind_framed : Framed source tables tables old new (Some closer)
     behind_framed =
         framed source tables tables old new (Some closer) (omega (arith, size))
         (grown-longer tables tables (grown-nothing tables))
-        closer_reaches
-        (rw closer_forest (stay_throughout tables tables old new (trees_past k f) refl behind
+        closer_reaches (rw closer_forest (stay_throughout tables tables old new (trees_past k f) refl behind
         (λ n l. same_entry-refl tables n)))
 
     pub behind_forest : forest_at (links_of new) (Some closer) ≡ trees_past k f
@@ -188,14 +181,13 @@ module _ (source : List ℕ) (tables : Tables) (old : List (Node Item)) (opener 
         let test : nat_le (item_at old closer).end byte ≡ true = grind (arith, nat_tests, ends) in
         let skip : first_past old byte (closer ∷ can.after) ≡ first_past old byte can.after = rw test refl in
         ap (λ (g : Forest ℕ). first_past new byte (roots g)) behind_forest ∙ first_kept old new byte (trees_past k f)
-        (λ n l. (behind n l).item)
-        ∙ ap (λ (ns : List ℕ). first_past old byte ns) closer_roots ∙ skip
+        (λ n l. (behind n l).item) ∙ ap (λ (ns : List ℕ). first_past old byte ns) closer_roots ∙ skip
 
     -- it is past the opener
     pub behind_past : AllPast new opener (item_at old opener).end (roots (forest_at (links_of new) (Some closer)))
     behind_past =
         let all : AllPast old opener (item_at old opener).end (inside ++ closer ∷ can.after) = rw can.follows at
-        (rest_past source tables old opener can.ready) in
+        (rest_past can.ready) in
         let some : AllPast old opener (item_at old opener).end (roots (trees_past k f)) = rw closer_roots
         (past_behind old opener (item_at old opener).end inside (closer ∷ can.after) all) in
         rw behind_forest (past_kept old new opener (item_at old opener).end (trees_past k f) (λ n l. (behind n l).item)
@@ -204,8 +196,7 @@ module _ (source : List ℕ) (tables : Tables) (old : List (Node Item)) (opener 
     pub item_behind : (n : ℕ) → first_past old byte can.after ≡ Some n → item_at new n ≡ item_at old n
     item_behind n e =
         let there : first_past new byte (roots (trees_past k f))
-        ≡ Some n = ap (λ (g : Forest ℕ). first_past new byte (roots g))
-        (sym behind_forest) ∙ first_behind ∙ e in
+        ≡ Some n = ap (λ (g : Forest ℕ). first_past new byte (roots g)) (sym behind_forest) ∙ first_behind ∙ e in
         (behind n (first_there new byte n (trees_past k f) there)).item
 
   -- folded, it is changed in place
@@ -274,8 +265,7 @@ module _ (source : List ℕ) (tables : Tables) (old : List (Node Item)) (opener 
           stands = record {
             reaches = record {
               spelled = rw now_here now_spelled;
-              each = rw now_here
-                  (opener_placed, v.below.reaches.each, rest.reaches.each);
+              each = rw now_here (opener_placed, v.below.reaches.each, rest.reaches.each);
             };
             once = λ n. rw now_here (let z = stands_once n in let t = now_times n in omega arith);
             named_once = λ n. rw now_here (let z = rw whole_childless at (can.ready.named_once n) in let t = now_named n
@@ -290,15 +280,14 @@ module _ (source : List ℕ) (tables : Tables) (old : List (Node Item)) (opener 
         }
 
 -- what is enclosed is folded
-pub enclosed_folds : (source : List ℕ) (tables : Tables) (old new : List (Node Item)) (opener last closer : ℕ)
-    (inside : List ℕ) (byte : ℕ)
-    → CanClose source tables old opener closer inside byte
+pub enclosed_folds : {source : List ℕ} {tables : Tables} {old new : List (Node Item)} {opener last closer : ℕ}
+    {inside : List ℕ} {byte : ℕ} → CanClose source tables old opener closer inside byte
     → last_inside opener inside ≡ last → IsEnclosed old new opener last closer
     → IsFolded source tables old new opener closer (length inside)
-enclosed_folds source tables old new opener last closer inside byte can is v =
-    let m = enclosed_moves source tables old new opener last closer inside byte can is v in
+enclosed_folds {source} {tables} {old} {new} {opener} {last} {closer} {inside} {byte} can is v =
+    let m = enclosed_moves can is v in
     let o = opens (links_of new) (IsPlaced source tables new) opener m.stands.reaches in
-    let here = inside_forest source tables old new opener last closer inside byte can is v in
+    let here = inside_forest can is v in
     let g = first_trees (length inside) (forest_at (links_of old) (sibling_of old opener)) in
     record {
       size = v.size;
@@ -316,6 +305,6 @@ enclosed_folds source tables old new opener last closer inside byte can is v =
       below_weight = rw here
           (let e = total_equal (weight_at old) (weight_at new) g (λ m. ap (λ (x : Item). weight_if (is_open x.body))
           (v.items m)) in omega (arith, e));
-      behind = rest_kept source tables old new opener last closer inside byte can is v;
+      behind = rest_kept can is v;
       outside = m.outside;
     }

@@ -1,11 +1,9 @@
 -- The items of a chain are in the text one after the other, so that past the end of one of them only later ones are
 -- left.
 use Rattle.std.proofs.Common.{◌≡◌, ℕ, suc, ◌<◌, ◌≤◌, Bool, true, false, List, [], ◌∷◌, ◌++◌, map, length, Option, Some}
-use Rattle.std.proofs.Common.{refl, sym, ap, ◌∙◌}
-use Rattle.std.proofs.Common.{arith, subst}
+use Rattle.std.proofs.Common.{refl, sym, ap, ◌∙◌, arith, subst}
 use Rattle.std.specs.Prelude.{IfSome, if◌then◌else◌, nat_le, ⊤}
 use Rattle.std.specs.Option.{option_map}
-use Rattle.std.proofs.lemmas.Bool.Decides.{nat_tests}
 use Rattle.std.proofs.lemmas.List.{length-map}
 use Rattle.markdown_base.specs.Arena.{child_of, sibling_of}
 use Rattle.markdown_base.specs.ArenaForest.{links_of, Spells, forest_at}
@@ -22,6 +20,7 @@ use Rattle.markdown_document.specs.Stages.{items_from}
 use Rattle.markdown_document.specs.Tables.{Tables}
 use Rattle.markdown_spans.specs.ChainInArena.{LeadsThrough}
 use Rattle.markdown_spans.proofs.LearnedElsewhereLemmas.{one_chain}
+use Rattle.markdown_brackets.proofs.OpenerLemmas.{le_true}
 use Rattle.markdown_resolver.specs.Chains.{CanResolve}
 use Rattle.markdown_resolver.specs.Kept.{IsQuietBelow}
 use Rattle.markdown_resolver.specs.Rewritten.{first_past, numbered_past_byte, begun_item}
@@ -76,8 +75,7 @@ each_root p nil [] x after h e = cc e
 each_root p nil (y ∷ before) x after h e = cc e
 each_root p (node ix below rest) [] x after h e = let same : ix ≡ x = cc e in subst p same h.0
 each_root p (node ix below rest) (y ∷ before) x after h e = each_root p rest before x after h.2
-    (let later : roots rest ≡ before
-    ++ x ∷ after = cc e in later)
+    (let later : roots rest ≡ before ++ x ∷ after = cc e in later)
 
 -- a chain that can be resolved, from its first node on
 pub record OpenedChain (source : List ℕ) (tables : Tables) (nodes : List (Node Item)) (ix : ℕ) : Type 0 where
@@ -93,10 +91,9 @@ pub record OpenedChain (source : List ℕ) (tables : Tables) (nodes : List (Node
   pub items : items_from nodes (Some ix) ≡ suc (length (followers nodes ix))
   pub all_placed : Each (IsPlaced source tables nodes) (forest_at (links_of nodes) (sibling_of nodes ix))
 
-pub opens_chain : (source : List ℕ) (tables : Tables) (nodes : List (Node Item)) (ix : ℕ)
-    → CanResolve source tables nodes (Some ix)
-    → OpenedChain source tables nodes ix
-opens_chain source tables nodes ix ready =
+pub opens_chain : {source : List ℕ} {tables : Tables} {nodes : List (Node Item)} {ix : ℕ}
+    → CanResolve source tables nodes (Some ix) → OpenedChain source tables nodes ix
+opens_chain {source} {tables} {nodes} {ix} ready =
     let o = opens (links_of nodes) (IsPlaced source tables nodes) ix ready.reaches in
     let rest = forest_at (links_of nodes) (sibling_of nodes ix) in
     let quiet : IsQuietBelow
@@ -110,8 +107,7 @@ opens_chain source tables nodes ix ready =
       trees = ap (relabelled (label_at source tables nodes)) o.here;
       labels = roots_shown (label_at source tables nodes) rest;
       ordered = order_along source tables nodes (item_at nodes ix).end (sibling_of nodes ix) rest o.after.spelled
-          o.after.each quiet.2
-          (next_after source tables nodes ix (sibling_of nodes ix) rest o.after.spelled no quiet.2
+          o.after.each quiet.2 (next_after source tables nodes ix (sibling_of nodes ix) rest o.after.spelled no quiet.2
           o.holds.keeps.in_order);
       leads = subst (LeadsThrough nodes (suc ix) (sibling_of nodes ix)) (along_roots nodes rest)
           (leads_along source tables nodes (suc ix) (sibling_of nodes ix) rest o.after.spelled o.after.each quiet.2
@@ -123,22 +119,15 @@ opens_chain source tables nodes ix ready =
 
 -- the number of items that are left where links lead through some
 pub items_led : (source : List ℕ) (tables : Tables) (nodes : List (Node Item)) (l : Option ℕ) (low : ℕ)
-    (chain : List Numbered)
-    → CanResolve source tables nodes l
+    (chain : List Numbered) → CanResolve source tables nodes l
     → LeadsThrough nodes low l chain → items_from nodes l ≡ length chain
 items_led source tables nodes l low chain ready leads =
     let rest = forest_at (links_of nodes) l in
     let same = one_chain nodes 0 low l (items_along nodes rest) chain (leads_items source tables nodes l ready) leads in
     sym (length-map (roots rest) (numbered nodes)) ∙ ap length (sym (along_roots nodes rest)) ∙ ap length same
 
--- past the end of an item, or a later byte, are only those that follow it
-ends_in : (e i : ℕ) → e ≤ i → nat_le e i ≡ true
-ends_in e i h = grind (arith, nat_tests)
-
-ends_out : (e i : ℕ) → nat_le e i ≡ false → i < e
-ends_out e i h = grind (arith, nat_tests)
-
--- those before an item end where it starts at the latest
+-- past the end of an item, or a later byte, are only those that follow it: those before it end where it starts at the
+-- latest
 abbrev pub EndBefore : List (Node Item) → ℕ → List ℕ → Type 0
 EndBefore nodes i [] = ⊤
 EndBefore nodes i (x ∷ after) = ((item_at nodes x).end ≤ i) × EndBefore nodes i after
@@ -150,8 +139,7 @@ pub record OrderAround (nodes : List (Node Item)) (i : ℕ) (before : List ℕ) 
   pub later : InOrder nodes (item_at nodes x).end after
 
 pub order_around : (nodes : List (Node Item)) (i : ℕ) (before : List ℕ) (x : ℕ) (after : List ℕ)
-    → InOrder nodes i (before ++ x ∷ after)
-    → OrderAround nodes i before x after
+    → InOrder nodes i (before ++ x ∷ after) → OrderAround nodes i before x after
 order_around nodes i [] x after h = record { from = h.0; all_before = tt; ordered = h.1; later = h.2 }
 order_around nodes i (y ∷ before) x after h =
     let o = order_around nodes (item_at nodes y).end before x after h.2 in
@@ -159,8 +147,7 @@ order_around nodes i (y ∷ before) x after h =
       from = omega (arith, h.0, h.1, o.from);
       all_before = (o.from, o.all_before);
       ordered = o.ordered;
-      later
-          = o.later;
+      later = o.later;
     }
 
 end_before_more : (nodes : List (Node Item)) (i j : ℕ) (xs : List ℕ) → i ≤ j → EndBefore nodes i xs
@@ -169,21 +156,19 @@ end_before_more nodes i j [] le h = tt
 end_before_more nodes i j (x ∷ xs) le h = (omega (arith, h.0), end_before_more nodes i j xs le h.1)
 
 passed_over : (nodes : List (Node Item)) (i : ℕ) (before after : List ℕ) → EndBefore nodes i before
-    → first_past nodes i (before ++ after)
-    ≡ first_past nodes i after
+    → first_past nodes i (before ++ after) ≡ first_past nodes i after
 passed_over nodes i [] after h = refl
-passed_over nodes i (x ∷ before) after h = rw (ends_in (item_at nodes x).end i h.0)
+passed_over nodes i (x ∷ before) after h = rw (le_true (item_at nodes x).end i h.0)
     (passed_over nodes i before after h.1)
 
 left_over : (nodes : List (Node Item)) (i : ℕ) (before after : List ℕ) → EndBefore nodes i before
     → numbered_past_byte i (map (numbered nodes) (before ++ after)) ≡ numbered_past_byte i (map (numbered nodes) after)
 left_over nodes i [] after h = refl
-left_over nodes i (x ∷ before) after h = rw (ends_in (item_at nodes x).end i h.0) (left_over nodes i before after h.1)
+left_over nodes i (x ∷ before) after h = rw (le_true (item_at nodes x).end i h.0) (left_over nodes i before after h.1)
 
 -- the first that ends past a byte offset that no item contains starts there or later
-starts_past : (nodes : List (Node Item)) (e j next : ℕ) (xs : List ℕ) → e ≤ j → InOrder nodes j xs
-    → first_past nodes e xs ≡ Some next
-    → e ≤ (item_at nodes next).start
+pub starts_past : (nodes : List (Node Item)) (e j next : ℕ) (xs : List ℕ) → e ≤ j → InOrder nodes j xs
+    → first_past nodes e xs ≡ Some next → e ≤ (item_at nodes next).start
 starts_past nodes e j next [] le h first = cc first
 starts_past nodes e j next (x ∷ xs) le h first =
     by (nat_le (item_at nodes x).end e) first
@@ -202,36 +187,31 @@ no_more_left e (a ∷ after) = by (nat_le a.item.end e) (no_more_left e after)
   where
     by : (ended : Bool) → length (numbered_past_byte e after) ≤ length after
         → length (if ended then numbered_past_byte e after else record { number = a.number; item = begun_item e a.item }
-        ∷ after) ≤ suc
-        (length after)
+        ∷ after) ≤ suc (length after)
     by true h = omega (arith, h)
     by false h = omega arith
 
 -- no item has bytes both before and after the end of an item of a chain
 pub nothing_around : (nodes : List (Node Item)) (i : ℕ) (before : List ℕ) (x : ℕ) (after : List ℕ) (next : ℕ)
-    → InOrder nodes i (before ++ x ∷ after)
-    → first_past nodes (item_at nodes x).end (before ++ x ∷ after) ≡ Some next
+    → InOrder nodes i (before ++ x ∷ after) → first_past nodes (item_at nodes x).end (before ++ x ∷ after) ≡ Some next
     → (item_at nodes x).end ≤ (item_at nodes next).start
 nothing_around nodes i before x after next h first =
     let e = (item_at nodes x).end in
     let o = order_around nodes i before x after h in
     let here : first_past nodes e (x ∷ after) ≡ Some next =
     sym (passed_over nodes e before (x ∷ after)
-    (end_before_more nodes (item_at nodes x).start e before o.ordered o.all_before)) ∙ first
-    in
+    (end_before_more nodes (item_at nodes x).start e before o.ordered o.all_before)) ∙ first in
     starts_past nodes e e next after (omega arith) o.later (sym (passed_over nodes e (x ∷ []) after (omega arith, tt))
     ∙ here)
 
 -- and past it no more items are left than those that follow it
 pub fewer_left : (nodes : List (Node Item)) (i e : ℕ) (before : List ℕ) (x : ℕ) (after : List ℕ)
-    → InOrder nodes i (before ++ x ∷ after)
-    → (item_at nodes x).end ≤ e
+    → InOrder nodes i (before ++ x ∷ after) → (item_at nodes x).end ≤ e
     → length (numbered_past_byte e (map (numbered nodes) (before ++ x ∷ after))) ≤ length after
 fewer_left nodes i e before x after h le =
     let o = order_around nodes i before x after h in
     let same = left_over nodes e before (x ∷ after)
-    (end_before_more nodes (item_at nodes x).start e before (omega (arith, o.ordered, le))
-    o.all_before)
+    (end_before_more nodes (item_at nodes x).start e before (omega (arith, o.ordered, le)) o.all_before)
     ∙ left_over nodes e (x ∷ []) after (le, tt) in
     let least = no_more_left e (map (numbered nodes) after) in
     let size = length-map after (numbered nodes) in

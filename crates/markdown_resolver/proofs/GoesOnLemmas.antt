@@ -2,14 +2,12 @@
 -- where a later item ends, and after a `)`. Each is between characters, and no open item has bytes on both sides of it:
 -- items are one after the other, and an open item covers its markup, in which there is no `)`.
 use Rattle.std.proofs.Common.{◌≡◌, ℕ, ◌+◌, ◌-◌, ◌<◌, ◌≤◌, Bool, true, false, ◌==◌, ◌&&◌, List, [], ◌∷◌, ◌++◌, Option}
-use Rattle.std.proofs.Common.{Some, None, IsUtf8}
-use Rattle.std.proofs.Common.{length, drop, get_or, refl, sym, ap, ◌∙◌, subst, arith}
+use Rattle.std.proofs.Common.{Some, None, IsUtf8, length, drop, get_or, refl, sym, ap, ◌∙◌, subst, arith}
 use Rattle.std.specs.Prelude.{IfSome, if◌then◌else◌, nat_le, nat_lt, slice_range}
 use Rattle.std.specs.Str.{IsCharBoundary}
 use Rattle.std.proofs.lemmas.Bool.{eqb-true}
 use Rattle.std.proofs.lemmas.Bool.Decides.{nat_tests}
-use Rattle.std.proofs.lemmas.List.{get_or-drop, get_or-replicate, get_or-take, length-drop, length-replicate}
-use Rattle.std.proofs.lemmas.List.{length-take}
+use Rattle.std.proofs.lemmas.List.{get_or-drop, get_or-replicate, get_or-take, length-replicate}
 use Rattle.std.proofs.lemmas.Str.{IsCharBoundary-after_ascii}
 use Rattle.markdown_base.specs.ArenaRules.{next_at}
 use Rattle.markdown_base.specs.BlockTree.{Numbered, numbered, item_at}
@@ -24,89 +22,69 @@ use Rattle.markdown_base.specs.declared.node.Node.{Node}
 use Rattle.markdown_brackets.specs.BracketDecision.{Closing, closer_ends_at, past_second}
 use Rattle.markdown_brackets.specs.Reference.{is_closer, stands_at}
 use Rattle.markdown_document.specs.ChainRest.{as_item, end_of, open_body}
-use Rattle.markdown_document.specs.Document.{Shape, backslash_break, enclosed, is_unresolved, leaf, plain, shape_of}
-use Rattle.markdown_document.specs.Document.{unresolved}
+use Rattle.markdown_document.specs.Document.{shape_of}
 use Rattle.markdown_document.specs.PlacedNodes.{IsPlaced}
 use Rattle.markdown_document.specs.Tables.{Tables}
-use Rattle.markdown_document.proofs.PlaceLemmas.{open-unresolved, shape-open}
+use Rattle.markdown_base.proofs.ByteListLemmas.{part_length}
+use Rattle.markdown_delims.proofs.PairingLemmas.{closed_shape}
 use Rattle.markdown_resolver.specs.Closes.{CanGoOn, IsNotCut, NoneOpenAround}
 use Rattle.markdown_resolver.specs.PutsTrees.{numbered_label}
 use Rattle.markdown_resolver.specs.Rewritten.{first_past}
-use Rattle.markdown_resolver.proofs.FollowersLemmas.{InOrder, each_root, nothing_around, order_around}
+use Rattle.markdown_resolver.proofs.FollowersLemmas.{InOrder, each_root, nothing_around, order_around, starts_past}
 
--- an open item with these bytes has no `)` before its last one
-none_open : (bytes : List ℕ) (k : ℕ) (b : ItemBody) → k + 1 < length bytes → get_or bytes k 0 ≡ 41
-    → StandsOverMarkup bytes b
-    → IfSome (run_character b) (λ c. length bytes ≡ 1) → is_open b ≡ false
-none_open bytes k (body.MaybeEmphasis count opens closes) within closed markup run = absurd (omega (arith, run, within))
-none_open bytes k (body.MaybeMath opens closes context) within closed markup run = absurd
+-- an open item has no byte like `)` or `>` before its last one
+none_open : (byte : ℕ) (bytes : List ℕ) (k : ℕ) (b : ItemBody) → (33 < byte) × (byte < 96) → k + 1 < length bytes
+    → get_or bytes k 0 ≡ byte → StandsOverMarkup bytes b → IfSome (run_character b) (λ c. length bytes ≡ 1)
+    → is_open b ≡ false
+none_open byte bytes k (body.MaybeEmphasis count opens closes) other within closed markup run = absurd
+    (omega (arith, run, within))
+none_open byte bytes k (body.MaybeMath opens closes context) other within closed markup run = absurd
     (omega (arith, ap length markup, within))
-none_open bytes k (body.MaybeSmartQuote quote opens closes) within closed markup run = absurd
+none_open byte bytes k (body.MaybeSmartQuote quote opens closes) other within closed markup run = absurd
     (omega (arith, ap length markup.0, within))
-none_open bytes k (body.MaybeCode count escaped) within closed markup run =
+none_open byte bytes k (body.MaybeCode count escaped) other within closed markup run =
     let size : length bytes ≡ count = ap length markup.0 ∙ length-replicate count 96 in
     let here : k < count = omega (arith, size, within) in
-    absurd (omega (arith, closed, ap (λ (xs : List ℕ). get_or xs k 0) markup.0 ∙ get_or-replicate count k 96 0 here))
-none_open bytes k body.MaybeHtml within closed markup run = absurd (omega (arith, ap length markup, within))
-none_open bytes k body.MaybeLinkOpen within closed markup run = absurd (omega (arith, ap length markup, within))
-none_open bytes k (body.MaybeLinkClose could_be) within closed markup run = absurd
+    let mark : get_or bytes k 0 ≡ 96 = ap (λ (xs : List ℕ). get_or xs k 0) markup.0 ∙ get_or-replicate count k 96 0 here
+    in absurd (omega (arith, closed, mark, other.1))
+none_open byte bytes k body.MaybeHtml other within closed markup run = absurd (omega (arith, ap length markup, within))
+none_open byte bytes k body.MaybeLinkOpen other within closed markup run = absurd
     (omega (arith, ap length markup, within))
-none_open bytes k body.MaybeImage within closed markup run =
+none_open byte bytes k (body.MaybeLinkClose could_be) other within closed markup run = absurd
+    (omega (arith, ap length markup, within))
+none_open byte bytes k body.MaybeImage other within closed markup run =
     let size : length bytes ≡ 2 = ap length markup in
     let first : k ≡ 0 = omega (arith, size, within) in
     let mark : get_or bytes 0 0 ≡ 33 = ap (λ (xs : List ℕ). get_or xs 0 0) markup in
-    absurd (omega (arith, closed, mark, ap (λ i. get_or bytes i 0) first))
-none_open bytes k other within closed markup run = refl
+    absurd (omega (arith, closed, mark, ap (λ i. get_or bytes i 0) first, other.0))
+none_open byte bytes k b other within closed markup run = refl
 
 -- a run's character is one byte long
 pub one_byte : (source : List ℕ) (a : Numbered) (next : Option Numbered) (c : Option RunCharacter) (bytes : List ℕ)
-    → length bytes ≡ a.item.end - a.item.start
-    → IfSome c (StandsInRun source a next) → IfSome c (λ x. length bytes ≡ 1)
+    → length bytes ≡ a.item.end - a.item.start → IfSome c (StandsInRun source a next) → IfSome c (λ x. length bytes ≡ 1)
 one_byte source a next None bytes e h = tt
 one_byte source a next (Some c) bytes e h = omega (arith, e, h.one_byte)
 
--- an item has as many bytes as its range is long
-pub size_there : (source : List ℕ) (start end : ℕ) → end ≤ length source → length (slice_range source start end)
-    ≡ end - start
-size_there source start end within = omega
-    (arith, length-take (end - start) (drop start source), length-drop start source, within)
-
--- so no open item has bytes both before and after an offset that follows a `)`
-none_cut : (source : List ℕ) (tables : Tables) (nodes : List (Node Item)) (n i : ℕ) → IsPlaced source tables nodes n
-    → get_or source (i - 1) 0 ≡ 41 → (item_at nodes n).start < i → i < (item_at nodes n).end
-    → is_open (item_at nodes n).body ≡ false
-none_cut source tables nodes n i placed closed starts ends =
+-- so no open item has bytes both before and after an offset that follows such a byte
+pub none_cut : (source : List ℕ) (tables : Tables) (nodes : List (Node Item)) (n i byte : ℕ)
+    → IsPlaced source tables nodes n → (33 < byte) × (byte < 96) → get_or source (i - 1) 0 ≡ byte
+    → (item_at nodes n).start < i → i < (item_at nodes n).end → is_open (item_at nodes n).body ≡ false
+none_cut source tables nodes n i byte placed other closed starts ends =
     let item = item_at nodes n in
     let bytes = slice_range source item.start item.end in
     let k = i - 1 - item.start in
-    let size : length bytes ≡ item.end - item.start = size_there source item.start item.end placed.lies.end.0 in
+    let size : length bytes ≡ item.end - item.start = part_length source item.start item.end placed.lies.end.0 in
     let place : item.start + k ≡ i - 1 = omega (arith, starts) in
     let below : k < item.end - item.start = omega (arith, starts, ends) in
-    let byte : get_or bytes k 0 ≡ 41 =
+    let there : get_or bytes k 0 ≡ byte =
     get_or-take (item.end - item.start) (drop item.start source) k 0 below
     ∙ (get_or-drop item.start source k 0 ∙ (ap (λ j. get_or source j 0) place ∙ closed)) in
-    none_open bytes k item.body (omega (arith, size, starts, ends)) byte placed.keeps.markup_is_there
+    none_open byte bytes k item.body other (omega (arith, size, starts, ends)) there placed.keeps.markup_is_there
     (one_byte source (numbered nodes n) (next_at nodes n) (run_character item.body) bytes size
     placed.keeps.runs_are_whole)
 
--- the first that ends past a byte offset after which all start there or later
-first_starts : (nodes : List (Node Item)) (i j n : ℕ) (xs : List ℕ) → i ≤ j → InOrder nodes j xs → first_past nodes i xs
-    ≡ Some n
-    → i ≤ (item_at nodes n).start
-first_starts nodes i j n [] le h first = cc first
-first_starts nodes i j n (x ∷ after) le h first =
-    by (nat_le (item_at nodes x).end i) first
-    (first_starts nodes i (item_at nodes x).end n after (omega (arith, le, h.0, h.1)) h.2)
-  where
-    by : (ended : Bool) → (if ended then first_past nodes i after else Some x) ≡ Some n
-        → (first_past nodes i after ≡ Some n → i ≤ (item_at nodes n).start) → i ≤ (item_at nodes n).start
-    by true found later = later found
-    by false found later = let same : x ≡ n = cc found in let here : i ≤ (item_at nodes x).start = omega
-        (arith, le, h.0)
-        in subst (λ m. i ≤ (item_at nodes m).start) same here
-
--- and it is one of them
-first_placed : (source : List ℕ) (tables : Tables) (nodes : List (Node Item)) (i n : ℕ) (f : Forest ℕ)
+-- the first item that ends past a byte offset is one of the chain
+pub first_placed : (source : List ℕ) (tables : Tables) (nodes : List (Node Item)) (i n : ℕ) (f : Forest ℕ)
     → Each (IsPlaced source tables nodes) f
     → first_past nodes i (roots f) ≡ Some n → IsPlaced source tables nodes n × (i < (item_at nodes n).end)
 first_placed source tables nodes i n nil p e = cc e
@@ -123,29 +101,13 @@ first_placed source tables nodes i n (node ix below after) p e = by (nat_le (ite
         let past : i < (item_at nodes ix).end = grind (arith, nat_tests) in
         (subst (IsPlaced source tables nodes) same p.0, subst (λ (m : ℕ). i < (item_at nodes m).end) same past)
 
--- what is not open reads as no open item
-closed_shape : (tables : Tables) (bytes : List ℕ) (b : ItemBody) → is_open b ≡ false
-    → is_unresolved (shape_of tables bytes b) ≡ false
-closed_shape tables bytes b closed = by (is_unresolved (shape_of tables bytes b)) refl
-  where
-    by : (open_there : Bool) → is_unresolved (shape_of tables bytes b) ≡ open_there → open_there ≡ false
-    by true e = let opens = open-unresolved tables bytes b e in cc (opens, closed)
-    by false e = refl
-
 -- what a label shows as a `]` is one
-shows_open : (shape : Shape) → is_closer (open_body shape) ≡ true → is_unresolved shape ≡ true
-shows_open (leaf e origins) h = cc h
-shows_open (enclosed tag) h = cc h
-shows_open plain h = cc h
-shows_open backslash_break h = cc h
-shows_open (unresolved b) h = refl
-
-shows_closer : (tables : Tables) (bytes : List ℕ) (b : ItemBody) → is_closer (open_body (shape_of tables bytes b))
-    ≡ true
-    → is_closer b ≡ true
-shows_closer tables bytes b h =
-    let opens = open-unresolved tables bytes b (shows_open (shape_of tables bytes b) h) in
-    subst (λ (shape : Shape). is_closer (open_body shape) ≡ true) (shape-open tables bytes b opens) h
+shows_closer : (tables : Tables) (bytes : List ℕ) (b : ItemBody)
+    → is_closer (open_body (shape_of tables bytes b)) ≡ is_closer b
+shows_closer tables bytes body.Paragraph = refl
+shows_closer tables bytes (body.HardBreak true) = refl
+shows_closer tables bytes (body.HardBreak false) = refl
+shows_closer tables bytes other = refl
 
 -- and has one byte
 closer_long : (bytes : List ℕ) (b : ItemBody) → is_closer b ≡ true → StandsOverMarkup bytes b → length bytes ≡ 1
@@ -172,14 +134,12 @@ module _ (source : List ℕ) (tables : Tables) (nodes : List (Node Item)) where
   -- what is required of labels, by numbers
   pub none_open_around : (i : ℕ) (f : Forest ℕ)
       → ((n : ℕ) → first_past nodes i (roots f) ≡ Some n → (item_at nodes n).start < i
-      → is_open (item_at nodes n).body ≡ false)
-      → NoneOpenAround i (relabelled (numbered_label source tables nodes) f)
+      → is_open (item_at nodes n).body ≡ false) → NoneOpenAround i (relabelled (numbered_label source tables nodes) f)
   none_open_around i nil h = tt
   none_open_around i (node ix below after) h = by (nat_le (item_at nodes ix).end i) h (none_open_around i after)
     where
       by : (ended : Bool) → ((n : ℕ) → (if ended then first_past nodes i (roots after) else Some ix) ≡ Some n
-          → (item_at nodes n).start < i
-          → is_open (item_at nodes n).body ≡ false)
+          → (item_at nodes n).start < i → is_open (item_at nodes n).body ≡ false)
           → (((n : ℕ) → first_past nodes i (roots after) ≡ Some n → (item_at nodes n).start < i
           → is_open (item_at nodes n).body ≡ false)
           → NoneOpenAround i (relabelled (numbered_label source tables nodes) after))
@@ -210,16 +170,14 @@ module _ (source : List ℕ) (tables : Tables) (nodes : List (Node Item)) where
             item = r.item;
             after = r.after;
             follows = ap (λ (xs : List ℕ). ix ∷ xs) r.follows;
-            ends =
-                r.ends;
+            ends = r.ends;
           }
       by false true true same h later = record {
         before = [];
         item = ix;
         after = roots after;
         follows = refl;
-        ends =
-            eqb-true (item_at nodes ix).end i same;
+        ends = eqb-true (item_at nodes ix).end i same;
       }
       by false true false same h later = cc h
       by false false here same h later = cc h
@@ -227,8 +185,7 @@ module _ (source : List ℕ) (tables : Tables) (nodes : List (Node Item)) where
   -- the second item, where it is a `]` that starts at a byte
   pub second_ends : (p : ℕ) (f : Forest ℕ) → stands_at p is_closer
       (option_map as_item (first_root (past_second (relabelled (numbered_label source tables nodes) f)))) ≡ true
-      → Each (IsPlaced source tables nodes) f
-      → EndsThere nodes (p + 1) f
+      → Each (IsPlaced source tables nodes) f → EndsThere nodes (p + 1) f
   second_ends p nil h placed = cc h
   second_ends p (node ix below nil) h placed = cc h
   second_ends p (node ix below (node n inner after)) h placed =
@@ -242,16 +199,16 @@ module _ (source : List ℕ) (tables : Tables) (nodes : List (Node Item)) where
           let item = item_at nodes n in
           let bytes = slice_range source item.start item.end in
           let at = placed.2.0 in
-          let size = size_there source item.start item.end at.lies.end.0 in
-          let long = closer_long bytes item.body (shows_closer tables bytes item.body t) at.keeps.markup_is_there in
+          let size = part_length source item.start item.end at.lies.end.0 in
+          let long = closer_long bytes item.body (sym (shows_closer tables bytes item.body)
+          ∙ t) at.keeps.markup_is_there in
           let starts = eqb-true item.start p s in
           record {
             before = ix ∷ [];
             item = n;
             after = roots after;
             follows = refl;
-            ends = omega
-                (arith, size, long, starts);
+            ends = omega (arith, size, long, starts);
           }
       by true false s t h = cc h
       by false closes s t h = cc h
@@ -268,7 +225,7 @@ module _ (source : List ℕ) (tables : Tables) (nodes : List (Node Item)) where
       behind = omega arith;
       between = k.between;
       none_around = around_here (end_of c.label) (λ n first starts.
-          let from = first_starts nodes (end_of c.label) (end_of c.label) n (roots f) (omega arith) k.ordered first in
+          let from = starts_past nodes (end_of c.label) (end_of c.label) n (roots f) (omega arith) k.ordered first in
           absurd (omega (arith, from, starts)));
     }
 
@@ -276,8 +233,7 @@ module _ (source : List ℕ) (tables : Tables) (nodes : List (Node Item)) where
     pub goes_on_there : (i : ℕ) → EndsThere nodes i f → CanGoOn source c i
     goes_on_there i there =
         let order : InOrder nodes (end_of c.label) (there.before ++ there.item ∷ there.after) = subst
-        (InOrder nodes (end_of c.label))
-        there.follows k.ordered in
+        (InOrder nodes (end_of c.label)) there.follows k.ordered in
         let o = order_around nodes (end_of c.label) there.before there.item there.after order in
         let placed = each_root (IsPlaced source tables nodes) f there.before there.item there.after k.placed
         there.follows in
@@ -306,5 +262,5 @@ module _ (source : List ℕ) (tables : Tables) (nodes : List (Node Item)) where
               (IsCharBoundary-after_ascii source (i - 1) utf8 inside_text low);
           none_around = around_here i (λ n first starts.
               let found = first_placed source tables nodes i n f k.placed first in
-              none_cut source tables nodes n i found.0 closed starts found.1);
+              none_cut source tables nodes n i 41 found.0 (omega arith, omega arith) closed starts found.1);
         }

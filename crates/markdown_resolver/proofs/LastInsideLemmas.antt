@@ -24,9 +24,7 @@ pub record IsAhead (nodes : List (Node Item)) (opener closer last : ℕ) (inside
 
 -- at the opener it is so
 pub ahead_first : (source : List ℕ) (tables : Tables) (nodes : List (Node Item)) (opener closer : ℕ) (inside : List ℕ)
-    (byte : ℕ)
-    → CanClose source tables nodes opener closer inside byte
-    → IsAhead nodes opener closer opener inside
+    (byte : ℕ) → CanClose source tables nodes opener closer inside byte → IsAhead nodes opener closer opener inside
 ahead_first source tables nodes opener closer inside byte can =
     let o = opens (links_of nodes) (IsPlaced source tables nodes) opener can.ready.reaches in
     record {
@@ -38,12 +36,10 @@ ahead_first source tables nodes opener closer inside byte can =
     }
 
 pub first_spelled : (source : List ℕ) (tables : Tables) (nodes : List (Node Item)) (opener closer : ℕ) (inside : List ℕ)
-    (byte : ℕ)
-    → CanClose source tables nodes opener closer inside byte
+    (byte : ℕ) → CanClose source tables nodes opener closer inside byte
     → Spells (links_of nodes) (sibling_of nodes opener) (forest_at (links_of nodes) (sibling_of nodes opener))
 first_spelled source tables nodes opener closer inside byte can
-    = (opens (links_of nodes) (IsPlaced source tables nodes) opener
-    can.ready.reaches).after.spelled
+    = (opens (links_of nodes) (IsPlaced source tables nodes) opener can.ready.reaches).after.spelled
 
 -- the first of a chain, and what follows it
 follow_roots : (nodes : List (Node Item)) (last next : ℕ) → sibling_of nodes last ≡ Some next → SpelledAt nodes next
@@ -64,11 +60,9 @@ stands_among n (x ∷ before) after (node m below rest) e = omega (arith, stands
 
 -- at the next node that is not the closer
 next_ahead : (nodes : List (Node Item)) (opener closer last next : ℕ) (inside ahead after : List ℕ)
-    → sibling_of nodes last ≡ Some next
-    → SpelledAt nodes next → (next ≡ closer → ⊥)
+    → sibling_of nodes last ≡ Some next → SpelledAt nodes next → (next ≡ closer → ⊥)
     → last_inside opener inside ≡ last_inside last ahead
-    → next ∷ roots (forest_at (links_of nodes) (sibling_of nodes next)) ≡ ahead
-    ++ closer ∷ after
+    → next ∷ roots (forest_at (links_of nodes) (sibling_of nodes next)) ≡ ahead ++ closer ∷ after
     → total (same closer) (forest_at (links_of nodes) (sibling_of nodes last)) ≤ 1
     → IsAhead nodes opener closer next inside
 next_ahead nodes opener closer last next inside [] after link s other ends follows once = let is : next
@@ -78,8 +72,7 @@ next_ahead nodes opener closer last next inside (x ∷ ahead) after link s other
     let is : x ≡ next = cc follows in
     let whole : forest_at (links_of nodes) (sibling_of nodes last)
     ≡ node next (forest_at (links_of nodes) (child_of nodes next)) (forest_at (links_of nodes) (sibling_of nodes next))
-    =
-    ap (λ (l : Option ℕ). forest_at (links_of nodes) l) link ∙ s.here in
+    = ap (λ (l : Option ℕ). forest_at (links_of nodes) l) link ∙ s.here in
     record {
       ahead = ahead;
       after = after;
@@ -89,42 +82,34 @@ next_ahead nodes opener closer last next inside (x ∷ ahead) after link s other
     }
 
 pub ahead_next : (nodes : List (Node Item)) (opener closer last next : ℕ) (inside : List ℕ) → sibling_of nodes last
-    ≡ Some next
-    → SpelledAt nodes next → (next ≡ closer → ⊥)
+    ≡ Some next → SpelledAt nodes next → (next ≡ closer → ⊥)
     → IsAhead nodes opener closer last inside → IsAhead nodes opener closer next inside
 ahead_next nodes opener closer last next inside link s other h =
     next_ahead nodes opener closer last next inside h.ahead h.after link s other h.ends
-    (sym (follow_roots nodes last next link s)
-    ∙ h.follows) h.once
+    (sym (follow_roots nodes last next link s) ∙ h.follows) h.once
 
 -- before the closer is the last node inside
 closer_ahead : (nodes : List (Node Item)) (opener closer last : ℕ) (inside ahead after : List ℕ) → sibling_of nodes last
-    ≡ Some closer
-    → SpelledAt nodes closer
-    → last_inside opener inside ≡ last_inside last ahead
-    → closer ∷ roots (forest_at (links_of nodes) (sibling_of nodes closer)) ≡ ahead
-    ++ closer ∷ after
+    ≡ Some closer → SpelledAt nodes closer → last_inside opener inside ≡ last_inside last ahead
+    → closer ∷ roots (forest_at (links_of nodes) (sibling_of nodes closer)) ≡ ahead ++ closer ∷ after
     → total (same closer) (forest_at (links_of nodes) (sibling_of nodes last)) ≤ 1 → last_inside opener inside ≡ last
 closer_ahead nodes opener closer last inside [] after link s ends follows once = ends
 closer_ahead nodes opener closer last inside (x ∷ ahead) after link s ends follows once =
     let again : 0 < total (same closer) (forest_at (links_of nodes) (sibling_of nodes closer)) = stands_among closer
-    ahead after
-    (forest_at (links_of nodes) (sibling_of nodes closer)) (cc follows) in
+    ahead after (forest_at (links_of nodes) (sibling_of nodes closer)) (cc follows) in
     let whole : forest_at (links_of nodes) (sibling_of nodes last) ≡ forest_at (links_of nodes) (Some closer) =
     ap (λ (l : Option ℕ). forest_at (links_of nodes) l) link in
     let y = rw (whole, s.here) at once in
     absurd (omega (arith, y, again, same-refl closer))
 
 pub ahead_here : (nodes : List (Node Item)) (opener closer last next : ℕ) (inside : List ℕ) → sibling_of nodes last
-    ≡ Some next
-    → SpelledAt nodes next → next ≡ closer
+    ≡ Some next → SpelledAt nodes next → next ≡ closer
     → IsAhead nodes opener closer last inside → last_inside opener inside ≡ last
 ahead_here nodes opener closer last next inside link s is h =
     let link' : sibling_of nodes last ≡ Some closer = link ∙ ap (λ (n : ℕ). Some n) is in
     let s' : SpelledAt nodes closer = subst (λ (n : ℕ). SpelledAt nodes n) is s in
     closer_ahead nodes opener closer last inside h.ahead h.after link' s' h.ends
-    (sym (follow_roots nodes last closer link' s') ∙ h.follows)
-    h.once
+    (sym (follow_roots nodes last closer link' s') ∙ h.follows) h.once
 
 -- the chain does not end before it
 none_ahead : (closer : ℕ) (ahead after : List ℕ) → [] ≡ ahead ++ closer ∷ after → ⊥
@@ -134,6 +119,5 @@ none_ahead closer (x ∷ ahead) after e = cc e
 pub ahead_none : (nodes : List (Node Item)) (opener closer last : ℕ) (inside : List ℕ) → sibling_of nodes last ≡ None
     → IsAhead nodes opener closer last inside → ⊥
 ahead_none nodes opener closer last inside link h =
-    none_ahead closer h.ahead h.after
-    (sym (ap (λ (l : Option ℕ). roots (forest_at (links_of nodes) l)) link
+    none_ahead closer h.ahead h.after (sym (ap (λ (l : Option ℕ). roots (forest_at (links_of nodes) l)) link
     ∙ ap (λ (f : Forest ℕ). roots f) (forest_at-none (links_of nodes))) ∙ h.follows)

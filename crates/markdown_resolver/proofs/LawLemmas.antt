@@ -21,8 +21,7 @@ none_left [] e later = refl
 none_left (a ∷ l) e later = absurd (omega (arith, e))
 
 pub answers_handed_on : {A : Type 0} (s : Setting) (tags : Tags A) (above : Above) (chain : Forest (Label A))
-    (known : Known)
-    (answers later : Answers)
+    (known : Known) (answers later : Answers)
     → length (resolved s tags above chain (with_answers answers known)).questions ≡ length answers
     → resolved s tags above chain (with_answers (answers ++ later) known) ≡ record {
       questions = (resolved s tags above chain (with_answers answers known)).questions;
@@ -50,8 +49,7 @@ no_heavier s tags above chain known =
 
 -- neither depends on tags
 pub same_tags : {A B : Type 0} (f : A → B) (s : Setting) (tags : Tags A) (tags' : Tags B) → Follows f tags tags'
-    → (above : Above) (chain : Forest (Label A)) (known : Known)
-    → resolved s tags' above (retagged f chain) known
+    → (above : Above) (chain : Forest (Label A)) (known : Known) → resolved s tags' above (retagged f chain) known
     ≡ record {
       questions = (resolved s tags above chain known).questions;
       forest = retagged f (resolved s tags above chain known).forest;
@@ -62,5 +60,4 @@ same_tags {B = B} f s tags tags' follows above chain known =
     let r = pass_one s tags above chain known in
     ap (then_paired s) (pass_one-retag f s tags tags' follows above chain known)
     ∙ ap (λ (g : Forest (Label B)). let o : Outcome B = record { questions = r.questions; forest = g; known = r.known }
-    in o)
-    (tag-law f s r.forest)
+    in o) (tag-law f s r.forest)

@@ -32,8 +32,7 @@ use Rattle.markdown_resolver.proofs.StandsToLemmas.{numbers_are, numbered_opens,
 
 -- numbers that rise after a link whose node comes later than another one
 behind_link : (nodes : List (Node Item)) (n : ℕ) (l : Option ℕ) (f : Forest ℕ) → Spells (links_of nodes) l f
-    → IfSome l (λ m. suc n ≤ m)
-    → AreRising (roots f) → AreBehind n (roots f)
+    → IfSome l (λ m. suc n ≤ m) → AreRising (roots f) → AreBehind n (roots f)
 behind_link nodes n l nil s above rising = tt
 behind_link nodes n l (node m below after) s above rising =
     let first : n < m = rw s.0 at above in
@@ -42,65 +41,57 @@ behind_link nodes n l (node m below after) s above rising =
 -- the numbers of a chain that can be read rise
 rising_along : (source : List ℕ) (tables : Tables) (nodes : List (Node Item)) (l : Option ℕ) (f : Forest ℕ)
     → Spells (links_of nodes) l f → Each (IsPlaced source tables nodes) f
-    → IsQuietBelow (relabelled (label_at source tables nodes) f)
-    → AreRising (roots f)
+    → IsQuietBelow (relabelled (label_at source tables nodes) f) → AreRising (roots f)
 rising_along source tables nodes l nil s p q = tt
 rising_along source tables nodes l (node ix below after) s p q =
     let later = rising_along source tables nodes (sibling_of nodes ix) after s.3 p.2 q.2 in (
       behind_link nodes ix (sibling_of nodes ix) after s.3
           (next_above source tables nodes ix (sibling_of nodes ix) after s.3 (no_block (item_at nodes ix).body q.0) q.2
-          p.0.keeps.in_order)
-          later,
+          p.0.keeps.in_order) later,
       later,
     )
 
 -- so do those of a left list in an arena
 pub left_rises : (source : List ℕ) (tables : Tables) (nodes : List (Node Item)) (first : ℕ) (at : Option ℕ)
-    (left : List (Entry ℕ))
-    → StandsTo source tables nodes first at left → LeftRises left
+    (left : List (Entry ℕ)) → StandsTo source tables nodes first at left → LeftRises left
 left_rises source tables nodes first at left h =
     let f = forest_at (links_of nodes) (Some first) in
     let head = trees_onto left nil in
     let later = numbered_from source tables nodes at in
     let whole : f ≡ joined_chains (numbers_of head) (numbers_of later) =
     sym (numbers_are source tables nodes f) ∙ ap (λ (g : Forest (Label ℕ)). numbers_of g)
-    (rest_of source tables nodes first at left
-    h).whole ∙ relabelled_joined (λ a. a.tag) head later in
+    (rest_of source tables nodes first at left h).whole ∙ relabelled_joined (λ a. a.tag) head later in
     let rising = rising_along source tables nodes (Some first) f h.ready.reaches.spelled h.ready.reaches.each
     h.ready.quiet_below in
     rising_first (numbers_of head) (numbers_of later) (subst (λ (g : Forest ℕ). AreRising (roots g)) whole rising)
 
 -- the trees of a chain hold by their numbers
 pub holds_numbered : (source : List ℕ) (tables : Tables) (nodes : List (Node Item)) (l : Option ℕ) (f : Forest ℕ)
-    → Spells (links_of nodes) l f
-    → Holds source tables nodes l (relabelled (numbered_label source tables nodes) f)
+    → Spells (links_of nodes) l f → Holds source tables nodes l (relabelled (numbered_label source tables nodes) f)
 holds_numbered source tables nodes l nil s = s
 holds_numbered source tables nodes l (node ix below after) s = (
   s.0,
   s.1,
   refl,
   holds_numbered source tables nodes (child_of nodes ix) below s.2,
-  holds_numbered source tables nodes
-      (sibling_of nodes ix) after s.3,
+  holds_numbered source tables nodes (sibling_of nodes ix) after s.3,
 )
 
 -- after a left list there is a `]`, and then what follows it
-pub stands_before : (source : List ℕ) (tables : Tables) (nodes : List (Node Item)) (first closer : ℕ)
-    (left : List (Entry ℕ))
-    (c : Closing ℕ) (could_be : Bool)
+pub stands_before : {source : List ℕ} {tables : Tables} {nodes : List (Node Item)} {first closer : ℕ}
+    {left : List (Entry ℕ)} {c : Closing ℕ} {could_be : Bool}
     → StandsTo source tables nodes first (Some closer) left → c.label ≡ numbered_label source tables nodes closer
     → c.rest ≡ numbered_from source tables nodes (sibling_of nodes closer)
     → (item_at nodes closer).body ≡ body.MaybeLinkClose could_be → StandsBefore nodes closer left c
-stands_before source tables nodes first closer left c could_be h label rest closes =
-    let ready = stands_rest source tables nodes first (Some closer) left h in
+stands_before {source} {tables} {nodes} {first} {closer} {left} {c} {could_be} h label rest closes =
+    let ready = stands_rest h in
     let o = opens (links_of nodes) (IsPlaced source tables nodes) closer ready.reaches in
     let is_open_here : is_open (item_at nodes closer).body ≡ true = rw closes refl in
     let childless = o.holds.keeps.childless is_open_here in
     let below : numbered_from source tables nodes (child_of nodes closer)
     ≡ nil = rw childless (numbered_none source tables nodes) in
     let here : numbered_from source tables nodes (Some closer) ≡ node c.label nil c.rest =
-    numbered_opens source tables nodes closer (stands_ready source tables nodes (Some closer) ready)
-    ∙ rw (label, rest, below) refl in
+    numbered_opens source tables nodes closer (stands_ready ready) ∙ rw (label, rest, below) refl in
     let f = forest_at (links_of nodes) (Some first) in
     let trees = trees_onto left (node c.label nil c.rest) in
     let whole : numbered_from source tables nodes (Some first) ≡ trees = h.stands

@@ -5,9 +5,9 @@ use Rattle.markdown_base.specs.Forest.{Forest, nil, node, relabelled, roots}
 use Rattle.markdown_brackets.specs.ChainHeld.{numbers_of, times_of}
 use Rattle.markdown_brackets.specs.Decides.{EachOpener}
 use Rattle.markdown_brackets.specs.Finish.{AreBehind, AreRising}
-use Rattle.markdown_brackets.specs.LeftList.{Flag, live, disabled, gone, Mark, Entry, done, waits, all_done}
+use Rattle.markdown_brackets.specs.LeftList.{Flag, live, disabled, gone, Mark, Entry, done, waits, all_done, on_marks}
+use Rattle.markdown_brackets.specs.LeftList.{second_folded, trees_onto}
 use Rattle.markdown_brackets.specs.HeldOpeners.{brackets_of, wikilinks_of, held_as}
-use Rattle.markdown_brackets.specs.LeftList.{on_marks, second_folded, trees_onto}
 use Rattle.markdown_brackets.specs.Openers.{Waiting}
 use Rattle.markdown_brackets.proofs.OpenerHeldLemmas.{onto_joined}
 use Rattle.markdown_document.specs.ChainRest.{joined_chains}
@@ -45,8 +45,7 @@ times_onto n left later = ap (λ (h : Forest (Label ℕ)). times_of n h) (onto_s
 
 -- trees that are done are put before what is put onto them
 pub done_onto : (trees : Forest (Label ℕ)) (left : List (Entry ℕ)) (later : Forest (Label ℕ))
-    → trees_onto (all_done trees left) later
-    ≡ trees_onto left (joined_chains trees later)
+    → trees_onto (all_done trees left) later ≡ trees_onto left (joined_chains trees later)
 done_onto nil left later = refl
 done_onto (node a below after) left later = done_onto after (done a below ∷ left) later
 
@@ -97,8 +96,7 @@ waits_done p (node a below after) left h = waits_done p after (done a below ∷ 
 
 -- a property of each opener, and of what is in the left list, implies another one
 pub waits_mapped : (p q : ℕ → Type 0) (left : List (Entry ℕ))
-    → ((n : ℕ) → 0 < times_of n (trees_onto left nil) → p n → q n)
-    → EachWaits p left → EachWaits q left
+    → ((n : ℕ) → 0 < times_of n (trees_onto left nil) → p n → q n) → EachWaits p left → EachWaits q left
 waits_mapped p q [] h w = tt
 waits_mapped p q (done a below ∷ left) h w = waits_mapped p q left
     (λ n l. h n (let e = times_onto n left (node a below nil)
@@ -110,8 +108,7 @@ waits_mapped p q (waits m a ∷ left) h w = (
 
 -- an opener, and those before it
 pub waits_here : (p : ℕ → Type 0) (after before : List (Entry ℕ)) (m : Mark) (a : Label ℕ)
-    → EachWaits p (after ++ waits m a ∷ before)
-    → p a.tag × EachWaits p before
+    → EachWaits p (after ++ waits m a ∷ before) → p a.tag × EachWaits p before
 waits_here p [] before m a h = h
 waits_here p (done b below ∷ after) before m a h = waits_here p after before m a h
 waits_here p (waits k b ∷ after) before m a h = waits_here p after before m a h.1
@@ -124,8 +121,7 @@ onto_appended (waits k b ∷ after) before m a later = onto_appended after befor
 
 -- other marks: the same trees, and the same openers
 pub marked_trees : (f : Mark → Mark) (left : List (Entry ℕ)) (later : Forest (Label ℕ))
-    → trees_onto (on_marks f left) later
-    ≡ trees_onto left later
+    → trees_onto (on_marks f left) later ≡ trees_onto left later
 marked_trees f [] later = refl
 marked_trees f (done a below ∷ left) later = marked_trees f left (node a below later)
 marked_trees f (waits m a ∷ left) later = marked_trees f left (node a nil later)
@@ -149,8 +145,7 @@ folded_waits p (waits m a ∷ left) h = h
 
 -- stacks hold no other openers than those that wait
 held_where : (p : ℕ → Type 0) (number : ℕ) (is_image : Bool) (flag : Flag) (held : List Waiting) → p number
-    → EachOpener p held
-    → EachOpener p (held_as number is_image flag held)
+    → EachOpener p held → EachOpener p (held_as number is_image flag held)
 held_where p number is_image live held h k = (h, k)
 held_where p number is_image disabled held h k = (h, k)
 held_where p number is_image gone held h k = k

@@ -2,25 +2,15 @@
 -- end.
 use Rattle.markdown_base.specs.declared.item.ItemBody.TheVariants as body
 use Rattle.std.proofs.Common.{◌≡◌, ℕ, zero, suc, ◌+◌, ◌-◌, ◌<◌, ◌≤◌, Bool, true, false, ◌==◌, ◌&&◌, ◌⊎◌, inl, inr, List}
-use Rattle.std.proofs.Common.{[], ◌∷◌, Option}
-use Rattle.std.proofs.Common.{Some, None, length, take, drop, get_or, refl, sym, ap, ◌∙◌, subst, arith}
-use Rattle.std.specs.Prelude.{IfSome, if◌then◌else◌, slice_index, slice_range, nat_le}
+use Rattle.std.proofs.Common.{[], ◌∷◌, Option, Some, None, length, take, drop, get_or, refl, sym, ap, ◌∙◌, subst, arith}
+use Rattle.std.specs.Prelude.{IfSome, if◌then◌else◌, slice_index}
 use Rattle.std.specs.Option.{option_map, option_map_or, option_or}
 use Rattle.std.proofs.lemmas.Bool.{cases_lt, eqb-true}
-use Rattle.std.proofs.lemmas.Bool.Decides.{nat_tests}
-use Rattle.std.proofs.lemmas.List.{drop-drop, drop_all, get_or-drop, get_or-replicate, get_or-take, get_or_past}
-use Rattle.std.proofs.lemmas.List.{length-drop}
-use Rattle.std.proofs.lemmas.List.{length-replicate, length-take}
-use Rattle.std.proofs.lemmas.Option.{same_Some}
+use Rattle.std.proofs.lemmas.List.{drop-drop, drop_all, get_or-drop, get_or_past, length-drop}
 use Rattle.markdown_base.specs.Arena.{sibling_of}
 use Rattle.markdown_base.specs.ArenaForest.{links_of, forest_at}
-use Rattle.markdown_base.specs.BlockTree.{Numbered, numbered, item_at}
-use Rattle.markdown_base.specs.Forest.{Forest, nil, node, Each, roots}
-use Rattle.markdown_base.specs.Item.{is_open}
-use Rattle.markdown_base.specs.ArenaRules.{next_at}
-use Rattle.markdown_base.specs.WellFormed.{RunCharacter, StandsInRun, StandsOverMarkup, run_character}
+use Rattle.markdown_base.specs.BlockTree.{item_at}
 use Rattle.markdown_base.specs.declared.item.Item.{Item}
-use Rattle.markdown_base.specs.declared.item.ItemBody.{ItemBody}
 use Rattle.markdown_base.specs.declared.node.Node.{Node}
 use Rattle.markdown_base.proofs.ArenaForestLemmas.{opens}
 use Rattle.markdown_document.specs.Origins.{IsSliceWithin}
@@ -43,7 +33,8 @@ use Rattle.markdown_raw_html.proofs.TagSourceLemmas.{Closes-html_tag}
 use Rattle.markdown_raw_html.proofs.TagTextLemmas.{source_after-more, source_after-nil, text_in-cons}
 use Rattle.markdown_raw_html.proofs.TagTextLemmas.{text_in-source_after}
 use Rattle.markdown_resolver.specs.Chains.{CanResolve}
-use Rattle.markdown_resolver.specs.Rewritten.{IsFoundAt, first_past}
+use Rattle.markdown_resolver.specs.Rewritten.{IsFoundAt}
+use Rattle.markdown_resolver.proofs.GoesOnLemmas.{first_placed, none_cut}
 use Rattle.markdown_resolver.proofs.UnreadLemmas.{first_cut, unmade_after}
 use Rattle.markdown_resolver.specs.Unread.{IsUnread}
 
@@ -69,16 +60,13 @@ is_end skipped (suc n) (b ∷ source) = later (prefix_after skipped b source)
         → IsEnd (b ∷ source) (source_after skipped n (option_map_or (λ n. drop n source) o []))
     later None h = (
       length (b ∷ source),
-      source_after-nil skipped n
-          ∙ sym (drop_all (length (b ∷ source)) (b ∷ source) (omega arith)),
+      source_after-nil skipped n ∙ sym (drop_all (length (b ∷ source)) (b ∷ source) (omega arith)),
     )
     later (Some k) h = (suc (k + h.0), h.1 ∙ drop-drop h.0 k source)
 
 -- where a text continues with `>`, so does its source
 closes_here : (skipped : List ℕ → Option ℕ) (source : List ℕ) → 1 ≤ length (text_in skipped source)
-    → get_or (text_in skipped source) 0 0
-    ≡ 62
-    → source ≡ 62 ∷ source_after skipped 1 source
+    → get_or (text_in skipped source) 0 0 ≡ 62 → source ≡ 62 ∷ source_after skipped 1 source
 closes_here skipped [] some is = absurd (omega (arith, some))
 closes_here skipped (b ∷ source) some is =
     let byte : b ≡ 62 = sym (ap (λ bytes. get_or bytes 0 0) (text_in-cons skipped b source)) ∙ is in
@@ -131,15 +119,13 @@ tag_ends : (skipped : List ℕ → Option ℕ) (text : List ℕ) (place : ℕ) �
     → EndsAt text place (tag_at skipped text place)
 tag_ends skipped text place within = cases (html_tag (text_in skipped (drop place text))) refl
   where
-    cases : (found : Option ℕ) → html_tag (text_in skipped (drop place text)) ≡ found
-        → EndsAt text place (option_map
+    cases : (found : Option ℕ) → html_tag (text_in skipped (drop place text)) ≡ found → EndsAt text place (option_map
         (λ n. tag_of skipped place (drop place text) (tag_lengths skipped (drop place text) n)) found)
     cases None e = tt
     cases (Some n) e = tag_closed skipped text place n within e
 
 scanned_ends : (scan : List ℕ → Option ℕ) (text : List ℕ) (start from : ℕ)
-    → ((bytes : List ℕ) → IfSome (scan bytes) (EndsWith 62 bytes))
-    → start < from → from ≤ length text
+    → ((bytes : List ℕ) → IfSome (scan bytes) (EndsWith 62 bytes)) → start < from → from ≤ length text
     → EndsAt text start (unbroken (end_from scan text from))
 scanned_ends scan text start from ends later within = cases (scan (drop from text)) (ends (drop from text))
   where
@@ -155,8 +141,7 @@ scanned_ends scan text start from ends later within = cases (scan (drop from tex
         }
 
 first_ends : (text : List ℕ) (start : ℕ) (first other : Option ℕ) → EndsAt text start (unbroken first)
-    → EndsAt text start (unbroken other)
-    → EndsAt text start (unbroken (option_or first other))
+    → EndsAt text start (unbroken other) → EndsAt text start (unbroken (option_or first other))
 first_ends text start None other h k = k
 first_ends text start (Some n) other h k = h
 
@@ -179,8 +164,7 @@ html_ends skipped text start at later within = by_byte (slice_index text at == 3
     declared : (at + 1 ≤ length text) → EndsAt text start (unbroken (declared_end text (at + 1)))
     declared h =
         first_ends text start (end_from comment text (at + 1)) (option_or (end_from cdata_section text (at + 1))
-        (end_from declaration text (at + 1)))
-        (scanned_ends comment text start (at + 1) comment-ends after_byte h)
+        (end_from declaration text (at + 1))) (scanned_ends comment text start (at + 1) comment-ends after_byte h)
         (first_ends text start (end_from cdata_section text (at + 1)) (end_from declaration text (at + 1))
         (scanned_ends cdata_section text start (at + 1) cdata_section-ends after_byte h)
         (scanned_ends declaration text start (at + 1) declaration-ends after_byte h))
@@ -239,113 +223,30 @@ pub record MarkupEnds (text : List ℕ) (start at : ℕ) (m : Markup) : Type 0 w
 
 -- what is found from a `<` on ends so
 pub markup_ends : (skipped : List ℕ → Option ℕ) (text : List ℕ) (start at : ℕ) (m : Markup) → start < at
-    → at ≤ length text
-    → markup_at skipped text start at ≡ Some m → MarkupEnds text start at m
+    → at ≤ length text → markup_at skipped text start at ≡ Some m → MarkupEnds text start at m
 unfolding markup_at
 markup_ends skipped text start at m later within e =
     subst (λ (o : Option Markup). IfSome o (MarkupEnds text start at)) e
-    (first_of (uri_autolink text at) (html_at skipped text start at)
-    (uri_ends text at) (uri_slice text at)
+    (first_of (uri_autolink text at) (html_at skipped text start at) (uri_ends text at) (uri_slice text at)
     (html_ends skipped text start at later within))
   where
     first_of : (uri : Option (ℕ × List ℕ)) (tag : Option (ℕ × Option (List ℕ)))
-        → IfSome uri (λ found. EndsClosed text at found.0)
-        → IfSome uri (λ found. IsSliceWithin text at found.0 found.1)
-        → EndsAt text start tag
-        → IfSome (option_or (option_map (λ found. autolink found.0 found.1) uri)
-        (option_map (λ found. html_markup found.0 found.1) tag))
-        (MarkupEnds text start at)
+        → IfSome uri (λ found. EndsClosed text at found.0) → IfSome uri (λ found. IsSliceWithin text at found.0 found.1)
+        → EndsAt text start tag → IfSome (option_or (option_map (λ found. autolink found.0 found.1) uri)
+        (option_map (λ found. html_markup found.0 found.1) tag)) (MarkupEnds text start at)
     first_of (Some found) tag h u k =
         record {
           ends = record { after = omega (arith, h.after, later); within = h.within; closed = h.closed };
-          address
-              = (h.after, u);
+          address = (h.after, u);
         }
     first_of None (Some found) h u k = record { ends = k; address = tt }
     first_of None None h u k = tt
-
--- an open item with these bytes has none of them before its last one that is `>`
-none_open : (bytes : List ℕ) (k : ℕ) (b : ItemBody) → k + 1 < length bytes → get_or bytes k 0 ≡ 62
-    → StandsOverMarkup bytes b
-    → IfSome (run_character b) (λ c. length bytes ≡ 1) → is_open b ≡ false
-none_open bytes k (body.MaybeEmphasis count opens closes) within closed markup run = absurd (omega (arith, run, within))
-none_open bytes k (body.MaybeMath opens closes context) within closed markup run = absurd
-    (omega (arith, ap length markup, within))
-none_open bytes k (body.MaybeSmartQuote quote opens closes) within closed markup run = absurd
-    (omega (arith, ap length markup.0, within))
-none_open bytes k (body.MaybeCode count escaped) within closed markup run =
-    let size : length bytes ≡ count = ap length markup.0 ∙ length-replicate count 96 in
-    let inside : k < count = omega (arith, size, within) in
-    absurd (omega (arith, closed, ap (λ (xs : List ℕ). get_or xs k 0) markup.0 ∙ get_or-replicate count k 96 0 inside))
-none_open bytes k body.MaybeHtml within closed markup run = absurd (omega (arith, ap length markup, within))
-none_open bytes k body.MaybeLinkOpen within closed markup run = absurd (omega (arith, ap length markup, within))
-none_open bytes k (body.MaybeLinkClose reference) within closed markup run = absurd
-    (omega (arith, ap length markup, within))
-none_open bytes k body.MaybeImage within closed markup run =
-    let size : length bytes ≡ 2 = ap length markup in
-    let first : k ≡ 0 = omega (arith, size, within) in
-    let mark : get_or bytes 0 0 ≡ 33 = ap (λ (xs : List ℕ). get_or xs 0 0) markup in
-    absurd (omega (arith, closed, mark, ap (λ i. get_or bytes i 0) first))
-none_open bytes k other within closed markup run = refl
-
-one_byte : (source : List ℕ) (a : Numbered) (next : Option Numbered) (c : Option RunCharacter) (bytes : List ℕ)
-    → length bytes ≡ a.item.end - a.item.start
-    → IfSome c (StandsInRun source a next) → IfSome c (λ x. length bytes ≡ 1)
-one_byte source a next None bytes e h = tt
-one_byte source a next (Some c) bytes e h = omega (arith, e, h.one_byte)
-
--- so no open item has bytes both before and after an offset that follows a `>`
-pub none_around : (source : List ℕ) (tables : Tables) (nodes : List (Node Item)) (next end : ℕ)
-    → IsPlaced source tables nodes next
-    → get_or source (end - 1) 0 ≡ 62 → (item_at nodes next).start < end → end < (item_at nodes next).end
-    → is_open (item_at nodes next).body
-    ≡ false
-none_around source tables nodes next end placed closed starts ends =
-    let item = item_at nodes next in
-    let bytes = slice_range source item.start item.end in
-    let k = end - 1 - item.start in
-    let inside : item.end ≤ length source = placed.lies.end.0 in
-    let size : length bytes ≡ item.end - item.start = omega (
-      arith,
-      length-take (item.end - item.start) (drop item.start source),
-      length-drop item.start source,
-      inside,
-    ) in
-    let place : item.start + k ≡ end - 1 = omega (arith, starts) in
-    let below : k < item.end - item.start = omega (arith, starts, ends) in
-    let byte : get_or bytes k 0 ≡ 62 =
-    get_or-take (item.end - item.start) (drop item.start source) k 0 below
-    ∙ (get_or-drop item.start source k 0 ∙ (ap (λ i. get_or source i 0) place ∙ closed)) in
-    none_open bytes k item.body (omega (arith, size, starts, ends)) byte placed.keeps.markup_is_there
-    (one_byte source (numbered nodes next) (next_at nodes next) (run_character item.body) bytes size
-    placed.keeps.runs_are_whole)
-
--- the first item that ends past a byte is one of the chain
-first_is : (source : List ℕ) (tables : Tables) (nodes : List (Node Item)) (end next : ℕ) (f : Forest ℕ)
-    → Each (IsPlaced source tables nodes) f
-    → first_past nodes end (roots f) ≡ Some next → IsPlaced source tables nodes next × (end < (item_at nodes next).end)
-first_is source tables nodes end next nil p e = cc
-first_is source tables nodes end next (node ix below after) p e =
-    by_end (nat_le (item_at nodes ix).end end) refl e (λ later. first_is source tables nodes end next after p.2 later)
-  where
-    by_end : (ended : Bool) → nat_le (item_at nodes ix).end end ≡ ended
-        → (if ended then first_past nodes end (roots after) else Some ix)
-        ≡ Some next
-        → (first_past nodes end (roots after) ≡ Some next → IsPlaced source tables nodes next
-        × (end < (item_at nodes next).end))
-        → IsPlaced source tables nodes next × (end < (item_at nodes next).end)
-    by_end true t e later = later e
-    by_end false t e later =
-        let same : ix ≡ next = same_Some ix next e in
-        let past : end < (item_at nodes ix).end = grind (arith, nat_tests) in
-        (subst (IsPlaced source tables nodes) same p.0, rw same at past)
 
 -- the node of a `<`, at which something was found that ends with `>`
 pub found_at : (source : List ℕ) (tables : Tables) (nodes : List (Node Item)) (ix end : ℕ)
     → CanResolve source tables nodes (Some ix)
     → IsUnread (trees_from source tables nodes (Some ix)) → (item_at nodes ix).body ≡ body.MaybeHtml
-    → get_or source (end - 1) 0 ≡ 62
-    → IsFoundAt source tables nodes ix end
+    → get_or source (end - 1) 0 ≡ 62 → IsFoundAt source tables nodes ix end
 found_at source tables nodes ix end ready unread is closed =
     let after = (opens (links_of nodes) (IsPlaced source tables nodes) ix ready.reaches).after in
     record {
@@ -353,9 +254,9 @@ found_at source tables nodes ix end ready unread is closed =
       was_open = rw is refl;
       no_run = rw is refl;
       between = λ next e starts.
-          let found = first_is source tables nodes end next (forest_at (links_of nodes) (sibling_of nodes ix))
+          let found = first_placed source tables nodes end next (forest_at (links_of nodes) (sibling_of nodes ix))
           after.each e in
           first_cut source tables nodes end next (forest_at (links_of nodes) (sibling_of nodes ix))
-          (unmade_after source tables nodes ix ready (rw is refl) (rw is refl) unread) e
-          (none_around source tables nodes next end found.0 closed starts found.1);
+          (unmade_after ready (rw is refl) (rw is refl) unread) e
+          (none_cut source tables nodes next end 62 found.0 (omega arith, omega arith) closed starts found.1);
     }

@@ -1,8 +1,8 @@
 -- The items that are put in place where markup was found can be put there, and read as the trees that replace the `<`.
 use Rattle.markdown_base.specs.declared.item.ItemBody.TheVariants as body
-use Rattle.std.proofs.Common.{◌≡◌, ℕ, zero, suc, ◌+◌, ◌-◌, ◌<◌, ◌≤◌, ◌⊎◌, inl, inr, false, List, [], ◌∷◌, ◌++◌, Option}
-use Rattle.std.proofs.Common.{Some, None, length}
-use Rattle.std.proofs.Common.{take, drop, get_or, refl, sym, ap, ◌∙◌, subst, arith, append-nil, length-append}
+use Rattle.std.proofs.Common.{Bool, true, if◌then◌else◌, ◌≡◌, ℕ, zero, suc, ◌+◌, ◌-◌, ◌<◌, ◌≤◌, ◌⊎◌, inl, inr, false}
+use Rattle.std.proofs.Common.{List, [], ◌∷◌, ◌++◌, Option, Some, None, length, take, drop, get_or, refl, sym, ap, ◌∙◌}
+use Rattle.std.proofs.Common.{subst, arith, append-nil, length-append}
 use Rattle.std.specs.Prelude.{IfSome, codes, slice_index, slice_range}
 use Rattle.std.specs.Option.{option_map}
 use Rattle.std.specs.Str.{IsCharBoundary}
@@ -28,8 +28,8 @@ use Rattle.markdown_document.specs.Places.{label_at, trees_from}
 use Rattle.markdown_document.specs.PlacedNodes.{HasSliceLink, IsPlaced}
 use Rattle.markdown_document.specs.Setting.{Rules, setting_of}
 use Rattle.markdown_document.specs.Tables.{Tables, link_at, link_origins, tables_of}
-use Rattle.markdown_document.specs.NamedEntries.{HasGrown, Named, link_origins_at, number_of, size_for, some_alignments}
-use Rattle.markdown_document.specs.NamedEntries.{some_link, some_text, times_named}
+use Rattle.markdown_document.specs.NamedEntries.{HasGrown, Named, link_origins_at, number_of, size_for, some_link}
+use Rattle.markdown_document.specs.NamedEntries.{some_text, times_named}
 use Rattle.markdown_spans.specs.AfterLess.{Markup, autolink, html_markup, markup_at}
 use Rattle.markdown_spans.specs.Finds.{address, markup_trees}
 use Rattle.markdown_raw_html.specs.HtmlTag.{html_tag}
@@ -42,8 +42,10 @@ use Rattle.markdown_resolver.specs.declared.rest.Rest.{Rest}
 use Rattle.markdown_resolver.specs.Chains.{CanResolve}
 use Rattle.markdown_resolver.specs.MarkupItems.{IsAddress, address_to, item_to, standing_for}
 use Rattle.markdown_resolver.specs.Rewritten.{CanPut, CanPutParent, Puts, Standing, one_item, parent, replaced}
+use Rattle.markdown_resolver.proofs.CodeSpanLemmas.{can_put_text, PutsText}
+use Rattle.markdown_resolver.proofs.SettlingLemmas.{names_nothing}
+use Rattle.markdown_resolver.proofs.PutFoundLemmas.{same_before}
 use Rattle.markdown_resolver.proofs.FollowersLemmas.{opens_chain}
-use Rattle.markdown_resolver.proofs.CodeSpanLemmas.{PutsText, same_below}
 use Rattle.markdown_resolver.proofs.MarkupEndLemmas.{EndsClosed}
 
 -- a boundary of a text is one of the text's beginning up to some byte behind it
@@ -76,8 +78,7 @@ boundary_after text end i last at = cases (cases_lt i end)
 
 -- a `<` is one byte
 pub one_byte_long : (source : List ℕ) (tables : Tables) (nodes : List (Node Item)) (ix : ℕ)
-    → CanResolve source tables nodes (Some ix)
-    → (item_at nodes ix).body ≡ body.MaybeHtml
+    → CanResolve source tables nodes (Some ix) → (item_at nodes ix).body ≡ body.MaybeHtml
     → (item_at nodes ix).end ≡ (item_at nodes ix).start + 1
 one_byte_long source tables nodes ix ready is =
     let placed = (opens (links_of nodes) (IsPlaced source tables nodes) ix ready.reaches).holds in
@@ -94,17 +95,10 @@ one_byte_long source tables nodes ix ready is =
     )
 
 -- the item of a node that may be read lies in the text
-pub lies_at : (source : List ℕ) (tables : Tables) (nodes : List (Node Item)) (ix : ℕ)
-    → CanResolve source tables nodes (Some ix)
-    → LiesIn source (item_at nodes ix)
-lies_at source tables nodes ix ready
+pub lies_at : {source : List ℕ} {tables : Tables} {nodes : List (Node Item)} {ix : ℕ}
+    → CanResolve source tables nodes (Some ix) → LiesIn source (item_at nodes ix)
+lies_at {source} {tables} {nodes} {ix} ready
     = (opens (links_of nodes) (IsPlaced source tables nodes) ix ready.reaches).holds.lies
-
--- the node is there, and so is the one after it
-pub within_at : (source : List ℕ) (tables : Tables) (nodes : List (Node Item)) (ix : ℕ)
-    → CanResolve source tables nodes (Some ix)
-    → ix < length nodes
-within_at source tables nodes ix ready = (opens (links_of nodes) (IsPlaced source tables nodes) ix ready.reaches).within
 
 -- past the end of a text nothing is found
 no_tag : (skipped : List ℕ → Option ℕ) (text : List ℕ) (start : ℕ) → length text ≤ start → tag_at skipped text start
@@ -112,8 +106,7 @@ no_tag : (skipped : List ℕ → Option ℕ) (text : List ℕ) (start : ℕ) →
 no_tag skipped text start past = rw (drop_all start text past) (cases (html_tag []) (Closes-html_tag.is []))
   where
     cases : (found : Option ℕ) → IfSome found (EndsWith 62 [])
-        → option_map (λ n. tag_of skipped start [] (tag_lengths skipped [] n)) found
-        ≡ None
+        → option_map (λ n. tag_of skipped start [] (tag_lengths skipped [] n)) found ≡ None
     cases None h = refl
     cases (Some n) h = absurd (omega (arith, h.some, h.within))
 
@@ -135,8 +128,7 @@ link_pushed (c ∷ links) link (suc n) e = link_pushed links link n (omega (arit
 
 -- and comes from where it came from
 from_pushed : (source : List ℕ) (start end : ℕ) (links : List LinkParts) (link : LinkParts) (n : ℕ) (view : LinkView)
-    → n ≡ length links
-    → link_view link ≡ view → IsLinkFrom source start end (link_origins link) view
+    → n ≡ length links → link_view link ≡ view → IsLinkFrom source start end (link_origins link) view
     → IsLinkFrom source start end (link_origins_at (links ++ link ∷ []) n) (link_at (links ++ link ∷ []) n)
 from_pushed source start end [] link n view e same h =
     rw e (subst (λ (v : LinkView). IsLinkFrom source start end (link_origins link) v) (sym same) h)
@@ -153,8 +145,7 @@ pub record PutsLink (source : List ℕ) (start end : ℕ) (tables tables' : Tabl
   pub slices : HasSliceLink source tables' start end ix.0
 
 pub link_put : (source : List ℕ) (start end : ℕ) (held held' : Allocated) (link : LinkParts) (number : LinkIndex)
-    (view : LinkView)
-    → held' ≡ with_link held link → number.0 ≡ length held.links
+    (view : LinkView) → held' ≡ with_link held link → number.0 ≡ length held.links
     → IsLinkFrom source start end (link_origins link) view → link_view link ≡ view
     → PutsLink source start end (tables_of held) (tables_of held') number view
 link_put source start end held held' link number view put last from same = rw put (record {
@@ -174,6 +165,41 @@ address_from source start end title uri slice = record {
   title = tt;
 }
 
+-- a link or an image with an entry and a range
+abbrev pub link_over : (is_image : Bool) → LinkIndex → (start end : ℕ) → Item
+link_over is_image number start end = record
+    { start = start; end = end; body = if is_image then body.Image number else body.Link number }
+
+-- it can be put in place, where it lies in the text
+pub can_put_link : (source : List ℕ) (tables tables' : Tables) (is_image : Bool) (number : LinkIndex) (view : LinkView)
+    (start end : ℕ) → PutsLink source start end tables tables' number view
+    → start ≤ end → IsCharBoundary source start → IsCharBoundary source end
+    → CanPut source tables tables' (link_over is_image number start end)
+can_put_link source tables tables' true number view start end put ordered from to = record {
+  closed = refl;
+  no_block = refl;
+  lies = record { ordered = ordered; start = from; end = to };
+  named = record { text = tt; link = put.within; alignments = tt; attributes = tt };
+  slices = put.slices;
+  new_names = by_image;
+}
+  where
+    by_image : (n : Named) → number_of n < size_for tables n → times_named n (body.Image number) ≡ 0
+    by_image (some_link n) h = same_before n number.0 (omega (arith, h, put.number))
+    by_image other h = refl
+can_put_link source tables tables' false number view start end put ordered from to = record {
+  closed = refl;
+  no_block = refl;
+  lies = record { ordered = ordered; start = from; end = to };
+  named = record { text = tt; link = put.within; alignments = tt; attributes = tt };
+  slices = put.slices;
+  new_names = by_link;
+}
+  where
+    by_link : (n : Named) → number_of n < size_for tables n → times_named n (body.Link number) ≡ 0
+    by_link (some_link n) h = same_before n number.0 (omega (arith, h, put.number))
+    by_link other h = refl
+
 -- raw HTML as it is in the source
 pub can_put_html : (source : List ℕ) (tables : Tables) (nodes : List (Node Item)) (ix end : ℕ)
     → LiesIn source (item_to nodes ix end (body.Text false))
@@ -189,13 +215,11 @@ can_put_html source tables nodes ix end lies = record {
   where
     none : (n : Named) → number_of n < size_for tables n → times_named n body.InlineHtml ≡ 0
     none (some_text n) h = refl
-    none (some_link n) h = refl
-    none (some_alignments n) h = refl
+    none other h = refl
 
 -- raw HTML without the prefixes of lines
 pub can_put_owned : (source : List ℕ) (tables tables' : Tables) (number : CowIndex) (bytes : List ℕ)
-    (nodes : List (Node Item)) (ix end : ℕ)
-    → PutsText tables tables' number bytes
+    (nodes : List (Node Item)) (ix end : ℕ) → PutsText tables tables' number bytes
     → LiesIn source (item_to nodes ix end (body.Text false))
     → CanPut source tables tables' (item_to nodes ix end (body.OwnedInlineHtml number))
 can_put_owned source tables tables' number bytes nodes ix end put lies = record {
@@ -208,9 +232,8 @@ can_put_owned source tables tables' number bytes nodes ix end put lies = record 
 }
   where
     none : (n : Named) → number_of n < size_for tables n → times_named n (body.OwnedInlineHtml number) ≡ 0
-    none (some_text n) h = same_below n number.0 (omega (arith, h, put.number))
-    none (some_link n) h = refl
-    none (some_alignments n) h = refl
+    none (some_text n) h = same_before n number.0 (omega (arith, h, put.number))
+    none other h = refl
 
 -- an autolink, with its text below it
 pub can_put_autolink : (source : List ℕ) (tables tables' : Tables) (number : LinkIndex) (uri : List ℕ)
@@ -219,35 +242,12 @@ pub can_put_autolink : (source : List ℕ) (tables tables' : Tables) (number : L
     → LiesIn source (item_to nodes ix end (body.Text false)) → IsAddress source nodes ix end uri
     → CanPutParent source tables tables' nodes ix (item_to nodes ix end (body.Link number)) (address_to nodes ix end)
 can_put_autolink source tables tables' number uri nodes ix end put lies there = record {
-  puts = record {
-    closed = refl;
-    no_block = refl;
-    lies = record { ordered = lies.ordered; start = lies.start; end = lies.end };
-    named = record { text = tt; link = put.within; alignments = tt; attributes = tt };
-    slices = put.slices;
-    new_names = by_link;
-  };
-  puts_inside = record {
-    closed = refl;
-    no_block = refl;
-    lies = there.lies;
-    named = record { text = tt; link = tt; alignments = tt; attributes = tt };
-    slices = tt;
-    new_names = λ n h. none n;
-  };
-  names_nothing = none;
+  puts = can_put_link source tables tables' false number (address uri) (item_at nodes ix).start end put lies.ordered
+      lies.start lies.end;
+  puts_inside = can_put_text source tables tables' _ _ there.lies.ordered there.lies.start there.lies.end;
+  names_nothing = names_nothing;
   starts = refl;
 }
-  where
-    none : (n : Named) → times_named n (body.Text false) ≡ 0
-    none (some_text n) = refl
-    none (some_link n) = refl
-    none (some_alignments n) = refl
-
-    by_link : (n : Named) → number_of n < size_for tables n → times_named n (body.Link number) ≡ 0
-    by_link (some_text n) h = refl
-    by_link (some_link n) h = same_below n number.0 (omega (arith, h, put.number))
-    by_link (some_alignments n) h = refl
 
 -- they read as the trees that replace what was found
 abbrev pub ReadsFor : List ℕ → Rules → Tables → List (Node Item) → ℕ → Standing → Markup → Type 0
@@ -263,18 +263,15 @@ html_trees source rules tables tables' nodes ix end = refl
 pub owned_trees : (source : List ℕ) (rules : Rules) (tables tables' : Tables) (number : CowIndex) (bytes : List ℕ)
     (nodes : List (Node Item)) (ix end : ℕ) → PutsText tables tables' number bytes
     → ReadsFor source rules tables nodes ix
-    (one_item source tables' (item_to nodes ix end (body.OwnedInlineHtml number)))
-    (html_markup end (Some bytes))
+    (one_item source tables' (item_to nodes ix end (body.OwnedInlineHtml number))) (html_markup end (Some bytes))
 owned_trees source rules tables tables' number bytes nodes ix end put =
     ap (λ (xs : List ℕ). markup_trees (setting_of source rules) tt (label_at source tables nodes ix)
     (html_markup end (Some xs))) put.found
 
 pub autolink_trees : (source : List ℕ) (rules : Rules) (tables tables' : Tables) (number : LinkIndex) (uri : List ℕ)
     (nodes : List (Node Item)) (ix end : ℕ) → PutsLink source (item_at nodes ix).start end tables tables' number
-    (address uri)
-    → ReadsFor source rules tables nodes ix
-    (parent source tables' (item_to nodes ix end (body.Link number)) (address_to nodes ix end))
-    (autolink end uri)
+    (address uri) → ReadsFor source rules tables nodes ix
+    (parent source tables' (item_to nodes ix end (body.Link number)) (address_to nodes ix end)) (autolink end uri)
 autolink_trees source rules tables tables' number uri nodes ix end put = rw put.found refl
 
 -- one tree replaces it
@@ -286,8 +283,7 @@ one_markup source rules (html_markup end (Some bytes)) a below = refl
 
 -- so what was put in place replaces it
 pub puts_standing : (source : List ℕ) (rules : Rules) (m : Markup) (ix : ℕ) (trees : Standing) (goes_on : Option ℕ)
-    (rest : Rest)
-    (old new : List (Node Item)) (tables tables' : Tables)
+    (rest : Rest) (old new : List (Node Item)) (tables tables' : Tables)
     → CanResolve source tables old (Some ix) → ReadsFor source rules tables old ix trees m
     → Puts source ix trees goes_on rest old new tables tables'
     → Puts source ix (standing_for source rules m) goes_on rest old new tables tables'
@@ -311,19 +307,17 @@ puts_standing source rules m ix trees goes_on rest old new tables tables' ready 
         ≡ replaced (standing_for source rules m) goes_on rule (trees_from source tables old (Some ix))
     alike rule =
         let after = trees_from source tables old (sibling_of old ix) in
-        let first = (opens_chain source tables old ix ready).trees in
+        let first = (opens_chain ready).trees in
         ap (replaced trees goes_on rule) first ∙ ap (λ (f : Forest Plain). joined_chains f (rule (past goes_on after)))
-        same
-        ∙ ap (replaced (standing_for source rules m) goes_on rule) (sym first)
+        same ∙ ap (replaced (standing_for source rules m) goes_on rule) (sym first)
 
 -- what was found lies in the text
 pub lies_to : (source : List ℕ) (tables : Tables) (nodes : List (Node Item)) (ix last end : ℕ)
-    → CanResolve source tables nodes (Some ix)
-    → IsCharBoundary source last
+    → CanResolve source tables nodes (Some ix) → IsCharBoundary source last
     → (item_at nodes ix).start < end → IsCharBoundary (take last source) end
     → LiesIn source (item_to nodes ix end (body.Text false))
 lies_to source tables nodes ix last end ready boundary after at =
-    let lies = lies_at source tables nodes ix ready in
+    let lies = lies_at ready in
     record { ordered = omega (arith, after); start = lies.start; end = boundary_after source last end boundary at }
 
 -- the text of an autolink too
@@ -331,15 +325,14 @@ pub address_lies : (source : List ℕ) (tables : Tables) (nodes : List (Node Ite
     → CanResolve source tables nodes (Some ix)
     → EndsClosed (take last source) (item_at nodes ix).end end → LiesIn source (address_to nodes ix end)
 address_lies source tables nodes ix last end ready ends =
-    let lies = lies_at source tables nodes ix ready in
+    let lies = lies_at ready in
     let inside : end - 1 < last = omega (arith, ends.within, ends.after, length-take last source) in
     let within : end - 1 < length source = omega (arith, ends.within, ends.after, length-take last source) in
     let byte : get_or source (end - 1) 0 ≡ 62 = sym (get_or-take last source (end - 1) 0 inside) ∙ ends.closed in
     record {
       ordered = omega (arith, ends.after);
       start = lies.end;
-      end = IsCharBoundary-before_ascii source (end - 1) within
-          (omega (arith, byte));
+      end = IsCharBoundary-before_ascii source (end - 1) within (omega (arith, byte));
     }
 
 -- the byte before its end is `>` in the whole text

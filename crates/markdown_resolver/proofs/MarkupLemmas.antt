@@ -4,8 +4,7 @@ use Rattle.std.specs.Option.{option_map_or}
 use Rattle.std.specs.Prelude.{IfOk, slice_range}
 use Rattle.std.specs.declared.result.Result.{Result}
 use Rattle.std.proofs.Common.{Bool, Err, IsUtf8, List, None, Ok, Option, Some, ap, arith, false, length, refl, subst}
-use Rattle.std.proofs.Common.{sym, take, true, ℕ, ◌+◌}
-use Rattle.std.proofs.Common.{◌-◌, ◌<◌, ◌==◌, ◌∙◌, ◌≡◌, ◌≤◌}
+use Rattle.std.proofs.Common.{sym, take, true, ℕ, ◌+◌, ◌<◌, ◌==◌, ◌∙◌, ◌≡◌, ◌≤◌}
 use Rattle.std.proofs.Math.Path.{fun_ext}
 use Rattle.std.proofs.lemmas.List.{length-take}
 use Rattle.markdown_base.specs.Arena.{Arena, child_of, sibling_of}
@@ -27,14 +26,14 @@ use Rattle.markdown_document.specs.Setting.{Rules, Setting, setting_of}
 use Rattle.markdown_document.specs.Tables.{Tables, tables_of}
 use Rattle.markdown_spans.specs.AfterLess.{Markup, autolink, html_markup, markup_at}
 use Rattle.markdown_base.specs.EnabledOptions.{gfm_footnotes_on}
-use Rattle.markdown_spans.specs.Finds.{Find, Passed, end_of_markup, markup, markup_found, nothing, passed}
-use Rattle.markdown_spans.specs.Finds.{prefix_below}
+use Rattle.markdown_spans.specs.Finds.{Find, Passed, end_of_markup, markup, markup_found, nothing, passed, prefix_below}
 use Rattle.markdown_spans.specs.PrefixView.{length_by}
 use Rattle.markdown_spans.specs.declared.prefixes.ContainerPrefix.{ContainerPrefix}
 use Rattle.markdown_spans.proofs.AfterLessLemmas.{closed_boundary}
 use Rattle.markdown_spans.proofs.SliceLemmas.{slice_of_slice}
 use Rattle.markdown_document.proofs.OriginLemmas.{slice_wider}
 use Rattle.markdown_defs.specs.Allocations.{Allocated}
+use Rattle.markdown_brackets.proofs.WrittenLemmas.{whole_range}
 use Rattle.markdown_resolver.specs.declared.rest.Rest.{Rest}
 use Rattle.markdown_resolver.specs.ChainPlace.{CanReadItem, IsPlaceOf}
 use Rattle.markdown_resolver.specs.Chains.{CanResolve}
@@ -45,15 +44,13 @@ use Rattle.markdown_document.specs.declared.chain_place.ChainPlace.{ChainPlace}
 use Rattle.markdown_resolver.proofs.ChainPlaceLemmas.{prefix_is}
 use Rattle.markdown_resolver.proofs.MarkupEndLemmas.{MarkupEnds, found_at, markup_ends}
 use Rattle.markdown_resolver.proofs.MarkupItemLemmas.{address_lies, boundary_before, closed_in, lies_at, lies_to}
-use Rattle.markdown_resolver.proofs.MarkupItemLemmas.{none_past_end}
-use Rattle.markdown_resolver.proofs.MarkupItemLemmas.{one_byte_long}
+use Rattle.markdown_resolver.proofs.MarkupItemLemmas.{none_past_end, one_byte_long}
 use Rattle.markdown_resolver.proofs.ReadsItemLemmas.{ReadsAs, opener_unquiet, read_opener, reads_item}
 use Rattle.markdown_resolver.proofs.FollowersLemmas.{opens_chain}
 
 -- where nothing is found, a `<` is a Text
 settled_reads : (s : Setting) (above : Above) (tables : Tables) (nodes : List (Node Item)) (ix : ℕ)
-    → (item_at nodes ix).body ≡ body.MaybeHtml
-    → markup_found s above (label_at s.text tables nodes ix)
+    → (item_at nodes ix).body ≡ body.MaybeHtml → markup_found s above (label_at s.text tables nodes ix)
     (next_starts_at (item_at nodes ix).end (trees_from s.text tables nodes (sibling_of nodes ix))) ≡ nothing
     → ReadsAs s above tables nodes ix (settled s.text) None
 settled_reads s above tables nodes ix is none =
@@ -69,20 +66,17 @@ settled_reads s above tables nodes ix is none =
 
 -- otherwise it becomes the trees of the markup
 found_reads : (s : Setting) (above : Above) (tables : Tables) (nodes : List (Node Item)) (ix : ℕ) (m : Markup)
-    → (item_at nodes ix).body ≡ body.MaybeHtml
-    → markup_found s above (label_at s.text tables nodes ix)
+    → (item_at nodes ix).body ≡ body.MaybeHtml → markup_found s above (label_at s.text tables nodes ix)
     (next_starts_at (item_at nodes ix).end (trees_from s.text tables nodes (sibling_of nodes ix))) ≡ markup m
     → ReadsAs s above tables nodes ix (standing_for s.text s.rules m) (Some (end_of_markup m))
 found_reads s above tables nodes ix m is found =
     let r = read_opener s above tables nodes ix body.MaybeHtml is refl refl
-    ∙ ap (passed s plain_tags 0 (label_at s.text tables nodes ix))
-    found in
+    ∙ ap (passed s plain_tags 0 (label_at s.text tables nodes ix)) found in
     record { standing = ap (λ (p : Passed (Unit {0})). p.trees) r; ends = ap (λ (p : Passed (Unit {0})). p.goes_on) r }
 
 -- whether the next item starts at a byte
 starts_in : (source : List ℕ) (tables : Tables) (nodes : List (Node Item)) (i : ℕ) (l : Option ℕ) (f : Forest ℕ)
-    → Spells (links_of nodes) l f
-    → option_map_or (λ ix. (item_at nodes ix).start == i) l false
+    → Spells (links_of nodes) l f → option_map_or (λ ix. (item_at nodes ix).start == i) l false
     ≡ next_starts_at i (relabelled (label_at source tables nodes) f)
 starts_in source tables nodes i l nil s = rw s refl
 starts_in source tables nodes i l (node ix below after) s = rw s.0 refl
@@ -98,8 +92,7 @@ next_starts source tables nodes i ix ready =
 
 -- what was scanned with the prefix of all nodes that were entered is what is found below the blocks
 pub scanned_is : (place : ChainPlace) (prefix : ContainerPrefix) (tree : Arena Item) (rules : Rules) (start at : ℕ)
-    (found : Option Markup)
-    → prefix.tree.now ≡ tree
+    (found : Option Markup) → prefix.tree.now ≡ tree
     → prefix.gfm_footnotes ≡ gfm_footnotes_on place.options → gfm_footnotes_on rules.options
     ≡ gfm_footnotes_on place.options → IsPlaceOf place tree
     → found ≡ markup_at (λ rest. Some (length_by prefix rest)) (take place.block_end place.text.now) start at
@@ -115,8 +108,7 @@ scanned_is place prefix tree rules start at found here gfm same stands is =
     let rule : (λ rest. Some (length_by prefix rest)) ≡ (λ rest. Some (prefix_below s above rest)) =
     fun_ext (λ bytes. ap (λ (n : ℕ). Some n) (by bytes)) in
     sym (is ∙ (ap (λ (skipped : List ℕ → Option ℕ). markup_at skipped (take place.block_end place.text.now) start at)
-    rule
-    ∙ ap (λ (end : ℕ). markup_at (λ bytes. Some (prefix_below s above bytes)) (take end place.text.now) start at)
+    rule ∙ ap (λ (end : ℕ). markup_at (λ bytes. Some (prefix_below s above bytes)) (take end place.text.now) start at)
     stands.block_end))
 
 -- a `<` before the block's end that the next item follows was scanned, and this was found
@@ -132,27 +124,21 @@ pub record IsScanned (place : ChainPlace) (tree : Arena Item) (held : Allocated)
   pub gfm : prefix.gfm_footnotes ≡ gfm_footnotes_on place.options
   pub utf8 : IsUtf8 (take place.block_end place.text.now)
   pub value : found ≡ markup_at (λ rest. Some (length_by prefix rest)) (take place.block_end place.text.now)
-      (item_at tree.nodes ix).start
-      (item_at tree.nodes ix).end
-
--- a text up to a byte
-pub text_up_to : (text : List ℕ) (end : ℕ) → slice_range text 0 end ≡ take end text
-text_up_to text end = let all : end - 0 ≡ end = omega arith in ap (λ (n : ℕ). take n text) all
+      (item_at tree.nodes ix).start (item_at tree.nodes ix).end
 
 -- so it is where the item was copied, and the text cut
-pub is_scanned : (place : ChainPlace) (tree : Arena Item) (held : Allocated) (ix : ℕ) (prefix : ContainerPrefix)
-    (found : Option Markup)
-    (item : Item) (next : Option ℕ) (text : List ℕ)
+pub is_scanned : {place : ChainPlace} {tree : Arena Item} {held : Allocated} {ix : ℕ} {found : Option Markup}
+    {item : Item} {next : Option ℕ} {text : List ℕ} (prefix : ContainerPrefix)
     → CanReadItem place tree held ix → (item_at tree.nodes ix).body ≡ body.MaybeHtml → item ≡ item_at tree.nodes ix
     → item.end ≤ place.block_end
     → next ≡ sibling_of tree.nodes ix → true ≡ option_map_or (λ n. (item_at tree.nodes n).start == item.end) next false
     → prefix.tree.now ≡ tree → prefix.gfm_footnotes ≡ gfm_footnotes_on place.options → text
-    ≡ slice_range place.text.now 0 place.block_end
-    → IsUtf8 text
+    ≡ slice_range place.text.now 0 place.block_end → IsUtf8 text
     → found ≡ markup_at (λ rest. Some (length_by prefix rest)) text item.start item.end
     → IsScanned place tree held ix prefix found
-is_scanned place tree held ix prefix found item next text can opener same inside after follows here gfm cut utf8 value =
-    let whole : text ≡ take place.block_end place.text.now = cut ∙ text_up_to place.text.now place.block_end in
+is_scanned {place} {tree} {held} {ix} {found} {item} {next} {text} prefix can opener same inside after follows here gfm
+    cut utf8 value =
+    let whole : text ≡ take place.block_end place.text.now = cut ∙ whole_range place.text.now place.block_end in
     record {
       can = can;
       opener = opener;
@@ -179,15 +165,12 @@ markup_or_nothing found = option_map_or markup found nothing
 abbrev pub found_by : ChainPlace → Arena Item → Allocated → ℕ → Rules → Find (Unit {0})
 found_by place tree held ix rules =
     markup_found (setting_of place.text.now rules) (above_cursor place.text.now tree)
-    (label_at place.text.now (tables_of held) tree.nodes
-    ix)
-    (next_starts_at (item_at tree.nodes ix).end
+    (label_at place.text.now (tables_of held) tree.nodes ix) (next_starts_at (item_at tree.nodes ix).end
     (trees_from place.text.now (tables_of held) tree.nodes (sibling_of tree.nodes ix)))
 
 -- it is what was scanned
 pub scan_finds : (place : ChainPlace) (tree : Arena Item) (held : Allocated) (ix : ℕ) (prefix : ContainerPrefix)
-    (found : Option Markup)
-    (rules : Rules) → IsScanned place tree held ix prefix found
+    (found : Option Markup) (rules : Rules) → IsScanned place tree held ix prefix found
     → gfm_footnotes_on rules.options ≡ gfm_footnotes_on place.options → found_by place tree held ix rules
     ≡ markup_or_nothing found
 scan_finds place tree held ix prefix found rules is gfm =
@@ -195,15 +178,12 @@ scan_finds place tree held ix prefix found rules is gfm =
     let item = item_at tree.nodes ix in
     let after = sym (next_starts place.text.now (tables_of held) tree.nodes item.end ix is.can.ready) ∙ is.follows in
     ap (markup_found s (above_cursor place.text.now tree) (label_at place.text.now (tables_of held) tree.nodes ix))
-    after
-    ∙ ap markup_or_nothing
+    after ∙ ap markup_or_nothing
     (scanned_is place prefix tree rules item.start item.end found is.here is.gfm gfm is.can.stands is.value)
 
 -- nothing is found where no item follows directly
 pub none_follows : (place : ChainPlace) (tree : Arena Item) (held : Allocated) (ix : ℕ) (rules : Rules) (item : Item)
-    (next : Option ℕ)
-    → CanReadItem place tree held ix
-    → item ≡ item_at tree.nodes ix → next ≡ sibling_of tree.nodes ix
+    (next : Option ℕ) → CanReadItem place tree held ix → item ≡ item_at tree.nodes ix → next ≡ sibling_of tree.nodes ix
     → false ≡ option_map_or (λ n. (item_at tree.nodes n).start == item.end) next false
     → found_by place tree held ix rules ≡ nothing
 none_follows place tree held ix rules item next can same after none =
@@ -214,8 +194,7 @@ none_follows place tree held ix rules item next can same after none =
     ∙ (ap (λ (i : Item). option_map_or (λ n. (item_at tree.nodes n).start == i.end) next false) (sym same) ∙ sym none))
     in
     ap (markup_found (setting_of place.text.now rules) (above_cursor place.text.now tree)
-    (label_at place.text.now (tables_of held)
-    tree.nodes ix)) follows
+    (label_at place.text.now (tables_of held) tree.nodes ix)) follows
 
 -- nor where the `<` is not before the block's end
 pub none_past_block : (place : ChainPlace) (tree : Arena Item) (held : Allocated) (ix : ℕ) (rules : Rules) (item : Item)
@@ -255,13 +234,11 @@ scan_ends : (place : ChainPlace) (tree : Arena Item) (held : Allocated) (ix : �
 scan_ends place tree held ix prefix m is =
     let item = item_at tree.nodes ix in
     let long = one_byte_long place.text.now (tables_of held) tree.nodes ix is.can.ready is.opener in
-    let lies = lies_at place.text.now (tables_of held) tree.nodes ix is.can.ready in
+    let lies = lies_at is.can.ready in
     let before : item.end ≤ length (take place.block_end place.text.now)
-    = (boundary_before place.text.now place.block_end item.end lies.end
-    is.inside).0 in
+    = (boundary_before place.text.now place.block_end item.end lies.end is.inside).0 in
     markup_ends (λ rest. Some (length_by prefix rest)) (take place.block_end place.text.now) item.start item.end m
-    (omega (arith, long))
-    before (sym is.value)
+    (omega (arith, long)) before (sym is.value)
 
 -- so it can be put in place
 has_address : (place : ChainPlace) (tree : Arena Item) (held : Allocated) (ix : ℕ) (m : Markup)
@@ -276,18 +253,16 @@ has_address place tree held ix (autolink end uri) can ends = record {
   slice =
       let item = item_at tree.nodes ix in
       slice_wider place.text.now (0 + item.end) (0 + end) item.start end uri
-      (omega (arith, (opens_chain place.text.now (tables_of held) tree.nodes ix can.ready).placed.lies.ordered))
-      (omega arith)
-      (slice_of_slice place.text.now 0 place.block_end item.end end uri
-      (subst (λ (text : List ℕ). IsSliceWithin text item.end end uri) (sym (text_up_to place.text.now place.block_end))
+      (omega (arith, (opens_chain can.ready).placed.lies.ordered))
+      (omega arith) (slice_of_slice place.text.now 0 place.block_end item.end end uri
+      (subst (λ (text : List ℕ). IsSliceWithin text item.end end uri) (sym (whole_range place.text.now place.block_end))
       ends.address.1));
 }
 
-pub markup_stands : (place : ChainPlace) (tree : Arena Item) (held : Allocated) (ix : ℕ) (prefix : ContainerPrefix)
-    (m : Markup)
-    → IsScanned place tree held ix prefix (Some m)
+pub markup_stands : {place : ChainPlace} {tree : Arena Item} {held : Allocated} {ix : ℕ} {prefix : ContainerPrefix}
+    {m : Markup} → IsScanned place tree held ix prefix (Some m)
     → IsMarkupAt place.text.now (tables_of held) tree.nodes ix m
-markup_stands place tree held ix prefix m is =
+markup_stands {place} {tree} {held} {ix} {prefix} {m} is =
     let at = scan_ends place tree held ix prefix m is in
     let source = place.text.now in
     let end = end_of_markup m in
@@ -295,28 +270,25 @@ markup_stands place tree held ix prefix m is =
       found = found_at source (tables_of held) tree.nodes ix end is.can.ready is.can.unread is.opener
           (closed_in source place.block_end (item_at tree.nodes ix).start end at.ends);
       lies = lies_to source (tables_of held) tree.nodes ix place.block_end end is.can.ready is.can.stands.boundary
-          at.ends.after
-          (closed_boundary (take place.block_end source) end is.utf8 at.ends.within at.ends.closed);
+          at.ends.after (closed_boundary (take place.block_end source) end is.utf8 at.ends.within at.ends.closed);
       address = has_address place tree held ix m is.can at;
     }
 
 -- where nothing is found the item is read as it is settled
-pub reads_text : (place : ChainPlace) (tree : Arena Item) (held : Allocated) (ix : ℕ) (rules : Rules) (rest : Rest)
-    (new : List (Node Item)) → CanReadItem place tree held ix
+pub reads_text : {place : ChainPlace} {tree : Arena Item} {held : Allocated} {ix : ℕ} {rules : Rules} {rest : Rest}
+    {new : List (Node Item)} → CanReadItem place tree held ix
     → (item_at tree.nodes ix).body ≡ body.MaybeHtml → found_by place tree held ix rules ≡ nothing
     → Puts place.text.now ix (settled place.text.now) None rest tree.nodes new (tables_of held) (tables_of held)
     → ReadsItem (setting_of place.text.now rules) (above_cursor place.text.now tree) ix rest tree.nodes new
-    (tables_of held)
-    (tables_of held)
-reads_text place tree held ix rules rest new can opener none p =
+    (tables_of held) (tables_of held)
+reads_text {place} {tree} {held} {ix} {rules} {rest} {new} can opener none p =
     let s = setting_of place.text.now rules in
     let above = above_cursor place.text.now tree in
     reads_item can.ready (settled_reads s above (tables_of held) tree.nodes ix opener none) p
 
 -- where markup is found, the item is read as the trees that replace it
 pub reads_found : (place : ChainPlace) (tree : Arena Item) (held : Allocated) (ix : ℕ) (prefix : ContainerPrefix)
-    (m : Markup)
-    (rules : Rules) (rest : Rest) (new : List (Node Item)) (tables' : Tables)
+    (m : Markup) (rules : Rules) (rest : Rest) (new : List (Node Item)) (tables' : Tables)
     → IsScanned place tree held ix prefix (Some m) → gfm_footnotes_on rules.options ≡ gfm_footnotes_on place.options
     → Puts place.text.now ix (standing_for place.text.now rules m) (Some (end_of_markup m)) rest tree.nodes new
     (tables_of held) tables'

@@ -1,5 +1,5 @@
 -- An item of a chain was read in place: what is true of a bracket, and of another item, is true of any.
-use Rattle.std.proofs.Common.{◌≡◌, ℕ, List, Option, Some, None, sym, ap, ◌∙◌, subst}
+use Rattle.std.proofs.Common.{◌≡◌, ℕ, List, Option, Some, None, sym, ap, subst, refl}
 use Rattle.std.specs.Prelude.{Result, Ok, Err, IfOk, is_some}
 use Rattle.markdown_base.specs.Arena.{Arena, sibling_of}
 use Rattle.markdown_base.specs.BlockTree.{item_at}
@@ -7,17 +7,16 @@ use Rattle.markdown_base.specs.Questions.{Question, Answer}
 use Rattle.markdown_base.specs.declared.item.Item.{Item}
 use Rattle.markdown_brackets.specs.LeftList.{Entry}
 use Rattle.markdown_document.specs.Above.{Above}
-use Rattle.markdown_document.specs.Setting.{uses_of, Setting, Rules, rules_from, setting_of}
-use Rattle.markdown_document.specs.Stages.{Stage, items_from, above_cursor}
+use Rattle.markdown_document.specs.Setting.{Setting, Rules, rules_from, setting_of}
+use Rattle.markdown_document.specs.Stages.{items_from, above_cursor}
 use Rattle.markdown_document.specs.Tables.{tables_of, Tables}
 use Rattle.markdown_spans.specs.SpanClosers.{HoldsFrom, Learned, has_failed}
 use Rattle.markdown_spans.specs.declared.span_text.SpanKind.{SpanKind}
 use Rattle.markdown_resolver.specs.BracketKinds.{kind_of}
 use Rattle.markdown_resolver.specs.ReadOn.{ReadsOn, StandsTo}
 use Rattle.markdown_resolver.specs.ReadsBracket.{CanReadNode, ChangesForBracket, ChangesForNode, ReadsBracket}
-use Rattle.markdown_resolver.specs.ReadsBracket.{ReadsNode}
-use Rattle.markdown_resolver.specs.ReadsBracket.{StopsLooking, WasReadTo, setting_by, stage_by, ChangesForOther}
-use Rattle.markdown_resolver.specs.ReadsBracket.{HasLearned, Looked, ReadsOther, CanReadOther}
+use Rattle.markdown_resolver.specs.ReadsBracket.{ReadsNode, StopsLooking, WasReadTo, setting_by, stage_by}
+use Rattle.markdown_resolver.specs.ReadsBracket.{ChangesForOther, HasLearned, Looked, ReadsOther, CanReadOther}
 use Rattle.markdown_resolver.specs.ReadsItem.{ReadsItem, read_at}
 use Rattle.markdown_resolver.specs.declared.rest.Rest.{Rest}
 use Rattle.markdown_document.specs.declared.chain_place.ChainPlace.{ChainPlace}
@@ -41,8 +40,7 @@ module _ {C : Type 0} {step : C → Question → Option Answer → C → Type 0}
   pub bracket_read : ChangesForBracket old new → ReadsBracket step place ix rest tree tree' old new
       → ReadsNode step place ix rest tree tree' old new
   bracket_read changes r =
-      let leads = chain_leads place.text.now (tables_of old.lookup.tables) tree.nodes (Some ix)
-      (ready_here can.was_read) in
+      let leads = chain_leads (ready_here can.was_read) in
       let holds : (kind : SpanKind) (learned : Learned) → HoldsFrom kind learned tree.nodes (Some ix)
       → HoldsFrom kind learned tree'.nodes rest.next =
       λ kind learned h. r.holds kind learned (holds_next kind learned tree.nodes ix leads h) in
@@ -73,13 +71,10 @@ bracket_stops {C} ix tree old new changes =
 
 -- another item was read, after any left list
 pub other_on : {C : Type 0} (step : C → Question → Option Answer → C → Type 0) (place : ChainPlace) (ix : ℕ)
-    (rest : Rest)
-    (tree tree' : Arena Item) (old new : Resolver C) → CanReadNode place tree old ix
-    → kind_of (item_at tree.nodes ix).body ≡ None
-    → ChangesForOther old new
+    (rest : Rest) (tree tree' : Arena Item) (old new : Resolver C) → CanReadNode place tree old ix
+    → kind_of (item_at tree.nodes ix).body ≡ None → ChangesForOther old new
     → ReadsItem (setting_by old) (above_cursor old.text.now tree) ix rest tree.nodes tree'.nodes
-    (tables_of old.lookup.tables)
-    (tables_of new.lookup.tables)
+    (tables_of old.lookup.tables) (tables_of new.lookup.tables)
     → (first : ℕ) (left : List (Entry ℕ)) → WasReadTo place tree old first ix left
     → ReadsOn step (setting_by old) (above_cursor old.text.now tree) first (Some ix) rest.next left (stage_by tree old)
     (stage_by tree' new) old.waiting.spent new.waiting.spent new.waiting.openers.brackets new.waiting.openers.wikilinks
@@ -87,17 +82,9 @@ other_on {C} step place ix rest tree tree' old new can kind kept r first left wa
     let so_far : StandsTo old.text.now (tables_of old.lookup.tables) tree.nodes first (Some ix) left = rw (← can.text)
     was_read.so_far in
     let same : stage_by tree' new
-    ≡ record (stage_by tree old) { nodes = tree'.nodes; tables = tables_of new.lookup.tables } =
-    ap (λ (x : Resolver C). let y : Stage C = record {
-      nodes = tree'.nodes;
-      tables = tables_of new.lookup.tables;
-      limit = x.lookup.limit;
-      uses = uses_of x.lookup.tables.footdefs;
-      callback = x.lookup.callback;
-    } in y) kept in
+    ≡ record (stage_by tree old) { nodes = tree'.nodes; tables = tables_of new.lookup.tables } = rw kept refl in
     subst (λ (x : Resolver C). ReadsOn step (setting_by old) (above_cursor old.text.now tree) first (Some ix) rest.next
-    left
-    (stage_by tree old) (stage_by tree' new) old.waiting.spent x.waiting.spent x.waiting.openers.brackets
+    left (stage_by tree old) (stage_by tree' new) old.waiting.spent x.waiting.spent x.waiting.openers.brackets
     x.waiting.openers.wikilinks) (sym kept)
     (reads_on_item step (setting_by old) (above_cursor old.text.now tree) first ix rest left (stage_by tree old)
     (stage_by tree' new)
@@ -106,43 +93,12 @@ other_on {C} step place ix rest tree tree' old new can kind kept r first left wa
 
 -- what a bracket changes, an item may
 pub bracket_changes : {C : Type 0} {old new : Resolver C} → ChangesForBracket old new → ChangesForNode old new
-bracket_changes {C} {old} {new} changes = record {
-  kept = changes.kept ∙ ap (λ (r : Resolver C). let x : Resolver C = record old {
-    lookup = record old.lookup {
-      tables = record old.lookup.tables {
-        cows = new.lookup.tables.cows;
-        links = new.lookup.tables.links;
-        footdefs = new.lookup.tables.footdefs;
-      };
-      limit = new.lookup.limit;
-      callback = new.lookup.callback;
-    };
-    waiting = new.waiting;
-    work = record old.work { code_visits = r.work.code_visits; math_visits = r.work.math_visits };
-    code_closers = r.code_closers;
-    math_closers = r.math_closers;
-  } in x) (sym changes.kept);
-  footnotes = changes.footnotes;
-}
+bracket_changes changes = record { kept = rw changes.kept refl; footnotes = changes.footnotes }
 
 -- another item changes no more either
 pub other_changes : {C : Type 0} {old new : Resolver C} → ChangesForOther old new → ChangesForNode old new
 other_changes {C} {old} {new} kept = record {
-  kept = kept ∙ ap (λ (r : Resolver C). let x : Resolver C = record old {
-    lookup = record old.lookup {
-      tables = record old.lookup.tables {
-        cows = new.lookup.tables.cows;
-        links = new.lookup.tables.links;
-        footdefs = r.lookup.tables.footdefs;
-      };
-      limit = r.lookup.limit;
-      callback = r.lookup.callback;
-    };
-    waiting = r.waiting;
-    work = record old.work { code_visits = new.work.code_visits; math_visits = new.work.math_visits };
-    code_closers = new.code_closers;
-    math_closers = new.math_closers;
-  } in x) (sym kept);
+  kept = rw kept refl;
   footnotes = λ name. ap (λ (r : Resolver C). is_some (footnote_at r.lookup.tables.footdefs name)) kept;
 }
 
@@ -157,16 +113,14 @@ unread_read s above ix rest old new tables tables' ready reads h =
     (unread_after s.text tables old ix ready h))
 
 ready_before : {C : Type 0} {place : ChainPlace} {tree : Arena Item} {old : Resolver C} {ix : ℕ}
-    (can : CanReadNode place tree old ix)
-    → CanResolve old.text.now (tables_of old.lookup.tables) tree.nodes (Some ix)
+    (can : CanReadNode place tree old ix) → CanResolve old.text.now (tables_of old.lookup.tables) tree.nodes (Some ix)
 ready_before {C} {place} {tree} {old} {ix} can = subst
     (λ (text : List ℕ). CanResolve text (tables_of old.lookup.tables) tree.nodes (Some ix)) can.text
     (ready_here can.was_read)
 
 -- an item that is not a bracket was read, unless memory was refused
 pub other_read : {C E : Type 0} (r : Result Rest E) (step : C → Question → Option Answer → C → Type 0)
-    (place : ChainPlace)
-    (ix : ℕ) (tree tree' : Arena Item) (old new : Resolver C) → CanReadNode place tree old ix
+    (place : ChainPlace) (ix : ℕ) (tree tree' : Arena Item) (old new : Resolver C) → CanReadNode place tree old ix
     → kind_of (item_at tree.nodes ix).body ≡ None → ChangesForOther old new
     → IfOk r (λ rest. ReadsOther ix rest tree tree' old new)
     → IfOk r (λ rest. ReadsNode step place ix rest tree tree' old new)
@@ -197,8 +151,7 @@ only_reads (Ok rest) place tree old new ix tree' can place_is reads code math wo
     let read = reads_by_rules result place old.text.now
     (rules_from old.options old.lookup.tables (is_some old.lookup.callback)) tree ix
     tree'.nodes (tables_of old.lookup.tables) (tables_of new.lookup.tables) can.chain.ready can.text
-    (ap gfm_footnotes_on can.options)
-    reads in
+    (ap gfm_footnotes_on can.options) reads in
     record {
       item = read.reads;
       learned = record {

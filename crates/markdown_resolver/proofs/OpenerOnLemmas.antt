@@ -2,12 +2,10 @@
 -- left list, and the stacks hold it.
 use Rattle.markdown_base.specs.declared.item.ItemBody.TheVariants as body
 use Rattle.std.proofs.Common.{◌≡◌, ℕ, zero, suc, ◌+◌, ◌-◌, ◌<◌, ◌≤◌, Bool, true, false, ◌&&◌, List, [], ◌∷◌, ◌++◌}
-use Rattle.std.proofs.Common.{Option, Some, None}
-use Rattle.std.proofs.Common.{length, drop, get_or, refl, sym, ap, ◌∙◌, subst, append-nil, arith}
+use Rattle.std.proofs.Common.{Option, Some, None, length, get_or, refl, sym, ap, ◌∙◌, subst, append-nil, arith}
 use Rattle.std.specs.Prelude.{if◌then◌else◌, is_some, slice_range}
 use Rattle.std.specs.Option.{option_map_or}
 use Rattle.std.specs.Str.{IsCharBoundary}
-use Rattle.std.proofs.lemmas.List.{get_or-drop, get_or-take, length-drop, length-take}
 use Rattle.std.proofs.lemmas.Str.{IsCharBoundary-before_ascii}
 use Rattle.markdown_base.specs.Arena.{child_of, sibling_of}
 use Rattle.markdown_base.specs.ArenaForest.{links_of}
@@ -30,8 +28,8 @@ use Rattle.markdown_brackets.specs.declared.spent_ends.SpentEnds.{SpentEnds}
 use Rattle.markdown_base.proofs.ArenaForestLemmas.{forest_at-none}
 use Rattle.markdown_document.specs.Above.{Above}
 use Rattle.markdown_document.specs.ChainRest.{joined_chains, open_body}
-use Rattle.markdown_document.specs.Document.{Label, Part, Plain, Shape, as_text, is_unresolved, plain_tags, shape_of}
-use Rattle.markdown_document.specs.Document.{text_over, unresolved}
+use Rattle.markdown_document.specs.Document.{Label, Part, Plain, Shape, as_text, plain_tags, shape_of, text_over}
+use Rattle.markdown_document.specs.Document.{unresolved}
 use Rattle.markdown_document.specs.Labels.{retag}
 use Rattle.markdown_document.specs.Places.{label_at, trees_from}
 use Rattle.markdown_document.specs.Setting.{Known, Setting}
@@ -39,15 +37,15 @@ use Rattle.markdown_document.specs.Stages.{Stage, chain_at, known_at}
 use Rattle.markdown_document.specs.Tables.{Tables}
 use Rattle.markdown_document.specs.Waiting.{is_quiet}
 use Rattle.markdown_document.proofs.PlaceLemmas.{shape-open}
-use Rattle.markdown_delims.proofs.PairingLemmas.{closed_shape}
+use Rattle.markdown_base.proofs.ByteListLemmas.{byte_of_part, part_length}
 use Rattle.markdown_resolver.specs.declared.rest.Rest.{Rest}
 use Rattle.markdown_resolver.specs.Chains.{CanResolve, ChangesChain}
 use Rattle.markdown_resolver.specs.Kept.{IsQuiet, IsQuietBelow}
 use Rattle.markdown_resolver.specs.PutsTrees.{PutsTrees, numbered_from, numbered_label, without_numbers}
 use Rattle.markdown_resolver.specs.ReadOn.{AreHeld, EachWaits, IsOpener, PutsBehind, ReadsOn, StandsTo, all_read}
-use Rattle.markdown_resolver.specs.ReadOn.{at_left}
-use Rattle.markdown_resolver.specs.ReadOn.{left_without_numbers}
+use Rattle.markdown_resolver.specs.ReadOn.{at_left, left_without_numbers}
 use Rattle.markdown_resolver.specs.Rewritten.{Puts, settled, text_unless}
+use Rattle.markdown_resolver.proofs.SpanFindLemmas.{body_open}
 use Rattle.markdown_resolver.proofs.BehindLemmas.{behind, puts_behind}
 use Rattle.markdown_resolver.proofs.ComposeLemmas.{Stands}
 use Rattle.markdown_resolver.proofs.FollowersLemmas.{opens_chain}
@@ -64,27 +62,17 @@ pub record EndsWithBracket (source : List ℕ) (item : Item) : Type 0 where
   pub bracket : IsCharBoundary source (item.end - 1)
   pub mark : IsCharBoundary source (item.start + 1)
 
--- a byte of an item's text
-byte_at : (source : List ℕ) (start end k : ℕ) → k < end - start → get_or (slice_range source start end) k 0
-    ≡ get_or source (start + k) 0
-byte_at source start end k l = get_or-take (end - start) (drop start source) k 0 l ∙ get_or-drop start source k 0
-
+-- an item has as many bytes as its range is long
 size_of : (source : List ℕ) (item : Item) → LiesIn source item → length (slice_range source item.start item.end)
     ≡ item.end - item.start
-size_of source item lies = omega (
-  arith,
-  length-take (item.end - item.start) (drop item.start source),
-  length-drop item.start source,
-  lies.end.0,
-  lies.ordered,
-)
+size_of source item lies = part_length source item.start item.end lies.end.0
 
 -- where the last byte of one or two is `[`
 with_bracket : (source : List ℕ) (item : Item) (k : ℕ) → LiesIn source item → item.end ≡ item.start + k + 1 → k ≤ 1
     → get_or (slice_range source item.start item.end) k 0 ≡ 91 → EndsWithBracket source item
 with_bracket source item k lies size one last =
-    let byte : get_or source (item.start + k) 0 ≡ 91 = sym (byte_at source item.start item.end k (omega (arith, size)))
-    ∙ last in
+    let byte : get_or source (item.start + k) 0 ≡ 91 = sym (byte_of_part source item.start item.end k (omega
+    (arith, size))) ∙ last in
     let before : IsCharBoundary source (item.start + k) = IsCharBoundary-before_ascii source (item.start + k)
     (omega (arith, lies.end.0, size)) (omega (arith, byte)) in
     let place : item.start + k ≡ item.end - 1 = omega (arith, size) in
@@ -104,8 +92,7 @@ with_bracket source item k lies size one last =
         subst (λ (n : ℕ). IsCharBoundary source n) place before
 
 pub ends_with_bracket : (source : List ℕ) (item : Item) (is_image : Bool) → LiesIn source item
-    → MarkupIsThere source item
-    → item.body ≡ opener_body is_image → EndsWithBracket source item
+    → MarkupIsThere source item → item.body ≡ opener_body is_image → EndsWithBracket source item
 ends_with_bracket source item true lies markup is =
     let over : StandsOverMarkup (slice_range source item.start item.end) body.MaybeImage =
     subst (StandsOverMarkup (slice_range source item.start item.end)) is markup in
@@ -129,29 +116,17 @@ one_tree : (f : Forest (Label ℕ)) (t : Plain) → without_numbers f ≡ node t
 one_tree nil t e = cc e
 one_tree (node b nil nil) t e = record { label = b; is = refl; reads = cc e }
 one_tree (node b (node c below after) rest) t e = let no : node (retag (λ n. tt) c) (without_numbers below)
-    (without_numbers after)
-    ≡ nil = cc e in cc no
+    (without_numbers after) ≡ nil = cc e in cc no
 one_tree (node b nil (node c below after)) t e = let no : node (retag (λ n. tt) c) (without_numbers below)
-    (without_numbers after)
-    ≡ nil = cc e in cc no
+    (without_numbers after) ≡ nil = cc e in cc no
 
--- what is not open is not an opener
-closed_opener : (shape : Shape) → is_unresolved shape ≡ false → is_opener (open_body shape) ≡ false
-closed_opener (unresolved b) h = cc h
-closed_opener other h = refl
-
-closed_no_opener : (b : ItemBody) → is_open b ≡ false → is_opener b ≡ false
-closed_no_opener body.MaybeLinkOpen h = cc h
-closed_no_opener other h = refl
-
+-- a label shows an opener as it is
 opener_shape : (tables : Tables) (source : List ℕ) (b : ItemBody) → is_opener (open_body (shape_of tables source b))
     ≡ is_opener b
-opener_shape tables source b = by_open (is_open b) refl
-  where
-    by_open : (x : Bool) → is_open b ≡ x → is_opener (open_body (shape_of tables source b)) ≡ is_opener b
-    by_open true e = rw (shape-open tables source b e) refl
-    by_open false e = closed_opener (shape_of tables source b) (closed_shape tables source b e)
-        ∙ sym (closed_no_opener b e)
+opener_shape tables source body.Paragraph = refl
+opener_shape tables source (body.HardBreak true) = refl
+opener_shape tables source (body.HardBreak false) = refl
+opener_shape tables source other = refl
 
 -- whether an opener follows
 pub opener_next : (source : List ℕ) (tables : Tables) (nodes : List (Node Item)) (l : Option ℕ)
@@ -165,21 +140,19 @@ opener_next source tables nodes None ready = ap (λ (f : Forest Plain). is_next 
         ≡ nil
     no_trees source tables nodes = rw (forest_at-none (links_of nodes)) refl
 opener_next source tables nodes (Some n) ready =
-    ap (λ (f : Forest Plain). is_next is_opener f) (opens_chain source tables nodes n ready).trees
+    ap (λ (f : Forest Plain). is_next is_opener f) (opens_chain ready).trees
     ∙ opener_shape tables (slice_range source (item_at nodes n).start (item_at nodes n).end) (item_at nodes n).body
 
 -- a stack holds an opener that is live
 held_if : (b : Bool) (ix : ℕ) (is_image : Bool) (held : List Waiting)
     → (if b then waiting.live_opener (record { node = ix; is_image = is_image }) ∷ held else held)
-    ≡ held_as ix is_image (if b then live else gone)
-    held
+    ≡ held_as ix is_image (if b then live else gone) held
 held_if true ix is_image held = refl
 held_if false ix is_image held = refl
 
 -- an opener is open, and does not wait for pairing
 opener_settled : (source : List ℕ) (a : Plain) (below : Forest Plain) (is_image : Bool) → a.part.shape
-    ≡ unresolved (opener_body is_image)
-    → settled source a below ≡ node (as_text source a) nil nil
+    ≡ unresolved (opener_body is_image) → settled source a below ≡ node (as_text source a) nil nil
 opener_settled source a below true e = ap (λ (shape : Shape). text_unless (is_quiet shape) source a below) e
 opener_settled source a below false e = ap (λ (shape : Shape). text_unless (is_quiet shape) source a below) e
 
@@ -209,13 +182,12 @@ pub record IsSettledAt (source : List ℕ) (tables : Tables) (old new : List (No
   within : ix < length new
 
 pub settled_at : (source : List ℕ) (tables : Tables) (old new : List (Node Item)) (first ix : ℕ) (rest : Rest)
-    (left : List (Entry ℕ))
-    (is_image : Bool)
+    (left : List (Entry ℕ)) (is_image : Bool)
     → StandsTo source tables old first (Some ix) left → (item_at old ix).body ≡ opener_body is_image
     → Puts source ix (settled source) None rest old new tables tables → IsSettledAt source tables old new first ix
     rest.next left
 settled_at source tables old new first ix rest left is_image h is puts =
-    let ready = stands_rest source tables old first (Some ix) left h in
+    let ready = stands_rest h in
     let a = label_at source tables old ix in
     let below = trees_from source tables old (child_of old ix) in
     let next = rest.next in
@@ -224,19 +196,15 @@ settled_at source tables old new first ix rest left is_image h is puts =
     let item = item_at old ix in
     let was_open : is_open item.body ≡ true = ap is_open is ∙ opener_open is_image in
     let shape : a.part.shape ≡ unresolved (opener_body is_image) = shape-open tables
-    (slice_range source item.start item.end) item.body
-    was_open ∙ ap unresolved is in
+    (slice_range source item.start item.end) item.body was_open ∙ ap unresolved is in
     let text : settled source a below ≡ node t nil nil = opener_settled source a below is_image shape in
-    let o = opens_chain source tables old ix ready in
+    let o = opens_chain ready in
     let block : is_some a.part.block
     ≡ false = (subst (λ (f : Forest Plain). IsQuietBelow f) o.trees ready.quiet_below).0 in
     let quiet : IsQuiet (node t nil nil) = (refl, block, tt, tt) in
-    let p0 = put_trees source ix (settled source) None rest old new tables tables ready puts
-    (subst (λ (f : Forest Plain). IsQuiet f)
-    (sym text) quiet) in
+    let p0 = put_trees ready puts (subst (λ (f : Forest Plain). IsQuiet f) (sym text) quiet) in
     let p : PutsTrees source ix next (node t nil nil) behind_it old new tables tables = subst
-    (λ (f : Forest Plain). PutsTrees source ix next f
-    behind_it old new tables tables) text p0 in
+    (λ (f : Forest Plain). PutsTrees source ix next f behind_it old new tables tables) text p0 in
     let some = some_nodes source tables old first (Some ix) left h in
     let b = behind source old new tables tables ix (trees_onto left nil) (Some first) some p.changes p.runs
     (stands_from source tables old first (Some ix) left h) (rest_of source tables old first (Some ix) left h).whole in
@@ -244,8 +212,7 @@ settled_at source tables old new first ix rest left is_image h is puts =
     let s : Stands source tables new (Some ix) = record {
       reaches = p.changes.reaches;
       once = p.changes.once;
-      named_once =
-          p.changes.named_once;
+      named_once = p.changes.named_once;
     } in
     let next_trees = numbered_from source tables new next in
     let here : numbered_from source tables new (Some ix) ≡ node one.label nil next_trees = p.stands
@@ -257,7 +224,7 @@ settled_at source tables old new first ix rest left is_image h is puts =
     let child : numbered_from source tables new (child_of new ix) ≡ nil = cc opened in
     record {
       reads = ap (λ (c : Label ℕ). retag (λ n. tt) c) (sym label) ∙ one.reads;
-      behind_is = puts_behind source first ix next left (node t nil nil) behind_it old new tables tables h p;
+      behind_is = puts_behind h p;
       stands =
           b.trees ∙ ap (λ (f : Forest (Label ℕ)). joined_chains (trees_onto left nil) f)
           (here ∙ ap (λ (c : Label ℕ). node c nil next_trees) label)
@@ -269,8 +236,7 @@ settled_at source tables old new first ix rest left is_image h is puts =
 
 -- an opener was read
 pub reads_on_opener : {C : Type 0} (step : C → Question → Option Answer → C → Type 0) (s : Setting) (above : Above)
-    (first ix : ℕ)
-    (rest : Rest) (left : List (Entry ℕ)) (is_image : Bool) (old new : Stage C)
+    (first ix : ℕ) (rest : Rest) (left : List (Entry ℕ)) (is_image : Bool) (old new : Stage C)
     (spent : SpentEnds) (brackets wikilinks brackets' wikilinks' : List Waiting) → new
     ≡ record old { nodes = new.nodes }
     → StandsTo s.text old.tables old.nodes first (Some ix) left → AreHeld brackets wikilinks left
@@ -278,15 +244,13 @@ pub reads_on_opener : {C : Type 0} (step : C → Question → Option Answer → 
     → Puts s.text ix (settled s.text) None rest old.nodes new.nodes old.tables old.tables
     → brackets' ≡ waiting.live_opener (record { node = ix; is_image = is_image }) ∷ brackets
     → wikilinks' ≡ (if wikilinks_on s.rules.options && option_map_or (λ n. is_opener (item_at old.nodes n).body)
-    (sibling_of old.nodes ix)
-    false
+    (sibling_of old.nodes ix) false
     then waiting.live_opener (record { node = ix; is_image = is_image }) ∷ wikilinks else wikilinks)
     → ReadsOn step s above first (Some ix) rest.next left old new spent spent brackets' wikilinks'
 reads_on_opener {C} step s above first ix rest left is_image old new spent brackets wikilinks brackets' wikilinks' same
-    stands held is puts
-    brackets_are wikilinks_are =
-    let ready = stands_rest s.text old.tables old.nodes first (Some ix) left stands in
-    let o = opens_chain s.text old.tables old.nodes ix ready in
+    stands held is puts brackets_are wikilinks_are =
+    let ready = stands_rest stands in
+    let o = opens_chain ready in
     let item = item_at old.nodes ix in
     let a = label_at s.text old.tables old.nodes ix in
     let below = trees_from s.text old.tables old.nodes (child_of old.nodes ix) in
@@ -294,8 +258,7 @@ reads_on_opener {C} step s above first ix rest left is_image old new spent brack
     let behind_it = trees_from s.text old.tables old.nodes (sibling_of old.nodes ix) in
     let tables : new.tables ≡ old.tables = ap (λ (t : Stage C). t.tables) same in
     let at : IsSettledAt s.text old.tables old.nodes new.nodes first ix rest.next left = settled_at s.text old.tables
-    old.nodes new.nodes first
-    ix rest left is_image stands is puts in
+    old.nodes new.nodes first ix rest left is_image stands is puts in
     let text = as_text s.text a in
     let b = numbered_label s.text old.tables new.nodes ix in
     let follows = wikilinks_on s.rules.options && is_next is_opener behind_it in
@@ -316,8 +279,7 @@ reads_on_opener {C} step s above first ix rest left is_image old new spent brack
       bracket = rw new_end ends.bracket;
       mark = rw new_start ends.mark;
       closed = text_closed old.tables (slice_range s.text (item_at new.nodes ix).start (item_at new.nodes ix).end)
-          (slice_range s.text item.start item.end) (item_at new.nodes ix).body
-          (ap (λ (c : Part). c.shape) part);
+          (slice_range s.text item.start item.end) (item_at new.nodes ix).body (ap (λ (c : Part). c.shape) part);
       childless = at.childless;
     } in
     let head_quiet = (rest_of s.text old.tables old.nodes first (Some ix) left stands).quiet_below in
@@ -328,8 +290,7 @@ reads_on_opener {C} step s above first ix rest left is_image old new spent brack
       tt,
     ) in
     let label_quiet : IsQuiet (node b nil nil) = (
-      ap (λ (c : Part). is_quiet c.shape) part
-          ∙ node_quiet.0,
+      ap (λ (c : Part). is_quiet c.shape) part ∙ node_quiet.0,
       ap (λ (c : Part). is_some c.block) part ∙ node_quiet.1,
       tt,
       tt,
@@ -342,8 +303,7 @@ reads_on_opener {C} step s above first ix rest left is_image old new spent brack
       waiting = (opener, waiting_then);
     } in
     let is_next_opener = opener_next s.text old.tables old.nodes (sibling_of old.nodes ix)
-    (ready_next s.text old.tables old.nodes ix ready)
-    in
+    (ready_next s.text old.tables old.nodes ix ready) in
     record {
       changes = subst (λ (t : Tables). ChangesChain s.text (Some first) old.nodes new.nodes old.tables t) (sym tables)
           behind_is.changes;
@@ -354,14 +314,11 @@ reads_on_opener {C} step s above first ix rest left is_image old new spent brack
             ∙ ap (λ (held : List Waiting). waiting.live_opener (record { node = ix; is_image = is_image }) ∷ held)
             held.brackets_are;
         wikilinks_are =
-            wikilinks_are
-            ∙ ap (λ (b : Bool). if wikilinks_on s.rules.options && b then waiting.live_opener
-            (record { node = ix; is_image = is_image })
-            ∷ wikilinks else wikilinks) (sym is_next_opener)
+            wikilinks_are ∙ ap (λ (b : Bool). if wikilinks_on s.rules.options && b then waiting.live_opener
+            (record { node = ix; is_image = is_image }) ∷ wikilinks else wikilinks) (sym is_next_opener)
             ∙ ap (λ (held : List Waiting). if follows then waiting.live_opener
             (record { node = ix; is_image = is_image }) ∷ held else held)
-            held.wikilinks_are
-            ∙ held_if follows ix is_image (wikilinks_of left);
+            held.wikilinks_are ∙ held_if follows ix is_image (wikilinks_of left);
       };
       answers = [];
       questions = [];
@@ -374,19 +331,16 @@ reads_on_opener {C} step s above first ix rest left is_image old new spent brack
           let left_is : waits mark text ∷ left_without_numbers left ≡ left_without_numbers left_then =
           ap (λ (c : Plain). waits mark c ∷ left_without_numbers left) (sym at.reads) in
           let rest_is : behind_it ≡ chain_at s.text new next = sym behind_is.rest_is
-          ∙ ap (λ (t : Tables). trees_from s.text t new.nodes next)
-          (sym tables) in
+          ∙ ap (λ (t : Tables). trees_from s.text t new.nodes next) (sym tables) in
           let made : p.made ≡ p.made + 0 = omega arith in
           ap (λ (f : Forest Plain). all_read s above f (at_left left old later p)) o.trees
           ∙ reads_opener s plain_tags above is_image a below behind_it (at_left left old later p) refl
-          (opener_is is_image item.body is)
-          ∙ ap (λ (f : Forest Plain). all_read s above f (record p {
+          (body_open old.tables (slice_range s.text item.start item.end) item.body (ap is_open is
+          ∙ opener_open is_image) ∙ is) ∙ ap (λ (f : Forest Plain). all_read s above f (record p {
             left = waits mark text ∷ left_without_numbers left;
-            goes_on =
-                None;
+            goes_on = None;
             known = known_at old later;
-          })) rest_is
-          ∙ ap (λ (l : List (Entry (Unit {0}))). all_read s above (chain_at s.text new next)
+          })) rest_is ∙ ap (λ (l : List (Entry (Unit {0}))). all_read s above (chain_at s.text new next)
           (record p { left = l; goes_on = None; known = known_at old later })) left_is
           ∙ ap (λ (known : Known). all_read s above (chain_at s.text new next)
           (record p { left = left_without_numbers left_then; goes_on = None; known = known })) k
@@ -395,14 +349,3 @@ reads_on_opener {C} step s above first ix rest left is_image old new spent brack
           ∙ ap (λ (made : ℕ). all_read s above (chain_at s.text new next)
           (at_left left_then new later (record p { asked = p.asked ++ []; made = made }))) made;
     }
-  where
-    opener_is : (is_image : Bool) (b : ItemBody) → b ≡ opener_body is_image
-        → open_body (shape_of old.tables (slice_range s.text (item_at old.nodes ix).start (item_at old.nodes ix).end) b)
-        ≡ opener_body is_image
-    opener_is is_image b e =
-        ap (λ (b : ItemBody). open_body
-        (shape_of old.tables (slice_range s.text (item_at old.nodes ix).start (item_at old.nodes ix).end)
-        b)) e
-        ∙ ap open_body (shape-open old.tables
-        (slice_range s.text (item_at old.nodes ix).start (item_at old.nodes ix).end)
-        (opener_body is_image) (opener_open is_image))

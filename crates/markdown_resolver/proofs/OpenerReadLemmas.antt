@@ -47,13 +47,6 @@ opener_kind is_image (body.MaybeLinkClose could_be) e = let no : ◌≡◌ {A = 
     in cc no
 opener_kind is_image other e = let no : ◌≡◌ {A = Option BracketKind} None (Some (Opener is_image)) = e in cc no
 
-pub closer_kind : (b : ItemBody) → kind_of b ≡ Some Closer → is_closer b ≡ true
-closer_kind body.MaybeLinkOpen e = let no : ◌≡◌ {A = Option BracketKind} (Some (Opener false)) (Some Closer) = e in cc
-    no
-closer_kind body.MaybeImage e = let no : ◌≡◌ {A = Option BracketKind} (Some (Opener true)) (Some Closer) = e in cc no
-closer_kind (body.MaybeLinkClose could_be) e = refl
-closer_kind other e = let no : ◌≡◌ {A = Option BracketKind} None (Some Closer) = e in cc no
-
 pub closer_body : (b : ItemBody) → is_closer b ≡ true → b ≡ body.MaybeLinkClose (could_be_reference b)
 closer_body (body.MaybeLinkClose could_be) e = refl
 closer_body other e = cc e
@@ -69,18 +62,11 @@ pub if_err : {X E : Type 0} {P : Type 0} (r : Result X E) → P → IfErr r (λ 
 if_err (Ok x) p = tt
 if_err (Err fault) p = p
 
-pub if_err_then : {X E : Type 0} {P Q : Type 0} (r : Result X E) → IfErr r (λ fault. P) → (P → Q) → IfErr r (λ fault. Q)
-if_err_then (Ok x) p f = tt
-if_err_then (Err fault) p f = f p
-
 pub ready_here : {place : ChainPlace} {tree : Arena Item} {held : Allocated} {brackets wikilinks : List Waiting}
-    {first ix : ℕ}
-    {left : List (Entry ℕ)}
+    {first ix : ℕ} {left : List (Entry ℕ)}
     → CanReadOn place tree held brackets wikilinks first ix left → CanResolve place.text.now (tables_of held) tree.nodes
     (Some ix)
-ready_here {place} {tree} {held} {brackets} {wikilinks} {first} {ix} {left} can = stands_rest place.text.now
-    (tables_of held) tree.nodes
-    first (Some ix) left can.so_far
+ready_here can = stands_rest can.so_far
 
 -- two facts of an error, together
 pub if_err_both : {X E : Type 0} (r : Result X E) (P Q : E → Type 0) → IfErr r P → IfErr r Q
@@ -95,18 +81,15 @@ IsOpened old new ix rest = (source : List ℕ) (tables : Tables) → CanResolve 
 
 -- a resolver has read an opener, once that waits
 pub reads_opener : {C E : Type 0} (step : C → Question → Option Answer → C → Type 0) (place : ChainPlace) (ix : ℕ)
-    (is_image : Bool)
-    (tree tree' : Arena Item) (old : Resolver C) (openers : ChainOpeners) (r : Result Rest E)
+    (is_image : Bool) (tree tree' : Arena Item) (old : Resolver C) (openers : ChainOpeners) (r : Result Rest E)
     → CanReadNode place tree old ix → kind_of (item_at tree.nodes ix).body ≡ Some (Opener is_image)
     → IfOk r (λ rest. IsOpened tree tree' ix rest) → IfOk r (λ rest. tree' ≡ record tree { nodes = tree'.nodes })
     → OnOk r (openers.brackets ≡ waiting.live_opener (record { node = ix; is_image = is_image }) ∷
-    old.waiting.openers.brackets)
-    → OnOk r (openers.wikilinks
+    old.waiting.openers.brackets) → OnOk r (openers.wikilinks
     ≡ (if wikilinks_on old.options && option_map_or (λ n. is_opener (item_at tree.nodes n).body)
     (sibling_of tree.nodes ix) false
     then waiting.live_opener (record { node = ix; is_image = is_image }) ∷ old.waiting.openers.wikilinks else
-    old.waiting.openers.wikilinks))
-    → IfOk r (λ rest. ReadsBracket step place ix rest tree tree' old
+    old.waiting.openers.wikilinks)) → IfOk r (λ rest. ReadsBracket step place ix rest tree tree' old
     (record old { waiting = record old.waiting { openers = openers } }))
 reads_opener step place ix is_image tree tree' old openers (Ok rest) can kind puts place_is brackets_are wikilinks_are =
     let ready = ready_here can.was_read in
@@ -116,24 +99,22 @@ reads_opener step place ix is_image tree tree' old openers (Ok rest) can kind pu
         reads = λ first left was_read.
             let so_far : StandsTo old.text.now (tables_of old.lookup.tables) tree.nodes first (Some ix) left = rw
             (← can.text) was_read.so_far in
-            let here = stands_rest old.text.now (tables_of old.lookup.tables) tree.nodes first (Some ix) left so_far in
+            let here = stands_rest so_far in
             reads_on_opener step (setting_by old) (above_cursor old.text.now tree) first ix rest left is_image
             (stage_by tree old)
             (stage_by tree' old) old.waiting.spent old.waiting.openers.brackets old.waiting.openers.wikilinks
             openers.brackets openers.wikilinks refl so_far
             was_read.openers (opener_kind is_image (item_at tree.nodes ix).body kind)
-            (puts old.text.now (tables_of old.lookup.tables) here)
-            brackets_are wikilinks_are;
+            (puts old.text.now (tables_of old.lookup.tables) here) brackets_are wikilinks_are;
         passes = put.passes;
         unread = λ h.
             let source = old.text.now in
             let tables = tables_of old.lookup.tables in
             let so_far : StandsTo source tables tree.nodes can.first (Some ix) can.left = rw (← can.text)
             can.was_read.so_far in
-            let here = stands_rest source tables tree.nodes can.first (Some ix) can.left so_far in
+            let here = stands_rest so_far in
             let settled_there = settled_at source tables tree.nodes tree'.nodes can.first ix rest can.left is_image
-            so_far
-            (opener_kind is_image (item_at tree.nodes ix).body kind) (puts source tables here) in
+            so_far (opener_kind is_image (item_at tree.nodes ix).body kind) (puts source tables here) in
             rw settled_there.behind_is.rest_is (unread_after source tables tree.nodes ix here h);
         place_is = place_is;
       };

@@ -18,27 +18,22 @@ use Rattle.markdown_resolver.proofs.PutLemmas.{rewrites_none}
 use Rattle.markdown_resolver.proofs.PutsTreesLemmas.{puts_trees}
 
 -- the first tree becomes what is put, with the trees inside, and what follows the closer is left past a byte
-pub over_trees : (source : List ℕ) (opener closer : ℕ) (inside : List ℕ) (trees : Enclosing) (goes_on : ℕ)
-    (standing : List ℕ)
-    (rest : Rest) (old new : List (Node Item)) (tables tables' : Tables)
-    (a : Plain) (below after : Forest Plain) → CanResolve source tables old (Some opener)
-    → trees_from source tables old (Some opener)
-    ≡ node a below after
+pub over_trees : {source : List ℕ} {opener closer : ℕ} {inside : List ℕ} {trees : Enclosing} {goes_on : ℕ}
+    {standing : List ℕ} {rest : Rest} {old new : List (Node Item)} {tables tables' : Tables}
+    {a : Plain} {below after : Forest Plain} → CanResolve source tables old (Some opener)
+    → trees_from source tables old (Some opener) ≡ node a below after
     → IsQuiet (trees a (first_trees (length inside) after))
     → PutsOver source opener closer inside trees goes_on standing rest old new tables tables'
     → ((a : Plain) (inside : Forest Plain) → length (roots (trees a inside)) ≡ length standing)
     → PutsTrees source opener rest.next (trees a (first_trees (length inside) after))
     (past (Some goes_on) (trees_past (suc (length inside)) after)) old new tables tables'
-over_trees source opener closer inside trees goes_on standing rest old new tables tables' a below after ready reads
-    quiet puts many =
+over_trees {source} {opener} {closer} {inside} {trees} {goes_on} {standing} {rest} {old} {new} {tables} {tables'} {a}
+    {below} {after} ready reads quiet puts many =
     let k = length inside in
-    let r = puts.whole (λ f. f) new tables'
-    (rewrites_none source rest.next new tables' (stands_ready source tables' new rest.next puts.leaves.ready))
-    in
+    let r = puts.whole (λ f. f) new tables' (rewrites_none (stands_ready puts.leaves.ready)) in
     let whole : trees_from source tables' new (Some opener) ≡ joined_chains (trees a (first_trees k after))
     (past (Some goes_on) (trees_past (suc k) after)) =
     r.rewritten ∙ ap (λ (f : Forest Plain). closed_over k trees goes_on (λ g. g) f) reads in
     puts_trees source opener rest.next (trees a (first_trees k after)) (past (Some goes_on) (trees_past (suc k) after))
     standing old new tables
-    tables' r.changes r.runs whole puts.numbers
-    (many a (first_trees k after)) quiet puts.leaves.ready
+    tables' r.changes r.runs whole puts.numbers (many a (first_trees k after)) quiet puts.leaves.ready

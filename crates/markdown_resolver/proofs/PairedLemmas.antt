@@ -1,8 +1,7 @@
 -- A chain that pass one has read can be paired in place, and then it is resolved.
 use Rattle.std.proofs.Common.{◌≡◌, ℕ, suc, ◌≤◌, Bool, true, false, List, [], ◌++◌, Option, Some, None, refl, sym, ap}
-use Rattle.std.proofs.Common.{◌∙◌, subst, arith}
-use Rattle.std.proofs.Common.{append-nil}
-use Rattle.std.specs.Prelude.{IfSome, is_some, if◌then◌else◌, slice_range}
+use Rattle.std.proofs.Common.{◌∙◌, subst, arith, append-nil}
+use Rattle.std.specs.Prelude.{IfSome, slice_range}
 use Rattle.std.specs.Option.{option_map}
 use Rattle.markdown_base.specs.Arena.{child_of, sibling_of}
 use Rattle.markdown_base.specs.ArenaForest.{links_of, Spells, forest_at}
@@ -16,9 +15,7 @@ use Rattle.markdown_base.specs.declared.item.ItemBody.{ItemBody}
 use Rattle.markdown_base.specs.declared.item.ItemBody.TheVariants as body
 use Rattle.markdown_base.specs.declared.node.Node.{Node}
 use Rattle.markdown_document.specs.Above.{Above}
-use Rattle.markdown_document.specs.Document.{plain_tags, Plain, Shape, leaf, enclosed, plain, backslash_break}
-use Rattle.markdown_document.specs.Document.{unresolved, is_unresolved}
-use Rattle.markdown_document.specs.Document.{shape_of, block_of}
+use Rattle.markdown_document.specs.Document.{plain_tags, Plain, Shape, unresolved, is_unresolved, shape_of}
 use Rattle.markdown_document.specs.ItemRules.{ComesBefore}
 use Rattle.markdown_document.specs.Counts.{counts_delimiter, counts_shape, delimiters_in}
 use Rattle.markdown_document.specs.Places.{label_at, trees_from}
@@ -39,17 +36,11 @@ use Rattle.markdown_resolver.specs.Kept.{IsQuiet, IsQuietBelow}
 use Rattle.markdown_resolver.specs.PassOne.{Outcome, pass_one}
 use Rattle.markdown_resolver.specs.ReadOn.{StopsInPassOne}
 use Rattle.markdown_resolver.specs.Resolved.{then_paired, resolved}
+use Rattle.markdown_resolver.proofs.ChainLeadsLemmas.{no_block}
 use Rattle.markdown_resolver.proofs.ComposeLemmas.{same_trans}
 use Rattle.markdown_resolver.proofs.PassOneQuietLemmas.{pass_one-quiet}
 
 -- the items of a chain in which nothing is open except what waits for pairing, and which has no block
-no_block : (b : ItemBody) → is_some (block_of b) ≡ false → is_block b ≡ false
-no_block b h = by_block (is_block b) h
-  where
-    by_block : (x : Bool) → is_some (if x then Some b else None) ≡ false → x ≡ false
-    by_block true h = cc h
-    by_block false h = refl
-
 blocks_none : (source : List ℕ) (tables : Tables) (nodes : List (Node Item)) (f : Forest ℕ)
     → IsQuiet (relabelled (label_at source tables nodes) f) → HasNoBlock (relabelled (numbered nodes) f)
 blocks_none source tables nodes nil q = tt
@@ -57,8 +48,7 @@ blocks_none source tables nodes (node ix below after) q
     = (no_block (item_at nodes ix).body q.1, blocks_none source tables nodes after q.3)
 
 waits_open : (tables : Tables) (source : List ℕ) (b : ItemBody) → is_quiet (shape_of tables source b) ≡ true → is_open b
-    ≡ true
-    → waits_for_pairing b ≡ true
+    ≡ true → waits_for_pairing b ≡ true
 waits_open tables source b q e = rw (shape-open tables source b e) at q
 
 all_wait : (source : List ℕ) (tables : Tables) (nodes : List (Node Item)) (f : Forest ℕ)
@@ -66,8 +56,7 @@ all_wait : (source : List ℕ) (tables : Tables) (nodes : List (Node Item)) (f :
 all_wait source tables nodes nil q = tt
 all_wait source tables nodes (node ix below after) q = (
   waits_open tables (slice_range source (item_at nodes ix).start (item_at nodes ix).end) (item_at nodes ix).body q.0,
-  all_wait source
-      tables nodes after q.3,
+  all_wait source tables nodes after q.3,
 )
 
 -- the item that a link leads to is the first of its forest
@@ -90,15 +79,13 @@ rises_next nodes ix l (node j below after) s b h stands = rw s.0
     (let p = (rw s.0 at stands) b h.0 in omega (arith, p.numbers))
 
 rises : (source : List ℕ) (tables : Tables) (nodes : List (Node Item)) (lo : ℕ) (l : Option ℕ) (f : Forest ℕ)
-    → Spells (links_of nodes) l f
-    → Each (IsPlaced source tables nodes) f → HasNoBlock (relabelled (numbered nodes) f)
+    → Spells (links_of nodes) l f → Each (IsPlaced source tables nodes) f → HasNoBlock (relabelled (numbered nodes) f)
     → IfSome l (λ n. lo ≤ n) → RisesFrom lo (roots f)
 rises source tables nodes lo l nil s p h from = tt
 rises source tables nodes lo l (node ix below after) s p h from = (
   rw s.0 at from,
   rises source tables nodes (suc ix) (sibling_of nodes ix) after s.3 p.2 h.1
-      (rises_next nodes ix (sibling_of nodes ix) after s.3 h.0 h.1
-      p.0.keeps.in_order),
+      (rises_next nodes ix (sibling_of nodes ix) after s.3 h.0 h.1 p.0.keeps.in_order),
 )
 
 -- its runs are whole
@@ -107,8 +94,7 @@ run_open (body.MaybeEmphasis n opens closes) c h = refl
 run_open other c h = cc
 
 whole_if : (source : List ℕ) (a : Numbered) (below after : Forest Numbered) (next : Option Numbered)
-    (o : Option RunCharacter)
-    → next ≡ first_root after → IfSome o (StandsInRun source a next)
+    (o : Option RunCharacter) → next ≡ first_root after → IfSome o (StandsInRun source a next)
     → ((c : RunCharacter) → o ≡ Some c → below ≡ nil) → IfSome o (StandsWhole source a below after)
 whole_if source a below after next None e h none = tt
 whole_if source a below after next (Some c) e h none = record { stands = rw (← e) h; childless = none c refl }
@@ -129,8 +115,7 @@ all_whole source tables nodes l (node ix below after) s p =
 
 -- what pass one leaves of a chain is quiet
 pub read_quiet : {C : Type 0} (step : C → Question → Option Answer → C → Type 0) (s : Setting) (above : Above)
-    (first : ℕ)
-    (old mid : Stage C) → IsQuietBelow (chain_at s.text old (Some first))
+    (first : ℕ) (old mid : Stage C) → IsQuietBelow (chain_at s.text old (Some first))
     → ResolvesFrom step s.text (pass_one s plain_tags above) (Some first) old mid
     → IsQuiet (chain_at s.text mid (Some first))
 read_quiet step s above first old mid quiet r =
@@ -139,8 +124,7 @@ read_quiet step s above first old mid quiet r =
 
 -- so it can be paired
 pub read_can_pair : {C : Type 0} (step : C → Question → Option Answer → C → Type 0) (s : Setting) (above : Above)
-    (first : ℕ)
-    (old mid : Stage C) → IsQuietBelow (chain_at s.text old (Some first))
+    (first : ℕ) (old mid : Stage C) → IsQuietBelow (chain_at s.text old (Some first))
     → ResolvesFrom step s.text (pass_one s plain_tags above) (Some first) old mid → CanPair s.text mid.nodes first
 read_can_pair step s above first old mid quiet r =
     let f = forest_at (links_of mid.nodes) (Some first) in
@@ -157,8 +141,7 @@ read_can_pair step s above first old mid quiet r =
 
 -- what was changed by reading, and then by pairing, was changed
 pub pair_changes : {C : Type 0} (step : C → Question → Option Answer → C → Type 0) (s : Setting) (above : Above)
-    (first : ℕ)
-    (old mid : Stage C) (nodes : List (Node Item)) → IsQuietBelow (chain_at s.text old (Some first))
+    (first : ℕ) (old mid : Stage C) (nodes : List (Node Item)) → IsQuietBelow (chain_at s.text old (Some first))
     → ResolvesFrom step s.text (pass_one s plain_tags above) (Some first) old mid → PairsChain s first mid.nodes nodes
     → ChangesChain s.text (Some first) old.nodes nodes old.tables mid.tables
 pair_changes step s above first old mid nodes quiet r p =
@@ -171,8 +154,7 @@ pair_changes step s above first old mid nodes quiet r p =
       once = λ n. omega (arith, p.times n, c.once n);
       of_chain = λ n l. omega (arith, p.times n, c.of_chain n l);
       more_nodes = omega (arith, p.same_size, c.more_nodes);
-      outside = λ n l none. same_trans old.nodes mid.nodes nodes n (c.outside n l none)
-          (p.outside n (omega (arith, c.of_chain n l, none)));
+      outside = λ n l none. same_trans (c.outside n l none) (p.outside n (omega (arith, c.of_chain n l, none)));
       grown = c.grown;
       named_once = λ n. omega (arith, p.named n, c.named_once n);
       named = λ n l. omega (arith, p.named n, c.named n l);
@@ -182,28 +164,23 @@ pair_changes step s above first old mid nodes quiet r p =
 
 -- a chain that was read and then paired is resolved
 pub pair_resolves : {C : Type 0} (step : C → Question → Option Answer → C → Type 0) (s : Setting) (above : Above)
-    (first : ℕ)
-    (old mid : Stage C) (nodes : List (Node Item))
+    (first : ℕ) (old mid : Stage C) (nodes : List (Node Item))
     → (r : ResolvesFrom step s.text (pass_one s plain_tags above) (Some first) old mid)
     → PairsChain s first mid.nodes nodes
     → (later : Answers) → resolved s plain_tags above (chain_at s.text old (Some first))
-    (known_at old (r.answers ++ later))
-    ≡ record {
+    (known_at old (r.answers ++ later)) ≡ record {
       questions = r.questions;
       forest = trees_from s.text mid.tables nodes (Some first);
-      known = known_at mid
-          later;
+      known = known_at mid later;
     }
 unfolding resolved
 pair_resolves step s above first old mid nodes r p later =
-    ap (then_paired s) (r.resolves later)
-    ∙ ap (λ (g : Forest Plain). let o : Outcome (Unit {0}) = record
+    ap (then_paired s) (r.resolves later) ∙ ap (λ (g : Forest Plain). let o : Outcome (Unit {0}) = record
     { questions = r.questions; forest = g; known = known_at mid later }
     in o) (sym (p.pairs mid.tables))
 
 abbrev pub then_pairs : {C : Type 0} (step : C → Question → Option Answer → C → Type 0) (s : Setting) (above : Above)
-    (first : ℕ)
-    (old mid : Stage C) (nodes : List (Node Item)) → IsQuietBelow (chain_at s.text old (Some first))
+    (first : ℕ) (old mid : Stage C) (nodes : List (Node Item)) → IsQuietBelow (chain_at s.text old (Some first))
     → ResolvesFrom step s.text (pass_one s plain_tags above) (Some first) old mid → PairsChain s first mid.nodes nodes
     → ResolvesFrom step s.text (resolved s plain_tags above) (Some first) old
     (record { nodes = nodes; tables = mid.tables; limit = mid.limit; uses = mid.uses; callback = mid.callback })
@@ -245,8 +222,7 @@ stops_in step s above first old mid work work' r counts = record {
   asked = r.asked;
   begins = λ later. (
     [],
-    ap (λ (o : Outcome (Unit {0})). o.questions) (r.resolves later)
-        ∙ sym (append-nil r.questions),
+    ap (λ (o : Outcome (Unit {0})). o.questions) (r.resolves later) ∙ sym (append-nil r.questions),
   );
   counts = counts;
 }
@@ -261,11 +237,8 @@ counts_open tables source b = by_open (is_open b) refl
     closed_none other e = refl
 
     shape_none : (shape : Shape) → is_unresolved shape ≡ false → counts_shape shape ≡ 0
-    shape_none (leaf x origins) e = refl
-    shape_none (enclosed tag) e = refl
-    shape_none plain e = refl
-    shape_none backslash_break e = refl
     shape_none (unresolved b) e = cc e
+    shape_none other e = refl
 
     same_count : (b : ItemBody) → counts_one (run_character b) ≡ counts_delimiter b
     same_count (body.MaybeEmphasis n opens closes) = refl
@@ -281,14 +254,12 @@ delimiters_seen source tables nodes nil = refl
 delimiters_seen source tables nodes (node ix below after) =
     rw (
       counts_open tables (slice_range source (item_at nodes ix).start (item_at nodes ix).end) (item_at nodes ix).body,
-      delimiters_seen
-          source tables nodes after,
+      delimiters_seen source tables nodes after,
     ) refl
 
 -- those of a chain that are counted are the ones that pass one leaves
 pub delimiters_left : {C : Type 0} (step : C → Question → Option Answer → C → Type 0) (s : Setting) (above : Above)
-    (first : ℕ)
-    (old mid : Stage C)
+    (first : ℕ) (old mid : Stage C)
     → (r : ResolvesFrom step s.text (pass_one s plain_tags above) (Some first) old mid) → (later : Answers)
     → delimiters_of (trees_at mid.nodes (Some first))
     ≡ (chain_counts s plain_tags above (chain_at s.text old (Some first))

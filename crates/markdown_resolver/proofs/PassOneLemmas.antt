@@ -3,8 +3,7 @@
 -- are passed on, and tags do not matter: each by the law of brackets, where the rule for what is not a bracket keeps
 -- that law.
 use Rattle.std.proofs.Common.{◌≡◌, ℕ, ◌+◌, ◌≤◌, Bool, true, false, not, List, [], ◌∷◌, Option, Some, None, refl, sym}
-use Rattle.std.proofs.Common.{ap, ◌∙◌, subst}
-use Rattle.std.proofs.Common.{nat_le, arith}
+use Rattle.std.proofs.Common.{ap, ◌∙◌, subst, nat_le, arith}
 use Rattle.std.specs.Prelude.{if◌then◌else◌}
 use Rattle.markdown_base.specs.Forest.{Forest, nil, node}
 use Rattle.markdown_base.specs.declared.item.ItemBody.{ItemBody}
@@ -25,12 +24,10 @@ use Rattle.markdown_brackets.proofs.ChainBeginsLemmas.{begins_law, begins_onto}
 use Rattle.markdown_brackets.proofs.QuietItemsLemmas.{all_done_trees, quiet_items_law}
 use Rattle.markdown_document.specs.Above.{Above}
 use Rattle.markdown_document.specs.ChainRest.{begun_at, end_of, open_body, past, past_byte}
-use Rattle.markdown_document.specs.Document.{Tags, Shape, leaf, enclosed, plain, backslash_break, unresolved, Label}
-use Rattle.markdown_document.specs.Document.{Plain, plain_tags}
-use Rattle.markdown_document.specs.Document.{is_unresolved}
+use Rattle.markdown_document.specs.Document.{Tags, Shape, plain, unresolved, Label, Plain, plain_tags, is_unresolved}
 use Rattle.markdown_document.specs.Labels.{Begins, GivesFirst, is_plain, weight, retagged}
 use Rattle.markdown_document.specs.Setting.{Setting, Known}
-use Rattle.markdown_document.specs.Waiting.{is_quiet, waits_for_pairing}
+use Rattle.markdown_document.specs.Waiting.{is_quiet}
 use Rattle.markdown_spans.specs.Finds.{Passed, find, passed, read_tree, read_unless}
 use Rattle.markdown_spans.proofs.FindsLemmas.{begins_trees, read_weight}
 use Rattle.markdown_spans.proofs.FindsTagLemmas.{read_retag}
@@ -57,28 +54,12 @@ opener_body false = body.MaybeLinkOpen
 
 -- what is not open is not a bracket, nor is what waits for pairing
 pub closed_no_bracket : (shape : Shape) → is_unresolved shape ≡ false → NoBracket (open_body shape)
-closed_no_bracket (leaf e origins) h = refl
-closed_no_bracket (enclosed tag) h = refl
-closed_no_bracket plain h = refl
-closed_no_bracket backslash_break h = refl
 closed_no_bracket (unresolved b) h = cc h
-
-waits_no_bracket : (b : ItemBody) → waits_for_pairing b ≡ true → NoBracket b
-waits_no_bracket (body.MaybeEmphasis count opens closes) h = refl
-waits_no_bracket (body.MaybeSmartQuote quote opens closes) h = refl
-waits_no_bracket other h = cc
-
-pub quiet_no_bracket : (shape : Shape) → is_quiet shape ≡ true → NoBracket (open_body shape)
-quiet_no_bracket (leaf e origins) h = refl
-quiet_no_bracket (enclosed tag) h = refl
-quiet_no_bracket plain h = refl
-quiet_no_bracket backslash_break h = refl
-quiet_no_bracket (unresolved b) h = waits_no_bracket b h
+closed_no_bracket other h = refl
 
 -- it is read by the rule for what is not a bracket
 pub read_elsewhere : {A : Type 0} (w : Around) (others : Reader A) (b : ItemBody) (a : Label A)
-    (below rest : Forest (Label A))
-    (p : Progress A) → NoBracket b
+    (below rest : Forest (Label A)) (p : Progress A) → NoBracket b
     → read_as w others b a below rest p ≡ others a below rest p
 read_elsewhere w others body.MaybeLinkOpen a below rest p h = cc h
 read_elsewhere w others body.MaybeImage a below rest p h = cc h
@@ -99,8 +80,7 @@ module _ {A : Type 0} (s : Setting) (tags : Tags A) (above : Above) where
   past_if : (ends : Bool) (i : ℕ) (a : Label A) (below rest : Forest (Label A)) (p : Progress A)
       → whole_read rest (record p { goes_on = Some i }) ≡ whole_read (past_byte i rest) (record p { goes_on = None })
       → whole_read rest (read_if ends i a below rest p)
-      ≡ whole_read (if ends then past_byte i rest else node (begun_at i a) below rest)
-      (record p { goes_on = None })
+      ≡ whole_read (if ends then past_byte i rest else node (begun_at i a) below rest) (record p { goes_on = None })
   unfolding read_chain
   past_if true i a below rest p e = e
   past_if false i a below rest p e = refl
@@ -121,59 +101,48 @@ module _ {A : Type 0} (s : Setting) (tags : Tags A) (above : Above) where
   -- where no find goes on, the first tree is read as it is
   reads_first : (a : Label A) (below rest : Forest (Label A)) (p : Progress A) → p.goes_on ≡ None
       → read_on s tags above (node a below rest) p
-      ≡ read_on s tags above rest (read (around s above) (read_other s tags above) a below rest
-      p)
+      ≡ read_on s tags above rest (read (around s above) (read_other s tags above) a below rest p)
   unfolding read_chain
   reads_first a below rest p none = ap
       (λ goes_on. read_on s tags above rest (read_past (around s above) (read_other s tags above) goes_on a
       below rest p)) none
 
   reads_as : (b : ItemBody) (a : Label A) (below rest : Forest (Label A)) (p : Progress A) → p.goes_on ≡ None
-      → open_body a.part.shape ≡ b
-      → read_on s tags above (node a below rest) p
-      ≡ read_on s tags above rest (read_as (around s above) (read_other s tags above) b a below
-      rest p)
+      → open_body a.part.shape ≡ b → read_on s tags above (node a below rest) p
+      ≡ read_on s tags above rest (read_as (around s above) (read_other s tags above) b a below rest p)
   reads_as b a below rest p none e =
       reads_first a below rest p none
-      ∙ ap (λ b. read_on s tags above rest (read_as (around s above) (read_other s tags above) b a below
-      rest p)) e
+      ∙ ap (λ b. read_on s tags above rest (read_as (around s above) (read_other s tags above) b a below rest p)) e
 
   -- an opener is put into the left list
   pub reads_opener : (is_image : Bool) (a : Label A) (below rest : Forest (Label A)) (p : Progress A) → p.goes_on ≡ None
       → open_body a.part.shape ≡ opener_body is_image
       → whole_read (node a below rest) p ≡ whole_read rest (opened (around s above) is_image a rest p)
   reads_opener true a below rest p none e = ap (λ (q : Progress A). record q { goes_on = None })
-      (reads_as body.MaybeImage a below rest p
-      none e)
+      (reads_as body.MaybeImage a below rest p none e)
   reads_opener false a below rest p none e = ap (λ (q : Progress A). record q { goes_on = None })
-      (reads_as body.MaybeLinkOpen a below rest
-      p none e)
+      (reads_as body.MaybeLinkOpen a below rest p none e)
 
   -- a `]` is closed, and the chain goes on where what it became ends
   pub reads_closer : (could_be : Bool) (a : Label A) (below rest : Forest (Label A)) (p : Progress A) → p.goes_on ≡ None
-      → open_body a.part.shape ≡ body.MaybeLinkClose could_be
-      → whole_read (node a below rest) p
+      → open_body a.part.shape ≡ body.MaybeLinkClose could_be → whole_read (node a below rest) p
       ≡ (let q : Progress A = closed (around s above) (closing_of could_be a rest p) p
       in whole_read (past q.goes_on rest) (record q { goes_on = None }))
   reads_closer could_be a below rest p none e =
       let q : Progress A = closed (around s above) (closing_of could_be a rest p) p in
       ap (λ (q : Progress A). record q { goes_on = None })
-      (reads_as (body.MaybeLinkClose could_be) a below rest p none e)
-      ∙ reads_past_all q.goes_on rest q
+      (reads_as (body.MaybeLinkClose could_be) a below rest p none e) ∙ reads_past_all q.goes_on rest q
 
   -- what is not a bracket is read, and the chain continues where what was found ends
   pub reads_elsewhere : (a : Label A) (below rest : Forest (Label A)) (p : Progress A) → p.goes_on ≡ None
-      → NoBracket (open_body a.part.shape)
-      → whole_read (node a below rest) p
+      → NoBracket (open_body a.part.shape) → whole_read (node a below rest) p
       ≡ (let r : Passed A = read_tree s tags above p.made a below rest
       in whole_read (past r.goes_on rest) (record p { left = all_done r.trees p.left; goes_on = None; made = r.made }))
   reads_elsewhere a below rest p none other =
       let r : Passed A = read_tree s tags above p.made a below rest in
-      ap (λ (q : Progress A). record q { goes_on = None })
-      (reads_first a below rest p none
+      ap (λ (q : Progress A). record q { goes_on = None }) (reads_first a below rest p none
       ∙ ap (read_on s tags above rest) (read_elsewhere (around s above) (read_other s tags above)
-      (open_body a.part.shape) a below rest p other))
-      ∙ reads_past_all r.goes_on rest (put_passed r p)
+      (open_body a.part.shape) a below rest p other)) ∙ reads_past_all r.goes_on rest (put_passed r p)
 
 -- where all tags are the same, the trees do not depend on how many were made
 abbrev from_made : (n : ℕ) → Passed (Unit {0}) → Passed (Unit {0})
@@ -197,9 +166,7 @@ tree_made s above n a below rest = unless_made s above n a below rest (is_quiet 
 
 -- so what is not a bracket is read the same wherever it is
 pub reads_other : (s : Setting) (above : Above) (a : Plain) (below rest : Forest Plain) (p : Progress (Unit {0}))
-    → p.goes_on ≡ None
-    → NoBracket (open_body a.part.shape)
-    → all_read s above (node a below rest) p
+    → p.goes_on ≡ None → NoBracket (open_body a.part.shape) → all_read s above (node a below rest) p
     ≡ (let r : Passed (Unit {0}) = read_tree s plain_tags above 0 a below rest in
     all_read s above (past r.goes_on rest)
     (record p { left = all_done r.trees p.left; goes_on = None; made = p.made + r.made }))
@@ -211,19 +178,13 @@ reads_other s above a below rest p none other =
 
 -- what is open does not read as what is below it alone
 open_not_plain : (shape : Shape) → is_unresolved shape ≡ true → not (is_plain shape) ≡ true
-open_not_plain (leaf e origins) h = refl
-open_not_plain (enclosed tag) h = refl
 open_not_plain plain h = cc h
-open_not_plain backslash_break h = refl
-open_not_plain (unresolved b) h = refl
+open_not_plain other h = refl
 
 -- nor does what gives an event first
 first_not_plain : (shape : Shape) → GivesFirst shape → not (is_plain shape) ≡ true
-first_not_plain (leaf e origins) h = refl
-first_not_plain (enclosed tag) h = refl
 first_not_plain plain h = absurd h
-first_not_plain backslash_break h = refl
-first_not_plain (unresolved b) h = refl
+first_not_plain other h = refl
 
 shows_more : (b : Bool) → not b ≡ true → b ≡ false
 shows_more true h = cc h
@@ -250,8 +211,7 @@ module _ {A : Type 0} where
   begins_as (node a below after) h = first_not_plain a.part.shape h
 
   begun_by : (P : Forest (Label A) → Type 0) (f : Forest (Label A)) → ((a : Label A) (below after : Forest (Label A))
-      → is_plain a.part.shape ≡ false → P (node a below after))
-      → BeginsWith is_not_plain f → P f
+      → is_plain a.part.shape ≡ false → P (node a below after)) → BeginsWith is_not_plain f → P f
   begun_by P nil holds h = absurd h
   begun_by P (node a below after) holds h = holds a below after (shows_more (is_plain a.part.shape) h)
 
@@ -292,8 +252,7 @@ module _ {A : Type 0} where
 
     -- what was open gives an event first, or waits for pairing and so does not read as what is below it alone
     unless_begins : (n : ℕ) (a : Label A) (below rest : Forest (Label A)) (quiet : Bool) → is_unresolved a.part.shape
-        ≡ true
-        → BeginsWith is_not_plain (read_unless quiet s tags above n a below rest).trees
+        ≡ true → BeginsWith is_not_plain (read_unless quiet s tags above n a below rest).trees
     unless_begins n a below rest true h = open_not_plain a.part.shape h
     unless_begins n a below rest false h =
         let found = find s above a rest in
@@ -312,8 +271,7 @@ module _ {A : Type 0} where
       keeps = λ a below rest p h.
           let r : Passed A = read_tree s tags above p.made a below rest in
           subst (BeginsWith is_not_plain) (sym (all_done_trees r.trees p.left))
-          (begins_onto is_not_plain p.left nil r.trees
-          (λ none. absurd none) h);
+          (begins_onto is_not_plain p.left nil r.trees (λ none. absurd none) h);
     }
 
     pub pass_one-first : (P : Forest (Label A) → Type 0) (a : Label A) (below after : Forest (Label A)) (known : Known)
@@ -323,8 +281,7 @@ module _ {A : Type 0} where
     pass_one-first P a below after known holds h =
         begun_by P (trees_onto (read_on s tags above (node a below after) (begun known)).left nil) holds
         (begins_law (around s above) (read_other s tags above) is_not_plain (λ e origins. refl) (λ tag. refl)
-        other_begins a below after
-        known h)
+        other_begins a below after known h)
 
     -- what is not a bracket asks nothing, and brackets pass later answers on
     other_hands_on : (a : Label A) (below rest : Forest (Label A)) (p : Progress A)
@@ -348,29 +305,23 @@ module _ {A B : Type 0} (f : A → B) where
         let r : Passed A = read_tree s tags above p.made a below rest in
         ap (λ (r : Passed B). put_passed r (retag_progress f p))
         (read_retag f s tags tags' above p.made (follows.makes p.made) a below
-        rest)
-        ∙ ap (λ (left : List (Entry B)). record (retag_progress f p)
-        { left = left; goes_on = r.goes_on; made = r.made })
-        (all_done_retag r.trees p.left)
+        rest) ∙ ap (λ (left : List (Entry B)). record (retag_progress f p)
+        { left = left; goes_on = r.goes_on; made = r.made }) (all_done_retag r.trees p.left)
 
     pub read_on_retag : (chain : Forest (Label A)) (p : Progress A) → read_on s tags' above (retagged f chain)
-        (retag_progress f p)
-        ≡ retag_progress f (read_on s tags above chain p)
+        (retag_progress f p) ≡ retag_progress f (read_on s tags above chain p)
     read_on_retag chain p = read_chain_retag f (around s above) (read_other s tags above) (read_other s tags' above)
         other_retag chain p
 
-    pub pass_one-retag : (chain : Forest (Label A)) (known : Known)
-        → pass_one s tags' above (retagged f chain) known
+    pub pass_one-retag : (chain : Forest (Label A)) (known : Known) → pass_one s tags' above (retagged f chain) known
         ≡ (let r : Outcome A = pass_one s tags above chain known in record {
           questions = r.questions;
           forest = retagged f r.forest;
-          known =
-              r.known;
+          known = r.known;
         })
     unfolding pass_one
     pass_one-retag chain known =
         let q : Progress A = read_on s tags above chain (begun known) in
         ap outcome (read_on_retag chain (begun known))
         ∙ ap (λ (g : Forest (Label B)). let o : Outcome B = record { questions = q.asked; forest = g; known = q.known }
-        in o)
-        (onto_retag f q.left nil)
+        in o) (onto_retag f q.left nil)

@@ -10,8 +10,7 @@ use Rattle.markdown_brackets.specs.ReadChain.{begun}
 use Rattle.markdown_brackets.proofs.KeptLabelsLemmas.{EachBelow, KeepsLabels, each_left}
 use Rattle.markdown_document.specs.Above.{Above}
 use Rattle.markdown_document.specs.ChainRest.{cut_shape, start_of}
-use Rattle.markdown_document.specs.Document.{Tags, Shape, leaf, enclosed, plain, backslash_break, unresolved, Label}
-use Rattle.markdown_document.specs.Document.{is_unresolved}
+use Rattle.markdown_document.specs.Document.{Tags, Shape, unresolved, Label, is_unresolved}
 use Rattle.markdown_document.specs.Setting.{Setting, Known}
 use Rattle.markdown_document.specs.Waiting.{is_quiet}
 use Rattle.markdown_spans.specs.Finds.{read_tree}
@@ -21,19 +20,13 @@ use Rattle.markdown_resolver.specs.PassOne.{around, pass_one, read_on, read_othe
 
 -- what is not open is quiet
 pub closed_quiet : (shape : Shape) → is_unresolved shape ≡ false → is_quiet shape ≡ true
-closed_quiet (leaf e origins) h = refl
-closed_quiet (enclosed tag) h = refl
-closed_quiet plain h = refl
-closed_quiet backslash_break h = refl
 closed_quiet (unresolved b) h = cc h
+closed_quiet other h = refl
 
 -- a shape that begins later is quiet as before
-later_quiet : (n : ℕ) (shape : Shape) → is_quiet shape ≡ true → is_quiet (cut_shape n shape) ≡ true
-later_quiet n (leaf e origins) h = refl
-later_quiet n (enclosed tag) h = refl
-later_quiet n plain h = refl
-later_quiet n backslash_break h = refl
+pub later_quiet : (n : ℕ) (shape : Shape) → is_quiet shape ≡ true → is_quiet (cut_shape n shape) ≡ true
 later_quiet n (unresolved b) h = h
+later_quiet n other h = refl
 
 module _ {A : Type 0} where
   -- a chain is quiet where each of its labels is, at every depth
@@ -72,8 +65,7 @@ module _ {A : Type 0} where
 
   module _ (s : Setting) (tags : Tags A) (above : Above) where
     quiet_other : (a : Label A) (below rest : Forest (Label A)) (p : Progress A) → NoBlock a → Each Quiet below
-        → EachLeft Quiet p.left
-        → EachLeft Quiet (read_other s tags above a below rest p).left
+        → EachLeft Quiet p.left → EachLeft Quiet (read_other s tags above a below rest p).left
     quiet_other a below rest p no_block inner h =
         quiet_done (read_tree s tags above p.made a below rest).trees p.left
         (read_quiet s tags above p.made a below rest no_block inner) h

@@ -2,8 +2,8 @@
 -- there.
 use Rattle.markdown_base.specs.declared.item.ItemBody.TheVariants as body
 use Rattle.std.proofs.Common.{[], ◌∷◌, ◌≡◌, ℕ, zero, suc, ◌+◌, ◌-◌, ◌<◌, ◌≤◌, max, Bool, true, false, ⊎_elim, List}
-use Rattle.std.proofs.Common.{length, take, drop, Option, Some}
-use Rattle.std.proofs.Common.{None, refl, sym, ap, ◌∙◌, subst, arith, if◌then◌else◌, nat_le}
+use Rattle.std.proofs.Common.{length, take, drop, Option, Some, None, refl, sym, ap, ◌∙◌, subst, arith, if◌then◌else◌}
+use Rattle.std.proofs.Common.{nat_le}
 use Rattle.std.proofs.lemmas.Bool.{cases_lt}
 use Rattle.std.proofs.lemmas.Bool.Decides.{nat_tests}
 use Rattle.std.proofs.lemmas.List.{drop-take, drop-drop}
@@ -35,8 +35,7 @@ use Rattle.markdown_resolver.specs.Settling.{begun_from}
 use Rattle.markdown_resolver.specs.declared.rest.Rest.{Rest}
 use Rattle.markdown_resolver.proofs.NodeChangeLemmas.{changed_other, changed_here}
 use Rattle.markdown_resolver.proofs.ComposeLemmas.{Stands, Moves, moves_none, moves_twice, first_leaves, HeadWritten}
-use Rattle.markdown_resolver.proofs.ComposeLemmas.{head_moves}
-use Rattle.markdown_resolver.proofs.ComposeLemmas.{after_head, below_kept, following_kept}
+use Rattle.markdown_resolver.proofs.ComposeLemmas.{head_moves, after_head, below_kept, following_kept}
 
 -- what is left of a chain past a byte, with the first item as it is; and that begun there
 abbrev pub left_past : {A : Type 0} → ℕ → Forest (Label A) → Forest (Label A)
@@ -65,13 +64,11 @@ pub record Dropped (source : List ℕ) (tables : Tables) (nodes : List (Node Ite
   pub reads : trees_from source tables nodes l' ≡ trees
 
 dropped_if : (b : Bool) (source : List ℕ) (tables : Tables) (nodes : List (Node Item)) (ix : ℕ) (l : Option ℕ)
-    (trees : Forest Plain)
-    → Stands source tables nodes (Some ix) → Dropped source tables nodes (Some ix) l trees
+    (trees : Forest Plain) → Stands source tables nodes (Some ix) → Dropped source tables nodes (Some ix) l trees
     → Dropped source tables nodes (Some ix) (if b then l else Some ix)
     (if b then trees else trees_from source tables nodes (Some ix))
 dropped_if true source tables nodes ix l trees s d = d
-dropped_if false source tables nodes ix l trees s d = record
-    { moves = moves_none source (Some ix) nodes tables s; reads = refl }
+dropped_if false source tables nodes ix l trees s d = record { moves = moves_none s; reads = refl }
 
 -- items leave a chain up to a byte
 pub dropped : (source : List ℕ) (tables : Tables) (nodes : List (Node Item)) (i : ℕ) (f : Forest ℕ) (l : Option ℕ)
@@ -80,9 +77,8 @@ pub dropped : (source : List ℕ) (tables : Tables) (nodes : List (Node Item)) (
 dropped source tables nodes i nil l e s =
     let none : l ≡ None = rw e at s.reaches.spelled in
     rw (none, forest_at-none (links_of nodes)) (record {
-      moves = moves_none source None nodes tables (rw none at s);
-      reads =
-          rw (forest_at-none (links_of nodes)) refl;
+      moves = moves_none (rw none at s);
+      reads = rw (forest_at-none (links_of nodes)) refl;
     })
 dropped source tables nodes i (node ix below after) l e s =
     let one : l ≡ Some ix = (rw e at s.reaches.spelled).0 in
@@ -90,16 +86,14 @@ dropped source tables nodes i (node ix below after) l e s =
     let o = opens (links_of nodes) (IsPlaced source tables nodes) ix at.reaches in
     let e' : forest_at (links_of nodes) (Some ix) ≡ node ix below after = rw one at e in
     let follows : forest_at (links_of nodes) (sibling_of nodes ix) ≡ after = cc (e', o.here) in
-    let leaves = first_leaves source ix nodes tables at in
+    let leaves = first_leaves at in
     let d = dropped source tables nodes i after (sibling_of nodes ix) follows leaves.stands in
     let link = first_past nodes i (roots after) in
     let first : Dropped source tables nodes (Some ix) link
     (left_past i (trees_from source tables nodes (sibling_of nodes ix))) =
     record {
-      moves = moves_twice source (Some ix) (sibling_of nodes ix) link nodes nodes nodes tables tables tables leaves
-          d.moves;
-      reads =
-          d.reads;
+      moves = moves_twice leaves d.moves;
+      reads = d.reads;
     } in
     let all = dropped_if (nat_le (item_at nodes ix).end i) source tables nodes ix link
     (left_past i (trees_from source tables nodes (sibling_of nodes ix))) at first in
@@ -129,8 +123,7 @@ passes_past source tables t old new ix i rest s past reads =
     let l = sibling_of old ix in
     let behind = trees_from source tables old l in
     let o = opens (links_of old) (IsPlaced source tables old) ix s.reaches in
-    let d = dropped source tables old i (forest_at (links_of old) l) l refl (first_leaves source ix old tables s).stands
-    in
+    let d = dropped source tables old i (forest_at (links_of old) l) l refl (first_leaves s).stands in
     let left : length (roots (trees_from source t new rest.next))
     ≡ length (roots (trees_from source tables old rest.next)) =
     ap (λ (f : Forest Plain). length (roots f)) (reads ∙ past_is i behind) ∙ many_begun i (left_past i behind)
@@ -187,15 +180,13 @@ label_begun source tables i item le ordered =
           record {
             shape = shape;
             range = record { start = max item.start i; end = item.end };
-            block = block_of
-                item.body;
+            block = block_of item.body;
           };
     } in a) e
 
 -- it keeps the rules of items, where it is not cut if it is open
 stands_begun : (ix i : ℕ) (item : Item) (next : Option Numbered) → ComesBefore (record { number = ix; item = item })
-    next
-    → ComesBefore (record { number = ix; item = begun_item i item }) next
+    next → ComesBefore (record { number = ix; item = begun_item i item }) next
 stands_begun ix i item None h = tt
 stands_begun ix i item (Some b) h = λ x y. let p = h x y in record { ends = p.ends; numbers = p.numbers }
 
@@ -205,24 +196,22 @@ keeps_begun : (source : List ℕ) (ix i : ℕ) (item : Item) (child : Option ℕ
     → KeepsItemRules source (record { number = ix; item = begun_item i item }) child next
 keeps_begun source ix i item child next closed h = ⊎_elim
     (λ (l : item.start < i). keeps-closed source (record { number = ix; item = begun_item i item }) child next
-    (closed l)
-    (stands_begun ix i item next h.in_order))
+    (closed l) (stands_begun ix i item next h.in_order))
     (λ (l : i ≤ item.start). let e : item.start ≡ max item.start i = omega arith in
     subst (λ (start : ℕ). KeepsItemRules source
     (record { number = ix; item = record { start = start; end = item.end; body = item.body } })
-    child next) e h)
-    (cases_lt item.start i)
+    child next) e h) (cases_lt item.start i)
 
-boundary_begun : (source : List ℕ) (start i : ℕ) → IsCharBoundary source start → IsCharBoundary source i
+pub boundary_begun : (source : List ℕ) (start i : ℕ) → IsCharBoundary source start → IsCharBoundary source i
     → IsCharBoundary source (max start i)
 boundary_begun source start i s b = ⊎_elim
     (λ (l : start < i). let e : i ≡ max start i = omega arith in subst (λ (n : ℕ). IsCharBoundary source n) e b)
     (λ (l : i ≤ start). let e : start ≡ max start i = omega arith in subst (λ (n : ℕ). IsCharBoundary source n) e s)
     (cases_lt start i)
 
-pub tree_same : (a b : Plain) (below below' after after' : Forest Plain) → a ≡ b → below ≡ below' → after ≡ after'
+pub tree_same : {a b : Plain} {below below' after after' : Forest Plain} → a ≡ b → below ≡ below' → after ≡ after'
     → node a below after ≡ node b below' after'
-tree_same a b below below' after after' p q r = rw (p, q, r) refl
+tree_same p q r = rw (p, q, r) refl
 
 -- the first item of a chain begins at a byte
 pub record Begun (source : List ℕ) (tables : Tables) (l : Option ℕ) (i : ℕ) (nodes nodes' : List (Node Item)) : Type 0
@@ -237,12 +226,10 @@ slices_begun : (source : List ℕ) (tables : Tables) (i : ℕ) (item : Item)
 slices_begun source tables i item cut h = ⊎_elim (λ (l : item.start < i). cut l)
     (λ (l : i ≤ item.start). let e : item.start ≡ max item.start i = omega arith in
     subst (λ (start : ℕ). ComesFromPlace source tables (record { start = start; end = item.end; body = item.body })) e
-    h)
-    (cases_lt item.start i)
+    h) (cases_lt item.start i)
 
 begun_moves : (source : List ℕ) (tables : Tables) (nodes : List (Node Item)) (ix i : ℕ)
-    → Stands source tables nodes (Some ix)
-    → IsCharBoundary source i → i ≤ (item_at nodes ix).end
+    → Stands source tables nodes (Some ix) → IsCharBoundary source i → i ≤ (item_at nodes ix).end
     → ((item_at nodes ix).start < i → is_open (item_at nodes ix).body ≡ false)
     → ((item_at nodes ix).start < i → ComesFromPlace source tables (begun_item i (item_at nodes ix)))
     → Begun source tables (Some ix) i nodes (begun_from (Some ix) i nodes)
@@ -260,8 +247,7 @@ begun_moves source tables nodes ix i s boundary le closed cut =
       grown = grown-nothing tables;
       lies = rw c.item (let ordered = lies.ordered in record {
         ordered = omega arith;
-        start = boundary_begun source item.start i lies.start
-            boundary;
+        start = boundary_begun source item.start i lies.start boundary;
         end = lies.end;
       });
       entries = rw c.item o.holds.named;
@@ -270,43 +256,35 @@ begun_moves source tables nodes ix i s boundary le closed cut =
       childless = rw (c.item, c.child) keeps.childless;
       named = λ n l. rw c.item (omega arith);
     } in
-    let a = after_head source ix nodes new tables tables s h in
+    let a = after_head s h in
     let m : Moves source (sibling_of nodes ix) (sibling_of new ix) new new tables tables =
-    rw c.next (moves_none source (sibling_of nodes ix) new tables a.stands) in
-    let kept = below_kept source ix nodes new new tables tables tables (sibling_of new ix) s h m c.child
-    (rw c.item (omega arith)) in
+    rw c.next (moves_none a.stands) in
+    let kept = below_kept (sibling_of new ix) s h m c.child (rw c.item (omega arith)) in
     let follows = following_kept source ix nodes new tables tables s h in
     let hm = head_moves source ix nodes new new tables tables tables s h m kept.below
-    (rw (c.next, follows, c.item) keeps.in_order)
-    (rw (c.next, follows, c.item) keeps.runs_are_whole) in
+    (rw (c.next, follows, c.item) keeps.in_order) (rw (c.next, follows, c.item) keeps.runs_are_whole) in
     let label : label_of source tables (item_at new ix) ≡ begun_at i (label_at source tables nodes ix) = ap
-    (λ x. label_of source tables x)
-    c.item ∙ label_begun source tables i item le lies.ordered in
+    (λ x. label_of source tables x) c.item ∙ label_begun source tables i item le lies.ordered in
     let after : trees_from source tables new (sibling_of new ix) ≡ trees_from source tables nodes (sibling_of nodes ix)
-    =
-    ap (λ (l : Option ℕ). trees_from source tables new l) c.next ∙ a.rest.trees in
+    = ap (λ (l : Option ℕ). trees_from source tables new l) c.next ∙ a.rest.trees in
     record {
       moves = hm.moves;
-      reads = rw o.here (hm.trees ∙ tree_same _ _ _ _ _ _ label kept.trees after);
+      reads = rw o.here (hm.trees ∙ tree_same label kept.trees after);
     }
 
 -- where there is one
 pub begun_is : (source : List ℕ) (tables : Tables) (nodes : List (Node Item)) (l : Option ℕ) (i : ℕ)
-    → Stands source tables nodes l
-    → IsCharBoundary source i
+    → Stands source tables nodes l → IsCharBoundary source i
     → ((ix : ℕ) → l ≡ Some ix → i ≤ (item_at nodes ix).end) → ((ix : ℕ) → l ≡ Some ix → (item_at nodes ix).start < i
-    → is_open (item_at nodes ix).body ≡ false)
-    → ((ix : ℕ) → l ≡ Some ix → (item_at nodes ix).start < i
+    → is_open (item_at nodes ix).body ≡ false) → ((ix : ℕ) → l ≡ Some ix → (item_at nodes ix).start < i
     → ComesFromPlace source tables (begun_item i (item_at nodes ix)))
     → Begun source tables l i nodes (begun_from l i nodes)
 begun_is source tables nodes None i s boundary ends closed cut = record {
-  moves = moves_none source None nodes tables s;
-  reads =
-      rw (forest_at-none (links_of nodes)) refl;
+  moves = moves_none s;
+  reads = rw (forest_at-none (links_of nodes)) refl;
 }
 begun_is source tables nodes (Some ix) i s boundary ends closed cut = begun_moves source tables nodes ix i s boundary
-    (ends ix refl)
-    (closed ix refl) (cut ix refl)
+    (ends ix refl) (closed ix refl) (cut ix refl)
 
 -- a link to a node, and what follows that
 pub record SpelledAt (nodes : List (Node Item)) (ix : ℕ) : Type 0 where
@@ -320,8 +298,7 @@ each_node nil = tt
 each_node (node ix below after) = (tt, each_node below, each_node after)
 
 pub spelled_at : (nodes : List (Node Item)) (l : Option ℕ) (ix : ℕ) → l ≡ Some ix
-    → Spells (links_of nodes) l (forest_at (links_of nodes) l)
-    → SpelledAt nodes ix
+    → Spells (links_of nodes) l (forest_at (links_of nodes) l) → SpelledAt nodes ix
 spelled_at nodes l ix e s =
     let o = opens (links_of nodes) (λ n. ⊤) ix
     (record { spelled = rw e at s; each = each_node (forest_at (links_of nodes) (Some ix)) }) in

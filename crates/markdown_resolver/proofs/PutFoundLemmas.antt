@@ -1,7 +1,6 @@
 -- An item that was found is put into the node of its opener, with what is below it.
 use Rattle.std.proofs.Common.{◌≡◌, ℕ, zero, suc, ◌<◌, ◌≤◌, true, false, List, [], ◌∷◌, ◌++◌, length, Option, Some, None}
-use Rattle.std.proofs.Common.{refl, sym, ap, ◌∙◌}
-use Rattle.std.proofs.Common.{arith}
+use Rattle.std.proofs.Common.{refl, sym, ap, ◌∙◌, arith}
 use Rattle.std.specs.Option.{option_map}
 use Rattle.markdown_base.specs.Arena.{Arena, child_of, sibling_of}
 use Rattle.markdown_base.specs.ArenaChanges.{changed_at, single}
@@ -35,13 +34,11 @@ use Rattle.markdown_resolver.specs.declared.rest.Rest.{Rest}
 use Rattle.markdown_resolver.specs.Settling.{IsWritten, begun_from}
 use Rattle.markdown_resolver.proofs.ChainOrderLemmas.{rest_past}
 use Rattle.markdown_resolver.proofs.ComposeLemmas.{same_trans, Stands, stands_ready, Moves, changes_move, moves_twice}
-use Rattle.markdown_resolver.proofs.ComposeLemmas.{HeadWritten}
-use Rattle.markdown_resolver.proofs.ComposeLemmas.{head_moves, after_head, Below, below_kept}
+use Rattle.markdown_resolver.proofs.ComposeLemmas.{HeadWritten, head_moves, after_head, Below, below_kept}
 use Rattle.markdown_resolver.proofs.NodeChangeLemmas.{changed_other, changed_here}
 use Rattle.markdown_resolver.proofs.PastByteLemmas.{passes_past, tree_same}
 use Rattle.markdown_resolver.proofs.PutLemmas.{leaves_rest, whole_put, ClosesAt, before_closed, runs_closed}
-use Rattle.markdown_resolver.proofs.PutLemmas.{no_run_here, rest_past_is}
-use Rattle.markdown_resolver.proofs.PutLemmas.{rewrites_none, next_from, over_numbers}
+use Rattle.markdown_resolver.proofs.PutLemmas.{no_run_here, rest_past_is, rewrites_none, next_from, over_numbers}
 use Rattle.markdown_document.proofs.OriginLemmas.{slices_from_place}
 
 -- no markup is required of what is not open
@@ -51,8 +48,7 @@ no_markup source item closed
 
 -- a node into which an item was written that is not open
 pub closed_head : (source : List ℕ) (ix : ℕ) (item : Item) (old mid : List (Node Item)) (tables t : Tables)
-    → HasGrown tables t
-    → is_open item.body ≡ false → LiesIn source item → NamesEntries t item.body
+    → HasGrown tables t → is_open item.body ≡ false → LiesIn source item → NamesEntries t item.body
     → HasSlices source t item.start item.end item.body
     → ((n : Named) → number_of n < size_for tables n → times_named n item.body ≡ 0) → item_at mid ix ≡ item
     → length old ≤ length mid
@@ -76,24 +72,22 @@ pub record BelowReads (source : List ℕ) (ix : ℕ) (old mid new : List (Node I
   pub reads : trees_from source later new (child_of mid ix) ≡ inside
 
 -- nothing was below an open item
-pub none_below : (source : List ℕ) (ix : ℕ) (old mid new : List (Node Item)) (tables t later : Tables) (next : Option ℕ)
+pub none_below : {source : List ℕ} {ix : ℕ} {old mid new : List (Node Item)} {tables t later : Tables} {next : Option ℕ}
     → Stands source tables old (Some ix) → HeadWritten source ix old mid tables t
     → Moves source (sibling_of old ix) next mid new t later
     → is_open (item_at old ix).body ≡ true → is_open (item_at mid ix).body ≡ false → child_of mid ix ≡ child_of old ix
     → BelowReads source ix old mid new later nil
-none_below source ix old mid new tables t later next s h m was_open closed child =
+none_below {source} {ix} {old} {mid} {new} {tables} {t} {later} {next} s h m was_open closed child =
     let o = opens (links_of old) (IsPlaced source tables old) ix s.reaches in
-    let kept = below_kept source ix old mid new tables t later next s h m child (rw (was_open, closed) (omega arith)) in
+    let kept = below_kept next s h m child (rw (was_open, closed) (omega arith)) in
     record {
       below = kept.below;
-      reads = kept.trees
-          ∙ rw (o.holds.keeps.childless was_open, forest_at-none (links_of old)) refl;
+      reads = kept.trees ∙ rw (o.holds.keeps.childless was_open, forest_at-none (links_of old)) refl;
     }
 
 -- what is written: the item into the node of its opener, and what is below it, which may be new
 pub record Written (source : List ℕ) (ix : ℕ) (item : Item) (next : Option ℕ) (old mid : List (Node Item))
-    (tables t : Tables)
-    (inside : Forest Plain) : Type 0 where
+    (tables t : Tables) (inside : Forest Plain) : Type 0 where
   pub item_is : item_at mid ix ≡ item
   pub next_is : sibling_of mid ix ≡ next
   pub head : HeadWritten source ix old mid tables t
@@ -102,34 +96,29 @@ pub record Written (source : List ℕ) (ix : ℕ) (item : Item) (next : Option �
 
 -- so the trees of what was put replace what was found, and the chain continues after it
 pub put_written : (source : List ℕ) (ix : ℕ) (item : Item) (rest : Rest) (old mid : List (Node Item))
-    (tables t : Tables)
-    (inside : Forest Plain) (trees : Standing)
+    (tables t : Tables) (inside : Forest Plain) (trees : Standing)
     → IsFoundAt source tables old ix item.end → CanPut source tables t item → item.start ≡ (item_at old ix).start
     → IsRestPast old item.end (sibling_of old ix) rest → Written source ix item rest.next old mid tables t inside
     → ((a : Plain) (below : Forest Plain) → trees a below ≡ node (label_of source t item) inside nil)
     → Puts source ix trees (Some item.end) rest old (begun_from rest.next item.end mid) tables t
 put_written source ix item rest old mid tables t inside trees finds puts starts past w stand =
     let next = rest.next in
-    let s = stands_ready source tables old (Some ix) finds.ready in
-    let a = after_head source ix old mid tables t s w.head in
+    let s = stands_ready finds.ready in
+    let a = after_head s w.head in
     let closed : is_open (item_at mid ix).body ≡ false = rw w.item_is puts.closed in
     let closes : ClosesAt ix old mid = record {
       was_open = finds.was_open;
       was_no_run = finds.no_run;
       closed = closed;
-      starts = rw w.item_is
-          starts;
+      starts = rw w.item_is starts;
     } in
     let p = rest_past_is source ix item.end old mid tables t next (item_at old ix).end s w.head past.next_is
-    (rest_past source tables old ix finds.ready)
-    (λ n e. finds.between n (sym past.next_is ∙ e)) puts.lies.end in
+    (rest_past finds.ready) (λ n e. finds.between n (sym past.next_is ∙ e)) puts.lies.end in
     let place = begun_from next item.end mid in
     let whole : (rule : Forest Plain → Forest Plain) (new : List (Node Item)) (later : Tables)
     → Rewrites source rule next place new t later
     → Rewrites source (replaced trees (Some item.end) rule) (Some ix) old new tables later = λ rule new later r.
-    let m = moves_twice source (sibling_of old ix) next next mid place new t t later p.moves
-    (changes_move source next place new t later
-    r.changes) in
+    let m = moves_twice p.moves (changes_move r.changes) in
     let b = w.below new later m in
     let ends : (item_at mid ix).end ≤ item.end = rw w.item_is (omega arith) in
     let follows = r.changes.before (numbered mid ix) (p.follows (numbered mid ix) refl ends) in
@@ -140,10 +129,10 @@ put_written source ix item rest old mid tables t inside trees finds puts starts 
     ap (λ (l : Option ℕ). trees_from source later new l) w.next_is ∙ r.rewritten ∙ ap rule p.reads in
     whole_put source ix old mid new tables t later trees (Some item.end) rule finds.ready w.head hm
     (λ x stands. before_closed ix old mid x closes stands) (runs_closed source ix old mid closes)
-    (tree_same _ _ _ _ _ _ (ap (λ x. label_of source t x) w.item_is) b.reads after
+    (tree_same (ap (λ x. label_of source t x) w.item_is) b.reads after
     ∙ ap (λ (f : Forest Plain). joined_chains f (rule behind))
     (sym (stand (label_at source tables old ix) (trees_from source tables old (child_of old ix))))) in
-    let all = whole (λ f. f) place t (rewrites_none source next place t p.moves.stands) in
+    let all = whole (λ f. f) place t (rewrites_none p.moves.stands) in
     record {
       whole = whole;
       leaves = leaves_rest source ix old mid place tables t t next (Some item.end) finds.ready w.head p.moves p.reads;
@@ -155,27 +144,22 @@ put_written source ix item rest old mid tables t inside trees finds puts starts 
     }
 
 -- nothing is put below it
-pub found_puts : (source : List ℕ) (ix : ℕ) (item : Item) (rest : Rest) (old mid : List (Node Item)) (tables t : Tables)
+pub found_puts : {source : List ℕ} {ix : ℕ} {item : Item} {rest : Rest} {old mid : List (Node Item)} {tables t : Tables}
     → HasGrown tables t
     → IsFoundAt source tables old ix item.end → CanPut source tables t item → item.start ≡ (item_at old ix).start
     → IsRestPast old item.end (sibling_of old ix) rest → IsWritten old mid ix item rest.next
     → Puts source ix (one_item source t item) (Some item.end) rest old (begun_from rest.next item.end mid) tables t
-found_puts source ix item rest old mid tables t grown finds puts starts past w =
-    let s = stands_ready source tables old (Some ix) finds.ready in
+found_puts {source} {ix} {item} {rest} {old} {mid} {tables} {t} grown finds puts starts past w =
+    let s = stands_ready finds.ready in
     let size = w.size in
     let h = closed_head source ix item old mid tables t grown puts.closed puts.lies puts.named puts.slices
-    puts.new_names w.item_is
-    (omega (arith, size)) (λ n l d. w.others n d) in
-    put_written source ix item rest old mid tables t nil (one_item source t item) finds puts starts past
-    (record {
+    puts.new_names w.item_is (omega (arith, size)) (λ n l d. w.others n d) in
+    put_written source ix item rest old mid tables t nil (one_item source t item) finds puts starts past (record {
       item_is = w.item_is;
       next_is = w.next_is;
       head = h;
-      below = λ new later m. none_below source ix old mid new tables t later rest.next s h m finds.was_open
-          (rw w.item_is puts.closed)
-          w.child_is;
-    })
-    (λ a below. refl)
+      below = λ new later m. none_below s h m finds.was_open (rw w.item_is puts.closed) w.child_is;
+    }) (λ a below. refl)
 
 same_small : (n m : ℕ) → same n m ≤ 1
 same_small zero zero = omega arith
@@ -183,7 +167,7 @@ same_small zero (suc m) = omega arith
 same_small (suc n) zero = omega arith
 same_small (suc n) (suc m) = same_small n m
 
-same_before : (n m : ℕ) → n < m → same n m ≡ 0
+pub same_before : (n m : ℕ) → n < m → same n m ≡ 0
 same_before zero zero l = absurd (omega (arith, l))
 same_before zero (suc m) l = refl
 same_before (suc n) zero l = refl
@@ -199,29 +183,26 @@ pub record NewBelow (ix : ℕ) (inside : Item) (old mid : List (Node Item)) : Ty
 
 -- it is what is below the item
 pub leaf_below : (source : List ℕ) (ix : ℕ) (inside : Item) (old mid new : List (Node Item)) (tables t later : Tables)
-    (next : Option ℕ)
-    → Stands source tables old (Some ix) → HeadWritten source ix old mid tables t
+    (next : Option ℕ) → Stands source tables old (Some ix) → HeadWritten source ix old mid tables t
     → Moves source (sibling_of old ix) next mid new t later
     → NewBelow ix inside old mid → CanPut source tables t inside → ((n : Named) → times_named n inside.body ≡ 0)
     → is_open (item_at old ix).body ≡ true → is_open (item_at mid ix).body ≡ false
     → BelowReads source ix old mid new later (node (label_of source t inside) nil nil)
 leaf_below source ix inside old mid new tables t later next s h m b puts names was_open closed =
-    let a = after_head source ix old mid tables t s h in
+    let a = after_head s h in
     let k = length old in
     let size = b.size in
     let more : length mid ≤ length new = m.more_nodes in
     let none : times_in mid (sibling_of old ix) k ≡ 0 =
     rw a.rest.forest (times-past (links_of old) (sibling_of old ix) (forest_at (links_of old) (sibling_of old ix)) k
-    a.after.spelled
-    (omega arith)) in
+    a.after.spelled (omega arith)) in
     let at : IsSameAt mid new k = m.outside k (omega (arith, size)) none in
     let child : child_of new k ≡ None = at.child ∙ b.child_is in
     let follows : sibling_of new k ≡ None = at.next ∙ b.next_is in
     let item : item_at new k ≡ inside = at.item ∙ b.item_is in
     let spelled : Spells (links_of new) (Some k) (node k nil nil) = (refl, omega (arith, size, more), child, follows) in
     let here : forest_at (links_of new) (Some k) ≡ node k nil nil = found (links_of new) (Some k) (node k nil nil)
-    spelled
-    (λ n. let x = same_small n k in omega arith) in
+    spelled (λ n. let x = same_small n k in omega arith) in
     let longer = grown-longer t later m.grown in
     let placed : IsPlaced source later new k = record {
       lies = rw item puts.lies;
@@ -249,33 +230,27 @@ leaf_below source ix inside old mid new tables t later next s h m b puts names w
     }
 
 -- an item with one child is put there
-pub parent_puts : (source : List ℕ) (ix : ℕ) (item inside : Item) (rest : Rest) (old mid : List (Node Item))
-    (tables t : Tables)
-    → HasGrown tables t
+pub parent_puts : {source : List ℕ} {ix : ℕ} {item inside : Item} {rest : Rest} {old mid : List (Node Item)}
+    {tables t : Tables} → HasGrown tables t
     → IsFoundAt source tables old ix item.end → CanPutParent source tables t old ix item inside
-    → IsRestPast old item.end (sibling_of old ix) rest → item_at mid ix ≡ item
-    → sibling_of mid ix ≡ rest.next
+    → IsRestPast old item.end (sibling_of old ix) rest → item_at mid ix ≡ item → sibling_of mid ix ≡ rest.next
     → ((n : ℕ) → n < length old → (n ≡ ix → ⊥) → IsSameAt old mid n) → NewBelow ix inside old mid
     → Puts source ix (parent source t item inside) (Some item.end) rest old (begun_from rest.next item.end mid) tables t
-parent_puts source ix item inside rest old mid tables t grown finds can past item_is next_is others b =
-    let s = stands_ready source tables old (Some ix) finds.ready in
+parent_puts {source} {ix} {item} {inside} {rest} {old} {mid} {tables} {t} grown finds can past item_is next_is others b
+    =
+    let s = stands_ready finds.ready in
     let puts = can.puts in
     let size = b.size in
     let h = closed_head source ix item old mid tables t grown puts.closed puts.lies puts.named puts.slices
-    puts.new_names item_is
-    (omega (arith, size)) others in
+    puts.new_names item_is (omega (arith, size)) others in
     put_written source ix item rest old mid tables t (node (label_of source t inside) nil nil)
-    (parent source t item inside) finds puts
-    can.starts past
-    (record {
+    (parent source t item inside) finds puts can.starts past (record {
       item_is = item_is;
       next_is = next_is;
       head = h;
       below = λ new later m. leaf_below source ix inside old mid new tables t later rest.next s h m b can.puts_inside
-          can.names_nothing
-          finds.was_open (rw item_is puts.closed);
-    })
-    (λ a below. refl)
+          can.names_nothing finds.was_open (rw item_is puts.closed);
+    }) (λ a below. refl)
 
 -- what follows the first item of a chain is spelled
 pub rest_spelled : (source : List ℕ) (tables : Tables) (nodes : List (Node Item)) (ix : ℕ)
@@ -320,20 +295,17 @@ pub is_hung : (s t u : Arena Item) (ix child : ℕ) (inside : Item) → child �
 is_hung s t u ix child inside number made hung = record {
   number = number;
   nodes = ap (λ (a : Arena Item). a.nodes) hung
-      ∙ ap (λ (a : Arena Item). changed_at ix (λ n. record n { child = Some child }) a.nodes)
-      made;
+      ∙ ap (λ (a : Arena Item). changed_at ix (λ n. record n { child = Some child }) a.nodes) made;
 }
 
 pub hung_size : (s t : Arena Item) (ix child : ℕ) (inside : Item) → IsHung s t ix child inside → length t.nodes
     ≡ suc (length s.nodes)
 hung_size s t ix child inside h =
     ap (λ (ns : List (Node Item)). length ns) h.nodes ∙ length-changed_at ix (λ n. record n { child = Some child })
-    (s.nodes
-    ++ single inside ∷ []) ∙ (added_new s.nodes (single inside)).size
+    (s.nodes ++ single inside ∷ []) ∙ (added_new s.nodes (single inside)).size
 
 pub hung_below : (s t : Arena Item) (mid : List (Node Item)) (ix child : ℕ) (item inside : Item) (next : Option ℕ)
-    → ix < length s.nodes
-    → IsHung s t ix child inside → IsWritten t.nodes mid ix item next
+    → ix < length s.nodes → IsHung s t ix child inside → IsWritten t.nodes mid ix item next
     → HungBelow ix item inside next s.nodes mid
 hung_below s t mid ix child item inside next within h w =
     let old = s.nodes in
@@ -351,9 +323,7 @@ hung_below s t mid ix child item inside next within h w =
     record {
       item_is = w.item_is;
       next_is = w.next_is;
-      others = λ n l d. same_trans old t.nodes mid n
-          (same_trans old more t.nodes n (added_same old (single inside) n l) (hung n d))
-          (w.others n d);
+      others = λ n l d. same_trans (same_trans (added_same old (single inside) n l) (hung n d)) (w.others n d);
       new_below = record {
         size = w.size ∙ hung_size s t ix child inside h;
         link = w.child_is ∙ child_is;

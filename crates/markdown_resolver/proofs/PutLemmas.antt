@@ -1,7 +1,6 @@
 -- What was found is put into a first node: what the rules of a chain become of it, once what is left is rewritten.
 use Rattle.std.proofs.Common.{◌≡◌, ℕ, zero, suc, ◌+◌, ◌<◌, ◌≤◌, Bool, true, false, List, [], ◌∷◌, length, Option, Some}
-use Rattle.std.proofs.Common.{None, refl, sym, ap}
-use Rattle.std.proofs.Common.{◌∙◌, subst, ⊎_elim, arith, if◌then◌else◌, nat_le, max}
+use Rattle.std.proofs.Common.{None, refl, sym, ap, ◌∙◌, subst, ⊎_elim, arith, if◌then◌else◌, nat_le, max}
 use Rattle.std.proofs.lemmas.Bool.{cases_lt}
 use Rattle.std.specs.Prelude.{IfSome, IsCharBoundary}
 use Rattle.std.specs.Option.{option_map}
@@ -34,32 +33,27 @@ use Rattle.markdown_spans.specs.ChainInArena.{LeadsThrough}
 use Rattle.markdown_resolver.specs.Chains.{CanResolve}
 use Rattle.markdown_resolver.specs.Kept.{IsQuietBelow}
 use Rattle.markdown_resolver.specs.Rewritten.{RunsGoOn, Rewrites, Standing, replaced, first_past, begun_item}
-use Rattle.markdown_resolver.specs.Rewritten.{LeavesRest, MayBeCut}
-use Rattle.markdown_resolver.specs.Rewritten.{numbered_past_byte}
+use Rattle.markdown_resolver.specs.Rewritten.{LeavesRest, MayBeCut, numbered_past_byte}
 use Rattle.markdown_resolver.specs.Settling.{begun_from}
 use Rattle.markdown_resolver.proofs.NodeChangeLemmas.{changed_other, changed_here}
 use Rattle.markdown_resolver.proofs.ComposeLemmas.{same_trans, Stands, stands_ready, Moves, moves_change, moves_none}
-use Rattle.markdown_resolver.proofs.ComposeLemmas.{moves_twice}
-use Rattle.markdown_resolver.proofs.ComposeLemmas.{HeadWritten, HeadMoved, after_head}
+use Rattle.markdown_resolver.proofs.ComposeLemmas.{moves_twice, HeadWritten, HeadMoved, after_head}
 use Rattle.markdown_resolver.proofs.PastByteLemmas.{left_past, first_begun, past_is, dropped, Dropped, begun_is}
 use Rattle.markdown_resolver.proofs.ChainOrderLemmas.{AllPast, IsFirstPast, first_is_past, leads_kept, leads_above}
-use Rattle.markdown_resolver.proofs.ChainOrderLemmas.{leads_left}
-use Rattle.markdown_resolver.proofs.ChainOrderLemmas.{numbered_left, numbered_begun, numbered_past_is}
+use Rattle.markdown_resolver.proofs.ChainOrderLemmas.{leads_left, numbered_left, numbered_begun, numbered_past_is}
 
 -- nothing is rewritten
-pub rewrites_none : (source : List ℕ) (l : Option ℕ) (nodes : List (Node Item)) (tables : Tables)
-    → Stands source tables nodes l
-    → Rewrites source (λ f. f) l nodes nodes tables tables
-rewrites_none source l nodes tables s = record {
-  changes = moves_change source l nodes nodes tables tables (moves_none source l nodes tables s) (λ a h. h);
+pub rewrites_none : {source : List ℕ} {l : Option ℕ} {nodes : List (Node Item)} {tables : Tables}
+    → Stands source tables nodes l → Rewrites source (λ f. f) l nodes nodes tables tables
+rewrites_none s = record {
+  changes = moves_change (moves_none s) (λ a h. h);
   runs = λ a h. h;
   rewritten = refl;
 }
 
 -- a link to a node stays where an item is begun
 next_begun : (nodes : List (Node Item)) (jx : ℕ) (item : Item) (n : ℕ)
-    → sibling_of (changed_at jx (λ m. record m { item = item }) nodes) n
-    ≡ sibling_of nodes n
+    → sibling_of (changed_at jx (λ m. record m { item = item }) nodes) n ≡ sibling_of nodes n
 next_begun [] jx item n = refl
 next_begun (m ∷ nodes) zero item zero = refl
 next_begun (m ∷ nodes) zero item (suc n) = refl
@@ -82,16 +76,14 @@ over_numbers source opener next place t reaches link =
 
 -- what is left of a chain without blocks has none either
 quiet_if : (b : Bool) (i : ℕ) (a : Plain) (below after rest : Forest Plain) → IsQuietBelow rest
-    → IsQuietBelow (node a below after)
-    → IsQuietBelow (if b then rest else node (begun_at i a) below after)
+    → IsQuietBelow (node a below after) → IsQuietBelow (if b then rest else node (begun_at i a) below after)
 quiet_if true i a below after rest r h = r
 quiet_if false i a below after rest r h = h
 
 pub quiet_past_byte : (i : ℕ) (f : Forest Plain) → IsQuietBelow f → IsQuietBelow (past_byte i f)
 quiet_past_byte i nil h = h
 quiet_past_byte i (node a below after) h = quiet_if (nat_le (end_of a) i) i a below after (past_byte i after)
-    (quiet_past_byte i after h.2)
-    h
+    (quiet_past_byte i after h.2) h
 
 quiet_past : (goes_on : Option ℕ) (f : Forest Plain) → IsQuietBelow f → IsQuietBelow (past goes_on f)
 quiet_past None f h = h
@@ -99,21 +91,19 @@ quiet_past (Some i) f h = quiet_past_byte i f h
 
 -- the first item was read in place, if what is left reads as what follows it, past a byte offset
 pub leaves_rest : (source : List ℕ) (ix : ℕ) (old mid new : List (Node Item)) (tables t tables' : Tables)
-    (next goes_on : Option ℕ)
-    → CanResolve source tables old (Some ix) → HeadWritten source ix old mid tables t
+    (next goes_on : Option ℕ) → CanResolve source tables old (Some ix) → HeadWritten source ix old mid tables t
     → Moves source (sibling_of old ix) next mid new t tables'
     → trees_from source tables' new next ≡ past goes_on (trees_from source tables old (sibling_of old ix))
     → LeavesRest source ix next old new tables'
 leaves_rest source ix old mid new tables t tables' next goes_on ready h m reads =
-    let a = after_head source ix old mid tables t (stands_ready source tables old (Some ix) ready) h in
+    let a = after_head (stands_ready ready) h in
     let rest = trees_from source tables old (sibling_of old ix) in
     let quiet : IsQuietBelow rest = (rw a.here at ready.quiet_below).2 in
     let size : length old ≤ length mid = h.more in
     let weight : weight_in new next ≤ weight_in old (sibling_of old ix) = rw (← a.rest.weight) m.no_heavier in
     let two : 2 ≤ weight_at old ix = some_weight (is_open (item_at old ix).body) in
     let times : (n : ℕ) → n < length old → times_in new next n ≤ times_in old (sibling_of old ix) n = λ n l. rw
-    (← a.rest.forest)
-    (m.of_chain n (omega (arith, l, size))) in
+    (← a.rest.forest) (m.of_chain n (omega (arith, l, size))) in
     record {
       ready = record {
         reaches = m.stands.reaches;
@@ -132,7 +122,7 @@ leaves_rest source ix old mid new tables t tables' next goes_on ready h m reads 
           let other = λ (e : n ≡ ix). let at : same n ix ≡ 1 = subst (λ (m : ℕ). same n m ≡ 1) e one
           in let y : ⊥ = absurd (omega (arith, x, at)) in y in
           let apart : times_in mid (sibling_of old ix) n ≡ 0 = rw a.rest.forest (omega (arith, x)) in
-          same_trans old mid new n (h.others n l other) (m.outside n (omega (arith, l, size)) apart);
+          same_trans (h.others n l other) (m.outside n (omega (arith, l, size)) apart);
     }
 
 -- in the end, the whole is rewritten by the trees that replace the first, and the rule
@@ -148,9 +138,9 @@ pub whole_put : (source : List ℕ) (ix : ℕ) (old mid new : List (Node Item)) 
     (rule (past goes_on (trees_from source tables old (sibling_of old ix))))
     → Rewrites source (replaced trees goes_on rule) (Some ix) old new tables later
 whole_put source ix old mid new tables t later trees goes_on rule ready h hm before runs reads =
-    let a = after_head source ix old mid tables t (stands_ready source tables old (Some ix) ready) h in
+    let a = after_head (stands_ready ready) h in
     record {
-      changes = moves_change source (Some ix) old new tables later hm.moves (λ b stands. rw hm.item (before b stands));
+      changes = moves_change hm.moves (λ b stands. rw hm.item (before b stands));
       runs = λ b whole. rw hm.item (runs b whole);
       rewritten = hm.trees ∙ reads ∙ rw a.here refl;
     }
@@ -167,15 +157,13 @@ pub record ClosesAt (ix : ℕ) (old mid : List (Node Item)) : Type 0 where
   pub starts : (item_at mid ix).start ≡ (item_at old ix).start
 
 pub before_closed : (ix : ℕ) (old mid : List (Node Item)) (a : Numbered) → ClosesAt ix old mid
-    → ComesBefore a (Some (numbered old ix))
-    → ComesBefore a (Some (numbered mid ix))
+    → ComesBefore a (Some (numbered old ix)) → ComesBefore a (Some (numbered mid ix))
 before_closed ix old mid a c stands = λ x y.
     let p = stands x (open-no-block (item_at old ix).body c.was_open) in
     record { ends = rw c.starts p.ends; numbers = p.numbers }
 
 goes_on_closed : (source : List ℕ) (a b b' : Numbered) (count : ℕ) (opens closes : Bool) → run_character b.item.body
-    ≡ None
-    → run_character b'.item.body ≡ None → RunGoesOn source a count opens closes (Some b)
+    ≡ None → run_character b'.item.body ≡ None → RunGoesOn source a count opens closes (Some b)
     → RunGoesOn source a count opens closes (Some b')
 goes_on_closed source a b b' zero opens closes none none' h = h
 goes_on_closed source a b b' (suc zero) opens closes none none' h = rw none' tt
@@ -212,8 +200,7 @@ first_kept old new i (node ix below after) h =
     rw (h ix (omega (arith, one)), first_kept old new i after (λ n l. h n (omega (arith, l)))) refl
 
 first_there_if : (b : Bool) (n ix : ℕ) (l : Option ℕ) (rest : ℕ) → (l ≡ Some ix → 0 < rest) → (if b then l else Some n)
-    ≡ Some ix
-    → 0 < same ix n + rest
+    ≡ Some ix → 0 < same ix n + rest
 first_there_if true n ix l rest h e = omega (arith, h e)
 first_there_if false n ix l rest h e =
     let e' : n ≡ ix = cc e in
@@ -225,14 +212,12 @@ pub first_there : (nodes : List (Node Item)) (i ix : ℕ) (f : Forest ℕ) → f
 first_there nodes i ix nil e = cc e
 first_there nodes i ix (node n below after) e =
     let h = first_there_if (nat_le (item_at nodes n).end i) n ix (first_past nodes i (roots after))
-    (total (same ix) after)
-    (λ k. first_there nodes i ix after k) e in
+    (total (same ix) after) (λ k. first_there nodes i ix after k) e in
     omega (arith, h)
 
 -- links lead on where the first item begins at a byte
 pub leads_begun : (nodes : List (Node Item)) (i : ℕ) (l : Option ℕ) (low : ℕ) (chain : List Numbered)
-    → LeadsThrough nodes low l chain
-    → LeadsThrough (begun_from l i nodes) low l (numbered_begun i chain)
+    → LeadsThrough nodes low l chain → LeadsThrough (begun_from l i nodes) low l (numbered_begun i chain)
 leads_begun nodes i l low [] h = h
 leads_begun nodes i None low (a ∷ after) h = absurd (cc h.0)
 leads_begun nodes i (Some ix) low (a ∷ after) h =
@@ -254,34 +239,29 @@ leads_begun nodes i (Some ix) low (a ∷ after) h =
       refl,
       subst (λ (n : ℕ). low ≤ n) (sym same_number) h.1,
       omega (arith, size, there),
-      c.item
-          ∙ ap (λ x. begun_item i x) item_is,
+      c.item ∙ ap (λ x. begun_item i x) item_is,
       rw c.next go,
     )
 
 -- what follows the written node is there, and stays
-pub rest_within : (source : List ℕ) (ix : ℕ) (old mid : List (Node Item)) (tables t : Tables)
-    → Stands source tables old (Some ix)
-    → HeadWritten source ix old mid tables t
+pub rest_within : {source : List ℕ} {ix : ℕ} {old mid : List (Node Item)} {tables t : Tables}
+    → Stands source tables old (Some ix) → HeadWritten source ix old mid tables t
     → (n : ℕ) → 0 < times_in old (sibling_of old ix) n → n < length old
-rest_within source ix old mid tables t s h n k =
-    let a = after_head source ix old mid tables t s h in
+rest_within {source} {ix} {old} {mid} {tables} {t} s h n k =
+    let a = after_head s h in
     ⊎_elim (λ x. x) (λ x. absurd (omega (
       arith,
-      times-past (links_of old) (sibling_of old ix) (forest_at (links_of old) (sibling_of old ix))
-          n a.after.spelled x,
+      times-past (links_of old) (sibling_of old ix) (forest_at (links_of old) (sibling_of old ix)) n a.after.spelled x,
       k,
     ))) (cases_lt n (length old))
 
-pub rest_same : (source : List ℕ) (ix : ℕ) (old mid : List (Node Item)) (tables t : Tables)
-    → Stands source tables old (Some ix)
-    → HeadWritten source ix old mid tables t
+pub rest_same : {source : List ℕ} {ix : ℕ} {old mid : List (Node Item)} {tables t : Tables}
+    → Stands source tables old (Some ix) → HeadWritten source ix old mid tables t
     → (n : ℕ) → n < length old → 0 < times_in old (sibling_of old ix) n → IsSameAt old mid n
-rest_same source ix old mid tables t s h n l k =
-    let apart = (after_head source ix old mid tables t s h).not_after in
+rest_same {source} {ix} {old} {mid} {tables} {t} s h n l k =
+    let apart = (after_head s h).not_after in
     h.others n l (λ e. let z : times_in old (sibling_of old ix) n
-    ≡ 0 = subst (λ (m : ℕ). times_in old (sibling_of old ix) m ≡ 0) (sym e)
-    apart in absurd (omega (arith, k, z)))
+    ≡ 0 = subst (λ (m : ℕ). times_in old (sibling_of old ix) m ≡ 0) (sym e) apart in absurd (omega (arith, k, z)))
 
 -- what is left past a byte, once the first node is written: the link to it, and the nodes where it begins there
 pub record RestPast (source : List ℕ) (ix i : ℕ) (old mid : List (Node Item)) (tables t : Tables) (next : Option ℕ)
@@ -305,24 +285,20 @@ follows_at nodes i ix (Some n) a places e le = λ x y.
     record { ends = rw c.item (omega arith); numbers = omega (arith, e, low) }
 
 pub rest_past_is : (source : List ℕ) (ix i : ℕ) (old mid : List (Node Item)) (tables t : Tables) (next : Option ℕ)
-    (byte : ℕ)
-    → Stands source tables old (Some ix) → HeadWritten source ix old mid tables t
+    (byte : ℕ) → Stands source tables old (Some ix) → HeadWritten source ix old mid tables t
     → next ≡ first_past old i (roots (forest_at (links_of old) (sibling_of old ix)))
     → AllPast old ix byte (roots (forest_at (links_of old) (sibling_of old ix)))
     → ((n : ℕ) → next ≡ Some n → (item_at old n).start < i → MayBeCut (item_at old n).body) → IsCharBoundary source i
     → RestPast source ix i old mid tables t next
 rest_past_is source ix i old mid tables t next byte s h next_is past_all between boundary =
-    let a = after_head source ix old mid tables t s h in
+    let a = after_head s h in
     let l = sibling_of old ix in
     let f = forest_at (links_of old) l in
-    let within : (n : ℕ) → 0 < total (same n) f → n < length old = λ n k. rest_within source ix old mid tables t s h n k
-    in
-    let kept : (n : ℕ) → 0 < total (same n) f → IsSameAt old mid n = λ n k. rest_same source ix old mid tables t s h n
-    (within n k) k in
+    let within : (n : ℕ) → 0 < total (same n) f → n < length old = λ n k. rest_within s h n k in
+    let kept : (n : ℕ) → 0 < total (same n) f → IsSameAt old mid n = λ n k. rest_same s h n (within n k) k in
     let there : (n : ℕ) → next ≡ Some n → 0 < total (same n) f = λ n e. first_there old i n f (sym next_is ∙ e) in
     let first : (n : ℕ) → next ≡ Some n → IsFirstPast old ix byte i n = λ n e. first_is_past old ix byte i n (roots f)
-    past_all (sym next_is
-    ∙ e) in
+    past_all (sym next_is ∙ e) in
     let link : first_past mid i (roots (forest_at (links_of mid) l)) ≡ next =
     ap (λ (g : Forest ℕ). first_past mid i (roots g)) a.rest.forest ∙ first_kept old mid i f (λ n k. (kept n k).item)
     ∙ sym next_is in
@@ -330,15 +306,14 @@ rest_past_is source ix i old mid tables t next byte s h next_is past_all between
     (dropped source t mid i (forest_at (links_of mid) l) l refl a.stands) in
     let b = begun_is source t mid next i d.moves.stands boundary
     (λ n e. let x = (first n e).ends in rw (kept n (there n e)).item (omega (arith, x)))
-    (λ n e. rw (kept n (there n e)).item (λ k. (between n e k).closed))
-    (λ n e. rw (kept n (there n e)).item
+    (λ n e. rw (kept n (there n e)).item (λ k. (between n e k).closed)) (λ n e. rw (kept n (there n e)).item
     (λ k. (between n e k).no_slices source t (origin_start source (max (item_at old n).start i))
     (item_at old n).end)) in
     let spelled : Spells (links_of mid) l f = rw a.rest.forest at a.rest.reaches.spelled in
     let link' : first_past mid i (roots f) ≡ next = first_kept old mid i f (λ n k. (kept n k).item) ∙ sym next_is in
     let more : length old ≤ length mid = h.more in
     record {
-      moves = moves_twice source l next next mid mid (begun_from next i mid) t t t d.moves b.moves;
+      moves = moves_twice d.moves b.moves;
       reads = b.reads ∙ ap (λ (g : Forest Plain). first_begun i g)
           (d.reads ∙ ap (λ (g : Forest Plain). left_past i g) a.rest.trees)
           ∙ sym (past_is i (trees_from source tables old l));

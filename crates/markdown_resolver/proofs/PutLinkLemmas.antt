@@ -1,9 +1,8 @@
 -- What a closing bracket becomes is put into the node of its opener, which is a Text by now, with what is below that.
-use Rattle.std.proofs.Common.{◌≡◌, ℕ, zero, suc, ◌+◌, ◌<◌, ◌≤◌, Bool, true, false, List, [], ◌∷◌, ◌++◌, length, Option}
-use Rattle.std.proofs.Common.{Some, None, refl}
-use Rattle.std.proofs.Common.{sym, ap, ◌∙◌, subst, arith, if◌then◌else◌, nat_le}
+use Rattle.std.proofs.Common.{◌≡◌, ℕ, zero, suc, ◌+◌, ◌<◌, ◌≤◌, true, false, List, [], ◌∷◌, ◌++◌, length, Option, Some}
+use Rattle.std.proofs.Common.{refl, sym, ap, ◌∙◌, subst, arith, nat_le}
 use Rattle.std.proofs.lemmas.Bool.Decides.{nat_tests}
-use Rattle.std.specs.Prelude.{IsCharBoundary, is_some}
+use Rattle.std.specs.Prelude.{IsCharBoundary}
 use Rattle.std.specs.Option.{option_map}
 use Rattle.markdown_base.specs.Arena.{child_of, sibling_of}
 use Rattle.markdown_base.specs.ArenaForest.{Spells, forest_at, links_of}
@@ -11,7 +10,6 @@ use Rattle.markdown_base.specs.BlockTree.{Numbered, numbered, item_at}
 use Rattle.markdown_base.specs.Forest.{Forest, nil, node, relabelled, roots}
 use Rattle.markdown_base.specs.Item.{is_block, is_open}
 use Rattle.markdown_base.specs.declared.item.Item.{Item}
-use Rattle.markdown_base.specs.declared.item.ItemBody.{ItemBody}
 use Rattle.markdown_base.specs.declared.node.Node.{Node}
 use Rattle.markdown_base.proofs.ArenaForestLemmas.{opens}
 use Rattle.markdown_document.specs.ChainRest.{past_byte}
@@ -28,27 +26,26 @@ use Rattle.markdown_document.proofs.TablesLemmas.{same-refl}
 use Rattle.markdown_spans.specs.ChainInArena.{LeadsThrough}
 use Rattle.markdown_resolver.specs.Chains.{CanResolve}
 use Rattle.markdown_resolver.specs.ClosedOver.{Enclosing, first_trees, trees_past, closed_over, over_inside}
-use Rattle.markdown_resolver.specs.ClosedOver.{last_inside, CanClose}
-use Rattle.markdown_resolver.specs.ClosedOver.{CanPutOver, PutsOver, IsEnclosed}
+use Rattle.markdown_resolver.specs.ClosedOver.{last_inside, CanClose, CanPutOver, PutsOver, IsEnclosed}
 use Rattle.markdown_resolver.specs.Kept.{IsQuietBelow}
 use Rattle.markdown_resolver.specs.Rewritten.{RunsGoOn, Rewrites, IsRestPast, LeavesRest, CanPut, first_past}
 use Rattle.markdown_resolver.specs.Rewritten.{numbered_past_byte, MayBeCut}
 use Rattle.markdown_resolver.specs.declared.rest.Rest.{Rest}
 use Rattle.markdown_resolver.specs.Settling.{IsWritten, begun_from}
+use Rattle.markdown_resolver.proofs.ChainLeadsLemmas.{no_block}
 use Rattle.markdown_resolver.proofs.ChainOrderLemmas.{AllPast, leads_kept, leads_left, numbered_left, numbered_past_is}
 use Rattle.markdown_resolver.proofs.ComposeLemmas.{same_trans, Stands, Moves, changes_move, moves_change, moves_twice}
-use Rattle.markdown_resolver.proofs.ComposeLemmas.{HeadWritten}
-use Rattle.markdown_resolver.proofs.ComposeLemmas.{HeadMoved, head_moves, head_leaves, after_head, below_kept}
+use Rattle.markdown_resolver.proofs.ComposeLemmas.{HeadWritten, HeadMoved, head_moves, head_leaves, after_head}
+use Rattle.markdown_resolver.proofs.ComposeLemmas.{below_kept}
 use Rattle.markdown_resolver.proofs.EncloseLemmas.{OpensAt, opens_at, inside_reads, spelled_past, spelled_kept}
 use Rattle.markdown_resolver.proofs.EncloseLemmas.{total_parts}
 use Rattle.markdown_resolver.proofs.FoldLemmas.{IsFolded, behind_past, behind_reads, closer_opens, enclosed_folds}
-use Rattle.markdown_resolver.proofs.FoldLemmas.{first_behind}
-use Rattle.markdown_resolver.proofs.FoldLemmas.{folded_moves, item_behind, next_behind, stands_once, whole_childless}
+use Rattle.markdown_resolver.proofs.FoldLemmas.{first_behind, folded_moves, item_behind, next_behind, stands_once}
+use Rattle.markdown_resolver.proofs.FoldLemmas.{whole_childless}
 use Rattle.markdown_resolver.proofs.PastByteLemmas.{tree_same}
 use Rattle.markdown_resolver.proofs.PutFoundLemmas.{closed_head}
-use Rattle.markdown_resolver.proofs.PutLemmas.{rewrites_none, next_from, over_numbers, quiet_past_byte}
-use Rattle.markdown_resolver.proofs.PutLemmas.{closed_no_run, leads_begun, no_run_here, run_closed, first_kept}
-use Rattle.markdown_resolver.proofs.PutLemmas.{RestPast, rest_past_is}
+use Rattle.markdown_resolver.proofs.PutLemmas.{rewrites_none, next_from, over_numbers, quiet_past_byte, closed_no_run}
+use Rattle.markdown_resolver.proofs.PutLemmas.{leads_begun, no_run_here, run_closed, first_kept, RestPast, rest_past_is}
 
 -- what is left of a quiet chain is quiet
 quiet_trees : (k : ℕ) (f : Forest Plain) → IsQuietBelow f → IsQuietBelow (trees_past k f)
@@ -68,8 +65,7 @@ pub record HeadPut (source : List ℕ) (ix i : ℕ) (item : Item) (next : Option
     pub ends : item.end ≤ i
 
 pub head_put : (source : List ℕ) (ix i : ℕ) (item : Item) (next : Option ℕ) (nodes mid : List (Node Item))
-    (tables t : Tables)
-    → HasGrown tables t → Stands source tables nodes (Some ix)
+    (tables t : Tables) → HasGrown tables t → Stands source tables nodes (Some ix)
     → CanPut source tables t item → item.end ≤ i → IsWritten nodes mid ix item next → (byte : ℕ)
     → AllPast nodes ix byte (roots (forest_at (links_of nodes) (sibling_of nodes ix)))
     → next ≡ first_past nodes i (roots (forest_at (links_of nodes) (sibling_of nodes ix)))
@@ -78,8 +74,7 @@ pub head_put : (source : List ℕ) (ix i : ℕ) (item : Item) (next : Option ℕ
 head_put source ix i item next nodes mid tables t grown s puts ends w byte past link between boundary =
     let size = w.size in
     let h = closed_head source ix item nodes mid tables t grown puts.closed puts.lies puts.named puts.slices
-    puts.new_names w.item_is
-    (omega (arith, size)) (λ n l d. w.others n d) in
+    puts.new_names w.item_is (omega (arith, size)) (λ n l d. w.others n d) in
     record {
       head = h;
       rest = rest_past_is source ix i nodes mid tables t next byte s h link past between boundary;
@@ -91,51 +86,41 @@ head_put source ix i item next nodes mid tables t grown s puts ends w byte past 
 
 -- once what is left is rewritten, the first item, with what was below it, precedes that
 pub record HeadStands (source : List ℕ) (ix i : ℕ) (item : Item) (rule : Forest Plain → Forest Plain)
-    (nodes mid new : List (Node Item))
-    (tables t later : Tables) : Type 0 where
+    (nodes mid new : List (Node Item)) (tables t later : Tables) : Type 0 where
   pub moved : HeadMoved source ix nodes mid new tables t later
   pub reads : trees_from source later new (Some ix)
       ≡ node (label_of source t item) (trees_from source tables nodes (child_of nodes ix))
       (rule (past_byte i (trees_from source tables nodes (sibling_of nodes ix))))
 
-pub head_stands : (source : List ℕ) (ix i : ℕ) (item : Item) (next : Option ℕ) (nodes mid : List (Node Item))
-    (tables t : Tables)
-    → Stands source tables nodes (Some ix)
+pub head_stands : {source : List ℕ} {ix i : ℕ} {item : Item} {next : Option ℕ} {nodes mid : List (Node Item)}
+    {tables t : Tables} → Stands source tables nodes (Some ix)
     → child_of mid ix ≡ child_of nodes ix → HeadPut source ix i item next nodes mid tables t
     → (rule : Forest Plain → Forest Plain) (new : List (Node Item)) (later : Tables)
     → Rewrites source rule next (begun_from next i mid) new t later
     → HeadStands source ix i item rule nodes mid new tables t later
-head_stands source ix i item next nodes mid tables t s child p rule new later r =
-    let m = moves_twice source (sibling_of nodes ix) next next mid (begun_from next i mid) new t t later p.rest.moves
-    (changes_move source next (begun_from next i mid) new t later r.changes) in
+head_stands {source} {ix} {i} {item} {next} {nodes} {mid} {tables} {t} s child p rule new later r =
+    let m = moves_twice p.rest.moves (changes_move r.changes) in
     let closed : is_open (item_at mid ix).body ≡ false = rw p.item_is p.closed in
-    let kept = below_kept source ix nodes mid new tables t later next s p.head m child
-    (rw closed (some_weight (is_open (item_at nodes ix).body))) in
+    let kept = below_kept next s p.head m child (rw closed (some_weight (is_open (item_at nodes ix).body))) in
     let ends : (item_at mid ix).end ≤ i = rw p.item_is p.ends in
     let follows = r.changes.before (numbered mid ix) (p.rest.follows (numbered mid ix) refl ends) in
     let hm = head_moves source ix nodes mid new tables t later s p.head (rw p.next_is m) kept.below
     (rw p.next_is follows)
     (no_run_here source (numbered mid ix) (option_map (numbered new) (sibling_of mid ix)) closed) in
     let after : trees_from source later new (sibling_of mid ix)
-    ≡ rule (past_byte i (trees_from source tables nodes (sibling_of nodes ix)))
-    =
+    ≡ rule (past_byte i (trees_from source tables nodes (sibling_of nodes ix))) =
     ap (λ (l : Option ℕ). trees_from source later new l) p.next_is ∙ r.rewritten ∙ ap rule p.rest.reads in
     record {
       moved = hm;
-      reads = hm.trees ∙ tree_same _ _ _ _ _ _ (ap (λ x. label_of source t x) p.item_is) kept.trees after;
+      reads = hm.trees ∙ tree_same (ap (λ x. label_of source t x) p.item_is) kept.trees after;
     }
 
 -- an item is where another was that was neither open nor a block
-no_block : (is : Bool) (b : ItemBody) → is_some (if is then Some b else None) ≡ false → is ≡ false
-no_block true b h = cc h
-no_block false b h = refl
-
 pub first_no_block : (source : List ℕ) (tables : Tables) (nodes : List (Node Item)) (ix : ℕ)
-    → CanResolve source tables nodes (Some ix)
-    → is_block (item_at nodes ix).body ≡ false
+    → CanResolve source tables nodes (Some ix) → is_block (item_at nodes ix).body ≡ false
 first_no_block source tables nodes ix ready =
     let o = opens (links_of nodes) (IsPlaced source tables nodes) ix ready.reaches in
-    no_block (is_block (item_at nodes ix).body) (item_at nodes ix).body (rw o.here at ready.quiet_below).0
+    no_block (item_at nodes ix).body (rw o.here at ready.quiet_below).0
 
 pub before_text : (ix : ℕ) (old new : List (Node Item)) (a : Numbered) → is_block (item_at old ix).body ≡ false
     → (item_at new ix).start ≡ (item_at old ix).start
@@ -151,8 +136,7 @@ runs_text source ix old new closed closed' = λ a whole.
 
 -- the closer is not left past a byte
 pub past_closer : (source : List ℕ) (tables : Tables) (nodes : List (Node Item)) (k closer i : ℕ) (after : List ℕ)
-    (f : Forest ℕ)
-    → OpensAt k closer after f → (item_at nodes closer).end ≤ i
+    (f : Forest ℕ) → OpensAt k closer after f → (item_at nodes closer).end ≤ i
     → past_byte i (trees_past k (relabelled (label_at source tables nodes) f))
     ≡ past_byte i (trees_past (suc k) (relabelled (label_at source tables nodes) f))
 past_closer source tables nodes zero closer i after nil o ends = refl
@@ -169,8 +153,7 @@ past_closer source tables nodes (suc k) closer i after (node n below rest) o end
 
 -- what is left can be read, and is less, where the chain from the opener on became that
 pub over_leaves : (source : List ℕ) (opener k byte : ℕ) (next : Option ℕ) (old place : List (Node Item))
-    (tables t : Tables) (f : Forest ℕ)
-    → CanResolve source tables old (Some opener)
+    (tables t : Tables) (f : Forest ℕ) → CanResolve source tables old (Some opener)
     → forest_at (links_of old) (Some opener) ≡ node opener nil f → Moves source (Some opener) next old place tables t
     → weight_in place next < weight_in old (Some opener)
     → trees_from source t place next ≡ past_byte byte (trees_past k (relabelled (label_at source tables old) f))
@@ -193,8 +176,7 @@ over_leaves source opener k byte next old place tables t f ready whole left ligh
 
 -- the links after the closer lead on past a byte offset, where the nodes there are unchanged
 pub behind_leads : (old mid : List (Node Item)) (opener closer byte : ℕ) (inside after : List ℕ) (next : Option ℕ)
-    (f : Forest ℕ)
-    → roots f ≡ inside ++ closer ∷ after
+    (f : Forest ℕ) → roots f ≡ inside ++ closer ∷ after
     → Spells (links_of old) (sibling_of old opener) f → length old ≤ length mid
     → ((n : ℕ) → 0 < total (same n) (trees_past (suc (length inside)) f) → IsSameAt old mid n)
     → first_past old byte after ≡ next → (low : ℕ) (chain : List Numbered)
@@ -211,8 +193,7 @@ behind_leads old mid opener closer byte inside after next f listed spelled size 
     first_kept old mid byte behind (λ n some. (kept n some).item) ∙ ap (λ (ns : List ℕ). first_past old byte ns)
     o.follow ∙ first in
     let left : LeadsThrough mid low next (numbered_left byte chain) = rw link at
-    (leads_left mid byte (sibling_of old closer) behind low
-    chain there leads) in
+    (leads_left mid byte (sibling_of old closer) behind low chain there leads) in
     rw (numbered_past_is byte chain) (leads_begun mid byte next low (numbered_left byte chain) left)
 
 -- one item, with what a rule shows of what is inside below it
@@ -220,8 +201,8 @@ abbrev pub over_shape : List ℕ → Tables → Item → (shown : Forest Plain �
 over_shape source tables item shown a inside = node (label_of source tables item) (shown inside) nil
 
 -- the opener's node was written once it was folded
-module _ (source : List ℕ) (opener closer : ℕ) (item : Item) (byte : ℕ) (inside : List ℕ) (rest : Rest)
-    (old folded mid : List (Node Item)) (tables t : Tables) (grown : HasGrown tables t)
+module _ {source : List ℕ} {opener closer : ℕ} {item : Item} {byte : ℕ} {inside : List ℕ} {rest : Rest}
+    {old folded mid : List (Node Item)} {tables t : Tables} (grown : HasGrown tables t)
     (can : CanClose source tables old opener closer inside byte)
     (over : CanPutOver source tables t old opener item byte)
     (v : IsFolded source tables old folded opener closer (length inside))
@@ -230,7 +211,7 @@ module _ (source : List ℕ) (opener closer : ℕ) (item : Item) (byte : ℕ) (i
   next = rest.next
 
   next_first : first_past old byte can.after ≡ next
-  next_first = next_behind source tables old opener closer inside byte can ∙ sym past.next_is
+  next_first = next_behind can ∙ sym past.next_is
 
   abbrev k : ℕ
   k = length inside
@@ -245,46 +226,38 @@ module _ (source : List ℕ) (opener closer : ℕ) (item : Item) (byte : ℕ) (i
   place = begun_from next byte mid
 
   whole_old : forest_at (links_of old) (Some opener) ≡ node opener nil f
-  whole_old = whole_childless source tables old opener closer inside byte can
+  whole_old = whole_childless can
 
   moved : Moves source (Some opener) (Some opener) old folded tables tables
-  moved = folded_moves source tables old opener closer inside byte can folded v
+  moved = folded_moves can folded v
 
   rest_all_past : AllPast folded opener (item_at old opener).end
       (roots (forest_at (links_of folded) (sibling_of folded opener)))
-  rest_all_past = rw v.next_is (behind_past source tables old opener closer inside byte can folded v.size v.behind)
+  rest_all_past = rw v.next_is (behind_past can folded v.size v.behind)
 
   link_on : next ≡ first_past folded byte (roots (forest_at (links_of folded) (sibling_of folded opener)))
-  link_on = rw v.next_is
-      (sym (first_behind source tables old opener closer inside byte can folded v.size v.behind ∙ next_first))
+  link_on = rw v.next_is (sym (first_behind can folded v.size v.behind ∙ next_first))
 
   puts : HeadPut source opener byte item next folded mid tables t
   puts =
       head_put source opener byte item next folded mid tables t grown moved.stands over.puts over.ends w
-      (item_at old opener).end
-      rest_all_past link_on
-      (λ n e. rw (item_behind source tables old opener closer inside byte can folded v.size v.behind n (next_first ∙ e))
+      (item_at old opener).end rest_all_past link_on
+      (λ n e. rw (item_behind can folded v.size v.behind n (next_first ∙ e))
       (can.between n (next_first ∙ e))) can.boundary
 
   rest_is : past_byte byte (trees_from source tables folded (sibling_of folded opener))
       ≡ past_byte byte (trees_past (suc k) chain)
   rest_is =
       ap (λ (l : Option ℕ). past_byte byte (trees_from source tables folded l)) v.next_is
-      ∙ ap (λ (g : Forest Plain). past_byte byte g)
-      (behind_reads source tables old opener closer inside byte can folded v.size v.behind)
-      ∙ past_closer source tables old k closer byte can.after f
-      (closer_opens source tables old opener closer inside byte can)
-      can.closer_ends
+      ∙ ap (λ (g : Forest Plain). past_byte byte g) (behind_reads can folded v.size v.behind)
+      ∙ past_closer source tables old k closer byte can.after f (closer_opens can) can.closer_ends
 
   left_moves : Moves source (Some opener) next old place tables t
-  left_moves =
-      moves_twice source (Some opener) (Some opener) next old folded place tables tables t moved
-      (moves_twice source (Some opener) (sibling_of folded opener) next folded mid place tables t t
-      (head_leaves source opener folded mid tables t moved.stands puts.head) puts.rest.moves)
+  left_moves = moves_twice moved (moves_twice (head_leaves moved.stands puts.head) puts.rest.moves)
 
   fold_leaves : LeavesRest source opener next old place t
   fold_leaves =
-      let a = after_head source opener folded mid tables t moved.stands puts.head in
+      let a = after_head moved.stands puts.head in
       let two : 2 ≤ weight_at folded opener = some_weight (is_open (item_at folded opener).body) in
       let all : weight_in folded (Some opener) ≡ weight_at folded opener + (weight_in folded (child_of folded opener)
       + weight_in folded (sibling_of folded opener)) =
@@ -297,13 +270,13 @@ module _ (source : List ℕ) (opener closer : ℕ) (item : Item) (byte : ℕ) (i
 
   behind_same : (n : ℕ) → 0 < total (same n) (trees_past (suc k) f) → IsSameAt old mid n
   behind_same n l =
-      let o = closer_opens source tables old opener closer inside byte can in
+      let o = closer_opens can in
       let one : total (same n) (trees_past k f)
       ≡ same n closer + (total (same n) o.below + total (same n) (trees_past (suc k) f)) =
       ap (λ (g : Forest ℕ). total (same n) g) o.is in
       let parts = total_parts (same n) k f in
-      let once = stands_once source tables old opener closer inside byte can n in
-      same_trans old folded mid n (v.behind n (omega (arith, one, l)))
+      let once = stands_once can n in
+      same_trans (v.behind n (omega (arith, one, l)))
       (w.others n (λ q. let self : same n opener ≡ 1 = subst (λ (m : ℕ). same n m ≡ 1) q (same-refl n)
       in absurd (omega (arith, once, self, parts, one, l))))
 
@@ -314,8 +287,7 @@ module _ (source : List ℕ) (opener closer : ℕ) (item : Item) (byte : ℕ) (i
       let size = v.size in
       let size' = w.size in
       behind_leads old mid opener closer byte inside can.after next f can.follows o.after.spelled
-      (omega (arith, size, size')) behind_same
-      next_first
+      (omega (arith, size, size')) behind_same next_first
 
   -- so the item replaces what was found, with what is shown of what was inside
   module _ (shown : Forest Plain → Forest Plain) (reads : trees_from source tables folded (child_of folded opener)
@@ -324,23 +296,20 @@ module _ (source : List ℕ) (opener closer : ℕ) (item : Item) (byte : ℕ) (i
         → Rewrites source rule next place new t later
         → Rewrites source (closed_over k (over_shape source t item shown) byte rule) (Some opener) old new tables later
     fold_whole rule new later r =
-        let h = head_stands source opener byte item next folded mid tables t moved.stands w.child_is puts rule new later
-        r in
-        let m = moves_twice source (Some opener) (Some opener) (Some opener) old folded new tables tables later moved
-        h.moved.moves in
+        let h = head_stands moved.stands w.child_is puts rule new later r in
+        let m = moves_twice moved h.moved.moves in
         let item_is : item_at new opener ≡ item = h.moved.item ∙ puts.item_is in
         record {
-          changes = moves_change source (Some opener) old new tables later m
+          changes = moves_change m
               (λ a stands. before_text opener old new a (first_no_block source tables old opener can.ready)
-              (rw item_is over.starts)
-              stands);
+              (rw item_is over.starts) stands);
           runs = runs_text source opener old new can.opener_closed (rw item_is puts.closed);
-          rewritten = h.reads ∙ tree_same _ _ _ _ _ _ refl reads (ap rule rest_is) ∙ rw whole_old refl;
+          rewritten = h.reads ∙ tree_same refl reads (ap rule rest_is) ∙ rw whole_old refl;
         }
 
     fold_numbers : roots (forest_at (links_of place) (Some opener)) ≡ opener ∷ roots (forest_at (links_of place) next)
     fold_numbers =
-        let r = fold_whole (λ g. g) place t (rewrites_none source next place t left_moves.stands) in
+        let r = fold_whole (λ g. g) place t (rewrites_none left_moves.stands) in
         over_numbers source opener next place t r.changes.reaches (next_from mid next byte opener ∙ w.next_is)
 
     pub fold_puts : PutsOver source opener closer inside (over_shape source t item shown) byte (opener ∷ []) rest old
@@ -350,19 +319,16 @@ module _ (source : List ℕ) (opener closer : ℕ) (item : Item) (byte : ℕ) (i
       leaves = fold_leaves;
       past = past;
       leads = fold_leads;
-      numbers
-          = fold_numbers;
+      numbers = fold_numbers;
     }
 
 -- a link is over all that is inside
-pub link_puts : (source : List ℕ) (opener last closer : ℕ) (item : Item) (byte : ℕ) (inside : List ℕ) (rest : Rest)
-    (old folded mid : List (Node Item)) (tables t : Tables) → HasGrown tables t
+pub link_puts : {source : List ℕ} {opener last closer : ℕ} {item : Item} {byte : ℕ} {inside : List ℕ} {rest : Rest}
+    {old folded mid : List (Node Item)} {tables t : Tables} → HasGrown tables t
     → CanClose source tables old opener closer inside byte → CanPutOver source tables t old opener item byte
     → last_inside opener inside ≡ last → IsEnclosed old folded opener last closer
     → IsRestPast old byte (sibling_of old closer) rest → IsWritten folded mid opener item rest.next
     → PutsOver source opener closer inside (over_inside source t item) byte (opener ∷ []) rest old
     (begun_from rest.next byte mid) tables t
-link_puts source opener last closer item byte inside rest old folded mid tables t grown can over is enclosed past w =
-    fold_puts source opener closer item byte inside rest old folded mid tables t grown can over
-    (enclosed_folds source tables old folded opener last closer inside byte can is enclosed) past w (λ f. f)
-    (inside_reads source tables old folded opener last closer inside byte can is enclosed)
+link_puts grown can over is enclosed past w =
+    fold_puts grown can over (enclosed_folds can is enclosed) past w (λ f. f) (inside_reads can is enclosed)

@@ -1,8 +1,7 @@
 -- A Text for the first byte of an opener is put into its node, and a reference into its closer's: what was inside
 -- leaves the chain.
 use Rattle.std.proofs.Common.{◌≡◌, ℕ, suc, ◌+◌, ◌<◌, ◌≤◌, false, List, [], ◌∷◌, ◌++◌, length, Option, Some, None, refl}
-use Rattle.std.proofs.Common.{sym, ap, ◌∙◌, subst}
-use Rattle.std.proofs.Common.{arith}
+use Rattle.std.proofs.Common.{sym, ap, ◌∙◌, subst, arith}
 use Rattle.std.specs.Option.{option_map}
 use Rattle.markdown_base.specs.Arena.{child_of, sibling_of}
 use Rattle.markdown_base.specs.ArenaForest.{forest_at, links_of}
@@ -31,26 +30,21 @@ use Rattle.markdown_resolver.specs.declared.rest.Rest.{Rest}
 use Rattle.markdown_resolver.specs.Settling.{IsWritten, begun_from}
 use Rattle.markdown_resolver.proofs.ChainOrderLemmas.{rest_past}
 use Rattle.markdown_resolver.proofs.ComposeLemmas.{same_trans, Stands, stands_ready, Moves, moves_change, moves_twice}
-use Rattle.markdown_resolver.proofs.ComposeLemmas.{HeadWritten, After}
-use Rattle.markdown_resolver.proofs.ComposeLemmas.{below_kept, head_moves, head_leaves, after_head}
+use Rattle.markdown_resolver.proofs.ComposeLemmas.{HeadWritten, After, below_kept, head_moves, head_leaves, after_head}
 use Rattle.markdown_resolver.proofs.EncloseLemmas.{opens_at, total_parts}
 use Rattle.markdown_resolver.proofs.FoldLemmas.{next_behind}
 use Rattle.markdown_resolver.proofs.PastByteLemmas.{tree_same}
 use Rattle.markdown_resolver.proofs.PutFoundLemmas.{closed_head}
 use Rattle.markdown_resolver.proofs.PutLemmas.{rewrites_none, next_from, over_numbers, no_run_here, first_kept}
-use Rattle.markdown_resolver.proofs.PutLemmas.{first_there, rest_same}
-use Rattle.markdown_resolver.proofs.PutLemmas.{rest_within}
+use Rattle.markdown_resolver.proofs.PutLemmas.{first_there, rest_same, rest_within}
 use Rattle.markdown_resolver.proofs.PutLinkLemmas.{HeadPut, head_put, HeadStands, head_stands, first_no_block}
-use Rattle.markdown_resolver.proofs.PutLinkLemmas.{before_text, runs_text}
-use Rattle.markdown_resolver.proofs.PutLinkLemmas.{over_leaves, behind_leads}
+use Rattle.markdown_resolver.proofs.PutLinkLemmas.{before_text, runs_text, over_leaves, behind_leads}
 use Rattle.markdown_resolver.proofs.PutPairLemmas.{Skips, skips, past_at, entries_of_none, label_of_none}
 use Rattle.markdown_resolver.proofs.PutReferenceLemmas.{past_inside, first_behind}
 
 -- the mark was written, and is followed by the closer; then the closer was written
-module _ (source : List ℕ) (opener closer : ℕ) (mark item : Item) (inside : List ℕ) (old mid : List (Node Item))
-    (tables t : Tables)
-    (grown : HasGrown tables t)
-    (can : CanClose source tables old opener closer inside item.end)
+module _ {source : List ℕ} {opener closer : ℕ} {mark item : Item} {inside : List ℕ} {old mid : List (Node Item)}
+    {tables t : Tables} (grown : HasGrown tables t) (can : CanClose source tables old opener closer inside item.end)
     (over : CanPutMark source tables t old opener closer mark item)
     (v : IsWritten old mid opener mark (Some closer)) where
   abbrev k : ℕ
@@ -69,7 +63,7 @@ module _ (source : List ℕ) (opener closer : ℕ) (mark item : Item) (inside : 
   opened = opens (links_of old) (IsPlaced source tables old) opener can.ready.reaches
 
   stands : Stands source tables old (Some opener)
-  stands = stands_ready source tables old (Some opener) can.ready
+  stands = stands_ready can.ready
 
   whole_old : forest_at (links_of old) (Some opener) ≡ node opener nil f
   whole_old = opened.here ∙ ap (λ x. node opener (forest_at (links_of old) x) f) can.childless
@@ -82,15 +76,14 @@ module _ (source : List ℕ) (opener closer : ℕ) (mark item : Item) (inside : 
       closed_head source opener mark old mid tables tables (grown-nothing tables) puts.closed puts.lies
       (entries_of_none tables t mark.body grown over.names_nothing puts.named)
       (slices-none source tables mark.start mark.end mark.body over.names_nothing) (λ n x. over.names_nothing n)
-      v.item_is (omega (arith, size))
-      (λ n x d. v.others n d)
+      v.item_is (omega (arith, size)) (λ n x d. v.others n d)
 
   after_mark_is : After source opener old mid tables tables
-  after_mark_is = after_head source opener old mid tables tables stands head
+  after_mark_is = after_head stands head
 
   number : opener < closer
   number = (past_at old opener (item_at old opener).end closer inside can.after
-      (rw can.follows at (rest_past source tables old opener can.ready))).number
+      (rw can.follows at (rest_past can.ready))).number
 
   closer_same : IsSameAt old mid closer
   closer_same = v.others closer (λ e. absurd (let p = number in omega (arith, p, e)))
@@ -111,7 +104,7 @@ module _ (source : List ℕ) (opener closer : ℕ) (mark item : Item) (inside : 
       ∙ ap (λ (x : Item). x.end) (sym closer_same.item))
 
   closer_stands : Stands source tables mid (Some closer)
-  closer_stands = stands_ready source tables mid (Some closer) skipped_there.ready
+  closer_stands = stands_ready skipped_there.ready
 
   closer_opened : Opened (links_of mid) (IsPlaced source tables mid) closer
   closer_opened = opens (links_of mid) (IsPlaced source tables mid) closer skipped_there.ready.reaches
@@ -123,7 +116,7 @@ module _ (source : List ℕ) (opener closer : ℕ) (mark item : Item) (inside : 
       ≡ past_byte item.end (trees_past (suc k) chain)
   behind_reads =
       sym skipped_there.reads ∙ ap (λ (g : Forest Plain). past_byte item.end g) after_mark_is.rest.trees
-      ∙ past_inside source tables old opener closer item.end inside can over.ends
+      ∙ past_inside can over.ends
 
   module _ (rest : Rest) (last : List (Node Item)) (past : IsRestPast old item.end (sibling_of old closer) rest)
       (w : IsWritten mid last closer item rest.next) where
@@ -134,36 +127,30 @@ module _ (source : List ℕ) (opener closer : ℕ) (mark item : Item) (inside : 
     place = begun_from next item.end last
 
     items_same : (n : ℕ) → 0 < total (same n) f → item_at mid n ≡ item_at old n
-    items_same n z = (rest_same source opener old mid tables tables stands head n
-        (rest_within source opener old mid tables tables stands
-        head n z) z).item
+    items_same n z = (rest_same stands head n (rest_within stands head n z) z).item
 
     next_first : first_past old item.end can.after ≡ next
-    next_first = next_behind source tables old opener closer inside item.end can ∙ sym past.next_is
+    next_first = next_behind can ∙ sym past.next_is
 
     next_all : first_past old item.end (roots f) ≡ next
-    next_all = first_behind source tables old opener closer item.end inside can over.ends ∙ next_first
+    next_all = first_behind can over.ends ∙ next_first
 
     link : next ≡ first_past mid item.end (roots (forest_at (links_of mid) (sibling_of mid closer)))
     link =
         sym next_all ∙ sym (first_kept old mid item.end f items_same)
-        ∙ ap (λ (g : Forest ℕ). first_past mid item.end (roots g))
-        (sym after_mark_is.rest.forest) ∙ skipped_there.first
+        ∙ ap (λ (g : Forest ℕ). first_past mid item.end (roots g)) (sym after_mark_is.rest.forest) ∙ skipped_there.first
 
     puts : HeadPut source closer item.end item next mid last tables t
     puts =
         head_put source closer item.end item next mid last tables t grown closer_stands over.puts (omega arith) w
-        (item_at mid closer).end
-        (rest_past source tables mid closer skipped_there.ready)
+        (item_at mid closer).end (rest_past skipped_there.ready)
         link (λ n e. rw (items_same n (first_there old item.end n f (next_all ∙ e))) (can.between n (next_first ∙ e)))
         can.boundary
 
     closer_put : (rule : Forest Plain → Forest Plain) (new : List (Node Item)) (later : Tables)
         → Rewrites source rule next place new t later
         → HeadStands source closer item.end item rule mid last new tables t later
-    closer_put rule new later r = head_stands source closer item.end item next mid last tables t closer_stands
-        w.child_is puts rule new
-        later r
+    closer_put rule new later r = head_stands closer_stands w.child_is puts rule new later r
 
     mark_closed : is_open (item_at mid opener).body ≡ false
     mark_closed = rw v.item_is over.puts_mark.closed
@@ -174,9 +161,8 @@ module _ (source : List ℕ) (opener closer : ℕ) (mark item : Item) (inside : 
         later
     mark_whole rule new later r =
         let h = closer_put rule new later r in
-        let m = moves_twice source l (Some closer) (Some closer) mid mid new tables tables later skipped_there.moves
-        h.moved.moves in
-        let kept = below_kept source opener old mid new tables tables later (Some closer) stands head m v.child_is
+        let m = moves_twice skipped_there.moves h.moved.moves in
+        let kept = below_kept (Some closer) stands head m v.child_is
         (rw mark_closed (some_weight (is_open (item_at old opener).body))) in
         let follows : ComesBefore (numbered mid opener) (Some (numbered new closer)) =
         λ x y. record { ends = rw (v.item_is, h.moved.item, w.item_is) over.in_order; numbers = number } in
@@ -190,28 +176,21 @@ module _ (source : List ℕ) (opener closer : ℕ) (mark item : Item) (inside : 
         let label = label_of_none source tables t mid opener grown (rw v.item_is over.names_nothing)
         ∙ ap (λ x. label_of source t x) v.item_is in
         let after = ap (λ (x : Option ℕ). trees_from source later new x) v.next_is ∙ h.reads
-        ∙ tree_same _ _ _ _ _ _ refl none' (ap rule behind_reads) in
+        ∙ tree_same refl none' (ap rule behind_reads) in
         let item_is : item_at new opener ≡ mark = hm.item ∙ v.item_is in
         record {
-          changes = moves_change source (Some opener) old new tables later hm.moves
+          changes = moves_change hm.moves
               (λ a before. before_text opener old new a (first_no_block source tables old opener can.ready)
-              (rw item_is over.starts)
-              before);
+              (rw item_is over.starts) before);
           runs = runs_text source opener old new can.opener_closed (rw item_is over.puts_mark.closed);
-          rewritten = hm.trees ∙ tree_same _ _ _ _ _ _ label (kept.trees ∙ none) after ∙ rw whole_old refl;
+          rewritten = hm.trees ∙ tree_same label (kept.trees ∙ none) after ∙ rw whole_old refl;
         }
 
     left_from : Moves source l next mid place tables t
-    left_from =
-        moves_twice source l (Some closer) next mid mid place tables tables t skipped_there.moves
-        (moves_twice source (Some closer) (sibling_of mid closer) next mid last place tables t t
-        (head_leaves source closer mid last tables
-        t closer_stands puts.head) puts.rest.moves)
+    left_from = moves_twice skipped_there.moves (moves_twice (head_leaves closer_stands puts.head) puts.rest.moves)
 
     left_moves : Moves source (Some opener) next old place tables t
-    left_moves = moves_twice source (Some opener) l next old mid place tables tables t
-        (head_leaves source opener old mid tables tables
-        stands head) left_from
+    left_moves = moves_twice (head_leaves stands head) left_from
 
     mark_leaves : LeavesRest source opener next old place t
     mark_leaves =
@@ -220,8 +199,7 @@ module _ (source : List ℕ) (opener closer : ℕ) (mark item : Item) (inside : 
         + (0 + weight_in old l) = ap (λ (g : Forest ℕ). total (weight_at old) g) whole_old in
         let rest : weight_in place next ≤ weight_in old l = rw (← after_mark_is.rest.weight) left_from.no_heavier in
         over_leaves source opener (suc k) item.end next old place tables t f can.ready whole_old left_moves
-        (omega (arith, two, all, rest))
-        (puts.rest.reads ∙ behind_reads)
+        (omega (arith, two, all, rest)) (puts.rest.reads ∙ behind_reads)
 
     behind_same : (n : ℕ) → 0 < total (same n) (trees_past (suc k) f) → IsSameAt old last n
     behind_same n x =
@@ -231,8 +209,7 @@ module _ (source : List ℕ) (opener closer : ℕ) (mark item : Item) (inside : 
         ap (λ (g : Forest ℕ). total (same n) g) o.is in
         let parts = total_parts (same n) k f in
         let once : same n opener + total (same n) f ≤ 1 = (let z = rw whole_old at (can.ready.once n) in omega arith) in
-        same_trans old mid last n
-        (v.others n (λ q. let self : same n opener ≡ 1 = subst (λ (m : ℕ). same n m ≡ 1) q (same-refl n)
+        same_trans (v.others n (λ q. let self : same n opener ≡ 1 = subst (λ (m : ℕ). same n m ≡ 1) q (same-refl n)
         in absurd (omega (arith, once, self, parts, one, x))))
         (w.others n (λ q. let self : same n closer ≡ 1 = subst (λ (m : ℕ). same n m ≡ 1) q (same-refl n)
         in absurd (omega (arith, once, self, parts, one, x))))
@@ -243,14 +220,13 @@ module _ (source : List ℕ) (opener closer : ℕ) (mark item : Item) (inside : 
         let size = v.size in
         let size' = w.size in
         behind_leads old last opener closer item.end inside can.after next f can.follows opened.after.spelled
-        (omega (arith, size, size'))
-        behind_same next_first
+        (omega (arith, size, size')) behind_same next_first
 
     mark_numbers : roots (forest_at (links_of place) (Some opener))
         ≡ opener ∷ closer ∷ roots (forest_at (links_of place) next)
     mark_numbers =
-        let r = mark_whole (λ g. g) place t (rewrites_none source next place t left_moves.stands) in
-        let h = closer_put (λ g. g) place t (rewrites_none source next place t left_moves.stands) in
+        let r = mark_whole (λ g. g) place t (rewrites_none left_moves.stands) in
+        let h = closer_put (λ g. g) place t (rewrites_none left_moves.stands) in
         let opener_next : sibling_of place opener ≡ Some closer = next_from last next item.end opener
         ∙ (w.others opener (λ e. absurd (let p = number in omega (arith, p, e)))).next ∙ v.next_is in
         over_numbers source opener (Some closer) place t r.changes.reaches opener_next
@@ -259,13 +235,11 @@ module _ (source : List ℕ) (opener closer : ℕ) (mark item : Item) (inside : 
 
     -- so both replace what was found
     pub mark_puts : PutsOver source opener closer inside (after_mark source t mark item) item.end (opener ∷ closer ∷ [])
-        rest old place
-        tables t
+        rest old place tables t
     mark_puts = record {
       whole = mark_whole;
       leaves = mark_leaves;
       past = past;
       leads = mark_leads;
-      numbers
-          = mark_numbers;
+      numbers = mark_numbers;
     }

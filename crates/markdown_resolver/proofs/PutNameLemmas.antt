@@ -1,7 +1,6 @@
 -- A wikilink is put into the node of its opener, with a Text for its name below it, in a node that was inside.
 use Rattle.std.proofs.Common.{◌≡◌, ℕ, ◌+◌, ◌<◌, ◌≤◌, List, [], ◌∷◌, ◌++◌, length, Option, Some, None, refl, sym, ap}
-use Rattle.std.proofs.Common.{◌∙◌, subst, ⊎_elim}
-use Rattle.std.proofs.Common.{arith}
+use Rattle.std.proofs.Common.{◌∙◌, subst, ⊎_elim, arith}
 use Rattle.std.proofs.lemmas.Bool.{cases_lt}
 use Rattle.markdown_base.specs.Arena.{Arena, child_of, sibling_of}
 use Rattle.markdown_base.specs.ArenaForest.{Spells, forest_at, links_of}
@@ -46,11 +45,9 @@ pub record IsHungIn (old new : List (Node Item)) (opener first : ℕ) (inside : 
   pub others : (n : ℕ) → (n ≡ opener → ⊥) → (n ≡ first → ⊥) → IsSameAt old new n
 
 pub hung_tree : (s t u : Arena Item) (hung : List (Node Item)) (opener first : ℕ) (inside : Item)
-    → opener < length s.nodes
-    → first < length s.nodes → (opener ≡ first → ⊥)
+    → opener < length s.nodes → first < length s.nodes → (opener ≡ first → ⊥)
     → t ≡ record s { nodes = with_child opener (Some first) s.nodes } → u
-    ≡ record t { nodes = with_child first None t.nodes }
-    → IsWritten u.nodes hung first inside None
+    ≡ record t { nodes = with_child first None t.nodes } → IsWritten u.nodes hung first inside None
     → IsHungIn s.nodes hung opener first inside
 hung_tree s t u hung opener first inside opener_within first_within apart e1 e2 w =
     let a = with_child opener (Some first) s.nodes in
@@ -74,7 +71,7 @@ hung_tree s t u hung opener first inside opener_within first_within apart e1 e2 
       item_is = w'.item_is;
       child_is = w'.child_is ∙ q.child;
       next_is = w'.next_is;
-      others = λ n d d'. same_trans s.nodes b hung n (same_trans s.nodes a b n (changed_other s.nodes opener hangs n d)
+      others = λ n d d'. same_trans (same_trans (changed_other s.nodes opener hangs n d)
           (changed_other a first ends n d')) (w'.others n d');
     }
 
@@ -84,45 +81,39 @@ pub record AreThere (nodes : List (Node Item)) (opener first : ℕ) : Type 0 whe
   pub first_within : first < length nodes
   pub apart : opener ≡ first → ⊥
 
-pub are_there : (source : List ℕ) (tables : Tables) (nodes : List (Node Item)) (opener closer : ℕ)
-    (inside skipped : List ℕ) (first : ℕ)
-    (shown : List ℕ) (byte : ℕ)
+pub are_there : {source : List ℕ} {tables : Tables} {nodes : List (Node Item)} {opener closer : ℕ} {inside : List ℕ}
+    {byte : ℕ} (skipped : List ℕ) (first : ℕ) (shown : List ℕ)
     → CanClose source tables nodes opener closer inside byte → inside ≡ skipped ++ first ∷ shown
     → AreThere nodes opener first
-are_there source tables nodes opener closer inside skipped first shown byte can inside_is =
+are_there {source} {tables} {nodes} {opener} {closer} {inside} {byte} skipped first shown can inside_is =
     let o = opens (links_of nodes) (IsPlaced source tables nodes) opener can.ready.reaches in
     let f = forest_at (links_of nodes) (sibling_of nodes opener) in
     let there : 0 < total (same first) (first_trees (length inside) f) =
     omega (
       arith,
       counted_among (same first) first skipped shown (first_trees (length inside) f)
-          (first_roots inside (closer ∷ can.after) f
-          can.follows ∙ inside_is),
+          (first_roots inside (closer ∷ can.after) f can.follows ∙ inside_is),
       same-refl first,
     ) in
     let parts = total_parts (same first) (length inside) f in
-    let once = stands_once source tables nodes opener closer inside byte can first in
+    let once = stands_once can first in
     record {
       within = o.within;
-      first_within = ⊎_elim (λ h. h) (λ h. absurd
-          (omega (
-            arith,
-            times-past (links_of nodes) (sibling_of nodes opener) f first o.after.spelled h,
-            there,
-            parts,
-          )))
-          (cases_lt first (length nodes));
+      first_within = ⊎_elim (λ h. h) (λ h. absurd (omega (
+        arith,
+        times-past (links_of nodes) (sibling_of nodes opener) f first o.after.spelled h,
+        there,
+        parts,
+      ))) (cases_lt first (length nodes));
       apart = λ e. let one : same first opener ≡ 1 = subst (λ (m : ℕ). same first m ≡ 1) (sym e) (same-refl first)
           in absurd (omega (arith, one, once, there, parts));
     }
 
 -- once the closer follows the opener, that is folded
 module _ (source : List ℕ) (tables t : Tables) (grown : HasGrown tables t) (old hung : List (Node Item))
-    (opener closer : ℕ)
-    (inside skipped : List ℕ) (first : ℕ) (shown : List ℕ)
+    (opener closer : ℕ) (inside skipped : List ℕ) (first : ℕ) (shown : List ℕ)
     (text : Item) (byte : ℕ) (can : CanClose source tables old opener closer inside byte)
-    (puts : CanPut source tables t text)
-    (names_nothing : (n : Named) → times_named n text.body ≡ 0)
+    (puts : CanPut source tables t text) (names_nothing : (n : Named) → times_named n text.body ≡ 0)
     (inside_is : inside ≡ skipped ++ first ∷ shown) where
   abbrev k : ℕ
   k = length inside
@@ -140,7 +131,7 @@ module _ (source : List ℕ) (tables t : Tables) (grown : HasGrown tables t) (ol
   counted count = counted_among count first skipped shown (first_trees k f) listed
 
   both : AreThere old opener first
-  both = are_there source tables old opener closer inside skipped first shown byte can inside_is
+  both = are_there skipped first shown can inside_is
 
   module _ (v : IsHungIn old hung opener first text) where
     folded_size : length folded ≡ length old
@@ -167,7 +158,7 @@ module _ (source : List ℕ) (tables t : Tables) (grown : HasGrown tables t) (ol
 
     first_once : (n : ℕ) → total (same n) (node first nil nil) ≤ 1
     first_once n =
-        let once = stands_once source tables old opener closer inside byte can n in
+        let once = stands_once can n in
         let parts = total_parts (same n) k f in
         let there = counted (same n) in
         omega (arith, once, parts, there)
@@ -181,37 +172,31 @@ module _ (source : List ℕ) (tables t : Tables) (grown : HasGrown tables t) (ol
       named = rw item_is (entries_of_none tables t text.body grown names_nothing puts.named);
       slices = rw item_is (slices-none source tables (origin_start source text.start) text.end text.body names_nothing);
       keeps = keeps-closed source (numbered folded first) (child_of folded first) (next_at folded first)
-          (rw item_is puts.closed)
-          (rw follows tt);
+          (rw item_is puts.closed) (rw follows tt);
     }
 
     other_same : (n : ℕ) → (n ≡ opener → ⊥) → (n ≡ first → ⊥) → IsSameAt old folded n
-    other_same n d d' = same_trans old hung folded n (v.others n d d')
-        (changed_other hung opener (λ n. record n { next = Some closer }) n
-        d)
+    other_same n d d' = same_trans (v.others n d d')
+        (changed_other hung opener (λ n. record n { next = Some closer }) n d)
 
     behind_same : (n : ℕ) → 0 < total (same n) (trees_past k f) → IsSameAt old folded n
     behind_same n l =
-        let once = stands_once source tables old opener closer inside byte can n in
+        let once = stands_once can n in
         let parts = total_parts (same n) k f in
         let there = counted (same n) in
-        other_same n
-        (λ e. let one : same n opener ≡ 1 = subst (λ (m : ℕ). same n m ≡ 1) e (same-refl n) in absurd
+        other_same n (λ e. let one : same n opener ≡ 1 = subst (λ (m : ℕ). same n m ≡ 1) e (same-refl n) in absurd
         (omega (arith, once, one, parts, l)))
         (λ e. let one : same n first ≡ 1 = subst (λ (m : ℕ). same n m ≡ 1) e (same-refl n)
         in absurd (omega (arith, once, one, there, parts, l)))
 
     outside_same : (n : ℕ) → n < length old → times_in old (Some opener) n ≡ 0 → IsSameAt old folded n
     outside_same n l z =
-        let none : same n opener + total (same n) f
-        ≡ 0 = (let x = rw (whole_childless source tables old opener closer inside byte can) at z
+        let none : same n opener + total (same n) f ≡ 0 = (let x = rw (whole_childless can) at z
         in omega arith) in
         let parts = total_parts (same n) k f in
         let there = counted (same n) in
-        other_same n
-        (λ e. let one : same n opener ≡ 1 = subst (λ (m : ℕ). same n m ≡ 1) e (same-refl n) in absurd
-        (omega (arith, none, one)))
-        (λ e. let one : same n first ≡ 1 = subst (λ (m : ℕ). same n m ≡ 1) e (same-refl n)
+        other_same n (λ e. let one : same n opener ≡ 1 = subst (λ (m : ℕ). same n m ≡ 1) e (same-refl n) in absurd
+        (omega (arith, none, one))) (λ e. let one : same n first ≡ 1 = subst (λ (m : ℕ). same n m ≡ 1) e (same-refl n)
         in absurd (omega (arith, none, one, there, parts)))
 
     name_folds : IsFolded source tables old folded opener closer k
@@ -238,8 +223,7 @@ module _ (source : List ℕ) (tables t : Tables) (grown : HasGrown tables t) (ol
     name_reads =
         let label : label_at source tables folded first ≡ label_of source t text =
         label_of_none source tables t folded first grown (λ n. rw item_is (names_nothing n))
-        ∙ ap (λ (x : Item). label_of source t x)
-        item_is in
+        ∙ ap (λ (x : Item). label_of source t x) item_is in
         rw (child_is, here, label) refl
 
     written : (mid : List (Node Item)) (item : Item) (next : Option ℕ) → IsWritten hung mid opener item next
@@ -257,27 +241,20 @@ module _ (source : List ℕ) (tables t : Tables) (grown : HasGrown tables t) (ol
 
 -- so a wikilink is put over its name
 pub name_puts : (source : List ℕ) (opener closer : ℕ) (item text : Item) (inside skipped : List ℕ) (first : ℕ)
-    (shown : List ℕ)
-    (rest : Rest) (old hung mid : List (Node Item)) (tables t : Tables)
+    (shown : List ℕ) (rest : Rest) (old hung mid : List (Node Item)) (tables t : Tables)
     → HasGrown tables t → CanClose source tables old opener closer inside item.end
-    → CanPutOver source tables t old opener item item.end
-    → CanPut source tables t text
+    → CanPutOver source tables t old opener item item.end → CanPut source tables t text
     → ((n : Named) → times_named n text.body ≡ 0) → inside ≡ skipped ++ first ∷ shown
     → IsHungIn old hung opener first text
     → IsRestPast old item.end (sibling_of old closer) rest → IsWritten hung mid opener item rest.next
     → PutsOver source opener closer inside (over_text source t item text) item.end (opener ∷ []) rest old
     (begun_from rest.next item.end mid) tables t
 name_puts source opener closer item text inside skipped first shown rest old hung mid tables t grown can over puts
-    names_nothing inside_is v
-    past w =
-    fold_puts source opener closer item item.end inside rest old (with_next opener (Some closer) hung) mid tables t
-    grown can over
+    names_nothing inside_is v past w =
+    fold_puts grown can over
     (name_folds source tables t grown old hung opener closer inside skipped first shown text item.end can puts
     names_nothing inside_is v)
-    past
-    (written source tables t grown old hung opener closer inside skipped first shown text item.end can puts
-    names_nothing inside_is v mid
-    item rest.next w)
-    (λ g. node (label_of source t text) nil nil)
+    past (written source tables t grown old hung opener closer inside skipped first shown text item.end can puts
+    names_nothing inside_is v mid item rest.next w) (λ g. node (label_of source t text) nil nil)
     (name_reads source tables t grown old hung opener closer inside skipped first shown text
     item.end can puts names_nothing inside_is v)

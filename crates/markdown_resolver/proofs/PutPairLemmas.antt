@@ -1,7 +1,6 @@
 -- Two items are put into the nodes of an opener and of what closes it: what is between them leaves the chain.
 use Rattle.std.proofs.Common.{◌≡◌, ℕ, suc, ◌<◌, ◌≤◌, true, false, List, [], ◌∷◌, ◌++◌, length, Option, Some, None, refl}
-use Rattle.std.proofs.Common.{sym, ap, ◌∙◌}
-use Rattle.std.proofs.Common.{subst, arith, nat_le}
+use Rattle.std.proofs.Common.{sym, ap, ◌∙◌, subst, arith, nat_le}
 use Rattle.std.proofs.lemmas.Bool.Decides.{nat_tests}
 use Rattle.std.specs.Prelude.{IfSome}
 use Rattle.std.specs.Option.{option_map}
@@ -29,26 +28,22 @@ use Rattle.markdown_document.proofs.TablesLemmas.{same-refl, grown-nothing, grow
 use Rattle.markdown_spans.specs.ChainInArena.{LeadsThrough}
 use Rattle.markdown_resolver.specs.Chains.{CanResolve}
 use Rattle.markdown_resolver.specs.Rewritten.{Rewrites, Puts, replaced, first_past, pair, IsFoundAt, IsRestPast}
-use Rattle.markdown_resolver.specs.Rewritten.{CanPutPair, MayBeCut}
-use Rattle.markdown_resolver.specs.Rewritten.{numbered_past_byte}
+use Rattle.markdown_resolver.specs.Rewritten.{CanPutPair, MayBeCut, numbered_past_byte}
 use Rattle.markdown_resolver.specs.declared.rest.Rest.{Rest}
 use Rattle.markdown_resolver.specs.Settling.{IsWritten, begun_from}
 use Rattle.markdown_resolver.proofs.ChainOrderLemmas.{StandsPast, AllPast, rest_past, leads_kept, leads_lower}
 use Rattle.markdown_resolver.proofs.ComposeLemmas.{Stands, stands_ready, Moves, changes_move, moves_none, moves_twice}
-use Rattle.markdown_resolver.proofs.ComposeLemmas.{first_leaves}
-use Rattle.markdown_resolver.proofs.ComposeLemmas.{HeadWritten, HeadMoved, After, head_moves, head_leaves, after_head}
+use Rattle.markdown_resolver.proofs.ComposeLemmas.{first_leaves, HeadWritten, HeadMoved, After, head_moves, head_leaves}
+use Rattle.markdown_resolver.proofs.ComposeLemmas.{after_head}
 use Rattle.markdown_resolver.proofs.PastByteLemmas.{passes_past, tree_same}
 use Rattle.markdown_resolver.proofs.PutLemmas.{leaves_rest, whole_put, ClosesAt, before_closed, runs_closed}
-use Rattle.markdown_resolver.proofs.PutLemmas.{no_run_here, first_kept}
-use Rattle.markdown_resolver.proofs.PutLemmas.{first_there, rest_same, rest_within, RestPast, rest_past_is}
-use Rattle.markdown_resolver.proofs.PutLemmas.{rewrites_none, next_from}
-use Rattle.markdown_resolver.proofs.PutLemmas.{over_numbers}
+use Rattle.markdown_resolver.proofs.PutLemmas.{no_run_here, first_kept, first_there, rest_same, rest_within, RestPast}
+use Rattle.markdown_resolver.proofs.PutLemmas.{rest_past_is, rewrites_none, next_from, over_numbers}
 use Rattle.markdown_resolver.proofs.PutFoundLemmas.{closed_head, none_below}
 
 -- of numbers past a number, one that is among them
 pub past_at : (nodes : List (Node Item)) (low byte n : ℕ) (before after : List ℕ)
-    → AllPast nodes low byte (before ++ n ∷ after)
-    → StandsPast nodes low byte n
+    → AllPast nodes low byte (before ++ n ∷ after) → StandsPast nodes low byte n
 past_at nodes low byte n [] after h = h.0
 past_at nodes low byte n (m ∷ before) after h = past_at nodes low byte n before after h.1
 
@@ -68,23 +63,19 @@ leads_on nodes i ix low (a ∷ after) le h =
     let ends : a.item.end ≤ i = rw item at le in
     let test : nat_le a.item.end i ≡ true = grind (arith, nat_tests, ends) in
     let go : LeadsThrough nodes (suc a.number) (sibling_of nodes ix) after = subst
-    (λ (n : ℕ). LeadsThrough nodes (suc a.number)
-    (sibling_of nodes n) after) (sym is) h.4 in
+    (λ (n : ℕ). LeadsThrough nodes (suc a.number) (sibling_of nodes n) after) (sym is) h.4 in
     record {
       rest = after;
       leads = leads_lower nodes low (suc a.number) (sibling_of nodes ix) after (omega (arith, least)) go;
-      same_left =
-          rw test refl;
+      same_left = rw test refl;
     }
 
 leads_further : (nodes : List (Node Item)) (i low : ℕ) (l l' : Option ℕ) (chain : List Numbered)
-    → (d : LeadsOn nodes i low l chain)
-    → LeadsOn nodes i low l' d.rest → LeadsOn nodes i low l' chain
+    → (d : LeadsOn nodes i low l chain) → LeadsOn nodes i low l' d.rest → LeadsOn nodes i low l' chain
 leads_further nodes i low l l' chain d e = record {
   rest = e.rest;
   leads = e.leads;
-  same_left = d.same_left
-      ∙ e.same_left;
+  same_left = d.same_left ∙ e.same_left;
 }
 
 -- the chain from a link on goes on to an item, past which nothing is left that ended at its end or before
@@ -107,8 +98,7 @@ record Skipped (source : List ℕ) (tables : Tables) (nodes : List (Node Item)) 
       ≡ past_byte i (trees_from source tables nodes (sibling_of nodes ix))
 
 skipped : (source : List ℕ) (tables : Tables) (nodes : List (Node Item)) (i ix : ℕ)
-    → Stands source tables nodes (Some ix)
-    → (item_at nodes ix).end ≤ i → Skipped source tables nodes i ix
+    → Stands source tables nodes (Some ix) → (item_at nodes ix).end ≤ i → Skipped source tables nodes i ix
 skipped source tables nodes i ix s le =
     let o = opens (links_of nodes) (IsPlaced source tables nodes) ix s.reaches in
     let test : nat_le (item_at nodes ix).end i ≡ true = grind (arith, nat_tests, le) in
@@ -116,22 +106,19 @@ skipped source tables nodes i ix s le =
 
 -- what is left of a chain can be resolved
 pub ready_next : (source : List ℕ) (tables : Tables) (nodes : List (Node Item)) (ix : ℕ)
-    → CanResolve source tables nodes (Some ix)
-    → CanResolve source tables nodes (sibling_of nodes ix)
+    → CanResolve source tables nodes (Some ix) → CanResolve source tables nodes (sibling_of nodes ix)
 ready_next source tables nodes ix ready =
     let o = opens (links_of nodes) (IsPlaced source tables nodes) ix ready.reaches in
-    let s = (first_leaves source ix nodes tables (stands_ready source tables nodes (Some ix) ready)).stands in
+    let s = (first_leaves (stands_ready ready)).stands in
     record {
       reaches = s.reaches;
       once = s.once;
       named_once = s.named_once;
-      quiet_below
-          = (rw o.here at ready.quiet_below).2;
+      quiet_below = (rw o.here at ready.quiet_below).2;
     }
 
 pub skips : (source : List ℕ) (tables : Tables) (nodes : List (Node Item)) (i closer : ℕ) (before after : List ℕ)
-    (l : Option ℕ)
-    → CanResolve source tables nodes l
+    (l : Option ℕ) → CanResolve source tables nodes l
     → roots (forest_at (links_of nodes) l) ≡ before ++ closer ∷ after → i ≡ (item_at nodes closer).end
     → Skips source tables nodes i l closer
 skips source tables nodes i closer before after None ready e end = no_chain before
@@ -143,17 +130,14 @@ skips source tables nodes i closer before after None ready e end = no_chain befo
 skips source tables nodes i closer [] after (Some ix) ready e end =
     let o = opens (links_of nodes) (IsPlaced source tables nodes) ix ready.reaches in
     let all : ix ∷ roots (forest_at (links_of nodes) (sibling_of nodes ix))
-    ≡ closer ∷ after = sym (ap (λ (f : Forest ℕ). roots f) o.here)
-    ∙ e in
+    ≡ closer ∷ after = sym (ap (λ (f : Forest ℕ). roots f) o.here) ∙ e in
     let is : closer ≡ ix = cc all in
     let here = subst (λ (n : ℕ). i ≡ (item_at nodes n).end) is end in
-    let s = skipped source tables nodes i ix (stands_ready source tables nodes (Some ix) ready) (omega (arith, here)) in
-    subst (λ (n : ℕ). Skips source tables nodes i (Some ix) n) (sym is)
-    (record {
-      moves = moves_none source (Some ix) nodes tables (stands_ready source tables nodes (Some ix) ready);
+    let s = skipped source tables nodes i ix (stands_ready ready) (omega (arith, here)) in
+    subst (λ (n : ℕ). Skips source tables nodes i (Some ix) n) (sym is) (record {
+      moves = moves_none (stands_ready ready);
       ready = ready;
-      first =
-          s.first;
+      first = s.first;
       reads = s.reads;
       leads = λ low chain h. leads_on nodes i ix low chain (omega (arith, here)) h;
     })
@@ -164,17 +148,15 @@ skips source tables nodes i closer (n ∷ before) after (Some ix) ready e end =
     let rest : roots (forest_at (links_of nodes) (sibling_of nodes ix)) ≡ before ++ closer ∷ after = cc all in
     let r = skips source tables nodes i closer before after (sibling_of nodes ix)
     (ready_next source tables nodes ix ready) rest end in
-    let past : AllPast nodes ix (item_at nodes ix).end (before ++ closer ∷ after) = rw rest at
-    (rest_past source tables nodes ix ready) in
+    let past : AllPast nodes ix (item_at nodes ix).end (before ++ closer ∷ after) = rw rest at (rest_past ready) in
     let at = past_at nodes ix (item_at nodes ix).end closer before after past in
     let starts = at.start in
     let ordered = (opens (links_of nodes) (IsPlaced source tables nodes) closer r.ready.reaches).holds.lies.ordered in
-    let stands = stands_ready source tables nodes (Some ix) ready in
+    let stands = stands_ready ready in
     let ends : (item_at nodes ix).end ≤ i = omega (arith, end, starts, ordered) in
     let s = skipped source tables nodes i ix stands ends in
     record {
-      moves = moves_twice source (Some ix) (sibling_of nodes ix) (Some closer) nodes nodes nodes tables tables tables
-          (first_leaves source ix nodes tables stands) r.moves;
+      moves = moves_twice (first_leaves stands) r.moves;
       ready = r.ready;
       first = s.first ∙ r.first;
       reads = s.reads ∙ r.reads;
@@ -190,8 +172,7 @@ none_named size None h = tt
 none_named size (Some n) h = let z = h n in let one = same-refl n in absurd (omega arith)
 
 pub entries_of_none : (tables t : Tables) (b : ItemBody) → HasGrown tables t → ((n : Named) → times_named n b ≡ 0)
-    → NamesEntries t b
-    → NamesEntries tables b
+    → NamesEntries t b → NamesEntries tables b
 entries_of_none tables t b grown h e = record {
   text = none_named (length tables.cows) _ (λ n. h (some_text n));
   link = none_named (length tables.links) _ (λ n. h (some_link n));
@@ -226,14 +207,12 @@ pair_begun source ix closer first second old mid tables t grown finds can v =
     let h = closed_head source ix first old mid tables tables (grown-nothing tables) opener.closed opener.lies
     (entries_of_none tables t first.body grown can.names_nothing opener.named)
     (slices-none source tables first.start first.end first.body can.names_nothing) (λ n k. can.names_nothing n)
-    v.item_is (omega (arith, size))
-    (λ n k d. v.others n d) in
-    let a = after_head source ix old mid tables tables (stands_ready source tables old (Some ix) finds.ready) h in
+    v.item_is (omega (arith, size)) (λ n k d. v.others n d) in
+    let a = after_head (stands_ready finds.ready) h in
     let listed : roots (forest_at (links_of mid) l) ≡ can.before ++ closer ∷ can.after = ap (λ (f : Forest ℕ). roots f)
-    a.rest.forest
-    ∙ can.follows in
+    a.rest.forest ∙ can.follows in
     let past : AllPast old ix (item_at old ix).end (can.before ++ closer ∷ can.after) = rw can.follows at
-    (rest_past source tables old ix finds.ready) in
+    (rest_past finds.ready) in
     let number : ix < closer = (past_at old ix (item_at old ix).end closer can.before can.after past).number in
     let same_closer = v.others closer (λ e. absurd (omega (arith, number, e))) in
     let end : second.end ≡ (item_at mid closer).end = can.ends ∙ ap (λ (x : Item). x.end) (sym same_closer.item) in
@@ -242,20 +221,17 @@ pair_begun source ix closer first second old mid tables t grown finds can v =
       reaches = a.stands.reaches;
       once = a.stands.once;
       named_once = a.stands.named_once;
-      quiet_below = rw a.rest.trees
-          (rw a.here at finds.ready.quiet_below).2;
+      quiet_below = rw a.rest.trees (rw a.here at finds.ready.quiet_below).2;
     } in
     record {
       head = h;
       number = number;
-      skips = skips source tables mid second.end closer can.before can.after l ready
-          listed end;
+      skips = skips source tables mid second.end closer can.before can.after l ready listed end;
     }
 
 -- the closer is written too, and what is left begins at its end
-module _ (source : List ℕ) (ix closer : ℕ) (first second : Item) (rest : Rest) (old mid last : List (Node Item))
-    (tables t : Tables)
-    (grown : HasGrown tables t)
+module _ {source : List ℕ} {ix closer : ℕ} {first second : Item} {rest : Rest} {old mid last : List (Node Item)}
+    {tables t : Tables} (grown : HasGrown tables t)
     (finds : IsFoundAt source tables old ix second.end) (can : CanPutPair source tables t old ix closer first second)
     (past : IsRestPast old second.end (sibling_of old ix) rest) (v : IsWritten old mid ix first (Some closer))
     (w : IsWritten mid last closer second rest.next) where
@@ -272,10 +248,10 @@ module _ (source : List ℕ) (ix closer : ℕ) (first second : Item) (rest : Res
   begun = pair_begun source ix closer first second old mid tables t grown finds can v
 
   opener_stands : Stands source tables old (Some ix)
-  opener_stands = stands_ready source tables old (Some ix) finds.ready
+  opener_stands = stands_ready finds.ready
 
   opener_after : After source ix old mid tables tables
-  opener_after = after_head source ix old mid tables tables opener_stands begun.head
+  opener_after = after_head opener_stands begun.head
 
   opener_closed : is_open (item_at mid ix).body ≡ false
   opener_closed = let closed = can.puts_first.closed in rw v.item_is closed
@@ -285,20 +261,18 @@ module _ (source : List ℕ) (ix closer : ℕ) (first second : Item) (rest : Res
     was_open = finds.was_open;
     was_no_run = finds.no_run;
     closed = opener_closed;
-    starts = rw
-        v.item_is can.starts;
+    starts = rw v.item_is can.starts;
   }
 
   closer_stands : Stands source tables mid (Some closer)
-  closer_stands = stands_ready source tables mid (Some closer) begun.skips.ready
+  closer_stands = stands_ready begun.skips.ready
 
   closer_head : HeadWritten source closer mid last tables t
   closer_head =
       let puts = can.puts_second in
       let size = w.size in
       closed_head source closer second mid last tables t grown puts.closed puts.lies puts.named puts.slices
-      puts.new_names w.item_is
-      (omega (arith, size)) (λ n k d. w.others n d)
+      puts.new_names w.item_is (omega (arith, size)) (λ n k d. w.others n d)
 
   closer_closed : is_open (item_at last closer).body ≡ false
   closer_closed = let closed = can.puts_second.closed in rw w.item_is closed
@@ -311,9 +285,7 @@ module _ (source : List ℕ) (ix closer : ℕ) (first second : Item) (rest : Res
 
   -- no open item has bytes both before and after that end
   items_same : (n : ℕ) → 0 < times_in old l n → item_at mid n ≡ item_at old n
-  items_same n z = (rest_same source ix old mid tables tables opener_stands begun.head n
-      (rest_within source ix old mid tables tables
-      opener_stands begun.head n z) z).item
+  items_same n z = (rest_same opener_stands begun.head n (rest_within opener_stands begun.head n z) z).item
 
   link : next ≡ first_past mid second.end (roots (forest_at (links_of mid) (sibling_of mid closer)))
   link =
@@ -327,9 +299,7 @@ module _ (source : List ℕ) (ix closer : ℕ) (first second : Item) (rest : Res
   left : RestPast source closer second.end mid last tables t next
   left =
       rest_past_is source closer second.end mid last tables t next (item_at mid closer).end closer_stands closer_head
-      link
-      (rest_past source tables mid closer begun.skips.ready) between
-      can.puts_second.lies.end
+      link (rest_past begun.skips.ready) between can.puts_second.lies.end
 
   left_reads : trees_from source t place next ≡ past_byte second.end (trees_from source tables old l)
   left_reads = left.reads ∙ sym begun.skips.reads ∙ ap (λ (f : Forest Plain). past_byte second.end f)
@@ -339,11 +309,8 @@ module _ (source : List ℕ) (ix closer : ℕ) (first second : Item) (rest : Res
   second_moves : (rule : Forest Plain → Forest Plain) (new : List (Node Item)) (later : Tables)
       → Rewrites source rule next place new t later → HeadMoved source closer mid last new tables t later
   second_moves rule new later r =
-      let m = moves_twice source (sibling_of mid closer) next next last place new t t later left.moves
-      (changes_move source next place new t later r.changes) in
-      let b = none_below source closer mid last new tables t later next closer_stands closer_head m closer_was_open
-      closer_closed w.child_is
-      in
+      let m = moves_twice left.moves (changes_move r.changes) in
+      let b = none_below closer_stands closer_head m closer_was_open closer_closed w.child_is in
       let ends : (item_at last closer).end ≤ second.end = rw w.item_is (omega arith) in
       let follows = r.changes.before (numbered last closer) (left.follows (numbered last closer) refl ends) in
       head_moves source closer mid last new tables t later closer_stands closer_head (rw w.next_is m) b.below
@@ -351,18 +318,13 @@ module _ (source : List ℕ) (ix closer : ℕ) (first second : Item) (rest : Res
       (no_run_here source (numbered last closer) (option_map (numbered new) (sibling_of last closer)) closer_closed)
 
   second_reads : (rule : Forest Plain → Forest Plain) (new : List (Node Item)) (later : Tables)
-      → Rewrites source rule next place new t later
-      → trees_from source later new (Some closer)
+      → Rewrites source rule next place new t later → trees_from source later new (Some closer)
       ≡ node (label_of source t second) nil (rule (past_byte second.end (trees_from source tables old l)))
   second_reads rule new later r =
-      let m = moves_twice source (sibling_of mid closer) next next last place new t t later left.moves
-      (changes_move source next place new t later r.changes) in
-      let b = none_below source closer mid last new tables t later next closer_stands closer_head m closer_was_open
-      closer_closed w.child_is
-      in
+      let m = moves_twice left.moves (changes_move r.changes) in
+      let b = none_below closer_stands closer_head m closer_was_open closer_closed w.child_is in
       let after = ap (λ (x : Option ℕ). trees_from source later new x) w.next_is ∙ r.rewritten ∙ ap rule left_reads in
-      (second_moves rule new later r).trees ∙ tree_same _ _ _ _ _ _ (ap (λ x. label_of source t x) w.item_is) b.reads
-      after
+      (second_moves rule new later r).trees ∙ tree_same (ap (λ x. label_of source t x) w.item_is) b.reads after
 
   -- and the first before that
   whole_pair : (rule : Forest Plain → Forest Plain) (new : List (Node Item)) (later : Tables)
@@ -370,11 +332,8 @@ module _ (source : List ℕ) (ix closer : ℕ) (first second : Item) (rest : Res
       → Rewrites source (replaced (pair source t first second) (Some second.end) rule) (Some ix) old new tables later
   whole_pair rule new later r =
       let second_moved = second_moves rule new later r in
-      let m = moves_twice source l (Some closer) (Some closer) mid mid new tables tables later begun.skips.moves
-      second_moved.moves in
-      let b = none_below source ix old mid new tables tables later (Some closer) opener_stands begun.head m
-      finds.was_open opener_closed
-      v.child_is in
+      let m = moves_twice begun.skips.moves second_moved.moves in
+      let b = none_below opener_stands begun.head m finds.was_open opener_closed v.child_is in
       let follows : ComesBefore (numbered mid ix) (Some (numbered new closer)) =
       λ x y. record { ends = rw (v.item_is, second_moved.item, w.item_is) can.in_order; numbers = begun.number } in
       let hm = head_moves source ix old mid new tables tables later opener_stands begun.head (rw v.next_is m) b.below
@@ -386,12 +345,12 @@ module _ (source : List ℕ) (ix closer : ℕ) (first second : Item) (rest : Res
       whole_put source ix old mid new tables tables later (pair source t first second) (Some second.end) rule
       finds.ready begun.head hm
       (λ x stands. before_closed ix old mid x opener_closes stands) (runs_closed source ix old mid opener_closes)
-      (tree_same _ _ _ _ _ _ label b.reads after)
+      (tree_same label b.reads after)
 
   -- both are in the chain
   pair_numbers : roots (forest_at (links_of place) (Some ix)) ≡ ix ∷ closer ∷ roots (forest_at (links_of place) next)
   pair_numbers =
-      let none = rewrites_none source next place t left.moves.stands in
+      let none = rewrites_none left.moves.stands in
       let all = whole_pair (λ f. f) place t none in
       let second_moved = second_moves (λ f. f) place t none in
       let number = begun.number in
@@ -406,15 +365,13 @@ module _ (source : List ℕ) (ix closer : ℕ) (first second : Item) (rest : Res
   pair_puts = record {
     whole = whole_pair;
     leaves =
-        let m = moves_twice source (Some closer) (sibling_of mid closer) next mid last place tables t t
-        (head_leaves source closer mid last tables t closer_stands closer_head) left.moves in
+        let m = moves_twice (head_leaves closer_stands closer_head) left.moves in
         leaves_rest source ix old mid place tables tables t next (Some second.end) finds.ready begun.head
-        (moves_twice source l (Some closer) next mid mid place tables tables t begun.skips.moves m) left_reads;
+        (moves_twice begun.skips.moves m) left_reads;
     passes = passes_past source tables t old place ix second.end rest opener_stands past left_reads;
     leads = λ low chain e.
         let kept = leads_kept old mid l (forest_at (links_of old) l) low chain opener_after.after.spelled
-        begun.head.more
-        (λ n x z. rest_same source ix old mid tables tables opener_stands begun.head n x z) e in
+        begun.head.more (λ n x z. rest_same opener_stands begun.head n x z) e in
         let d = begun.skips.leads low chain kept in
         rw d.same_left (left.leads low d.rest d.leads);
     standing = ix ∷ closer ∷ [];

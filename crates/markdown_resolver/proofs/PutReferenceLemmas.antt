@@ -32,14 +32,12 @@ use Rattle.markdown_resolver.proofs.FoldLemmas.{behind_is, next_behind, stands_o
 use Rattle.markdown_resolver.proofs.PastByteLemmas.{tree_same}
 use Rattle.markdown_resolver.proofs.PutLemmas.{rewrites_none, next_from, over_numbers}
 use Rattle.markdown_resolver.proofs.PutLinkLemmas.{HeadPut, head_put, head_stands, first_no_block, before_text}
-use Rattle.markdown_resolver.proofs.PutLinkLemmas.{runs_text, over_leaves}
-use Rattle.markdown_resolver.proofs.PutLinkLemmas.{behind_leads}
+use Rattle.markdown_resolver.proofs.PutLinkLemmas.{runs_text, over_leaves, behind_leads}
 use Rattle.markdown_resolver.proofs.PutPairLemmas.{Skips, skips, ready_next}
 
 -- what is inside, and the closer, are not left past the closer's end
-module _ (source : List ℕ) (tables : Tables) (old : List (Node Item)) (opener closer byte : ℕ) (inside : List ℕ)
-    (can : CanClose source tables old opener closer inside byte)
-    (ends : byte ≡ (item_at old closer).end) where
+module _ {source : List ℕ} {tables : Tables} {old : List (Node Item)} {opener closer byte : ℕ} {inside : List ℕ}
+    (can : CanClose source tables old opener closer inside byte) (ends : byte ≡ (item_at old closer).end) where
   abbrev many : ℕ
   many = length inside
 
@@ -55,21 +53,17 @@ module _ (source : List ℕ) (tables : Tables) (old : List (Node Item)) (opener 
 
   pub past_inside : past_byte byte trees ≡ past_byte byte (trees_past (suc many) trees)
   past_inside =
-      skipped_there.reads
-      ∙ ap (λ (g : Forest ℕ). past_byte byte (relabelled (label_at source tables old) g))
-      (behind_is source tables old opener closer inside byte can)
+      skipped_there.reads ∙ ap (λ (g : Forest ℕ). past_byte byte (relabelled (label_at source tables old) g))
+      (behind_is can)
       ∙ ap (λ (g : Forest Plain). past_byte byte g) (read_past (label_at source tables old) (suc many) numbers)
 
   pub first_behind : first_past old byte (roots numbers) ≡ first_past old byte can.after
-  first_behind = skipped_there.first ∙ sym (next_behind source tables old opener closer inside byte can)
+  first_behind = skipped_there.first ∙ sym (next_behind can)
 
 -- an opener is written in place of what is inside
-module _ (source : List ℕ) (opener closer : ℕ) (item : Item) (inside : List ℕ) (old : List (Node Item))
-    (tables t : Tables)
-    (grown : HasGrown tables t)
-    (can : CanClose source tables old opener closer inside item.end)
-    (over : CanPutOver source tables t old opener item item.end)
-    (ends : item.end ≡ (item_at old closer).end) where
+module _ {source : List ℕ} {opener closer : ℕ} {item : Item} {inside : List ℕ} {old : List (Node Item)}
+    {tables t : Tables} (grown : HasGrown tables t) (can : CanClose source tables old opener closer inside item.end)
+    (over : CanPutOver source tables t old opener item item.end) (ends : item.end ≡ (item_at old closer).end) where
   abbrev k : ℕ
   k = length inside
 
@@ -80,13 +74,13 @@ module _ (source : List ℕ) (opener closer : ℕ) (item : Item) (inside : List 
   chain = trees_from source tables old (sibling_of old opener)
 
   stands : Stands source tables old (Some opener)
-  stands = stands_ready source tables old (Some opener) can.ready
+  stands = stands_ready can.ready
 
   whole : forest_at (links_of old) (Some opener) ≡ node opener nil f
-  whole = whole_childless source tables old opener closer inside item.end can
+  whole = whole_childless can
 
   behind_reads : past_byte item.end chain ≡ past_byte item.end (trees_past (suc k) chain)
-  behind_reads = past_inside source tables old opener closer item.end inside can ends
+  behind_reads = past_inside can ends
 
   module _ (rest : Rest) (mid : List (Node Item)) (past : IsRestPast old item.end (sibling_of old closer) rest)
       (w : IsWritten old mid opener item rest.next) where
@@ -97,16 +91,13 @@ module _ (source : List ℕ) (opener closer : ℕ) (item : Item) (inside : List 
     place = begun_from next item.end mid
 
     next_first : first_past old item.end can.after ≡ next
-    next_first = next_behind source tables old opener closer inside item.end can ∙ sym past.next_is
+    next_first = next_behind can ∙ sym past.next_is
 
     puts : HeadPut source opener item.end item next old mid tables t
     puts =
         head_put source opener item.end item next old mid tables t grown stands over.puts over.ends w
-        (item_at old opener).end
-        (rest_past source tables old opener can.ready)
-        (sym (first_behind source tables old opener closer item.end inside can ends ∙ next_first))
-        (λ n e. can.between n (next_first ∙ e))
-        can.boundary
+        (item_at old opener).end (rest_past can.ready)
+        (sym (first_behind can ends ∙ next_first)) (λ n e. can.between n (next_first ∙ e)) can.boundary
 
     none_inside : trees_from source tables old (child_of old opener) ≡ nil
     none_inside = rw (can.childless, forest_at-none (links_of old)) refl
@@ -115,37 +106,34 @@ module _ (source : List ℕ) (opener closer : ℕ) (item : Item) (inside : List 
         → Rewrites source rule next place new t later
         → Rewrites source (closed_over k (in_place_of source t item) item.end rule) (Some opener) old new tables later
     reference_whole rule new later r =
-        let h = head_stands source opener item.end item next old mid tables t stands w.child_is puts rule new later r in
+        let h = head_stands stands w.child_is puts rule new later r in
         let item_is : item_at new opener ≡ item = h.moved.item ∙ puts.item_is in
         record {
-          changes = moves_change source (Some opener) old new tables later h.moved.moves
+          changes = moves_change h.moved.moves
               (λ a before. before_text opener old new a (first_no_block source tables old opener can.ready)
-              (rw item_is over.starts)
-              before);
+              (rw item_is over.starts) before);
           runs = runs_text source opener old new can.opener_closed (rw item_is puts.closed);
-          rewritten = h.reads ∙ tree_same _ _ _ _ _ _ refl none_inside (ap rule behind_reads) ∙ rw whole refl;
+          rewritten = h.reads ∙ tree_same refl none_inside (ap rule behind_reads) ∙ rw whole refl;
         }
 
     left_moves : Moves source (Some opener) next old place tables t
-    left_moves = moves_twice source (Some opener) (sibling_of old opener) next old mid place tables t t
-        (head_leaves source opener old mid tables t stands puts.head) puts.rest.moves
+    left_moves = moves_twice (head_leaves stands puts.head) puts.rest.moves
 
     reference_leaves : LeavesRest source opener next old place t
     reference_leaves =
-        let a = after_head source opener old mid tables t stands puts.head in
+        let a = after_head stands puts.head in
         let two : 2 ≤ weight_at old opener = some_weight (is_open (item_at old opener).body) in
         let all : weight_in old (Some opener) ≡ weight_at old opener + (0 + weight_in old (sibling_of old opener)) =
         ap (λ (g : Forest ℕ). total (weight_at old) g) whole in
         let rest : weight_in place next ≤ weight_in old (sibling_of old opener) = rw (← a.rest.weight)
         puts.rest.moves.no_heavier in
         over_leaves source opener (suc k) item.end next old place tables t f can.ready whole left_moves
-        (omega (arith, two, all, rest))
-        (puts.rest.reads ∙ behind_reads)
+        (omega (arith, two, all, rest)) (puts.rest.reads ∙ behind_reads)
 
     behind_same : (n : ℕ) → 0 < total (same n) (trees_past (suc k) f) → IsSameAt old mid n
     behind_same n l =
         let parts = total_parts (same n) (suc k) f in
-        let once = stands_once source tables old opener closer inside item.end can n in
+        let once = stands_once can n in
         w.others n (λ q. let self : same n opener ≡ 1 = subst (λ (m : ℕ). same n m ≡ 1) q (same-refl n)
         in absurd (omega (arith, once, self, parts, l)))
 
@@ -155,13 +143,12 @@ module _ (source : List ℕ) (opener closer : ℕ) (item : Item) (inside : List 
         let size = w.size in
         behind_leads old mid opener closer item.end inside can.after next f can.follows
         (opens (links_of old) (IsPlaced source tables old)
-        opener can.ready.reaches).after.spelled
-        (omega (arith, size)) behind_same next_first
+        opener can.ready.reaches).after.spelled (omega (arith, size)) behind_same next_first
 
     reference_numbers : roots (forest_at (links_of place) (Some opener))
         ≡ opener ∷ roots (forest_at (links_of place) next)
     reference_numbers =
-        let r = reference_whole (λ g. g) place t (rewrites_none source next place t left_moves.stands) in
+        let r = reference_whole (λ g. g) place t (rewrites_none left_moves.stands) in
         over_numbers source opener next place t r.changes.reaches (next_from mid next item.end opener ∙ w.next_is)
 
     -- so the item replaces what was found
@@ -173,6 +160,5 @@ module _ (source : List ℕ) (opener closer : ℕ) (item : Item) (inside : List 
           leaves = reference_leaves;
           past = past;
           leads = reference_leads;
-          numbers
-              = reference_numbers;
+          numbers = reference_numbers;
         }

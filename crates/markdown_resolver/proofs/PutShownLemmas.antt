@@ -1,7 +1,6 @@
 -- A wikilink is put into the node of its opener, with what is inside from a byte offset on below it.
 use Rattle.std.proofs.Common.{◌≡◌, ℕ, ◌+◌, ◌-◌, ◌<◌, ◌≤◌, max, false, List, [], ◌∷◌, ◌++◌, length, Option, Some, None}
-use Rattle.std.proofs.Common.{refl, sym, ap, ◌∙◌}
-use Rattle.std.proofs.Common.{subst, ⊎_elim, arith, nat_le, true}
+use Rattle.std.proofs.Common.{refl, sym, ap, ◌∙◌, subst, ⊎_elim, arith, nat_le, true}
 use Rattle.std.proofs.lemmas.Bool.{cases_eq, cases_lt}
 use Rattle.std.proofs.lemmas.Bool.Decides.{nat_tests}
 use Rattle.std.specs.Prelude.{IsCharBoundary}
@@ -27,15 +26,14 @@ use Rattle.markdown_document.proofs.FrameLemmas.{Framed, framed, stay_throughout
 use Rattle.markdown_document.proofs.PlaceLemmas.{times-past, named-past}
 use Rattle.markdown_document.proofs.TablesLemmas.{same-refl, same_entry-refl, grown-longer, grown-nothing}
 use Rattle.markdown_resolver.specs.ClosedOver.{first_trees, trees_past, last_inside, over_shown, CanClose, CanPutOver}
-use Rattle.markdown_resolver.specs.ClosedOver.{CanShow, PutsOver}
-use Rattle.markdown_resolver.specs.ClosedOver.{IsEnclosed}
+use Rattle.markdown_resolver.specs.ClosedOver.{CanShow, PutsOver, IsEnclosed}
 use Rattle.markdown_resolver.specs.Rewritten.{IsRestPast, begun_item}
 use Rattle.markdown_resolver.specs.declared.rest.Rest.{Rest}
 use Rattle.markdown_resolver.specs.Settling.{IsWritten, begun_from}
 use Rattle.markdown_resolver.proofs.ComposeLemmas.{same_trans, Stands, Moves, moves_none, moves_twice, first_leaves}
 use Rattle.markdown_resolver.proofs.EncloseLemmas.{with_child, inside_forest, inside_reads, total_parts}
-use Rattle.markdown_resolver.proofs.FoldLemmas.{IsFolded, enclosed_folds, counted_among, first_roots}
-use Rattle.markdown_resolver.proofs.FoldLemmas.{stands_once, whole_childless}
+use Rattle.markdown_resolver.proofs.FoldLemmas.{IsFolded, enclosed_folds, counted_among, first_roots, stands_once}
+use Rattle.markdown_resolver.proofs.FoldLemmas.{whole_childless}
 use Rattle.markdown_resolver.proofs.NodeChangeLemmas.{changed_other, changed_here}
 use Rattle.markdown_resolver.proofs.PastByteLemmas.{Begun, Dropped, begun_is, first_begun}
 use Rattle.markdown_resolver.proofs.PutLinkLemmas.{fold_puts}
@@ -43,66 +41,54 @@ use Rattle.markdown_document.proofs.OriginLemmas.{slices_past_pipe}
 
 -- the first of a chain leave it, up to a node
 drops : (source : List ℕ) (tables : Tables) (nodes : List (Node Item)) (skipped : List ℕ) (first : ℕ) (shown : List ℕ)
-    (l : Option ℕ)
-    → Stands source tables nodes l
-    → roots (forest_at (links_of nodes) l) ≡ skipped ++ first ∷ shown
+    (l : Option ℕ) → Stands source tables nodes l → roots (forest_at (links_of nodes) l) ≡ skipped ++ first ∷ shown
     → Dropped source tables nodes l (Some first) (trees_past (length skipped) (trees_from source tables nodes l))
 drops source tables nodes skipped first shown None s e = no_chain skipped
     (sym (ap (λ (f : Forest ℕ). roots f) (forest_at-none (links_of nodes))) ∙ e)
   where
-    no_chain : (xs : List ℕ) → [] ≡ xs ++ first ∷ shown
-        → Dropped source tables nodes None (Some first)
+    no_chain : (xs : List ℕ) → [] ≡ xs ++ first ∷ shown → Dropped source tables nodes None (Some first)
         (trees_past (length skipped) (trees_from source tables nodes None))
     no_chain [] h = cc h
     no_chain (x ∷ xs) h = cc h
 drops source tables nodes [] first shown (Some ix) s e =
     let o = opens (links_of nodes) (IsPlaced source tables nodes) ix s.reaches in
     let all : ix ∷ roots (forest_at (links_of nodes) (sibling_of nodes ix))
-    ≡ first ∷ shown = sym (ap (λ (f : Forest ℕ). roots f) o.here)
-    ∙ e in
+    ≡ first ∷ shown = sym (ap (λ (f : Forest ℕ). roots f) o.here) ∙ e in
     let is : ix ≡ first = cc all in
     subst (λ (n : ℕ). Dropped source tables nodes (Some ix) (Some n) (trees_from source tables nodes (Some ix))) is
-    (record { moves = moves_none source (Some ix) nodes tables s; reads = refl })
+    (record { moves = moves_none s; reads = refl })
 drops source tables nodes (x ∷ skipped) first shown (Some ix) s e =
     let o = opens (links_of nodes) (IsPlaced source tables nodes) ix s.reaches in
     let all : ix ∷ roots (forest_at (links_of nodes) (sibling_of nodes ix)) ≡ x ∷ (skipped ++ first ∷ shown) =
     sym (ap (λ (f : Forest ℕ). roots f) o.here) ∙ e in
-    let leaves = first_leaves source ix nodes tables s in
+    let leaves = first_leaves s in
     let d = drops source tables nodes skipped first shown (sibling_of nodes ix) leaves.stands (cc all) in
     record {
-      moves = moves_twice source (Some ix) (sibling_of nodes ix) (Some first) nodes nodes nodes tables tables tables
-          leaves d.moves;
+      moves = moves_twice leaves d.moves;
       reads = rw o.here d.reads;
     }
 
 -- the first item of a chain begins at a byte offset, which has to be between characters only if it cuts the item
 begun_there : (source : List ℕ) (tables : Tables) (nodes : List (Node Item)) (ix i : ℕ)
-    → Stands source tables nodes (Some ix)
-    → ((item_at nodes ix).start < i → IsCharBoundary source i)
+    → Stands source tables nodes (Some ix) → ((item_at nodes ix).start < i → IsCharBoundary source i)
     → i < (item_at nodes ix).end → ((item_at nodes ix).start < i → is_open (item_at nodes ix).body ≡ false)
     → follows_pipe source i ≡ true → Begun source tables (Some ix) i nodes (begun_from (Some ix) i nodes)
 begun_there source tables nodes ix i s boundary ends closed piped =
     let item = item_at nodes ix in
     let o = opens (links_of nodes) (IsPlaced source tables nodes) ix s.reaches in
-    ⊎_elim
-    (λ (l : item.start < i).
-    begun_is source tables nodes (Some ix) i s (boundary l)
+    ⊎_elim (λ (l : item.start < i). begun_is source tables nodes (Some ix) i s (boundary l)
     (λ n e. let is : ix ≡ n = cc e in subst (λ (m : ℕ). i ≤ (item_at nodes m).end) is (omega (arith, ends)))
     (λ n e. let is : ix ≡ n = cc e in subst (λ (m : ℕ). (item_at nodes m).start < i → is_open (item_at nodes m).body
-    ≡ false) is closed)
-    (λ n e. let is : ix ≡ n = cc e in subst (λ (m : ℕ). (item_at nodes m).start < i
+    ≡ false) is closed) (λ n e. let is : ix ≡ n = cc e in subst (λ (m : ℕ). (item_at nodes m).start < i
     → ComesFromPlace source tables (begun_item i (item_at nodes m))) is (λ k.
     let there : i ≡ max item.start i = omega arith in
     subst (λ (start : ℕ). ComesFromPlace source tables (record { start = start; end = item.end; body = item.body }))
-    there
-    (slices_past_pipe source tables item i piped o.holds.slices))))
-    (λ (l : i ≤ item.start).
+    there (slices_past_pipe source tables item i piped o.holds.slices)))) (λ (l : i ≤ item.start).
     let lies = o.holds.lies in
     let b = begun_is source tables nodes (Some ix) item.start s lies.start
     (λ n e. let is : ix ≡ n = cc e in subst (λ (m : ℕ). item.start ≤ (item_at nodes m).end) is lies.ordered)
     (λ n e. let is : ix ≡ n = cc e in subst (λ (m : ℕ). (item_at nodes m).start < item.start
-    → is_open (item_at nodes m).body ≡ false) is
-    (λ k. absurd (omega (arith, k))))
+    → is_open (item_at nodes m).body ≡ false) is (λ k. absurd (omega (arith, k))))
     (λ n e. let is : ix ≡ n = cc e in subst (λ (m : ℕ). (item_at nodes m).start < item.start
     → ComesFromPlace source tables (begun_item item.start (item_at nodes m))) is (λ k. absurd (omega (arith, k)))) in
     let e : max item.start item.start ≡ max item.start i = omega arith in
@@ -110,17 +96,14 @@ begun_there source tables nodes ix i s boundary ends closed piped =
     let label : begun_at item.start (label_at source tables nodes ix) ≡ begun_at i (label_at source tables nodes ix)
     = rw (d, e) refl in
     let reads : first_begun item.start (trees_from source tables nodes (Some ix))
-    ≡ first_begun i (trees_from source tables nodes (Some ix))
-    = rw o.here (rw label refl) in
+    ≡ first_begun i (trees_from source tables nodes (Some ix)) = rw o.here (rw label refl) in
     subst (λ (start : ℕ). Begun source tables (Some ix) i nodes
     (changed_at ix (λ n. record n { item = record { start = start; end = item.end; body = item.body } }) nodes)) e
-    (record { moves = b.moves; reads = b.reads ∙ reads }))
-    (cases_lt item.start i)
+    (record { moves = b.moves; reads = b.reads ∙ reads })) (cases_lt item.start i)
 
 -- what is left of a chain whose first item ends past a byte
 past_first : (source : List ℕ) (tables : Tables) (nodes : List (Node Item)) (ix i : ℕ)
-    → Stands source tables nodes (Some ix)
-    → i < (item_at nodes ix).end
+    → Stands source tables nodes (Some ix) → i < (item_at nodes ix).end
     → first_begun i (trees_from source tables nodes (Some ix)) ≡ past_byte i (trees_from source tables nodes (Some ix))
 past_first source tables nodes ix i s ends =
     let o = opens (links_of nodes) (IsPlaced source tables nodes) ix s.reaches in
@@ -129,21 +112,18 @@ past_first source tables nodes ix i s ends =
 
 -- two arenas with a node that is the same, once an item begins at a byte in both
 begun_same : (a b : List (Node Item)) (jx i n : ℕ) → jx < length a → length b ≡ length a → IsSameAt a b jx
-    → IsSameAt a b n
-    → IsSameAt (begun_from (Some jx) i a) (begun_from (Some jx) i b) n
+    → IsSameAt a b n → IsSameAt (begun_from (Some jx) i a) (begun_from (Some jx) i b) n
 begun_same a b jx i n within size first at =
     let change : Node Item → Node Item = λ m. record m { item = begun_item i (item_at a jx) } in
     let change' : Node Item → Node Item = λ m. record m { item = begun_item i (item_at b jx) } in
-    ⊎_elim
-    (λ (e : n ≡ jx).
+    ⊎_elim (λ (e : n ≡ jx).
     let p = changed_here a jx change within in
     let q = changed_here b jx change' (omega (arith, size, within)) in
     let here : IsSameAt (begun_from (Some jx) i a) (begun_from (Some jx) i b) jx =
     record {
       child = q.child ∙ first.child ∙ sym p.child;
       next = q.next ∙ first.next ∙ sym p.next;
-      item = q.item
-          ∙ ap (λ (x : Item). begun_item i x) first.item ∙ sym p.item;
+      item = q.item ∙ ap (λ (x : Item). begun_item i x) first.item ∙ sym p.item;
     } in
     subst (λ (m : ℕ). IsSameAt (begun_from (Some jx) i a) (begun_from (Some jx) i b) m) (sym e) here)
     (λ (d : n ≡ jx → ⊥).
@@ -152,18 +132,14 @@ begun_same a b jx i n within size first at =
     record {
       child = q.child ∙ at.child ∙ sym p.child;
       next = q.next ∙ at.next ∙ sym p.next;
-      item = q.item ∙ at.item
-          ∙ sym p.item;
-    })
-    (cases_eq n jx)
+      item = q.item ∙ at.item ∙ sym p.item;
+    }) (cases_eq n jx)
 
 -- what is inside was put below the opener, and then what precedes a node left it, which begins at a byte offset
-module _ (source : List ℕ) (tables : Tables) (old enclosed : List (Node Item)) (opener last closer : ℕ)
-    (inside skipped : List ℕ)
-    (first from byte : ℕ)
+module _ {source : List ℕ} {tables : Tables} {old enclosed : List (Node Item)} {opener last closer : ℕ}
+    {inside skipped : List ℕ} {first from byte : ℕ}
     (can : CanClose source tables old opener closer inside byte) (is : last_inside opener inside ≡ last)
-    (v : IsEnclosed old enclosed opener last closer)
-    (shows : CanShow source old inside skipped first from) where
+    (v : IsEnclosed old enclosed opener last closer) (shows : CanShow source old inside skipped first from) where
   abbrev k : ℕ
   k = length inside
 
@@ -180,7 +156,7 @@ module _ (source : List ℕ) (tables : Tables) (old enclosed : List (Node Item))
   place = begun_from (Some first) from hung
 
   folds : IsFolded source tables old enclosed opener closer k
-  folds = enclosed_folds source tables old enclosed opener last closer inside byte can is v
+  folds = enclosed_folds can is v
 
   listed : roots (first_trees k f) ≡ skipped ++ first ∷ shows.shown
   listed = first_roots inside (closer ∷ can.after) f can.follows ∙ shows.inside_is
@@ -189,24 +165,21 @@ module _ (source : List ℕ) (tables : Tables) (old enclosed : List (Node Item))
   first_there = omega (
     arith,
     counted_among (same first) first skipped shows.shown (first_trees k f) listed,
-    same-refl
-        first,
+    same-refl first,
   )
 
   opener_apart : total (same opener) (first_trees k f) ≡ 0
   opener_apart =
-      let once = stands_once source tables old opener closer inside byte can opener in
+      let once = stands_once can opener in
       let parts = total_parts (same opener) k f in
       omega (arith, once, parts, same-refl opener)
 
   first_apart : opener ≡ first → ⊥
   first_apart e = let z : 0 < total (same opener) (first_trees k f) = subst
-      (λ (m : ℕ). 0 < total (same m) (first_trees k f)) (sym e)
-      first_there in absurd (omega (arith, z, opener_apart))
+      (λ (m : ℕ). 0 < total (same m) (first_trees k f)) (sym e) first_there in absurd (omega (arith, z, opener_apart))
 
   below_listed : roots (forest_at (links_of enclosed) (child_of enclosed opener)) ≡ skipped ++ first ∷ shows.shown
-  below_listed = ap (λ (g : Forest ℕ). roots g)
-      (inside_forest source tables old enclosed opener last closer inside byte can is v) ∙ listed
+  below_listed = ap (λ (g : Forest ℕ). roots g) (inside_forest can is v) ∙ listed
 
   dropped_there : Dropped source tables enclosed (child_of enclosed opener) (Some first)
       (trees_past (length skipped) (trees_from source tables enclosed (child_of enclosed opener)))
@@ -218,13 +191,10 @@ module _ (source : List ℕ) (tables : Tables) (old enclosed : List (Node Item))
 
   begins : Begun source tables (Some first) from enclosed begun
   begins = begun_there source tables enclosed first from dropped_there.moves.stands (rw (v.items first) shows.boundary)
-      ends_past
-      (rw (v.items first) shows.not_cut) shows.piped
+      ends_past (rw (v.items first) shows.not_cut) shows.piped
 
   moved : Moves source (child_of enclosed opener) (Some first) enclosed begun tables tables
-  moved = moves_twice source (child_of enclosed opener) (Some first) (Some first) enclosed enclosed begun tables tables
-      tables
-      dropped_there.moves begins.moves
+  moved = moves_twice dropped_there.moves begins.moves
 
   first_within : first < length enclosed
   first_within = (opens (links_of enclosed) (IsPlaced source tables enclosed) first
@@ -267,31 +237,26 @@ module _ (source : List ℕ) (tables : Tables) (old enclosed : List (Node Item))
       framed source tables tables begun place (Some first) (omega (arith, place_size, begun_size))
       (grown-longer tables tables (grown-nothing tables)) moved.stands.reaches
       (stay_throughout tables tables begun place (forest_at (links_of begun) (Some first)) refl
-      (λ n l. place_same n (below_apart n l))
-      (λ n l. same_entry-refl tables n))
+      (λ n l. place_same n (below_apart n l)) (λ n l. same_entry-refl tables n))
 
   shown_of : (n : ℕ) → times_in place (Some first) n ≤ total (same n) (first_trees k f)
   shown_of n =
       let below = folds.below_of n in
-      rw shown_framed.forest
-      (⊎_elim
+      rw shown_framed.forest (⊎_elim
       (λ (l : n < length enclosed). let of_chain = moved.of_chain n l in omega (arith, below, of_chain))
       (λ (l : length enclosed ≤ n).
       let none = times-past (links_of begun) (Some first) (forest_at (links_of begun) (Some first)) n
-      moved.stands.reaches.spelled
-      (omega (arith, begun_size, l)) in omega (arith, none))
+      moved.stands.reaches.spelled (omega (arith, begun_size, l)) in omega (arith, none))
       (cases_lt n (length enclosed)))
 
   shown_named : (n : Named) → named_in place (Some first) n ≤ total (naming old n) (first_trees k f)
   shown_named n =
       let below = folds.below_named n in
       let at = shown_framed.naming n in
-      ⊎_elim
-      (λ (l : number_of n < size_for tables n). let named = moved.named n l in omega (arith, at, below, named))
+      ⊎_elim (λ (l : number_of n < size_for tables n). let named = moved.named n l in omega (arith, at, below, named))
       (λ (l : size_for tables n ≤ number_of n). let none = named-past source tables begun
       (forest_at (links_of begun) (Some first)) n
-      moved.stands.reaches.each l in omega (arith, at, none))
-      (cases_lt (number_of n) (size_for tables n))
+      moved.stands.reaches.each l in omega (arith, at, none)) (cases_lt (number_of n) (size_for tables n))
 
   opener_same : IsSameAt hung place opener
   opener_same = changed_other hung first (λ n. record n { item = begun_item from (item_at hung first) }) opener
@@ -303,12 +268,12 @@ module _ (source : List ℕ) (tables : Tables) (old enclosed : List (Node Item))
 
   other_same : (n : ℕ) → IsSameAt old enclosed n → (n ≡ opener → ⊥) → (n ≡ first → ⊥) → IsSameAt old place n
   other_same n at d d' =
-      same_trans old hung place n (same_trans old enclosed hung n at (hung_same n d))
+      same_trans (same_trans at (hung_same n d))
       (changed_other hung first (λ n. record n { item = begun_item from (item_at hung first) }) n d')
 
   behind_shown : (n : ℕ) → 0 < total (same n) (trees_past k f) → IsSameAt old place n
   behind_shown n l =
-      let once = stands_once source tables old opener closer inside byte can n in
+      let once = stands_once can n in
       let parts = total_parts (same n) k f in
       other_same n (folds.behind n l)
       (λ e. let one : same n opener ≡ 1 = subst (λ (m : ℕ). same n m ≡ 1) e (same-refl n) in absurd
@@ -319,8 +284,7 @@ module _ (source : List ℕ) (tables : Tables) (old enclosed : List (Node Item))
 
   outside_shown : (n : ℕ) → n < length old → times_in old (Some opener) n ≡ 0 → IsSameAt old place n
   outside_shown n l z =
-      let none : same n opener + total (same n) f
-      ≡ 0 = (let x = rw (whole_childless source tables old opener closer inside byte can) at z
+      let none : same n opener + total (same n) f ≡ 0 = (let x = rw (whole_childless can) at z
       in omega arith) in
       let parts = total_parts (same n) k f in
       other_same n (folds.outside n l z)
@@ -352,16 +316,13 @@ module _ (source : List ℕ) (tables : Tables) (old enclosed : List (Node Item))
         outside = outside_shown;
       }
 
-  pub shown_reads : trees_from source tables place (child_of place opener)
-      ≡ past_byte from (trees_past (length skipped)
+  pub shown_reads : trees_from source tables place (child_of place opener) ≡ past_byte from (trees_past (length skipped)
       (first_trees k (trees_from source tables old (sibling_of old opener))))
   shown_reads =
       ap (λ (l : Option ℕ). trees_from source tables place l) child_shown ∙ shown_framed.trees ∙ begins.reads
       ∙ past_first source tables enclosed first from dropped_there.moves.stands ends_past
       ∙ ap (λ (g : Forest Plain). past_byte from g)
-      (dropped_there.reads ∙ ap (λ (g : Forest Plain). trees_past (length skipped) g)
-      (inside_reads source tables old enclosed opener last
-      closer inside byte can is v))
+      (dropped_there.reads ∙ ap (λ (g : Forest Plain). trees_past (length skipped) g) (inside_reads can is v))
 
   -- the nodes that are written are there
   pub shown_within : first < length hung
@@ -371,26 +332,18 @@ module _ (source : List ℕ) (tables : Tables) (old enclosed : List (Node Item))
   opener_shown = omega (arith, place_size, opener_within)
 
 -- so a wikilink is put over what it shows
-pub shown_puts : (source : List ℕ) (opener last closer : ℕ) (item : Item) (inside skipped : List ℕ) (first from : ℕ)
-    (rest : Rest)
-    (old enclosed place mid : List (Node Item)) (tables t : Tables)
+pub shown_puts : {source : List ℕ} {opener last closer : ℕ} {item : Item} {inside skipped : List ℕ} {first from : ℕ}
+    {rest : Rest} {old enclosed place mid : List (Node Item)} {tables t : Tables}
     → HasGrown tables t → CanClose source tables old opener closer inside item.end
-    → CanPutOver source tables t old opener item item.end
-    → last_inside opener inside ≡ last
+    → CanPutOver source tables t old opener item item.end → last_inside opener inside ≡ last
     → IsEnclosed old enclosed opener last closer → CanShow source old inside skipped first from
     → place ≡ begun_from (Some first) from (with_child opener (Some first) enclosed)
     → IsRestPast old item.end (sibling_of old closer) rest → IsWritten place mid opener item rest.next
     → PutsOver source opener closer inside (over_shown source t item (length skipped) from) item.end (opener ∷ []) rest
-    old
-    (begun_from rest.next item.end mid) tables t
-shown_puts source opener last closer item inside skipped first from rest old enclosed place mid tables t grown can over
-    is v shows place_is
-    past w =
+    old (begun_from rest.next item.end mid) tables t
+shown_puts {source} {opener} {last} {closer} {item} {inside} {skipped} {first} {from} {rest} {old} {enclosed} {place}
+    {mid} {tables} {t} grown can over is v shows place_is past w =
     let there = begun_from (Some first) from (with_child opener (Some first) enclosed) in
-    let folds = shown_folds source tables old enclosed opener last closer inside skipped first from item.end can is v
-    shows in
-    fold_puts source opener closer item item.end inside rest old there mid tables t grown can over folds past
-    (rw place_is at w)
-    (λ g. past_byte from (trees_past (length skipped) g))
-    (shown_reads source tables old enclosed opener last closer inside skipped first
-    from item.end can is v shows)
+    let folds = shown_folds can is v shows in
+    fold_puts grown can over folds past (rw place_is at w) (λ g. past_byte from (trees_past (length skipped) g))
+    (shown_reads can is v shows)

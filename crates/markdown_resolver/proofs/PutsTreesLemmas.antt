@@ -12,6 +12,7 @@ use Rattle.markdown_document.specs.Document.{Label, Plain}
 use Rattle.markdown_document.specs.Labels.{retag}
 use Rattle.markdown_document.specs.Places.{label_at, trees_from}
 use Rattle.markdown_document.specs.Tables.{Tables}
+use Rattle.markdown_base.proofs.ForestLemmas.{relabelled-relabelled}
 use Rattle.markdown_resolver.specs.declared.rest.Rest.{Rest}
 use Rattle.markdown_resolver.specs.Chains.{CanResolve, ChangesChain}
 use Rattle.markdown_resolver.specs.ClosedOver.{first_trees, trees_past}
@@ -52,22 +53,11 @@ relabelled_past h zero f = refl
 relabelled_past h (suc k) nil = refl
 relabelled_past h (suc k) (node a below after) = relabelled_past h k after
 
-pub relabelled_joined : {A B : Type 0} (h : A → B) (f g : Forest A) → relabelled h (joined_chains f g)
-    ≡ joined_chains (relabelled h f) (relabelled h g)
-relabelled_joined h nil g = refl
-relabelled_joined h (node a below after) g = ap (λ t. node (h a) (relabelled h below) t) (relabelled_joined h after g)
-
 -- without its numbers a chain is what is read
-plain_labels : (source : List ℕ) (tables : Tables) (nodes : List (Node Item)) (f : Forest ℕ)
-    → without_numbers (relabelled (numbered_label source tables nodes) f) ≡ relabelled (label_at source tables nodes) f
-plain_labels source tables nodes nil = refl
-plain_labels source tables nodes (node ix below after) = rw
-    (plain_labels source tables nodes below, plain_labels source tables nodes after)
-    refl
-
 pub plain_from : (source : List ℕ) (tables : Tables) (nodes : List (Node Item)) (l : Option ℕ)
     → without_numbers (numbered_from source tables nodes l) ≡ trees_from source tables nodes l
-plain_from source tables nodes l = plain_labels source tables nodes (forest_at (links_of nodes) l)
+plain_from source tables nodes l = relabelled-relabelled (numbered_label source tables nodes) (retag (λ n. tt))
+    (forest_at (links_of nodes) l)
 
 -- the trees past the first are what a link leads to, if the same nodes are there
 roots_none : (standing : List ℕ) (f : Forest ℕ) → roots f ≡ standing ++ [] → trees_past (length standing) f ≡ nil
@@ -112,8 +102,7 @@ split_chain source tables nodes l next standing s t e =
 
 -- trees are in the place of a node, one for each of these nodes, and the chain continues with what is left
 pub puts_trees : (source : List ℕ) (ix : ℕ) (next : Option ℕ) (trees rest : Forest Plain) (standing : List ℕ)
-    (old new : List (Node Item))
-    (tables tables' : Tables)
+    (old new : List (Node Item)) (tables tables' : Tables)
     → ChangesChain source (Some ix) old new tables tables' → RunsGoOn source old new (Some ix)
     → trees_from source tables' new (Some ix) ≡ joined_chains trees rest
     → roots (forest_at (links_of new) (Some ix)) ≡ standing ++ roots (forest_at (links_of new) next)
@@ -143,23 +132,19 @@ puts_trees source ix next trees rest standing old new tables tables' changes run
     }
 
 -- so it is with what was put for the first item of a chain
-pub put_trees : (source : List ℕ) (ix : ℕ) (trees : Standing) (goes_on : Option ℕ) (rest : Rest)
-    (old new : List (Node Item))
-    (tables tables' : Tables)
+pub put_trees : {source : List ℕ} {ix : ℕ} {trees : Standing} {goes_on : Option ℕ} {rest : Rest}
+    {old new : List (Node Item)} {tables tables' : Tables}
     → CanResolve source tables old (Some ix) → Puts source ix trees goes_on rest old new tables tables'
     → IsQuiet (trees (label_at source tables old ix) (trees_from source tables old (child_of old ix)))
     → PutsTrees source ix rest.next
     (trees (label_at source tables old ix) (trees_from source tables old (child_of old ix)))
     (past goes_on (trees_from source tables old (sibling_of old ix))) old new tables tables'
-put_trees source ix trees goes_on rest old new tables tables' ready puts quiet =
-    let o = opens_chain source tables old ix ready in
+put_trees {source} {ix} {trees} {goes_on} {rest} {old} {new} {tables} {tables'} ready puts quiet =
+    let o = opens_chain ready in
     let a = label_at source tables old ix in
     let below = trees_from source tables old (child_of old ix) in
     let after = trees_from source tables old (sibling_of old ix) in
-    let w = puts.whole (λ f. f) new tables'
-    (rewrites_none source rest.next new tables' (stands_ready source tables' new rest.next puts.leaves.ready))
-    in
+    let w = puts.whole (λ f. f) new tables' (rewrites_none (stands_ready puts.leaves.ready)) in
     puts_trees source ix rest.next (trees a below) (past goes_on after) puts.standing old new tables tables' w.changes
-    w.runs
-    (w.rewritten ∙ ap (replaced trees goes_on (λ f. f)) o.trees) puts.numbers (puts.as_many a below) quiet
+    w.runs (w.rewritten ∙ ap (replaced trees goes_on (λ f. f)) o.trees) puts.numbers (puts.as_many a below) quiet
     puts.leaves.ready

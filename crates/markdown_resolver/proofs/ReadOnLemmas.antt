@@ -1,15 +1,11 @@
 -- How far a chain in an arena was read: at first none of it, then one stretch after another, and in the end all of it,
 -- which resolves it by pass one. Where memory is refused after a stretch, it is refused on the way.
 use Rattle.std.proofs.Common.{◌≡◌, ℕ, ◌+◌, Bool, true, false, ◌||◌, ◌==◌, List, [], ◌∷◌, ◌++◌, Option, Some, None, refl}
-use Rattle.std.proofs.Common.{sym, ap, ◌∙◌}
-use Rattle.std.proofs.Common.{arith, append-nil, append_assoc}
-use Rattle.markdown_base.specs.ArenaForest.{links_of, forest_at}
+use Rattle.std.proofs.Common.{sym, ap, ◌∙◌, arith, append-nil, append_assoc}
+use Rattle.markdown_base.specs.ArenaForest.{links_of}
 use Rattle.markdown_base.specs.Forest.{Forest, nil}
 use Rattle.markdown_base.specs.Questions.{Question, Answer, Answers}
-use Rattle.markdown_base.specs.declared.item.Item.{Item}
-use Rattle.markdown_base.specs.declared.node.Node.{Node}
 use Rattle.markdown_base.proofs.ArenaForestLemmas.{forest_at-none}
-use Rattle.markdown_base.proofs.ForestLemmas.{relabelled-relabelled}
 use Rattle.markdown_brackets.specs.BracketDecision.{Progress}
 use Rattle.markdown_brackets.specs.LeftList.{Entry, trees_onto}
 use Rattle.markdown_brackets.specs.Openers.{Waiting}
@@ -19,33 +15,17 @@ use Rattle.markdown_brackets.specs.declared.spent_ends.SpentEnds.{SpentEnds}
 use Rattle.markdown_brackets.proofs.BracketTagLemmas.{onto_retag}
 use Rattle.markdown_document.specs.Above.{Above}
 use Rattle.markdown_document.specs.Document.{Plain, plain_tags}
-use Rattle.markdown_document.specs.Labels.{retag}
-use Rattle.markdown_document.specs.Places.{trees_from}
 use Rattle.markdown_document.specs.Setting.{Setting}
 use Rattle.markdown_document.specs.Stages.{Stage, chain_at, known_at}
-use Rattle.markdown_document.specs.Tables.{Tables}
 use Rattle.markdown_document.proofs.CallbackLemmas.{Asks-append}
-use Rattle.markdown_resolver.specs.Chains.{CanResolve, ChangesChain, ResolvesFrom}
+use Rattle.markdown_resolver.specs.Chains.{CanResolve, ResolvesFrom}
 use Rattle.markdown_resolver.specs.PassOne.{Outcome, outcome, pass_one}
-use Rattle.markdown_resolver.specs.PutsTrees.{numbered_from, numbered_label, without_numbers}
+use Rattle.markdown_resolver.specs.PutsTrees.{numbered_from, without_numbers}
 use Rattle.markdown_resolver.specs.ReadOn.{AreSpent, ReadsOn, StandsTo, StopsInPassOne, StopsOn, all_read, at_left}
 use Rattle.markdown_resolver.specs.ReadOn.{left_without_numbers}
-use Rattle.markdown_resolver.proofs.ComposeLemmas.{changes_move, moves_change, moves_none, moves_twice, stands_ready}
-
--- one change, and then another, of the chain from one link on
-changes_twice : (source : List ℕ) (l : Option ℕ) (a b c : List (Node Item)) (t u v : Tables)
-    → ChangesChain source l a b t u
-    → ChangesChain source l b c u v → ChangesChain source l a c t v
-changes_twice source l a b c t u v p q =
-    moves_change source l a c t v
-    (moves_twice source l l l a b c t u v (changes_move source l a b t u p) (changes_move source l b c u v q))
-    (λ x stands. q.before x (p.before x stands))
-
--- the trees from a link on are those with numbers, without them
-pub trees_unnumbered : (source : List ℕ) (tables : Tables) (nodes : List (Node Item)) (l : Option ℕ)
-    → without_numbers (numbered_from source tables nodes l) ≡ trees_from source tables nodes l
-trees_unnumbered source tables nodes l = relabelled-relabelled (numbered_label source tables nodes) (retag (λ n. tt))
-    (forest_at (links_of nodes) l)
+use Rattle.markdown_resolver.proofs.PutsTreesLemmas.{plain_from}
+use Rattle.markdown_resolver.proofs.StandsToLemmas.{changes_twice}
+use Rattle.markdown_resolver.proofs.ComposeLemmas.{moves_change, moves_none, stands_ready}
 
 or_assoc : (a b c : Bool) → (a || (b || c)) ≡ ((a || b) || c)
 or_assoc true b c = refl
@@ -66,13 +46,10 @@ spent_more spent spent' ends before spends are end = spends end ∙ ap (λ b. am
 
 -- nothing was read yet
 pub reads_on_none : {C : Type 0} (step : C → Question → Option Answer → C → Type 0) (s : Setting) (above : Above)
-    (first : ℕ)
-    (old : Stage C) (spent : SpentEnds) → CanResolve s.text old.tables old.nodes (Some first)
+    (first : ℕ) (old : Stage C) (spent : SpentEnds) → CanResolve s.text old.tables old.nodes (Some first)
     → ReadsOn step s above first (Some first) (Some first) [] old old spent spent [] []
 reads_on_none step s above first old spent ready = record {
-  changes = moves_change s.text (Some first) old.nodes old.nodes old.tables old.tables
-      (moves_none s.text (Some first) old.nodes old.tables
-      (stands_ready s.text old.tables old.nodes (Some first) ready)) (λ a stands. stands);
+  changes = moves_change (moves_none (stands_ready ready)) (λ a stands. stands);
   left_then = [];
   stands = record { ready = ready; stands = refl; quiet = tt; waiting = tt };
   held = record { brackets_are = refl; wikilinks_are = refl };
@@ -91,8 +68,7 @@ reads_on_none step s above first old spent ready = record {
 
 -- one stretch was read, and then another
 module _ {C : Type 0} (step : C → Question → Option Answer → C → Type 0) (s : Setting) (above : Above) (first : ℕ)
-    (at mid : Option ℕ)
-    (left : List (Entry ℕ)) (old now : Stage C) (spent spent1 : SpentEnds)
+    (at mid : Option ℕ) (left : List (Entry ℕ)) (old now : Stage C) (spent spent1 : SpentEnds)
     (brackets wikilinks : List Waiting)
     (r : ReadsOn step s above first at mid left old now spent spent1 brackets wikilinks) where
   abbrev after_first : Progress (Unit {0}) → Progress (Unit {0})
@@ -104,8 +80,7 @@ module _ {C : Type 0} (step : C → Question → Option Answer → C → Type 0)
       ≡ all_read s above (chain_at s.text now mid) (at_left r.left_then now (answers ++ later) (after_first p))
   first_reads p answers later are =
       ap (λ (a : Answers). all_read s above (chain_at s.text old at) (at_left left old a p))
-      (append_assoc r.answers answers later)
-      ∙ r.reads p (answers ++ later) are
+      (append_assoc r.answers answers later) ∙ r.reads p (answers ++ later) are
 
   pub reads_on_twice : (next : Option ℕ) (new : Stage C) (spent2 : SpentEnds) (brackets2 wikilinks2 : List Waiting)
       → ReadsOn step s above first mid next r.left_then now new spent1 spent2 brackets2 wikilinks2
@@ -123,8 +98,7 @@ module _ {C : Type 0} (step : C → Question → Option Answer → C → Type 0)
     ends = q.ends ++ r.ends;
     spends = λ end.
         q.spends end ∙ ap (λ b. among end q.ends || b) (r.spends end) ∙ or_assoc (among end q.ends) (among end r.ends)
-        (is_spent spent end)
-        ∙ ap (λ b. b || is_spent spent end) (sym (among_append end q.ends r.ends));
+        (is_spent spent end) ∙ ap (λ b. b || is_spent spent end) (sym (among_append end q.ends r.ends));
     made = r.made + q.made;
     reads = λ p later are.
         first_reads p q.answers later are
@@ -132,15 +106,12 @@ module _ {C : Type 0} (step : C → Question → Option Answer → C → Type 0)
         ∙ ap (λ (asked : List Question). all_read s above (chain_at s.text new next) (at_left q.left_then new later
         (record p { spent = q.ends ++ (r.ends ++ p.spent); asked = asked; made = (p.made + r.made) + q.made })))
         (append_assoc p.asked r.questions q.questions)
-        ∙ ap (λ (ends : List ℕ). all_read s above (chain_at s.text new next) (at_left q.left_then new later
-        (record p {
+        ∙ ap (λ (ends : List ℕ). all_read s above (chain_at s.text new next) (at_left q.left_then new later (record p {
           spent = ends;
           asked = p.asked ++ (r.questions ++ q.questions);
           made = (p.made + r.made) + q.made;
-        })))
-        (sym (append_assoc q.ends r.ends p.spent))
-        ∙ ap (λ (made : ℕ). all_read s above (chain_at s.text new next) (at_left q.left_then new later
-        (record p {
+        }))) (sym (append_assoc q.ends r.ends p.spent))
+        ∙ ap (λ (made : ℕ). all_read s above (chain_at s.text new next) (at_left q.left_then new later (record p {
           spent = (q.ends ++ r.ends) ++ p.spent;
           asked = p.asked ++ (r.questions ++ q.questions);
           made = made;
@@ -158,34 +129,29 @@ module _ {C : Type 0} (step : C → Question → Option Answer → C → Type 0)
     begins = λ p later are.
         let b = q.begins (after_first p) later (spent_more spent spent1 r.ends p.spent r.spends are) in (
           b.0,
-          ap (λ (q : Progress (Unit {0})). q.asked) (first_reads p q.answers later are)
-              ∙ b.1
+          ap (λ (q : Progress (Unit {0})). q.asked) (first_reads p q.answers later are) ∙ b.1
               ∙ ap (λ (asked : List Question). asked ++ b.0) (append_assoc p.asked r.questions q.questions),
         );
   }
 
 -- a chain that was read to its end was resolved by pass one
 read_to_end : {C : Type 0} (s : Setting) (above : Above) (first : ℕ) (left : List (Entry ℕ)) (new : Stage C)
-    (later : Answers)
-    (p : Progress (Unit {0})) → StandsTo s.text new.tables new.nodes first None left
+    (later : Answers) (p : Progress (Unit {0})) → StandsTo s.text new.tables new.nodes first None left
     → outcome (all_read s above (chain_at s.text new None) (at_left left new later p))
     ≡ record { questions = p.asked; forest = chain_at s.text new (Some first); known = known_at new later }
 unfolding read_chain
 read_to_end s above first left new later p stands =
     let ended : numbered_from s.text new.tables new.nodes None ≡ nil = rw (forest_at-none (links_of new.nodes)) refl in
     let all : chain_at s.text new (Some first) ≡ trees_onto (left_without_numbers left) nil =
-    sym (trees_unnumbered s.text new.tables new.nodes (Some first))
-    ∙ ap without_numbers (stands.stands ∙ ap (trees_onto left) ended)
-    ∙ sym (onto_retag (λ n. tt) left nil) in
+    sym (plain_from s.text new.tables new.nodes (Some first))
+    ∙ ap without_numbers (stands.stands ∙ ap (trees_onto left) ended) ∙ sym (onto_retag (λ n. tt) left nil) in
     ap (λ (f : Forest Plain). outcome (all_read s above f (at_left left new later p)))
-    (sym (trees_unnumbered s.text new.tables new.nodes None) ∙ ap without_numbers ended)
+    (sym (plain_from s.text new.tables new.nodes None) ∙ ap without_numbers ended)
     ∙ ap (λ (f : Forest Plain). let o : Outcome (Unit {0}) = record
-    { questions = p.asked; forest = f; known = known_at new later } in o)
-    (sym all)
+    { questions = p.asked; forest = f; known = known_at new later } in o) (sym all)
 
 pub reads_on_all : {C : Type 0} (step : C → Question → Option Answer → C → Type 0) (s : Setting) (above : Above)
-    (first : ℕ)
-    (old new : Stage C) (spent spent' : SpentEnds) (brackets wikilinks : List Waiting)
+    (first : ℕ) (old new : Stage C) (spent spent' : SpentEnds) (brackets wikilinks : List Waiting)
     → AreSpent spent [] → ReadsOn step s above first (Some first) None [] old new spent spent' brackets wikilinks
     → ResolvesFrom step s.text (pass_one s plain_tags above) (Some first) old new
 unfolding pass_one
@@ -196,16 +162,13 @@ reads_on_all step s above first old new spent spent' brackets wikilinks none r =
   asked = r.asked;
   resolves = λ later.
       let p : Progress (Unit {0}) = begun (known_at old later) in
-      ap outcome (r.reads p later none)
-      ∙ read_to_end s above first r.left_then new later
-      (record p { spent = r.ends ++ []; asked = r.questions; made = 0 + r.made })
-      r.stands;
+      ap outcome (r.reads p later none) ∙ read_to_end s above first r.left_then new later
+      (record p { spent = r.ends ++ []; asked = r.questions; made = 0 + r.made }) r.stands;
 }
 
 -- where memory was refused on the way, it was in pass one
 pub stops_pass_one : {C : Type 0} (step : C → Question → Option Answer → C → Type 0) (s : Setting) (above : Above)
-    (first : ℕ)
-    (old : Stage C) (spent : SpentEnds) (callback' : Option C) → AreSpent spent []
+    (first : ℕ) (old : Stage C) (spent : SpentEnds) (callback' : Option C) → AreSpent spent []
     → StopsOn step s above (Some first) [] old spent callback' → StopsInPassOne step s above first old callback'
 unfolding pass_one
 stops_pass_one step s above first old spent callback' none r = record {

@@ -1,6 +1,6 @@
 -- A chain is read in place, item by item: what is true of the items that are left.
-use Rattle.std.proofs.Common.{◌≡◌, ℕ, suc, ◌+◌, ◌<◌, ◌≤◌, Bool, true, false, List, length}
-use Rattle.std.proofs.Common.{take, rules, Some, None, refl, sym, subst, arith, ◌∙◌, ap}
+use Rattle.std.proofs.Common.{◌≡◌, ℕ, suc, ◌+◌, ◌≤◌, Bool, true, false, List, rules, Some, None, refl, sym, subst}
+use Rattle.std.proofs.Common.{arith, ◌∙◌, ap}
 use Rattle.std.proofs.lemmas.Result.{IfOk-weaker}
 use Rattle.std.specs.Prelude.{Result, Ok, Err, IfOk, slice_range}
 use Rattle.markdown_base.specs.Arena.{Arena, sibling_of, child_of}
@@ -16,11 +16,8 @@ use Rattle.markdown_base.proofs.ArenaForestLemmas.{opens, forest_at-none}
 use Rattle.markdown_document.specs.Above.{Above}
 use Rattle.markdown_document.specs.ChainRest.{open_body}
 use Rattle.markdown_document.specs.Counts.{risen}
-use Rattle.markdown_document.specs.Document.{Plain, plain_tags, Shape, leaf, enclosed, plain, backslash_break}
-use Rattle.markdown_document.specs.Document.{unresolved, is_unresolved}
-use Rattle.markdown_document.specs.Document.{shape_of}
+use Rattle.markdown_document.specs.Document.{Plain, plain_tags, Shape, unresolved, is_unresolved, shape_of}
 use Rattle.markdown_document.specs.Places.{label_at, trees_from}
-use Rattle.markdown_document.specs.PlacedNodes.{IsPlaced}
 use Rattle.markdown_document.specs.Setting.{Rules, Setting, setting_of}
 use Rattle.markdown_document.specs.Stages.{items_from, above_cursor}
 use Rattle.markdown_document.specs.Tables.{Tables}
@@ -39,12 +36,6 @@ use Rattle.markdown_document.specs.declared.chain_place.ChainPlace.{ChainPlace}
 use Rattle.markdown_resolver.proofs.ChainLeadsLemmas.{chain_leads, holds_next}
 use Rattle.markdown_resolver.proofs.ReadsItemLemmas.{reads_item}
 use Rattle.markdown_document.proofs.CountLemmas.{risen_twice}
-
--- the node of a chain's first item exists
-pub node_within : (source : List ℕ) (tables : Tables) (nodes : List (Node Item)) (ix : ℕ)
-    → CanResolve source tables nodes (Some ix) → ix < length nodes
-node_within source tables nodes ix ready =
-    (opens (links_of nodes) (IsPlaced source tables nodes) ix ready.reaches).within
 
 -- nothing is left of a chain that has ended
 pub items_none : (nodes : List (Node Item)) → items_from nodes None ≡ 0
@@ -89,17 +80,12 @@ finds_nothing other code math html = record { finds = λ s above a after. refl }
 
 -- nothing is found either at a label that has the shape of such a body
 finds_in_shape : (s : Setting) (above : Above) (a : Plain) (after : Forest Plain) (tables : Tables) (source : List ℕ)
-    (b : ItemBody)
-    → FindsNothing b
-    → find_by s above (open_body (shape_of tables source b)) a after ≡ nothing
+    (b : ItemBody) → FindsNothing b → find_by s above (open_body (shape_of tables source b)) a after ≡ nothing
 finds_in_shape s above a after tables source b h = by_open (is_open b) refl
   where
     closed : (shape : Shape) → is_unresolved shape ≡ false → find_by s above (open_body shape) a after ≡ nothing
-    closed (leaf e origins) h = refl
-    closed (enclosed tag) h = refl
-    closed plain h = refl
-    closed backslash_break h = refl
     closed (unresolved b) h = cc h
+    closed other h = refl
 
     by_open : (is : Bool) → is_open b ≡ is → find_by s above (open_body (shape_of tables source b)) a after ≡ nothing
     by_open true e = rw (shape-open tables source b e) (h.finds s above a after)
@@ -114,8 +100,7 @@ reads_settled s above a below after none = by_quiet (is_quiet a.part.shape) refl
   where
     by_quiet : (quiet : Bool) → is_quiet a.part.shape ≡ quiet
         → (let r : Passed (Unit {0}) = read_tree s plain_tags above 0 a below after in
-        (r.trees ≡ settled s.text a below)
-        × (r.goes_on ≡ None))
+        (r.trees ≡ settled s.text a below) × (r.goes_on ≡ None))
     by_quiet true e = rw e (refl, refl)
     by_quiet false e = rw (e, none) (refl, refl)
 
@@ -128,8 +113,7 @@ settled_reads s above ix rest old new tables ready nothing_there puts =
     let a = label_at s.text tables old ix in
     let after = trees_from s.text tables old (sibling_of old ix) in
     let none : find s above a after ≡ nothing = finds_in_shape s above a after tables
-    (slice_range s.text item.start item.end) item.body
-    nothing_there in
+    (slice_range s.text item.start item.end) item.body nothing_there in
     let reads = reads_settled s above a (trees_from s.text tables old (child_of old ix)) after none in
     reads_item ready (record { standing = reads.0; ends = reads.1 }) puts
 
@@ -157,8 +141,7 @@ stops_at_none failed visits items = record {
 -- an item was read, unless memory was refused: what other searches have learned is true of what is left, and they have
 -- examined no item
 pub record ReadsAlone {E : Type 0} (r : Result Rest E) (s : Setting) (above : Above) (ix : ℕ)
-    (old new : List (Node Item))
-    (tables tables' : Tables) : Type 0 where
+    (old new : List (Node Item)) (tables tables' : Tables) : Type 0 where
   pub reads : IfOk r (λ rest. ReadsItem s above ix rest old new tables tables')
   pub holds : (kind : SpanKind) (learned : Learned) → HoldsFrom kind learned old (Some ix)
       → IfOk r (λ rest. HoldsFrom kind learned new rest.next)
@@ -170,8 +153,7 @@ pub reads_alone : {E : Type 0} (r : Result Rest E) (s : Setting) (above : Above)
     → IfOk r (λ rest. ReadsItem s above ix rest old new tables tables') → ReadsAlone r s above ix old new tables tables'
 reads_alone (Ok rest) s above ix old new tables tables' ready reads = record {
   reads = reads;
-  holds = λ kind learned h.
-      reads.holds kind learned (holds_next kind learned old ix (chain_leads s.text tables old (Some ix) ready) h);
+  holds = λ kind learned h. reads.holds kind learned (holds_next kind learned old ix (chain_leads ready) h);
   looks = λ failed visits. looks_at_none failed visits (items_from old (Some ix)) rest.passed (items_from new rest.next)
       reads.passes;
 }
@@ -188,18 +170,12 @@ pub reads_by_rules : {E : Type 0} (r : Result Rest E) (place : ChainPlace) (sour
     → place.text.now ≡ source → gfm_footnotes_on place.options ≡ gfm_footnotes_on rules.options
     → IfOk r (λ rest. (rules : Rules) → gfm_footnotes_on rules.options ≡ gfm_footnotes_on place.options
     → ReadsItem (setting_of place.text.now rules) (above_cursor place.text.now tree) ix rest tree.nodes new tables
-    tables')
-    → ReadsAlone r (setting_of source rules) (above_cursor source tree) ix tree.nodes new tables tables'
+    tables') → ReadsAlone r (setting_of source rules) (above_cursor source tree) ix tree.nodes new tables tables'
 reads_by_rules r place source rules tree ix new tables tables' ready same gfm reads =
     subst (λ (t : List ℕ). ReadsAlone r (setting_of t rules) (above_cursor t tree) ix tree.nodes new tables tables')
     same
     (reads_alone r (setting_of place.text.now rules) (above_cursor place.text.now tree) ix tree.nodes new tables tables'
-    ready
-    (IfOk-weaker r _ _ (λ rest by_any. by_any rules (sym gfm)) reads))
-
--- the bytes up to an offset
-pub up_to : (text : List ℕ) (end : ℕ) → slice_range text 0 end ≡ take end text
-up_to text end = search rules
+    ready (IfOk-weaker r _ _ (λ rest by_any. by_any rules (sym gfm)) reads))
 
 -- searches have examined some items of a chain, of which some are left: none of those, unless one has failed
 pub record LookedUpTo (failed : Bool) (old now all rest : ℕ) : Type 0 where

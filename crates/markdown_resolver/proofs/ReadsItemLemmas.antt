@@ -18,8 +18,7 @@ use Rattle.markdown_document.specs.Waiting.{is_quiet, waits_for_pairing}
 use Rattle.markdown_document.proofs.PlaceLemmas.{shape-open}
 use Rattle.markdown_spans.specs.AfterLess.{Markup, autolink, html_markup}
 use Rattle.markdown_spans.specs.Finds.{Find, SpanText, code_span, code_trees, find, find_by, is_escaped, markup}
-use Rattle.markdown_spans.specs.Finds.{markup_trees, math_span}
-use Rattle.markdown_spans.specs.Finds.{nothing, passed, read_tree, read_unless, trees_for}
+use Rattle.markdown_spans.specs.Finds.{markup_trees, math_span, nothing, passed, read_tree, read_unless, trees_for}
 use Rattle.markdown_spans.specs.SpanClosers.{HoldsFrom, Learned}
 use Rattle.markdown_spans.specs.declared.span_text.SpanKind.{SpanKind}
 use Rattle.markdown_spans.proofs.ChainWalkLemmas.{chain_at}
@@ -35,8 +34,7 @@ use Rattle.markdown_resolver.proofs.PutsTreesLemmas.{put_trees}
 
 -- trees are put in place of an item as pass one defines them
 pub record ReadsAs (s : Setting) (above : Above) (tables : Tables) (nodes : List (Node Item)) (ix : ℕ)
-    (trees : Standing)
-    (goes_on : Option ℕ) : Type 0 where
+    (trees : Standing) (goes_on : Option ℕ) : Type 0 where
   pub standing : (read_at s above tables nodes ix).trees ≡ trees (label_at s.text tables nodes ix)
       (trees_from s.text tables nodes (child_of nodes ix))
   pub ends : (read_at s above tables nodes ix).goes_on ≡ goes_on
@@ -61,8 +59,7 @@ quiet_found s a nothing plain = (refl, plain, tt, tt)
 
 -- so is what is read of a tree, where what is below it is
 pub quiet_read : (s : Setting) (above : Above) (a : Plain) (below after : Forest Plain)
-    → IsQuietBelow (node a below after)
-    → IsQuiet (read_tree s plain_tags above 0 a below after).trees
+    → IsQuietBelow (node a below after) → IsQuiet (read_tree s plain_tags above 0 a below after).trees
 unfolding read_tree
 quiet_read s above a below after quiet = by_quiet (is_quiet a.part.shape) refl
   where
@@ -73,36 +70,30 @@ quiet_read s above a below after quiet = by_quiet (is_quiet a.part.shape) refl
 
 -- what searches have learned of what follows an item is true of what is left
 pub holds_put : {source : List ℕ} {ix : ℕ} {trees : Standing} {goes_on : Option ℕ} {rest : Rest}
-    {old new : List (Node Item)}
-    {tables tables' : Tables} (kind : SpanKind) (learned : Learned)
+    {old new : List (Node Item)} {tables tables' : Tables} (kind : SpanKind) (learned : Learned)
     → CanResolve source tables old (Some ix) → Puts source ix trees goes_on rest old new tables tables'
     → HoldsFrom kind learned old (sibling_of old ix) → HoldsFrom kind learned new rest.next
 holds_put {source} {ix} {trees} {goes_on} {rest} {old} {new} {tables} kind learned ready puts =
-    holds_past kind learned old new ix goes_on rest.next
-    (chain_at old ix (chain_leads source tables old (Some ix) ready)).later puts.leads
+    holds_past kind learned old new ix goes_on rest.next (chain_at old ix (chain_leads ready)).later puts.leads
 
 -- so the item is read
 pub reads_item : {s : Setting} {above : Above} {ix : ℕ} {trees : Standing} {goes_on : Option ℕ} {rest : Rest}
-    {old new : List (Node Item)}
-    {tables tables' : Tables}
+    {old new : List (Node Item)} {tables tables' : Tables}
     → CanResolve s.text tables old (Some ix) → ReadsAs s above tables old ix trees goes_on
     → Puts s.text ix trees goes_on rest old new tables tables' → ReadsItem s above ix rest old new tables tables'
 reads_item {s} {above} {ix} {trees} {goes_on} {rest} {old} {new} {tables} {tables'} ready reads puts =
-    let o = opens_chain s.text tables old ix ready in
+    let o = opens_chain ready in
     let a = label_at s.text tables old ix in
     let below = trees_from s.text tables old (child_of old ix) in
     let after = trees_from s.text tables old (sibling_of old ix) in
     let quiet : IsQuiet (read_at s above tables old ix).trees = quiet_read s above a below after
     (rw o.trees at ready.quiet_below) in
-    let p = put_trees s.text ix trees goes_on rest old new tables tables' ready puts
-    (subst (λ (f : Forest Plain). IsQuiet f) reads.standing
-    quiet) in
+    let p = put_trees ready puts (subst (λ (f : Forest Plain). IsQuiet f) reads.standing quiet) in
     let q = subst (λ (f : Forest Plain). PutsTrees s.text ix rest.next f (past goes_on after) old new tables tables')
     (sym reads.standing) p in
     record {
       puts = subst (λ (goes_on : Option ℕ). PutsTrees s.text ix rest.next (read_at s above tables old ix).trees
-          (past goes_on after) old new
-          tables tables') (sym reads.ends) q;
+          (past goes_on after) old new tables tables') (sym reads.ends) q;
       leaves = puts.leaves;
       passes = puts.passes;
       holds = λ kind learned. holds_put kind learned ready puts;
@@ -110,9 +101,7 @@ reads_item {s} {above} {ix} {trees} {goes_on} {rest} {old} {new} {tables} {table
 
 -- the shape of an open item
 pub opener_shape : (s : Setting) (tables : Tables) (nodes : List (Node Item)) (ix : ℕ) (b : ItemBody)
-    → (item_at nodes ix).body ≡ b
-    → is_open b ≡ true
-    → (label_at s.text tables nodes ix).part.shape ≡ unresolved b
+    → (item_at nodes ix).body ≡ b → is_open b ≡ true → (label_at s.text tables nodes ix).part.shape ≡ unresolved b
 opener_shape s tables nodes ix b is opens =
     let item = item_at nodes ix in
     shape-open tables (slice_range s.text item.start item.end) item.body (ap is_open is ∙ opens) ∙ ap unresolved is
@@ -123,12 +112,9 @@ pub read_opener : (s : Setting) (above : Above) (tables : Tables) (nodes : List 
     → read_at s above tables nodes ix ≡ passed s plain_tags 0 (label_at s.text tables nodes ix)
     (find_by s above b (label_at s.text tables nodes ix) (trees_from s.text tables nodes (sibling_of nodes ix)))
 unfolding read_tree
-read_opener s above tables nodes ix b is opens waits =
-    rw (opener_shape s tables nodes ix b is opens, waits) refl
+read_opener s above tables nodes ix b is opens waits = rw (opener_shape s tables nodes ix b is opens, waits) refl
 
 pub opener_unquiet : (s : Setting) (tables : Tables) (nodes : List (Node Item)) (ix : ℕ) (b : ItemBody)
-    → (item_at nodes ix).body ≡ b
-    → is_open b ≡ true → waits_for_pairing b ≡ false
+    → (item_at nodes ix).body ≡ b → is_open b ≡ true → waits_for_pairing b ≡ false
     → is_quiet (label_at s.text tables nodes ix).part.shape ≡ false
-opener_unquiet s tables nodes ix b is opens waits =
-    ap is_quiet (opener_shape s tables nodes ix b is opens) ∙ waits
+opener_unquiet s tables nodes ix b is opens waits = ap is_quiet (opener_shape s tables nodes ix b is opens) ∙ waits

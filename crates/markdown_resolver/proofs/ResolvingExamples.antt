@@ -32,8 +32,7 @@ setting_by options asks source =
       options = record { 0 = options };
       definitions = [];
       is_footnote = λ name. false;
-      asks
-          = asks;
+      asks = asks;
     })
 
 -- footnotes are enabled in GitHub's style, and there is no callback
@@ -114,8 +113,7 @@ wikilink_to name = record { kind = kind.WikiLink false; destination = name; titl
 -- backticks, and others of the same length further on: what is between them is code, including other backticks
 row_code : (known : Known)
     → left_by_pass_one (codes "``a`b``") (ticks 0 2 ∷ plain_text 2 3 ∷ ticks 3 1 ∷ plain_text 4 5 ∷ ticks 5 2 ∷ [])
-    known
-    ≡ node (sliced_at (code (codes "a`b")) 0 7) nil nil
+    known ≡ node (sliced_at (code (codes "a`b")) 0 7) nil nil
 unfolding pass_one read_chain read_tree replaced_past is_sliced
 row_code known = refl
 
@@ -128,21 +126,17 @@ unfolding pass_one read_chain read_tree replaced_past is_sliced
 row_no_closer known = refl
 
 -- two finds, with a text between them that belongs to neither
-row_two_finds : (known : Known)
-    → left_by_pass_one (codes "`a`-$b$")
+row_two_finds : (known : Known) → left_by_pass_one (codes "`a`-$b$")
     (ticks 0 1 ∷ plain_text 1 2 ∷ ticks 2 1 ∷ plain_text 3 4 ∷ dollar 4 true false ∷ plain_text 5 6 ∷ dollar 6 false
-    true ∷ []) known
-    ≡ node (sliced_at (code (codes "a")) 0 3) nil
+    true ∷ []) known ≡ node (sliced_at (code (codes "a")) 0 3) nil
     (node (over 3 4 (text_over (codes "-"))) nil (node (sliced_at (inline_math (codes "b")) 4 7) nil nil))
 unfolding pass_one read_chain read_tree replaced_past is_sliced
 row_two_finds known = refl
 
 -- an autolink, with its address as a text below it; the text that reaches past it is cut
-row_autolink : (known : Known)
-    → left_by_pass_one (codes "<http://a.b> c") (less 0 ∷ plain_text 1 14 ∷ []) known
+row_autolink : (known : Known) → left_by_pass_one (codes "<http://a.b> c") (less 0 ∷ plain_text 1 14 ∷ []) known
     ≡ node (over 0 12 (enclosed (link (address (codes "http://a.b")))))
-    (node (over 1 11 (text_over (codes "http://a.b"))) nil nil)
-    (node (over 12 14 (text_over (codes " c"))) nil nil)
+    (node (over 1 11 (text_over (codes "http://a.b"))) nil nil) (node (over 12 14 (text_over (codes " c"))) nil nil)
 unfolding pass_one read_chain read_tree markup_at all both either nonempty often often_past one optional
 row_autolink known = refl
 
@@ -155,8 +149,7 @@ unfolding pass_one read_chain read_tree markup_at all both either nonempty often
 row_tag known = refl
 
 -- a `<` that begins nothing is a Text
-row_less : (known : Known)
-    → left_by_pass_one (codes "< a") (less 0 ∷ plain_text 1 3 ∷ []) known
+row_less : (known : Known) → left_by_pass_one (codes "< a") (less 0 ∷ plain_text 1 3 ∷ []) known
     ≡ node (over 0 1 (text_over (codes "<"))) nil (node (over 1 3 (text_over (codes " a"))) nil nil)
 unfolding pass_one read_chain read_tree markup_at all both either nonempty often often_past one optional
 row_less known = refl
@@ -172,8 +165,7 @@ row_waits known = refl
 -- until they enclose what is between them: here code
 row_emphasis : (known : Known)
     → resolved_to (codes "*`a`*") (star 0 true false ∷ ticks 1 1 ∷ plain_text 2 3 ∷ ticks 3 1 ∷ star 4 false true ∷ [])
-    known
-    ≡ node (over 0 5 (enclosed emphasis)) (node (sliced_at (code (codes "a")) 1 4) nil nil) nil
+    known ≡ node (over 0 5 (enclosed emphasis)) (node (sliced_at (code (codes "a")) 1 4) nil nil) nil
 unfolding resolved pass_one read_chain read_tree replaced_past is_sliced paired runs_paired reads_from closed_by
     with_quotes
 row_emphasis known = refl
@@ -181,8 +173,7 @@ row_emphasis known = refl
 -- code is found first: a run in it pairs with nothing
 row_code_first : (known : Known)
     → resolved_to (codes "*`a*`") (star 0 true false ∷ ticks 1 1 ∷ plain_text 2 3 ∷ star 3 false true ∷ ticks 4 1 ∷ [])
-    known
-    ≡ node (over 0 1 (text_over (codes "*"))) nil (node (sliced_at (code (codes "a*")) 1 5) nil nil)
+    known ≡ node (over 0 1 (text_over (codes "*"))) nil (node (sliced_at (code (codes "a*")) 1 5) nil nil)
 unfolding resolved pass_one read_chain read_tree replaced_past is_sliced paired runs_paired reads_from closed_by
     with_quotes
 row_code_first known = refl
@@ -201,8 +192,7 @@ row_image : (known : Known)
 unfolding pass_one read_chain read_tree closed decided
 row_image known = refl
 
-row_destination : (known : Known)
-    → left_by_pass_one (codes "[a](`b`)")
+row_destination : (known : Known) → left_by_pass_one (codes "[a](`b`)")
     (opener 0 ∷ plain_text 1 2 ∷ closer 2 ∷ plain_text 3 4 ∷ ticks 4 1 ∷ plain_text 5 6 ∷ ticks 6 1
     ∷ plain_text 7 8 ∷ []) known
     ≡ node (over 0 8 (enclosed (link (inline_to (codes "`b`"))))) (node (text_at (codes "[a](`b`)") 1 2) nil nil) nil
@@ -210,34 +200,26 @@ unfolding pass_one read_chain read_tree closed decided
 row_destination known = refl
 
 -- but code that begins before the `]` is found before it
-row_code_in_brackets : (known : Known)
-    → left_by_pass_one (codes "[`a](b`)")
-    (opener 0 ∷ ticks 1 1 ∷ plain_text 2 3 ∷ closer 3 ∷ plain_text 4 6 ∷ ticks 6 1 ∷ plain_text 7 8
-    ∷ []) known
+row_code_in_brackets : (known : Known) → left_by_pass_one (codes "[`a](b`)")
+    (opener 0 ∷ ticks 1 1 ∷ plain_text 2 3 ∷ closer 3 ∷ plain_text 4 6 ∷ ticks 6 1 ∷ plain_text 7 8 ∷ []) known
     ≡ node (text_at (codes "[`a](b`)") 0 1) nil
     (node (sliced_at (code (codes "a](b")) 1 7) nil (node (text_at (codes "[`a](b`)") 7 8) nil nil))
 unfolding pass_one read_chain read_tree replaced_past is_sliced closed decided
 row_code_in_brackets known = refl
 
 -- a link holds the run inside it, which is paired when its chain is reached; one that closes outside stays open
-row_emphasis_in_link : (known : Known)
-    → resolved_below (codes "[a *b*](c)")
+row_emphasis_in_link : (known : Known) → resolved_below (codes "[a *b*](c)")
     (opener 0 ∷ plain_text 1 3 ∷ star 3 true false ∷ plain_text 4 5 ∷ star 5 false true ∷ closer 6
-    ∷ plain_text 7 10 ∷ []) known
-    ≡ node (over 0 10 (enclosed (link (inline_to (codes "c")))))
+    ∷ plain_text 7 10 ∷ []) known ≡ node (over 0 10 (enclosed (link (inline_to (codes "c")))))
     (node (text_at (codes "[a *b*](c)") 1 3) nil
-    (node (over 3 6 (enclosed emphasis)) (node (text_at (codes "[a *b*](c)") 4 5) nil nil)
-    nil)) nil
+    (node (over 3 6 (enclosed emphasis)) (node (text_at (codes "[a *b*](c)") 4 5) nil nil) nil)) nil
 unfolding resolved pass_one read_chain read_tree closed decided paired runs_paired reads_from closed_by with_quotes
 row_emphasis_in_link known = refl
 
-row_run_into_link : (known : Known)
-    → resolved_below (codes "*a [b*](c)")
+row_run_into_link : (known : Known) → resolved_below (codes "*a [b*](c)")
     (star 0 true false ∷ plain_text 1 3 ∷ opener 3 ∷ plain_text 4 5 ∷ star 5 false true ∷ closer 6
-    ∷ plain_text 7 10 ∷ []) known
-    ≡ node (text_at (codes "*a [b*](c)") 0 1) nil
-    (node (text_at (codes "*a [b*](c)") 1 3) nil
-    (node (over 3 10 (enclosed (link (inline_to (codes "c")))))
+    ∷ plain_text 7 10 ∷ []) known ≡ node (text_at (codes "*a [b*](c)") 0 1) nil
+    (node (text_at (codes "*a [b*](c)") 1 3) nil (node (over 3 10 (enclosed (link (inline_to (codes "c")))))
     (node (text_at (codes "*a [b*](c)") 4 5) nil (node (text_at (codes "*a [b*](c)") 5 6) nil nil)) nil))
 unfolding resolved pass_one read_chain read_tree closed decided paired runs_paired reads_from closed_by with_quotes
 row_run_into_link known = refl
@@ -273,8 +255,7 @@ row_whole = (
   record {
     one_byte = refl;
     delimiter = refl;
-    goes_on = record
-        { body = refl; same = refl; touches = refl; number = refl };
+    goes_on = record { body = refl; same = refl; touches = refl; number = refl };
   },
   tt,
   (record { one_byte = refl; delimiter = refl; goes_on = tt }, tt, (tt, tt, tt)),

@@ -51,8 +51,7 @@ module _ {A : Type 0} where
   all_paired-paired s chain =
       all_below s (paired s chain)
       ∙ sym (order-law s (λ g. paired_if_open s (all_paired s g)) refl (λ f h. closed_stays s f h ∙ all_below s f)
-      chain)
-      ∙ ap (paired s) (sym (all_below s chain))
+      chain) ∙ ap (paired s) (sym (all_below s chain))
 
   quiet_below : (f : Forest (Label A)) → IsQuiet f → IsQuietBelow f
   quiet_below nil q = tt
@@ -68,8 +67,7 @@ module _ {A : Type 0} where
   IsKept-from_IsQuiet (node a below after) q = (
     λ h. (quiet_below (node a below after) q, quiet_unread (node a below after) q),
     IsKept-from_IsQuiet below q.2,
-    IsKept-from_IsQuiet
-        after q.3,
+    IsKept-from_IsQuiet after q.3,
   )
 
   pub IsKept-from_IsSettled : (f : Forest (Label A)) → IsSettled f → IsKept f
@@ -85,13 +83,11 @@ module _ {A : Type 0} where
   -- so is a quiet chain once it is paired
   paired-settled : (s : Setting) (chain : Forest (Label A)) → IsQuiet chain → IsSettled (paired s chain)
   paired-settled s chain q = settled_if_closed (paired s chain) (closed-law s chain)
-      (paired-keeps IsQuietLabel made_stands s chain
-      (each_quiet chain q))
+      (paired-keeps IsQuietLabel made_stands s chain (each_quiet chain q))
 
   -- and a resolved one
   pub resolved-settled : (s : Setting) (tags : Tags A) (above : Above) (chain : Forest (Label A)) (known : Known)
-      → IsQuietBelow chain
-      → IsSettled (resolved s tags above chain known).forest
+      → IsQuietBelow chain → IsSettled (resolved s tags above chain known).forest
   unfolding resolved
   resolved-settled s tags above chain known q = paired-settled s (pass_one s tags above chain known).forest
       (pass_one-quiet s tags above chain known q)
@@ -102,5 +98,4 @@ module _ {A : Type 0} where
       → is_unresolved a.part.shape ≡ true → Begins (resolved s tags above (node a below after) known).forest
   unfolding resolved
   resolved-begins s tags above a below after known h = pass_one-first s tags above (λ f. Begins (paired s f)) a below
-      after known
-      (begins-law s) h
+      after known (begins-law s) h

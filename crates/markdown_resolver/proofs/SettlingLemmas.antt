@@ -1,8 +1,7 @@
 -- One item of a chain at which nothing is found is settled, in one node of an arena.
 use Rattle.markdown_base.specs.declared.item.ItemBody.TheVariants as body
 use Rattle.std.proofs.Common.{◌≡◌, ℕ, zero, suc, ◌<◌, ◌≤◌, Bool, true, false, List, [], ◌∷◌, length, Option, Some, None}
-use Rattle.std.proofs.Common.{refl, sym, ap, ◌∙◌}
-use Rattle.std.proofs.Common.{arith}
+use Rattle.std.proofs.Common.{refl, sym, ap, ◌∙◌, arith}
 use Rattle.std.specs.Prelude.{not, ◌&&◌, slice_range, IfSome}
 use Rattle.std.specs.Option.{option_map}
 use Rattle.markdown_base.specs.Arena.{Arena, child_of, sibling_of}
@@ -19,15 +18,12 @@ use Rattle.markdown_base.specs.declared.node.Node.{Node}
 use Rattle.markdown_base.proofs.ArenaForestLemmas.{opens, forest_at-none}
 use Rattle.markdown_base.proofs.ArenaLemmas.{length-changed_at}
 use Rattle.markdown_document.specs.ChainRest.{joined_chains}
-use Rattle.markdown_document.specs.Document.{Plain, Shape, leaf, enclosed, plain, backslash_break, unresolved}
-use Rattle.markdown_document.specs.Document.{is_unresolved, shape_of}
-use Rattle.markdown_document.specs.Document.{label_of}
+use Rattle.markdown_document.specs.Document.{Plain, shape_of, label_of}
 use Rattle.markdown_document.specs.ItemRules.{ComesBefore, KeepsItemRules}
 use Rattle.markdown_document.specs.Places.{trees_from, origin_start}
 use Rattle.markdown_document.specs.PlacedNodes.{HasSlices, IsPlaced}
 use Rattle.markdown_document.specs.Tables.{Tables}
-use Rattle.markdown_document.specs.NamedEntries.{Named, some_text, some_link, some_alignments, NamesEntries}
-use Rattle.markdown_document.specs.NamedEntries.{times_named}
+use Rattle.markdown_document.specs.NamedEntries.{Named, some_text, NamesEntries, times_named}
 use Rattle.markdown_document.specs.Totals.{same, weight_if}
 use Rattle.markdown_document.specs.Waiting.{waits_for_pairing, is_quiet}
 use Rattle.markdown_document.proofs.AboveLemmas.{block-open, open-no-block}
@@ -38,29 +34,26 @@ use Rattle.markdown_delims.proofs.PairingLemmas.{closed_shape}
 use Rattle.markdown_resolver.specs.Chains.{CanResolve}
 use Rattle.markdown_resolver.specs.Rewritten.{Puts, Rewrites, replaced, text_unless, settled}
 use Rattle.markdown_resolver.specs.Settling.{becomes_text, settled_if, settled_item, settled_at}
+use Rattle.markdown_resolver.proofs.PassOneQuietLemmas.{closed_quiet}
 use Rattle.markdown_resolver.proofs.ChainOrderLemmas.{leads_kept}
 use Rattle.markdown_resolver.proofs.ComposeLemmas.{Stands, stands_ready, changes_move, moves_none, HeadWritten}
-use Rattle.markdown_resolver.proofs.ComposeLemmas.{head_moves, after_head}
-use Rattle.markdown_resolver.proofs.ComposeLemmas.{below_kept, following_kept}
+use Rattle.markdown_resolver.proofs.ComposeLemmas.{head_moves, after_head, below_kept, following_kept}
 use Rattle.markdown_resolver.proofs.NodeChangeLemmas.{changed_other, changed_here, item_again}
 use Rattle.markdown_resolver.proofs.PastByteLemmas.{tree_same}
 use Rattle.markdown_resolver.proofs.PutLemmas.{rest_same, leaves_rest, whole_put, rewrites_none, over_numbers}
 
 -- an item that is written as a Text where it becomes one is settled, and another is settled as it is
 pub settled_open : (tree tree' : Arena Item) (ix : ℕ) (item : Item) → item ≡ item_at tree.nodes ix
-    → becomes_text item.body ≡ true
-    → tree' ≡ record tree {
+    → becomes_text item.body ≡ true → tree' ≡ record tree {
       nodes = changed_at ix
           (λ n. record n { item = record { start = item.start; end = item.end; body = body.Text false } }) tree.nodes;
-    }
-    → tree' ≡ record tree { nodes = settled_at ix tree.nodes }
+    } → tree' ≡ record tree { nodes = settled_at ix tree.nodes }
 settled_open tree tree' ix item same is made =
     let text : Item = record { start = item.start; end = item.end; body = body.Text false } in
     let e : text ≡ settled_item item = ap (λ x. let t : Item = record item { body = settled_if x item.body } in t)
     (sym is) in
     made ∙ ap (λ (x : Item). let t : Arena Item = record tree
-    { nodes = changed_at ix (λ n. record n { item = x }) tree.nodes } in t) (e
-    ∙ ap settled_item same)
+    { nodes = changed_at ix (λ n. record n { item = x }) tree.nodes } in t) (e ∙ ap settled_item same)
 
 pub settled_closed : (tree : Arena Item) (ix : ℕ) → becomes_text (item_at tree.nodes ix).body ≡ false
     → tree ≡ record tree { nodes = settled_at ix tree.nodes }
@@ -69,15 +62,13 @@ settled_closed tree ix is =
     let e : item ≡ settled_item item = ap (λ x. let t : Item = record item { body = settled_if x item.body } in t)
     (sym is) in
     ap (λ (nodes : List (Node Item)). let t : Arena Item = record tree { nodes = nodes } in t)
-    (sym (item_again tree.nodes ix))
-    ∙ ap (λ (x : Item). let t : Arena Item = record tree
+    (sym (item_again tree.nodes ix)) ∙ ap (λ (x : Item). let t : Arena Item = record tree
     { nodes = changed_at ix (λ n. record n { item = x }) tree.nodes } in t) e
 
 -- what a settled item refers to, and its weight
-names_nothing : (n : Named) → times_named n (body.Text false) ≡ 0
+pub names_nothing : (n : Named) → times_named n (body.Text false) ≡ 0
 names_nothing (some_text n) = refl
-names_nothing (some_link n) = refl
-names_nothing (some_alignments n) = refl
+names_nothing other = refl
 
 named_settled : (is : Bool) (b : ItemBody) (n : Named) → times_named n (settled_if is b) ≤ times_named n b
 named_settled true b n = omega (arith, names_nothing n)
@@ -89,8 +80,7 @@ in_table_settled true b tables h = record { text = tt; link = tt; alignments = t
 in_table_settled false b tables h = h
 
 slices_settled : (source : List ℕ) (is : Bool) (start end : ℕ) (b : ItemBody) (tables : Tables)
-    → HasSlices source tables start end b
-    → HasSlices source tables start end (settled_if is b)
+    → HasSlices source tables start end b → HasSlices source tables start end (settled_if is b)
 slices_settled source true start end b tables h = tt
 slices_settled source false start end b tables h = h
 
@@ -106,25 +96,9 @@ text_open b h = by_open (is_open b) (waits_for_pairing b) h
     by_open true waits h = refl
     by_open false waits h = cc h
 
-text_waits_not : (b : ItemBody) → becomes_text b ≡ true → waits_for_pairing b ≡ false
-text_waits_not b h = by_open (is_open b) (waits_for_pairing b) h
-  where
-    by_open : (is waits : Bool) → (is && not waits) ≡ true → waits ≡ false
-    by_open true true h = cc h
-    by_open true false h = refl
-    by_open false waits h = cc h
-
 text_no_run : (b : ItemBody) → becomes_text b ≡ true → run_character b ≡ None
 text_no_run (body.MaybeEmphasis n opens closes) h = cc h
 text_no_run other h = refl
-
--- what does not is quiet
-closed_quiet : (shape : Shape) → is_unresolved shape ≡ false → is_quiet shape ≡ true
-closed_quiet (leaf e origins) h = refl
-closed_quiet (enclosed tag) h = refl
-closed_quiet plain h = refl
-closed_quiet backslash_break h = refl
-closed_quiet (unresolved b) h = cc h
 
 quiet_shape : (tables : Tables) (source : List ℕ) (b : ItemBody) → is_quiet (shape_of tables source b)
     ≡ not (becomes_text b)
@@ -140,20 +114,17 @@ quiet_shape tables source b = by_open (is_open b) refl
 
 -- it reads as what replaces the label of what it was, where nothing is below what becomes a Text
 reads_settled : (source : List ℕ) (tables : Tables) (item : Item) (below rest : Forest Plain) (is : Bool)
-    → becomes_text item.body ≡ is
-    → (is_open item.body ≡ true → below ≡ nil)
+    → becomes_text item.body ≡ is → (is_open item.body ≡ true → below ≡ nil)
     → node (label_of source tables (record item { body = settled_if is item.body })) below rest
     ≡ joined_chains (text_unless (not is) source (label_of source tables item) below) rest
 reads_settled source tables item below rest true e childless = rw (
   block-open item.body (text_open item.body e),
-  childless
-      (text_open item.body e),
+  childless (text_open item.body e),
 ) refl
 reads_settled source tables item below rest false e childless = refl
 
 settled_reads : (source : List ℕ) (tables : Tables) (item : Item) (below rest : Forest Plain)
-    → (is_open item.body ≡ true → below ≡ nil)
-    → node (label_of source tables (settled_item item)) below rest
+    → (is_open item.body ≡ true → below ≡ nil) → node (label_of source tables (settled_item item)) below rest
     ≡ joined_chains (settled source (label_of source tables item) below) rest
 settled_reads source tables item below rest childless =
     reads_settled source tables item below rest (becomes_text item.body) refl childless
@@ -161,10 +132,9 @@ settled_reads source tables item below rest childless =
     (sym (quiet_shape tables (slice_range source item.start item.end) item.body))
 
 -- the node is there
-pub node_within : (source : List ℕ) (tables : Tables) (nodes : List (Node Item)) (ix : ℕ)
-    → CanResolve source tables nodes (Some ix)
-    → ix < length nodes
-node_within source tables nodes ix ready
+pub node_within : {source : List ℕ} {tables : Tables} {nodes : List (Node Item)} {ix : ℕ}
+    → CanResolve source tables nodes (Some ix) → ix < length nodes
+node_within {source} {tables} {nodes} {ix} ready
     = (opens (links_of nodes) (IsPlaced source tables nodes) ix ready.reaches).within
 
 -- what a settled item precedes and follows, and the rules that it keeps
@@ -189,8 +159,7 @@ follows_settled ix item (Some b) e stands = λ x y.
     record { ends = p.ends; numbers = p.numbers }
 
 keeps_settled : (source : List ℕ) (ix : ℕ) (item : Item) (child : Option ℕ) (next : Option Numbered) (is : Bool)
-    → becomes_text item.body ≡ is
-    → KeepsItemRules source (record { number = ix; item = item }) child next
+    → becomes_text item.body ≡ is → KeepsItemRules source (record { number = ix; item = item }) child next
     → KeepsItemRules source (record { number = ix; item = record item { body = settled_if is item.body } }) child next
 keeps_settled source ix item child next true e h =
     keeps-closed source (record { number = ix; item = record item { body = body.Text false } }) child next refl
@@ -199,9 +168,7 @@ keeps_settled source ix item child next false e h = h
 
 -- a run that an item continues still does where that item is settled, which changes no run's character
 goes_on_settled : (source : List ℕ) (a b : Numbered) (count : ℕ) (opens closes is : Bool) → becomes_text b.item.body
-    ≡ is
-    → RunGoesOn source a count opens closes (Some b)
-    → RunGoesOn source a count opens closes
+    ≡ is → RunGoesOn source a count opens closes (Some b) → RunGoesOn source a count opens closes
     (Some (record { number = b.number; item = record b.item { body = settled_if is b.item.body } }))
 goes_on_settled source a b zero opens closes is e h = h
 goes_on_settled source a b (suc zero) opens closes true e h = tt
@@ -221,8 +188,7 @@ run_settled source a b (Some c) h = record {
 
 -- the node of an item is written
 head_settled : (source : List ℕ) (tables : Tables) (nodes : List (Node Item)) (ix : ℕ)
-    → Stands source tables nodes (Some ix)
-    → HeadWritten source ix nodes (settled_at ix nodes) tables tables
+    → Stands source tables nodes (Some ix) → HeadWritten source ix nodes (settled_at ix nodes) tables tables
 head_settled source tables nodes ix s =
     let o = opens (links_of nodes) (IsPlaced source tables nodes) ix s.reaches in
     let item = item_at nodes ix in
@@ -237,8 +203,7 @@ head_settled source tables nodes ix s =
       grown = grown-nothing tables;
       lies = rw c.item (record { ordered = lies.ordered; start = lies.start; end = lies.end });
       slices = rw c.item (slices_settled source (becomes_text item.body) (origin_start source item.start) item.end
-          item.body tables
-          o.holds.slices);
+          item.body tables o.holds.slices);
       entries = rw c.item (in_table_settled (becomes_text item.body) item.body tables o.holds.named);
       markup = rw c.item keeps.markup_is_there;
       childless = rw (c.item, c.child) keeps.childless;
@@ -252,18 +217,18 @@ one_settled true source a below = refl
 one_settled false source a below = refl
 
 -- what replaces it is put in place
-pub settle_puts : (source : List ℕ) (tables : Tables) (nodes : List (Node Item)) (ix : ℕ)
+pub settle_puts : {source : List ℕ} {tables : Tables} {nodes : List (Node Item)} {ix : ℕ}
     → CanResolve source tables nodes (Some ix)
     → Puts source ix (settled source) None (record { next = sibling_of nodes ix; passed = 0 }) nodes
     (settled_at ix nodes) tables tables
-settle_puts source tables nodes ix ready =
-    let s = stands_ready source tables nodes (Some ix) ready in
+settle_puts {source} {tables} {nodes} {ix} ready =
+    let s = stands_ready ready in
     let item = item_at nodes ix in
     let mid = settled_at ix nodes in
     let o = opens (links_of nodes) (IsPlaced source tables nodes) ix s.reaches in
     let c = changed_here nodes ix (λ n. record n { item = settled_item item }) o.within in
     let h = head_settled source tables nodes ix s in
-    let a = after_head source ix nodes mid tables tables s h in
+    let a = after_head s h in
     let keeps = keeps_settled source ix item (child_of nodes ix) (next_at nodes ix) (becomes_text item.body) refl
     o.holds.keeps in
     let following = following_kept source ix nodes mid tables tables s h in
@@ -271,9 +236,8 @@ settle_puts source tables nodes ix ready =
     let whole : (rule : Forest Plain → Forest Plain) (new : List (Node Item)) (later : Tables)
     → Rewrites source rule l mid new tables later
     → Rewrites source (replaced (settled source) None rule) (Some ix) nodes new tables later = λ rule new later r.
-    let m = changes_move source l mid new tables later r.changes in
-    let kept = below_kept source ix nodes mid new tables tables later l s h m c.child
-    (rw c.item (weight_settled (becomes_text item.body) item.body)) in
+    let m = changes_move r.changes in
+    let kept = below_kept l s h m c.child (rw c.item (weight_settled (becomes_text item.body) item.body)) in
     let follows : ComesBefore (numbered mid ix) (option_map (numbered new) l) = r.changes.before (numbered mid ix)
     (rw (following, c.item) keeps.in_order) in
     let goes_on = r.runs (numbered mid ix) (rw (following, c.item) keeps.runs_are_whole) in
@@ -286,19 +250,17 @@ settle_puts source tables nodes ix ready =
     whole_put source ix nodes mid new tables tables later (settled source) None rule ready h hm
     (λ b stands. before_settled b nodes mid ix c.item stands)
     (λ b whole. rw c.item (run_settled source b (numbered nodes ix) (run_character b.item.body) whole))
-    (tree_same _ _ _ _ _ _ (ap (λ x. label_of source tables x) c.item) kept.trees rest
+    (tree_same (ap (λ x. label_of source tables x) c.item) kept.trees rest
     ∙ settled_reads source tables item (trees_from source tables nodes (child_of nodes ix))
-    (rule (trees_from source tables nodes l)) none)
-    in
-    let all = whole (λ f. f) mid tables (rewrites_none source l mid tables a.stands) in
+    (rule (trees_from source tables nodes l)) none) in
+    let all = whole (λ f. f) mid tables (rewrites_none a.stands) in
     record {
       whole = whole;
       leaves = leaves_rest source ix nodes mid mid tables tables tables l None ready h
-          (moves_none source l mid tables a.stands)
-          a.rest.trees;
+          (moves_none a.stands) a.rest.trees;
       passes = rw (o.here, a.rest.forest) (omega arith);
       leads = λ low chain k. leads_kept nodes mid l (forest_at (links_of nodes) l) low chain a.after.spelled h.more
-          (rest_same source ix nodes mid tables tables s h) k;
+          (rest_same s h) k;
       standing = ix ∷ [];
       numbers = over_numbers source ix l mid tables all.changes.reaches c.next;
       as_many = λ x below. one_settled (is_quiet x.part.shape) source x below;

@@ -11,15 +11,13 @@ use Rattle.markdown_base.specs.declared.item.ItemBody.{ItemBody}
 use Rattle.markdown_base.specs.declared.item.ItemBody.TheVariants as body
 use Rattle.markdown_base.specs.declared.node.Node.{Node}
 use Rattle.markdown_document.specs.ChainRest.{as_item, open_body}
-use Rattle.markdown_document.specs.Document.{Shape, leaf, enclosed, plain, backslash_break, unresolved, is_unresolved}
-use Rattle.markdown_document.specs.Document.{shape_of}
+use Rattle.markdown_document.specs.Document.{Shape, unresolved, is_unresolved, shape_of}
 use Rattle.markdown_document.specs.Places.{label_at}
 use Rattle.markdown_document.specs.Tables.{Tables}
 use Rattle.markdown_document.proofs.PlaceLemmas.{shape-open}
 use Rattle.markdown_spans.specs.Closers.{Dollar, MathClose, can_close, can_open, math_closed_by, closing_count}
-use Rattle.markdown_spans.specs.Closers.{code_close, code_closer}
-use Rattle.markdown_spans.specs.Closers.{context_of, display_close, dollar_next, first_dollar, inline_close, is_code_of}
-use Rattle.markdown_spans.specs.Closers.{is_dollar, is_dollar_of, math_close, math_close_from}
+use Rattle.markdown_spans.specs.Closers.{code_close, code_closer, context_of, display_close, dollar_next, first_dollar}
+use Rattle.markdown_spans.specs.Closers.{inline_close, is_code_of, is_dollar, is_dollar_of, math_close, math_close_from}
 use Rattle.markdown_spans.specs.CloserSearches.{searched_for_math}
 use Rattle.markdown_spans.specs.SpanClosers.{item_in}
 use Rattle.markdown_delims.proofs.PairingLemmas.{closed_shape}
@@ -34,16 +32,13 @@ pub record LooksAlike (shown item : Item) : Type 0 where
   pub closes : can_close shown.body ≡ can_close item.body
 
 -- so it is with a label, which counts as a Text where its item is not open
-body_open : (tables : Tables) (source : List ℕ) (b : ItemBody) → is_open b ≡ true → open_body (shape_of tables source b)
-    ≡ b
+pub body_open : (tables : Tables) (source : List ℕ) (b : ItemBody) → is_open b ≡ true → open_body
+    (shape_of tables source b) ≡ b
 body_open tables source b h = ap open_body (shape-open tables source b h)
 
 open_closed : (shape : Shape) → is_unresolved shape ≡ false → open_body shape ≡ body.Text false
-open_closed (leaf e origins) h = refl
-open_closed (enclosed tag) h = refl
-open_closed plain h = refl
-open_closed backslash_break h = refl
 open_closed (unresolved b) h = cc h
+open_closed other h = refl
 
 code_closed : (n : ℕ) (b : ItemBody) → is_open b ≡ false → is_code_of n b ≡ false
 code_closed n (body.MaybeCode count escaped) h = cc h
@@ -100,8 +95,7 @@ number_alike nodes n = record {
   code = λ k. refl;
   dollar = refl;
   context = λ k. refl;
-  closes
-      = refl;
+  closes = refl;
 }
 
 -- what closes math, of numbers shown as something else
@@ -118,8 +112,7 @@ module _ {A : Type 0} (item_of : A → Item) (g : ℕ → A) (nodes : List (Node
       ≡ option_map g (code_closer (item_at nodes) n xs)
   code_closer_shown n [] = refl
   code_closer_shown n (x ∷ after) = by (is_code_of n (item_of (g x)).body) (is_code_of n (item_at nodes x).body)
-      ((alike x).code n)
-      (code_closer_shown n after)
+      ((alike x).code n) (code_closer_shown n after)
     where
       by : (b b' : Bool) → b ≡ b' → code_closer item_of n (map g after)
           ≡ option_map g (code_closer (item_at nodes) n after)
@@ -156,16 +149,13 @@ module _ {A : Type 0} (item_of : A → Item) (g : ℕ → A) (nodes : List (Node
       ≡ option_map (shown_dollar g) (first_dollar (item_at nodes) context xs)
   first_dollar_shown context [] = refl
   first_dollar_shown context (x ∷ after) = by (is_dollar_of context (item_of (g x)).body)
-      (is_dollar_of context (item_at nodes x).body)
-      ((alike x).context context) (first_dollar_shown context after)
+      (is_dollar_of context (item_at nodes x).body) ((alike x).context context) (first_dollar_shown context after)
     where
       by : (b b' : Bool) → b ≡ b' → first_dollar item_of context (map g after)
           ≡ option_map (shown_dollar g) (first_dollar (item_at nodes) context after)
           → (if b then Some (record { dollar = g x; after = map g after }) else first_dollar item_of context
-          (map g after))
-          ≡ option_map (shown_dollar g)
-          (if b' then Some (record { dollar = x; after = after }) else first_dollar (item_at nodes) context
-          after)
+          (map g after)) ≡ option_map (shown_dollar g)
+          (if b' then Some (record { dollar = x; after = after }) else first_dollar (item_at nodes) context after)
       by true true e h = refl
       by true false e h = cc e
       by false true e h = cc e
@@ -258,14 +248,12 @@ code_closer_among nodes n [] x e = cc e
 code_closer_among nodes n (y ∷ xs) x e = by (is_code_of n (item_at nodes y).body) refl (code_closer_among nodes n xs x)
   where
     by : (b : Bool) → is_code_of n (item_at nodes y).body ≡ b
-        → (code_closer (item_at nodes) n xs ≡ Some x → CodeCloses nodes xs n x)
-        → CodeCloses nodes (y ∷ xs) n x
+        → (code_closer (item_at nodes) n xs ≡ Some x → CodeCloses nodes xs n x) → CodeCloses nodes (y ∷ xs) n x
     by true is later =
         let same : y ≡ x = let found = rw is at e in cc in
         record {
           among = record { before = []; after = xs; parts = ap (λ z. z ∷ xs) same };
-          is_code =
-              ap (λ z. is_code_of n (item_at nodes z).body) (sym same) ∙ is;
+          is_code = ap (λ z. is_code_of n (item_at nodes z).body) (sym same) ∙ is;
         }
     by false is later =
         let there = later (rw is at e) in

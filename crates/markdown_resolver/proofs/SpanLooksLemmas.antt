@@ -1,10 +1,10 @@
 -- How many items a search of a chain examines, where the chain is read on past what it found.
 use Rattle.std.proofs.Common.{◌≡◌, ℕ, suc, ◌+◌, ◌≤◌, Bool, true, false, not, ◌==◌, List, ◌∷◌, ◌++◌, map, length, Option}
-use Rattle.std.proofs.Common.{Some, None, refl}
-use Rattle.std.proofs.Common.{sym, ap, ◌∙◌, arith, subst}
+use Rattle.std.proofs.Common.{Some, None, refl, sym, ap, ◌∙◌, arith, subst}
 use Rattle.std.specs.Prelude.{if◌then◌else◌, is_some}
 use Rattle.std.specs.Option.{option_map}
 use Rattle.std.proofs.lemmas.List.{length-map, map-append}
+use Rattle.markdown_base.specs.Arena.{sibling_of}
 use Rattle.markdown_base.specs.BlockTree.{Numbered, numbered, item_at}
 use Rattle.markdown_base.specs.declared.item.Item.{Item}
 use Rattle.markdown_base.specs.declared.item.ItemBody.{ItemBody}
@@ -16,9 +16,9 @@ use Rattle.markdown_spans.specs.Closers.{Dollar, can_open, closing_count, code_c
 use Rattle.markdown_spans.specs.Closers.{math_close_from}
 use Rattle.markdown_spans.specs.CloserSearches.{looked_for_code, looked_for_code_close, looked_for_math_from}
 use Rattle.markdown_spans.specs.CloserSearches.{opens_code, searched_for_math}
-use Rattle.markdown_spans.specs.SpanClosers.{ClosesCode, ClosesMath, Learned, LooksForCode, LooksForMath, RisesBy}
-use Rattle.markdown_spans.specs.SpanClosers.{failed_by_now, has_failed}
-use Rattle.markdown_spans.specs.SpanClosers.{LooksForCodeAtMost, LooksForMathAtMost, item_in, unless_failed}
+use Rattle.markdown_spans.specs.ChainInArena.{LeadsThrough}
+use Rattle.markdown_spans.specs.SpanClosers.{ClosesCode, ClosesMath, Learned, RisesBy, failed_by_now, has_failed}
+use Rattle.markdown_spans.specs.SpanClosers.{item_in, unless_failed}
 use Rattle.markdown_spans.specs.declared.span_closers.FoundMath.{FoundMath}
 use Rattle.markdown_spans.proofs.VisitLemmas.{code_visit_law, math_visit_law}
 use Rattle.markdown_resolver.specs.declared.rest.Rest.{Rest}
@@ -29,8 +29,7 @@ use Rattle.markdown_resolver.proofs.FollowersLemmas.{InOrder, fewer_left, follow
 use Rattle.markdown_resolver.proofs.CodeSpanLemmas.{closed_code, closes_by_number}
 use Rattle.markdown_resolver.proofs.MathSpanLemmas.{MathStands, close_of, math_by_number, stands_of}
 use Rattle.markdown_resolver.proofs.SpanFindLemmas.{StandsAmong, code_close_shown, first_dollar_shown, math_from_shown}
-use Rattle.markdown_resolver.proofs.SpanFindLemmas.{number_alike}
-use Rattle.markdown_resolver.proofs.SpanFindLemmas.{searched_shown, shown_close, shown_dollar}
+use Rattle.markdown_resolver.proofs.SpanFindLemmas.{number_alike, searched_shown, shown_close, shown_dollar}
 use Rattle.markdown_document.specs.Counts.{RisesAtMost}
 
 -- a search examines no more items than there are; none without an opener; and where it finds, none past what is left
@@ -60,18 +59,18 @@ looks_at (Some known) after searched found looked old new items items' rises fai
 
 -- the number of items that are left of a chain
 pub items_put : (source : List ℕ) (ix : ℕ) (trees : Standing) (goes_on : Option ℕ) (rest : Rest)
-    (old new : List (Node Item))
-    (tables tables' : Tables) → CanResolve source tables old (Some ix)
+    (old new : List (Node Item)) (tables tables' : Tables) → CanResolve source tables old (Some ix)
     → Puts source ix trees goes_on rest old new tables tables'
     → items_from new rest.next ≡ length (numbered_past goes_on (map (numbered old) (followers old ix)))
 items_put source ix trees goes_on rest old new tables tables' ready puts =
-    let o = opens_chain source tables old ix ready in
+    let o = opens_chain ready in
     let chain = map (numbered old) (followers old ix) in
     items_led source tables' new rest.next (suc ix) (numbered_past goes_on chain) puts.leaves.ready
     (puts.leads (suc ix) chain o.leads)
 
 -- no search is made for backticks that open nothing
-unless_code : (b : ItemBody) (chain : List Numbered) → opens_code b ≡ false → looked_for_code_close item_in b chain ≡ 0
+pub unless_code : (b : ItemBody) (chain : List Numbered) → opens_code b ≡ false → looked_for_code_close item_in b chain
+    ≡ 0
 unless_code (body.MaybeCode count escaped) chain h = by (closing_count count escaped == 0) h
   where
     by : (none : Bool) → not none ≡ false
@@ -80,31 +79,7 @@ unless_code (body.MaybeCode count escaped) chain h = by (closing_count count esc
     by false h = cc h
 unless_code other chain h = refl
 
--- where nothing closes code
-pub nothing_looks : {source : List ℕ} {tables tables' : Tables} {old new : List (Node Item)} {ix : ℕ} {trees : Standing}
-    {rest : Rest} {found : Option ℕ} (learned after : Learned) (visits visits' : ℕ)
-    → CanResolve source tables old (Some ix) → LooksForCode learned old ix visits visits'
-    → has_failed after ≡ failed_by_now learned (opens_code (item_at old ix).body) (is_some found) → found ≡ None
-    → Puts source ix trees None rest old new tables tables'
-    → LooksAt (has_failed learned) (has_failed after) visits visits' (items_from old (Some ix))
-    (items_from new rest.next)
-nothing_looks {source} {tables} {tables'} {old} {new} {ix} {trees} {rest} learned after visits visits' ready counted
-    failed none puts =
-    let o = opens_chain source tables old ix ready in
-    let chain = map (numbered old) (followers old ix) in
-    let looked = looked_for_code_close item_in (item_at old ix).body chain in
-    let size = length-map (followers old ix) (numbered old) in
-    let left = items_put source ix trees None rest old new tables tables' ready puts in
-    let within = code_visit_law.within (item_at old ix).body chain in
-    looks_at learned (has_failed after) (opens_code (item_at old ix).body) false looked visits visits'
-    (items_from old (Some ix))
-    (items_from new rest.next)
-    (counted (suc ix) chain o.leads)
-    (failed ∙ ap (λ (f : Option ℕ). failed_by_now learned (opens_code (item_at old ix).body) (is_some f)) none)
-    (omega (arith, within, size, o.items)) (omega (arith, left, size, o.items))
-    (unless_code (item_at old ix).body chain) (λ found. cc found)
-
--- and where something does
+-- where something closes code, the search ends there
 up_to_closer : (nodes : List (Node Item)) (count : ℕ) (escaped : Bool) (xs : List ℕ) (x : ℕ) (among : StandsAmong xs x)
     → code_close (item_at nodes) (body.MaybeCode count escaped) xs ≡ Some x
     → looked_for_code_close item_in (body.MaybeCode count escaped) (map (numbered nodes) xs) + length among.after ≤
@@ -117,89 +92,21 @@ up_to_closer nodes count escaped xs x among closes =
     ∙ map-append (numbered nodes) among.before (x ∷ among.after) in
     let found : code_close item_in b (before ++ numbered nodes x ∷ later) ≡ Some (numbered nodes x) =
     ap (code_close item_in b) (sym parts) ∙ code_close_shown item_in (numbered nodes) nodes (number_alike nodes) count
-    escaped xs
-    ∙ ap (option_map (numbered nodes)) closes in
+    escaped xs ∙ ap (option_map (numbered nodes)) closes in
     let law = code_visit_law.before b before later (numbered nodes x) found in
     let size = length-map xs (numbered nodes) in
     let rest = length-map among.after (numbered nodes) in
     let all = ap length parts in
     rw parts (omega (arith, law, size, rest, all))
 
-pub code_looks : {source : List ℕ} {tables tables' : Tables} {old new : List (Node Item)} {ix : ℕ} {x count : ℕ}
-    {escaped : Bool}
-    {trees : Standing} {rest : Rest} {found : Option ℕ} (learned after : Learned) (visits visits' : ℕ)
-    → CanResolve source tables old (Some ix) → (item_at old ix).body ≡ body.MaybeCode count escaped
-    → ClosesCode old ix (Some x)
-    → LooksForCode learned old ix visits visits'
-    → has_failed after ≡ failed_by_now learned (opens_code (item_at old ix).body) (is_some found) → found ≡ Some x
-    → Puts source ix trees (Some (item_at old x).end) rest old new tables tables'
-    → LooksAt (has_failed learned) (has_failed after) visits visits' (items_from old (Some ix))
-    (items_from new rest.next)
-code_looks {source} {tables} {tables'} {old} {new} {ix} {x} {count} {escaped} {trees} {rest} learned after visits
-    visits' ready is
-    closes counted failed some puts =
-    let o = opens_chain source tables old ix ready in
-    let xs = followers old ix in
-    let chain = map (numbered old) xs in
-    let end = (item_at old x).end in
-    let there = (closed_code source tables old ix x count escaped ready is closes).1 in
-    let among = there.among in
-    let looked = looked_for_code_close item_in (item_at old ix).body chain in
-    let ordered : InOrder old (item_at old ix).end (among.before ++ x ∷ among.after) = subst
-    (InOrder old (item_at old ix).end) among.parts
-    o.ordered in
-    let left : items_from new rest.next ≡ length (numbered_past (Some end) chain) = items_put source ix trees (Some end)
-    rest old new tables
-    tables' ready puts in
-    let fewer : length (numbered_past (Some end) chain) ≤ length among.after =
-    subst (λ (xs : List ℕ). length (numbered_past (Some end) (map (numbered old) xs)) ≤ length among.after)
-    (sym among.parts)
-    (fewer_left old (item_at old ix).end end among.before x among.after ordered (omega arith)) in
-    let up_to : looked + length among.after ≤ length xs =
-    subst (λ (b : ItemBody). looked_for_code_close item_in b chain + length among.after ≤ length xs) (sym is)
-    (up_to_closer old count escaped xs x among
-    (closes_by_number source tables old ix count escaped (Some x) ready is closes)) in
-    looks_at learned (has_failed after) (opens_code (item_at old ix).body) true looked visits visits'
-    (items_from old (Some ix))
-    (items_from new rest.next)
-    (counted (suc ix) chain o.leads)
-    (failed ∙ ap (λ (f : Option ℕ). failed_by_now learned (opens_code (item_at old ix).body) (is_some f)) some)
-    (omega (arith, up_to, o.items)) (omega (arith, up_to, left, fewer, o.items))
-    (unless_code (item_at old ix).body chain) (λ found. omega (arith, up_to, left, fewer, o.items))
-
 -- no search is made for a `$` that opens nothing
-unless_math : (opener : Item) (chain : List Numbered) → can_open opener.body ≡ false
+pub unless_math : (opener : Item) (chain : List Numbered) → can_open opener.body ≡ false
     → looked_for_math_from item_in opener chain ≡ 0
 unless_math opener chain h = rw h refl
 
--- where nothing closes math
-pub no_math_looks : {source : List ℕ} {tables tables' : Tables} {old new : List (Node Item)} {ix : ℕ} {trees : Standing}
-    {rest : Rest} {found : Option FoundMath} (learned after : Learned) (visits visits' : ℕ)
-    → CanResolve source tables old (Some ix) → LooksForMath learned old ix visits visits'
-    → has_failed after ≡ failed_by_now learned (can_open (item_at old ix).body) (is_some found) → found ≡ None
-    → Puts source ix trees None rest old new tables tables'
-    → LooksAt (has_failed learned) (has_failed after) visits visits' (items_from old (Some ix))
-    (items_from new rest.next)
-no_math_looks {source} {tables} {tables'} {old} {new} {ix} {trees} {rest} learned after visits visits' ready counted
-    failed none puts =
-    let o = opens_chain source tables old ix ready in
-    let chain = map (numbered old) (followers old ix) in
-    let looked = looked_for_math_from item_in (item_at old ix) chain in
-    let size = length-map (followers old ix) (numbered old) in
-    let left = items_put source ix trees None rest old new tables tables' ready puts in
-    let within = math_visit_law.within (item_at old ix) chain in
-    looks_at learned (has_failed after) (can_open (item_at old ix).body) false looked visits visits'
-    (items_from old (Some ix))
-    (items_from new rest.next)
-    (counted (suc ix) chain o.leads)
-    (failed ∙ ap (λ (f : Option FoundMath). failed_by_now learned (can_open (item_at old ix).body) (is_some f)) none)
-    (omega (arith, within, size, o.items)) (omega (arith, left, size, o.items))
-    (unless_math (item_at old ix) chain) (λ found. cc found)
-
--- and where something does
+-- where something closes math, the search ends there
 up_to_dollar : (nodes : List (Node Item)) (opener : Item) (xs : List ℕ) (m : FoundMath)
-    → math_close_from (item_at nodes) opener xs
-    ≡ Some (close_of m)
+    → math_close_from (item_at nodes) opener xs ≡ Some (close_of m)
     → (stands : MathStands nodes opener.end (context_of opener.body) xs m)
     → looked_for_math_from item_in opener (map (numbered nodes) xs) + length stands.after ≤ length xs
 up_to_dollar nodes opener xs m closes stands =
@@ -212,47 +119,9 @@ up_to_dollar nodes opener xs m closes stands =
     let first : first_dollar item_in context (searched_for_math item_in chain) ≡ Some d =
     ap (first_dollar item_in context) (searched_shown item_in (numbered nodes) nodes (number_alike nodes) xs)
     ∙ first_dollar_shown item_in (numbered nodes) nodes (number_alike nodes) context
-    (searched_for_math (item_at nodes) xs)
-    ∙ ap (option_map (shown_dollar (numbered nodes))) stands.first in
+    (searched_for_math (item_at nodes) xs) ∙ ap (option_map (shown_dollar (numbered nodes))) stands.first in
     let law = math_visit_law.before opener chain d found first in
     omega (arith, law, length-map xs (numbered nodes), length-map stands.after (numbered nodes))
-
-pub math_looks : {source : List ℕ} {tables tables' : Tables} {old new : List (Node Item)} {ix : ℕ} {m : FoundMath}
-    {trees : Standing} {rest : Rest} {found : Option FoundMath} (learned after : Learned) (visits visits' : ℕ)
-    → CanResolve source tables old (Some ix) → ClosesMath old ix (Some m)
-    → LooksForMath learned old ix visits visits'
-    → has_failed after ≡ failed_by_now learned (can_open (item_at old ix).body) (is_some found) → found ≡ Some m
-    → Puts source ix trees (Some (item_at old m.last).end) rest old new tables tables'
-    → LooksAt (has_failed learned) (has_failed after) visits visits' (items_from old (Some ix))
-    (items_from new rest.next)
-math_looks {source} {tables} {tables'} {old} {new} {ix} {m} {trees} {rest} learned after visits visits' ready closes
-    counted failed
-    some puts =
-    let o = opens_chain source tables old ix ready in
-    let xs = followers old ix in
-    let chain = map (numbered old) xs in
-    let end = (item_at old m.last).end in
-    let there = stands_of source tables old ix m ready closes in
-    let looked = looked_for_math_from item_in (item_at old ix) chain in
-    let ordered : InOrder old (item_at old ix).end (there.before ++ m.closer ∷ there.after) = subst
-    (InOrder old (item_at old ix).end)
-    there.parts o.ordered in
-    let left : items_from new rest.next ≡ length (numbered_past (Some end) chain) = items_put source ix trees (Some end)
-    rest old new tables
-    tables' ready puts in
-    let fewer : length (numbered_past (Some end) chain) ≤ length there.after =
-    subst (λ (xs : List ℕ). length (numbered_past (Some end) (map (numbered old) xs)) ≤ length there.after)
-    (sym there.parts)
-    (fewer_left old (item_at old ix).end end there.before m.closer there.after ordered there.to_last) in
-    let up_to = up_to_dollar old (item_at old ix) xs m (math_by_number source tables old ix (Some m) ready closes) there
-    in
-    looks_at learned (has_failed after) (can_open (item_at old ix).body) true looked visits visits'
-    (items_from old (Some ix))
-    (items_from new rest.next)
-    (counted (suc ix) chain o.leads)
-    (failed ∙ ap (λ (f : Option FoundMath). failed_by_now learned (can_open (item_at old ix).body) (is_some f)) some)
-    (omega (arith, up_to, o.items)) (omega (arith, up_to, left, fewer, o.items))
-    (unless_math (item_at old ix) chain) (λ found. omega (arith, up_to, left, fewer, o.items))
 
 -- memory was refused to a search, which has learned nothing
 refused_at : (learned : Learned) (looked old new items : ℕ) → RisesAtMost (unless_failed learned looked) old new
@@ -272,52 +141,140 @@ refused_at (Some known) looked old new items at_most within = record {
   past = λ works. cc works;
 }
 
-module _ {source : List ℕ} {tables : Tables} {old : List (Node Item)} {ix : ℕ} (learned : Learned) (visits visits' : ℕ)
-    (ready : CanResolve source tables old (Some ix)) where
-  pub code_refused : LooksForCodeAtMost learned old ix visits visits'
-      → LooksAtMost (has_failed learned) (has_failed learned) visits visits' (items_from old (Some ix))
-  code_refused at_most =
-      let o = opens_chain source tables old ix ready in
-      let chain = map (numbered old) (followers old ix) in
-      let size = length-map (followers old ix) (numbered old) in
-      let within = code_visit_law.within (item_at old ix).body chain in
-      refused_at learned (looked_for_code_close item_in (item_at old ix).body chain) visits visits'
-      (items_from old (Some ix))
-      (at_most (suc ix) chain o.leads) (omega (arith, within, size, o.items))
+-- a search from an opener: whether there is one, and how many items of a chain it examines
+pub record Search : Type 0 where
+  pub opens : Bool
+  pub looked : List Numbered → ℕ
+  pub within : (chain : List Numbered) → looked chain ≤ length chain
+  pub unless : (chain : List Numbered) → opens ≡ false → looked chain ≡ 0
 
-  pub math_refused : LooksForMathAtMost learned old ix visits visits'
-      → LooksAtMost (has_failed learned) (has_failed learned) visits visits' (items_from old (Some ix))
-  math_refused at_most =
-      let o = opens_chain source tables old ix ready in
-      let chain = map (numbered old) (followers old ix) in
+abbrev pub code_search : Item → Search
+code_search opener = record {
+  opens = opens_code opener.body;
+  looked = looked_for_code_close item_in opener.body;
+  within = code_visit_law.within opener.body;
+  unless = unless_code opener.body;
+}
+
+abbrev pub math_search : Item → Search
+math_search opener = record {
+  opens = can_open opener.body;
+  looked = looked_for_math_from item_in opener;
+  within = math_visit_law.within opener;
+  unless = unless_math opener;
+}
+
+-- what a search found ends at a byte offset: of the items after the opener those that it did not examine come later
+pub record FoundUpTo (search : Search) (nodes : List (Node Item)) (xs : List ℕ) (end : ℕ) : Type 0 where
+  pub item : ℕ
+  pub among : StandsAmong xs item
+  pub ends : (item_at nodes item).end ≤ end
+  pub up_to : search.looked (map (numbered nodes) xs) + length among.after ≤ length xs
+
+pub code_up_to : (source : List ℕ) (tables : Tables) (nodes : List (Node Item)) (ix x count : ℕ) (escaped : Bool)
+    → CanResolve source tables nodes (Some ix) → (item_at nodes ix).body ≡ body.MaybeCode count escaped
+    → ClosesCode nodes ix (Some x)
+    → FoundUpTo (code_search (item_at nodes ix)) nodes (followers nodes ix) (item_at nodes x).end
+code_up_to source tables nodes ix x count escaped ready is closes =
+    let among = (closed_code ready is closes).1.among in
+    let xs = followers nodes ix in
+    record {
+      item = x;
+      among = among;
+      ends = omega arith;
+      up_to = subst (λ (b : ItemBody). looked_for_code_close item_in b (map (numbered nodes) xs) + length among.after ≤
+          length xs) (sym is) (up_to_closer nodes count escaped xs x among (closes_by_number ready is closes));
+    }
+
+pub math_up_to : (source : List ℕ) (tables : Tables) (nodes : List (Node Item)) (ix : ℕ) (m : FoundMath)
+    → CanResolve source tables nodes (Some ix) → ClosesMath nodes ix (Some m)
+    → FoundUpTo (math_search (item_at nodes ix)) nodes (followers nodes ix) (item_at nodes m.last).end
+math_up_to source tables nodes ix m ready closes =
+    let there = stands_of ready closes in
+    record {
+      item = m.closer;
+      among = record { before = there.before; after = there.after; parts = there.parts };
+      ends = there.to_last;
+      up_to = up_to_dollar nodes (item_at nodes ix) (followers nodes ix) m (math_by_number ready closes) there;
+    }
+
+module _ {source : List ℕ} {tables : Tables} {old : List (Node Item)} {ix : ℕ} (search : Search) (learned : Learned)
+    (visits visits' : ℕ) (ready : CanResolve source tables old (Some ix)) where
+  abbrev chain : List Numbered
+  chain = map (numbered old) (followers old ix)
+
+  -- it examines no more items than there are
+  fits : search.looked chain ≤ items_from old (Some ix)
+  fits =
+      let o = opens_chain ready in
       let size = length-map (followers old ix) (numbered old) in
-      let within = math_visit_law.within (item_at old ix) chain in
-      refused_at learned (looked_for_math_from item_in (item_at old ix) chain) visits visits' (items_from old (Some ix))
-      (at_most (suc ix) chain o.leads) (omega (arith, within, size, o.items))
+      let within = search.within chain in
+      omega (arith, within, size, o.items)
+
+  -- the count rises by exactly the items that are examined
+  abbrev pub Counts : Type 0
+  Counts = (low : ℕ) (after : List Numbered) → LeadsThrough old low (sibling_of old ix) after
+      → RisesBy (unless_failed learned (search.looked after)) visits visits'
+
+  looks : (after : Learned) (found : Bool) (items : ℕ) → Counts
+      → has_failed after ≡ failed_by_now learned search.opens found → items ≤ items_from old (Some ix)
+      → (found ≡ true → search.looked chain + items ≤ items_from old (Some ix))
+      → LooksAt (has_failed learned) (has_failed after) visits visits' (items_from old (Some ix)) items
+  looks after found items counted failed fewer past =
+      let o = opens_chain ready in
+      looks_at learned (has_failed after) search.opens found (search.looked chain) visits visits'
+      (items_from old (Some ix)) items (counted (suc ix) chain o.leads) failed fits fewer (search.unless chain) past
+
+  -- where it finds nothing
+  pub nothing_looks : {X : Type 0} {found : Option X} {tables' : Tables} {new : List (Node Item)} {trees : Standing}
+      {rest : Rest} (after : Learned) → Counts
+      → has_failed after ≡ failed_by_now learned search.opens (is_some found) → found ≡ None
+      → Puts source ix trees None rest old new tables tables'
+      → LooksAt (has_failed learned) (has_failed after) visits visits' (items_from old (Some ix))
+      (items_from new rest.next)
+  nothing_looks {X} {found} {tables'} {new} {trees} {rest} after counted failed none puts =
+      let o = opens_chain ready in
+      let size = length-map (followers old ix) (numbered old) in
+      let left = items_put source ix trees None rest old new tables tables' ready puts in
+      looks after false (items_from new rest.next) counted
+      (failed ∙ ap (λ (f : Option X). failed_by_now learned search.opens (is_some f)) none)
+      (omega (arith, left, size, o.items)) (λ found. cc found)
+
+  -- and where it finds something
+  pub something_looks : {X : Type 0} {found : Option X} {x : X} {tables' : Tables} {new : List (Node Item)}
+      {trees : Standing} {end : ℕ} {rest : Rest} (after : Learned) → FoundUpTo search old (followers old ix) end
+      → Counts → has_failed after ≡ failed_by_now learned search.opens (is_some found) → found ≡ Some x
+      → Puts source ix trees (Some end) rest old new tables tables'
+      → LooksAt (has_failed learned) (has_failed after) visits visits' (items_from old (Some ix))
+      (items_from new rest.next)
+  something_looks {X} {found} {x} {tables'} {new} {trees} {end} {rest} after there counted failed some puts =
+      let o = opens_chain ready in
+      let among = there.among in
+      let up_to = there.up_to in
+      let ordered : InOrder old (item_at old ix).end (among.before ++ there.item ∷ among.after) = subst
+      (InOrder old (item_at old ix).end) among.parts o.ordered in
+      let left : items_from new rest.next ≡ length (numbered_past (Some end) chain) =
+      items_put source ix trees (Some end) rest old new tables tables' ready puts in
+      let fewer : length (numbered_past (Some end) chain) ≤ length among.after =
+      subst (λ (xs : List ℕ). length (numbered_past (Some end) (map (numbered old) xs)) ≤ length among.after)
+      (sym among.parts)
+      (fewer_left old (item_at old ix).end end among.before there.item among.after ordered there.ends) in
+      looks after true (items_from new rest.next) counted
+      (failed ∙ ap (λ (f : Option X). failed_by_now learned search.opens (is_some f)) some)
+      (omega (arith, up_to, left, fewer, o.items)) (λ found. omega (arith, up_to, left, fewer, o.items))
+
+  -- memory was refused to it
+  pub search_refused : ((low : ℕ) (after : List Numbered) → LeadsThrough old low (sibling_of old ix) after
+      → RisesAtMost (unless_failed learned (search.looked after)) visits visits')
+      → LooksAtMost (has_failed learned) (has_failed learned) visits visits' (items_from old (Some ix))
+  search_refused at_most =
+      let o = opens_chain ready in
+      refused_at learned (search.looked chain) visits visits' (items_from old (Some ix))
+      (at_most (suc ix) chain o.leads) fits
 
   -- it was refused to what a search has found
-  pub code_stops : (after : Learned) (found : Option ℕ) → LooksForCode learned old ix visits visits'
-      → has_failed after ≡ failed_by_now learned (opens_code (item_at old ix).body) (is_some found)
+  pub search_stops : (after : Learned) (found : Bool) → Counts
+      → has_failed after ≡ failed_by_now learned search.opens found
       → LooksAtMost (has_failed learned) (has_failed after) visits visits' (items_from old (Some ix))
-  code_stops after found counted failed =
-      let o = opens_chain source tables old ix ready in
-      let chain = map (numbered old) (followers old ix) in
-      let size = length-map (followers old ix) (numbered old) in
-      let within = code_visit_law.within (item_at old ix).body chain in
-      looks_at learned (has_failed after) (opens_code (item_at old ix).body) (is_some found)
-      (looked_for_code_close item_in (item_at old ix).body chain) visits visits' (items_from old (Some ix)) 0
-      (counted (suc ix) chain o.leads) failed (omega (arith, within, size, o.items)) (omega arith)
-      (unless_code (item_at old ix).body chain) (λ found. omega (arith, within, size, o.items))
-
-  pub math_stops : (after : Learned) (found : Option FoundMath) → LooksForMath learned old ix visits visits'
-      → has_failed after ≡ failed_by_now learned (can_open (item_at old ix).body) (is_some found)
-      → LooksAtMost (has_failed learned) (has_failed after) visits visits' (items_from old (Some ix))
-  math_stops after found counted failed =
-      let o = opens_chain source tables old ix ready in
-      let chain = map (numbered old) (followers old ix) in
-      let size = length-map (followers old ix) (numbered old) in
-      let within = math_visit_law.within (item_at old ix) chain in
-      looks_at learned (has_failed after) (can_open (item_at old ix).body) (is_some found)
-      (looked_for_math_from item_in (item_at old ix) chain) visits visits' (items_from old (Some ix)) 0
-      (counted (suc ix) chain o.leads) failed (omega (arith, within, size, o.items)) (omega arith)
-      (unless_math (item_at old ix) chain) (λ found. omega (arith, within, size, o.items))
+  search_stops after found counted failed =
+      looks after found 0 counted failed (omega arith) (λ found. let some = fits in omega (arith, some))

@@ -17,8 +17,8 @@ use Rattle.markdown_document.specs.Tables.{Tables}
 use Rattle.markdown_resolver.specs.Chains.{CanResolve}
 use Rattle.markdown_resolver.specs.ClosedOver.{first_trees, trees_past}
 use Rattle.markdown_resolver.specs.PutsTrees.{numbered_from, numbered_label, without_numbers}
-use Rattle.markdown_resolver.proofs.LeftTreesLemmas.{onto_split}
-use Rattle.markdown_resolver.proofs.PutsTreesLemmas.{first_joined, plain_from, relabelled_joined}
+use Rattle.markdown_resolver.proofs.LeftTreesLemmas.{relabelled_joined, onto_split}
+use Rattle.markdown_resolver.proofs.PutsTreesLemmas.{first_joined, plain_from}
 use Rattle.markdown_resolver.proofs.StandsToLemmas.{numbers_are}
 
 -- the numbers of the nodes inside
@@ -50,16 +50,13 @@ pub record OpensNumbered (source : List ℕ) (tables : Tables) (nodes : List (No
   pub forest : forest_at (links_of nodes) (Some ix) ≡ node ix (forest_at (links_of nodes) (child_of nodes ix))
       (forest_at (links_of nodes) (sibling_of nodes ix))
   pub numbered : numbered_from source tables nodes (Some ix) ≡ node (numbered_label source tables nodes ix)
-      (numbered_from source tables nodes (child_of nodes ix))
-      (numbered_from source tables nodes (sibling_of nodes ix))
+      (numbered_from source tables nodes (child_of nodes ix)) (numbered_from source tables nodes (sibling_of nodes ix))
   pub trees : trees_from source tables nodes (Some ix) ≡ node (label_at source tables nodes ix)
-      (trees_from source tables nodes (child_of nodes ix))
-      (trees_from source tables nodes (sibling_of nodes ix))
+      (trees_from source tables nodes (child_of nodes ix)) (trees_from source tables nodes (sibling_of nodes ix))
 
-pub opens_numbered : (source : List ℕ) (tables : Tables) (nodes : List (Node Item)) (ix : ℕ)
-    → CanResolve source tables nodes (Some ix)
-    → OpensNumbered source tables nodes ix
-opens_numbered source tables nodes ix ready =
+pub opens_numbered : {source : List ℕ} {tables : Tables} {nodes : List (Node Item)} {ix : ℕ}
+    → CanResolve source tables nodes (Some ix) → OpensNumbered source tables nodes ix
+opens_numbered {source} {tables} {nodes} {ix} ready =
     let o = opens (links_of nodes) (IsPlaced source tables nodes) ix ready.reaches in
     record {
       within = o.within;
@@ -78,8 +75,7 @@ pub record InsideOf (source : List ℕ) (tables : Tables) (nodes : List (Node It
     pub numbered : numbered_from source tables nodes (sibling_of nodes o.opener.tag)
         ≡ joined_chains (inside o) (numbered_from source tables nodes (Some closer))
     pub inside_is : first_trees (length (inside_numbers o))
-        (trees_from source tables nodes (sibling_of nodes o.opener.tag))
-        ≡ without_numbers (inside o)
+        (trees_from source tables nodes (sibling_of nodes o.opener.tag)) ≡ without_numbers (inside o)
     pub behind_is : trees_past (suc (length (inside_numbers o)))
         (trees_from source tables nodes (sibling_of nodes o.opener.tag))
         ≡ trees_from source tables nodes (sibling_of nodes closer)
@@ -91,19 +87,17 @@ node_after : {A : Type 0} (a b : A) (x y u v : Forest A) → node a x y ≡ node
 node_after a b x y u v e = cc
 
 pub inside_of : (source : List ℕ) (tables : Tables) (nodes : List (Node Item)) (closer : ℕ) (o : Split ℕ)
-    → CanResolve source tables nodes (Some o.opener.tag)
-    → CanResolve source tables nodes (Some closer)
+    → CanResolve source tables nodes (Some o.opener.tag) → CanResolve source tables nodes (Some closer)
     → numbered_from source tables nodes (Some o.opener.tag)
     ≡ node o.opener nil (trees_onto o.after (numbered_from source tables nodes (Some closer)))
     → InsideOf source tables nodes closer o
 inside_of source tables nodes closer o ready ready' is =
-    let first = opens_numbered source tables nodes o.opener.tag ready in
-    let last = opens_numbered source tables nodes closer ready' in
+    let first = opens_numbered ready in
+    let last = opens_numbered ready' in
     let next = sibling_of nodes o.opener.tag in
     let rest = numbered_from source tables nodes (Some closer) in
     let whole : node (numbered_label source tables nodes o.opener.tag)
-    (numbered_from source tables nodes (child_of nodes o.opener.tag))
-    (numbered_from source tables nodes next)
+    (numbered_from source tables nodes (child_of nodes o.opener.tag)) (numbered_from source tables nodes next)
     ≡ node o.opener nil (trees_onto o.after rest) = sym first.numbered ∙ is in
     let numbered : numbered_from source tables nodes next ≡ joined_chains (inside o) rest = node_after _ _ _ _ _ _ whole
     ∙ onto_split o.after rest
@@ -119,14 +113,12 @@ inside_of source tables nodes closer o ready ready' is =
     ≡ joined_chains within (trees_from source tables nodes (Some closer)) =
     sym (plain_from source tables nodes next) ∙ ap without_numbers numbered ∙ relabelled_joined untagged (inside o) rest
     ∙ ap (joined_chains within) (plain_from source tables nodes (Some closer)) in
-    let opened : trees_from source tables nodes next
-    ≡ joined_chains within
+    let opened : trees_from source tables nodes next ≡ joined_chains within
     (node (label_at source tables nodes closer) (trees_from source tables nodes (child_of nodes closer))
     (trees_from source tables nodes (sibling_of nodes closer))) =
     reads ∙ ap (joined_chains within) last.trees in
     let many : length (inside_numbers o) ≡ length (roots within) = relabelled_as_many (λ (a : Label ℕ). a.tag)
-    (inside o)
-    ∙ sym (relabelled_as_many untagged (inside o)) in
+    (inside o) ∙ sym (relabelled_as_many untagged (inside o)) in
     record {
       label_is = sym (node_label _ _ _ _ _ _ whole);
       follows = ap roots numbers ∙ roots_joined (numbers_of (inside o)) at

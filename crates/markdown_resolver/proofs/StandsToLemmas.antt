@@ -1,7 +1,6 @@
 -- A left list in an arena: what is left of the chain, one of its openers, other marks, and the numbers along it.
 use Rattle.std.proofs.Common.{◌≡◌, ℕ, zero, suc, ◌<◌, Bool, true, false, List, [], ◌∷◌, length, Option, Some, None}
-use Rattle.std.proofs.Common.{refl, sym, ap, ◌∙◌}
-use Rattle.std.proofs.Common.{subst, arith}
+use Rattle.std.proofs.Common.{refl, sym, ap, ◌∙◌, subst, arith}
 use Rattle.std.specs.Prelude.{if◌then◌else◌}
 use Rattle.markdown_base.specs.Arena.{child_of, sibling_of}
 use Rattle.markdown_base.specs.ArenaForest.{Links, links_of, followed, forest_at}
@@ -10,13 +9,10 @@ use Rattle.markdown_base.specs.declared.item.Item.{Item}
 use Rattle.markdown_base.specs.declared.node.Node.{Node}
 use Rattle.markdown_base.proofs.ArenaForestLemmas.{opens, forest_at-none}
 use Rattle.markdown_brackets.specs.ChainHeld.{numbers_of}
-use Rattle.markdown_brackets.specs.Decides.{EachOpener}
 use Rattle.markdown_brackets.specs.Finish.{IsSplit}
 use Rattle.markdown_brackets.specs.LeftList.{Mark, Entry, done, waits, Split, on_marks, second_folded, before_link}
-use Rattle.markdown_brackets.specs.LeftList.{before_wikilink}
-use Rattle.markdown_brackets.specs.LeftList.{before_footnote, disabled_mark, without_bracket, without_wikilink}
-use Rattle.markdown_brackets.specs.LeftList.{change_nearest, trees_onto}
-use Rattle.markdown_brackets.specs.Openers.{Waiting}
+use Rattle.markdown_brackets.specs.LeftList.{before_wikilink, before_footnote, disabled_mark, without_bracket}
+use Rattle.markdown_brackets.specs.LeftList.{without_wikilink, change_nearest, trees_onto}
 use Rattle.markdown_brackets.proofs.OpenerHeldLemmas.{trees_stay}
 use Rattle.markdown_document.specs.ChainRest.{joined_chains}
 use Rattle.markdown_document.specs.Document.{Label}
@@ -27,15 +23,12 @@ use Rattle.markdown_document.specs.Totals.{same}
 use Rattle.markdown_resolver.specs.Chains.{AreAbove, CanResolve, ChangesChain}
 use Rattle.markdown_resolver.specs.Kept.{IsQuiet, IsQuietBelow}
 use Rattle.markdown_resolver.specs.PutsTrees.{numbered_from, numbered_label, without_numbers}
-use Rattle.markdown_resolver.specs.ReadOn.{AreHeld, EachWaits, IsOpener, StandsTo}
+use Rattle.markdown_resolver.specs.ReadOn.{EachWaits, IsOpener, StandsTo}
 use Rattle.markdown_resolver.proofs.ComposeLemmas.{Stands, stands_ready, Moves, changes_move, moves_change, moves_none}
-use Rattle.markdown_resolver.proofs.ComposeLemmas.{moves_twice}
-use Rattle.markdown_resolver.proofs.ComposeLemmas.{first_leaves}
+use Rattle.markdown_resolver.proofs.ComposeLemmas.{moves_twice, first_leaves}
 use Rattle.markdown_resolver.proofs.LeftTreesLemmas.{onto_split, quiet_first, below_second, below_tagged}
-use Rattle.markdown_resolver.proofs.LeftTreesLemmas.{below_untagged, waits_here}
-use Rattle.markdown_resolver.proofs.LeftTreesLemmas.{onto_appended, marked_trees, marked_waits, folded_trees}
-use Rattle.markdown_resolver.proofs.LeftTreesLemmas.{folded_waits, each_bracket}
-use Rattle.markdown_resolver.proofs.LeftTreesLemmas.{each_wikilink}
+use Rattle.markdown_resolver.proofs.LeftTreesLemmas.{below_untagged, waits_here, onto_appended, marked_trees}
+use Rattle.markdown_resolver.proofs.LeftTreesLemmas.{marked_waits, folded_trees, folded_waits}
 
 -- where there are nodes, a link leads to its own node first
 first_followed : (n : ℕ) (k : Links) (l : Option ℕ) → 0 < n → first_root (followed n k l) ≡ l
@@ -68,8 +61,7 @@ module _ (source : List ℕ) (tables : Tables) (nodes : List (Node Item)) where
       sym (link_first k l h) ∙ ap (λ (g : Forest ℕ). first_root g) f ∙ link_first k l' h
 
   -- a chain opens at its first node
-  pub numbered_opens : (ix : ℕ) → Stands source tables nodes (Some ix)
-      → numbered_from source tables nodes (Some ix)
+  pub numbered_opens : (ix : ℕ) → Stands source tables nodes (Some ix) → numbered_from source tables nodes (Some ix)
       ≡ node (numbered_label source tables nodes ix) (numbered_from source tables nodes (child_of nodes ix))
       (numbered_from source tables nodes (sibling_of nodes ix))
   numbered_opens ix s = rw (opens (links_of nodes) (IsPlaced source tables nodes) ix s.reaches).here refl
@@ -85,22 +77,20 @@ module _ (source : List ℕ) (tables : Tables) (nodes : List (Node Item)) where
     pub trees : numbered_from source tables nodes link ≡ rest
 
   pub leads : (head rest : Forest (Label ℕ)) (l : Option ℕ) → Stands source tables nodes l
-      → numbered_from source tables nodes l
-      ≡ joined_chains head rest → Leads l rest
-  leads nil rest l s e = record { link = l; moves = moves_none source l nodes tables s; trees = e }
+      → numbered_from source tables nodes l ≡ joined_chains head rest → Leads l rest
+  leads nil rest l s e = record { link = l; moves = moves_none s; trees = e }
   leads (node a below after) rest None s e =
       let q : nil ≡ node a below (joined_chains after rest) = sym numbered_none ∙ e in
       absurd (cc q)
   leads (node a below after) rest (Some ix) s e =
-      let first = first_leaves source ix nodes tables s in
+      let first = first_leaves s in
       let q : node (numbered_label source tables nodes ix) (numbered_from source tables nodes (child_of nodes ix))
       (numbered_from source tables nodes (sibling_of nodes ix))
       ≡ node a below (joined_chains after rest) = sym (numbered_opens ix s) ∙ e in
       let r = leads after rest (sibling_of nodes ix) first.stands (cc q) in
       record {
         link = r.link;
-        moves = moves_twice source (Some ix) (sibling_of nodes ix) r.link nodes nodes nodes tables tables tables first
-            r.moves;
+        moves = moves_twice first r.moves;
         trees = r.trees;
       }
 
@@ -110,20 +100,18 @@ module _ (source : List ℕ) (tables : Tables) (nodes : List (Node Item)) where
   quiet_numbered l h =
       let f = forest_at (links_of nodes) l in
       below_untagged (λ n. tt) (numbered_from source tables nodes l)
-      (subst (λ (g : Forest (Label (Unit {0}))). IsQuietBelow g)
-      (sym (plain_are f)) h)
+      (subst (λ (g : Forest (Label (Unit {0}))). IsQuietBelow g) (sym (plain_are f)) h)
 
   pub quiet_plain : (l : Option ℕ) → IsQuietBelow (numbered_from source tables nodes l)
       → IsQuietBelow (trees_from source tables nodes l)
   quiet_plain l h =
       let f = forest_at (links_of nodes) l in
       subst (λ (g : Forest (Label (Unit {0}))). IsQuietBelow g) (plain_are f)
-      (below_tagged (λ n. tt) (numbered_from source tables nodes l)
-      h)
+      (below_tagged (λ n. tt) (numbered_from source tables nodes l) h)
 
   pub stands_from : (first : ℕ) (at : Option ℕ) (left : List (Entry ℕ)) → StandsTo source tables nodes first at left
       → Stands source tables nodes (Some first)
-  stands_from first at left h = stands_ready source tables nodes (Some first) h.ready
+  stands_from first at left h = stands_ready h.ready
 
   pub some_nodes : (first : ℕ) (at : Option ℕ) (left : List (Entry ℕ)) → StandsTo source tables nodes first at left
       → 0 < length nodes
@@ -154,11 +142,9 @@ module _ (source : List ℕ) (tables : Tables) (nodes : List (Node Item)) where
       }
 
 -- what is left of a chain can be read
-pub stands_rest : (source : List ℕ) (tables : Tables) (nodes : List (Node Item)) (first : ℕ) (at : Option ℕ)
-    (left : List (Entry ℕ))
-    → StandsTo source tables nodes first at left
-    → CanResolve source tables nodes at
-stands_rest source tables nodes first at left h =
+pub stands_rest : {source : List ℕ} {tables : Tables} {nodes : List (Node Item)} {first : ℕ} {at : Option ℕ}
+    {left : List (Entry ℕ)} → StandsTo source tables nodes first at left → CanResolve source tables nodes at
+stands_rest {source} {tables} {nodes} {first} {at} {left} h =
     let r = rest_of source tables nodes first at left h in
     record {
       reaches = r.moves.stands.reaches;
@@ -169,8 +155,7 @@ stands_rest source tables nodes first at left h =
 
 -- nodes above a chain are above what is left of it
 above_moved : (source : List ℕ) (l l' : Option ℕ) (old new : List (Node Item)) (tables tables' : Tables)
-    (spine : List ℕ)
-    → Moves source l l' old new tables tables'
+    (spine : List ℕ) → Moves source l l' old new tables tables'
     → AreAbove source old l spine → AreAbove source new l' spine
 above_moved source l l' old new tables tables' [] m above = tt
 above_moved source l l' old new tables tables' (n ∷ deeper) m above =
@@ -184,8 +169,7 @@ above_moved source l l' old new tables tables' (n ∷ deeper) m above =
     )
 
 pub above_rest : (source : List ℕ) (tables : Tables) (nodes : List (Node Item)) (first : ℕ) (at : Option ℕ)
-    (left : List (Entry ℕ))
-    (spine : List ℕ) → StandsTo source tables nodes first at left
+    (left : List (Entry ℕ)) (spine : List ℕ) → StandsTo source tables nodes first at left
     → AreAbove source nodes (Some first) spine → AreAbove source nodes at spine
 above_rest source tables nodes first at left spine h above =
     above_moved source (Some first) at nodes nodes tables tables spine
@@ -193,20 +177,16 @@ above_rest source tables nodes first at left spine h above =
 
 -- and above a chain that was changed in place
 pub above_changed : (source : List ℕ) (l : Option ℕ) (old new : List (Node Item)) (tables tables' : Tables)
-    (spine : List ℕ)
-    → ChangesChain source l old new tables tables'
+    (spine : List ℕ) → ChangesChain source l old new tables tables'
     → AreAbove source old l spine → AreAbove source new l spine
 above_changed source l old new tables tables' spine c above = above_moved source l l old new tables tables' spine
-    (changes_move source l old new tables tables' c) above
+    (changes_move c) above
 
 -- one change of a chain, and then another
 pub changes_twice : (source : List ℕ) (l : Option ℕ) (a b c : List (Node Item)) (t u v : Tables)
-    → ChangesChain source l a b t u
-    → ChangesChain source l b c u v → ChangesChain source l a c t v
+    → ChangesChain source l a b t u → ChangesChain source l b c u v → ChangesChain source l a c t v
 changes_twice source l a b c t u v p q =
-    moves_change source l a c t v
-    (moves_twice source l l l a b c t u v (changes_move source l a b t u p) (changes_move source l b c u v q))
-    (λ x stands. q.before x (p.before x stands))
+    moves_change (moves_twice (changes_move p) (changes_move q)) (λ x stands. q.before x (p.before x stands))
 
 -- a left list at one of its openers: it is up to that, and from there on the opener, what is after it and the rest
 pub record AtOpener (source : List ℕ) (tables : Tables) (nodes : List (Node Item)) (first : ℕ) (at : Option ℕ)
@@ -218,11 +198,10 @@ pub record AtOpener (source : List ℕ) (tables : Tables) (nodes : List (Node It
   pub label : numbered_label source tables nodes o.opener.tag ≡ o.opener
   pub ready : CanResolve source tables nodes (Some o.opener.tag)
 
-pub stands_at_opener : (source : List ℕ) (tables : Tables) (nodes : List (Node Item)) (first : ℕ) (at : Option ℕ)
-    (left : List (Entry ℕ))
-    (o : Split ℕ)
+pub stands_at_opener : {source : List ℕ} {tables : Tables} {nodes : List (Node Item)} {first : ℕ} {at : Option ℕ}
+    {left : List (Entry ℕ)} {o : Split ℕ}
     → StandsTo source tables nodes first at left → IsSplit left o → AtOpener source tables nodes first at o
-stands_at_opener source tables nodes first at left o h split =
+stands_at_opener {source} {tables} {nodes} {first} {at} {left} {o} h split =
     let later = numbered_from source tables nodes at in
     let rest = node o.opener nil (trees_onto o.after later) in
     let onto : (f : Forest (Label ℕ)) → trees_onto left f
@@ -231,23 +210,20 @@ stands_at_opener source tables nodes first at left o h split =
     split.mark_then o.opener f
     ∙ ap (λ (g : Forest (Label ℕ)). trees_onto o.before (node o.opener nil g)) (split.same_trees f) in
     let whole : numbered_from source tables nodes (Some first) ≡ joined_chains (trees_onto o.before nil) rest = h.stands
-    ∙ onto later
-    ∙ onto_split o.before rest in
+    ∙ onto later ∙ onto_split o.before rest in
     let r = leads source tables nodes (trees_onto o.before nil) rest (Some first)
     (stands_from source tables nodes first at left h) whole in
     let here = link_is r.link r.moves.stands r.trees in
     let waiting = waits_here (IsOpener source nodes) split.after_then o.before split.mark_then o.opener
     (subst (λ (l : List (Entry ℕ)). EachWaits (IsOpener source nodes) l) split.left_is h.waiting) in
     let trees : numbered_from source tables nodes (Some o.opener.tag)
-    ≡ rest = subst (λ (l : Option ℕ). numbered_from source tables nodes l
-    ≡ rest) here.0 r.trees in
+    ≡ rest = subst (λ (l : Option ℕ). numbered_from source tables nodes l ≡ rest) here.0 r.trees in
     let stands : StandsTo source tables nodes first (Some o.opener.tag) o.before = record {
       ready = h.ready;
       stands = h.stands ∙ onto later ∙ ap (λ (g : Forest (Label ℕ)). trees_onto o.before g) (sym trees);
       quiet = quiet_first (trees_onto o.before nil) (node o.opener nil (trees_onto o.after nil))
           (subst (λ (g : Forest (Label ℕ)). IsQuiet g)
-          (onto nil ∙ onto_split o.before (node o.opener nil (trees_onto o.after nil)))
-          h.quiet);
+          (onto nil ∙ onto_split o.before (node o.opener nil (trees_onto o.after nil))) h.quiet);
       waiting = waiting.1;
     } in
     record {
@@ -255,7 +231,7 @@ stands_at_opener source tables nodes first at left o h split =
       trees = trees;
       opener = waiting.0;
       label = here.1;
-      ready = stands_rest source tables nodes first (Some o.opener.tag) o.before stands;
+      ready = stands_rest stands;
     }
   where
     link_is : (l : Option ℕ) → Stands source tables nodes l → numbered_from source tables nodes l
@@ -273,10 +249,8 @@ stands_at_opener source tables nodes first at left o h split =
 
 -- a left list with the same trees, and no other openers, is where the first is
 pub marks_stand : (source : List ℕ) (tables : Tables) (nodes : List (Node Item)) (first : ℕ) (at : Option ℕ)
-    (left left' : List (Entry ℕ))
-    → ((later : Forest (Label ℕ)) → trees_onto left' later ≡ trees_onto left later)
-    → (EachWaits (IsOpener source nodes) left
-    → EachWaits (IsOpener source nodes) left')
+    (left left' : List (Entry ℕ)) → ((later : Forest (Label ℕ)) → trees_onto left' later ≡ trees_onto left later)
+    → (EachWaits (IsOpener source nodes) left → EachWaits (IsOpener source nodes) left')
     → StandsTo source tables nodes first at left → StandsTo source tables nodes first at left'
 marks_stand source tables nodes first at left left' same waiting h = record {
   ready = h.ready;
@@ -288,8 +262,7 @@ marks_stand source tables nodes first at left left' same waiting h = record {
 -- so is one before a finished link or image, before a wikilink, before a footnote reference, and one with a mark of its
 -- own at the nearest opener
 pub link_trees : (is_image : Bool) (left : List (Entry ℕ)) (later : Forest (Label ℕ))
-    → trees_onto (before_link is_image left) later
-    ≡ trees_onto left later
+    → trees_onto (before_link is_image left) later ≡ trees_onto left later
 link_trees true left later = folded_trees left later
 link_trees false left later = marked_trees disabled_mark (second_folded left) later ∙ folded_trees left later
 
@@ -326,12 +299,10 @@ taken_waits p test f (waits m a ∷ left) h = by (test m) (taken_waits p test f 
     by false later = (h.0, later)
 
 module _ (source : List ℕ) (tables : Tables) (nodes : List (Node Item)) (first : ℕ) (at : Option ℕ)
-    (left : List (Entry ℕ))
-    (h : StandsTo source tables nodes first at left) where
+    (left : List (Entry ℕ)) (h : StandsTo source tables nodes first at left) where
   pub link_stands : (is_image : Bool) → StandsTo source tables nodes first at (before_link is_image left)
   link_stands is_image = marks_stand source tables nodes first at left (before_link is_image left)
-      (link_trees is_image left)
-      (link_waits (IsOpener source nodes) is_image left) h
+      (link_trees is_image left) (link_waits (IsOpener source nodes) is_image left) h
 
   pub wikilink_stands : StandsTo source tables nodes first at (before_wikilink left)
   wikilink_stands = marks_stand source tables nodes first at left (before_wikilink left) (wikilink_trees left)
@@ -341,32 +312,7 @@ module _ (source : List ℕ) (tables : Tables) (nodes : List (Node Item)) (first
   footnote_stands = marks_stand source tables nodes first at left (before_footnote left) (footnote_trees left)
       (footnote_waits (IsOpener source nodes) left) h
 
-  pub marked_stands : (f : Mark → Mark) → StandsTo source tables nodes first at (on_marks f left)
-  marked_stands f = marks_stand source tables nodes first at left (on_marks f left) (marked_trees f left)
-      (marked_waits (IsOpener source nodes) f left) h
-
-  pub folded_stands : StandsTo source tables nodes first at (second_folded left)
-  folded_stands = marks_stand source tables nodes first at left (second_folded left) (folded_trees left)
-      (folded_waits (IsOpener source nodes) left) h
-
   pub taken_stands : (test : Mark → Bool) (f : Mark → Mark)
       → StandsTo source tables nodes first at (change_nearest test f left)
   taken_stands test f = marks_stand source tables nodes first at left (change_nearest test f left)
-      (trees_stay test f left)
-      (taken_waits (IsOpener source nodes) test f left) h
-
--- what stacks hold of a left list in an arena are openers
-pub held_each : (source : List ℕ) (tables : Tables) (nodes : List (Node Item)) (first : ℕ) (at : Option ℕ)
-    (left : List (Entry ℕ))
-    (brackets wikilinks : List Waiting)
-    → StandsTo source tables nodes first at left → AreHeld brackets wikilinks left
-    → EachOpener (IsOpener source nodes) brackets
-    × EachOpener (IsOpener source nodes) wikilinks
-held_each source tables nodes first at left brackets wikilinks h held = (
-  subst (λ (w : List Waiting). EachOpener (IsOpener source nodes) w) (sym held.brackets_are)
-      (each_bracket (IsOpener source nodes) left
-      h.waiting),
-  subst (λ (w : List Waiting). EachOpener (IsOpener source nodes) w) (sym held.wikilinks_are)
-      (each_wikilink (IsOpener source nodes) left
-      h.waiting),
-)
+      (trees_stay test f left) (taken_waits (IsOpener source nodes) test f left) h

@@ -23,8 +23,7 @@ all_asks s above chain p =
 
 -- no question was asked
 pub stops_here : {C : Type 0} (step : C → Question → Option Answer → C → Type 0) (s : Setting) (above : Above)
-    (at : Option ℕ)
-    (left : List (Entry ℕ)) (old : Stage C) (spent : SpentEnds)
+    (at : Option ℕ) (left : List (Entry ℕ)) (old : Stage C) (spent : SpentEnds)
     (callback' : Option C) → callback' ≡ old.callback → StopsOn step s above at left old spent callback'
 stops_here step s above at left old spent callback' same = record {
   answers = [];

@@ -22,8 +22,7 @@ closes_at : (text : List ℕ) (at i : ℕ) (written title : List ℕ) (joined : 
     → Closes text at (closed_at text i written title joined)
 closes_at text at i written title joined le = by (slice_index text i == 41) refl
   where
-    by : (closes : Bool) → (slice_index text i == 41) ≡ closes
-        → Closes text at (if closes then Some
+    by : (closes : Bool) → (slice_index text i == 41) ≡ closes → Closes text at (if closes then Some
         (record { ends = i + 1; destination = written; title = title; is_joined = joined }) else None)
     by true e =
         let place : i + 1 - 1 ≡ i = omega arith in
@@ -31,22 +30,18 @@ closes_at text at i written title joined le = by (slice_index text i == 41) refl
         record {
           after = omega (arith, le);
           within = omega (arith, inside);
-          closed = ap (λ (n : ℕ). get_or text n 0) place
-              ∙ eqb-true (get_or text i 0) 41 e;
+          closed = ap (λ (n : ℕ). get_or text n 0) place ∙ eqb-true (get_or text i 0) 41 e;
         }
     by false e = tt
 
 closes_titled : (skipped : List ℕ → Option ℕ) (text : List ℕ) (at i : ℕ) (written : List ℕ) (found : Option Title)
-    → at ≤ i
-    → IsTitleAt text i found → Closes text at (after_title skipped text i written found)
+    → at ≤ i → IsTitleAt text i found → Closes text at (after_title skipped text i written found)
 closes_titled skipped text at i written None le h = closes_at text at i written [] false le
 closes_titled skipped text at i written (Some t) le h = closes_at text at (past_separator skipped text t.ends) written
-    t.text t.is_joined
-    (omega (arith, le, h.0))
+    t.text t.is_joined (omega (arith, le, h.0))
 
 closes_found : (skipped : List ℕ → Option ℕ) (starts : ℕ → Option ℕ) (text : List ℕ) (at i : ℕ)
-    (found : Option (ℕ × List ℕ)) → at ≤ i
-    → Closes text at (after_destination skipped starts text i found)
+    (found : Option (ℕ × List ℕ)) → at ≤ i → Closes text at (after_destination skipped starts text i found)
 closes_found skipped starts text at i None le = tt
 closes_found skipped starts text at i (Some d) le =
     let next : ℕ = past_separator skipped text (i + d.0) in

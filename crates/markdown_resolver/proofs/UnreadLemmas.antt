@@ -55,22 +55,19 @@ first_cut source tables nodes i n (node ix below after) h first closed =
 
 -- what follows the first item of a chain
 pub unread_after : (source : List ℕ) (tables : Tables) (nodes : List (Node Item)) (ix : ℕ)
-    → CanResolve source tables nodes (Some ix)
-    → IsUnread (trees_from source tables nodes (Some ix))
+    → CanResolve source tables nodes (Some ix) → IsUnread (trees_from source tables nodes (Some ix))
     → IsUnread (trees_from source tables nodes (sibling_of nodes ix))
-unread_after source tables nodes ix ready h =
-    (subst (λ (f : Forest Plain). IsUnread f) (opens_chain source tables nodes ix ready).trees h).1
+unread_after source tables nodes ix ready h = (subst (λ (f : Forest Plain). IsUnread f) (opens_chain ready).trees h).1
 
-pub unmade_after : (source : List ℕ) (tables : Tables) (nodes : List (Node Item)) (ix : ℕ)
+pub unmade_after : {source : List ℕ} {tables : Tables} {nodes : List (Node Item)} {ix : ℕ}
     → CanResolve source tables nodes (Some ix)
     → is_open (item_at nodes ix).body ≡ true → waits_for_pairing (item_at nodes ix).body ≡ false
     → IsUnread (trees_from source tables nodes (Some ix))
     → IsUnmade (trees_from source tables nodes (sibling_of nodes ix))
-unmade_after source tables nodes ix ready opens waits h =
+unmade_after {source} {tables} {nodes} {ix} ready opens waits h =
     let item = item_at nodes ix in
     let shape = shape-open tables (slice_range source item.start item.end) item.body opens in
-    (subst (λ (f : Forest Plain). IsUnread f) (opens_chain source tables nodes ix ready).trees h).0
-    (ap is_quiet shape ∙ waits)
+    (subst (λ (f : Forest Plain). IsUnread f) (opens_chain ready).trees h).0 (ap is_quiet shape ∙ waits)
 
 -- what is left of a chain past a byte offset
 quiet_cut : (n : ℕ) (shape : Shape) → is_quiet (cut_shape n shape) ≡ is_quiet shape

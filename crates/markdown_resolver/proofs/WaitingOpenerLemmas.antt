@@ -1,8 +1,7 @@
 -- An opener of a left list in an arena can be tried at the `]` after that: the chain from it on can be read, it
 -- precedes the `]`, and what is read of the text starts and ends between characters.
 use Rattle.std.proofs.Common.{◌≡◌, ℕ, ◌<◌, ◌≤◌, Bool, true, false, ◌==◌, List, [], ◌∷◌, ◌++◌, Option, Some, None, refl}
-use Rattle.std.proofs.Common.{sym, ap, ◌∙◌, subst}
-use Rattle.std.proofs.Common.{append_assoc, nat_lt, arith}
+use Rattle.std.proofs.Common.{sym, ap, ◌∙◌, subst, append_assoc, nat_lt, arith}
 use Rattle.std.specs.Prelude.{⊤, IfSome, if◌then◌else◌}
 use Rattle.std.specs.Option.{option_and_then}
 use Rattle.std.specs.Str.{IsCharBoundary}
@@ -14,10 +13,9 @@ use Rattle.markdown_base.specs.declared.item.Item.{Item}
 use Rattle.markdown_base.specs.declared.node.Node.{Node}
 use Rattle.markdown_brackets.specs.ChainAhead.{IsChain, first_start, numbers_past}
 use Rattle.markdown_brackets.specs.ChainHeld.{numbers_of}
-use Rattle.markdown_brackets.specs.Decides.{EachOpener}
+use Rattle.markdown_brackets.specs.Decides.{EachOpener, CanTry}
 use Rattle.markdown_brackets.specs.LeftList.{Entry, Split, done, trees_onto, waits}
 use Rattle.markdown_brackets.specs.Openers.{Waiting}
-use Rattle.markdown_brackets.specs.Decides.{CanTry}
 use Rattle.markdown_brackets.specs.WikilinkNodes.{CanFindWikilink, unless_is}
 use Rattle.markdown_document.specs.declared.chain_place.ChainPlace.{ChainPlace}
 use Rattle.markdown_document.specs.ChainRest.{joined_chains}
@@ -52,14 +50,14 @@ at_opener : (source : List ℕ) (tables : Tables) (nodes : List (Node Item)) (fi
 at_opener source tables nodes first closer o closes at =
     let n = o.opener.tag in
     let later = numbered_from source tables nodes (Some closer) in
-    let opened = opens_chain source tables nodes n at.ready in
+    let opened = opens_chain at.ready in
     let here : node (numbered_label source tables nodes n) (numbered_from source tables nodes (child_of nodes n))
     (numbered_from source tables nodes (sibling_of nodes n)) ≡ node o.opener nil (trees_onto o.after later) =
-    sym (numbered_opens source tables nodes n (stands_ready source tables nodes (Some n) at.ready)) ∙ at.trees in
+    sym (numbered_opens source tables nodes n (stands_ready at.ready)) ∙ at.trees in
     let rest : numbered_from source tables nodes (sibling_of nodes n) ≡ trees_onto o.after later = cc here in
     let f = forest_at (links_of nodes) (sibling_of nodes n) in
     let inside = numbers_of (trees_onto o.after nil) in
-    let c = numbered_opens source tables nodes closer (stands_ready source tables nodes (Some closer) closes) in
+    let c = numbered_opens source tables nodes closer (stands_ready closes) in
     let after = numbers_of (numbered_from source tables nodes (sibling_of nodes closer)) in
     let follows : roots f ≡ roots inside ++ closer ∷ roots after =
     ap (λ (g : Forest ℕ). roots g)
@@ -75,8 +73,7 @@ at_opener source tables nodes first closer o closes at =
 
 -- so it is with each opener of a left list
 waits_open : (source : List ℕ) (tables : Tables) (nodes : List (Node Item)) (first closer : ℕ)
-    (whole after left : List (Entry ℕ))
-    → CanResolve source tables nodes (Some closer)
+    (whole after left : List (Entry ℕ)) → CanResolve source tables nodes (Some closer)
     → StandsTo source tables nodes first (Some closer) whole → whole ≡ after ++ left
     → EachWaits (StandsOpen source tables nodes closer) left
 waits_open source tables nodes first closer whole after [] closes h e = tt
@@ -87,19 +84,16 @@ waits_open source tables nodes first closer whole after (waits m a ∷ left) clo
     let o : Split ℕ = record { mark = m; opener = a; after = after; before = left } in
     let split : IsSplit whole o = record { after_then = after; mark_then = m; left_is = e; same_trees = λ later. refl }
     in (
-      at_opener source tables nodes first closer o closes
-          (stands_at_opener source tables nodes first (Some closer) whole o h split),
+      at_opener source tables nodes first closer o closes (stands_at_opener h split),
       waits_open source tables nodes first closer whole (after ++ waits m a ∷ []) left closes h (e
           ∙ sym (append_assoc after (waits m a ∷ []) left)),
     )
 
 pub each_open : (source : List ℕ) (tables : Tables) (nodes : List (Node Item)) (first closer : ℕ)
-    (left : List (Entry ℕ))
-    → StandsTo source tables nodes first (Some closer) left
+    (left : List (Entry ℕ)) → StandsTo source tables nodes first (Some closer) left
     → EachWaits (StandsOpen source tables nodes closer) left
 each_open source tables nodes first closer left h =
-    waits_open source tables nodes first closer left [] left
-    (stands_rest source tables nodes first (Some closer) left h) h refl
+    waits_open source tables nodes first closer left [] left (stands_rest h) h refl
 
 -- a chain that may be read is one
 each_at_all : (p : ℕ → Type 0) (f : Forest ℕ) → Each p f → Each (λ ix. ⊤) f
@@ -107,8 +101,7 @@ each_at_all p nil h = tt
 each_at_all p (node ix below after) h = (tt, each_at_all p below h.1, each_at_all p after h.2)
 
 pub is_chain : (source : List ℕ) (tables : Tables) (nodes : List (Node Item)) (l : Option ℕ)
-    → CanResolve source tables nodes l
-    → IsChain nodes l
+    → CanResolve source tables nodes l → IsChain nodes l
 is_chain source tables nodes l ready = record {
   spelled = ready.reaches.spelled;
   each = each_at_all (IsPlaced source tables nodes) (forest_at (links_of nodes) l) ready.reaches.each;
@@ -125,8 +118,7 @@ start_between source tables nodes (node ix below after) n s h e = by (nat_lt n (
     by : (b : Bool) → first_start nodes (if b then node ix below after else numbers_past nodes n after) ≡ Some s
         → (first_start nodes (numbers_past nodes n after) ≡ Some s → IsCharBoundary source s) → IsCharBoundary source s
     by true found later = let here : (item_at nodes ix).start
-        ≡ s = cc found in subst (λ (i : ℕ). IsCharBoundary source i) here
-        h.0.lies.start
+        ≡ s = cc found in subst (λ (i : ℕ). IsCharBoundary source i) here h.0.lies.start
     by false found later = later found
 
 -- it can be tried
@@ -136,7 +128,7 @@ pub can_try : (tables : Tables) (nodes : List (Node Item)) (place : ChainPlace) 
     → CanTry nodes place closer n
 can_try tables nodes place closer n closes some block o =
     let source = place.text.now in
-    let c = opens_chain source tables nodes closer closes in
+    let c = opens_chain closes in
     let next = ready_next source tables nodes closer closes in
     record {
       within = o.opener.within;
@@ -168,11 +160,10 @@ starts_body : (source : List ℕ) (tables : Tables) (nodes : List (Node Item)) (
     → IfSome l (λ first. IsChain nodes (Some first) × IsCharBoundary source (item_at nodes first).start)
 starts_body source tables nodes None ready = tt
 starts_body source tables nodes (Some first) ready =
-    (is_chain source tables nodes (Some first) ready, (opens_chain source tables nodes first ready).placed.lies.start)
+    (is_chain source tables nodes (Some first) ready, (opens_chain ready).placed.lies.start)
 
 unless_ready : (source : List ℕ) (tables : Tables) (nodes : List (Node Item)) (closer : ℕ) (l : Option ℕ)
-    → CanResolve source tables nodes l
-    → IfSome (unless_is closer l) (λ ix. CanResolve source tables nodes (Some ix))
+    → CanResolve source tables nodes l → IfSome (unless_is closer l) (λ ix. CanResolve source tables nodes (Some ix))
 unless_ready source tables nodes closer l ready = by (unless_is closer l) refl
   where
     by : (o : Option ℕ) → unless_is closer l ≡ o → IfSome o (λ ix. CanResolve source tables nodes (Some ix))
@@ -192,21 +183,18 @@ body_start_some : (source : List ℕ) (tables : Tables) (nodes : List (Node Item
 body_start_some source tables nodes closer None h = tt
 body_start_some source tables nodes closer (Some ix) h =
     body_of_some source tables nodes closer (unless_is closer (sibling_of nodes ix))
-    (unless_ready source tables nodes closer
-    (sibling_of nodes ix) (ready_next source tables nodes ix h))
+    (unless_ready source tables nodes closer (sibling_of nodes ix) (ready_next source tables nodes ix h))
 
 pub can_find : (source : List ℕ) (tables : Tables) (nodes : List (Node Item)) (closer n : ℕ)
-    → CanResolve source tables nodes (Some closer)
-    → StandsOpen source tables nodes closer n
+    → CanResolve source tables nodes (Some closer) → StandsOpen source tables nodes closer n
     → CanFindWikilink nodes source n closer
 can_find source tables nodes closer n closes o =
-    let c = opens_chain source tables nodes closer closes in
+    let c = opens_chain closes in
     record {
       opens = o.opener.within;
       closes = c.within;
       starts = body_start_some source tables nodes closer (unless_is closer (sibling_of nodes n))
-          (unless_ready source tables nodes closer
-          (sibling_of nodes n) (ready_next source tables nodes n o.ready));
+          (unless_ready source tables nodes closer (sibling_of nodes n) (ready_next source tables nodes n o.ready));
       stops = c.placed.lies.start;
     }
 

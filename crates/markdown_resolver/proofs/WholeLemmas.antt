@@ -1,14 +1,15 @@
 -- Runs stay whole in pass one: what waits for pairing stays as it is, what replaces a find or an opener is not a run's
 -- character, and what is left of a chain past a byte offset begins with a whole character of a run or with none.
-use Rattle.std.proofs.Common.{◌≡◌, ℕ, zero, suc, ◌+◌, ◌-◌, ◌<◌, Bool, true, false, List, Option, Some, None, max, refl}
-use Rattle.std.proofs.Common.{sym, ap, subst, ◌∙◌}
-use Rattle.std.proofs.Common.{nat_le, arith}
+use Rattle.markdown_resolver.proofs.EncloseLemmas.{run_none}
+use Rattle.markdown_resolver.proofs.PutLemmas.{run_closed}
+use Rattle.std.proofs.Common.{◌≡◌, ℕ, suc, ◌+◌, ◌-◌, ◌<◌, Bool, true, false, List, Option, Some, None, max, refl}
+use Rattle.std.proofs.Common.{sym, ap, subst, ◌∙◌, nat_le, arith}
 use Rattle.std.proofs.lemmas.Bool.{leb-false}
 use Rattle.std.specs.Prelude.{IfSome, if◌then◌else◌, [], ◌∷◌, ⊤}
 use Rattle.std.specs.Option.{option_map}
 use Rattle.markdown_base.specs.BlockTree.{Numbered}
 use Rattle.markdown_base.specs.Forest.{Forest, nil, node, first_root}
-use Rattle.markdown_base.specs.WellFormed.{RunCharacter, run_character, RunGoesOn, StandsInRun, RunsAreWhole}
+use Rattle.markdown_base.specs.WellFormed.{RunCharacter, run_character, StandsInRun, RunsAreWhole}
 use Rattle.markdown_base.specs.declared.item.ItemBody.{ItemBody}
 use Rattle.markdown_base.specs.declared.item.ItemBody.TheVariants as body
 use Rattle.markdown_base.specs.Event.{LinkView}
@@ -17,18 +18,16 @@ use Rattle.markdown_brackets.specs.BracketDecision.{wikilink_in}
 use Rattle.markdown_brackets.specs.ClosingBracket.{closed, footnote_from, footnote_onto, linked, tag_for}
 use Rattle.markdown_brackets.specs.ClosingBracket.{wikilink_target}
 use Rattle.markdown_brackets.specs.LeftList.{Entry, Mark, Split, before_footnote, before_link, behind, change_nearest}
-use Rattle.markdown_brackets.specs.LeftList.{disabled_mark, done}
-use Rattle.markdown_brackets.specs.LeftList.{inside, nearest, on_marks, opens_bracket, opens_wikilink, second_folded}
-use Rattle.markdown_brackets.specs.LeftList.{trees_onto, waits}
-use Rattle.markdown_brackets.specs.LeftList.{without_bracket, without_wikilink, all_done}
+use Rattle.markdown_brackets.specs.LeftList.{disabled_mark, done, inside, nearest, on_marks, opens_bracket}
+use Rattle.markdown_brackets.specs.LeftList.{opens_wikilink, second_folded, trees_onto, waits, without_bracket}
+use Rattle.markdown_brackets.specs.LeftList.{without_wikilink, all_done}
 use Rattle.markdown_brackets.specs.ReadChain.{begun, closing_of, opened, read, read_as, read_chain, read_past}
 use Rattle.markdown_brackets.proofs.ClosingBracketLemmas.{Cases, in_each_case, some_of}
 use Rattle.markdown_brackets.proofs.NoLinkLemmas.{wikilink_keeps}
 use Rattle.markdown_document.specs.Above.{Above}
 use Rattle.markdown_document.specs.ChainRest.{begun_at, cut_shape, end_of, joined_chains, open_body, past, past_byte}
 use Rattle.markdown_document.specs.ChainRest.{start_of}
-use Rattle.markdown_document.specs.Document.{Tags, Shape, leaf, enclosed, plain, backslash_break, unresolved, Label}
-use Rattle.markdown_document.specs.Document.{as_text, is_unresolved}
+use Rattle.markdown_document.specs.Document.{Tags, Shape, leaf, enclosed, unresolved, Label, as_text, is_unresolved}
 use Rattle.markdown_document.specs.Labels.{Begins}
 use Rattle.markdown_document.specs.Setting.{Setting, Known}
 use Rattle.markdown_document.specs.Waiting.{is_quiet, waits_for_pairing}
@@ -53,45 +52,7 @@ closed_no_run other h = refl
 -- cutting leaves a run's character as it is
 cut_run : (n : ℕ) (shape : Shape) → open_body (cut_shape n shape) ≡ open_body shape
 cut_run n (leaf e origins) = refl
-cut_run n (enclosed tag) = refl
-cut_run n plain = refl
-cut_run n backslash_break = refl
-cut_run n (unresolved b) = refl
-
--- what follows a run's character can be replaced, where neither item is a character of a run
-goes_other : (text : List ℕ) (a b d : Numbered) (count : ℕ) (opens closes : Bool) → run_character b.item.body ≡ None
-    → run_character d.item.body ≡ None
-    → RunGoesOn text a count opens closes (Some b) → RunGoesOn text a count opens closes (Some d)
-goes_other text a b d zero opens closes was is h = h
-goes_other text a b d (suc zero) opens closes was is h = rw is tt
-goes_other text a b d (suc (suc count)) opens closes was is h = let q = sym was ∙ h.body in cc
-
-run_other : (text : List ℕ) (a b d : Numbered) (o : Option RunCharacter) → run_character b.item.body ≡ None
-    → run_character d.item.body ≡ None
-    → IfSome o (StandsInRun text a (Some b)) → IfSome o (StandsInRun text a (Some d))
-run_other text a b d None was is h = tt
-run_other text a b d (Some c) was is h = record {
-  one_byte = h.one_byte;
-  delimiter = h.delimiter;
-  goes_on = goes_other text a b d c.count
-      c.can_open c.can_close was is h.goes_on;
-}
-
-goes_none : (text : List ℕ) (a b : Numbered) (count : ℕ) (opens closes : Bool) → run_character b.item.body ≡ None
-    → RunGoesOn text a count opens closes (Some b) → RunGoesOn text a count opens closes None
-goes_none text a b zero opens closes was h = h
-goes_none text a b (suc zero) opens closes was h = tt
-goes_none text a b (suc (suc count)) opens closes was h = let q = sym was ∙ h.body in cc
-
-run_none : (text : List ℕ) (a b : Numbered) (o : Option RunCharacter) → run_character b.item.body ≡ None
-    → IfSome o (StandsInRun text a (Some b)) → IfSome o (StandsInRun text a None)
-run_none text a b None was h = tt
-run_none text a b (Some c) was h = record {
-  one_byte = h.one_byte;
-  delimiter = h.delimiter;
-  goes_on = goes_none text a b c.count c.can_open
-      c.can_close was h.goes_on;
-}
+cut_run n other = refl
 
 -- an item that begins where it did
 same_start : (start end i : ℕ) → end ≡ suc start → i < end → max start i ≡ start
@@ -104,8 +65,7 @@ module _ {A : Type 0} where
 
   -- so it is where the label is not a run's character
   whole_other : (source : List ℕ) (a : Label A) (after : Forest (Label A)) → run_character (open_body a.part.shape)
-      ≡ None
-      → IsWholeAt source a after
+      ≡ None → IsWholeAt source a after
   whole_other source a after none = rw none tt
 
   -- trees of which nothing is open, and then a chain in which runs are whole
@@ -114,8 +74,7 @@ module _ {A : Type 0} where
   closed_whole source (node a below others) closed = (
     whole_other source a others (closed_no_run a.part.shape closed.0),
     closed_whole source below closed.1,
-    closed_whole source others
-        closed.2,
+    closed_whole source others closed.2,
   )
 
   joined_whole : (source : List ℕ) (trees after : Forest (Label A)) → AllClosed trees → RunsStandWhole source after
@@ -124,8 +83,7 @@ module _ {A : Type 0} where
   joined_whole source (node a below others) after closed w = (
     whole_other source a (joined_chains others after) (closed_no_run a.part.shape closed.0),
     closed_whole source below closed.1,
-    joined_whole
-        source others after closed.2 w,
+    joined_whole source others after closed.2 w,
   )
 
   -- a run's character that ends past a byte offset begins there or later, so it stays whole in what is left past that
@@ -137,24 +95,19 @@ module _ {A : Type 0} where
         item = record {
           start = n;
           end = end_of a;
-          body =
-              open_body (cut_shape (i - start_of a) a.part.shape);
+          body = open_body (cut_shape (i - start_of a) a.part.shape);
         };
-      } in p) same
-      ∙ ap (λ (b : ItemBody). let p : Numbered = record {
+      } in p) same ∙ ap (λ (b : ItemBody). let p : Numbered = record {
         number = start_of a;
         item = record {
           start = start_of a;
           end = end_of a;
-          body =
-              b;
+          body = b;
         };
-      } in p)
-      (cut_run (i - start_of a) a.part.shape)
+      } in p) (cut_run (i - start_of a) a.part.shape)
 
   begun_whole : (source : List ℕ) (i : ℕ) (a : Label A) (after : Forest (Label A)) → i < end_of a
-      → (o : Option RunCharacter)
-      → run_character (open_body a.part.shape) ≡ o
+      → (o : Option RunCharacter) → run_character (open_body a.part.shape) ≡ o
       → IsWholeAt source a after → IsWholeAt source (begun_at i a) after
   begun_whole source i a after past None e w = whole_other source (begun_at i a) after
       (ap run_character (cut_run (i - start_of a) a.part.shape) ∙ e)
@@ -186,10 +139,9 @@ module _ {A : Type 0} where
 
   -- an item that is not a run's character can be replaced by another such item, or by none
   before_other : (source : List ℕ) (b d : Label A) (x y f g : Forest (Label A)) → run_character (open_body b.part.shape)
-      ≡ None
-      → run_character (open_body d.part.shape) ≡ None
+      ≡ None → run_character (open_body d.part.shape) ≡ None
       → (a : Label A) → IsWholeAt source a (node b x f) → IsWholeAt source a (node d y g)
-  before_other source b d x y f g was is a h = run_other source (by_place a) (by_place b) (by_place d)
+  before_other source b d x y f g was is a h = run_closed source (by_place a) (by_place b) (by_place d)
       (run_character (open_body a.part.shape)) was is h
 
   before_none : (source : List ℕ) (b : Label A) (x f : Forest (Label A)) → run_character (open_body b.part.shape) ≡ None
@@ -198,8 +150,7 @@ module _ {A : Type 0} where
       was h
 
   before_closed : (source : List ℕ) (b : Label A) (below rest trees others : Forest (Label A)) → Begins trees
-      → AllClosed trees
-      → run_character (open_body b.part.shape) ≡ None
+      → AllClosed trees → run_character (open_body b.part.shape) ≡ None
       → (a : Label A) → IsWholeAt source a (node b below rest) → IsWholeAt source a (joined_chains trees others)
   before_closed source b below rest nil others begins closed none a w = absurd begins
   before_closed source b below rest (node d inner after) others begins closed none a w =
@@ -208,15 +159,13 @@ module _ {A : Type 0} where
 
   -- something else can follow a left list, if runs are whole in it and continue as they did
   behind_whole : (source : List ℕ) (left : List (Entry A)) (f : Forest (Label A))
-      → RunsStandWhole source (trees_onto left f)
-      → RunsStandWhole source f
+      → RunsStandWhole source (trees_onto left f) → RunsStandWhole source f
   behind_whole source [] f w = w
   behind_whole source (done a below ∷ left) f w = (behind_whole source left (node a below f) w).2
   behind_whole source (waits m a ∷ left) f w = (behind_whole source left (node a nil f) w).2
 
   other_whole : (source : List ℕ) (left : List (Entry A)) (f g : Forest (Label A))
-      → RunsStandWhole source (trees_onto left f)
-      → RunsStandWhole source g
+      → RunsStandWhole source (trees_onto left f) → RunsStandWhole source g
       → ((a : Label A) → IsWholeAt source a f → IsWholeAt source a g) → RunsStandWhole source (trees_onto left g)
   other_whole source [] f g w whole goes = whole
   other_whole source (done a below ∷ left) f g w whole goes =
@@ -279,8 +228,7 @@ module _ {A : Type 0} where
   closed_second (waits m a ∷ left) h = h
 
   same_link : (is_image : Bool) (left : List (Entry A)) (later : Forest (Label A))
-      → trees_onto (before_link is_image left) later
-      ≡ trees_onto left later
+      → trees_onto (before_link is_image left) later ≡ trees_onto left later
   same_link true left later = same_second left later
   same_link false left later = same_marks disabled_mark (second_folded left) later ∙ same_second left later
 
@@ -301,8 +249,7 @@ module _ {A : Type 0} where
   split_behind (done a below) left (Some o) h = record {
     splits = λ later. h.splits (node a below later);
     closed = h.closed;
-    before =
-        h.before;
+    before = h.before;
   }
   split_behind (waits m a) left (Some o) h = record
       { splits = λ later. h.splits (node a nil later); closed = h.closed; before = h.before }
@@ -349,21 +296,20 @@ module _ {A : Type 0} where
         inside_whole =
             let here = behind_whole source o.before (node o.opener nil (trees_onto o.after (node c.label nil rest)))
             around_opener in
-            other_whole source o.after (node c.label nil rest) nil here.2 tt (before_none source c.label nil rest closer)
+            other_whole source o.after (node c.label nil rest) nil here.2 tt
+            (before_none source c.label nil rest closer)
 
         put_whole : (d : Label A) (below later : Forest (Label A)) → run_character (open_body d.part.shape) ≡ None
             → RunsStandWhole source below → RunsStandWhole source later
             → RunsStandWhole source (trees_onto o.before (node d below later))
         put_whole d below later none inner outer =
             other_whole source o.before (node o.opener nil (trees_onto o.after (node c.label nil rest)))
-            (node d below later) around_opener
-            (whole_other source d later none, inner, outer)
+            (node d below later) around_opener (whole_other source d later none, inner, outer)
             (before_other source o.opener d nil below (trees_onto o.after (node c.label nil rest)) later
             (closed_no_run o.opener.part.shape s.closed) none)
 
     footnote_whole : (i : Bool) (left : List (Entry A)) (o : Split A) (name : List ℕ)
-        → WholeBefore source c.label rest left
-        → SplitWhole left o
+        → WholeBefore source c.label rest left → SplitWhole left o
         → WholeAfter source (footnote_onto w c i o.opener name (before_footnote o.before))
     footnote_whole false left o name q s = record {
       whole = λ later k. subst (RunsStandWhole source)
@@ -396,8 +342,7 @@ module _ {A : Type 0} where
       };
       text = λ left q. record {
         whole = λ later k. other_whole source left (node c.label nil rest) (node (as_text source c.label) nil later)
-            q.whole (tt, tt, k)
-            (before_other source c.label (as_text source c.label) nil nil rest later closer refl);
+            q.whole (tt, tt, k) (before_other source c.label (as_text source c.label) nil nil rest later closer refl);
         waiting = q.waiting;
       };
       link = λ left o target end q found live.
@@ -416,11 +361,9 @@ module _ {A : Type 0} where
           let s = some_of (nearest opens_wikilink left) o (SplitWhole left) found
           (split_at opens_wikilink left q.waiting) in
           let children = some_of (wikilink_in w (past_second (inside o)) (start_of c.label)) v
-          (λ (v : Wikilink A). RunsStandWhole source
-          v.children) is
+          (λ (v : Wikilink A). RunsStandWhole source v.children) is
           (wikilink_keeps w (RunsStandWhole source) (λ a x y. (tt, tt, tt)) (λ i f h. past_byte_whole source i f h)
-          (past_second (inside o))
-          (start_of c.label)
+          (past_second (inside o)) (start_of c.label)
           (past_second_whole source (inside o) (inside_whole left o q s))) in
           record {
             whole = λ later k. subst (RunsStandWhole source)
@@ -434,8 +377,7 @@ module _ {A : Type 0} where
 
   -- trees put onto a left list
   onto_done : (trees : Forest (Label A)) (left : List (Entry A)) (later : Forest (Label A))
-      → trees_onto (all_done trees left) later
-      ≡ trees_onto left (joined_chains trees later)
+      → trees_onto (all_done trees left) later ≡ trees_onto left (joined_chains trees later)
   onto_done nil left later = refl
   onto_done (node a below after) left later = onto_done after (done a below ∷ left) later
 
@@ -471,8 +413,7 @@ module _ {A : Type 0} where
                   (joined_whole s.text trees later (closed_trees s fresh a found)
                   (past_whole s.text (end_of_find found) rest here.2))
                   (before_closed s.text a below rest trees later (begins_trees s fresh a found)
-                  (closed_trees s fresh a found)
-                  (quiet_no_run a.part.shape q)));
+                  (closed_trees s fresh a found) (quiet_no_run a.part.shape q)));
               waiting = closed_done trees p.left waiting;
             }
 
@@ -491,8 +432,7 @@ module _ {A : Type 0} where
         }
 
     closed_step : (could : Bool) (a : Label A) (below rest : Forest (Label A)) (p : Progress A)
-        → run_character (open_body a.part.shape)
-        ≡ None
+        → run_character (open_body a.part.shape) ≡ None
         → RunsStandWhole s.text (trees_onto p.left (node a below rest)) → WaitsClosed p.left
         → WholeSoFar s.text (closed (around s above) (closing_of could a rest p) p) rest
     closed_step could a below rest p no_run w waiting =
@@ -506,14 +446,12 @@ module _ {A : Type 0} where
         (whole_cases (around s above) c rest no_run) p before in
         record {
           whole = after.whole (past (closed (around s above) c p).goes_on rest)
-              (past_whole s.text (closed (around s above) c p).goes_on
-              rest here.2);
+              (past_whole s.text (closed (around s above) c p).goes_on rest here.2);
           waiting = after.waiting;
         }
 
     step : (b : ItemBody) (a : Label A) (below rest : Forest (Label A)) (p : Progress A) → open_body a.part.shape ≡ b
-        → p.goes_on ≡ None
-        → RunsStandWhole s.text (trees_onto p.left (node a below rest)) → WaitsClosed p.left
+        → p.goes_on ≡ None → RunsStandWhole s.text (trees_onto p.left (node a below rest)) → WaitsClosed p.left
         → WholeSoFar s.text (read_as (around s above) (read_other s tags above) b a below rest p) rest
     step body.MaybeLinkOpen a below rest p is none w waiting = opened_step false a below rest p none
         (ap run_character is) w waiting
@@ -524,8 +462,7 @@ module _ {A : Type 0} where
     step other a below rest p is none w waiting = other_step a below rest p w waiting
 
     past_step : (goes_on : Option ℕ) (a : Label A) (below rest : Forest (Label A)) (p : Progress A) → p.goes_on
-        ≡ goes_on
-        → WholeSoFar s.text p (node a below rest)
+        ≡ goes_on → WholeSoFar s.text p (node a below rest)
         → WholeSoFar s.text (read_past (around s above) (read_other s tags above) goes_on a below rest p) rest
     past_step None a below rest p is so =
         step (open_body a.part.shape) a below rest p refl is
@@ -533,22 +470,18 @@ module _ {A : Type 0} where
         so.waiting
     past_step (Some i) a below rest p is so =
         by (nat_le (end_of a) i)
-        (subst (λ (o : Option ℕ). RunsStandWhole s.text (trees_onto p.left (past o (node a below rest)))) is
-        so.whole)
+        (subst (λ (o : Option ℕ). RunsStandWhole s.text (trees_onto p.left (past o (node a below rest)))) is so.whole)
       where
         by : (ends : Bool) → RunsStandWhole s.text
             (trees_onto p.left (if ends then past_byte i rest else node (begun_at i a) below rest))
             → WholeSoFar s.text (if ends then p else read (around s above) (read_other s tags above) (begun_at i a)
-            below rest
-            (record p { goes_on = None })) rest
+            below rest (record p { goes_on = None })) rest
         by true w = record {
           whole = subst (λ (o : Option ℕ). RunsStandWhole s.text (trees_onto p.left (past o rest))) (sym is) w;
-          waiting =
-              so.waiting;
+          waiting = so.waiting;
         }
         by false w = step (open_body (begun_at i a).part.shape) (begun_at i a) below rest (record p { goes_on = None })
-            refl refl w
-            so.waiting
+            refl refl w so.waiting
 
     chain_whole : (chain : Forest (Label A)) (p : Progress A) → WholeSoFar s.text p chain
         → WholeSoFar s.text (read_on s tags above chain p) nil
@@ -559,14 +492,12 @@ module _ {A : Type 0} where
         (past_step p.goes_on a below rest p refl so)
 
     nothing_left : (left : List (Entry A)) (goes_on : Option ℕ)
-        → RunsStandWhole s.text (trees_onto left (past goes_on nil))
-        → RunsStandWhole s.text (trees_onto left nil)
+        → RunsStandWhole s.text (trees_onto left (past goes_on nil)) → RunsStandWhole s.text (trees_onto left nil)
     nothing_left left None w = w
     nothing_left left (Some i) w = w
 
   pub pass_one-whole : (s : Setting) (tags : Tags A) (above : Above) (chain : Forest (Label A)) (known : Known)
-      → RunsStandWhole s.text chain
-      → RunsStandWhole s.text (pass_one s tags above chain known).forest
+      → RunsStandWhole s.text chain → RunsStandWhole s.text (pass_one s tags above chain known).forest
   unfolding pass_one
   pass_one-whole s tags above chain known w =
       let read = read_on s tags above chain (begun known) in

@@ -1,14 +1,13 @@
 -- What a wikilink shows begins and ends between characters, as the items before its `]` do, and so does a text after a
 -- `|`, which is one byte. No byte offset cuts an open item of its body: only characters of runs and quotation marks are
 -- open there, of one byte each.
-use Rattle.std.proofs.Common.{◌≡◌, ℕ, ◌+◌, ◌-◌, ◌<◌, ◌≤◌, ◌⊎◌, inl, inr, Bool, true, false, ◌==◌, List, [], ◌∷◌, Option}
-use Rattle.std.proofs.Common.{Some, None, IsUtf8}
-use Rattle.std.proofs.Common.{length, take, drop, get_or, max, refl, sym, ap, ◌∙◌, subst, arith}
+use Rattle.std.proofs.Common.{◌≡◌, ℕ, ◌+◌, ◌-◌, ◌<◌, ◌≤◌, Bool, true, false, ◌==◌, List, [], ◌∷◌, Option}
+use Rattle.std.proofs.Common.{Some, None, IsUtf8, length, take, drop, get_or, refl, sym, ap, ◌∙◌, subst, arith}
 use Rattle.std.specs.Prelude.{IfSome, if◌then◌else◌, nat_le, nat_lt, position, slice_range, ⊤}
 use Rattle.std.specs.List.{position_or_len}
 use Rattle.std.specs.Option.{option_and_then, option_map}
 use Rattle.std.specs.Str.{IsCharBoundary}
-use Rattle.std.proofs.lemmas.Bool.{cases_lt, eqb-true}
+use Rattle.std.proofs.lemmas.Bool.{eqb-true}
 use Rattle.std.proofs.lemmas.Bool.Decides.{nat_tests}
 use Rattle.std.proofs.lemmas.List.{get_or-drop, get_or-take, length-drop, length-take}
 use Rattle.std.proofs.lemmas.List.Sums.{passes_at_first}
@@ -26,8 +25,7 @@ use Rattle.markdown_brackets.specs.BracketDecision.{Around, Wikilink, shown_chil
 use Rattle.markdown_brackets.specs.BracketDecision.{wikilink_in}
 use Rattle.markdown_brackets.specs.LeftList.{Mark, Entry, Split, inside, nearest, trees_onto}
 use Rattle.markdown_brackets.specs.Wikilink.{Shows, WikilinkBody, cut_at, has_pothole, named, shown_from, shows_from}
-use Rattle.markdown_brackets.specs.Wikilink.{shows_name}
-use Rattle.markdown_brackets.specs.Wikilink.{shows_nothing, wikilink_body}
+use Rattle.markdown_brackets.specs.Wikilink.{shows_name, shows_nothing, wikilink_body}
 use Rattle.markdown_brackets.proofs.OpenerHeldLemmas.{splits_at}
 use Rattle.markdown_brackets.proofs.WikilinkPipeLemmas.{some_in_block}
 use Rattle.markdown_document.specs.ChainRest.{begun_at, end_of, joined_chains, past_byte, start_of}
@@ -38,11 +36,13 @@ use Rattle.markdown_document.specs.Tables.{Tables}
 use Rattle.markdown_document.specs.Waiting.{is_quiet, waits_for_pairing}
 use Rattle.markdown_document.proofs.PlaceLemmas.{open-unresolved, shape-open}
 use Rattle.markdown_spans.proofs.SliceLemmas.{slice_between, slice_inside}
+use Rattle.markdown_base.proofs.ByteListLemmas.{part_length}
 use Rattle.markdown_resolver.specs.Closes.{FirstLies, IsNotCut, NoneOpenAround, ShowsWell, IsNamedIn}
 use Rattle.markdown_resolver.specs.Kept.{IsQuiet}
 use Rattle.markdown_resolver.specs.PutsTrees.{numbered_label}
 use Rattle.markdown_resolver.specs.ReadOn.{StandsTo}
-use Rattle.markdown_resolver.proofs.GoesOnLemmas.{one_byte, size_there}
+use Rattle.markdown_resolver.proofs.PastByteLemmas.{boundary_begun}
+use Rattle.markdown_resolver.proofs.GoesOnLemmas.{one_byte}
 use Rattle.markdown_resolver.proofs.LeftTreesLemmas.{onto_split}
 use Rattle.markdown_resolver.proofs.StandsToLemmas.{rest_of}
 
@@ -75,13 +75,12 @@ waiting_long bytes other waits markup run = absurd (cc waits)
 
 -- so it is of an item of an arena that is quiet
 numbered_lies : (source : List ℕ) (tables : Tables) (nodes : List (Node Item)) (ix : ℕ)
-    → IsPlaced source tables nodes ix
-    → is_quiet (numbered_label source tables nodes ix).part.shape ≡ true
+    → IsPlaced source tables nodes ix → is_quiet (numbered_label source tables nodes ix).part.shape ≡ true
     → LabelLies source (numbered_label source tables nodes ix)
 numbered_lies source tables nodes ix placed quiet =
     let item = item_at nodes ix in
     let bytes = slice_range source item.start item.end in
-    let size : length bytes ≡ item.end - item.start = size_there source item.start item.end placed.lies.end.0 in
+    let size : length bytes ≡ item.end - item.start = part_length source item.start item.end placed.lies.end.0 in
     record {
       ordered = placed.lies.ordered;
       starts = placed.lies.start;
@@ -104,19 +103,15 @@ first_lies source tables nodes nil (node a below after) h placed e quiet = absur
 first_lies source tables nodes (node ix inner later) (node a below after) h placed e quiet =
     let same : numbered_label source tables nodes ix ≡ a = cc e in
     let shape : is_quiet (numbered_label source tables nodes ix).part.shape
-    ≡ true = ap (λ (b : Label ℕ). is_quiet b.part.shape) same
-    ∙ quiet.0 in
+    ≡ true = ap (λ (b : Label ℕ). is_quiet b.part.shape) same ∙ quiet.0 in
     let rest : relabelled (numbered_label source tables nodes) later ≡ joined_chains after h = cc e in (
       subst (LabelLies source) same (numbered_lies source tables nodes ix placed.0 shape),
-      first_lies source tables nodes later after h
-          placed.2 rest quiet.3,
+      first_lies source tables nodes later after h placed.2 rest quiet.3,
     )
 
 -- the trees of a left list that stands in an arena
 pub left_lies : (source : List ℕ) (tables : Tables) (nodes : List (Node Item)) (first : ℕ) (at : Option ℕ)
-    (left : List (Entry ℕ))
-    → StandsTo source tables nodes first at left
-    → AllLie source (trees_onto left nil)
+    (left : List (Entry ℕ)) → StandsTo source tables nodes first at left → AllLie source (trees_onto left nil)
 left_lies source tables nodes first at left h =
     let r = rest_of source tables nodes first at left h in
     first_lies source tables nodes (forest_at (links_of nodes) (Some first)) (trees_onto left nil) _
@@ -124,16 +119,13 @@ left_lies source tables nodes first at left h =
 
 -- and those inside an opener of it, past the second
 pub inside_lies : (source : List ℕ) (test : Mark → Bool) (left : List (Entry ℕ)) (o : Split ℕ)
-    → AllLie source (trees_onto left nil)
-    → nearest test left ≡ Some o
-    → AllLie source (past_second (inside o))
+    → AllLie source (trees_onto left nil) → nearest test left ≡ Some o → AllLie source (past_second (inside o))
 inside_lies source test left o h found =
     let splits = subst (λ (s : Option (Split ℕ)). IfSome s (λ o. (later : Forest (Label ℕ))
     → trees_onto left later ≡ trees_onto o.before (node o.opener nil (trees_onto o.after later))))
     found (splits_at test left) in
     let whole : trees_onto left nil ≡ joined_chains (trees_onto o.before nil) (node o.opener nil (inside o)) = splits
-    nil
-    ∙ onto_split o.before (node o.opener nil (inside o)) in
+    nil ∙ onto_split o.before (node o.opener nil (inside o)) in
     let all = second_lies source (trees_onto o.before nil) (node o.opener nil (inside o))
     (subst (AllLie source) whole h) in
     past_second_lies source (inside o) all.1
@@ -151,18 +143,9 @@ none_cut source i (node a below after) h = by (nat_le (end_of a) i) refl (none_c
         → IsNotCut ended i a (NoneOpenAround i after)
     by true e later = later
     by false e later = λ starts. let ends : i < end_of a = grind (arith, nat_tests) in by_shape
-        (is_unresolved a.part.shape) refl starts
-        ends
+        (is_unresolved a.part.shape) refl starts ends
 
 -- what is left of them past a byte offset between characters begins and ends between characters
-max_between : (source : List ℕ) (s i : ℕ) → IsCharBoundary source s → IsCharBoundary source i
-    → IsCharBoundary source (max s i)
-max_between source s i hs hi = by (cases_lt s i)
-  where
-    by : (s < i) ⊎ (i ≤ s) → IsCharBoundary source (max s i)
-    by (inl l) = let same : i ≡ max s i = omega (arith, l) in subst (IsCharBoundary source) same hi
-    by (inr l) = let same : s ≡ max s i = omega (arith, l) in subst (IsCharBoundary source) same hs
-
 past_lies : (source : List ℕ) (i : ℕ) (f : Forest (Label ℕ)) → AllLie source f → IsCharBoundary source i
     → FirstLies source (past_byte i f)
 past_lies source i nil h between = tt
@@ -174,7 +157,7 @@ past_lies source i (node a below after) h between = by (nat_le (end_of a) i) ref
     by false e later =
         let ends : i < end_of a = grind (arith, nat_tests) in
         let order = h.0.ordered in
-        (omega (arith, order, ends), max_between source (start_of a) i h.0.starts between, h.0.ends)
+        (omega (arith, order, ends), boundary_begun source (start_of a) i h.0.starts between, h.0.ends)
 
 -- where a body is cut
 abbrev IsCut : List ℕ → (start end : ℕ) → Shows → Type 0
@@ -256,16 +239,14 @@ children_lie w first f end (shows_from at) all starts ends cut = some_lies w.set
     (past_lies w.setting.text at f all cut)
 
 made_lies : (source : List ℕ) (b : WikilinkBody) (children : Option (Forest (Label ℕ)))
-    → IfSome children (FirstLies source)
-    → IfSome {T = Wikilink ℕ}
+    → IfSome children (FirstLies source) → IfSome {T = Wikilink ℕ}
     (option_map (λ children. record { name = b.name; has_pothole = has_pothole b.shows; children = children })
     children) (λ v. FirstLies source v.children)
 made_lies source b None h = tt
 made_lies source b (Some children) h = h
 
 wikilink_lies : (w : Around) (f : Forest (Label ℕ)) (end : ℕ) → IsUtf8 w.setting.text → AllLie w.setting.text f
-    → IsCharBoundary w.setting.text end
-    → IfSome (wikilink_in w f end) (λ v. FirstLies w.setting.text v.children)
+    → IsCharBoundary w.setting.text end → IfSome (wikilink_in w f end) (λ v. FirstLies w.setting.text v.children)
 wikilink_lies w nil end utf8 all ends = tt
 wikilink_lies w (node first below after) end utf8 all ends = by
     (wikilink_body w.setting.text w.above.block_end (start_of first) end)
@@ -281,8 +262,7 @@ wikilink_lies w (node first below after) end utf8 all ends = by
 
 -- so a wikilink of this body shows what can be shown
 pub shows_well : (w : Around) (f : Forest (Label ℕ)) (end : ℕ) (v : Wikilink ℕ) → IsUtf8 w.setting.text
-    → AllLie w.setting.text f
-    → IsCharBoundary w.setting.text end
+    → AllLie w.setting.text f → IsCharBoundary w.setting.text end
     → wikilink_in w f end ≡ Some v → ShowsWell w.setting.text f v.children
 shows_well w f end v utf8 all ends e = record {
   lies = subst (λ (found : Option (Wikilink ℕ)). IfSome found (λ v. FirstLies w.setting.text v.children)) e
@@ -304,8 +284,7 @@ pipe_slice text start end order = by (position (λ b. b == 124) body)
     body : List ℕ
     body = slice_range text start end
 
-    by : (found : Option ℕ)
-        → IfSome {T = ℕ × List ℕ} (option_map (λ n. (start + n + 1, take n body)) found)
+    by : (found : Option ℕ) → IfSome {T = ℕ × List ℕ} (option_map (λ n. (start + n + 1, take n body)) found)
         (λ pipe. IsSliceWithin text start end pipe.1)
     by None = tt
     by (Some n) =
@@ -341,8 +320,7 @@ name_slice w (node first below after) end = by (wikilink_body w.setting.text w.a
     (body_slice w.setting.text w.above.block_end (start_of first) end)
   where
     made : (b : WikilinkBody) (children : Option (Forest (Label ℕ))) → IsSliceWithin w.setting.text (start_of first) end
-        b.name
-        → IfSome {T = Wikilink ℕ}
+        b.name → IfSome {T = Wikilink ℕ}
         (option_map (λ children. record { name = b.name; has_pothole = has_pothole b.shows; children = children })
         children) (λ v. IsSliceWithin w.setting.text (start_of first) end v.name)
     made b None h = tt
@@ -357,5 +335,4 @@ name_slice w (node first below after) end = by (wikilink_body w.setting.text w.a
 pub names_slice : (w : Around) (f : Forest (Label ℕ)) (end : ℕ) (v : Wikilink ℕ) → wikilink_in w f end ≡ Some v
     → IsNamedIn w.setting.text f end v.name
 names_slice w f end v e = subst
-    (λ (found : Option (Wikilink ℕ)). IfSome found (λ v. IsNamedIn w.setting.text f end v.name)) e
-    (name_slice w f end)
+    (λ (found : Option (Wikilink ℕ)). IfSome found (λ v. IsNamedIn w.setting.text f end v.name)) e (name_slice w f end)

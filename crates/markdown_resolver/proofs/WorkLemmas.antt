@@ -1,6 +1,5 @@
 -- How much the counts of work rise where a chain is resolved.
-use Rattle.std.proofs.Common.{◌≡◌, ℕ, ◌*◌, List, ◌++◌, Option, Some, length, refl, sym, ap, ◌∙◌}
-use Rattle.std.proofs.Common.{arith, subst}
+use Rattle.std.proofs.Common.{◌≡◌, ℕ, ◌*◌, List, ◌++◌, Option, Some, length, refl, sym, ap, ◌∙◌, arith, subst}
 use Rattle.std.proofs.lemmas.List.{length-map}
 use Rattle.markdown_base.specs.ArenaForest.{links_of, forest_at}
 use Rattle.markdown_base.specs.BlockTree.{trees_at}
@@ -39,8 +38,7 @@ same_rise : (most most' old new new' : ℕ) → most' ≡ most → new' ≡ new 
 same_rise most most' old new new' e e' r = record {
   more = r.more;
   within = omega (arith, e, r.within);
-  counted = e'
-      ∙ r.counted;
+  counted = e' ∙ r.counted;
 }
 
 -- what pairing makes of the counts, with these numbers of delimiter characters and of searches that find
@@ -54,8 +52,7 @@ found_by f f' old old' new e e' h = rw (sym e, sym e') h
 
 -- where a chain was read, the counts rose by those of a part of it: of its items, and of no delimiter character
 pub read_in_part : {C : Type 0} (s : Setting) (above : Above) (first : ℕ) (old : Stage C) (known : Known)
-    (work new : Work)
-    → ReadCounts (items_from old.nodes (Some first)) work new
+    (work new : Work) → ReadCounts (items_from old.nodes (Some first)) work new
     → RisesInPart (chain_counts s plain_tags above (chain_at s.text old (Some first)) known) work new
 read_in_part s above first old known work new read =
     let n = chain_counts s plain_tags above (chain_at s.text old (Some first)) known in
@@ -70,11 +67,9 @@ read_in_part s above first old known work new read =
         examined = record { more = 0; within = omega arith; counted = read.same_examined };
         found = omega (arith, read.same_examined);
         code_visits = same_rise (items_from old.nodes (Some first)) n.items work.code_visits new.code_visits
-            new.code_visits items refl
-            read.code;
+            new.code_visits items refl read.code;
         math_visits = same_rise (items_from old.nodes (Some first)) n.items work.math_visits new.math_visits
-            new.math_visits items refl
-            read.math;
+            new.math_visits items refl read.math;
       };
     }
 
@@ -106,11 +101,9 @@ module _ {C : Type 0} (step : C → Question → Option Answer → C → Type 0)
         };
         found = found_by found found then.examined work.examined new.examined refl read.same_examined paired.finds;
         code_visits = same_rise (items_from old.nodes (Some first)) n.items work.code_visits then.code_visits
-            new.code_visits items
-            (ap (λ (w : Work). w.code_visits) paired.counted) read.code;
+            new.code_visits items (ap (λ (w : Work). w.code_visits) paired.counted) read.code;
         math_visits = same_rise (items_from old.nodes (Some first)) n.items work.math_visits then.math_visits
-            new.math_visits items
-            (ap (λ (w : Work). w.math_visits) paired.counted) read.math;
+            new.math_visits items (ap (λ (w : Work). w.math_visits) paired.counted) read.math;
       }
 
   pub counts_rise : PairCounts (delimiters_of (trees_at mid.nodes (Some first)))

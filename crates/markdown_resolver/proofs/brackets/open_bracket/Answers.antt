@@ -3,4 +3,4 @@ use Rattle.markdown_resolver.proofs.SettlingLemmas.{node_within}
 use Rattle.markdown_resolver.proofs.brackets.open_bracket.Goals as goal
 
 pub next-requires : goal.next-requires
-next-requires c = node_within c.requires.0 c.requires.1 c.args.tree.now.nodes c.args.ix c.requires.2
+next-requires c = node_within c.requires.2

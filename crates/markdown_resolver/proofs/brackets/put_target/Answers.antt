@@ -10,9 +10,7 @@ use Rattle.markdown_resolver.proofs.brackets.put_target.Goals as goal
 pub item-requires : goal.item-requires
 item-requires c =
     let closes = c.requires.6 in
-    let at = opener_at c.requires.0 (tables_of c.args.tables.now) c.args.tree.now.nodes c.requires.1 c.args.closer
-    c.requires.2 c.requires.5
-    closes.stands closes.splits in
+    let at = opener_at closes.stands closes.splits in
     rw c.requires.7 at.opener.within
 
 pub put_link-requires : goal.put_link-requires

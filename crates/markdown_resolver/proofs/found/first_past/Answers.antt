@@ -57,8 +57,7 @@ chain-preserved c =
       spelled = s.after;
       ahead =
           c.chain.invariant.ahead ∙ ap (λ l. first_past nodes c.args.end (roots (forest_at (links_of nodes) l)))
-          c.in-Some.is
-          ∙ first_later nodes c.args.end c.in-Some.ix s passed;
+          c.in-Some.is ∙ first_later nodes c.args.end c.in-Some.ix s passed;
       counted = omega (arith, counted, items_fall nodes c.in-Some.ix s);
     })
 
@@ -69,8 +68,7 @@ returns-clause-past c =
       next_is =
           c.in_default.is
           ∙ sym (c.chain.invariant.ahead ∙ ap (λ l. first_past nodes c.args.end (roots (forest_at (links_of nodes) l)))
-          c.in_default.is
-          ∙ first_none nodes c.args.end);
+          c.in_default.is ∙ first_none nodes c.args.end);
       counted = c.chain.invariant.counted;
     }
 

@@ -1,4 +1,5 @@
--- The chain is there from the link on, the first that ends past the byte is still ahead, and the items before are counted.
+-- The chain is there from the link on, the first that ends past the byte is still ahead, and the items before are
+-- counted.
 use Rattle.std.proofs.Common.{◌≡◌, ◌+◌}
 use Rattle.markdown_base.specs.ArenaForest.{Spells, forest_at, links_of}
 use Rattle.markdown_base.specs.Forest.{roots}

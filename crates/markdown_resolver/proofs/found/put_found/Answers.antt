@@ -13,8 +13,5 @@ returns-clause-puts c source tables tables' grown finds puts starts =
     let rest = c.first_past-rest.result in
     let past = rw c.next.ensures.value at c.first_past-rest.ensures.past in
     let nodes : c.begin_from.new.tree.nodes ≡ begun_from rest.next c.args.item.end c.write_node.new.tree.nodes = ap
-    (λ t. t.nodes)
-    c.begin_from.ensures in
-    rw nodes (found_puts source c.args.ix c.args.item rest c.args.tree.now.nodes c.write_node.new.tree.nodes tables
-    tables' grown finds puts starts past
-    c.write_node.ensures.written)
+    (λ t. t.nodes) c.begin_from.ensures in
+    rw nodes (found_puts grown finds puts starts past c.write_node.ensures.written)

@@ -16,8 +16,4 @@ returns-clause-puts c source tables tables' grown finds can =
     let past = rw c.next.ensures.value at c.first_past-rest.ensures.past in
     let nodes : c.begin_from.new.tree.nodes ≡ begun_from rest.next c.args.second.end last = ap (λ t. t.nodes)
     c.begin_from.ensures in
-    rw nodes
-    (pair_puts source c.args.ix c.args.closer c.args.first c.args.second rest c.args.tree.now.nodes
-    c.write_node.new.tree.nodes last
-    tables tables' grown finds can past c.write_node.ensures.written
-    c.write_node-2.ensures.written)
+    rw nodes (pair_puts grown finds can past c.write_node.ensures.written c.write_node-2.ensures.written)

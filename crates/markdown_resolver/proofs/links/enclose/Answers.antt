@@ -16,21 +16,18 @@ set_next-requires-2-clause-node c =
     rw (
       size_child c.set_next.new.self c.set_child.new.self c.args.opener c.next-inside.result c.set_child.ensures,
       size_next c.args.tree.now c.set_next.new.self c.args.last None c.set_next.ensures,
-    )
-    c.requires.opener
+    ) c.requires.opener
 
 pub set_next-requires-2-clause-next : goal.set_next-requires-2-clause-next
 set_next-requires-2-clause-next c =
     rw (
       size_child c.set_next.new.self c.set_child.new.self c.args.opener c.next-inside.result c.set_child.ensures,
       size_next c.args.tree.now c.set_next.new.self c.args.last None c.set_next.ensures,
-    )
-    c.requires.closer
+    ) c.requires.closer
 
 pub returns-clause-enclosed : goal.returns-clause-enclosed
 returns-clause-enclosed c =
     enclosed_tree c.args.tree.now c.set_next.new.self c.set_child.new.self c.set_next-2.new.self c.args.opener
-    c.args.last c.args.closer
-    c.next-inside.result
+    c.args.last c.args.closer c.next-inside.result
     c.requires.opener c.requires.last c.next-inside.ensures.value c.set_next.ensures c.set_child.ensures
     c.set_next-2.ensures

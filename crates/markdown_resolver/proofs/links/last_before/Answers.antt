@@ -10,7 +10,7 @@ pub inside-init : goal.inside-init
 inside-init c =
     let nodes = c.args.tree.now.nodes in
     record {
-      within = node_within c.requires.0 c.requires.1 nodes c.args.opener c.requires.4.ready;
+      within = node_within c.requires.4.ready;
       spelled = first_spelled c.requires.0 c.requires.1 nodes c.args.opener c.args.closer c.requires.2 c.requires.3
           c.requires.4;
       ahead = λ source tables inside byte can. ahead_first source tables nodes c.args.opener c.args.closer inside byte
@@ -22,8 +22,7 @@ returns-then-next-closer c source tables inside byte can =
     let nodes = c.args.tree.now.nodes in
     let link = sym c.next.ensures.value ∙ c.in-Some.is in
     ahead_here nodes c.args.opener c.args.closer c.inside.last c.in-Some.next inside link
-    (spelled_at nodes (sibling_of nodes c.inside.last)
-    c.in-Some.next link c.inside.invariant.spelled)
+    (spelled_at nodes (sibling_of nodes c.inside.last) c.in-Some.next link c.inside.invariant.spelled)
     c.if-next-closer.true (c.inside.invariant.ahead source tables inside byte can)
 
 pub inside-smaller : goal.inside-smaller
@@ -50,5 +49,4 @@ inside-preserved c =
 pub returns : goal.returns
 returns c source tables inside byte can =
     absurd (ahead_none c.args.tree.now.nodes c.args.opener c.args.closer c.inside.last inside
-    (sym c.next.ensures.value ∙ c.in_default.is)
-    (c.inside.invariant.ahead source tables inside byte can))
+    (sym c.next.ensures.value ∙ c.in_default.is) (c.inside.invariant.ahead source tables inside byte can))

@@ -8,19 +8,13 @@ use Rattle.markdown_resolver.proofs.SettlingLemmas.{node_within}
 use Rattle.markdown_resolver.proofs.links.put_footnote.Goals as goal
 
 pub next-requires : goal.next-requires
-next-requires c = closer_within c.requires.0 c.requires.1 c.args.tree.now.nodes c.args.brackets.opener
-    c.args.brackets.closer c.requires.3 c.args.item.end
-    c.requires.5
+next-requires c = closer_within c.requires.5
 
 pub first_past-rest-requires : goal.first_past-rest-requires
-first_past-rest-requires c =
-    rw c.next.ensures.value
-    (behind_spelled c.requires.0 c.requires.1 c.args.tree.now.nodes c.args.brackets.opener c.args.brackets.closer
-    c.requires.3 c.args.item.end c.requires.5)
+first_past-rest-requires c = rw c.next.ensures.value (behind_spelled c.requires.5)
 
 pub write_node-requires-clause-node : goal.write_node-requires-clause-node
-write_node-requires-clause-node c = node_within c.requires.0 c.requires.1 c.args.tree.now.nodes c.args.brackets.opener
-    c.requires.5.ready
+write_node-requires-clause-node c = node_within c.requires.5.ready
 
 pub returns-clause-puts : goal.returns-clause-puts
 returns-clause-puts c source tables tables' inside grown can over ends =
@@ -30,7 +24,4 @@ returns-clause-puts c source tables tables' inside grown can over ends =
     let past = rw c.next.ensures.value at c.first_past-rest.ensures.past in
     let nodes : c.begin_from.new.tree.nodes ≡ begun_from rest.next c.args.item.end mid = ap (λ t. t.nodes)
     c.begin_from.ensures in
-    rw nodes
-    (reference_puts source c.args.brackets.opener c.args.brackets.closer c.args.item inside old tables tables' grown can
-    over ends rest mid past
-    c.write_node.ensures.written)
+    rw nodes (reference_puts grown can over ends rest mid past c.write_node.ensures.written)

@@ -8,30 +8,19 @@ use Rattle.markdown_resolver.proofs.SettlingLemmas.{node_within}
 use Rattle.markdown_resolver.proofs.links.put_image_footnote.Goals as goal
 
 pub write_node-requires-clause-node : goal.write_node-requires-clause-node
-write_node-requires-clause-node c = node_within c.requires.0 c.requires.1 c.args.tree.now.nodes c.args.brackets.opener
-    c.requires.5.ready
+write_node-requires-clause-node c = node_within c.requires.5.ready
 
 pub write_node-requires-clause-next : goal.write_node-requires-clause-next
-write_node-requires-clause-next c = closer_within c.requires.0 c.requires.1 c.args.tree.now.nodes c.args.brackets.opener
-    c.args.brackets.closer c.requires.3
-    c.args.item.end c.requires.5
+write_node-requires-clause-next c = closer_within c.requires.5
 
 pub next-requires : goal.next-requires
-next-requires c = closer_within c.requires.0 c.requires.1 c.args.tree.now.nodes c.args.brackets.opener
-    c.args.brackets.closer c.requires.3 c.args.item.end
-    c.requires.5
+next-requires c = closer_within c.requires.5
 
 pub first_past-rest-requires : goal.first_past-rest-requires
-first_past-rest-requires c =
-    rw c.next.ensures.value
-    (behind_spelled c.requires.0 c.requires.1 c.args.tree.now.nodes c.args.brackets.opener c.args.brackets.closer
-    c.requires.3 c.args.item.end c.requires.5)
+first_past-rest-requires c = rw c.next.ensures.value (behind_spelled c.requires.5)
 
 pub write_node-requires-2-clause-node : goal.write_node-requires-2-clause-node
-write_node-requires-2-clause-node c =
-    rw c.write_node.ensures.written.size
-    (closer_within c.requires.0 c.requires.1 c.args.tree.now.nodes c.args.brackets.opener c.args.brackets.closer
-    c.requires.3 c.args.item.end c.requires.5)
+write_node-requires-2-clause-node c = rw c.write_node.ensures.written.size (closer_within c.requires.5)
 
 pub returns-clause-puts : goal.returns-clause-puts
 returns-clause-puts c source tables tables' inside grown can over =
@@ -42,8 +31,4 @@ returns-clause-puts c source tables tables' inside grown can over =
     let past = rw c.next.ensures.value at c.first_past-rest.ensures.past in
     let nodes : c.begin_from.new.tree.nodes ≡ begun_from rest.next c.args.item.end last = ap (λ t. t.nodes)
     c.begin_from.ensures in
-    rw nodes
-    (mark_puts source c.args.brackets.opener c.args.brackets.closer c.args.mark c.args.item inside old mid tables
-    tables' grown can over
-    c.write_node.ensures.written rest last past
-    c.write_node-2.ensures.written)
+    rw nodes (mark_puts grown can over c.write_node.ensures.written rest last past c.write_node-2.ensures.written)

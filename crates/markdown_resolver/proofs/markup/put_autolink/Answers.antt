@@ -32,8 +32,7 @@ put_parent-requires c =
     (address_from source (item_at nodes ix).start end sliced uri at.address.slice) refl in
     let can = can_put_autolink source (tables_of held) (tables_of held') link uri nodes ix end put at.lies at.address in
     let here = subst (λ (item : Item). CanPutParent source (tables_of held) (tables_of held') nodes ix (over item)
-    (inside item))
-    (sym (c.item-item.ensures no_item)) can in
+    (inside item)) (sym (c.item-item.ensures no_item)) can in
     (source, tables_of held, tables_of held', put.grown, at.found, here)
 
 pub returns-clause-puts : goal.returns-clause-puts
@@ -53,8 +52,7 @@ returns-clause-puts c = λ source rules at.
     let inside : Item → Item = λ item. record { start = item.end; end = end - 1; body = body.Text false } in
     let put : PutsLink source (item_at old ix).start end tables tables' link (address uri) =
     link_put source (item_at old ix).start end held held' _ link (address uri) c.in_ok-link.ensures.put
-    c.in_ok-link.ensures.number
-    (address_from source (item_at old ix).start end sliced uri at.address.slice) refl in
+    c.in_ok-link.ensures.number (address_from source (item_at old ix).start end sliced uri at.address.slice) refl in
     let can = can_put_autolink source tables tables' link uri old ix end put at.lies at.address in
     let puts =
     subst (λ (item : Item). CanPutParent source tables tables' old ix (over item) (inside item)

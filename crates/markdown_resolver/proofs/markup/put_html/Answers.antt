@@ -14,5 +14,4 @@ returns-clause-puts c = λ source tables tables' grown found can.
     (c.item.ensures no_item) in
     subst (λ (start : ℕ). CanPut source tables tables' (from start)
     → Puts source c.args.ix (one_item source tables' (from start)) (Some c.args.end) c.put_found.result old new tables
-    tables') same
-    (λ can. c.put_found.ensures.puts source tables tables' grown found can same) can
+    tables') same (λ can. c.put_found.ensures.puts source tables tables' grown found can same) can

@@ -35,8 +35,7 @@ put_html-requires c =
     let nodes = c.args.tree.now.nodes in
     let end = c.in-Html.end in
     let at : IsMarkupAt source tables nodes c.args.ix (html_markup end None) = subst
-    (λ (found : MarkupFound). IsMarkupAt source tables nodes
-    c.args.ix (markup_of found)) c.in-Html.is c.requires.1 in
+    (λ (found : MarkupFound). IsMarkupAt source tables nodes c.args.ix (markup_of found)) c.in-Html.is c.requires.1 in
     (source, tables, tables, grown-nothing tables, at.found, can_put_html source tables nodes c.args.ix end at.lies)
 
 pub put_html-requires-in-OwnedHtml : goal.put_html-requires-in-OwnedHtml
@@ -58,16 +57,14 @@ put_html-requires-in-OwnedHtml c =
       tables_of held',
       put.grown,
       at.found,
-      can_put_owned source (tables_of held) (tables_of held') entry.number
-          bytes nodes c.args.ix end put at.lies,
+      can_put_owned source (tables_of held) (tables_of held') entry.number bytes nodes c.args.ix end put at.lies,
     )
 
 pub returns-in-Autolink-clause-puts : goal.returns-in-Autolink-clause-puts
 returns-in-Autolink-clause-puts c =
     if_ok c.put_autolink.result _ _ (λ rest puts. λ source rules.
     subst (StandsFor source rules (tables_of c.args.tables.now) (tables_of c.put_autolink.new.tables)
-    c.args.tree.now.nodes
-    c.put_autolink.new.tree.nodes c.args.ix rest) (sym c.in-Autolink.is)
+    c.args.tree.now.nodes c.put_autolink.new.tree.nodes c.args.ix rest) (sym c.in-Autolink.is)
     (puts source rules)) c.put_autolink.ensures.puts
 
 pub returns-in-Html-clause-puts : goal.returns-in-Html-clause-puts
@@ -80,9 +77,7 @@ returns-in-Html-clause-puts c = λ source rules.
     let rest = c.put_html.result in
     subst (StandsFor source rules tables tables old new ix rest) (sym c.in-Html.is) (λ at.
     puts_standing source rules (html_markup end None) ix (one_item source tables (item_to old ix end body.InlineHtml))
-    (Some end) rest old new tables
-    tables at.found.ready
-    (html_trees source rules tables tables old ix end)
+    (Some end) rest old new tables tables at.found.ready (html_trees source rules tables tables old ix end)
     (c.put_html.ensures.puts source tables tables (grown-nothing tables) at.found
     (can_put_html source tables old ix end at.lies)))
 
@@ -100,13 +95,11 @@ returns-in_ok-number-in-OwnedHtml-clause-puts c = λ source rules.
     let entry = c.in_ok-number-in-OwnedHtml in
     let rest = c.put_html-in-OwnedHtml.result in
     let put : PutsText tables tables' entry.number bytes = text_put held held' c.from.result entry.number bytes
-    entry.ensures.put
-    entry.ensures.number c.from.ensures.1 in
+    entry.ensures.put entry.ensures.number c.from.ensures.1 in
     subst (StandsFor source rules tables tables' old new ix rest) (sym c.in-OwnedHtml.is) (λ at.
     puts_standing source rules (html_markup end (Some bytes)) ix
     (one_item source tables' (item_to old ix end (body.OwnedInlineHtml entry.number)))
     (Some end) rest old new tables tables' at.found.ready
     (owned_trees source rules tables tables' entry.number bytes old ix end put)
     (c.put_html-in-OwnedHtml.ensures.puts source tables tables' put.grown at.found
-    (can_put_owned source tables tables' entry.number bytes
-    old ix end put at.lies)))
+    (can_put_owned source tables tables' entry.number bytes old ix end put at.lies)))

@@ -11,5 +11,4 @@ returns-then-becomes_text c =
 
 pub returns-else-becomes_text : goal.returns-else-becomes_text
 returns-else-becomes_text c = settled_closed c.args.tree.now c.args.ix
-    (rw (c.item-item.ensures no_item) at (sym c.becomes_text.ensures
-    ∙ c.if-becomes_text.false))
+    (rw (c.item-item.ensures no_item) at (sym c.becomes_text.ensures ∙ c.if-becomes_text.false))

@@ -38,16 +38,14 @@ fits_below n m le fits = omega (arith, le, fits)
 pub overflow_add-backtick : goal.overflow_add-backtick
 overflow_add-backtick c =
     let room = after_backtick c.args.tree.now.nodes c.args.ix c.args.closer c.args.body c.item-item.result.now
-    c.end_of-end.result
-    c.requires
+    c.end_of-end.result c.requires
     (c.item-item.ensures no_item) c.end_of-end.ensures (sym c.is_escaped.ensures ∙ c.if-not-is_escaped.false) in
     fits_below (c.item-item.result.now.start + 1) c.end_of-end.result room c.end_of-end.type_inv
 
 pub overflow_add-span : goal.overflow_add-span
 overflow_add-span c =
     let room = after_backtick c.args.tree.now.nodes c.args.ix c.args.closer c.args.body c.item-item.result.now
-    c.end_of-end.result
-    c.requires
+    c.end_of-end.result c.requires
     (c.item-item.ensures no_item) c.end_of-end.ensures (sym c.is_escaped.ensures ∙ c.if-not-is_escaped.false) in
     fits_below (c.item-item.result.now.start + 1) c.end_of-end.result room c.end_of-end.type_inv
 

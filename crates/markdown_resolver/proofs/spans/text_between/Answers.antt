@@ -23,15 +23,13 @@ returns-clause-value c = λ rules gfm.
     let bytes = c.range.result.now in
     let same = fun_ext (prefix_is prefix s (c.new-prefix.ensures.footnotes ∙ c.gfm_footnotes.ensures ∙ sym gfm))
     ∙ ap (λ (tree : Arena Item). prefix_below s (above_cursor s.text tree)) c.new-prefix.ensures.tree in
-    c.in_ok-span_text.ensures.value
-    ∙ ap (λ (p : List ℕ → ℕ). span_text c.args.kind table p bytes) same
+    c.in_ok-span_text.ensures.value ∙ ap (λ (p : List ℕ → ℕ). span_text c.args.kind table p bytes) same
     ∙ ap (λ t. span_text c.args.kind t (prefix_below s above) bytes) c.requires.place.in_table
     ∙ ap (λ (b : List ℕ). span_text c.args.kind above.in_table (prefix_below s above) b) c.range.ensures.value
 
 pub returns-clause-origin : goal.returns-clause-origin
 returns-clause-origin c =
-    c.in_ok-span_text.ensures.origin
-    ∙ ap (λ t. span_origin t c.range.result.now) c.requires.place.in_table
+    c.in_ok-span_text.ensures.origin ∙ ap (λ t. span_origin t c.range.result.now) c.requires.place.in_table
     ∙ ap (λ (b : List ℕ). span_origin (above_cursor c.args.place.now.text.now c.args.tree.now).in_table b)
     c.range.ensures.value
 

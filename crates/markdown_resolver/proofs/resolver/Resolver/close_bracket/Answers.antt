@@ -18,8 +18,7 @@ returns-in_err-found-clause-stops g c =
     let s = c.args.self.now in
     if_err c.from_residual.result (λ first left was_read.
     stops_here g.F.BrokenLinkCallback.answers (setting_by s) (above_cursor s.text.now c.args.tree.now) (Some c.args.ix)
-    left
-    (stage_by c.args.tree.now s) s.waiting.spent _ c.in_err-found.ensures.nothing_asked)
+    left (stage_by c.args.tree.now s) s.waiting.spent _ c.in_err-found.ensures.nothing_asked)
 
 pub returns-in_err-found-clause-kept : goal.returns-in_err-found-clause-kept
 returns-in_err-found-clause-kept g c = record {
@@ -31,8 +30,7 @@ pub finish_bracket-requires : goal.finish_bracket-requires
 finish_bracket-requires g c =
     let utf8 = c.requires.ready.was_read.stands.utf8 in
     (may_put g.F.BrokenLinkCallback.answers c.args.place.now c.args.tree.now c.args.self.now c.decide_closing.new.self
-    c.in_ok-found.found
-    c.args.ix c.requires.ready utf8 c.requires.closes c.decide_closing.ensures.kept
+    c.in_ok-found.found c.args.ix c.requires.ready utf8 c.requires.closes c.decide_closing.ensures.kept
     c.in_ok-found.ensures.decides).within
 
 pub put_closed-requires : goal.put_closed-requires
@@ -56,8 +54,7 @@ returns g c =
           c.requires.ready utf8 c.requires.closes kept c.in_ok-found.ensures.decides c.put_closed.new.tree
           c.put_closed.new.tables
           c.finish_bracket.new.openers c.put_closed.result (ap (λ (h : Allocated). h.footdefs) put)
-          c.finish_bracket.ensures
-          c.put_closed.ensures.puts c.put_closed.ensures.place;
+          c.finish_bracket.ensures c.put_closed.ensures.puts c.put_closed.ensures.place;
       stops = stops_decided g.F.BrokenLinkCallback.answers c.args.place.now c.args.tree.now c.args.self.now n
           c.in_ok-found.found c.args.ix
           c.requires.ready utf8 c.requires.closes kept c.in_ok-found.ensures.decides c.put_closed.result;

@@ -28,8 +28,7 @@ chain-preserved g c =
       spelled = at.after;
       resolver = rw (c.count_item.ensures, i.resolver) refl;
       counted = counted_more _ c.chain.self.work.items _ _ _ 1 _ i.counted (omega (arith, one))
-          (ap (λ (w : Work). w.items)
-          c.count_item.ensures);
+          (ap (λ (w : Work). w.items) c.count_item.ensures);
     })
 
 pub returns : goal.returns

@@ -1,11 +1,10 @@
 -- What a `]` becomes is decided, by the rules of pass one.
 use Rattle.std.proofs.Common.{Some, refl, ◌∙◌}
 use Rattle.markdown_base.specs.BlockTree.{item_at}
-use Rattle.markdown_document.specs.Tables.{tables_of}
 use Rattle.markdown_resolver.proofs.ChainPlaceLemmas.{has_blocks}
 use Rattle.markdown_resolver.proofs.CloseBracketLemmas.{IsPrefixOf, decides_here, finds_each, tries_each}
 use Rattle.markdown_resolver.proofs.OpenerReadLemmas.{closer_body, ready_here}
-use Rattle.markdown_resolver.proofs.ReadingLemmas.{node_within}
+use Rattle.markdown_resolver.proofs.SettlingLemmas.{node_within}
 use Rattle.markdown_resolver.proofs.resolver.Resolver.decide_closing.Goals as goal
 
 pub new-rule-requires : goal.new-rule-requires
@@ -19,9 +18,7 @@ decide_bracket-requires g c κs =
       (refl, tt),
       (
         record {
-          within = node_within c.args.place.now.text.now (tables_of c.args.self.now.lookup.tables) c.args.tree.now.nodes
-              c.args.ix
-              (ready_here can);
+          within = node_within (ready_here can);
           brackets = tries_each can _ is;
           wikilinks = finds_each can _ is;
         },

@@ -17,13 +17,11 @@ returns-in-Opener g c =
     let opened = c.open_bracket.ensures in
     record {
       reads = reads_opener g.F.BrokenLinkCallback.answers c.args.place.now c.args.ix c.in-Opener.is_image
-          c.args.tree.now
-          c.open_bracket.new.tree s c.open_bracket.new.openers c.open_bracket.result c.requires.ready
+          c.args.tree.now c.open_bracket.new.tree s c.open_bracket.new.openers c.open_bracket.result c.requires.ready
           (c.requires.bracket ∙ ap Some c.in-Opener.is) opened.puts opened.place opened.brackets opened.wikilinks;
       stops = if_err c.open_bracket.result (λ first left was_read.
           stops_here g.F.BrokenLinkCallback.answers (setting_by s) (above_cursor s.text.now c.args.tree.now)
-          (Some c.args.ix) left
-          (stage_by c.args.tree.now s) s.waiting.spent s.lookup.callback refl);
+          (Some c.args.ix) left (stage_by c.args.tree.now s) s.waiting.spent s.lookup.callback refl);
       again = c.requires.can_ask;
       refused = opened.refused;
       kept = record { kept = refl; footnotes = λ name. refl };

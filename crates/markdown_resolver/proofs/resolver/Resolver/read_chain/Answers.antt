@@ -5,13 +5,13 @@ use Rattle.markdown_document.specs.Counts.{risen}
 use Rattle.markdown_document.specs.Setting.{rules_from, setting_of}
 use Rattle.markdown_document.specs.Stages.{items_from}
 use Rattle.markdown_spans.specs.SpanClosers.{has_failed}
+use Rattle.markdown_brackets.proofs.WrittenLemmas.{whole_range}
 use Rattle.markdown_resolver.specs.declared.resolver.Resolver.{Resolver}
-use Rattle.markdown_resolver.proofs.ChainReadLemmas.{can_read_on, same_setting, still_asks, up_to_all}
-use Rattle.markdown_resolver.proofs.ChainReadLemmas.{up_to_more, up_to_none, up_to_stops}
+use Rattle.markdown_resolver.proofs.ChainReadLemmas.{can_read_on, same_setting, still_asks, up_to_all, up_to_more}
+use Rattle.markdown_resolver.proofs.ChainReadLemmas.{up_to_none, up_to_stops}
 use Rattle.markdown_resolver.proofs.OpenerReadLemmas.{ready_here}
 use Rattle.markdown_resolver.proofs.ReadingLemmas.{counted_all, counted_more, counted_none, items_none, looked_more}
 use Rattle.markdown_resolver.proofs.ReadingLemmas.{looked_none}
-use Rattle.markdown_resolver.proofs.ReadingLemmas.{up_to}
 use Rattle.markdown_resolver.proofs.resolver.Resolver.read_chain.Goals as goal
 use Rattle.markdown_resolver.specs.ReadsBracket.{HasLearned}
 
@@ -28,13 +28,12 @@ chain-init g c =
       reads = up_to_none g.F.BrokenLinkCallback.answers
           (setting_of s.text.now (rules_from s.options s.lookup.tables (is_some s.lookup.callback)))
           c.args.first c.args.tree.now s.lookup.tables s.lookup.limit s.lookup.callback b.waiting.spent
-          b.waiting.openers.brackets b.waiting.openers.wikilinks c.requires.ready.ready
-          c.requires.ready.unread
+          b.waiting.openers.brackets b.waiting.openers.wikilinks c.requires.ready.ready c.requires.ready.unread
           c.begin_chain.ensures.spent c.begin_chain.ensures.brackets c.begin_chain.ensures.wikilinks;
       can_ask = c.requires.can_ask;
       scanner =
           c.new-scanner.ensures ∙ c.as_bytes.ensures.value ∙ c.range.ensures.value
-          ∙ up_to c.begin_chain.new.self.text.now place.block_end
+          ∙ whole_range c.begin_chain.new.self.text.now place.block_end
           ∙ ap (take place.block_end) (sym c.place_of_chain-place.ensures.text);
       learned = record { code = λ low chain leads. tt; math = λ low chain leads. tt };
       code_looks = looked_none false s.work.code_visits all;
@@ -87,8 +86,7 @@ returns-in-Err-clause-stops g c =
     rw c.count_items.ensures (up_to_stops i.reads c.requires.ready.above
     (setting_of at.text.now (rules_from at.options at.lookup.tables (is_some at.lookup.callback))) c.in-Some.ix
     c.read_item.new.self.lookup.callback same
-    c.in-Some.is
-    (c.in-Err.ensures.stops.at_node c.args.first i.reads.reads.left_then can))
+    c.in-Some.is (c.in-Err.ensures.stops.at_node c.args.first i.reads.reads.left_then can))
 
 pub chain-preserved : goal.chain-preserved
 chain-preserved g c =
@@ -116,22 +114,16 @@ chain-preserved g c =
           (setting_of at.text.now (rules_from at.options at.lookup.tables (is_some at.lookup.callback))) ix rest.next
           new.tree new.self.lookup.tables new.self.lookup.limit new.self.lookup.callback
           new.self.waiting.spent new.self.waiting.openers.brackets new.self.waiting.openers.wikilinks same c.in-Some.is
-          reads.goes_on.place_is
-          (reads.goes_on.reads c.args.first i.reads.reads.left_then can) reads.goes_on.unread;
+          reads.goes_on.place_is (reads.goes_on.reads c.args.first i.reads.reads.left_then can) reads.goes_on.unread;
       can_ask = c.read_item.ensures.again;
       scanner = rw c.read_item.ensures.scanner i.scanner;
       learned = record { code = reads.learned.code; math = reads.learned.math };
       code_looks = looked_more (has_failed at.code_closers) (has_failed new.self.code_closers) s.work.code_visits
-          at.work.code_visits
-          new.self.work.code_visits _ _ _
-          (rw c.in-Some.is at i.code_looks) reads.looked.code;
+          at.work.code_visits new.self.work.code_visits _ _ _ (rw c.in-Some.is at i.code_looks) reads.looked.code;
       math_looks = looked_more (has_failed at.math_closers) (has_failed new.self.math_closers) s.work.math_visits
-          at.work.math_visits
-          new.self.work.math_visits _ _ _
-          (rw c.in-Some.is at i.math_looks) reads.looked.math;
+          at.work.math_visits new.self.work.math_visits _ _ _ (rw c.in-Some.is at i.math_looks) reads.looked.math;
       counted = counted_more s.work.items at.work.items items _ _ (suc rest.passed) _ (rw c.in-Some.is at i.counted)
-          (omega (arith, left))
-          (ap (λ (r : Resolver g.row.F.Denot). risen (suc rest.passed) r.work.items) kept);
+          (omega (arith, left)) (ap (λ (r : Resolver g.row.F.Denot). risen (suc rest.passed) r.work.items) kept);
       footnotes = λ name. c.read_item.ensures.kept.footnotes name ∙ i.footnotes name;
       kept = ap (λ (r : Resolver g.row.F.Denot). let x : Resolver g.row.F.Denot = record r
           { work = record r.work { items = items } } in x) kept
@@ -149,8 +141,7 @@ chain-preserved g c =
             work = record r.work {
               items = items;
               code_visits = new.self.work.code_visits;
-              math_visits
-                  = new.self.work.math_visits;
+              math_visits = new.self.work.math_visits;
             };
             code_closers = new.self.code_closers;
             math_closers = new.self.math_closers;
@@ -166,8 +157,7 @@ count_items-requires g c κs =
     let text : c.place_of_chain-place.result.text.now ≡ c.args.self.now.text.now = c.place_of_chain-place.ensures.text
     ∙ ap (λ (r : Resolver g.row.F.Denot). r.text.now) c.begin_chain.ensures.kept in
     let can = can_read_on c.chain.invariant.reads c.requires.ready.above c.place_of_chain-place.result c.in-Some.ix
-    c.in-Some.is text
-    c.place_of_chain-place.ensures.place in
+    c.in-Some.is text c.place_of_chain-place.ensures.place in
     ((refl, tt), rw c.in-Err.ensures.stops.refused.1 (ready_here can).reaches.spelled)
 
 pub returns-in-Err-clause-counts : goal.returns-in-Err-clause-counts
@@ -180,14 +170,11 @@ returns-in-Err-clause-counts g c =
     let stops = c.in-Err.ensures.stops in
     let left = items_from c.chain.tree.nodes (Some c.in-Some.ix) in
     let code = looked_more (has_failed at.code_closers) (has_failed new.code_closers) s.work.code_visits
-    at.work.code_visits
-    new.work.code_visits _ _ 0 (rw c.in-Some.is at i.code_looks) stops.looking.code_looks in
+    at.work.code_visits new.work.code_visits _ _ 0 (rw c.in-Some.is at i.code_looks) stops.looking.code_looks in
     let math = looked_more (has_failed at.math_closers) (has_failed new.math_closers) s.work.math_visits
-    at.work.math_visits
-    new.work.math_visits _ _ 0 (rw c.in-Some.is at i.math_looks) stops.looking.math_looks in
+    at.work.math_visits new.work.math_visits _ _ 0 (rw c.in-Some.is at i.math_looks) stops.looking.math_looks in
     let counted = counted_more s.work.items at.work.items (risen left new.work.items) _ _ left 0
-    (rw c.in-Some.is at i.counted)
-    (omega arith) (ap (λ (r : Resolver g.row.F.Denot). risen left r.work.items) same) in
+    (rw c.in-Some.is at i.counted) (omega arith) (ap (λ (r : Resolver g.row.F.Denot). risen left r.work.items) same) in
     rw (c.count_items.ensures, stops.refused.1) (record {
       items_counted = counted_all _ _ _ 0 counted refl;
       same_delimiters = ap (λ (r : Resolver g.row.F.Denot). r.work.delimiters) same

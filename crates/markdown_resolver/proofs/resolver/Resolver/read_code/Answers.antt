@@ -1,25 +1,19 @@
 -- Reading a backtick run: the contracts of the searches and the writes give what the lemmas on code spans require.
-use Rattle.std.proofs.Common.{◌≡◌, Some, None, ap, ◌∙◌, subst, refl}
+use Rattle.std.proofs.Common.{Some, None, ap, subst, refl}
 use Rattle.markdown_base.specs.BlockTree.{item_at, no_item}
-use Rattle.markdown_base.specs.declared.item.Item.{Item}
-use Rattle.markdown_base.specs.declared.item.ItemBody.TheVariants as body
-use Rattle.markdown_document.specs.Origins.{origin_at}
 use Rattle.markdown_document.specs.Stages.{above_cursor}
-use Rattle.markdown_document.specs.Setting.{Setting, setting_of, Rules, rules_from}
-use Rattle.markdown_document.specs.Tables.{tables_of, text_at}
-use Rattle.markdown_spans.specs.Finds.{is_escaped}
+use Rattle.markdown_document.specs.Setting.{Setting, setting_of, rules_from}
+use Rattle.markdown_document.specs.Tables.{tables_of}
 use Rattle.markdown_resolver.specs.declared.rest.Rest.{Rest}
-use Rattle.markdown_resolver.specs.StoredText.{text_between, origin_between}
 use Rattle.markdown_spans.specs.SpanClosers.{ClosesCode, has_failed}
 use Rattle.markdown_spans.specs.declared.span_text.SpanKind.TheVariants.{Code}
-use Rattle.markdown_resolver.specs.PutCode.{code_standing}
-use Rattle.markdown_resolver.specs.Rewritten.{Puts}
 use Rattle.markdown_resolver.proofs.ChainLeadsLemmas.{chain_leads}
 use Rattle.markdown_resolver.proofs.ChainPlaceLemmas.{has_blocks}
-use Rattle.markdown_resolver.proofs.CodeSpanLemmas.{FoundCode, code_cut, code_reads, found_code, nothing_reads}
+use Rattle.markdown_resolver.proofs.CodeSpanLemmas.{code_cut, code_reads, found_code, nothing_reads}
 use Rattle.markdown_resolver.proofs.OpenerReadLemmas.{if_err}
 use Rattle.markdown_resolver.proofs.ReadsItemLemmas.{holds_put, reads_item}
-use Rattle.markdown_resolver.proofs.SpanLooksLemmas.{code_looks, code_refused, code_stops, nothing_looks}
+use Rattle.markdown_resolver.proofs.SpanLooksLemmas.{code_search, code_up_to, nothing_looks, search_refused}
+use Rattle.markdown_resolver.proofs.SpanLooksLemmas.{search_stops, something_looks}
 use Rattle.markdown_resolver.proofs.resolver.Resolver.read_code.Goals as goal
 use Rattle.std.specs.Prelude.{Result, Ok, is_some}
 use Rattle.markdown_base.specs.EnabledOptions.{gfm_footnotes_on}
@@ -29,8 +23,7 @@ use Rattle.markdown_resolver.proofs.ReadingLemmas.{reads_by_rules, stops_at_none
 
 pub find_code_closer-requires : goal.find_code_closer-requires
 find_code_closer-requires g c =
-    let chain = chain_leads c.args.place.now.text.now (tables_of c.args.self.now.lookup.tables) c.args.tree.now.nodes
-    (Some c.args.ix) c.requires.ready.chain.ready in
+    let chain = chain_leads c.requires.ready.chain.ready in
     record { ready = record { chain = chain; holds = c.requires.ready.learned.code } }
 
 -- nothing closes it: it is settled
@@ -60,9 +53,9 @@ returns-in_default-clause-reads g c =
         math = read.holds SpanKind.Math s.math_closers c.requires.ready.learned.math;
       };
       looked = record {
-        code = nothing_looks s.code_closers c.find_code_closer.new.self s.work.code_visits c.find_code_closer.new.visits
-            ready found.counted
-            found.failed c.in_default.is puts;
+        code = nothing_looks (code_search (item_at nodes ix)) s.code_closers s.work.code_visits
+            c.find_code_closer.new.visits ready c.find_code_closer.new.self found.counted found.failed c.in_default.is
+            puts;
         math = read.looks (has_failed s.math_closers) s.work.math_visits;
       };
       place_is = c.settle.ensures.place;
@@ -73,12 +66,8 @@ pub store_text-requires : goal.store_text-requires
 store_text-requires g c κs =
     let above = has_blocks c.args.place.now.text.now c.args.tree.now (Some c.args.ix) c.requires.ready.chain.above in
     let cut =
-    code_cut c.args.place.now.text.now (tables_of c.args.self.now.lookup.tables) c.args.tree.now.nodes c.args.ix
-    c.in-Some.closer c.requires.opener.0
-    c.requires.opener.1
-    c.item.result.now c.item-2.result.now c.in_ok-closer.field-0 c.requires.ready.chain.ready c.requires.opener.2
-    c.in_ok-closer.ensures.found c.in-Some.is
-    (c.item.ensures no_item) (c.item-2.ensures no_item) in
+    code_cut c.requires.ready.chain.ready c.requires.opener.2
+    c.in_ok-closer.ensures.found c.in-Some.is (c.item.ensures no_item) (c.item-2.ensures no_item) in
     ((refl, tt), (c.requires.ready.chain.stands, (above, cut)))
 
 -- and the span is put
@@ -90,13 +79,8 @@ put_code-requires g c =
       c.args.place.now.text.now,
       tables,
       tables',
-      (
-          found_code c.args.place.now.text.now tables tables' c.args.tree.now.nodes c.args.ix c.in-Some.closer
-          c.requires.opener.0
-          c.requires.opener.1 c.in_ok-cow.cow _ c.in_ok-closer.field-0 c.item.result.now c.item-2.result.now
-          c.requires.ready.chain.ready c.requires.opener.2 found.found c.in-Some.is found.within
-          (c.item.ensures no_item)
-          (c.item-2.ensures no_item) c.in_ok-cow.ensures.stored
+      (found_code c.requires.ready.chain.ready c.requires.opener.2 found.found c.in-Some.is found.within
+          (c.item.ensures no_item) (c.item-2.ensures no_item) c.in_ok-cow.ensures.stored
           ).can,
     )
 
@@ -114,42 +98,17 @@ returns-clause-reads g c =
     let o = c.requires.opener in
     let found = c.in_ok-closer.ensures in
     let result : Result Rest Fault = Ok c.put_code.result in
-    let here : FoundCode place.text.now tables tables' nodes ix x c.in_ok-cow.cow =
-    found_code place.text.now tables tables' nodes ix x o.0 o.1 c.in_ok-cow.cow _ c.in_ok-closer.field-0
-    c.item.result.now
-    c.item-2.result.now ready o.2 found.found c.in-Some.is found.within (c.item.ensures no_item)
-    (c.item-2.ensures no_item)
-    c.in_ok-cow.ensures.stored in
-    let was_put : Puts place.text.now ix
-    (code_standing place.text.now tables' (is_escaped (item_at nodes ix).body) (item_at nodes ix)
-    (item_at nodes x) (body.Code c.in_ok-cow.cow)) (Some (item_at nodes x).end) c.put_code.result nodes
-    c.put_code.new.tree.nodes tables tables' =
-    c.put_code.ensures.puts place.text.now tables tables' here.can in
-    let text : (rules : Rules) → gfm_footnotes_on rules.options ≡ gfm_footnotes_on place.options
-    → text_at tables'.cows c.in_ok-cow.cow.0 ≡ text_between (setting_of place.text.now rules)
-    (above_cursor place.text.now tree) Code
-    (item_at nodes ix).end (item_at nodes x).start = λ rules gfm.
-    let set : Setting = setting_of place.text.now rules in
-    let above = above_cursor place.text.now tree in
-    c.in_ok-cow.ensures.text rules gfm
-    ∙ ap (λ (i : Item). text_between set above Code i.end c.item-2.result.now.start) (c.item.ensures no_item)
-    ∙ ap (λ (i : Item). text_between set above Code (item_at nodes ix).end i.start) (c.item-2.ensures no_item) in
-    let origin : (rules : Rules) → origin_at tables'.cows c.in_ok-cow.cow.0
-    ≡ origin_between (setting_of place.text.now rules) (above_cursor place.text.now tree) (item_at nodes ix).end
-    (item_at nodes x).start =
-    λ rules.
-    let set : Setting = setting_of place.text.now rules in
-    let above = above_cursor place.text.now tree in
-    c.in_ok-cow.ensures.stored.origin_is
-    ∙ ap (λ (i : Item). origin_between set above i.end c.item-2.result.now.start) (c.item.ensures no_item)
-    ∙ ap (λ (i : Item). origin_between set above (item_at nodes ix).end i.start) (c.item-2.ensures no_item) in
+    let here = found_code ready o.2 found.found c.in-Some.is found.within (c.item.ensures no_item)
+    (c.item-2.ensures no_item) c.in_ok-cow.ensures.stored in
+    let was_put = c.put_code.ensures.puts place.text.now tables tables' here.can in
+    let text = rw (c.item.ensures no_item, c.item-2.ensures no_item) at c.in_ok-cow.ensures.text in
+    let origin = rw (c.item.ensures no_item, c.item-2.ensures no_item) at c.in_ok-cow.ensures.stored.origin_is in
     let read = reads_by_rules result place s.text.now (rules_from s.options s.lookup.tables (is_some s.lookup.callback))
     tree ix
     c.put_code.new.tree.nodes tables tables' ready c.requires.ready.text (ap gfm_footnotes_on c.requires.ready.options)
     (λ rules gfm. let set : Setting = setting_of place.text.now rules in
     reads_item ready (code_reads set (above_cursor set.text tree) tables tables' nodes ix x o.0 o.1 c.in_ok-cow.cow
-    ready o.2
-    here.closes (text rules gfm) (origin rules)) was_put) in
+    ready o.2 here.closes (text rules gfm) origin) was_put) in
     record {
       item = read.reads;
       learned = rw c.store_text.ensures.kept (record {
@@ -157,9 +116,10 @@ returns-clause-reads g c =
         math = read.holds SpanKind.Math s.math_closers c.requires.ready.learned.math;
       });
       looked = rw c.store_text.ensures.kept (record {
-        code = code_looks s.code_closers c.find_code_closer.new.self s.work.code_visits c.find_code_closer.new.visits
-            ready o.2
-            here.closes found.counted found.failed c.in-Some.is was_put;
+        code = something_looks (code_search (item_at nodes ix)) s.code_closers s.work.code_visits
+            c.find_code_closer.new.visits ready c.find_code_closer.new.self
+            (code_up_to place.text.now tables nodes ix x o.0 o.1 ready o.2 here.closes) found.counted found.failed
+            c.in-Some.is was_put;
         math = read.looks (has_failed s.math_closers) s.work.math_visits;
       });
       place_is = c.put_code.ensures.place;
@@ -174,9 +134,8 @@ returns-in_err-closer-clause-stops g c =
     let s = c.args.self.now in
     let refused = c.in_err-closer.ensures in
     if_err c.from_residual.result (rw refused.unchanged (record {
-      code_looks = code_refused s.code_closers s.work.code_visits c.find_code_closer.new.visits
-          c.requires.ready.chain.ready
-          refused.counted_at_most;
+      code_looks = search_refused (code_search (item_at c.args.tree.now.nodes c.args.ix)) s.code_closers
+          s.work.code_visits c.find_code_closer.new.visits c.requires.ready.chain.ready refused.counted_at_most;
       math_looks = stops_at_none (has_failed s.math_closers) s.work.math_visits _;
     }))
 
@@ -186,9 +145,9 @@ returns-in_err-cow-clause-stops g c =
     let s = c.args.self.now in
     let found = c.in_ok-closer.ensures in
     if_err c.from_residual-in_err-cow.result (rw c.store_text.ensures.kept (record {
-      code_looks = code_stops s.code_closers s.work.code_visits c.find_code_closer.new.visits
-          c.requires.ready.chain.ready
-          c.find_code_closer.new.self _ found.counted found.failed;
+      code_looks = search_stops (code_search (item_at c.args.tree.now.nodes c.args.ix)) s.code_closers
+          s.work.code_visits c.find_code_closer.new.visits c.requires.ready.chain.ready c.find_code_closer.new.self _
+          found.counted found.failed;
       math_looks = stops_at_none (has_failed s.math_closers) s.work.math_visits _;
     }))
 

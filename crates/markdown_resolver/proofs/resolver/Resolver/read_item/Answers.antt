@@ -5,7 +5,6 @@ use Rattle.std.specs.Prelude.{IfSome}
 use Rattle.markdown_base.specs.BlockTree.{item_at, no_item}
 use Rattle.markdown_base.specs.declared.item.Item.{Item}
 use Rattle.markdown_document.specs.Stages.{above_cursor}
-use Rattle.markdown_document.specs.Tables.{tables_of}
 use Rattle.markdown_resolver.specs.BracketKinds.{kind_of}
 use Rattle.markdown_resolver.specs.ReadsBracket.{setting_by, stage_by}
 use Rattle.markdown_resolver.specs.declared.resolver.Resolver.{Resolver}
@@ -13,14 +12,12 @@ use Rattle.markdown_resolver.proofs.ChainReadLemmas.{can_read_item}
 use Rattle.markdown_resolver.proofs.NodeReadLemmas.{bracket_changes, bracket_read, bracket_stops, other_changes}
 use Rattle.markdown_resolver.proofs.NodeReadLemmas.{other_read}
 use Rattle.markdown_resolver.proofs.OpenerReadLemmas.{if_err_both, ready_here}
-use Rattle.markdown_resolver.proofs.ReadingLemmas.{node_within}
+use Rattle.markdown_resolver.proofs.SettlingLemmas.{node_within}
 use Rattle.markdown_resolver.proofs.StopsLemmas.{stops_here}
 use Rattle.markdown_resolver.proofs.resolver.Resolver.read_item.Goals as goal
 
 pub item-requires : goal.item-requires
-item-requires g c = node_within c.args.place.now.text.now (tables_of c.args.self.now.lookup.tables)
-    c.args.tree.now.nodes c.args.ix
-    (ready_here c.requires.ready.was_read)
+item-requires g c = node_within (ready_here c.requires.ready.was_read)
 
 pub read_bracket-requires : goal.read_bracket-requires
 read_bracket-requires g c κs =
@@ -64,8 +61,7 @@ returns-in-None g c =
     ap (λ (item : Item). kind_of item.body) (sym (c.item.ensures no_item)) ∙ sym c.kind_of.ensures ∙ c.in-None.is in
     record {
       reads = other_read c.read_other.result g.F.BrokenLinkCallback.answers c.args.place.now c.args.ix t new.tree s
-          new.self
-          c.requires.ready kind e.kept e.reads;
+          new.self c.requires.ready kind e.kept e.reads;
       stops = IfErr-weaker c.read_other.result _ _ (λ fault both. record {
         refused = both.0;
         at_node = λ first left was_read.

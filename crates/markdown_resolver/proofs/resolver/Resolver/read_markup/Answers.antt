@@ -1,20 +1,22 @@
 -- What the scan finds is what pass one finds from the `<` on, and what is put there reads so.
-use Rattle.std.proofs.Common.{ℕ, List, Some, None, sym, ap, ◌∙◌, subst, arith, ◌≡◌, refl}
+use Rattle.std.proofs.Common.{ℕ, List, None, sym, ap, ◌∙◌, subst, arith, ◌≡◌, refl}
 use Rattle.std.specs.Str.{IsCharBoundary}
 use Rattle.std.specs.Option.{option_map}
 use Rattle.markdown_base.specs.BlockTree.{no_item}
 use Rattle.markdown_base.specs.declared.item.Item.{Item}
 use Rattle.markdown_document.specs.Tables.{tables_of}
 use Rattle.markdown_spans.specs.MarkupView.{markup_of}
+use Rattle.markdown_brackets.proofs.WrittenLemmas.{whole_range}
 use Rattle.markdown_resolver.specs.declared.rest.Rest.{Rest}
 use Rattle.markdown_resolver.proofs.ChainPlaceLemmas.{has_blocks}
 use Rattle.markdown_resolver.proofs.MarkupItemLemmas.{boundary_before, lies_at}
 use Rattle.markdown_resolver.proofs.MarkupLemmas.{if_ok, is_scanned, markup_stands, none_follows, none_past_block}
-use Rattle.markdown_resolver.proofs.MarkupLemmas.{reads_found, reads_text}
-use Rattle.markdown_resolver.proofs.MarkupLemmas.{scan_finds, text_up_to}
+use Rattle.markdown_resolver.proofs.MarkupLemmas.{reads_found, reads_text, scan_finds}
 use Rattle.markdown_resolver.proofs.resolver.Resolver.read_markup.Goals as goal
 use Rattle.markdown_resolver.proofs.resolver.Resolver.read_markup.Goals.{then-item-place-via-then-item-place}
-use Rattle.markdown_resolver.proofs.resolver.Resolver.read_markup.Goals.{then-item-place-via-else-item-place+then-not-starts_at}
+use Rattle.markdown_resolver.proofs.resolver.Resolver.read_markup.Goals.{
+  then-item-place-via-else-item-place+then-not-starts_at,
+}
 use Rattle.std.specs.Prelude.{Result, Ok}
 use Rattle.markdown_document.specs.Setting.{Rules, setting_of}
 use Rattle.markdown_document.specs.Stages.{above_cursor}
@@ -37,21 +39,13 @@ returns-then-item-place-clause-reads g c =
     let puts = c.settle.ensures.puts place.text.now (tables_of held) c.requires.ready.chain.ready in
     let reads : (rules : Rules) → gfm_footnotes_on rules.options ≡ gfm_footnotes_on place.options
     → ReadsItem (setting_of place.text.now rules) (above_cursor place.text.now tree) c.args.ix c.settle.result
-    tree.nodes
-    c.settle.new.tree.nodes (tables_of held) (tables_of held) = λ rules gfm.
-    elim c.then-item-place.branch [
-      | then-item-place-via-then-item-place w ↦
-          reads_text place tree held c.args.ix rules c.settle.result c.settle.new.tree.nodes c.requires.ready.chain
-          c.requires.opener
+    tree.nodes c.settle.new.tree.nodes (tables_of held) (tables_of held) = λ rules gfm. elim c.then-item-place.branch [
+      | then-item-place-via-then-item-place w ↦ reads_text c.requires.ready.chain c.requires.opener
           (none_past_block place tree held c.args.ix rules c.item-item.result.now c.requires.ready.chain
-          c.requires.opener same
-          w.if-item-place.true) puts
-      | then-item-place-via-else-item-place+then-not-starts_at w ↦
-          reads_text place tree held c.args.ix rules c.settle.result c.settle.new.tree.nodes c.requires.ready.chain
-          c.requires.opener
+          c.requires.opener same w.if-item-place.true) puts
+      | then-item-place-via-else-item-place+then-not-starts_at w ↦ reads_text c.requires.ready.chain c.requires.opener
           (none_follows place tree held c.args.ix rules c.item-item.result.now w.next.result c.requires.ready.chain same
-          w.next.ensures.value
-          (sym w.if-not-starts_at.true ∙ w.starts_at.ensures)) puts
+          w.next.ensures.value (sym w.if-not-starts_at.true ∙ w.starts_at.ensures)) puts
     ] in
     let result : Result Rest Fault = Ok c.settle.result in
     only_reads result place tree s s c.args.ix c.settle.new.tree c.requires.ready c.settle.ensures.place reads refl refl
@@ -66,12 +60,11 @@ scan_after_less-requires-clause-start g c =
     let last = c.args.place.now.block_end in
     let start = c.item-item.result.now.start in
     let same = c.item-item.ensures no_item in
-    let lies = lies_at source (tables_of c.args.self.now.lookup.tables) c.args.tree.now.nodes c.args.ix
-    c.requires.ready.chain.ready in
+    let lies = lies_at c.requires.ready.chain.ready in
     let boundary = boundary_before source last start (rw same lies.start)
     (omega (arith, c.if-item-place.false, ap (λ (i : Item). i.start) same, ap (λ (i : Item). i.end) same, lies.ordered))
     in
-    subst (λ (xs : List ℕ). IsCharBoundary xs start) (sym (c.range-text.ensures.value ∙ text_up_to source last))
+    subst (λ (xs : List ℕ). IsCharBoundary xs start) (sym (c.range-text.ensures.value ∙ whole_range source last))
     boundary
 
 pub scan_after_less-requires-clause-after : goal.scan_after_less-requires-clause-after
@@ -80,10 +73,9 @@ scan_after_less-requires-clause-after g c =
     let last = c.args.place.now.block_end in
     let end = c.item-item.result.now.end in
     let same = c.item-item.ensures no_item in
-    let lies = lies_at source (tables_of c.args.self.now.lookup.tables) c.args.tree.now.nodes c.args.ix
-    c.requires.ready.chain.ready in
+    let lies = lies_at c.requires.ready.chain.ready in
     let boundary = boundary_before source last end (rw same lies.end) c.if-item-place.false in
-    subst (λ (xs : List ℕ). IsCharBoundary xs end) (sym (c.range-text.ensures.value ∙ text_up_to source last)) boundary
+    subst (λ (xs : List ℕ). IsCharBoundary xs end) (sym (c.range-text.ensures.value ∙ whole_range source last)) boundary
 
 pub put_markup-requires : goal.put_markup-requires
 put_markup-requires g c =
@@ -92,13 +84,11 @@ put_markup-requires g c =
     let held = c.args.self.now.lookup.tables in
     let prefix = c.new-prefix.result in
     let value = sym (ap (option_map markup_of) c.in-Some.is) ∙ c.in_ok-scan_after_less.ensures.value in
-    let scanned = is_scanned place tree held c.args.ix prefix (Some (markup_of c.in-Some.found)) c.item-item.result.now
-    c.next.result
-    c.range-text.result.now c.requires.ready.chain c.requires.opener
+    let scanned = is_scanned prefix c.requires.ready.chain c.requires.opener
     (c.item-item.ensures no_item) c.if-item-place.false c.next.ensures.value c.if-not-starts_at.ensures
     c.new-prefix.ensures.tree
     (c.new-prefix.ensures.footnotes ∙ c.gfm_footnotes.ensures) c.range-text.ensures.value c.range-text.utf8 value in
-    (place.text.now, markup_stands place tree held c.args.ix prefix (markup_of c.in-Some.found) scanned)
+    (place.text.now, markup_stands scanned)
 
 pub returns-in-None-clause-reads : goal.returns-in-None-clause-reads
 returns-in-None-clause-reads g c =
@@ -108,15 +98,13 @@ returns-in-None-clause-reads g c =
     let held = s.lookup.tables in
     let prefix = c.new-prefix.result in
     let value = sym (ap (option_map markup_of) c.in-None.is) ∙ c.in_ok-scan_after_less.ensures.value in
-    let scanned = is_scanned place tree held c.args.ix prefix None c.item-item.result.now c.next.result
-    c.range-text.result.now
-    c.requires.ready.chain c.requires.opener
+    let scanned = is_scanned prefix c.requires.ready.chain c.requires.opener
     (c.item-item.ensures no_item) c.if-item-place.false c.next.ensures.value c.if-not-starts_at.ensures
     c.new-prefix.ensures.tree
     (c.new-prefix.ensures.footnotes ∙ c.gfm_footnotes.ensures) c.range-text.ensures.value c.range-text.utf8 value in
     let result : Result Rest Fault = Ok c.settle-in-None.result in
     only_reads result place tree s s c.args.ix c.settle-in-None.new.tree c.requires.ready c.settle-in-None.ensures.place
-    (λ rules gfm. reads_text place tree held c.args.ix rules c.settle-in-None.result c.settle-in-None.new.tree.nodes
+    (λ rules gfm. reads_text
     c.requires.ready.chain c.requires.opener (scan_finds place tree held c.args.ix prefix None rules scanned gfm)
     (c.settle-in-None.ensures.puts place.text.now (tables_of held) c.requires.ready.chain.ready)) refl refl refl
 
@@ -129,20 +117,16 @@ returns-in-Some-clause-reads g c =
     let prefix = c.new-prefix.result in
     let m = markup_of c.in-Some.found in
     let value = sym (ap (option_map markup_of) c.in-Some.is) ∙ c.in_ok-scan_after_less.ensures.value in
-    let scanned = is_scanned place tree held c.args.ix prefix (Some m) c.item-item.result.now c.next.result
-    c.range-text.result.now
-    c.requires.ready.chain c.requires.opener
+    let scanned = is_scanned prefix c.requires.ready.chain c.requires.opener
     (c.item-item.ensures no_item) c.if-item-place.false c.next.ensures.value c.if-not-starts_at.ensures
     c.new-prefix.ensures.tree
     (c.new-prefix.ensures.footnotes ∙ c.gfm_footnotes.ensures) c.range-text.ensures.value c.range-text.utf8 value in
     let new : Resolver g.row.F.Denot = record s { lookup = record s.lookup { tables = c.put_markup.new.tables } } in
     only_reads c.put_markup.result place tree s new c.args.ix c.put_markup.new.tree c.requires.ready
-    c.put_markup.ensures.place
-    (if_ok c.put_markup.result _ _ (λ next puts. λ rules gfm.
+    c.put_markup.ensures.place (if_ok c.put_markup.result _ _ (λ next puts. λ rules gfm.
     reads_found place tree held c.args.ix prefix m rules next c.put_markup.new.tree.nodes
     (tables_of c.put_markup.new.tables) scanned gfm
-    (puts place.text.now rules (markup_stands place tree held c.args.ix prefix m scanned))) c.put_markup.ensures.puts)
-    refl refl refl
+    (puts place.text.now rules (markup_stands scanned))) c.put_markup.ensures.puts) refl refl refl
 
 pub returns-in-Some-clause-stops : goal.returns-in-Some-clause-stops
 returns-in-Some-clause-stops g c =

@@ -1,24 +1,22 @@
 -- Reading a `$`: the contracts of the searches and the writes give what the lemmas on math spans require.
-use Rattle.std.proofs.Common.{◌≡◌, Some, None, ap, ◌∙◌, subst, refl}
+use Rattle.std.proofs.Common.{Some, None, ap, subst, refl}
 use Rattle.markdown_base.specs.BlockTree.{item_at, no_item}
 use Rattle.markdown_base.specs.declared.item.Item.{Item}
-use Rattle.markdown_document.specs.Origins.{origin_at}
 use Rattle.markdown_document.specs.Stages.{above_cursor}
-use Rattle.markdown_document.specs.Setting.{Setting, setting_of, Rules, rules_from}
-use Rattle.markdown_document.specs.Tables.{tables_of, text_at}
+use Rattle.markdown_document.specs.Setting.{Setting, setting_of, rules_from}
+use Rattle.markdown_document.specs.Tables.{tables_of}
 use Rattle.markdown_resolver.specs.declared.rest.Rest.{Rest}
-use Rattle.markdown_resolver.specs.StoredText.{text_between, origin_between}
 use Rattle.markdown_spans.specs.SpanClosers.{ClosesMath, has_failed}
 use Rattle.markdown_spans.specs.declared.span_text.SpanKind.TheVariants.{Math}
 use Rattle.markdown_resolver.specs.Rewritten.{Puts, one_item}
 use Rattle.markdown_resolver.proofs.ChainLeadsLemmas.{chain_leads}
 use Rattle.markdown_resolver.proofs.ChainPlaceLemmas.{has_blocks}
 use Rattle.markdown_resolver.proofs.MathSpanLemmas.{PutsMath, dollar_body, math_cut, math_item, math_reads}
-use Rattle.markdown_resolver.proofs.MathSpanLemmas.{no_math_reads, puts_math}
-use Rattle.markdown_resolver.proofs.MathSpanLemmas.{span_of, start_is, text_start}
+use Rattle.markdown_resolver.proofs.MathSpanLemmas.{no_math_reads, puts_math, span_of, start_is}
 use Rattle.markdown_resolver.proofs.OpenerReadLemmas.{if_err}
 use Rattle.markdown_resolver.proofs.ReadsItemLemmas.{holds_put, reads_item}
-use Rattle.markdown_resolver.proofs.SpanLooksLemmas.{math_looks, math_refused, math_stops, no_math_looks}
+use Rattle.markdown_resolver.proofs.SpanLooksLemmas.{math_search, math_up_to, nothing_looks, search_refused}
+use Rattle.markdown_resolver.proofs.SpanLooksLemmas.{search_stops, something_looks}
 use Rattle.markdown_resolver.proofs.resolver.Resolver.read_math.Goals as goal
 use Rattle.std.specs.Prelude.{Result, Ok, is_some}
 use Rattle.markdown_base.specs.EnabledOptions.{gfm_footnotes_on}
@@ -28,8 +26,7 @@ use Rattle.markdown_resolver.proofs.ReadingLemmas.{reads_by_rules, stops_at_none
 
 pub find_math_closer-requires : goal.find_math_closer-requires
 find_math_closer-requires g c =
-    let chain = chain_leads c.args.place.now.text.now (tables_of c.args.self.now.lookup.tables) c.args.tree.now.nodes
-    (Some c.args.ix) c.requires.ready.chain.ready in
+    let chain = chain_leads c.requires.ready.chain.ready in
     record { ready = record { chain = chain; holds = c.requires.ready.learned.math } }
 
 -- nothing closes it: it is settled
@@ -61,27 +58,22 @@ returns-in_default-clause-reads g c =
       };
       looked = record {
         code = read.looks (has_failed s.code_closers) s.work.code_visits;
-        math = no_math_looks s.math_closers c.find_math_closer.new.self s.work.math_visits c.find_math_closer.new.visits
-            ready found.counted
-            found.failed c.in_default.is puts;
+        math = nothing_looks (math_search (item_at nodes ix)) s.math_closers s.work.math_visits
+            c.find_math_closer.new.visits ready c.find_math_closer.new.self found.counted found.failed c.in_default.is
+            puts;
       };
       place_is = c.settle.ensures.place;
     }
 
 -- something closes it: the text between them is taken
 pub math_text_start-requires : goal.math_text_start-requires
-math_text_start-requires g c =
-    chain_leads c.args.place.now.text.now (tables_of c.args.self.now.lookup.tables) c.args.tree.now.nodes
-    (Some c.args.ix) c.requires.ready.chain.ready
+math_text_start-requires g c = chain_leads c.requires.ready.chain.ready
 
 pub store_text-requires : goal.store_text-requires
 store_text-requires g c κs =
     let above = has_blocks c.args.place.now.text.now c.args.tree.now (Some c.args.ix) c.requires.ready.chain.above in
     let cut =
-    math_cut c.args.place.now.text.now (tables_of c.args.self.now.lookup.tables) c.args.tree.now.nodes c.args.ix
-    c.in-Some.math
-    c.math_text_start.result c.item.result.now
-    c.in_ok-math.field-0 c.requires.ready.chain.ready c.in_ok-math.ensures.found c.in-Some.is c.math_text_start.ensures
+    math_cut c.requires.ready.chain.ready c.in_ok-math.ensures.found c.in-Some.is c.math_text_start.ensures
     (c.item.ensures no_item) in
     ((refl, tt), (c.requires.ready.chain.stands, (above, cut)))
 
@@ -92,15 +84,10 @@ put_found-requires g c =
     let tables' = tables_of c.store_text.new.self.lookup.tables in
     let opens = c.item-2.ensures no_item in
     let stored = c.in_ok-cow.ensures.stored in
-    let p = puts_math c.args.place.now.text.now tables tables' c.args.tree.now.nodes c.args.ix c.in-Some.math
-    c.item-2.result.now
-    c.item-3.result.now c.in_ok-cow.cow _ c.in_ok-math.field-0 c.math_text_start.result c.item.result.now
-    c.requires.ready.chain.ready
-    c.requires.opener c.in_ok-math.ensures.found c.in-Some.is opens (c.item-3.ensures no_item)
-    (c.item.ensures no_item)
+    let p = puts_math c.requires.ready.chain.ready
+    c.requires.opener c.in_ok-math.ensures.found c.in-Some.is opens (c.item-3.ensures no_item) (c.item.ensures no_item)
     (start_is c.args.place.now.text.now (tables_of c.args.self.now.lookup.tables) c.args.tree.now.nodes c.args.ix
-    c.math_text_start.result
-    c.requires.ready.chain.ready c.math_text_start.ensures) stored in
+    c.math_text_start.result c.requires.ready.chain.ready c.math_text_start.ensures) stored in
     (c.args.place.now.text.now, tables, tables', stored.grown, p.found, p.can, ap (λ (i : Item). i.start) opens)
 
 pub returns-clause-reads : goal.returns-clause-reads
@@ -121,44 +108,22 @@ returns-clause-reads g c =
     let standing_item = math_item nodes ix m c.in_ok-cow.cow in
     let here : PutsMath place.text.now tables tables' nodes ix m c.in_ok-cow.cow
     (span_of c.item-2.result.now c.item-3.result.now m c.in_ok-cow.cow) =
-    puts_math place.text.now tables tables' nodes ix m c.item-2.result.now c.item-3.result.now c.in_ok-cow.cow _
-    c.in_ok-math.field-0
-    c.math_text_start.result c.item.result.now ready c.requires.opener found.found c.in-Some.is
-    (c.item-2.ensures no_item)
-    (c.item-3.ensures no_item) (c.item.ensures no_item) start c.in_ok-cow.ensures.stored in
+    puts_math ready c.requires.opener found.found c.in-Some.is
+    (c.item-2.ensures no_item) (c.item-3.ensures no_item) (c.item.ensures no_item) start c.in_ok-cow.ensures.stored in
     let was_put : Puts place.text.now ix (one_item place.text.now tables' standing_item) (Some standing_item.end)
-    c.put_found.result nodes
-    c.put_found.new.tree.nodes tables tables' =
+    c.put_found.result nodes c.put_found.new.tree.nodes tables tables' =
     subst (λ (i : Item). Puts place.text.now ix (one_item place.text.now tables' i) (Some i.end) c.put_found.result
-    nodes
-    c.put_found.new.tree.nodes tables tables') here.is
+    nodes c.put_found.new.tree.nodes tables tables') here.is
     (c.put_found.ensures.puts place.text.now tables tables' c.in_ok-cow.ensures.stored.grown here.found here.can
     (ap (λ (i : Item). i.start) (c.item-2.ensures no_item))) in
-    let text : (rules : Rules) → gfm_footnotes_on rules.options ≡ gfm_footnotes_on place.options
-    → text_at tables'.cows c.in_ok-cow.cow.0 ≡ text_between (setting_of place.text.now rules)
-    (above_cursor place.text.now tree) Math
-    (text_start nodes ix) (item_at nodes m.closer).start = λ rules gfm.
-    let set : Setting = setting_of place.text.now rules in
-    let above = above_cursor place.text.now tree in
-    c.in_ok-cow.ensures.text rules gfm
-    ∙ ap (λ start. text_between set above Math start c.item.result.now.start) start
-    ∙ ap (λ (i : Item). text_between set above Math (text_start nodes ix) i.start) (c.item.ensures no_item) in
-    let origin : (rules : Rules) → origin_at tables'.cows c.in_ok-cow.cow.0
-    ≡ origin_between (setting_of place.text.now rules) (above_cursor place.text.now tree) (text_start nodes ix)
-    (item_at nodes m.closer).start =
-    λ rules.
-    let set : Setting = setting_of place.text.now rules in
-    let above = above_cursor place.text.now tree in
-    c.in_ok-cow.ensures.stored.origin_is
-    ∙ ap (λ start. origin_between set above start c.item.result.now.start) start
-    ∙ ap (λ (i : Item). origin_between set above (text_start nodes ix) i.start) (c.item.ensures no_item) in
+    let text = rw (start, c.item.ensures no_item) at c.in_ok-cow.ensures.text in
+    let origin = rw (start, c.item.ensures no_item) at c.in_ok-cow.ensures.stored.origin_is in
     let read = reads_by_rules result place s.text.now (rules_from s.options s.lookup.tables (is_some s.lookup.callback))
     tree ix
     c.put_found.new.tree.nodes tables tables' ready c.requires.ready.text (ap gfm_footnotes_on c.requires.ready.options)
     (λ rules gfm. let set : Setting = setting_of place.text.now rules in
     reads_item ready (math_reads set (above_cursor set.text tree) tables tables' nodes ix m d.opens d.closes d.context
-    c.in_ok-cow.cow ready
-    d.is here.closes (text rules gfm) (origin rules)) was_put) in
+    c.in_ok-cow.cow ready d.is here.closes (text rules gfm) origin) was_put) in
     record {
       item = read.reads;
       learned = rw c.store_text.ensures.kept (record {
@@ -167,9 +132,10 @@ returns-clause-reads g c =
       });
       looked = rw c.store_text.ensures.kept (record {
         code = read.looks (has_failed s.code_closers) s.work.code_visits;
-        math = math_looks s.math_closers c.find_math_closer.new.self s.work.math_visits c.find_math_closer.new.visits
-            ready
-            here.closes found.counted found.failed c.in-Some.is was_put;
+        math = something_looks (math_search (item_at nodes ix)) s.math_closers s.work.math_visits
+            c.find_math_closer.new.visits ready c.find_math_closer.new.self
+            (math_up_to place.text.now tables nodes ix m ready here.closes) found.counted found.failed c.in-Some.is
+            was_put;
       });
       place_is = c.put_found.ensures.place;
     }
@@ -184,9 +150,8 @@ returns-in_err-math-clause-stops g c =
     let refused = c.in_err-math.ensures in
     if_err c.from_residual.result (rw refused.unchanged (record {
       code_looks = stops_at_none (has_failed s.code_closers) s.work.code_visits _;
-      math_looks = math_refused s.math_closers s.work.math_visits c.find_math_closer.new.visits
-          c.requires.ready.chain.ready
-          refused.counted_at_most;
+      math_looks = search_refused (math_search (item_at c.args.tree.now.nodes c.args.ix)) s.math_closers
+          s.work.math_visits c.find_math_closer.new.visits c.requires.ready.chain.ready refused.counted_at_most;
     }))
 
 -- or to the text of what it has found
@@ -196,9 +161,9 @@ returns-in_err-cow-clause-stops g c =
     let found = c.in_ok-math.ensures in
     if_err c.from_residual-in_err-cow.result (rw c.store_text.ensures.kept (record {
       code_looks = stops_at_none (has_failed s.code_closers) s.work.code_visits _;
-      math_looks = math_stops s.math_closers s.work.math_visits c.find_math_closer.new.visits
-          c.requires.ready.chain.ready
-          c.find_math_closer.new.self _ found.counted found.failed;
+      math_looks = search_stops (math_search (item_at c.args.tree.now.nodes c.args.ix)) s.math_closers
+          s.work.math_visits c.find_math_closer.new.visits c.requires.ready.chain.ready c.find_math_closer.new.self _
+          found.counted found.failed;
     }))
 
 pub returns-in_err-cow-clause-kept : goal.returns-in_err-cow-clause-kept

@@ -12,13 +12,12 @@ use Rattle.markdown_spans.specs.declared.span_text.SpanKind.{SpanKind}
 use Rattle.markdown_resolver.specs.declared.rest.Rest.{Rest}
 use Rattle.markdown_resolver.specs.Chains.{CanResolve}
 use Rattle.markdown_resolver.specs.ReadsBracket.{setting_by}
-use Rattle.markdown_resolver.proofs.ReadingLemmas.{FindsNothing, finds_nothing, node_within, reads_alone, settled_reads}
+use Rattle.markdown_resolver.proofs.ReadingLemmas.{FindsNothing, finds_nothing, reads_alone, settled_reads}
+use Rattle.markdown_resolver.proofs.SettlingLemmas.{node_within}
 use Rattle.markdown_resolver.proofs.resolver.Resolver.read_other.Goals as goal
 
 pub item-requires : goal.item-requires
-item-requires g c =
-    node_within c.args.place.now.text.now (tables_of c.args.self.now.lookup.tables) c.args.tree.now.nodes c.args.ix
-    c.requires.ready.chain.ready
+item-requires g c = node_within c.requires.ready.chain.ready
 
 pub read_code-requires : goal.read_code-requires
 read_code-requires g c κs =
@@ -44,8 +43,7 @@ returns-in_default g c =
     let set = setting_by s in
     let above = above_cursor s.text.now c.args.tree.now in
     let nothing_there : FindsNothing c.item.result.now.body = finds_nothing c.item.result.now.body
-    c.in_default.not-MaybeCode
-    c.in_default.not-MaybeMath c.in_default.not-MaybeHtml in
+    c.in_default.not-MaybeCode c.in_default.not-MaybeMath c.in_default.not-MaybeHtml in
     let ready : CanResolve s.text.now tables nodes (Some c.args.ix) = rw c.requires.ready.text at
     c.requires.ready.chain.ready in
     let result : Result Rest Fault = Ok c.settle.result in

@@ -20,6 +20,5 @@ returns-clause-text g c =
     cow_text c.args.self.now.lookup.tables c.allocate_cow.new.self c.in_ok-text.text c.allocate_cow.result
     (λ (rules : Rules). gfm_footnotes_on rules.options ≡ gfm_footnotes_on place.options)
     (λ (rules : Rules). text_between (setting_of place.text.now rules) (above_cursor place.text.now c.args.tree.now)
-    c.args.kind
-    c.args.content.start c.args.content.end)
+    c.args.kind c.args.content.start c.args.content.end)
     c.in_ok-text.ensures.value c.allocate_cow.ensures.number c.allocate_cow.ensures.put
