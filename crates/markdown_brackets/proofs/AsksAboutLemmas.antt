@@ -92,7 +92,7 @@ module _ {A : Type 0} (w : Around) (c : Closing A) where
       let most : AtMostOneTo r.end found.questions =
       look_up_asks w.setting.rules.definitions w.setting.rules.asks p.known.limit p.known.answers q in
       let none : p.known.limit ≡ 0 → (found.limit ≡ 0) × (found.questions ≡ []) =
-      λ z. subst (λ (n : ℕ). ((at n).limit ≡ 0) × ((at n).questions ≡ [])) (sym z) (refl, refl) in
+      λ z. rw z (refl, refl) in
       record {
         more = found.questions;
         asked = refl;

@@ -400,12 +400,6 @@ module _ {A B : Type 0} (f : A → B) where
     closed_retag c p = ap (put_decided w (retag_closing c)) (decided_retag c p)
         ∙ put_retag c (decided w c p).becomes (decided w c p).progress
 
-    -- a `]` of a chain
-    pub closing_retag : (could : Bool) (a : Label A) (rest : Forest (Label A)) (p : Progress A)
-        → closed w (closing_of could (retag f a) (retagged f rest) (retag_progress f p)) (retag_progress f p)
-        ≡ retag_progress f (closed w (closing_of could a rest p) p)
-    closing_retag could a rest p = closed_retag (closing_of could a rest p) p
-
     pub opened_retag : (is_image : Bool) (a : Label A) (rest : Forest (Label A)) (p : Progress A)
         → opened w is_image (retag f a) (retagged f rest) (retag_progress f p)
         ≡ retag_progress f (opened w is_image a rest p)

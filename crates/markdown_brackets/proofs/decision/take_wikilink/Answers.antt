@@ -21,8 +21,7 @@ returns-in_default g c skipped bodies definitions footnotes asks left cl s h =
     none_by_next nodes c.args.at.now.node left cl s
     (around_at c.args.at.now.place.now skipped bodies definitions footnotes asks)
     c.args.wikilinks.now h
-    (subst (λ l. MatchOption l (Unit {0}) (λ next. is_closer (item_at nodes next).body ≡ false))
-    (sym (sym c.next.ensures.value ∙ c.in_default.is)) tt)
+    (rw (← c.next.ensures.value, c.in_default.is) tt)
 
 pub returns-then-not-is_closer : goal.returns-then-not-is_closer
 returns-then-not-is_closer g c skipped bodies definitions footnotes asks left cl s h =
@@ -33,8 +32,7 @@ returns-then-not-is_closer g c skipped bodies definitions footnotes asks left cl
     none_by_next nodes c.args.at.now.node left cl s
     (around_at c.args.at.now.place.now skipped bodies definitions footnotes asks)
     c.args.wikilinks.now h
-    (subst (λ l. MatchOption l (Unit {0}) (λ next. is_closer (item_at nodes next).body ≡ false))
-    (sym (sym c.next.ensures.value ∙ c.in-Some.is)) other)
+    (rw (← c.next.ensures.value, c.in-Some.is) other)
 
 pub returns : goal.returns
 returns g c skipped bodies definitions footnotes asks left cl s h =
@@ -46,5 +44,4 @@ returns g c skipped bodies definitions footnotes asks left cl s h =
     (sym c.wikilinks_on.ensures ∙ c.if-not-wikilinks_on.false)
     c.take_nearest-taken.result c.args.wikilinks.now c.take_nearest-taken.new.self h c.take_nearest-taken.ensures
     c.try_wikilink.result
-    (λ o t. subst (λ (i : Item). FindsWikilink w i.end cl o c.try_wikilink.result) (c.item-second.ensures no_item)
-    (c.try_wikilink.ensures w cl o refl refl t))
+    (λ o t. rw (c.item-second.ensures no_item) at (c.try_wikilink.ensures w cl o refl refl t))
