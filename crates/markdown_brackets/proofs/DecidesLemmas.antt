@@ -103,8 +103,8 @@ module _ {C : Type 0} (step : C → Question → Option Answer → C → Type 0)
         tables = s.tables;
         rest = there.holds;
         rest_found = found_at s.source s.tables nodes (sibling_of nodes closer) c.rest there;
-        ends = subst (λ n. (item_at nodes n).end ≡ end_of c.label) s.number (same_end s.source s.tables nodes c.label
-            (closer_found nodes closer left c s).holds.2);
+        ends = rw s.number at
+            (same_end s.source s.tables nodes c.label (closer_found nodes closer left c s).holds.2);
         could = could;
         openers = by taken (nearest opens_bracket t.left_then)
             (is_nearest for_bracket taken old new _ _ _ m (old_is ∙ sym t.brackets) (top_bracket t.left_then))
