@@ -74,8 +74,7 @@ module _ {A B : Type 0} (f : A → B) where
       → change_nearest test g (retag_left f left)
       ≡ retag_left f (change_nearest test g left)
   change_retag test g [] = refl
-  change_retag test g (done a below ∷ left) = ap (λ l. done (retag f a) (retagged f below) ∷ l)
-      (change_retag test g left)
+  change_retag test g (done a below ∷ left) = rw (change_retag test g left) refl
   change_retag test g (waits m a ∷ left) = by (test m) (change_retag test g left)
     where
       by : (b : Bool) → change_nearest test g (retag_left f left) ≡ retag_left f (change_nearest test g left)
@@ -92,9 +91,7 @@ module _ {A B : Type 0} (f : A → B) where
   pub on_marks_retag : (g : Mark → Mark) (left : List (Entry A)) → on_marks g (retag_left f left)
       ≡ retag_left f (on_marks g left)
   on_marks_retag g [] = refl
-  on_marks_retag g (e ∷ left) =
-      ap (λ x. x ∷ on_marks g (retag_left f left)) (on_mark_retag g e)
-      ∙ ap (λ l. retag_entry f (on_mark g e) ∷ l) (on_marks_retag g left)
+  on_marks_retag g (e ∷ left) = rw (on_mark_retag g e, on_marks_retag g left) refl
 
   pub second_retag : (left : List (Entry A)) → second_folded (retag_left f left) ≡ retag_left f (second_folded left)
   second_retag [] = refl
@@ -128,9 +125,8 @@ module _ {A B : Type 0} (f : A → B) where
       → nearest test (retag_left f left) ≡ option_map retag_split (nearest test left)
   nearest_retag test [] = refl
   nearest_retag test (done a below ∷ left) =
-      ap (option_map (behind (done (retag f a) (retagged f below)))) (nearest_retag test left)
-      ∙ mapped (behind (done (retag f a) (retagged f below))) retag_split retag_split (behind (done a below))
-      (λ o. refl) (nearest test left)
+      rw (nearest_retag test left) (mapped (behind (done (retag f a) (retagged f below))) retag_split retag_split
+      (behind (done a below)) (λ o. refl) (nearest test left))
   nearest_retag test (waits m a ∷ left) = by (test m) (nearest_retag test left)
     where
       by : (b : Bool) → nearest test (retag_left f left) ≡ option_map retag_split (nearest test left)
@@ -172,14 +168,11 @@ module _ {A B : Type 0} (f : A → B) where
   pub start_retag : (rest : Forest (Label A)) (i : ℕ) → start_of_first_past (retagged f rest) i
       ≡ start_of_first_past rest i
   start_retag nil i = refl
-  start_retag (node a below after) i = ap (λ later. if nat_lt i (end_of a) then Some (start_of a) else later)
-      (start_retag after i)
+  start_retag (node a below after) i = rw (start_retag after i) refl
 
   pub ends_at_retag : (i : ℕ) (rest : Forest (Label A)) → closer_ends_at i (retagged f rest) ≡ closer_ends_at i rest
   ends_at_retag i nil = refl
-  ends_at_retag i (node a below after) =
-      ap (λ later. if nat_lt (end_of a) i then later else is_closer (open_body a.part.shape) && (end_of a == i))
-      (ends_at_retag i after)
+  ends_at_retag i (node a below after) = rw (ends_at_retag i after) refl
 
   pub past_byte_retag : (i : ℕ) (chain : Forest (Label A)) → past_byte i (retagged f chain)
       ≡ retagged f (past_byte i chain)

@@ -269,34 +269,29 @@ module _ (nodes : List (Node Item)) (closer : ℕ) (left : List (Entry ℕ)) (c 
       links_on s.source s.tables nodes s.first o.before o.opener nil (trees_onto h.after_then (node c.label nil c.rest))
       nil
       (trees_onto h.after_then nil)
-      (subst (λ (f : Forest (Label ℕ)). Holds s.source s.tables nodes s.first f) (onto (node c.label nil c.rest))
-      s.holds) rising
+      (rw (onto (node c.label nil c.rest)) at s.holds) rising
 
   later : AreAfter n h.after_then
   later = after_all n h.after_then nil (rising_from o.before (node o.opener nil (trees_onto h.after_then nil)) rising).0
 
   before_by : (flag : Mark → Flag) → before n (held_by flag left) ≡ held_by flag o.before
   before_by flag =
-      ap (λ (l : List (Entry ℕ)). before n (held_by flag l)) h.left_is
-      ∙ before_opener flag nodes h.mark_then o.opener h.after_then o.before later links
+      rw h.left_is (before_opener flag nodes h.mark_then o.opener h.after_then o.before later links)
 
   brackets_before : before n (brackets_of left) ≡ brackets_of o.before
   brackets_before = ap (before n) (brackets_by left) ∙ before_by for_bracket ∙ sym (brackets_by o.before)
 
   wikilinks_second : without_second nodes n (before n (wikilinks_of left)) ≡ wikilinks_of (second_folded o.before)
   wikilinks_second =
-      ap (λ (held : List Waiting). without_second nodes n (before n held)) (wikilinks_by left)
-      ∙ ap (without_second nodes n) (before_by for_wikilink)
-      ∙ second_gone nodes n o.before links
-      ∙ sym (wikilinks_by (second_folded o.before))
+      rw (wikilinks_by left, before_by for_wikilink, wikilinks_by (second_folded o.before))
+      (second_gone nodes n o.before links)
 
   -- they stay
   wikilinks_left : before n (without_second nodes n (before n (wikilinks_of left)))
       ≡ wikilinks_of (second_folded o.before)
   wikilinks_left =
-      ap (before n) (wikilinks_second ∙ wikilinks_by (second_folded o.before))
-      ∙ stays_all for_wikilink nodes n n (second_folded o.before) (links_folded nodes n o.before links) (omega arith)
-      ∙ sym (wikilinks_by (second_folded o.before))
+      rw (wikilinks_second, wikilinks_by (second_folded o.before))
+      (stays_all for_wikilink nodes n n (second_folded o.before) (links_folded nodes n o.before links) (omega arith))
 
   -- before a link or an image
   link_brackets : (i : Bool)

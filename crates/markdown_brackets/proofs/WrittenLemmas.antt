@@ -61,14 +61,10 @@ nothing_past_block nodes place skipped closer w o could_be start past =
     let within : length text ≤ end = omega (arith, past, length-take place.block_end place.text.now) in
     let after : Option Item = option_map (item_at nodes) next in
     let second : Option Item = option_map (item_at nodes) (option_and_then (sibling_of nodes) next) in
-    let by : Option FoundLabel → Form → Option (Written ℕ) = λ own form.
-    reference_written w o end (λ i. reaches_closer nodes i next) (if could_be then own else None) form in
-    ap (λ (t : Option scanned.LinkTail). option_or (option_map (inline_link o) t)
-    (reference_at nodes place skipped closer w o could_be start))
-    (tail_past_end skipped (starts_from nodes next) text end within)
-    ∙ ap (λ own. by own (form_ahead nodes place skipped closer))
-    (no_label_past_block place.in_table (footnote_style place.options) skipped place.text.now place.block_end start end
-    past)
-    ∙ ap (by None) (form_past (footnote_style place.options) skipped place.in_table text end after second within)
-    ∙ no_reference w o could_be end (λ i. reaches_closer nodes i next)
-    (stands_at end is_opener after && stands_at (end + 1) is_closer second)
+    rw (
+      tail_past_end skipped (starts_from nodes next) text end within,
+      no_label_past_block place.in_table (footnote_style place.options) skipped place.text.now place.block_end start end
+          past,
+      form_past (footnote_style place.options) skipped place.in_table text end after second within,
+    ) (no_reference w o could_be end (λ i. reaches_closer nodes i next)
+    (stands_at end is_opener after && stands_at (end + 1) is_closer second))

@@ -26,8 +26,7 @@ returns-clause-from g c =
     let at = c.args.self.now in
     let place = at.place.now in
     let text = c.range-text.ensures.value ∙ whole_range place.text.now place.block_end in
-    subst (λ (i : Item). IfOk c.scan_link_tail.result (λ found. IfSome found (IsTailFrom place.text.now i.end)))
-    (c.item.ensures no_item)
+    rw (c.item.ensures no_item) at
     (ok_both c.scan_link_tail.result _ _ _ c.scan_link_tail.ensures.value c.scan_link_tail.ensures.borrowed
     (λ found reads borrows.
     has_title c.rules.result.in_table (g.R.LineRule.skipped c.rules.result.rule.now)
