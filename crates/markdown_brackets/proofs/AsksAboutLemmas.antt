@@ -137,7 +137,7 @@ module _ {A : Type 0} (w : Around) (c : Closing A) where
   unfolding closed
   closed_told p =
       let d : Decision A = decided w c p in
-      subst (Asks (told_by p)) (sym (put_told d.becomes d.progress)) (decided_told p)
+      rw (put_told d.becomes d.progress) (decided_told p)
 
   -- the label that follows begins where the `]` ends
   pub full_label : (label : List ℕ) (end : ℕ) → form_of w c ≡ reference label end

@@ -201,6 +201,5 @@ module _ {C : Type 0} (step : C → Question → Option Answer → C → Type 0)
         tt)
       where
         none_defined : (how : FootnoteStyle) (d : Bool) → is_reference how d ≡ false → d ≡ false
-        none_defined style.Off d e = e
-        none_defined style.Gfm d e = e
         none_defined style.Old d e = cc
+        none_defined other d e = e

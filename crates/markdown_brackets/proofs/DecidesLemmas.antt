@@ -78,8 +78,7 @@ module _ {C : Type 0} (step : C → Question → Option Answer → C → Type 0)
     splits =
         let none : Known = record { limit = 0; answers = []; uses = λ name. 0 } in
         let start : Progress ℕ = begun none in
-        subst (λ becomes. SplitsAs (bracket_taken t.left_then) becomes)
-        (ap (λ (d : Decision ℕ). d.becomes) (h.comes start []))
+        rw (ap (λ (d : Decision ℕ). d.becomes) (h.comes start [])) at
         (opener_splits w c (bracket_taken t.left_then) (nearest opens_bracket t.left_then)
         (knowing lookup.limit (h.answers ++ []) (uses_of lookup.tables.footdefs) start)
         (taken_splits opens_bracket without_bracket t.left_then));

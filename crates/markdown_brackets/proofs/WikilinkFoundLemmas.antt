@@ -62,7 +62,7 @@ pipe_found text start size = by (nat_lt n (length part)) refl
         let byte : get_or part n 0 ≡ slice_index text (start + n) = get_or-take size (drop start text) n 0 cut
         ∙ get_or-drop start text n 0 in
         let after : start + n + 1 ≡ suc (start + n) = omega arith in
-        subst (λ i. follows_pipe text i ≡ true) (sym after) (subst (λ b. (b == pipe) ≡ true) byte is)
+        rw after (rw byte at is)
     by false e = tt
 
 -- what a wikilink shows from a byte offset on starts after a pipe, before the end of its body
@@ -160,11 +160,9 @@ module _ (source : List ℕ) (tables : Tables) (nodes : List (Node Item)) (w : A
       let is : shown_from_node closer.tag at
       (first_root (numbers_past nodes at (forest_at (links_of nodes) (Some f.tag))))
       ≡ option_map (λ n. From n at) (link_to (past_byte at trees)) =
-      ap (λ g. shown_from_node closer.tag at (first_root (numbers_past nodes at g)))
-      (ap (λ m. forest_at (links_of nodes) m) (sym e) ∙ found_at source tables nodes l _ s)
-      ∙ from_is source tables nodes closer nil rest at (omega (arith, behind.0, order)) l trees s.holds apart in
-      from_found b trees at (past_byte at trees) (λ n. refl) behind.1 r
-      (subst (λ o. IsWikilinkAt opener end (option_map (λ shown. (b, shown)) o) r) is h)
+      rw (← e, found_at source tables nodes l _ s)
+      (from_is source tables nodes closer nil rest at (omega (arith, behind.0, order)) l trees s.holds apart) in
+      from_found b trees at (past_byte at trees) (λ n. refl) behind.1 r (rw is at h)
 
   -- the wikilink of these trees
   pub wikilink_is : (trees : Forest (Label ℕ)) (l : Option ℕ)

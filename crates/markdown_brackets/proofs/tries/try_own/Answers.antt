@@ -16,23 +16,18 @@ use Rattle.markdown_brackets.proofs.tries.try_own.Goals as goal
 pub returns-in_default-clause-comes : goal.returns-in_default-clause-comes
 returns-in_default-clause-comes g c spent skipped bodies o opener start =
     let at = c.args.at.now in
-    let nodes = at.tree.now.nodes in
     let own = rw (c.item-3.ensures no_item) at c.in_ok-label.ensures in
     let w = around_by at.place.now skipped bodies c.args.lookup.now in
     rw (← own, c.in_default.is) (comes_to_text g.F.BrokenLinkCallback.answers w c.args.lookup.now spent)
 
 pub returns-then-label-clause-comes : goal.returns-then-label-clause-comes
 returns-then-label-clause-comes g c =
-    let at = c.args.at.now in
-    let nodes = at.tree.now.nodes in
     let own = rw (c.item-3.ensures no_item) at c.in_ok-label.ensures in
     ok_map c.find_footnote.result _ _ c.find_footnote.ensures.comes (λ found comes spent skipped bodies o opener start.
     rw (← own, c.in-Some.is, c.if-label.true) (comes spent skipped bodies o opener start))
 
 pub returns-clause-comes : goal.returns-clause-comes
 returns-clause-comes g c =
-    let at = c.args.at.now in
-    let nodes = at.tree.now.nodes in
     let own = rw (c.item-3.ensures no_item) at c.in_ok-label.ensures in
     ok_map c.find_reference.result _ _ c.find_reference.ensures.comes
     (λ found comes spent skipped bodies o opener start.
