@@ -1,9 +1,9 @@
 -- Brackets do not depend on tags: what a `]` becomes is decided by the parts of labels only, and its effect on a left
 -- list with other tags is its effect on the list, with those tags.
-use Rattle.std.proofs.Common.{◌≡◌, ℕ, Bool, true, false, ◌&&◌, ◌==◌, List, [], ◌∷◌, Option, Some, None, refl, ap, ◌∙◌}
+use Rattle.std.proofs.Common.{◌≡◌, ℕ, Bool, true, false, List, [], ◌∷◌, Option, Some, None, refl, ap, ◌∙◌}
 use Rattle.std.proofs.Common.{nat_le}
 use Rattle.std.proofs.Math.Path.{fun_ext}
-use Rattle.std.specs.Prelude.{if◌then◌else◌, nat_lt, unwrap_or, ◌+◌}
+use Rattle.std.specs.Prelude.{if◌then◌else◌, unwrap_or, ◌+◌}
 use Rattle.std.specs.Option.{option_map, option_and_then, option_or}
 use Rattle.markdown_base.specs.Event.{LinkView}
 use Rattle.markdown_base.specs.Forest.{Forest, first_root, nil, node}
@@ -33,7 +33,7 @@ use Rattle.markdown_brackets.specs.LeftList.{trees_onto, waits, wikilink_taken, 
 use Rattle.markdown_brackets.specs.LinkTail.{LinkTail, link_tail}
 use Rattle.markdown_brackets.specs.Lookup.{LookedUp, look_up}
 use Rattle.markdown_brackets.specs.ReadChain.{Reader, closing_of, is_next, opened, read, read_as, read_chain, read_past}
-use Rattle.markdown_brackets.specs.Reference.{FoundLabel, Form, collapsed, is_closer, is_opener, reference, shortcut}
+use Rattle.markdown_brackets.specs.Reference.{FoundLabel, Form, collapsed, is_opener, reference, shortcut}
 use Rattle.markdown_brackets.specs.Wikilink.{Shows, WikilinkBody, has_pothole, shows_from, shows_name, shows_nothing}
 use Rattle.markdown_brackets.specs.Wikilink.{wikilink_body}
 
@@ -392,6 +392,12 @@ module _ {A B : Type 0} (f : A → B) where
     unfolding closed
     closed_retag c p = ap (put_decided w (retag_closing c)) (decided_retag c p)
         ∙ put_retag c (decided w c p).becomes (decided w c p).progress
+
+    -- a `]` of a chain
+    pub closing_retag : (could : Bool) (a : Label A) (rest : Forest (Label A)) (p : Progress A)
+        → closed w (closing_of could (retag f a) (retagged f rest) (retag_progress f p)) (retag_progress f p)
+        ≡ retag_progress f (closed w (closing_of could a rest p) p)
+    closing_retag could a rest p = closed_retag (closing_of could a rest p) p
 
     pub opened_retag : (is_image : Bool) (a : Label A) (rest : Forest (Label A)) (p : Progress A)
         → opened w is_image (retag f a) (retagged f rest) (retag_progress f p)

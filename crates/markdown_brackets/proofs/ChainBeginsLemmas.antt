@@ -1,7 +1,7 @@
 -- What is first in a left list stays first, or becomes a link, an image or a footnote reference: so it passes a test
 -- that events and enclosing tags pass.
 use Rattle.std.proofs.Common.{◌≡◌, ℕ, Bool, true, false, List, [], ◌∷◌, Some, ◌++◌, refl, subst}
-use Rattle.std.specs.Prelude.{⊤, if◌then◌else◌}
+use Rattle.std.specs.Prelude.{⊤}
 use Rattle.markdown_base.specs.Event.{EventView, TagView}
 use Rattle.markdown_base.specs.Forest.{Forest, nil, node}
 use Rattle.markdown_base.specs.declared.item.ItemBody.{ItemBody}
@@ -12,9 +12,9 @@ use Rattle.markdown_document.specs.Setting.{Known}
 use Rattle.markdown_brackets.specs.BracketDecision.{Around, Closing, Progress}
 use Rattle.markdown_brackets.specs.ChainBegins.{BeginsLaw, BeginsSo, BeginsWith, trees_of}
 use Rattle.markdown_brackets.specs.ClosingBracket.{footnote_onto}
-use Rattle.markdown_brackets.specs.LeftList.{Entry, Mark, Split, before_footnote, before_link, change_nearest}
-use Rattle.markdown_brackets.specs.LeftList.{disabled_mark, done, nearest, on_marks, opens_bracket, opens_wikilink}
-use Rattle.markdown_brackets.specs.LeftList.{second_folded, trees_onto, waits, without_bracket, without_wikilink}
+use Rattle.markdown_brackets.specs.LeftList.{Entry, Mark, Split, before_footnote}
+use Rattle.markdown_brackets.specs.LeftList.{done, nearest, opens_bracket, opens_wikilink}
+use Rattle.markdown_brackets.specs.LeftList.{trees_onto, waits, without_bracket, without_wikilink}
 use Rattle.markdown_brackets.specs.ReadChain.{Reader, begun, closing_of, read, read_as, read_chain}
 use Rattle.markdown_brackets.proofs.ClosingBracketLemmas.{Cases, in_each_case}
 use Rattle.markdown_brackets.proofs.LeftListLemmas.{Marked, same_change, same_before_link, same_before_wikilink}

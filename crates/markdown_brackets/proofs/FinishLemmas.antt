@@ -14,7 +14,7 @@ use Rattle.markdown_brackets.specs.BracketDecision.{Around, Becomes, Closing, Pr
 use Rattle.markdown_brackets.specs.BracketDecision.{a_wikilink}
 use Rattle.markdown_brackets.specs.ChainHeld.{Holds, numbers_of}
 use Rattle.markdown_brackets.specs.ClosingBracket.{footnote_onto, put}
-use Rattle.markdown_brackets.specs.DecisionView.{IsBecome, opener_of}
+use Rattle.markdown_brackets.specs.DecisionView.{IsBecome}
 use Rattle.markdown_brackets.specs.Decides.{EachOpener, StandsBefore}
 use Rattle.markdown_brackets.specs.Finish.{AreBehind, AreRising, IsSplit, LeftRises, SplitsAs}
 use Rattle.markdown_brackets.specs.LeftList.{Entry, Flag, Mark, Split, before_footnote, before_link, before_wikilink}

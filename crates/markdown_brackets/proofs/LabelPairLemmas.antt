@@ -1,22 +1,19 @@
 -- In a link label no `[` is directly after a `]`: one of the two would end the label, or forbid it. So no two labels
 -- end at the same byte offset if the second begins directly after a `]` in the first.
-use Rattle.std.proofs.Common.{◌≡◌, ℕ, zero, suc, ◌+◌, ◌-◌, ◌<◌, Bool, true, false, ◌||◌, ◌==◌, List, [], ◌∷◌, Option}
+use Rattle.std.proofs.Common.{◌≡◌, ℕ, zero, suc, ◌+◌, ◌-◌, ◌<◌, Bool, true, false, ◌||◌, List, [], ◌∷◌, Option}
 use Rattle.std.proofs.Common.{Some, None, length, refl, sym, ap, subst, ◌∙◌, arith, take, drop, get_or, drop-cons}
 use Rattle.std.proofs.Common.{length-drop, if◌then◌else◌, is_none, unwrap_or, nat_eq}
-use Rattle.std.specs.Prelude.{option_and_then}
 use Rattle.std.specs.List.{list_any}
-use Rattle.std.specs.Option.{option_map, option_or}
 use Rattle.std.proofs.lemmas.Bool.Decides.{nat_tests}
 use Rattle.std.proofs.lemmas.List.{drop-drop}
 use Rattle.std.proofs.lemmas.Option.{none-some, same_Some}
 use Rattle.markdown_base.specs.Bytes.{backslash}
 use Rattle.markdown_scan.specs.Backslash.{is_bare}
-use Rattle.markdown_scan.specs.Label.{refused, body, fits_label, label_bytes, link_label, put_before, shown}
-use Rattle.markdown_scan.specs.Label.{collapse_whitespace, with_shown}
+use Rattle.markdown_scan.specs.Label.{refused, body, label_bytes, put_before}
 use Rattle.markdown_scan.specs.LinePrefix.{ends_line, prefix_after}
 use Rattle.markdown_brackets.specs.QuestionEnds.{HoldsNoOpener}
-use Rattle.markdown_brackets.specs.Reference.{FoundLabel, footnote_label_in, label_after, label_after_bracket}
-use Rattle.markdown_brackets.specs.Reference.{bracket_label, label_past, on_one_line}
+use Rattle.markdown_brackets.specs.Reference.{FoundLabel}
+use Rattle.markdown_brackets.specs.Reference.{bracket_label}
 use Rattle.markdown_brackets.specs.declared.footnote.FootnoteStyle.{FootnoteStyle}
 use Rattle.markdown_brackets.proofs.LabelLengthLemmas.{label_read}
 

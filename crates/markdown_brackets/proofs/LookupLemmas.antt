@@ -1,14 +1,13 @@
 -- Look-ups, case by case.
-use Rattle.std.proofs.Common.{◌≡◌, ℕ, ◌==◌, Bool, true, false, List, [], ◌∷◌, Option, Some, None, cond, refl, sym, ◌∙◌}
-use Rattle.std.proofs.Common.{ap, subst, is_some, ◌<◌, MatchOption, arith}
+use Rattle.std.proofs.Common.{◌≡◌, ℕ, ◌==◌, false, [], ◌∷◌, Option, Some, None, refl, sym, ◌∙◌}
+use Rattle.std.proofs.Common.{◌<◌, MatchOption, arith}
 use Rattle.std.proofs.lemmas.Bool.Decides.{nat_tests}
 use Rattle.markdown_base.specs.BlockParts.{definition_view}
 use Rattle.markdown_base.specs.Event.{LinkView}
 use Rattle.markdown_base.specs.Questions.{Question, Answer, Answers}
 use Rattle.markdown_base.specs.declared.block_parts.LinkDef.{LinkDef}
-use Rattle.markdown_defs.specs.Callback.{Asks}
 use Rattle.markdown_defs.specs.Definitions as definitions
-use Rattle.markdown_brackets.specs.Lookup.{LookedUp, look_up, finds_nothing, defined_target, defined_or_asked, asked}
+use Rattle.markdown_brackets.specs.Lookup.{defined_target, asked}
 use Rattle.markdown_brackets.specs.LookupView.{LooksUp, IsAnswered, FindsTarget, target_by, limit_after}
 use Rattle.markdown_brackets.specs.declared.look_up.LabelLookup.{LabelLookup}
 

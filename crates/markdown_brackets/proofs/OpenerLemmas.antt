@@ -1,7 +1,7 @@
 -- A stack of openers as the list that it represents.
 use Rattle.std.proofs.Common.{◌≡◌, ◌⊎◌, inl, inr, ℕ, suc, zero, ◌+◌, ◌-◌, ◌<◌, ◌≤◌, Bool, true, false, ◌&&◌, List, []}
 use Rattle.std.proofs.Common.{◌∷◌, ◌++◌, Some}
-use Rattle.std.proofs.Common.{length, get_or, take, map, min, nat_le, arith, refl, sym, ◌∙◌, ap, reverse, subst}
+use Rattle.std.proofs.Common.{length, get_or, take, map, min, nat_le, arith, refl, sym, ◌∙◌, ap, reverse}
 use Rattle.std.proofs.lemmas.Bool.{cases_lt}
 use Rattle.std.proofs.lemmas.Bool.Decides.{nat_tests}
 use Rattle.std.proofs.lemmas.List.{reverse-append, map-append, take_more, take_all}

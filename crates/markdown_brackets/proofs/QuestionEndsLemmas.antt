@@ -1,8 +1,8 @@
 -- A chain asks at most as many questions as it has `]`, and no two end together: a `]` that ends the label of an
 -- earlier one asks about no label itself, and no two labels that follow a `]` end at the same byte offset.
 use Rattle.std.proofs.Common.{◌≡◌, ◌⊎◌, inl, inr, ⊎_elim, ℕ, ◌+◌, ◌-◌, ◌<◌, ◌≤◌, Bool, true, false, not, ◌&&◌}
-use Rattle.std.proofs.Common.{◌==◌, List, [], ◌∷◌, ◌++◌, length, map, Option, Some, None, cond, refl, sym, ap, subst}
-use Rattle.std.proofs.Common.{◌∙◌, arith, append-nil, drop, get_or, take, nat_le, nat_eq, length-append, length-drop}
+use Rattle.std.proofs.Common.{◌==◌, List, [], ◌∷◌, ◌++◌, length, map, Option, cond, refl, sym, ap, subst}
+use Rattle.std.proofs.Common.{◌∙◌, arith, append-nil, drop, get_or, take, nat_eq, length-append, length-drop}
 use Rattle.std.proofs.Common.{length-take, suc}
 use Rattle.std.specs.Prelude.{IfSome, slice_range}
 use Rattle.std.specs.List.{AllByRecursion, IsDistinct, list_any}
@@ -23,7 +23,7 @@ use Rattle.markdown_brackets.specs.BracketDecision.{Around, Closing, Progress, b
 use Rattle.markdown_brackets.specs.ClosingBracket.{closed}
 use Rattle.markdown_brackets.specs.QuestionEnds.{AsksNothing, HoldsNoOpener, StandInLine, StandsInLine}
 use Rattle.markdown_brackets.specs.QuestionsAsked.{AsksAtMost, EndApart, closers_among, closes_bracket}
-use Rattle.markdown_brackets.specs.ReadChain.{Reader, among, begun, closing_of, read, read_as, read_chain, read_past}
+use Rattle.markdown_brackets.specs.ReadChain.{Reader, among, begun, closing_of, read_chain}
 use Rattle.markdown_brackets.specs.Reference.{is_closer}
 use Rattle.markdown_brackets.proofs.AsksAboutLemmas.{Asks, AsksFull, AsksNone, AsksOwn, AtMostOneTo, Told, closed_told}
 use Rattle.markdown_brackets.proofs.AsksAboutLemmas.{full_label, told_by}

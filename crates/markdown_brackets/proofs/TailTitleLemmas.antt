@@ -1,6 +1,6 @@
 -- The title of a tail comes from the source: it is what is written between its marks.
 use Rattle.std.proofs.Common.{◌≡◌, ℕ, suc, ◌+◌, ◌-◌, ◌≤◌, ◌==◌, Bool, true, false, List, [], ◌∷◌, Option, Some, None}
-use Rattle.std.proofs.Common.{take, drop, slice_range, refl, sym, ◌∙◌, ap, subst, arith, ◌<◌, is_some, nat_lt}
+use Rattle.std.proofs.Common.{take, drop, slice_range, refl, ◌∙◌, ap, subst, arith, ◌<◌, is_some, nat_lt}
 use Rattle.std.proofs.Common.{unwrap_or}
 use Rattle.std.specs.Option.{option_and_then, option_map}
 use Rattle.std.specs.Prelude.{slice_index, if◌then◌else◌, ⊤, IfSome}

@@ -9,7 +9,7 @@ use Rattle.markdown_base.specs.Forest.{Forest, nil, node}
 use Rattle.markdown_base.specs.declared.item.Item.{Item}
 use Rattle.markdown_base.specs.declared.node.Node.{Node}
 use Rattle.markdown_base.proofs.ArenaForestLemmas.{height}
-use Rattle.markdown_document.specs.ChainRest.{start_of, end_of, joined_chains, open_body}
+use Rattle.markdown_document.specs.ChainRest.{start_of, joined_chains, open_body}
 use Rattle.markdown_document.specs.Document.{Label}
 use Rattle.markdown_document.specs.Totals.{same}
 use Rattle.markdown_document.proofs.TablesLemmas.{same-refl}
@@ -284,7 +284,8 @@ module _ (nodes : List (Node Item)) (closer : ℕ) (left : List (Entry ℕ)) (c 
             by (Some o) q h = inner shown refl r h
               where
                 shown : Option (Wikilink ℕ)
-                shown = if is_live o.mark.wikilink then wikilink_in w (past_second (inside o)) (start_of c.label) else None
+                shown =
+                    if is_live o.mark.wikilink then wikilink_in w (past_second (inside o)) (start_of c.label) else None
 
                 splits : IsSplit (bracket_taken (wikilink_taken left)) o
                 splits = rw (taken_both left) at

@@ -1,6 +1,6 @@
 -- The pipe of a wikilink in a block is that of the whole text, if it is before the block's end.
 use Rattle.std.proofs.Common.{◌≡◌, ℕ, zero, suc, ◌+◌, ◌-◌, ◌<◌, ◌≤◌, ◌⊎◌, inl, inr, Bool, true, false, not, ◌==◌, List}
-use Rattle.std.proofs.Common.{[], ◌∷◌, Option, Some, None, length, take, drop, min, refl, sym, ap, ◌∙◌, subst, arith}
+use Rattle.std.proofs.Common.{[], ◌∷◌, Option, Some, None, length, take, drop, min, refl, sym, ap, ◌∙◌, arith}
 use Rattle.std.proofs.Common.{cond, nat_lt, nat_le}
 use Rattle.std.specs.Prelude.{IfSome, if◌then◌else◌}
 use Rattle.std.specs.List.{position_or_len}

@@ -1,6 +1,6 @@
 -- What is read of a block's text, and that nothing is read past its end.
 use Rattle.std.proofs.Common.{rules, ◌≡◌, ℕ, ◌<◌, ◌≤◌, Bool, List, Option, Some, None, Result, Ok, Err, length, take}
-use Rattle.std.proofs.Common.{arith, ◌+◌, ◌&&◌, true, false, refl, ◌∙◌, ap, if◌then◌else◌}
+use Rattle.std.proofs.Common.{arith, ◌+◌, ◌&&◌, true, false, refl, if◌then◌else◌}
 use Rattle.std.proofs.lemmas.List.{length-take}
 use Rattle.std.specs.Prelude.{IfOk, slice_range}
 use Rattle.std.specs.Option.{option_and_then, option_map, option_or}
@@ -15,8 +15,8 @@ use Rattle.markdown_brackets.specs.ChainAhead.{reaches_closer, starts_from}
 use Rattle.markdown_brackets.specs.LeftList.{Split}
 use Rattle.markdown_brackets.specs.LinkTail as scanned
 use Rattle.markdown_brackets.specs.LinkTailView.{ReadsTail}
-use Rattle.markdown_brackets.specs.Reference.{FoundLabel, Form, collapsed, shortcut, is_closer, is_opener, stands_at}
-use Rattle.markdown_brackets.specs.WrittenView.{form_ahead, reference_at, written_at}
+use Rattle.markdown_brackets.specs.Reference.{collapsed, shortcut, is_closer, is_opener, stands_at}
+use Rattle.markdown_brackets.specs.WrittenView.{written_at}
 use Rattle.markdown_brackets.proofs.LabelLengthLemmas.{no_label_past_block}
 use Rattle.markdown_brackets.proofs.LinkTailLemmas.{tail_past_end}
 use Rattle.markdown_brackets.proofs.ReferenceLemmas.{form_past}

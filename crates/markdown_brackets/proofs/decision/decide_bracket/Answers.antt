@@ -1,11 +1,11 @@
 -- A wikilink was found, or the nearest opener was tried.
-use Rattle.std.proofs.Common.{◌≡◌, ◌&&◌, not, is_some, sym, ◌∙◌, ap, subst}
+use Rattle.std.proofs.Common.{◌≡◌, ◌&&◌, not, is_some, sym, ◌∙◌, ap}
 use Rattle.markdown_base.specs.BlockTree.{item_at}
 use Rattle.markdown_document.specs.ChainRest.{end_of}
 use Rattle.markdown_brackets.specs.LeftList.{nearest, opens_bracket}
 use Rattle.markdown_brackets.specs.Reference.{could_be_reference}
 use Rattle.markdown_brackets.specs.SpentEnds.{is_spent}
-use Rattle.markdown_brackets.specs.StandsAt.{could_be_at, TakesWikilink, around_by}
+use Rattle.markdown_brackets.specs.StandsAt.{could_be_at, around_by}
 use Rattle.markdown_brackets.proofs.AheadOfBracketLemmas.{same_end}
 use Rattle.markdown_brackets.proofs.DecidesLemmas.{decides_one, decides_wikilink, tries_nearest}
 use Rattle.markdown_brackets.proofs.TakeWikilinkLemmas.{closer_found}

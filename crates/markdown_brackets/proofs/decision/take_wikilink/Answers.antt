@@ -1,11 +1,9 @@
 -- Whether a wikilink is tried, and with which opener.
-use Rattle.std.proofs.Common.{◌≡◌, false, refl, sym, ◌∙◌, ap, subst}
-use Rattle.std.specs.Prelude.{MatchOption}
+use Rattle.std.proofs.Common.{◌≡◌, false, refl, sym, ◌∙◌, ap}
 use Rattle.markdown_base.specs.BlockTree.{item_at, no_item}
 use Rattle.markdown_base.specs.declared.item.Item.{Item}
 use Rattle.markdown_brackets.specs.DecisionView.{around_at}
 use Rattle.markdown_brackets.specs.Reference.{is_closer}
-use Rattle.markdown_brackets.specs.StandsAt.{FindsWikilink}
 use Rattle.markdown_brackets.proofs.TakeWikilinkLemmas.{none_by_next, none_by_off, takes}
 use Rattle.markdown_brackets.proofs.decision.take_wikilink.Goals as goal
 

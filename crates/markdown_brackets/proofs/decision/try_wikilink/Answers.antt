@@ -1,6 +1,4 @@
 -- The nodes between an opener and its `]` are the trees between them.
-use Rattle.std.proofs.Common.{subst}
-use Rattle.markdown_brackets.specs.StandsAt.{TriesWikilink}
 use Rattle.markdown_brackets.proofs.WikilinkFoundLemmas.{finds_dead, finds_live, finds_none}
 use Rattle.markdown_brackets.proofs.decision.try_wikilink.Goals as goal
 

@@ -1,9 +1,6 @@
 -- A `]` ends the label, or none does.
-use Rattle.std.proofs.Common.{ℕ, Bool, [], ◌∷◌, Option, Some, None, sym, ◌∙◌, ap}
-use Rattle.std.specs.Prelude.{if◌then◌else◌}
-use Rattle.markdown_base.specs.CowText.{text_of}
-use Rattle.markdown_brackets.specs.BracketDecision.{Written, full, link_reference}
-use Rattle.markdown_brackets.proofs.ComesToLemmas.{comes_to_text, found_as, spends_end}
+use Rattle.std.proofs.Common.{[], ◌∷◌, sym, ◌∙◌}
+use Rattle.markdown_brackets.proofs.ComesToLemmas.{comes_to_text, spends_end}
 use Rattle.markdown_brackets.proofs.WrittenLemmas.{ok_map}
 use Rattle.markdown_brackets.proofs.tries.try_full.Goals as goal
 

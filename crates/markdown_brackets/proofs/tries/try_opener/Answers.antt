@@ -1,8 +1,6 @@
 -- There is none, it is not live, or it is tried.
-use Rattle.std.proofs.Common.{subst}
 use Rattle.std.proofs.Math.Path.{fun_ext}
-use Rattle.std.specs.Prelude.{IfSome}
-use Rattle.markdown_brackets.specs.StandsAt.{TriesOpener, could_be_at}
+use Rattle.markdown_brackets.specs.StandsAt.{could_be_at}
 use Rattle.markdown_brackets.proofs.TryOpenerLemmas.{comes_by_dead, comes_by_live, comes_by_none}
 use Rattle.markdown_brackets.proofs.WrittenLemmas.{ok_map}
 use Rattle.markdown_brackets.specs.Decides.{CanTry}

@@ -1,14 +1,7 @@
 -- There is no label, or that of a footnote, or that of a link.
-use Rattle.std.proofs.Common.{ℕ, Option, Some, [], Bool, sym, ◌∙◌, ap, refl}
-use Rattle.std.specs.Option.{option_and_then, option_map}
-use Rattle.std.specs.Prelude.{if◌then◌else◌}
-use Rattle.markdown_base.specs.BlockTree.{item_at, no_item}
-use Rattle.markdown_base.specs.CowText.{text_of}
-use Rattle.markdown_base.specs.declared.item.Item.{Item}
-use Rattle.markdown_brackets.specs.BracketDecision.{Written, LinkReference, footnote_written, link_reference}
-use Rattle.markdown_brackets.specs.BracketDecision.{own_written}
-use Rattle.markdown_brackets.specs.ReferenceView.{label_view}
-use Rattle.markdown_brackets.proofs.ComesToLemmas.{comes_to_text, found_as}
+use Rattle.std.proofs.Common.{[], refl}
+use Rattle.markdown_base.specs.BlockTree.{no_item}
+use Rattle.markdown_brackets.proofs.ComesToLemmas.{comes_to_text}
 use Rattle.markdown_brackets.proofs.WrittenLemmas.{ok_map}
 use Rattle.markdown_brackets.specs.StandsAt.{around_by}
 use Rattle.markdown_brackets.proofs.tries.try_own.Goals as goal

@@ -1,20 +1,11 @@
 -- By the form of the reference.
-use Rattle.std.proofs.Common.{◌≡◌, ℕ, ◌+◌, ◌-◌, ◌<◌, Bool, true, false, Option, None, sym, ◌∙◌, ap, refl, subst}
-use Rattle.std.specs.Option.{option_and_then}
-use Rattle.std.specs.Prelude.{if◌then◌else◌}
-use Rattle.markdown_base.specs.Arena.{sibling_of}
-use Rattle.markdown_base.specs.BlockTree.{item_at, no_item}
+use Rattle.std.proofs.Common.{◌≡◌, ◌<◌, true, false, sym, ◌∙◌, ap, refl, subst}
+use Rattle.markdown_base.specs.BlockTree.{no_item}
 use Rattle.markdown_base.specs.declared.item.Item.{Item}
-use Rattle.markdown_base.specs.declared.tag.LinkType.{LinkType}
-use Rattle.markdown_base.specs.declared.tag.LinkType.TheVariants as kind
-use Rattle.markdown_brackets.specs.BracketDecision.{Written, own_written, reference_written}
-use Rattle.markdown_brackets.specs.ChainAhead.{reaches_closer}
-use Rattle.markdown_brackets.specs.Reference.{Form, collapsed, shortcut}
 use Rattle.markdown_brackets.specs.ReferenceView.{form_view}
 use Rattle.markdown_brackets.specs.StandsAt.{could_be_at, around_by}
-use Rattle.markdown_brackets.specs.WrittenView.{own_label_at}
 use Rattle.markdown_brackets.proofs.AheadOfBracketLemmas.{EndsBehind, form_behind}
-use Rattle.markdown_brackets.proofs.ComesToLemmas.{comes_to_text, found_as}
+use Rattle.markdown_brackets.proofs.ComesToLemmas.{comes_to_text}
 use Rattle.markdown_brackets.proofs.WrittenLemmas.{ok_map}
 use Rattle.markdown_brackets.proofs.tries.try_reference.Goals as goal
 use Rattle.markdown_brackets.proofs.tries.try_reference.Goals.{in-Collapsed, in-Shortcut}

@@ -1,12 +1,10 @@
 -- The tail is that of the block's text, by the items ahead, and its title comes from there.
-use Rattle.std.proofs.Common.{◌∙◌, subst}
-use Rattle.std.specs.Prelude.{IfOk, IfSome}
+use Rattle.std.proofs.Common.{◌∙◌}
+use Rattle.std.specs.Prelude.{IfOk}
 use Rattle.markdown_base.specs.BlockTree.{no_item}
-use Rattle.markdown_base.specs.declared.item.Item.{Item}
 use Rattle.markdown_brackets.specs.ChainAhead.{starts_from}
 use Rattle.markdown_brackets.specs.LinkTail.{link_tail}
 use Rattle.markdown_brackets.specs.LinkTailView.{ReadsTail}
-use Rattle.markdown_brackets.specs.WrittenView.{IsTailFrom}
 use Rattle.markdown_brackets.proofs.TailTitleLemmas.{has_title}
 use Rattle.markdown_brackets.proofs.WrittenLemmas.{ok_both, whole_range}
 use Rattle.markdown_brackets.proofs.closer.Closer.read_tail.Goals as goal
