@@ -1,4 +1,5 @@
--- No label is longer than the bytes that it is read from, and so a block that ends before a `]` has no label up to it.
+-- What a label is read from, case by case. None is longer than those bytes, and so a block that ends before a `]` has
+-- no label up to it.
 use Rattle.std.proofs.Common.{◌≡◌, ℕ, zero, suc, ◌+◌, ◌-◌, ◌<◌, ◌≤◌, Bool, true, false, ◌==◌, List, [], ◌∷◌, Option}
 use Rattle.std.proofs.Common.{Some, None, length, refl, ap, arith, take, drop, if◌then◌else◌, is_none, unwrap_or}
 use Rattle.std.proofs.Common.{IfSome, length-drop}
