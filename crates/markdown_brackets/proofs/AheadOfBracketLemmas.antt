@@ -1,6 +1,6 @@
 -- What follows a `]` in an arena, by its links, is what the definition says about the chain that it reads as.
 use Rattle.std.proofs.Common.{◌≡◌, ℕ, ◌+◌, ◌-◌, ◌<◌, Bool, true, false, ◌&&◌, ◌==◌, List, Option, Some, None, refl, sym}
-use Rattle.std.proofs.Common.{◌∙◌, ap, subst, arith, drop, nat_lt}
+use Rattle.std.proofs.Common.{◌∙◌, ap, arith, drop, nat_lt}
 use Rattle.std.specs.Prelude.{if◌then◌else◌}
 use Rattle.std.specs.Option.{option_and_then, option_map}
 use Rattle.markdown_base.specs.Arena.{sibling_of}
@@ -76,27 +76,17 @@ module _ (source : List ℕ) (tables : Tables) (nodes : List (Node Item)) where
   closer_ahead i some l (node a below after) h =
       rw (same_end a h.2) (by (nat_lt (end_of a) i) refl (closer_ahead i some (sibling_of nodes a.tag) after h.4))
     where
-      Goal : Bool → Bool → Type 0
-      Goal b d =
-          begins_with_closer nodes i (if b then node a.tag (numbers_of below) (numbers_of after)
-          else numbers_past nodes (i - 1) (numbers_of after))
-          ≡ (if d then closer_ends_at i after else is_closer (open_body a.part.shape) && (end_of a == i))
-
-      here : is_closer (item_at nodes a.tag).body && ((item_at nodes a.tag).end == i)
-          ≡ is_closer (open_body a.part.shape)
-          && (end_of a == i)
-      here = rw (same_closer a h.2, same_end a h.2) refl
-
       by : (d : Bool) → nat_lt (end_of a) i ≡ d
-          → begins_with_closer nodes i (numbers_past nodes (i - 1) (numbers_of after))
-          ≡ closer_ends_at i after
-          → Goal (nat_lt (i - 1) (end_of a)) d
-      by true e more =
-          let before = is_below (end_of a) i e in
-          subst (λ b. Goal b true) (sym (not_below_is (i - 1) (end_of a) (omega (arith, before)))) more
-      by false e more =
-          let past = is_not_below (end_of a) i e in
-          subst (λ b. Goal b false) (sym (below_is (i - 1) (end_of a) (omega (arith, past, some)))) here
+          → begins_with_closer nodes i (numbers_past nodes (i - 1) (numbers_of after)) ≡ closer_ends_at i after
+          → begins_with_closer nodes i (if nat_lt (i - 1) (end_of a) then node a.tag (numbers_of below)
+          (numbers_of after) else numbers_past nodes (i - 1) (numbers_of after))
+          ≡ (if d then closer_ends_at i after else is_closer (open_body a.part.shape) && (end_of a == i))
+      by true e more = rw (not_below_is (i - 1) (end_of a) (omega (arith, is_below (end_of a) i e))) more
+      by false e more = rw (
+        below_is (i - 1) (end_of a) (omega (arith, is_not_below (end_of a) i e, some)),
+        same_closer a h.2,
+        same_end a h.2,
+      ) refl
 
   pub closers_ahead : (l : Option ℕ) (f : Forest (Label ℕ)) → Holds source tables nodes l f
       → forest_at (links_of nodes) l ≡ numbers_of f → (i : ℕ) → 0 < i → reaches_closer nodes i l ≡ closer_ends_at i f

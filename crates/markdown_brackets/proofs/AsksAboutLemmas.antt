@@ -92,7 +92,7 @@ module _ {A : Type 0} (w : Around) (c : Closing A) where
       let most : AtMostOneTo r.end found.questions =
       look_up_asks w.setting.rules.definitions w.setting.rules.asks p.known.limit p.known.answers q in
       let none : p.known.limit ≡ 0 → (found.limit ≡ 0) × (found.questions ≡ []) =
-      λ z. subst (λ (n : ℕ). ((at n).limit ≡ 0) × ((at n).questions ≡ [])) (sym z) (refl, refl) in
+      λ z. rw z (refl, refl) in
       record {
         more = found.questions;
         asked = refl;
@@ -137,7 +137,7 @@ module _ {A : Type 0} (w : Around) (c : Closing A) where
   unfolding closed
   closed_told p =
       let d : Decision A = decided w c p in
-      subst (Asks (told_by p)) (sym (put_told d.becomes d.progress)) (decided_told p)
+      rw (put_told d.becomes d.progress) (decided_told p)
 
   -- the label that follows begins where the `]` ends
   pub full_label : (label : List ℕ) (end : ℕ) → form_of w c ≡ reference label end

@@ -1,9 +1,9 @@
 -- Brackets do not depend on tags: what a `]` becomes is decided by the parts of labels only, and its effect on a left
 -- list with other tags is its effect on the list, with those tags.
-use Rattle.std.proofs.Common.{◌≡◌, ℕ, Bool, true, false, ◌&&◌, ◌==◌, List, [], ◌∷◌, Option, Some, None, refl, ap, ◌∙◌}
+use Rattle.std.proofs.Common.{◌≡◌, ℕ, Bool, true, false, List, [], ◌∷◌, Option, Some, None, refl, ap, ◌∙◌}
 use Rattle.std.proofs.Common.{nat_le}
 use Rattle.std.proofs.Math.Path.{fun_ext}
-use Rattle.std.specs.Prelude.{if◌then◌else◌, nat_lt, unwrap_or, ◌+◌}
+use Rattle.std.specs.Prelude.{if◌then◌else◌, unwrap_or, ◌+◌}
 use Rattle.std.specs.Option.{option_map, option_and_then, option_or}
 use Rattle.markdown_base.specs.Event.{LinkView}
 use Rattle.markdown_base.specs.Forest.{Forest, first_root, nil, node}
@@ -33,7 +33,7 @@ use Rattle.markdown_brackets.specs.LeftList.{trees_onto, waits, wikilink_taken, 
 use Rattle.markdown_brackets.specs.LinkTail.{LinkTail, link_tail}
 use Rattle.markdown_brackets.specs.Lookup.{LookedUp, look_up}
 use Rattle.markdown_brackets.specs.ReadChain.{Reader, closing_of, is_next, opened, read, read_as, read_chain, read_past}
-use Rattle.markdown_brackets.specs.Reference.{FoundLabel, Form, collapsed, is_closer, is_opener, reference, shortcut}
+use Rattle.markdown_brackets.specs.Reference.{FoundLabel, Form, collapsed, is_opener, reference, shortcut}
 use Rattle.markdown_brackets.specs.Wikilink.{Shows, WikilinkBody, has_pothole, shows_from, shows_name, shows_nothing}
 use Rattle.markdown_brackets.specs.Wikilink.{wikilink_body}
 
@@ -74,8 +74,7 @@ module _ {A B : Type 0} (f : A → B) where
       → change_nearest test g (retag_left f left)
       ≡ retag_left f (change_nearest test g left)
   change_retag test g [] = refl
-  change_retag test g (done a below ∷ left) = ap (λ l. done (retag f a) (retagged f below) ∷ l)
-      (change_retag test g left)
+  change_retag test g (done a below ∷ left) = rw (change_retag test g left) refl
   change_retag test g (waits m a ∷ left) = by (test m) (change_retag test g left)
     where
       by : (b : Bool) → change_nearest test g (retag_left f left) ≡ retag_left f (change_nearest test g left)
@@ -92,9 +91,7 @@ module _ {A B : Type 0} (f : A → B) where
   pub on_marks_retag : (g : Mark → Mark) (left : List (Entry A)) → on_marks g (retag_left f left)
       ≡ retag_left f (on_marks g left)
   on_marks_retag g [] = refl
-  on_marks_retag g (e ∷ left) =
-      ap (λ x. x ∷ on_marks g (retag_left f left)) (on_mark_retag g e)
-      ∙ ap (λ l. retag_entry f (on_mark g e) ∷ l) (on_marks_retag g left)
+  on_marks_retag g (e ∷ left) = rw (on_mark_retag g e, on_marks_retag g left) refl
 
   pub second_retag : (left : List (Entry A)) → second_folded (retag_left f left) ≡ retag_left f (second_folded left)
   second_retag [] = refl
@@ -128,9 +125,8 @@ module _ {A B : Type 0} (f : A → B) where
       → nearest test (retag_left f left) ≡ option_map retag_split (nearest test left)
   nearest_retag test [] = refl
   nearest_retag test (done a below ∷ left) =
-      ap (option_map (behind (done (retag f a) (retagged f below)))) (nearest_retag test left)
-      ∙ mapped (behind (done (retag f a) (retagged f below))) retag_split retag_split (behind (done a below))
-      (λ o. refl) (nearest test left)
+      rw (nearest_retag test left) (mapped (behind (done (retag f a) (retagged f below))) retag_split retag_split
+      (behind (done a below)) (λ o. refl) (nearest test left))
   nearest_retag test (waits m a ∷ left) = by (test m) (nearest_retag test left)
     where
       by : (b : Bool) → nearest test (retag_left f left) ≡ option_map retag_split (nearest test left)
@@ -172,14 +168,11 @@ module _ {A B : Type 0} (f : A → B) where
   pub start_retag : (rest : Forest (Label A)) (i : ℕ) → start_of_first_past (retagged f rest) i
       ≡ start_of_first_past rest i
   start_retag nil i = refl
-  start_retag (node a below after) i = ap (λ later. if nat_lt i (end_of a) then Some (start_of a) else later)
-      (start_retag after i)
+  start_retag (node a below after) i = rw (start_retag after i) refl
 
   pub ends_at_retag : (i : ℕ) (rest : Forest (Label A)) → closer_ends_at i (retagged f rest) ≡ closer_ends_at i rest
   ends_at_retag i nil = refl
-  ends_at_retag i (node a below after) =
-      ap (λ later. if nat_lt (end_of a) i then later else is_closer (open_body a.part.shape) && (end_of a == i))
-      (ends_at_retag i after)
+  ends_at_retag i (node a below after) = rw (ends_at_retag i after) refl
 
   pub past_byte_retag : (i : ℕ) (chain : Forest (Label A)) → past_byte i (retagged f chain)
       ≡ retagged f (past_byte i chain)

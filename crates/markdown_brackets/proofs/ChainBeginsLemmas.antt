@@ -1,7 +1,7 @@
 -- What is first in a left list stays first, or becomes a link, an image or a footnote reference: so it passes a test
 -- that events and enclosing tags pass.
-use Rattle.std.proofs.Common.{◌≡◌, ℕ, Bool, true, false, List, [], ◌∷◌, Some, ◌++◌, subst}
-use Rattle.std.specs.Prelude.{⊤, if◌then◌else◌}
+use Rattle.std.proofs.Common.{◌≡◌, ℕ, Bool, true, false, List, [], ◌∷◌, Some, ◌++◌, refl, subst}
+use Rattle.std.specs.Prelude.{⊤}
 use Rattle.markdown_base.specs.Event.{EventView, TagView}
 use Rattle.markdown_base.specs.Forest.{Forest, nil, node}
 use Rattle.markdown_base.specs.declared.item.ItemBody.{ItemBody}
@@ -12,12 +12,13 @@ use Rattle.markdown_document.specs.Setting.{Known}
 use Rattle.markdown_brackets.specs.BracketDecision.{Around, Closing, Progress}
 use Rattle.markdown_brackets.specs.ChainBegins.{BeginsLaw, BeginsSo, BeginsWith, trees_of}
 use Rattle.markdown_brackets.specs.ClosingBracket.{footnote_onto}
-use Rattle.markdown_brackets.specs.LeftList.{Entry, Mark, Split, before_footnote, before_link, change_nearest}
-use Rattle.markdown_brackets.specs.LeftList.{disabled_mark, done, nearest, on_marks, opens_bracket, opens_wikilink}
-use Rattle.markdown_brackets.specs.LeftList.{second_folded, trees_onto, waits, without_bracket, without_wikilink}
+use Rattle.markdown_brackets.specs.LeftList.{Entry, Mark, Split, before_footnote}
+use Rattle.markdown_brackets.specs.LeftList.{done, nearest, opens_bracket, opens_wikilink}
+use Rattle.markdown_brackets.specs.LeftList.{trees_onto, waits, without_bracket, without_wikilink}
 use Rattle.markdown_brackets.specs.ReadChain.{Reader, begun, closing_of, read, read_as, read_chain}
 use Rattle.markdown_brackets.proofs.ClosingBracketLemmas.{Cases, in_each_case}
-use Rattle.markdown_brackets.proofs.LeftListLemmas.{split_at}
+use Rattle.markdown_brackets.proofs.LeftListLemmas.{Marked, same_change, same_before_link, same_before_wikilink}
+use Rattle.markdown_brackets.proofs.LeftListLemmas.{same_before_footnote, split_at}
 use Rattle.markdown_brackets.proofs.ReadChainLemmas.{Reads, chain_keeps}
 
 -- what is added after a tree does not change how the trees begin: so a rule that adds more trees keeps the first one
@@ -32,121 +33,111 @@ begins_onto test (waits m a ∷ left) one other k h = begins_onto test left (nod
 
 module _ {A : Type 0} (w : Around) (test : Shape → Bool) (events : (e : EventView) (origins : List Origin)
     → test (leaf e origins) ≡ true) (tags : (tag : TagView) → test (enclosed tag) ≡ true) where
-  -- the first tree of a left list passes, and where there is none, this holds
-  abbrev First : Type 0 → List (Entry A) → Type 0
-  First none [] = none
-  First none (done a below ∷ left) = First (test a.part.shape ≡ true) left
-  First none (waits m a ∷ left) = First (test a.part.shape ≡ true) left
+  -- the first tree of a left list passes, or this is true where there is none
+  abbrev First : Bool → List (Entry A) → Type 0
+  First none [] = none ≡ true
+  First none (done a below ∷ left) = First (test a.part.shape) left
+  First none (waits m a ∷ left) = First (test a.part.shape) left
+
+  abbrev begins : Forest (Label A) → Bool
+  begins nil = false
+  begins (node a below after) = test a.part.shape
 
   first-from_trees : (left : List (Entry A)) (later : Forest (Label A)) → BeginsWith test (trees_onto left later)
-      → First (BeginsWith test later) left
-  first-from_trees [] later h = h
+      → First (begins later) left
+  first-from_trees [] nil h = absurd h
+  first-from_trees [] (node a below after) h = h
   first-from_trees (done a below ∷ left) later h = first-from_trees left (node a below later) h
   first-from_trees (waits m a ∷ left) later h = first-from_trees left (node a nil later) h
 
-  first-trees : (left : List (Entry A)) (later : Forest (Label A)) → First (BeginsWith test later) left
+  first-trees : (left : List (Entry A)) (later : Forest (Label A)) → First (begins later) left
       → BeginsWith test (trees_onto left later)
-  first-trees [] later h = h
+  first-trees [] nil h = cc h
+  first-trees [] (node a below after) h = h
   first-trees (done a below ∷ left) later h = first-trees left (node a below later) h
   first-trees (waits m a ∷ left) later h = first-trees left (node a nil later) h
 
   -- what follows it has no effect
-  first_or : {none other : Type 0} (left : List (Entry A)) → (none → other) → First none left → First other left
+  first_or : {none other : Bool} (left : List (Entry A)) → (none ≡ true → other ≡ true) → First none left
+      → First other left
   first_or [] k h = k h
   first_or (done a below ∷ left) k h = h
   first_or (waits m a ∷ left) k h = h
 
   -- nor do flags
-  first_marks : (f : Mark → Mark) (none : Type 0) (left : List (Entry A)) → First none left
-      → First none (on_marks f left)
-  first_marks f none [] h = h
-  first_marks f none (done a below ∷ left) h = first_marks f (test a.part.shape ≡ true) left h
-  first_marks f none (waits m a ∷ left) h = first_marks f (test a.part.shape ≡ true) left h
-
-  first_second : (none : Type 0) (left : List (Entry A)) → First none left → First none (second_folded left)
-  first_second none [] h = h
-  first_second none (done a below ∷ left) h = h
-  first_second none (waits m a ∷ left) h = h
-
-  first_change : (opens : Mark → Bool) (f : Mark → Mark) (none : Type 0) (left : List (Entry A)) → First none left
-      → First none (change_nearest opens f left)
-  first_change opens f none [] h = h
-  first_change opens f none (done a below ∷ left) h = first_change opens f (test a.part.shape ≡ true) left h
-  first_change opens f none (waits m a ∷ left) h = by (opens m) (first_change opens f (test a.part.shape ≡ true) left h)
-    where
-      by : (b : Bool) → First (test a.part.shape ≡ true) (change_nearest opens f left)
-          → First none (if b then waits (f m) a ∷ left else waits m a ∷ change_nearest opens f left)
-      by true k = h
-      by false k = k
-
-  first_before_link : (is_image : Bool) (none : Type 0) (left : List (Entry A)) → First none left
-      → First none (before_link is_image left)
-  first_before_link true none left h = first_second none left h
-  first_before_link false none left h = first_marks disabled_mark none (second_folded left) (first_second none left h)
+  first_marked : Marked {A = A} (λ m n. ⊤) (λ left left'. (none : Bool) → First none left → First none left')
+  first_marked = record {
+    equal = λ m. tt;
+    bracket = λ m. tt;
+    wikilink = λ m. tt;
+    disabled = λ m. tt;
+    empty = λ none h. h;
+    tree = λ a below left left' k none h. k (test a.part.shape) h;
+    opener = λ m n a left left' low k none h. k (test a.part.shape) h;
+    twice = λ one two three k l none h. l none (k none h);
+  }
 
   -- before an opener; where nothing is before it, it is first itself
   abbrev IsFirstAt : Split A → Type 0
-  IsFirstAt o = First (test o.opener.part.shape ≡ true) o.before
+  IsFirstAt o = First (test o.opener.part.shape) o.before
 
-  first_split : (none : Type 0) (after before : List (Entry A)) (m : Mark) (a : Label A)
-      → First none (after ++ waits m a ∷ before) → First (test a.part.shape ≡ true) before
+  first_split : (none : Bool) (after before : List (Entry A)) (m : Mark) (a : Label A)
+      → First none (after ++ waits m a ∷ before) → First (test a.part.shape) before
   first_split none [] before m a h = h
-  first_split none (done b below ∷ after) before m a h = first_split (test b.part.shape ≡ true) after before m a h
-  first_split none (waits n b ∷ after) before m a h = first_split (test b.part.shape ≡ true) after before m a h
+  first_split none (done b below ∷ after) before m a h = first_split (test b.part.shape) after before m a h
+  first_split none (waits n b ∷ after) before m a h = first_split (test b.part.shape) after before m a h
 
   first_nearest : (opens : Mark → Bool) (left : List (Entry A)) (o : Split A) → nearest opens left ≡ Some o
-      → First ⊤ left → IsFirstAt o
+      → First true left → IsFirstAt o
   first_nearest opens left o e h =
-      first_split ⊤ o.after o.before o.mark o.opener (subst (First ⊤) (split_at opens left o e) h)
+      first_split true o.after o.before o.mark o.opener (subst (First true) (split_at opens left o e) h)
 
   module _ (c : Closing A) where
-    first_footnote : (is_image : Bool) (a : Label A) (name : List ℕ) (none : Type 0) (before : List (Entry A))
+    first_footnote : (is_image : Bool) (a : Label A) (name : List ℕ) (none : Bool) (before : List (Entry A))
         → First none before
-        → First ⊥ (footnote_onto w c is_image a name before)
+        → First false (footnote_onto w c is_image a name before)
     first_footnote true a name none before h = first_or before (λ k. events _ _) h
     first_footnote false a name none before h = first_or before (λ k. events _ _) h
 
     -- a `]` puts a tree where there is none, and keeps what is first
-    first_cases : Cases w c (First ⊤) (First ⊥)
+    first_cases : Cases w c (First true) (First false)
     first_cases = record {
-      bracket_goes = first_change opens_bracket without_bracket ⊤;
-      wikilink_goes = first_change opens_wikilink without_wikilink ⊤;
+      bracket_goes = λ left. same_change first_marked opens_bracket without_bracket (λ m. tt) left true;
+      wikilink_goes = λ left. same_change first_marked opens_wikilink without_wikilink (λ m. tt) left true;
       text = λ left h. first_or left (λ k. events _ _) h;
       link = λ left o target end h found live.
           let at = first_nearest opens_bracket left o found h in
-          first_before_link o.mark.is_image _ o.before (first_or o.before (λ k. tags _) at);
+          same_before_link first_marked o.mark.is_image o.before _ (first_or o.before (λ k. tags _) at);
       footnote = λ left o name h found live.
           let at = first_nearest opens_bracket left o found h in
-          let opener : Type 0 = test o.opener.part.shape ≡ true in
-          first_footnote o.mark.is_image o.opener name opener (before_footnote o.before)
-          (first_marks without_bracket opener (second_folded o.before) (first_second opener o.before at));
+          first_footnote o.mark.is_image o.opener name _ (before_footnote o.before)
+          (same_before_footnote first_marked o.before _ at);
       wikilink = λ left o v end h found live is.
           let at = first_nearest opens_wikilink left o found h in
-          first_marks without_wikilink _ (on_marks disabled_mark o.before)
-          (first_marks disabled_mark _ o.before (first_or o.before (λ k. tags _) at));
+          same_before_wikilink first_marked o.before _ (first_or o.before (λ k. tags _) at);
     }
 
   module _ (others : Reader A) (rule : BeginsSo test others) where
     -- an open item puts a first tree
     first_put : (b : ItemBody) (a : Label A) (below rest : Forest (Label A)) (known : Known)
         → is_unresolved a.part.shape ≡ true
-        → First ⊥ (read_as w others b a below rest (begun known)).left
+        → First false (read_as w others b a below rest (begun known)).left
     first_put body.MaybeLinkOpen a below rest known h = events _ _
     first_put body.MaybeImage a below rest known h = events _ _
     first_put (body.MaybeLinkClose could) a below rest known h =
-        in_each_case w (closing_of could a rest (begun known)) (First ⊤) (First ⊥)
+        in_each_case w (closing_of could a rest (begun known)) (First true) (First false)
         (first_cases (closing_of could a rest (begun known)))
-        (begun known) tt
+        (begun known) refl
     first_put other a below rest known h = first-from_trees (others a below rest (begun known)).left nil
         (rule.puts a below rest known h)
 
     -- and each later item keeps one
-    first_reads : Reads w others (λ chain p. First ⊥ p.left)
+    first_reads : Reads w others (λ chain p. First false p.left)
     first_reads = record {
       opens = λ i a below rest p h. first_or p.left (λ k. events _ _) h;
       closes = λ could a below rest p e h.
           let c : Closing A = closing_of could a rest p in
-          in_each_case w c (First ⊤) (First ⊥) (first_cases c) p (first_or p.left (λ k. tt) h);
+          in_each_case w c (First true) (First false) (first_cases c) p (first_or p.left (λ k. refl) h);
       other = λ a below rest p h. first-from_trees (others a below rest p).left nil
           (rule.keeps a below rest p (first-trees p.left nil h));
       passes = λ a below rest p h. h;

@@ -79,53 +79,49 @@ none_from source start end target h = by target.link_type h
     by kind.Inline h = absurd h
     by other h = tt
 
--- where nobody is asked and no end is used up
-comes_unasked : {C : Type 0} (step : C → Question → Option Answer → C → Type 0) (w : Around) (old new : LabelLookup C)
-    (spent : SpentEnds) (x : Option (Written ℕ)) (becomes : Becomes ℕ) (found : ClosedBracket)
-    → new.callback ≡ old.callback
-    → ((p : Progress ℕ) (later : Answers)
-    → carried_out w x (knowing old.limit later (uses_of old.tables.footdefs) p)
-    ≡ to_be becomes (knowing new.limit later (uses_of new.tables.footdefs) p))
-    → IsBecome w becomes found → ComesTo step w x old new spent spent found
-comes_unasked step w old new spent x becomes found callback carried is = record {
-  answers = [];
-  questions = [];
-  asked = sym callback;
-  becomes = becomes;
-  more = [];
-  comes = λ p later.
-      let now : Progress ℕ = knowing new.limit later (uses_of new.tables.footdefs) p in
-      carried p later
-      ∙ ap (λ (asked : List Question). to_be becomes (record now { asked = asked })) (sym (append-nil p.asked));
-  spends = λ end. refl;
-  is = is;
-}
+module _ {C : Type 0} (step : C → Question → Option Answer → C → Type 0) (w : Around) (old : LabelLookup C)
+    (spent : SpentEnds) where
+  -- where nobody is asked and no end is used up
+  comes_unasked : (new : LabelLookup C) (x : Option (Written ℕ)) (becomes : Becomes ℕ) (found : ClosedBracket)
+      → new.callback ≡ old.callback
+      → ((p : Progress ℕ) (later : Answers)
+      → carried_out w x (knowing old.limit later (uses_of old.tables.footdefs) p)
+      ≡ to_be becomes (knowing new.limit later (uses_of new.tables.footdefs) p))
+      → IsBecome w becomes found → ComesTo step w x old new spent spent found
+  comes_unasked new x becomes found callback carried is = record {
+    answers = [];
+    questions = [];
+    asked = sym callback;
+    becomes = becomes;
+    more = [];
+    comes = λ p later.
+        let now : Progress ℕ = knowing new.limit later (uses_of new.tables.footdefs) p in
+        carried p later
+        ∙ ap (λ (asked : List Question). to_be becomes (record now { asked = asked })) (sym (append-nil p.asked));
+    spends = λ end. refl;
+    is = is;
+  }
 
--- where nothing is found
-pub comes_to_text : {C : Type 0} (step : C → Question → Option Answer → C → Type 0) (w : Around) (old : LabelLookup C)
-    (spent : SpentEnds)
-    → ComesTo step w None old old spent spent Text
-comes_to_text step w old spent = comes_unasked step w old old spent None a_text Text refl (λ p later. refl) tt
+  -- where nothing is found
+  pub comes_to_text : ComesTo step w None old old spent spent Text
+  comes_to_text = comes_unasked old None a_text Text refl (λ p later. refl) tt
 
--- an inline link
-pub comes_to_tail : {C : Type 0} (step : C → Question → Option Answer → C → Type 0) (w : Around) (old : LabelLookup C)
-    (spent : SpentEnds)
-    (o : Split ℕ) (other : Option (Written ℕ)) (t : Option scanned.LinkTail) (tail : LinkTail) (found : ClosedBracket)
-    → ReadsTail w.above.in_table t (Some tail)
-    → ((t : scanned.LinkTail) → IsTail w.above.in_table t tail → IsBecome w (a_link o (inline_target w t) t.ends t.ends)
-    found)
-    → ComesTo step w (option_or (option_map (inline_link o) t) other) old old spent spent found
-comes_to_tail step w old spent o other None tail found reads is = absurd reads
-comes_to_tail step w old spent o other (Some t) tail found reads is = comes_unasked step w old old spent
-    (Some (inline_link o t)) (a_link o (inline_target w t) t.ends t.ends) found refl (λ p later. refl) (is t reads)
+  -- an inline link
+  pub comes_to_tail : (o : Split ℕ) (other : Option (Written ℕ)) (t : Option scanned.LinkTail) (tail : LinkTail)
+      (found : ClosedBracket) → ReadsTail w.above.in_table t (Some tail)
+      → ((t : scanned.LinkTail) → IsTail w.above.in_table t tail
+      → IsBecome w (a_link o (inline_target w t) t.ends t.ends) found)
+      → ComesTo step w (option_or (option_map (inline_link o) t) other) old old spent spent found
+  comes_to_tail o other None tail found reads is = absurd reads
+  comes_to_tail o other (Some t) tail found reads is = comes_unasked old (Some (inline_link o t))
+      (a_link o (inline_target w t) t.ends t.ends) found refl (λ p later. refl) (is t reads)
 
 -- by another name of what was found
 pub found_as : {C : Type 0} {step : C → Question → Option Answer → C → Type 0} {w : Around} {old new : LabelLookup C}
     {spent spent' : SpentEnds} {found : ClosedBracket} {x y : Option (Written ℕ)} → x ≡ y
     → ComesTo step w x old new spent spent' found
     → ComesTo step w y old new spent spent' found
-found_as {step = step} {w = w} {old = old} {new = new} {spent = spent} {spent' = spent'} {found = found} e h =
-    subst (λ x. ComesTo step w x old new spent spent' found) e h
+found_as e h = rw e at h
 
 -- a full reference uses up the end of its label
 pub spends_end : (end : ℕ) (spent spent' : SpentEnds)
@@ -194,17 +190,16 @@ module _ {C : Type 0} (step : C → Question → Option Answer → C → Type 0)
     pub comes_to_footnote : is_one ≡ true → (found : ClosedBracket) → IsBecome w (a_footnote o name) found
         → ComesTo step w (footnote_written w o name) old new spent spent found
     comes_to_footnote one found is = found_as (rw one refl)
-        (comes_unasked step w old new spent (Some (footnote_label o name)) (a_footnote o name) found callback
+        (comes_unasked step w old spent new (Some (footnote_label o name)) (a_footnote o name) found callback
         (λ p later. ap (to_be (a_footnote o name))
         (knows_uses (is_some (footnote_at old.tables.footdefs name)) refl p later)) is)
 
     pub comes_to_no_footnote : is_one ≡ false → ComesTo step w (footnote_written w o name) old new spent spent Text
-    comes_to_no_footnote none = found_as (rw none refl) (comes_unasked step w old new spent None a_text Text callback
+    comes_to_no_footnote none = found_as (rw none refl) (comes_unasked step w old spent new None a_text Text callback
         (λ p later. ap (to_be a_text) (knows_uses false
         (none_defined (footnote_style place.options) (is_some (footnote_at old.tables.footdefs name)) none) p later))
         tt)
       where
         none_defined : (how : FootnoteStyle) (d : Bool) → is_reference how d ≡ false → d ≡ false
-        none_defined style.Off d e = e
-        none_defined style.Gfm d e = e
         none_defined style.Old d e = cc
+        none_defined other d e = e

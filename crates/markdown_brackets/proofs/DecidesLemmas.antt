@@ -1,5 +1,5 @@
 -- The decision at a `]` is the wikilink that was found, or what its opener comes to.
-use Rattle.std.proofs.Common.{◌≡◌, ℕ, ◌++◌, Bool, List, [], Option, Some, None, refl, sym, ◌∙◌, ap, subst}
+use Rattle.std.proofs.Common.{◌≡◌, ℕ, ◌++◌, Bool, List, [], Option, Some, None, refl, sym, ◌∙◌, ap}
 use Rattle.std.proofs.Common.{append-nil}
 use Rattle.std.specs.Option.{option_and_then}
 use Rattle.std.specs.Prelude.{IfSome}
@@ -8,13 +8,11 @@ use Rattle.markdown_base.specs.BlockTree.{item_at}
 use Rattle.markdown_base.specs.Questions.{Question, Answer}
 use Rattle.markdown_base.specs.declared.item.Item.{Item}
 use Rattle.markdown_base.specs.declared.node.Node.{Node}
-use Rattle.markdown_document.specs.ChainRest.{end_of}
 use Rattle.markdown_document.specs.Setting.{Known, uses_of}
 use Rattle.markdown_brackets.specs.BracketDecision.{Around, Closing, Decision, Progress, a_wikilink, bracket_found}
 use Rattle.markdown_brackets.specs.BracketDecision.{to_be}
 use Rattle.markdown_brackets.specs.Decides.{Decides, StandsBefore}
 use Rattle.markdown_brackets.specs.DecisionView.{knowing}
-use Rattle.markdown_brackets.specs.Finish.{SplitsAs}
 use Rattle.markdown_brackets.specs.LeftList.{Entry, Split, nearest, opens_bracket, without_bracket, bracket_taken}
 use Rattle.markdown_brackets.specs.LeftList.{wikilink_taken}
 use Rattle.markdown_brackets.specs.HeldOpeners.{brackets_of}
@@ -78,8 +76,7 @@ module _ {C : Type 0} (step : C → Question → Option Answer → C → Type 0)
     splits =
         let none : Known = record { limit = 0; answers = []; uses = λ name. 0 } in
         let start : Progress ℕ = begun none in
-        subst (λ becomes. SplitsAs (bracket_taken t.left_then) becomes)
-        (ap (λ (d : Decision ℕ). d.becomes) (h.comes start []))
+        rw (ap (λ (d : Decision ℕ). d.becomes) (h.comes start [])) at
         (opener_splits w c (bracket_taken t.left_then) (nearest opens_bracket t.left_then)
         (knowing lookup.limit (h.answers ++ []) (uses_of lookup.tables.footdefs) start)
         (taken_splits opens_bracket without_bracket t.left_then));
@@ -103,8 +100,8 @@ module _ {C : Type 0} (step : C → Question → Option Answer → C → Type 0)
         tables = s.tables;
         rest = there.holds;
         rest_found = found_at s.source s.tables nodes (sibling_of nodes closer) c.rest there;
-        ends = subst (λ n. (item_at nodes n).end ≡ end_of c.label) s.number (same_end s.source s.tables nodes c.label
-            (closer_found nodes closer left c s).holds.2);
+        ends = rw s.number at
+            (same_end s.source s.tables nodes c.label (closer_found nodes closer left c s).holds.2);
         could = could;
         openers = by taken (nearest opens_bracket t.left_then)
             (is_nearest for_bracket taken old new _ _ _ m (old_is ∙ sym t.brackets) (top_bracket t.left_then))

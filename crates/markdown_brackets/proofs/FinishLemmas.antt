@@ -14,7 +14,7 @@ use Rattle.markdown_brackets.specs.BracketDecision.{Around, Becomes, Closing, Pr
 use Rattle.markdown_brackets.specs.BracketDecision.{a_wikilink}
 use Rattle.markdown_brackets.specs.ChainHeld.{Holds, numbers_of}
 use Rattle.markdown_brackets.specs.ClosingBracket.{footnote_onto, put}
-use Rattle.markdown_brackets.specs.DecisionView.{IsBecome, opener_of}
+use Rattle.markdown_brackets.specs.DecisionView.{IsBecome}
 use Rattle.markdown_brackets.specs.Decides.{EachOpener, StandsBefore}
 use Rattle.markdown_brackets.specs.Finish.{AreBehind, AreRising, IsSplit, LeftRises, SplitsAs}
 use Rattle.markdown_brackets.specs.LeftList.{Entry, Flag, Mark, Split, before_footnote, before_link, before_wikilink}
@@ -80,24 +80,27 @@ LinksOn nodes n (e ∷ left) = (number_of e < n) × (sibling_of nodes (number_of
     × LinksOn nodes (number_of e) left
 
 -- numbers that rise
+-- a fact of the numbers of all trees is one of those that are later
+numbers_from : (P : List ℕ → Type 0) → ((m : ℕ) (numbers : List ℕ) → P (m ∷ numbers) → P numbers)
+    → (left : List (Entry ℕ)) (f : Forest (Label ℕ)) → P (roots (numbers_of (trees_onto left f)))
+    → P (roots (numbers_of f))
+numbers_from P later [] f h = h
+numbers_from P later (done a below ∷ left) f h = later _ _ (numbers_from P later left (node a below f) h)
+numbers_from P later (waits m a ∷ left) f h = later _ _ (numbers_from P later left (node a nil f) h)
+
 rising_from : (left : List (Entry ℕ)) (f : Forest (Label ℕ)) → AreRising (roots (numbers_of (trees_onto left f)))
     → AreRising (roots (numbers_of f))
-rising_from [] f h = h
-rising_from (done a below ∷ left) f h = (rising_from left (node a below f) h).1
-rising_from (waits m a ∷ left) f h = (rising_from left (node a nil f) h).1
+rising_from = numbers_from AreRising (λ m numbers h. h.1)
 
-behind_from : (n : ℕ) (left : List (Entry ℕ)) (f : Forest (Label ℕ))
-    → AreBehind n (roots (numbers_of (trees_onto left f)))
+behind : (n : ℕ) (left : List (Entry ℕ)) (f : Forest (Label ℕ)) → AreBehind n (roots (numbers_of (trees_onto left f)))
     → AreBehind n (roots (numbers_of f))
-behind_from n [] f h = h
-behind_from n (done a below ∷ left) f h = (behind_from n left (node a below f) h).1
-behind_from n (waits m a ∷ left) f h = (behind_from n left (node a nil f) h).1
+behind n = numbers_from (AreBehind n) (λ m numbers h. h.1)
 
 after_all : (n : ℕ) (left : List (Entry ℕ)) (f : Forest (Label ℕ))
     → AreBehind n (roots (numbers_of (trees_onto left f))) → AreAfter n left
 after_all n [] f h = tt
-after_all n (done a below ∷ left) f h = ((behind_from n left (node a below f) h).0, after_all n left (node a below f) h)
-after_all n (waits m a ∷ left) f h = ((behind_from n left (node a nil f) h).0, after_all n left (node a nil f) h)
+after_all n (done a below ∷ left) f h = ((behind n left (node a below f) h).0, after_all n left (node a below f) h)
+after_all n (waits m a ∷ left) f h = ((behind n left (node a nil f) h).0, after_all n left (node a nil f) h)
 
 -- each node of the left list leads to the next
 links_on : (source : List ℕ) (tables : Tables) (nodes : List (Node Item)) (first : Option ℕ) (left : List (Entry ℕ))
@@ -108,20 +111,12 @@ links_on : (source : List ℕ) (tables : Tables) (nodes : List (Node Item)) (fir
 links_on source tables nodes first [] a below later below' later' h r = tt
 links_on source tables nodes first (done b under ∷ left) a below later below' later' h r =
     let at = Holds-from source tables nodes first left (node b under (node a below later)) h in
-    let rises = rising_from left (node b under (node a below' later')) r in (
-      rises.0.0,
-      at.1.4.0,
-      links_on source tables nodes first left b under (node a below later) under
-          (node a below' later') h r,
-    )
+    let rises = rising_from left (node b under (node a below' later')) r in
+    (rises.0.0, at.1.4.0, links_on source tables nodes first left b under _ under _ h r)
 links_on source tables nodes first (waits m b ∷ left) a below later below' later' h r =
     let at = Holds-from source tables nodes first left (node b nil (node a below later)) h in
-    let rises = rising_from left (node b nil (node a below' later')) r in (
-      rises.0.0,
-      at.1.4.0,
-      links_on source tables nodes first left b nil (node a below later) nil (node a below' later')
-          h r,
-    )
+    let rises = rising_from left (node b nil (node a below' later')) r in
+    (rises.0.0, at.1.4.0, links_on source tables nodes first left b nil _ nil _ h r)
 
 links_folded : (nodes : List (Node Item)) (n : ℕ) (left : List (Entry ℕ)) → LinksOn nodes n left
     → LinksOn nodes n (second_folded left)
@@ -274,34 +269,29 @@ module _ (nodes : List (Node Item)) (closer : ℕ) (left : List (Entry ℕ)) (c 
       links_on s.source s.tables nodes s.first o.before o.opener nil (trees_onto h.after_then (node c.label nil c.rest))
       nil
       (trees_onto h.after_then nil)
-      (subst (λ (f : Forest (Label ℕ)). Holds s.source s.tables nodes s.first f) (onto (node c.label nil c.rest))
-      s.holds) rising
+      (rw (onto (node c.label nil c.rest)) at s.holds) rising
 
   later : AreAfter n h.after_then
   later = after_all n h.after_then nil (rising_from o.before (node o.opener nil (trees_onto h.after_then nil)) rising).0
 
   before_by : (flag : Mark → Flag) → before n (held_by flag left) ≡ held_by flag o.before
   before_by flag =
-      ap (λ (l : List (Entry ℕ)). before n (held_by flag l)) h.left_is
-      ∙ before_opener flag nodes h.mark_then o.opener h.after_then o.before later links
+      rw h.left_is (before_opener flag nodes h.mark_then o.opener h.after_then o.before later links)
 
   brackets_before : before n (brackets_of left) ≡ brackets_of o.before
   brackets_before = ap (before n) (brackets_by left) ∙ before_by for_bracket ∙ sym (brackets_by o.before)
 
   wikilinks_second : without_second nodes n (before n (wikilinks_of left)) ≡ wikilinks_of (second_folded o.before)
   wikilinks_second =
-      ap (λ (held : List Waiting). without_second nodes n (before n held)) (wikilinks_by left)
-      ∙ ap (without_second nodes n) (before_by for_wikilink)
-      ∙ second_gone nodes n o.before links
-      ∙ sym (wikilinks_by (second_folded o.before))
+      rw (wikilinks_by left, before_by for_wikilink, wikilinks_by (second_folded o.before))
+      (second_gone nodes n o.before links)
 
   -- they stay
   wikilinks_left : before n (without_second nodes n (before n (wikilinks_of left)))
       ≡ wikilinks_of (second_folded o.before)
   wikilinks_left =
-      ap (before n) (wikilinks_second ∙ wikilinks_by (second_folded o.before))
-      ∙ stays_all for_wikilink nodes n n (second_folded o.before) (links_folded nodes n o.before links) (omega arith)
-      ∙ sym (wikilinks_by (second_folded o.before))
+      rw (wikilinks_second, wikilinks_by (second_folded o.before))
+      (stays_all for_wikilink nodes n n (second_folded o.before) (links_folded nodes n o.before links) (omega arith))
 
   -- before a link or an image
   link_brackets : (i : Bool)
@@ -321,16 +311,13 @@ module _ (nodes : List (Node Item)) (closer : ℕ) (left : List (Entry ℕ)) (c 
       ∙ sym (all_disabled (second_folded o.before)).1
 
   -- before a footnote reference
-  footnote_brackets : (w : Around) (i : Bool) (name : List ℕ)
-      → [] ≡ brackets_of (footnote_onto w c i o.opener name (before_footnote o.before))
-  footnote_brackets w true name = sym (no_brackets (second_folded o.before)).0
-  footnote_brackets w false name = sym (no_brackets (second_folded o.before)).0
-
-  footnote_wikilinks : (w : Around) (i : Bool) (name : List ℕ)
-      → before n (without_second nodes n (before n (wikilinks_of left)))
-      ≡ wikilinks_of (footnote_onto w c i o.opener name (before_footnote o.before))
-  footnote_wikilinks w true name = wikilinks_left ∙ sym (no_brackets (second_folded o.before)).1
-  footnote_wikilinks w false name = wikilinks_left ∙ sym (no_brackets (second_folded o.before)).1
+  footnote_stacks : (w : Around) (i : Bool) (name : List ℕ)
+      → let to = footnote_onto w c i o.opener name (before_footnote o.before) in
+      ([] ≡ brackets_of to) × (before n (without_second nodes n (before n (wikilinks_of left))) ≡ wikilinks_of to)
+  footnote_stacks w true name =
+      let none = no_brackets (second_folded o.before) in (sym none.0, wikilinks_left ∙ sym none.1)
+  footnote_stacks w false name =
+      let none = no_brackets (second_folded o.before) in (sym none.0, wikilinks_left ∙ sym none.1)
 
   -- before a wikilink
   wikilink_brackets : map openers.disabled_opener (before n (brackets_of left)) ≡ brackets_of (before_wikilink o.before)
@@ -366,33 +353,20 @@ pub finished : (nodes : List (Node Item)) (found : ClosedBracket)
 finished nodes Text brackets wikilinks brackets' wikilinks' f w c closer left a_text p s rises split is eb ew ep =
     (f.0 ∙ eb ∙ ap brackets_of (sym ep), f.1 ∙ ew ∙ ap wikilinks_of (sym ep))
 finished nodes (Link opener target end next) brackets wikilinks brackets' wikilinks' f w c closer left
-    (a_link o view to on) p s rises split
-    is eb ew ep = (
-      f.0 ∙ ap (λ (at : Opener). openers.waiting_before_link at brackets) is.0
-          ∙ ap (openers.waiting_before_link (opener_of o)) eb
-          ∙ link_brackets nodes closer left c s rises o split o.mark.is_image,
-      f.1 ∙ ap (λ (at : Opener). openers.waiting_before_link at
-          (without_second nodes at.node (before at.node wikilinks))) is.0
-          ∙ ap (λ (held : List Waiting). openers.waiting_before_link (opener_of o)
-          (without_second nodes o.opener.tag (before o.opener.tag held)))
-          ew
-          ∙ link_wikilinks nodes closer left c s rises o split o.mark.is_image,
+    (a_link o view to on) p s rises split is eb ew ep =
+    let left_then = rw (is.0, eb, ew) at f in (
+      left_then.0 ∙ link_brackets nodes closer left c s rises o split o.mark.is_image,
+      left_then.1 ∙ link_wikilinks nodes closer left c s rises o split o.mark.is_image,
     )
 finished nodes (Footnote opener label) brackets wikilinks brackets' wikilinks' f w c closer left (a_footnote o name) p s
-    rises split is eb
-    ew ep = (
-      f.0 ∙ footnote_brackets nodes closer left c s rises o split w o.mark.is_image name,
-      f.1 ∙ ap (λ (at : Opener). before at.node (without_second nodes at.node (before at.node wikilinks))) is.0
-          ∙ ap (λ (held : List Waiting). before o.opener.tag
-          (without_second nodes o.opener.tag (before o.opener.tag held))) ew
-          ∙ footnote_wikilinks nodes closer left c s rises o split w o.mark.is_image name,
-    )
+    rises split is eb ew ep =
+    let stacks = footnote_stacks nodes closer left c s rises o split w o.mark.is_image name in
+    let left_then = rw (is.0, ew) at f in (left_then.0 ∙ stacks.0, left_then.1 ∙ stacks.1)
 finished nodes (Wikilinked opener label has_pothole shown end) brackets wikilinks brackets' wikilinks' f w c closer left
-    (a_wikilink o found to) p s rises split is eb ew ep = (
-      f.0 ∙ ap (λ (at : Opener). openers.waiting_before_wikilink at.node brackets) is.0
-          ∙ ap (openers.waiting_before_wikilink o.opener.tag) eb
-          ∙ wikilink_brackets nodes closer left c s rises o split,
-      f.1 ∙ wikilink_wikilinks nodes closer left c s rises o split,
+    (a_wikilink o found to) p s rises split is eb ew ep =
+    let left_then = rw (is.0, eb) at f in (
+      left_then.0 ∙ wikilink_brackets nodes closer left c s rises o split,
+      left_then.1 ∙ wikilink_wikilinks nodes closer left c s rises o split,
     )
 finished nodes found brackets wikilinks brackets' wikilinks' f w c closer left becomes p s rises split is eb ew ep
     = absurd is

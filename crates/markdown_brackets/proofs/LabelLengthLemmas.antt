@@ -1,4 +1,5 @@
--- No label is longer than the bytes that it is read from, and so a block that ends before a `]` has no label up to it.
+-- What a label is read from, case by case. None is longer than those bytes, and so a block that ends before a `]` has
+-- no label up to it.
 use Rattle.std.proofs.Common.{◌≡◌, ℕ, zero, suc, ◌+◌, ◌-◌, ◌<◌, ◌≤◌, Bool, true, false, ◌==◌, List, [], ◌∷◌, Option}
 use Rattle.std.proofs.Common.{Some, None, length, refl, ap, arith, take, drop, if◌then◌else◌, is_none, unwrap_or}
 use Rattle.std.proofs.Common.{IfSome, length-drop}
@@ -51,8 +52,35 @@ body_stands skipped escaped zero (b ∷ bytes) =
     by false false (Some n) h = one_more (length bytes) (b ∷ []) (body later (label_bytes skipped n bytes)) (h n)
 
 -- a label has at most n bytes, and at least one
-Fits : ℕ → FoundLabel → Type 0
+pub Fits : ℕ → FoundLabel → Type 0
 Fits size l = (0 < l.length) × (l.length ≤ size)
+
+-- what a label is read from, after so many bytes before those
+pub record IsRead (skipped : List ℕ → Option ℕ) (before : ℕ) (bytes : List ℕ) (l : FoundLabel) : Type 0 where
+  pub place : ℕ
+  pub text : List ℕ
+  pub closes : body false (label_bytes skipped 0 bytes) ≡ Some (place, text)
+  pub long : l.length ≡ before + place + 1
+
+read_fits : (before size : ℕ) (skipped : List ℕ → Option ℕ) (bytes : List ℕ) (l : FoundLabel)
+    → IsRead skipped before bytes l → before + length bytes ≤ size → Fits size l
+unfolding StandsIn Fits
+read_fits before size skipped bytes l r within =
+    let inside : r.place < length bytes = rw r.closes at (body_stands skipped false 0 bytes) in
+    (omega (arith, r.long), omega (arith, r.long, inside, within))
+
+-- a footnote's label fits
+abbrev IsFootnote : ℕ → FoundLabel → Type 0
+IsFootnote size l = (l.is_footnote ≡ true) × Fits size l
+
+-- a label from this byte on fits, and if it is no footnote's, it is read after a `[`
+abbrev pub ReadsAfter : (List ℕ → Option ℕ) → ℕ → List ℕ → FoundLabel → Type 0
+ReadsAfter skipped b bytes l =
+    Fits (suc (length bytes)) l × (l.is_footnote ≡ false → ((b == 91) ≡ true) × IsRead skipped 1 bytes l)
+
+if_also : {X : Type 0} {P Q : X → Type 0} (o : Option X) → IfSome o P → ((x : X) → P x → Q x) → IfSome o Q
+if_also None h k = tt
+if_also (Some x) h k = k x h
 
 module _ (in_table : Bool) where
   abbrev squeezed : ℕ × List ℕ → ℕ × List ℕ
@@ -61,59 +89,66 @@ module _ (in_table : Bool) where
   abbrev if_fits : ℕ × List ℕ → Option (ℕ × List ℕ)
   if_fits f = if fits_label f.1 then Some f else None
 
-  link_fits : (is_footnote : Bool) (before size : ℕ) (skipped : List ℕ → Option ℕ) (bytes : List ℕ) → 0 < before
-      → before + length bytes ≤ size
-      → IfSome (label_past is_footnote before (link_label skipped in_table bytes)) (Fits size)
-  unfolding StandsIn Fits
-  link_fits is_footnote before size skipped bytes some within =
-      by (body false (label_bytes skipped 0 bytes)) (body_stands skipped false 0 bytes)
+  link_read : (is_footnote : Bool) (before : ℕ) (skipped : List ℕ → Option ℕ) (bytes : List ℕ)
+      → IfSome (label_past is_footnote before (link_label skipped in_table bytes))
+      (λ l. (l.is_footnote ≡ is_footnote) × IsRead skipped before bytes l)
+  link_read is_footnote before skipped bytes = by (body false (label_bytes skipped 0 bytes)) refl
     where
-      by : (found : Option (ℕ × List ℕ)) → StandsIn (length bytes) found
+      by : (found : Option (ℕ × List ℕ)) → body false (label_bytes skipped 0 bytes) ≡ found
           → IfSome (label_past is_footnote before
-          (option_map squeezed (option_and_then if_fits (with_shown in_table found)))) (Fits size)
-      by None h = tt
-      by (Some f) h = fitting (fits_label (shown in_table f.1))
+          (option_map squeezed (option_and_then if_fits (with_shown in_table found))))
+          (λ l. (l.is_footnote ≡ is_footnote) × IsRead skipped before bytes l)
+      by None e = tt
+      by (Some f) e = fitting (fits_label (shown in_table f.1))
         where
           fitting : (fits : Bool)
               → IfSome (label_past is_footnote before
               (option_map squeezed (if fits then Some (f.0, shown in_table f.1) else None)))
-              (Fits size)
-          fitting true = (omega (arith, some), omega (arith, h, within))
+              (λ l. (l.is_footnote ≡ is_footnote) × IsRead skipped before bytes l)
+          fitting true = (refl, record { place = f.0; text = f.1; closes = e; long = omega arith })
           fitting false = tt
 
-  caret_fits : (skipped : List ℕ → Option ℕ) (bytes : List ℕ)
-      → IfSome (label_past true 2 (label_after 94 skipped in_table bytes)) (Fits (suc (length bytes)))
-  caret_fits skipped [] = tt
-  caret_fits skipped (b ∷ bytes) = by (b == 94)
+  caret_read : (skipped : List ℕ → Option ℕ) (bytes : List ℕ)
+      → IfSome (label_past true 2 (label_after 94 skipped in_table bytes)) (IsFootnote (suc (length bytes)))
+  caret_read skipped [] = tt
+  caret_read skipped (b ∷ bytes) = by (b == 94)
     where
       by : (is : Bool) → IfSome
           (label_past true 2 (option_and_then (link_label skipped in_table) (if is then Some bytes else None)))
-          (Fits (suc (suc (length bytes))))
-      by true = link_fits true 2 (suc (suc (length bytes))) skipped bytes (omega arith) (omega arith)
+          (IsFootnote (suc (suc (length bytes))))
+      by true = if_also (label_past true 2 (link_label skipped in_table bytes)) (link_read true 2 skipped bytes)
+          (λ l h. (h.0, read_fits 2 (suc (suc (length bytes))) skipped bytes l h.1 (omega arith)))
       by false = tt
 
-  footnote_fits : (s : FootnoteStyle) (skipped : List ℕ → Option ℕ) (bytes : List ℕ)
-      → IfSome (footnote_label_in s skipped in_table bytes) (Fits (suc (length bytes)))
-  footnote_fits style.Off skipped bytes = tt
-  footnote_fits style.Gfm skipped bytes = caret_fits on_one_line bytes
-  footnote_fits style.Old skipped bytes = caret_fits skipped bytes
+  footnote_read : (s : FootnoteStyle) (skipped : List ℕ → Option ℕ) (bytes : List ℕ)
+      → IfSome (footnote_label_in s skipped in_table bytes) (IsFootnote (suc (length bytes)))
+  footnote_read style.Off skipped bytes = tt
+  footnote_read style.Gfm skipped bytes = caret_read on_one_line bytes
+  footnote_read style.Old skipped bytes = caret_read skipped bytes
+
+  pub label_read : (s : FootnoteStyle) (skipped : List ℕ → Option ℕ) (b : ℕ) (bytes : List ℕ)
+      → IfSome (bracket_label s skipped in_table (b ∷ bytes)) (ReadsAfter skipped b bytes)
+  label_read s skipped b bytes = by (b == 91) refl
+    where
+      or_link : (b == 91) ≡ true → (found : Option FoundLabel) → IfSome found (IsFootnote (suc (length bytes)))
+          → IfSome (option_or found (label_past false 1 (link_label skipped in_table bytes)))
+          (ReadsAfter skipped b bytes)
+      or_link is None h = if_also (label_past false 1 (link_label skipped in_table bytes))
+          (link_read false 1 skipped bytes)
+          (λ l h. (read_fits 1 (suc (length bytes)) skipped bytes l h.1 (omega arith), λ e. (is, h.1)))
+      or_link is (Some l) h = (h.1, λ e. absurd (let footnote = h.0 in cc))
+
+      by : (opens : Bool) → (b == 91) ≡ opens → IfSome
+          (option_and_then (label_after_bracket s skipped in_table) (if opens then Some bytes else None))
+          (ReadsAfter skipped b bytes)
+      by true is = or_link is (footnote_label_in s skipped in_table bytes) (footnote_read s skipped bytes)
+      by false is = tt
 
   label_fits : (s : FootnoteStyle) (skipped : List ℕ → Option ℕ) (bytes : List ℕ)
       → IfSome (bracket_label s skipped in_table bytes) (Fits (length bytes))
   label_fits s skipped [] = tt
-  label_fits s skipped (b ∷ bytes) = by (b == 91)
-    where
-      or_link : (found : Option FoundLabel) → IfSome found (Fits (suc (length bytes)))
-          → IfSome (option_or found (label_past false 1 (link_label skipped in_table bytes)))
-          (Fits (suc (length bytes)))
-      or_link None h = link_fits false 1 (suc (length bytes)) skipped bytes (omega arith) (omega arith)
-      or_link (Some l) h = h
-
-      by : (opens : Bool) → IfSome
-          (option_and_then (label_after_bracket s skipped in_table) (if opens then Some bytes else None))
-          (Fits (suc (length bytes)))
-      by true = or_link (footnote_label_in s skipped in_table bytes) (footnote_fits s skipped bytes)
-      by false = tt
+  label_fits s skipped (b ∷ bytes) =
+      if_also (bracket_label s skipped in_table (b ∷ bytes)) (label_read s skipped b bytes) (λ l h. h.0)
 
   pub no_label_past_block : (s : FootnoteStyle) (skipped : List ℕ → Option ℕ) (text : List ℕ) (block_end start end : ℕ)
       → block_end < end

@@ -1,24 +1,21 @@
 -- In a link label no `[` is directly after a `]`: one of the two would end the label, or forbid it. So no two labels
 -- end at the same byte offset if the second begins directly after a `]` in the first.
-use Rattle.std.proofs.Common.{◌≡◌, ℕ, zero, suc, ◌+◌, ◌-◌, ◌<◌, Bool, true, false, ◌||◌, ◌==◌, List, [], ◌∷◌, Option}
+use Rattle.std.proofs.Common.{◌≡◌, ℕ, zero, suc, ◌+◌, ◌-◌, ◌<◌, Bool, true, false, ◌||◌, List, [], ◌∷◌, Option}
 use Rattle.std.proofs.Common.{Some, None, length, refl, sym, ap, subst, ◌∙◌, arith, take, drop, get_or, drop-cons}
 use Rattle.std.proofs.Common.{length-drop, if◌then◌else◌, is_none, unwrap_or, nat_eq}
-use Rattle.std.specs.Prelude.{option_and_then}
 use Rattle.std.specs.List.{list_any}
-use Rattle.std.specs.Option.{option_map, option_or}
 use Rattle.std.proofs.lemmas.Bool.Decides.{nat_tests}
 use Rattle.std.proofs.lemmas.List.{drop-drop}
 use Rattle.std.proofs.lemmas.Option.{none-some, same_Some}
 use Rattle.markdown_base.specs.Bytes.{backslash}
 use Rattle.markdown_scan.specs.Backslash.{is_bare}
-use Rattle.markdown_scan.specs.Label.{refused, body, fits_label, label_bytes, link_label, put_before, shown}
-use Rattle.markdown_scan.specs.Label.{collapse_whitespace, with_shown}
+use Rattle.markdown_scan.specs.Label.{refused, body, label_bytes, put_before}
 use Rattle.markdown_scan.specs.LinePrefix.{ends_line, prefix_after}
 use Rattle.markdown_brackets.specs.QuestionEnds.{HoldsNoOpener}
-use Rattle.markdown_brackets.specs.Reference.{FoundLabel, footnote_label_in, label_after, label_after_bracket}
-use Rattle.markdown_brackets.specs.Reference.{bracket_label, label_past, on_one_line}
+use Rattle.markdown_brackets.specs.Reference.{FoundLabel}
+use Rattle.markdown_brackets.specs.Reference.{bracket_label}
 use Rattle.markdown_brackets.specs.declared.footnote.FootnoteStyle.{FootnoteStyle}
-use Rattle.markdown_brackets.specs.declared.footnote.FootnoteStyle.TheVariants as style
+use Rattle.markdown_brackets.proofs.LabelLengthLemmas.{label_read}
 
 -- the first n bytes are a prefix that contains no `[`, and nothing is escaped after a line ending
 record IsBehind (escaped : Bool) (n : ℕ) (bytes : List ℕ) : Type 0 where
@@ -143,80 +140,27 @@ pub record IsLabelFrom (skipped : List ℕ → Option ℕ) (text : List ℕ) (fr
   pub closes : body false (label_bytes skipped 0 tail) ≡ Some (place, shown)
   pub ends : to ≡ from + place + 2
 
-module _ (skipped : List ℕ → Option ℕ) (in_table : Bool) where
-  -- a label that is found after the mark of a footnote is a footnote's label
-  past_is_footnote : (n : ℕ) (o : Option (ℕ × List ℕ)) (l : FoundLabel) → label_past true n o ≡ Some l → l.is_footnote
-      ≡ true
-  past_is_footnote n None l e = absurd (none-some l e)
-  past_is_footnote n (Some f) l e = sym (ap (λ (l : FoundLabel). l.is_footnote) (same_Some _ l e))
-
-  is_footnote : (s : FootnoteStyle) (bytes : List ℕ) (l : FoundLabel) → footnote_label_in s skipped in_table bytes
-      ≡ Some l
-      → l.is_footnote ≡ true
-  is_footnote style.Off bytes l e = absurd (none-some l e)
-  is_footnote style.Gfm bytes l e = past_is_footnote 2 (label_after 94 on_one_line in_table bytes) l e
-  is_footnote style.Old bytes l e = past_is_footnote 2 (label_after 94 skipped in_table bytes) l e
-
-  -- and else a link's
-  abbrev squeezed : ℕ × List ℕ → ℕ × List ℕ
-  squeezed f = (f.0 + 1, collapse_whitespace false false f.1)
-
-  abbrev if_fits : ℕ × List ℕ → Option (ℕ × List ℕ)
-  if_fits f = if fits_label f.1 then Some f else None
-
-  link_found : (o : Option (ℕ × List ℕ)) (l : FoundLabel)
-      → label_past false 1 (option_map squeezed (option_and_then if_fits (with_shown in_table o))) ≡ Some l
-      → (place : ℕ) × (text : List ℕ) × (o ≡ Some (place, text)) × (l.length ≡ place + 2)
-  link_found None l e = absurd (none-some l e)
-  link_found (Some f) l e = by (fits_label (shown in_table f.1)) e
-    where
-      by : (fits : Bool) → label_past false 1
-          (option_map squeezed (if fits then Some (f.0, shown in_table f.1) else None)) ≡ Some l
-          → (place : ℕ) × (text : List ℕ) × (Some f ≡ Some (place, text)) × (l.length ≡ place + 2)
-      by false e = absurd (none-some l e)
-      by true e =
-          let size : 1 + (f.0 + 1) ≡ l.length = ap (λ (l : FoundLabel). l.length) (same_Some _ l e) in
-          (f.0, f.1, refl, omega (arith, size))
-
-  -- a label that is no footnote's
-  of_bytes : (s : FootnoteStyle) (text : List ℕ) (from : ℕ) (bytes : List ℕ) (l : FoundLabel) → drop from text ≡ bytes
-      → bracket_label s skipped in_table bytes ≡ Some l → l.is_footnote ≡ false
-      → IsLabelFrom skipped text from (from + l.length)
-  of_bytes s text from [] l d e plain = absurd (none-some l e)
-  of_bytes s text from (b ∷ bytes) l d e plain = by (b == 91) refl e
-    where
-      or_link : (o : Option FoundLabel) → footnote_label_in s skipped in_table bytes ≡ o
-          → option_or o (label_past false 1 (link_label skipped in_table bytes)) ≡ Some l
-          → (place : ℕ) × (text : List ℕ) × (body false (label_bytes skipped 0 bytes) ≡ Some (place, text))
-          × (l.length ≡ place + 2)
-      or_link None f e = link_found (body false (label_bytes skipped 0 bytes)) l e
-      or_link (Some l') f e =
-          let other = is_footnote s bytes l' f in
-          let same : l'.is_footnote ≡ l.is_footnote = ap (λ (l : FoundLabel). l.is_footnote) (same_Some l' l e) in
-          absurd (cc (other, same, plain))
-
-      by : (opens : Bool) → (b == 91) ≡ opens
-          → option_and_then (label_after_bracket s skipped in_table) (if opens then Some bytes else None) ≡ Some l
-          → IsLabelFrom skipped text from (from + l.length)
-      by false is e = absurd (none-some l e)
-      by true is e =
-          let r = or_link (footnote_label_in s skipped in_table bytes) refl e in
-          let byte : b ≡ 91 = grind (arith, nat_tests) in
-          let size = r.3 in
-          record {
-            tail = bytes;
-            opens = d ∙ ap (λ (b : ℕ). b ∷ bytes) byte;
-            place = r.0;
-            shown = r.1;
-            closes = r.2;
-            ends = omega (arith, size);
-          }
-
-  pub label_from : (s : FootnoteStyle) (text : List ℕ) (from : ℕ) (l : FoundLabel)
-      → bracket_label s skipped in_table (drop from text) ≡ Some l
-      → l.is_footnote ≡ false
-      → IsLabelFrom skipped text from (from + l.length)
-  label_from s text from l e plain = of_bytes s text from (drop from text) l refl e plain
+-- a label that is no footnote's
+pub label_from : (skipped : List ℕ → Option ℕ) (in_table : Bool) (s : FootnoteStyle) (text : List ℕ) (from : ℕ)
+    (l : FoundLabel) → bracket_label s skipped in_table (drop from text) ≡ Some l → l.is_footnote ≡ false
+    → IsLabelFrom skipped text from (from + l.length)
+label_from skipped in_table s text from l e plain = by (drop from text) refl e
+  where
+    by : (bytes : List ℕ) → drop from text ≡ bytes → bracket_label s skipped in_table bytes ≡ Some l
+        → IsLabelFrom skipped text from (from + l.length)
+    by [] d e = absurd (none-some l e)
+    by (b ∷ bytes) d e =
+        let r = (rw e at (label_read in_table s skipped b bytes)).1 plain in
+        let is = r.0 in
+        let byte : b ≡ 91 = grind (arith, nat_tests) in
+        record {
+          tail = bytes;
+          opens = d ∙ ap (λ (b : ℕ). b ∷ bytes) byte;
+          place = r.1.place;
+          shown = r.1.text;
+          closes = r.1.closes;
+          ends = omega (arith, r.1.long);
+        }
 
 -- the byte that a label begins with
 pub first_byte : (skipped : List ℕ → Option ℕ) (text : List ℕ) (from to : ℕ) → IsLabelFrom skipped text from to

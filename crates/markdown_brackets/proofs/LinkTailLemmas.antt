@@ -1,7 +1,7 @@
 -- The tail of a link, from its parts.
-use Rattle.std.proofs.Common.{◌≡◌, ℕ, ◌+◌, ◌==◌, Bool, true, false, List, [], Option, Some, None, ◌≤◌, cond, length}
-use Rattle.std.proofs.Common.{sym, ◌∙◌, ap, subst, refl}
-use Rattle.std.specs.Prelude.{slice_index, if◌then◌else◌}
+use Rattle.std.proofs.Common.{◌≡◌, ℕ, ◌+◌, ◌==◌, Bool, true, false, List, [], Option, Some, None, ◌≤◌, length}
+use Rattle.std.proofs.Common.{refl}
+use Rattle.std.specs.Prelude.{slice_index}
 use Rattle.std.proofs.lemmas.List.{get_or_past}
 use Rattle.markdown_base.specs.CowText.{text_of}
 use Rattle.markdown_base.specs.StoredTexts.{IsBorrowed}
@@ -39,17 +39,11 @@ module _ (in_table : Bool) (skipped : List ℕ → Option ℕ) (starts : ℕ →
   tail_closes length opens e part =
       let start : ℕ = past_separator skipped text (at + 1) in
       let next : ℕ = past_separator skipped text (start + length) in
-      let led : Bool → Option tail.LinkTail =
-      λ b. cond b (after_destination skipped starts text start (destination_at text start)) None in
-      subst ClosesAt (sym (ap led opens ∙ ap (after_destination skipped starts text start) e))
-      (closes_after next (title_at starts text next) part)
+      rw (opens, e) (closes_after next (title_at starts text next) part)
 
   -- there is no tail if no `)` closes it
   pub tail_open : (t : Option tail.LinkTail) → ClosesAt t → (slice_index text close == 41) ≡ false → t ≡ None
-  tail_open t c none =
-      c.is ∙ ap (λ (b : Bool). cond b
-      (Some (record { ends = c.i + 1; destination = written; title = c.title_text; is_joined = c.joined })) None)
-      (subst (λ n. (slice_index text n == 41) ≡ false) c.titled.ends none)
+  tail_open t c none = rw (c.is, ← c.titled.ends, none) refl
 
   module _ (found : CowStr) (closes : (slice_index text close == 41) ≡ true)
       (is : text_of found ≡ unescaped in_table written) (sliced : text_of found ≡ written → IsBorrowed found) where
@@ -62,31 +56,18 @@ module _ (in_table : Bool) (skipped : List ℕ → Option ℕ) (starts : ℕ →
       pub borrows : BorrowsTail t (Some made)
 
     pub tail_reads : (t : Option tail.LinkTail) → ClosesAt t → Reads t
-    tail_reads t c = subst Reads (sym c.is) (by (slice_index text c.i == 41)
-        (subst (λ n. (slice_index text n == 41) ≡ true) c.titled.ends closes))
-      where
-        by : (b : Bool) → b ≡ true
-            → Reads (if b then Some (record
-            { ends = c.i + 1; destination = written; title = c.title_text; is_joined = c.joined }) else None)
-        by true e = record {
-          reads = record { ends = ap (λ n. n + 1) c.titled.ends; destination = is; title = c.titled.text_is };
-          borrows = record { destination = sliced; title = c.titled.borrowed };
-        }
-        by false e = cc
+    tail_reads t c = rw (c.is, ← c.titled.ends, closes) (record {
+      reads = record { ends = refl; destination = is; title = c.titled.text_is };
+      borrows = record { destination = sliced; title = c.titled.borrowed };
+    })
 
 -- there is no tail if nothing begins one
 pub tail_closed : (skipped : List ℕ → Option ℕ) (starts : ℕ → Option ℕ) (text : List ℕ) (at : ℕ)
     → (slice_index text at == 40) ≡ false
     → link_tail skipped starts text at ≡ None
-tail_closed skipped starts text at e =
-    ap (λ b. cond b (after_destination skipped starts text (past_separator skipped text (at + 1))
-    (destination_at text (past_separator skipped text (at + 1)))) None) e
+tail_closed skipped starts text at e = rw e refl
 
 -- there is no tail after the text's end
 pub tail_past_end : (skipped : List ℕ → Option ℕ) (starts : ℕ → Option ℕ) (text : List ℕ) (at : ℕ) → length text ≤ at
     → link_tail skipped starts text at ≡ None
-tail_past_end skipped starts text at past =
-    ap (λ (b : ℕ). cond (b == 40)
-    (after_destination skipped starts text (past_separator skipped text (at + 1))
-    (destination_at text (past_separator skipped text (at + 1)))) None)
-    (get_or_past text at 0 past)
+tail_past_end skipped starts text at past = rw (get_or_past text at 0 past) refl

@@ -1,14 +1,13 @@
 -- Look-ups, case by case.
-use Rattle.std.proofs.Common.{◌≡◌, ℕ, ◌==◌, Bool, true, false, List, [], ◌∷◌, Option, Some, None, cond, refl, sym, ◌∙◌}
-use Rattle.std.proofs.Common.{ap, subst, is_some, ◌<◌, MatchOption, arith}
+use Rattle.std.proofs.Common.{◌≡◌, ℕ, ◌==◌, false, [], ◌∷◌, Option, Some, None, refl, sym, ◌∙◌}
+use Rattle.std.proofs.Common.{◌<◌, MatchOption, arith}
 use Rattle.std.proofs.lemmas.Bool.Decides.{nat_tests}
 use Rattle.markdown_base.specs.BlockParts.{definition_view}
 use Rattle.markdown_base.specs.Event.{LinkView}
 use Rattle.markdown_base.specs.Questions.{Question, Answer, Answers}
 use Rattle.markdown_base.specs.declared.block_parts.LinkDef.{LinkDef}
-use Rattle.markdown_defs.specs.Callback.{Asks}
 use Rattle.markdown_defs.specs.Definitions as definitions
-use Rattle.markdown_brackets.specs.Lookup.{LookedUp, look_up, finds_nothing, defined_target, defined_or_asked, asked}
+use Rattle.markdown_brackets.specs.Lookup.{defined_target, asked}
 use Rattle.markdown_brackets.specs.LookupView.{LooksUp, IsAnswered, FindsTarget, target_by, limit_after}
 use Rattle.markdown_brackets.specs.declared.look_up.LabelLookup.{LabelLookup}
 
@@ -19,10 +18,7 @@ module _ {C : Type 0} (step : C → Question → Option Answer → C → Type 0)
     answers = [];
     questions = [];
     asked = refl;
-    finds = λ later.
-        let P : ℕ → Type 0 = λ n. look_up old.tables.refdefs (is_some old.callback) n later q
-        ≡ finds_nothing n later [] in
-        subst P (sym none) refl;
+    finds = λ later. rw none refl;
   }
 
   -- what the label finds: by its definition, or by a question
@@ -33,27 +29,6 @@ module _ {C : Type 0} (step : C → Question → Option Answer → C → Type 0)
     where
       not_zero : (n : ℕ) → 0 < n → (n == 0) ≡ false
       not_zero n h = grind (arith, nat_tests)
-
-      -- the result of a look-up, with this callback or none
-      Result : Bool → Answers → LookedUp
-      Result asks answers = look_up old.tables.refdefs asks old.limit answers q
-
-      finds_as : (questions : List Question) (answers : Answers) → LookedUp
-      finds_as questions answers =
-          record { target = target; questions = questions; limit = new.limit; answers = answers }
-
-      opens : (asks : Bool) (answers : Answers) (o : Option LinkDef)
-          → definitions.find_definition q.reference old.tables.refdefs ≡ o
-          → Result asks answers ≡ defined_or_asked asks old.limit answers q o
-      opens asks answers o e =
-          ap (λ b. cond b (finds_nothing old.limit answers []) (defined_or_asked asks old.limit answers q
-          (definitions.find_definition q.reference old.tables.refdefs))) (not_zero old.limit some)
-          ∙ ap (defined_or_asked asks old.limit answers q) e
-
-      leaves : (questions : List Question) (answers : Answers) (t : Option LinkView) → target ≡ t
-          → record { target = t; questions = questions; limit = limit_after old.limit t; answers = answers }
-          ≡ finds_as questions answers
-      leaves questions answers t is = rw (left, is) refl
 
       by_answer : (a : Option Answer) (later : Answers)
           → asked old.limit (a ∷ later) q ≡ record {
@@ -72,17 +47,13 @@ module _ {C : Type 0} (step : C → Question → Option Answer → C → Type 0)
         answers = [];
         questions = [];
         asked = e ∙ sym is.0;
-        finds = λ later. ap (λ c. Result (is_some c) later) e
-            ∙ (opens false later None found ∙ leaves [] later None is.1);
+        finds = λ later. rw (not_zero old.limit some, e, found, left, is.1) refl;
       }
       answered (Some callback) e found (then, answer, stepped, now, is) = record {
         answers = answer ∷ [];
         questions = q ∷ [];
-        asked = subst (λ c. Asks step c (q ∷ []) (answer ∷ []) new.callback) (sym e) (then, stepped, sym now);
-        finds = λ later.
-            ap (λ c. Result (is_some c) (answer ∷ later)) e
-            ∙ (opens true (answer ∷ later) None found
-            ∙ (by_answer answer later ∙ leaves (q ∷ []) later (target_by q answer) is));
+        asked = rw e (then, stepped, sym now);
+        finds = λ later. rw (not_zero old.limit some, e, found, left, is) (by_answer answer later);
       }
 
       by : (o : Option LinkDef) → definitions.find_definition q.reference old.tables.refdefs ≡ o
@@ -94,7 +65,5 @@ module _ {C : Type 0} (step : C → Question → Option Answer → C → Type 0)
         answers = [];
         questions = [];
         asked = sym is.0;
-        finds = λ later.
-            opens (is_some old.callback) later (Some d) e
-            ∙ leaves [] later (Some (defined_target q.link_type (definition_view d) q.reference)) is.1;
+        finds = λ later. rw (not_zero old.limit some, e, left, is.1) refl;
       }

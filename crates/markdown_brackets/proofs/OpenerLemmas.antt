@@ -1,7 +1,8 @@
 -- A stack of openers as the list that it represents.
-use Rattle.std.proofs.Common.{◌≡◌, ℕ, suc, zero, ◌+◌, ◌-◌, ◌<◌, ◌≤◌, Bool, true, false, ◌&&◌, List, [], ◌∷◌, ◌++◌, Some}
-use Rattle.std.proofs.Common.{length, get_or, take, map, min, nat_le, arith, refl, sym, ◌∙◌, ap, reverse, subst}
-use Rattle.std.proofs.lemmas.Bool.{leb-true}
+use Rattle.std.proofs.Common.{◌≡◌, ◌⊎◌, inl, inr, ℕ, suc, zero, ◌+◌, ◌-◌, ◌<◌, ◌≤◌, Bool, true, false, ◌&&◌, List, []}
+use Rattle.std.proofs.Common.{◌∷◌, ◌++◌, Some}
+use Rattle.std.proofs.Common.{length, get_or, take, map, min, nat_le, arith, refl, sym, ◌∙◌, ap, reverse}
+use Rattle.std.proofs.lemmas.Bool.{cases_lt}
 use Rattle.std.proofs.lemmas.Bool.Decides.{nat_tests}
 use Rattle.std.proofs.lemmas.List.{reverse-append, map-append, take_more, take_all}
 use Rattle.std.proofs.lemmas.Option.{slice_get-get_or}
@@ -101,55 +102,40 @@ waiting_image openers o =
       and-true o.is_image,
     ) refl
 
-past_of : (a b : ℕ) → nat_le a b ≡ false → b ≤ a
-past_of a b e = grind (arith, nat_tests)
-
 -- no more are disabled than there are
 pub waiting_min : (n : ℕ) (openers : List Opener) → waiting_openers n openers ≡ waiting_openers (min n (length openers))
     openers
-waiting_min n openers = cases (nat_le n (length openers)) refl
+waiting_min n openers = by (cases_lt n (length openers))
   where
-    cases : (b : Bool) → nat_le n (length openers) ≡ b → waiting_openers n openers
+    by : (n < length openers) ⊎ (length openers ≤ n) → waiting_openers n openers
         ≡ waiting_openers (min n (length openers)) openers
-    cases true e =
-        let le : n ≤ length openers = leb-true n (length openers) e in
-        let same : n ≡ min n (length openers) = omega arith in
-        ap (λ m. waiting_openers m openers) same
-    cases false e =
-        let past = past_of n (length openers) e in
-        let same : length openers ≡ min n (length openers) = omega arith in
-        waiting_past n openers past ∙ ap (λ m. waiting_openers m openers) same
+    by (inl l) =
+        let same : n ≡ min n (length openers) = omega (arith, l) in ap (λ m. waiting_openers m openers) same
+    by (inr l) =
+        let same : length openers ≡ min n (length openers) = omega (arith, l) in
+        waiting_past n openers l ∙ ap (λ m. waiting_openers m openers) same
 
 -- the last of `left` openers is removed, or stays
+taken_last : (n left : ℕ) (openers : List Opener) (d : Opener) → 0 < left → left ≤ length openers
+    → waiting_openers n (take left openers) ≡ last_of n (take (left - 1) openers) (get_or openers (left - 1) d)
+    ∷ waiting_openers n (take (left - 1) openers)
+taken_last n left openers d some within =
+    let size : left ≡ left - 1 + 1 = omega (arith, some) in
+    ap (λ m. waiting_openers n (take m openers)) size
+    ∙ ap (waiting_openers n) (take_more openers (left - 1) d (omega (arith, some, within)))
+    ∙ waiting_last n (take (left - 1) openers) (get_or openers (left - 1) d)
+
 pub nearest_goes : (node n left : ℕ) (openers : List Opener) (d : Opener) → 0 < left → left ≤ length openers
     → node ≤ (get_or openers (left - 1) d).node → before node (waiting_openers n (take left openers))
     ≡ before node (waiting_openers n (take (left - 1) openers))
 nearest_goes node n left openers d some within le =
-    let rest : List Opener = take (left - 1) openers in
-    let o : Opener = get_or openers (left - 1) d in
-    let P : ℕ → Type 0 = λ m. before node (waiting_openers n (take m openers)) ≡ before node (waiting_openers n rest) in
-    let same : left - 1 + 1 ≡ left = omega arith in
-    subst P same (rw (
-      take_more openers (left - 1) d (omega arith),
-      waiting_last n rest o,
-      last_is n rest o,
-      le_true node o.node le,
-    ) refl)
+    rw (taken_last n left openers d some within, last_is n (take (left - 1) openers) _, le_true node _ le) refl
 
 pub nearest_stays : (node n left : ℕ) (openers : List Opener) (d : Opener) → 0 < left → left ≤ length openers
     → (get_or openers (left - 1) d).node < node → before node (waiting_openers n (take left openers))
     ≡ waiting_openers n (take left openers)
 nearest_stays node n left openers d some within lt =
-    let rest : List Opener = take (left - 1) openers in
-    let o : Opener = get_or openers (left - 1) d in
-    let P : ℕ → Type 0 = λ m. before node (waiting_openers n (take m openers)) ≡ waiting_openers n (take m openers) in
-    let same : left - 1 + 1 ≡ left = omega arith in
-    subst P same (rw (
-      take_more openers (left - 1) d (omega arith),
-      waiting_last n rest o,
-      last_is n rest o,
-      lt_false node o.node lt,
-    ) refl)
+    rw (taken_last n left openers d some within, last_is n (take (left - 1) openers) _, lt_false node _ lt) refl
 
 -- the nearest is the last
 first_last : (n : ℕ) (openers : List Opener) (o : Opener) → first_opener (waiting_openers n (openers ++ o ∷ []))

@@ -1,8 +1,8 @@
 -- A chain asks at most as many questions as it has `]`, and no two end together: a `]` that ends the label of an
 -- earlier one asks about no label itself, and no two labels that follow a `]` end at the same byte offset.
 use Rattle.std.proofs.Common.{◌≡◌, ◌⊎◌, inl, inr, ⊎_elim, ℕ, ◌+◌, ◌-◌, ◌<◌, ◌≤◌, Bool, true, false, not, ◌&&◌}
-use Rattle.std.proofs.Common.{◌==◌, List, [], ◌∷◌, ◌++◌, length, map, Option, Some, None, cond, refl, sym, ap, subst}
-use Rattle.std.proofs.Common.{◌∙◌, arith, append-nil, drop, get_or, take, nat_le, nat_eq, length-append, length-drop}
+use Rattle.std.proofs.Common.{◌==◌, List, [], ◌∷◌, ◌++◌, length, map, Option, cond, refl, sym, ap, subst}
+use Rattle.std.proofs.Common.{◌∙◌, arith, append-nil, drop, get_or, take, nat_eq, length-append, length-drop}
 use Rattle.std.proofs.Common.{length-take, suc}
 use Rattle.std.specs.Prelude.{IfSome, slice_range}
 use Rattle.std.specs.List.{AllByRecursion, IsDistinct, list_any}
@@ -23,7 +23,7 @@ use Rattle.markdown_brackets.specs.BracketDecision.{Around, Closing, Progress, b
 use Rattle.markdown_brackets.specs.ClosingBracket.{closed}
 use Rattle.markdown_brackets.specs.QuestionEnds.{AsksNothing, HoldsNoOpener, StandInLine, StandsInLine}
 use Rattle.markdown_brackets.specs.QuestionsAsked.{AsksAtMost, EndApart, closers_among, closes_bracket}
-use Rattle.markdown_brackets.specs.ReadChain.{Reader, among, begun, closing_of, read, read_as, read_chain, read_past}
+use Rattle.markdown_brackets.specs.ReadChain.{Reader, among, begun, closing_of, read_chain}
 use Rattle.markdown_brackets.specs.Reference.{is_closer}
 use Rattle.markdown_brackets.proofs.AsksAboutLemmas.{Asks, AsksFull, AsksNone, AsksOwn, AtMostOneTo, Told, closed_told}
 use Rattle.markdown_brackets.proofs.AsksAboutLemmas.{full_label, told_by}
@@ -42,10 +42,6 @@ cut_body n other = refl
 record AtMost (n closers : ℕ) (s t : Told) : Type 0 where
   once : length t.asked + closers ≤ n
   silent : s.limit ≡ 0 → (t.limit ≡ 0) × (t.asked ≡ s.asked)
-
-no_more : (n closers fewer : ℕ) (s t u : Told) → fewer ≤ closers → u ≡ t → AtMost n closers s t → AtMost n fewer s u
-no_more n closers fewer s t u le e h =
-    subst (AtMost n fewer s) (sym e) (record { once = omega (arith, h.once, le); silent = h.silent })
 
 one_at_most : (end : ℕ) (more : List Question) → AtMostOneTo end more → length more ≤ 1
 one_at_most end [] h = omega arith
@@ -85,26 +81,28 @@ module _ {A : Type 0} (w : Around) (others : Reader A) (nothing : AsksNothing ot
       → closers_among (a ∷ roots rest) ≡ one_if (closes_bracket a) + closers_among (roots rest)
   closers_on a rest = sum_by-cons (λ (a : Label A). one_if (closes_bracket a)) a (roots rest)
 
+  fewer : (n : ℕ) (s t : Told) (a : Label A) (rest : Forest (Label A)) → AtMost n (closers_among (a ∷ roots rest)) s t
+      → AtMost n (closers_among (roots rest)) s t
+  fewer n s t a rest h = record { once = omega (arith, closers_on a rest, h.once); silent = h.silent }
+
   more_reads : (n : ℕ) (s : Told)
       → Reads w others (λ chain q. AtMost n (closers_among (roots chain)) s (told_by q))
   more_reads n s = record {
-    opens = λ i a below rest q h. no_more n (closers_among (a ∷ roots rest)) (closers_among (roots rest)) s (told_by q)
-        (told_by q) (omega (arith, closers_on a rest)) refl h;
+    opens = λ i a below rest q h. fewer n s (told_by q) a rest h;
     closes = λ could a below rest q e h.
         let c : Closing A = closing_of could a rest q in
         let one : one_if (closes_bracket a) ≡ 1 = ap (λ (b : ItemBody). one_if (is_closer b)) e in
-        let all = no_more n (closers_among (a ∷ roots rest)) (suc (closers_among (roots rest))) s (told_by q)
-        (told_by q) (omega (arith, closers_on a rest, one)) refl h in
-        closer_more w c n (closers_among (roots rest)) s (told_by q) (told_by (closed w c q)) (closed_told w c q) all;
-    other = λ a below rest q h. no_more n (closers_among (a ∷ roots rest)) (closers_among (roots rest)) s (told_by q)
-        (told_by (others a below rest q)) (omega (arith, closers_on a rest)) (other_told a below rest q) h;
-    passes = λ a below rest q h. no_more n (closers_among (a ∷ roots rest)) (closers_among (roots rest)) s (told_by q)
-        (told_by q) (omega (arith, closers_on a rest)) refl h;
+        closer_more w c n (closers_among (roots rest)) s (told_by q) (told_by (closed w c q)) (closed_told w c q)
+        (record { once = omega (arith, closers_on a rest, one, h.once); silent = h.silent });
+    other = λ a below rest q h. rw (other_told a below rest q) (fewer n s (told_by q) a rest h);
+    passes = λ a below rest q h. fewer n s (told_by q) a rest h;
     cuts = λ i a below rest q h.
         let same : one_if (closes_bracket (begun_at i a)) ≡ one_if (closes_bracket a) =
         ap (λ (b : ItemBody). one_if (is_closer b)) (cut_body (i - start_of a) a.part.shape) in
-        no_more n (closers_among (a ∷ roots rest)) (closers_among (begun_at i a ∷ roots rest)) s (told_by q)
-        (told_by q) (omega (arith, closers_on a rest, closers_on (begun_at i a) rest, same)) refl h;
+        record {
+          once = omega (arith, closers_on a rest, closers_on (begun_at i a) rest, same, h.once);
+          silent = h.silent;
+        };
   }
 
   few_more : (chain : Forest (Label A)) (known : Known)
@@ -156,9 +154,6 @@ apart_pushed questions q h k =
     (IsDistinct-push nat_eq_equiv (map (λ (q : Question). q.span.end) questions) q.span.end h
     (none_there q.span.end questions k))
 
-among_more : (n m : ℕ) (ms : List ℕ) → among n ms ≡ true → among n (m ∷ ms) ≡ true
-among_more n m ms h = or_right (n == m) (among n ms) h
-
 -- a label that follows a `]` by a byte ends there, whose own `]` is used up
 record IsUsedUp (w : Around) (last : ℕ) (spent : List ℕ) (end : ℕ) : Type 0 where
   used : among end spent ≡ true
@@ -174,16 +169,11 @@ record IsToldTo (w : Around) (last : ℕ) (t : Told) : Type 0 where
   apart : EndApart t.asked
   each : AllByRecursion (EndsBy w last t.spent) t.asked
 
-used_later : (w : Around) (last later : ℕ) (spent spent' : List ℕ) (end : ℕ) → last ≤ later
-    → (among end spent ≡ true → among end spent' ≡ true) → IsUsedUp w last spent end → IsUsedUp w later spent' end
-used_later w last later spent spent' end l more k =
-    record { used = more k.used; from = k.from; behind = omega (arith, k.behind, l); label = k.label }
-
 ends_later : (w : Around) (last later : ℕ) (spent spent' : List ℕ) (q : Question) → last ≤ later
     → (among q.span.end spent ≡ true → among q.span.end spent' ≡ true) → EndsBy w last spent q → EndsBy w later spent' q
-ends_later w last later spent spent' q l more k = ⊎_elim
-    (λ (k : q.span.end ≤ last). inl (omega (arith, k, l)))
-    (λ (k : IsUsedUp w last spent q.span.end). inr (used_later w last later spent spent' q.span.end l more k)) k
+ends_later w last later spent spent' q l more (inl k) = inl (omega (arith, k, l))
+ends_later w last later spent spent' q l more (inr k) =
+    inr (record { used = more k.used; from = k.from; behind = omega (arith, k.behind, l); label = k.label })
 
 told_later : (w : Around) (last later : ℕ) (t : Told) → last ≤ later → IsToldTo w last t → IsToldTo w later t
 told_later w last later t l h = record {
@@ -254,30 +244,24 @@ module _ {A : Type 0} (w : Around) (none : HoldsNoOpener w.skipped) (c : Closing
     full_told : (more : List Question) → AsksFull w c more s.spent t.spent → ToldWith (s.asked ++ more) t.spent t.limit
     full_told more k =
         let label = full_label w c k.label k.end k.form in
-        let kept = all_also (EndsBy w here s.spent) (EndsBy w here (k.end ∷ s.spent))
-        (λ q j. ends_later w here here s.spent (k.end ∷ s.spent) q (omega arith)
-        (λ u. among_more q.span.end k.end s.spent u) j)
-        s.asked later.each in
-        let other = all_also (EndsBy w last s.spent) (λ r. (k.end ≡ r.span.end) → ⊥) (full_apart s.spent k.end label)
-        s.asked so.each in
-        let new = λ (q : Question) (e : q.span.end ≡ k.end). inr (record {
+        rw k.spends (pushed s.asked (k.end ∷ s.spent) t.limit k.end more k.most so.apart
+        (all_also _ _ (λ q. ends_later w here here s.spent (k.end ∷ s.spent) q (omega arith)
+        (or_right (q.span.end == k.end) (among q.span.end s.spent))) s.asked later.each)
+        (all_also _ _ (full_apart s.spent k.end label) s.asked so.each)
+        (λ q e. inr (record {
           used = among_first q.span.end k.end s.spent e;
           from = here;
           behind = omega arith;
-          label = subst (IsLabelFrom (lines w) (block_text w) here) (sym e) label;
-        }) in
-        subst (λ (spent : List ℕ). ToldWith (s.asked ++ more) spent t.limit) (sym k.spends)
-        (pushed s.asked (k.end ∷ s.spent) t.limit k.end more k.most so.apart kept other new)
+          label = rw e label;
+        })))
 
     -- about the label that the `]` ends
     own_told : (c.could_be_reference ≡ true → among here s.spent ≡ false) → (more : List Question)
         → AsksOwn w c more s.spent t.spent
         → ToldWith (s.asked ++ more) t.spent t.limit
     own_told unused more k =
-        let other = all_also (EndsBy w last s.spent) (λ r. (here ≡ r.span.end) → ⊥) (own_apart s.spent (unused k.could))
-        s.asked so.each in
-        subst (λ (spent : List ℕ). ToldWith (s.asked ++ more) spent t.limit) (sym k.keeps)
-        (pushed s.asked s.spent t.limit here more k.most so.apart later.each other (λ q e. inl (omega (arith, e))))
+        rw k.keeps (pushed s.asked s.spent t.limit here more k.most so.apart later.each
+        (all_also _ _ (own_apart s.spent (unused k.could)) s.asked so.each) (λ q e. inl (omega (arith, e))))
 
     -- about none
     none_told : (more : List Question) → AsksNone w c more s.spent t.spent → ToldWith (s.asked ++ more) t.spent t.limit
@@ -285,10 +269,7 @@ module _ {A : Type 0} (w : Around) (none : HoldsNoOpener w.skipped) (c : Closing
 
     closer_told : (c.could_be_reference ≡ true → among here s.spent ≡ false) → Asks w c s t → IsToldTo w here t
     closer_told unused h =
-        let otherwise = λ (k : AsksOwn w c h.more s.spent t.spent ⊎ AsksNone w c h.more s.spent t.spent).
-        ⊎_elim (own_told unused h.more) (none_told h.more) k in
-        let told = ⊎_elim (full_told h.more) otherwise h.way in
-        subst (λ (asked : List Question). ToldWith asked t.spent t.limit) (sym h.asked) told
+        rw h.asked (⊎_elim (full_told h.more) (⊎_elim (own_told unused h.more) (none_told h.more)) h.way)
 
 -- the source of a `]` is one byte
 one_byte : (text : List ℕ) (start end : ℕ) → end ≤ length text → slice_range text start end ≡ 93 ∷ []
@@ -320,6 +301,22 @@ if_closes text last (body.MaybeLinkClose could) a next h is l =
     record { later = omega (arith, r.0, l); byte = r.1 }
 if_closes text last other a next h is l = tt
 
+-- of each `]` of a chain
+abbrev CloseInLine : {A : Type 0} → List ℕ → ℕ → Forest (Label A) → Type 0
+CloseInLine text last nil = Unit {0}
+CloseInLine text last (node a below rest) =
+    (last ≤ end_of a) × IfCloses text last (open_body a.part.shape) (end_of a) × CloseInLine text (end_of a) rest
+
+in_line : {A : Type 0} (text : List ℕ) (last : ℕ) (chain : Forest (Label A)) → StandInLine text chain
+    → IfSome (first_root chain) (λ a. last ≤ start_of a) → CloseInLine text last chain
+in_line text last nil stand l = tt
+in_line text last (node a below rest) stand l =
+    let ordered : start_of a ≤ end_of a = stand.0.lies.ordered in (
+      omega (arith, l, ordered),
+      if_closes text last (open_body a.part.shape) a (first_root rest) stand.0 refl l,
+      in_line text (end_of a) rest stand.1 stand.0.in_order,
+    )
+
 unused_then : (could used : Bool) → (could && not used) ≡ true → used ≡ false
 unused_then true true h = cc h
 unused_then false true h = cc h
@@ -327,52 +324,35 @@ unused_then could false h = refl
 
 module _ {A : Type 0} (w : Around) (others : Reader A) (nothing : AsksNothing others) (none : HoldsNoOpener w.skipped)
   where
-    read_as_told : (b : ItemBody) (a : Label A) (below rest : Forest (Label A)) (p : Progress A) (last : ℕ)
-        → last ≤ end_of a
-        → IfCloses w.setting.text last b (end_of a)
-        → IsToldTo w last (told_by p) → IsToldTo w (end_of a) (told_by (read_as w others b a below rest p))
-    read_as_told body.MaybeLinkOpen a below rest p last l at so = told_later w last (end_of a) (told_by p) l so
-    read_as_told body.MaybeImage a below rest p last l at so = told_later w last (end_of a) (told_by p) l so
-    read_as_told (body.MaybeLinkClose could) a below rest p last l at so =
-        let c : Closing A = closing_of could a rest p in
-        let unused = unused_then could (among (end_of a) p.spent) in
-        closer_told w none c last at (told_by p) (told_by (closed w c p)) so unused (closed_told w c p)
-    read_as_told other a below rest p last l at so =
-        subst (IsToldTo w (end_of a)) (sym (other_told w others nothing a below rest p))
-        (told_later w last (end_of a) (told_by p) l so)
+    abbrev IsToldBefore : Forest (Label A) → Told → Type 0
+    IsToldBefore chain t = (last : ℕ) × CloseInLine w.setting.text last chain × IsToldTo w last t
 
-    read_past_told : (goes_on : Option ℕ) (a : Label A) (below rest : Forest (Label A)) (p : Progress A) (last : ℕ)
-        → last ≤ end_of a
-        → IfCloses w.setting.text last (open_body a.part.shape) (end_of a)
-        → IsToldTo w last (told_by p) → IsToldTo w (end_of a) (told_by (read_past w others goes_on a below rest p))
-    read_past_told None a below rest p last l at so = read_as_told (open_body a.part.shape) a below rest p last l at so
-    read_past_told (Some i) a below rest p last l at so = by (nat_le (end_of a) i)
-      where
-        by : (b : Bool) → IsToldTo w (end_of a)
-            (told_by (cond b p (read w others (begun_at i a) below rest (record p { goes_on = None }))))
-        by true = told_later w last (end_of a) (told_by p) l so
-        by false =
-            read_as_told (open_body (begun_at i a).part.shape) (begun_at i a) below rest (record p { goes_on = None })
-            last l
-            (subst (λ (b : ItemBody). IfCloses w.setting.text last b (end_of a))
-            (sym (cut_body (i - start_of a) a.part.shape)) at) so
+    past_told : (a : Label A) (below rest : Forest (Label A)) (t : Told) → IsToldBefore (node a below rest) t
+        → IsToldBefore rest t
+    past_told a below rest t h = (end_of a, h.1.2, told_later w h.0 (end_of a) t h.1.0 h.2)
 
-    chain_told : (chain : Forest (Label A)) (p : Progress A) (last : ℕ) → StandInLine w.setting.text chain
-        → IfSome (first_root chain) (λ a. last ≤ start_of a) → IsToldTo w last (told_by p)
-        → EndApart (read_chain w others chain p).asked
-    unfolding read_chain
-    chain_told nil p last stand l so = so.apart
-    chain_told (node a below rest) p last stand l so =
-        let ordered : start_of a ≤ end_of a = stand.0.lies.ordered in
-        let at = if_closes w.setting.text last (open_body a.part.shape) a (first_root rest) stand.0 refl l in
-        chain_told rest (read_past w others p.goes_on a below rest p) (end_of a) stand.1 stand.0.in_order
-        (read_past_told p.goes_on a below rest p last (omega (arith, l, ordered)) at so)
+    told_reads : Reads w others (λ chain p. IsToldBefore chain (told_by p))
+    told_reads = record {
+      opens = λ i a below rest p h. past_told a below rest (told_by p) h;
+      closes = λ could a below rest p e h.
+          let c : Closing A = closing_of could a rest p in
+          let at : ClosesUpTo w.setting.text h.0 (end_of a) = rw e at h.1.1 in (
+            end_of a,
+            h.1.2,
+            closer_told w none c h.0 at (told_by p) (told_by (closed w c p)) h.2
+                (unused_then could (among (end_of a) p.spent)) (closed_told w c p),
+          );
+      other = λ a below rest p h.
+          rw (other_told w others nothing a below rest p) (past_told a below rest (told_by p) h);
+      passes = λ a below rest p h. past_told a below rest (told_by p) h;
+      cuts = λ i a below rest p h. (h.0, (h.1.0, rw (cut_body (i - start_of a) a.part.shape) h.1.1, h.1.2), h.2);
+    }
 
     pub end_apart : (chain : Forest (Label A)) (known : Known) → StandInLine w.setting.text chain
         → EndApart (read_chain w others chain (begun known)).asked
     unfolding IsDistinct
-    end_apart chain known stand = chain_told chain (begun known) 0 stand (from_start chain)
-        (record { apart = tt; each = tt })
+    end_apart chain known stand = (chain_keeps told_reads chain (begun known)
+        (0, in_line w.setting.text 0 chain stand (from_start chain), record { apart = tt; each = tt })).2.apart
       where
         from_start : (chain : Forest (Label A)) → IfSome (first_root chain) (λ a. 0 ≤ start_of a)
         from_start nil = tt

@@ -1,5 +1,5 @@
 -- The form of a reference where no text is left.
-use Rattle.std.proofs.Common.{◌≡◌, ℕ, ◌+◌, ◌≤◌, ◌&&◌, Bool, true, false, List, [], Option, length, refl, ◌∙◌, ap}
+use Rattle.std.proofs.Common.{◌≡◌, ℕ, ◌+◌, ◌≤◌, ◌&&◌, Bool, true, false, List, [], Option, length, refl}
 use Rattle.std.specs.Prelude.{if◌then◌else◌}
 use Rattle.std.proofs.lemmas.List.{drop_all}
 use Rattle.markdown_base.specs.declared.item.Item.{Item}
@@ -23,9 +23,5 @@ pub form_past : (style : FootnoteStyle) (skipped : List ℕ → Option ℕ) (in_
     ≡ (if stands_at at is_opener next && stands_at (at + 1) is_closer after
     then collapsed else shortcut)
 form_past style skipped in_table text at next after past =
-    ap (λ (rest : List ℕ). if stands_at at is_opener next && stands_at (at + 1) is_closer after then collapsed
-    else if stands_at at (λ b. true) next then form_by_label at (bracket_label style skipped in_table rest) else
-    shortcut)
-    (drop_all at text past)
-    ∙ by_items style skipped in_table at (stands_at at is_opener next && stands_at (at + 1) is_closer after)
-    (stands_at at (λ b. true) next)
+    rw (drop_all at text past) (by_items style skipped in_table at
+    (stands_at at is_opener next && stands_at (at + 1) is_closer after) (stands_at at (λ b. true) next))

@@ -20,15 +20,6 @@ pub record BeginsAscii (bytes : List ℕ) (n : ℕ) : Type 0 where
 both : (b c : Bool) → b ≡ true → c ≡ true → (b && c) ≡ true
 both b c p q = grind arith
 
-blank_is_ascii : (b : ℕ) → is_blank b ≡ true → is_ascii b ≡ true
-blank_is_ascii b e = grind (arith, nat_tests)
-
-line_feed_is_ascii : (b : ℕ) → (b == line_feed) ≡ true → is_ascii b ≡ true
-line_feed_is_ascii b e = grind (arith, nat_tests)
-
-carriage_return_is_ascii : (b : ℕ) → (b == carriage_return) ≡ true → is_ascii b ≡ true
-carriage_return_is_ascii b e = grind (arith, nat_tests)
-
 pub nothing_ascii : (bytes : List ℕ) → BeginsAscii bytes 0
 nothing_ascii bytes = record { within = omega arith; ascii = refl }
 
@@ -45,7 +36,7 @@ blanks_are_ascii (b ∷ bytes) =
     let P : ℕ → Type 0 = λ n. BeginsAscii (b ∷ bytes) (length (take n (b ∷ bytes))) in
     let more : suc (prefix_len is_blank bytes) ≡ 1 + prefix_len is_blank bytes = omega arith in
     cond_both (is_blank b) (1 + prefix_len is_blank bytes) 0 P
-    (λ e. subst P more (one_more b bytes (blanks bytes) (blank_is_ascii b e) (blanks_are_ascii bytes)))
+    (λ e. subst P more (one_more b bytes (blanks bytes) (grind (arith, nat_tests)) (blanks_are_ascii bytes)))
     (λ e. nothing_ascii (b ∷ bytes))
 
 -- and line endings
@@ -54,7 +45,7 @@ after_return : (b : ℕ) (bytes : List ℕ) → is_ascii b ≡ true
 after_return b [] e = one_more b [] 0 e (nothing_ascii [])
 after_return b (c ∷ bytes) e =
     cond_both (c == line_feed) (Some 2) (Some 1) (λ r. IfSome r (BeginsAscii (b ∷ c ∷ bytes)))
-    (λ f. one_more b (c ∷ bytes) 1 e (one_more c bytes 0 (line_feed_is_ascii c f) (nothing_ascii bytes)))
+    (λ f. one_more b (c ∷ bytes) 1 e (one_more c bytes 0 (grind (arith, nat_tests)) (nothing_ascii bytes)))
     (λ f. one_more b (c ∷ bytes) 0 e (nothing_ascii (c ∷ bytes)))
 
 pub line_ending_is_ascii : (bytes : List ℕ) → IfSome (line_ending bytes) (BeginsAscii bytes)
@@ -63,9 +54,9 @@ line_ending_is_ascii (b ∷ bytes) =
     let P = λ (r : Option ℕ). IfSome r (BeginsAscii (b ∷ bytes)) in
     cond_both (b == line_feed) (Some 1)
     (cond (b == carriage_return) (cond (begins_line_feed bytes) (Some 2) (Some 1)) None) P
-    (λ e. one_more b bytes 0 (line_feed_is_ascii b e) (nothing_ascii bytes))
+    (λ e. one_more b bytes 0 (grind (arith, nat_tests)) (nothing_ascii bytes))
     (λ e. cond_both (b == carriage_return) (cond (begins_line_feed bytes) (Some 2) (Some 1)) None P
-    (λ f. after_return b bytes (carriage_return_is_ascii b f)) (λ f. tt))
+    (λ f. after_return b bytes (grind (arith, nat_tests))) (λ f. tt))
 
 pub if_some : (o : Option ℕ) (P : ℕ → Type 0) (n : ℕ) → IfSome o P → o ≡ Some n → P n
 if_some o P n h e = let Q : Option ℕ → Type 0 = λ p. IfSome p P in subst Q e h

@@ -1,6 +1,6 @@
 -- The title of a tail comes from the source: it is what is written between its marks.
 use Rattle.std.proofs.Common.{◌≡◌, ℕ, suc, ◌+◌, ◌-◌, ◌≤◌, ◌==◌, Bool, true, false, List, [], ◌∷◌, Option, Some, None}
-use Rattle.std.proofs.Common.{take, drop, slice_range, refl, sym, ◌∙◌, ap, subst, arith, ◌<◌, is_some, nat_lt}
+use Rattle.std.proofs.Common.{take, drop, slice_range, refl, ◌∙◌, ap, subst, arith, ◌<◌, is_some, nat_lt}
 use Rattle.std.proofs.Common.{unwrap_or}
 use Rattle.std.specs.Option.{option_and_then, option_map}
 use Rattle.std.specs.Prelude.{slice_index, if◌then◌else◌, ⊤, IfSome}
@@ -90,8 +90,7 @@ title_is_at starts text i = by (closer_of (slice_index text i))
     by None = tt
     by (Some closer) =
         let bytes = joined_lines starts (i + 1) (i + 1) (drop (i + 1) text) in
-        subst (λ l. IsTitleAt text i (title_in closer false l))
-        (sym (joined_after starts (i + 1) 0 (i + 1) (i + 1) text (omega arith) (omega arith)))
+        rw (joined_after starts (i + 1) 0 (i + 1) (i + 1) text (omega arith) (omega arith))
         (at (title_in closer false bytes) (is_from starts closer (i + 1) (i + 1) false (drop (i + 1) text)))
 
 borrowed_sliced : (c : CowStr) → IsBorrowed c → origin_of c ≡ sliced
@@ -172,10 +171,7 @@ pub has_title : (in_table : Bool) (skipped : List ℕ → Option ℕ) (starts : 
     → IfSome read (IsTailFrom source at)
 has_title in_table skipped starts source bytes block_end at None e reads borrows = tt
 has_title in_table skipped starts source bytes block_end at (Some found) e reads borrows = λ some.
-    let t = λ (bytes : List ℕ). link_tail skipped starts bytes at in
-    ∣ tail_titled in_table skipped starts source block_end at found
-    (subst (λ bytes. ReadsTail in_table (t bytes) (Some found)) e reads)
-    (subst (λ bytes. BorrowsTail (t bytes) (Some found)) e borrows) some ∣₁
+    ∣ tail_titled in_table skipped starts source block_end at found (rw e at reads) (rw e at borrows) some ∣₁
 
 -- what comes from a range comes from a wider one
 pub tail_wider : (source : List ℕ) (start start' : ℕ) (found : LinkTail) → start' ≤ start

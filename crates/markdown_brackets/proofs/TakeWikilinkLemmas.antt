@@ -9,7 +9,7 @@ use Rattle.markdown_base.specs.Forest.{Forest, nil, node}
 use Rattle.markdown_base.specs.declared.item.Item.{Item}
 use Rattle.markdown_base.specs.declared.node.Node.{Node}
 use Rattle.markdown_base.proofs.ArenaForestLemmas.{height}
-use Rattle.markdown_document.specs.ChainRest.{start_of, end_of, joined_chains, open_body}
+use Rattle.markdown_document.specs.ChainRest.{start_of, joined_chains, open_body}
 use Rattle.markdown_document.specs.Document.{Label}
 use Rattle.markdown_document.specs.Totals.{same}
 use Rattle.markdown_document.proofs.TablesLemmas.{same-refl}
@@ -114,15 +114,14 @@ module _ (nodes : List (Node Item)) (closer : ℕ) (left : List (Entry ℕ)) (c 
   pub closer_found : Found s.source s.tables nodes (Some closer) behind_left
   closer_found =
       let h = Holds-from s.source s.tables nodes s.first left behind_left s.holds in
-      let at : h.0 ≡ Some closer = h.1.0 ∙ ap (λ n. Some n) s.number in
+      let first : h.0 ≡ Some closer = h.1.0 ∙ ap (λ n. Some n) s.number in
       record {
-        holds = subst (λ l. Holds s.source s.tables nodes l behind_left) at h.1;
+        holds = rw first at h.1;
         low = omega (arith, low, height-later left behind_left);
       }
 
   pub rest_found : Found s.source s.tables nodes (sibling_of nodes closer) c.rest
-  rest_found = subst (λ n. Found s.source s.tables nodes (sibling_of nodes n) c.rest) s.number
-      (found_after s.source s.tables nodes (Some closer) c.label nil c.rest closer_found)
+  rest_found = rw s.number at (found_after s.source s.tables nodes (Some closer) c.label nil c.rest closer_found)
 
   -- an opener of the left list, with flags of its own
   module _ (other : List (Entry ℕ)) (trees : (later : Forest (Label ℕ)) → trees_onto other later
@@ -134,15 +133,11 @@ module _ (nodes : List (Node Item)) (closer : ℕ) (left : List (Entry ℕ)) (c 
     pub opener_holds : Holds s.source s.tables nodes (Some o.opener.tag)
         (node o.opener nil (trees_onto o.after behind_left))
     opener_holds =
-        let h = Holds-from s.source s.tables nodes s.first o.before _
-        (subst (λ f. Holds s.source s.tables nodes s.first f) onto s.holds) in
-        subst (λ l. Holds s.source s.tables nodes l (node o.opener nil (trees_onto o.after behind_left))) h.1.0 h.1
+        let h = Holds-from s.source s.tables nodes s.first o.before _ (rw onto at s.holds) in rw h.1.0 at h.1
 
     opener_low : height (numbers_of (node o.opener nil (trees_onto o.after behind_left))) ≤ length nodes
     opener_low =
-        let whole : height (numbers_of (trees_onto o.before (node o.opener nil (trees_onto o.after behind_left)))) ≤
-        length nodes =
-        subst (λ f. height (numbers_of f) ≤ length nodes) onto low in
+        let whole = rw onto at low in
         omega (arith, whole, height-later o.before (node o.opener nil (trees_onto o.after behind_left)))
 
     pub between : (opener : Opener) → opener ≡ opener_of o → HoldsInside nodes closer opener c o
@@ -150,15 +145,8 @@ module _ (nodes : List (Node Item)) (closer : ℕ) (left : List (Entry ℕ)) (c 
         let n : opener.node ≡ o.opener.tag = ap (λ (p : Opener). p.node) e in
         let after : trees_onto o.after behind_left ≡ joined_chains (inside o) behind_left = onto_joined o.after nil
         behind_left in
-        let low_after : height (numbers_of (trees_onto o.after behind_left)) ≤ length nodes = omega (arith, opener_low)
-        in
-        let all : Found s.source s.tables nodes (sibling_of nodes o.opener.tag) (trees_onto o.after behind_left) =
-        record { holds = opener_holds.4; low = low_after } in
         let there : Found s.source s.tables nodes (sibling_of nodes opener.node) (joined_chains (inside o) behind_left)
-        =
-        subst (λ f. Found s.source s.tables nodes (sibling_of nodes opener.node) f) after
-        (subst (λ m. Found s.source s.tables nodes (sibling_of nodes m) (trees_onto o.after behind_left)) (sym n) all)
-        in
+        = rw (n, ← after) (record { holds = opener_holds.4; low = omega (arith, opener_low) }) in
         let once = s.once c.label.tag in
         let counted = ap (λ f. times_of c.label.tag f) onto in
         let first = total-onto (same c.label.tag) o.before (node o.opener nil (trees_onto o.after behind_left)) in
@@ -172,9 +160,7 @@ module _ (nodes : List (Node Item)) (closer : ℕ) (left : List (Entry ℕ)) (c 
               there;
           apart = omega (arith, once, counted, first, second, third, same-refl c.label.tag);
           number = s.number;
-          starts = subst (λ m. (item_at nodes m).start ≡ start_of c.label) s.number
-              (same_start s.source s.tables nodes c.label
-              closer_found.holds.2);
+          starts = rw (← s.number) (same_start s.source s.tables nodes c.label closer_found.holds.2);
           order = s.order;
         }
 
@@ -219,8 +205,7 @@ module _ (nodes : List (Node Item)) (closer : ℕ) (left : List (Entry ℕ)) (c 
         by (node a below after) (Some next) h m =
             let e : next ≡ a.tag = let q = h.0 in cc in
             let none : is_closer (open_body a.part.shape) ≡ false =
-            sym (same_closer s.source s.tables nodes a h.2) ∙ subst (λ n. is_closer (item_at nodes n).body ≡ false) e m
-            in
+            sym (same_closer s.source s.tables nodes a h.2) ∙ rw e at m in
             rw (none, and-false (wikilinks_on w.setting.rules.options)) refl
 
     -- where a wikilink is tried
@@ -242,11 +227,8 @@ module _ (nodes : List (Node Item)) (closer : ℕ) (left : List (Entry ℕ)) (c 
           by (node a below after) l h e =
               let n : next ≡ a.tag = let q = h.0 in cc in
               let is : is_closer (open_body a.part.shape) ≡ true =
-              sym (same_closer s.source s.tables nodes a h.2) ∙ subst (λ n. is_closer (item_at nodes n).body ≡ true) n
-              closes in
-              let ends : (item_at nodes next).end ≡ end_of a = ap (λ n. (item_at nodes n).end) n
-              ∙ same_end s.source s.tables nodes a h.2 in
-              rw (on, is, ends) refl
+              sym (same_closer s.source s.tables nodes a h.2) ∙ rw n at closes in
+              rw (on, n, is, same_end s.source s.tables nodes a h.2) refl
 
       -- the decision, by the wikilink that is found
       decided_as : (x : Option (Written ℕ)) → option_and_then (wikilink_found w c end) wikilink_opener ≡ x
@@ -298,16 +280,16 @@ module _ (nodes : List (Node Item)) (closer : ℕ) (left : List (Entry ℕ)) (c 
 
             by : (o : Option (Split ℕ)) → wikilink_opener ≡ o → FindsWikilink w end c o r
                 → TakesWikilink w c left new r
-            by None q h = subst (λ r. TakesWikilink w c left new r) (sym h)
-                (takes_none (ap (option_and_then (wikilink_found w c end)) q))
-            by (Some o) q h = inner
-                (if is_live o.mark.wikilink then wikilink_in w (past_second (inside o)) (start_of c.label) else None)
-                refl r h
+            by None q h = rw h (takes_none (ap (option_and_then (wikilink_found w c end)) q))
+            by (Some o) q h = inner shown refl r h
               where
+                shown : Option (Wikilink ℕ)
+                shown =
+                    if is_live o.mark.wikilink then wikilink_in w (past_second (inside o)) (start_of c.label) else None
+
                 splits : IsSplit (bracket_taken (wikilink_taken left)) o
-                splits = subst (λ l. IsSplit l o) (taken_both left)
-                    (subst (λ o. IfSome o (IsSplit (wikilink_taken (bracket_taken left)))) q
-                    (taken_splits opens_wikilink without_wikilink (bracket_taken left)))
+                splits = rw (taken_both left) at
+                    (rw q at (taken_splits opens_wikilink without_wikilink (bracket_taken left)))
 
                 found_is : (live : Bool) (v : Option (Wikilink ℕ))
                     → (if live then option_map (λ v. wikilink o v end) v else None)
@@ -315,20 +297,15 @@ module _ (nodes : List (Node Item)) (closer : ℕ) (left : List (Entry ℕ)) (c 
                 found_is true v = refl
                 found_is false v = refl
 
-                all_is : (x : Option (Wikilink ℕ))
-                    → (if is_live o.mark.wikilink then wikilink_in w (past_second (inside o)) (start_of c.label) else
-                    None) ≡ x
+                all_is : (x : Option (Wikilink ℕ)) → shown ≡ x
                     → option_and_then (wikilink_found w c end) wikilink_opener ≡ option_map (λ v. wikilink o v end) x
                 all_is x e =
                     ap (option_and_then (wikilink_found w c end)) q
                     ∙ (found_is (is_live o.mark.wikilink) (wikilink_in w (past_second (inside o)) (start_of c.label))
                     ∙ ap (option_map (λ v. wikilink o v end)) e)
 
-                inner : (x : Option (Wikilink ℕ))
-                    → (if is_live o.mark.wikilink then wikilink_in w (past_second (inside o)) (start_of c.label) else
-                    None) ≡ x
-                    → (r : Option ClosedBracket) → IsWikilink w (opener_of o) end (past_second (inside o)) x r
-                    → TakesWikilink w c left new r
+                inner : (x : Option (Wikilink ℕ)) → shown ≡ x → (r : Option ClosedBracket)
+                    → IsWikilink w (opener_of o) end (past_second (inside o)) x r → TakesWikilink w c left new r
                 inner None e None h = takes_none (all_is None e)
                 inner (Some v) e (Some (Wikilinked a b d f g)) h = record {
                   opener = o;

@@ -1,7 +1,7 @@
 -- Steps of the scan of a title: one byte of joined lines, and what it adds.
 use Rattle.std.proofs.Common.{◌≡◌, ℕ, suc, zero, ◌+◌, ◌-◌, ◌<◌, ◌≤◌, Bool, true, false, ◌&&◌, ◌||◌, ◌==◌, List, [], ◌∷◌}
 use Rattle.std.proofs.Common.{◌++◌, Option, Some, None, if◌then◌else◌, is_some, unwrap_or, length, get_or, take, drop}
-use Rattle.std.proofs.Common.{slice_range, refl, sym, ◌∙◌, ap, subst, arith, append_assoc, nat_lt}
+use Rattle.std.proofs.Common.{slice_range, refl, sym, ◌∙◌, ap, arith, append_assoc, nat_lt}
 use Rattle.std.specs.Option.{option_map}
 use Rattle.std.proofs.Math.Bool.{or-false, or_assoc}
 use Rattle.std.proofs.lemmas.List.{append-nil, drop_all, drop_more, take_more, get_or-drop, length-drop}
@@ -154,7 +154,7 @@ module _ {starts : ℕ → Option ℕ} {bytes : List ℕ} {closer : ℕ} {whole 
             refl
 
 pub ReadsTitle-none : (in_table : Bool) (whole : Option Title) → whole ≡ None → ReadsTitle in_table whole None
-ReadsTitle-none in_table whole e = subst (λ (t : Option Title). ReadsTitle in_table t None) (sym e) tt
+ReadsTitle-none in_table whole e = rw e tt
 
 -- a slice with one byte more
 pub slice_more : (text : List ℕ) (start at : ℕ) → start ≤ at → at < length text
@@ -178,13 +178,10 @@ bare_is escaped b what e = grind (arith, nat_tests)
 pub ReadsTitle-closed : (in_table : Bool) (whole : Option Title) (so : List ℕ) (joined : Bool) (at : ℕ) (found : CowStr)
     → whole ≡ Some (record { ends = at + 1; text = so; is_joined = joined }) → text_of found ≡ unescaped in_table so
     → ReadsTitle in_table whole (Some (at + 1, found))
-ReadsTitle-closed in_table whole so joined at found is text =
-    subst (λ (t : Option Title). ReadsTitle in_table t (Some (at + 1, found))) (sym is) (refl, text)
+ReadsTitle-closed in_table whole so joined at found is text = rw is (refl, text)
 
 -- a title that is a slice where nothing is replaced
 pub BorrowsTitle-closed : (whole : Option Title) (so : List ℕ) (joined : Bool) (at : ℕ) (found : CowStr)
     → whole ≡ Some (record { ends = at + 1; text = so; is_joined = joined })
     → (joined ≡ false → text_of found ≡ so → IsBorrowed found) → BorrowsTitle whole (Some (at + 1, found))
-BorrowsTitle-closed whole so joined at found is borrowed = let P : Option Title
-    → Type 0 = λ t. BorrowsTitle t (Some (at + 1, found))
-    in subst P (sym is) borrowed
+BorrowsTitle-closed whole so joined at found is borrowed = rw is borrowed

@@ -83,18 +83,10 @@ module _ {C : Type 0} (step : C → Question → Option Answer → C → Type 0)
       → TriesOpener nodes closer could_be (Some (opener, live)) c o
       → ComesTo step w (option_and_then (bracket_found w c) o) old new spent spent' found
   comes_by_live opener live None spent spent' found e some rule goes comes t = absurd t.openers
-  comes_by_live opener live (Some o) spent spent' found e some rule goes comes t = found_as found_is
-      (comes o t.openers.opener t.openers.starts)
-    where
-      start : ℕ
-      start = (item_at nodes opener.node).end - 1
-
-      found_is : written_at nodes place rule closer w o could_be start ≡ bracket_found w c o
-      found_is =
-          let is : is_live o.mark.bracket ≡ true = sym t.openers.live ∙ e in
-          ap (λ rule. written_at nodes place rule closer w o could_be start) goes
-          ∙ (written_is (Some (opener, live)) (Some o) o start t some (ap (λ n. n - 1) t.openers.ends)
-          ∙ ap (λ b. if b then written w c o else None) (sym is))
+  comes_by_live opener live (Some o) spent spent' found e some rule goes comes t =
+      let is : is_live o.mark.bracket ≡ true = sym t.openers.live ∙ e in
+      found_as (rw (goes, is) (written_is (Some (opener, live)) (Some o) o ((item_at nodes opener.node).end - 1) t some
+      (ap (λ n. n - 1) t.openers.ends))) (comes o t.openers.opener t.openers.starts)
 
   -- there is none, or it is not live
   pub comes_by_none : (o : Option (Split ℕ)) (spent : SpentEnds) → TriesOpener nodes closer could_be None c o
@@ -108,4 +100,4 @@ module _ {C : Type 0} (step : C → Question → Option Answer → C → Type 0)
   comes_by_dead opener live None spent e t = absurd t.openers
   comes_by_dead opener live (Some o) spent e t =
       let dead : is_live o.mark.bracket ≡ false = sym t.openers.live ∙ e in
-      found_as (ap (λ b. if b then written w c o else None) (sym dead)) (comes_to_text step w old spent)
+      found_as (rw dead refl) (comes_to_text step w old spent)

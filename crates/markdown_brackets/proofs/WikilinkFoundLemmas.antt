@@ -29,7 +29,6 @@ use Rattle.markdown_base.proofs.ArenaForestLemmas.{height}
 use Rattle.markdown_brackets.specs.LeftList.{Split, inside, is_live}
 use Rattle.markdown_brackets.specs.StandsAt.{FindsWikilink, IsWikilink, IsWikilinkAt, TriesWikilink, wikilink_nodes}
 use Rattle.markdown_brackets.specs.StandsAt.{shown_from_node, shown_in, wikilink_from}
-use Rattle.markdown_brackets.specs.WikilinkNodes.{body_start}
 use Rattle.markdown_brackets.specs.declared.closing_bracket.ClosedBracket.{ClosedBracket}
 use Rattle.markdown_brackets.specs.declared.closing_bracket.ClosedBracket.TheVariants.{Wikilinked}
 use Rattle.markdown_brackets.specs.declared.openers.Opener.{Opener}
@@ -62,7 +61,7 @@ pipe_found text start size = by (nat_lt n (length part)) refl
         let byte : get_or part n 0 ≡ slice_index text (start + n) = get_or-take size (drop start text) n 0 cut
         ∙ get_or-drop start text n 0 in
         let after : start + n + 1 ≡ suc (start + n) = omega arith in
-        subst (λ i. follows_pipe text i ≡ true) (sym after) (subst (λ b. (b == pipe) ≡ true) byte is)
+        rw after (rw byte at is)
     by false e = tt
 
 -- what a wikilink shows from a byte offset on starts after a pipe, before the end of its body
@@ -160,11 +159,9 @@ module _ (source : List ℕ) (tables : Tables) (nodes : List (Node Item)) (w : A
       let is : shown_from_node closer.tag at
       (first_root (numbers_past nodes at (forest_at (links_of nodes) (Some f.tag))))
       ≡ option_map (λ n. From n at) (link_to (past_byte at trees)) =
-      ap (λ g. shown_from_node closer.tag at (first_root (numbers_past nodes at g)))
-      (ap (λ m. forest_at (links_of nodes) m) (sym e) ∙ found_at source tables nodes l _ s)
-      ∙ from_is source tables nodes closer nil rest at (omega (arith, behind.0, order)) l trees s.holds apart in
-      from_found b trees at (past_byte at trees) (λ n. refl) behind.1 r
-      (subst (λ o. IsWikilinkAt opener end (option_map (λ shown. (b, shown)) o) r) is h)
+      rw (← e, found_at source tables nodes l _ s)
+      (from_is source tables nodes closer nil rest at (omega (arith, behind.0, order)) l trees s.holds apart) in
+      from_found b trees at (past_byte at trees) (λ n. refl) behind.1 r (rw is at h)
 
   -- the wikilink of these trees
   pub wikilink_is : (trees : Forest (Label ℕ)) (l : Option ℕ)
@@ -178,16 +175,8 @@ module _ (source : List ℕ) (tables : Tables) (nodes : List (Node Item)) (w : A
   wikilink_is (node f below after) l s apart r h =
       by (wikilink_body w.setting.text w.above.block_end (start_of f) (start_of closer))
       (body_within w.setting.text w.above.block_end (start_of f) (start_of closer))
-      (subst (λ j. At (start_of f) j) reads
-      (subst (λ i. At i (item_at nodes closer.tag).start) (same_start source tables nodes f s.holds.2)
-      h))
+      (rw (← reads, ← same_start source tables nodes f s.holds.2) h)
     where
-      At : (start stop : ℕ) → Type 0
-      At start stop =
-          IsWikilinkAt opener end
-          (option_and_then (λ b. option_map (λ shown. (b, shown)) (shown_in nodes f.tag closer.tag b.shows start
-          stop)) (wikilink_body w.setting.text w.above.block_end start stop)) r
-
       by : (o : Option WikilinkBody) → IfSome o (λ b. StartsWithin w.setting.text (start_of closer) b.shows)
           → IsWikilinkAt opener end (option_and_then
           (λ b. option_map (λ shown. (b, shown))
@@ -251,23 +240,9 @@ finds_live nodes w end closer opener live c (Some o) r e h t =
     record { holds = s.holds; low = low_of nodes _ _ s.found } in
     let past = past_second_found s.source s.tables nodes c.label c.rest (sibling_of nodes opener.node) (inside o) all
     s.apart in
-    let begins : body_start nodes opener.node c.label.tag ≡ link_to (past_second (inside o)) =
-    second_is s.source s.tables nodes c.label nil c.rest opener.node (inside o) s.holds s.apart in
-    let reads : (item_at nodes c.label.tag).start
-    ≡ start_of c.label = subst (λ n. (item_at nodes n).start ≡ start_of c.label)
-    (sym s.number) s.starts in
+    let begins = second_is s.source s.tables nodes c.label nil c.rest opener.node (inside o) s.holds s.apart in
+    let reads : (item_at nodes c.label.tag).start ≡ start_of c.label = rw s.number s.starts in
     let at : IsWikilinkAt opener end (option_and_then (wikilink_from nodes w.setting.text w.above.block_end c.label.tag)
-    (link_to (past_second (inside o)))) r
-    =
-    subst (λ l. IsWikilinkAt opener end
-    (option_and_then (wikilink_from nodes w.setting.text w.above.block_end c.label.tag) l) r) begins
-    (subst (λ n. IsWikilinkAt opener end (wikilink_nodes nodes w.setting.text w.above.block_end opener.node n) r)
-    (sym s.number) h) in
-    let found : IsWikilink w opener end (past_second (inside o))
-    (wikilink_in w (past_second (inside o)) (start_of c.label)) r =
-    wikilink_is s.source s.tables nodes w c.label c.rest reads s.order opener end (past_second (inside o)) past.link
-    past.found past.apart r
-    at in
-    rw alive (subst (λ p. IsWikilink w p end (past_second (inside o))
-    (wikilink_in w (past_second (inside o)) (start_of c.label)) r)
-    t.opener found)
+    (link_to (past_second (inside o)))) r = rw (← begins, s.number) h in
+    rw alive (rw t.opener at (wikilink_is s.source s.tables nodes w c.label c.rest reads s.order opener end
+    (past_second (inside o)) past.link past.found past.apart r at))

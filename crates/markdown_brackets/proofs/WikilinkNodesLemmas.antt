@@ -77,24 +77,16 @@ module _ (source : List ℕ) (tables : Tables) (nodes : List (Node Item)) (close
       (by (nat_lt at (end_of a)) refl
       (from_is at behind (sibling_of nodes a.tag) after h.4 (apart_after closer.tag a below after none)))
     where
-      Goal : Bool → Bool → Type 0
-      Goal b d =
-          shown_from_node closer.tag at (first_root (if b then node a.tag (numbers_of below) (numbers_of (Up after))
-          else numbers_past nodes at (numbers_of (Up after))))
-          ≡ option_map (λ n. From n at) (link_to (if d then past_byte at after else node (begun_at at a) below after))
-
-      less_or : (i j : ℕ) → nat_lt i j ≡ true → nat_le j i ≡ false
-      less_or i j e = grind (arith, nat_tests)
-
-      less_not : (i j : ℕ) → nat_lt i j ≡ false → nat_le j i ≡ true
-      less_not i j e = grind (arith, nat_tests)
-
-      here : Goal true false
-      here = rw (apart_root closer.tag a below after none) refl
-
       by : (b : Bool) → nat_lt at (end_of a) ≡ b
           → shown_from_node closer.tag at (first_root (numbers_past nodes at (numbers_of (Up after))))
           ≡ option_map (λ n. From n at) (link_to (past_byte at after))
-          → Goal b (nat_le (end_of a) at)
-      by true e more = subst (λ d. Goal true d) (sym (less_or at (end_of a) e)) here
-      by false e more = subst (λ d. Goal false d) (sym (less_not at (end_of a) e)) more
+          → shown_from_node closer.tag at (first_root (if b then node a.tag (numbers_of below) (numbers_of (Up after))
+          else numbers_past nodes at (numbers_of (Up after))))
+          ≡ option_map (λ n. From n at) (link_to (if nat_le (end_of a) at then past_byte at after
+          else node (begun_at at a) below after))
+      by true e more =
+          let later : nat_le (end_of a) at ≡ false = grind (arith, nat_tests) in
+          rw (later, apart_root closer.tag a below after none) refl
+      by false e more =
+          let before : nat_le (end_of a) at ≡ true = grind (arith, nat_tests) in
+          rw before more

@@ -1,6 +1,6 @@
 -- The pipe of a wikilink in a block is that of the whole text, if it is before the block's end.
 use Rattle.std.proofs.Common.{◌≡◌, ℕ, zero, suc, ◌+◌, ◌-◌, ◌<◌, ◌≤◌, ◌⊎◌, inl, inr, Bool, true, false, not, ◌==◌, List}
-use Rattle.std.proofs.Common.{[], ◌∷◌, Option, Some, None, length, take, drop, min, refl, sym, ap, ◌∙◌, subst, arith}
+use Rattle.std.proofs.Common.{[], ◌∷◌, Option, Some, None, length, take, drop, min, refl, sym, ap, ◌∙◌, arith}
 use Rattle.std.proofs.Common.{cond, nat_lt, nat_le}
 use Rattle.std.specs.Prelude.{IfSome, if◌then◌else◌}
 use Rattle.std.specs.List.{position_or_len}
@@ -75,8 +75,7 @@ module _ (start m : ℕ) (body : List ℕ) where
       same : (b : Bool) → FromTaken here b ≡ FromAll b
       same true =
           let ends : nat_le (start + here + 1) (start + m) ≡ true = grind (arith, nat_tests) in
-          ap (λ (name : List ℕ). Some (start + here + 1, name)) (take-take here m body (omega (arith, l)))
-          ∙ sym (ap (λ (b : Bool). if b then Some (start + here + 1, take here body) else None) ends)
+          rw (ends, take-take here m body (omega (arith, l))) refl
       same false = refl
 
   outside : m ≤ here → FromTaken m (nat_lt m (length (take m body))) ≡ FromAll (nat_lt here (length body))
@@ -88,7 +87,7 @@ module _ (start m : ℕ) (body : List ℕ) where
       none : (b : Bool) → None ≡ FromAll b
       none true =
           let ends : nat_le (start + here + 1) (start + m) ≡ false = grind (arith, nat_tests) in
-          sym (ap (λ (b : Bool). if b then Some (start + here + 1, take here body) else None) ends)
+          rw ends refl
       none false = refl
 
   name_taken : name_before_pipe start (take m body) ≡ ending_by (start + m) (name_before_pipe start body)
@@ -124,8 +123,7 @@ past_block start n body l = by (nat_lt place (length body))
     by true =
         let one : nat_le (start + place + 1) (start + (n - start)) ≡ false = grind (arith, nat_tests) in
         let other : nat_le (start + place + 1) n ≡ false = grind (arith, nat_tests) in
-        ap (λ (b : Bool). if b then Some pipe else None) one
-        ∙ sym (ap (λ (b : Bool). if b then Some pipe else None) other)
+        rw (one, other) refl
     by false = refl
 
 pub pipe_in_block : (text : List ℕ) (block_end start size : ℕ)
@@ -146,28 +144,25 @@ pipe_in_block text block_end start size =
 
 pub no_pipe_in_block : (text : List ℕ) (block_end start size : ℕ) → None ≡ wikilink_pipe text start size
     → None ≡ wikilink_pipe (take block_end text) start size
-no_pipe_in_block text block_end start size e = ap (ending_by block_end) e
-    ∙ sym (pipe_in_block text block_end start size)
+no_pipe_in_block text block_end start size e = rw (pipe_in_block text block_end start size, ← e) refl
 
 pub pipe_past_block : (text : List ℕ) (block_end start size : ℕ) (found : ℕ × List ℕ) → Some found
     ≡ wikilink_pipe text start size
     → block_end < found.0 → None ≡ wikilink_pipe (take block_end text) start size
 pipe_past_block text block_end start size found e l =
     let past : nat_le found.0 block_end ≡ false = grind (arith, nat_tests) in
-    sym (ap (λ (b : Bool). if b then Some found else None) past) ∙ ap (ending_by block_end) e
-    ∙ sym (pipe_in_block text block_end start size)
+    rw (pipe_in_block text block_end start size, ← e, past) refl
 
 pub pipe_before_end : (text : List ℕ) (block_end start size : ℕ) (found : ℕ × List ℕ) → Some found
     ≡ wikilink_pipe text start size
     → found.0 ≤ block_end → Some found ≡ wikilink_pipe (take block_end text) start size
 pipe_before_end text block_end start size found e l =
     let before : nat_le found.0 block_end ≡ true = grind (arith, nat_tests) in
-    sym (ap (λ (b : Bool). if b then Some found else None) before) ∙ ap (ending_by block_end) e
-    ∙ sym (pipe_in_block text block_end start size)
+    rw (pipe_in_block text block_end start size, ← e, before) refl
 
 -- so a pipe in the block has what the pipe of the text has
 pub some_in_block : (text : List ℕ) (block_end start size : ℕ) (P : ℕ × List ℕ → Type 0)
     → IfSome (wikilink_pipe text start size) P
     → IfSome (wikilink_pipe (take block_end text) start size) P
-some_in_block text block_end start size P h = subst (λ (found : Option (ℕ × List ℕ)). IfSome found P)
-    (sym (pipe_in_block text block_end start size)) (if_ending_by block_end (wikilink_pipe text start size) P h)
+some_in_block text block_end start size P h =
+    rw (pipe_in_block text block_end start size) (if_ending_by block_end (wikilink_pipe text start size) P h)

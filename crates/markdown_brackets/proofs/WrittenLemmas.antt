@@ -1,6 +1,6 @@
 -- What is read of a block's text, and that nothing is read past its end.
 use Rattle.std.proofs.Common.{rules, ◌≡◌, ℕ, ◌<◌, ◌≤◌, Bool, List, Option, Some, None, Result, Ok, Err, length, take}
-use Rattle.std.proofs.Common.{arith, ◌+◌, ◌&&◌, true, false, refl, ◌∙◌, ap, if◌then◌else◌}
+use Rattle.std.proofs.Common.{arith, ◌+◌, ◌&&◌, true, false, refl, if◌then◌else◌}
 use Rattle.std.proofs.lemmas.List.{length-take}
 use Rattle.std.specs.Prelude.{IfOk, slice_range}
 use Rattle.std.specs.Option.{option_and_then, option_map, option_or}
@@ -15,8 +15,8 @@ use Rattle.markdown_brackets.specs.ChainAhead.{reaches_closer, starts_from}
 use Rattle.markdown_brackets.specs.LeftList.{Split}
 use Rattle.markdown_brackets.specs.LinkTail as scanned
 use Rattle.markdown_brackets.specs.LinkTailView.{ReadsTail}
-use Rattle.markdown_brackets.specs.Reference.{FoundLabel, Form, collapsed, shortcut, is_closer, is_opener, stands_at}
-use Rattle.markdown_brackets.specs.WrittenView.{form_ahead, reference_at, written_at}
+use Rattle.markdown_brackets.specs.Reference.{collapsed, shortcut, is_closer, is_opener, stands_at}
+use Rattle.markdown_brackets.specs.WrittenView.{written_at}
 use Rattle.markdown_brackets.proofs.LabelLengthLemmas.{no_label_past_block}
 use Rattle.markdown_brackets.proofs.LinkTailLemmas.{tail_past_end}
 use Rattle.markdown_brackets.proofs.ReferenceLemmas.{form_past}
@@ -61,14 +61,10 @@ nothing_past_block nodes place skipped closer w o could_be start past =
     let within : length text ≤ end = omega (arith, past, length-take place.block_end place.text.now) in
     let after : Option Item = option_map (item_at nodes) next in
     let second : Option Item = option_map (item_at nodes) (option_and_then (sibling_of nodes) next) in
-    let by : Option FoundLabel → Form → Option (Written ℕ) = λ own form.
-    reference_written w o end (λ i. reaches_closer nodes i next) (if could_be then own else None) form in
-    ap (λ (t : Option scanned.LinkTail). option_or (option_map (inline_link o) t)
-    (reference_at nodes place skipped closer w o could_be start))
-    (tail_past_end skipped (starts_from nodes next) text end within)
-    ∙ ap (λ own. by own (form_ahead nodes place skipped closer))
-    (no_label_past_block place.in_table (footnote_style place.options) skipped place.text.now place.block_end start end
-    past)
-    ∙ ap (by None) (form_past (footnote_style place.options) skipped place.in_table text end after second within)
-    ∙ no_reference w o could_be end (λ i. reaches_closer nodes i next)
-    (stands_at end is_opener after && stands_at (end + 1) is_closer second)
+    rw (
+      tail_past_end skipped (starts_from nodes next) text end within,
+      no_label_past_block place.in_table (footnote_style place.options) skipped place.text.now place.block_end start end
+          past,
+      form_past (footnote_style place.options) skipped place.in_table text end after second within,
+    ) (no_reference w o could_be end (λ i. reaches_closer nodes i next)
+    (stands_at end is_opener after && stands_at (end + 1) is_closer second))

@@ -1,11 +1,11 @@
 -- A wikilink was found, or the nearest opener was tried.
-use Rattle.std.proofs.Common.{◌≡◌, ◌&&◌, not, is_some, sym, ◌∙◌, ap, subst}
+use Rattle.std.proofs.Common.{◌≡◌, ◌&&◌, not, is_some, sym, ◌∙◌, ap}
 use Rattle.markdown_base.specs.BlockTree.{item_at}
 use Rattle.markdown_document.specs.ChainRest.{end_of}
 use Rattle.markdown_brackets.specs.LeftList.{nearest, opens_bracket}
 use Rattle.markdown_brackets.specs.Reference.{could_be_reference}
 use Rattle.markdown_brackets.specs.SpentEnds.{is_spent}
-use Rattle.markdown_brackets.specs.StandsAt.{could_be_at, TakesWikilink, around_by}
+use Rattle.markdown_brackets.specs.StandsAt.{could_be_at, around_by}
 use Rattle.markdown_brackets.proofs.AheadOfBracketLemmas.{same_end}
 use Rattle.markdown_brackets.proofs.DecidesLemmas.{decides_one, decides_wikilink, tries_nearest}
 use Rattle.markdown_brackets.proofs.TakeWikilinkLemmas.{closer_found}
@@ -20,9 +20,8 @@ returns-in-Some-clause-decides g c bodies skipped left cl goes s could brackets 
     c.take_nearest-bracket.result
     c.args.waiting.now.openers.brackets c.take_nearest-bracket.new.self c.take_wikilink.new.wikilinks brackets
     c.take_nearest-bracket.ensures c.in-Some.found
-    (subst (λ r. TakesWikilink w cl left c.take_wikilink.new.wikilinks r) c.in-Some.is
-    (c.take_wikilink.ensures skipped bodies lookup.tables.refdefs lookup.tables.footdefs (is_some lookup.callback) left
-    cl s wikilinks))
+    (rw c.in-Some.is at (c.take_wikilink.ensures skipped bodies lookup.tables.refdefs lookup.tables.footdefs
+    (is_some lookup.callback) left cl s wikilinks))
 
 pub returns-clause-decides : goal.returns-clause-decides
 returns-clause-decides g c =
@@ -37,12 +36,10 @@ returns-clause-decides g c =
     ok_map c.try_opener.result _ _ c.try_opener.ensures.tries
     (λ found tries bodies skipped left cl goes s could brackets wikilinks.
     let w = around_by c.args.at.now.place.now skipped bodies lookup in
-    let t = subst (λ r. TakesWikilink w cl left held r) c.in_default.is
-    (c.take_wikilink.ensures skipped bodies lookup.tables.refdefs lookup.tables.footdefs (is_some lookup.callback) left
-    cl s wikilinks) in
-    let ends : (item_at nodes closer).end ≡ end_of cl.label = subst (λ n. (item_at nodes n).end ≡ end_of cl.label)
-    s.number
-    (same_end s.source s.tables nodes cl.label (closer_found nodes closer left cl s).holds.2) in
+    let t = rw c.in_default.is at (c.take_wikilink.ensures skipped bodies lookup.tables.refdefs lookup.tables.footdefs
+    (is_some lookup.callback) left cl s wikilinks) in
+    let ends : (item_at nodes closer).end ≡ end_of cl.label =
+    rw s.number at (same_end s.source s.tables nodes cl.label (closer_found nodes closer left cl s).holds.2) in
     let could_be : cl.could_be_reference ≡ could_be_at nodes closer spent =
     could ∙ ap (λ end. could_be_reference (item_at nodes closer).body && not (is_spent spent end)) (sym ends) in
     decides_one step w cl left lookup spent c.take_nearest-bracket.result old new held brackets

@@ -1,11 +1,9 @@
 -- Whether a wikilink is tried, and with which opener.
-use Rattle.std.proofs.Common.{◌≡◌, false, refl, sym, ◌∙◌, ap, subst}
-use Rattle.std.specs.Prelude.{MatchOption}
+use Rattle.std.proofs.Common.{◌≡◌, false, refl, sym, ◌∙◌, ap}
 use Rattle.markdown_base.specs.BlockTree.{item_at, no_item}
 use Rattle.markdown_base.specs.declared.item.Item.{Item}
 use Rattle.markdown_brackets.specs.DecisionView.{around_at}
 use Rattle.markdown_brackets.specs.Reference.{is_closer}
-use Rattle.markdown_brackets.specs.StandsAt.{FindsWikilink}
 use Rattle.markdown_brackets.proofs.TakeWikilinkLemmas.{none_by_next, none_by_off, takes}
 use Rattle.markdown_brackets.proofs.decision.take_wikilink.Goals as goal
 
@@ -21,8 +19,7 @@ returns-in_default g c skipped bodies definitions footnotes asks left cl s h =
     none_by_next nodes c.args.at.now.node left cl s
     (around_at c.args.at.now.place.now skipped bodies definitions footnotes asks)
     c.args.wikilinks.now h
-    (subst (λ l. MatchOption l (Unit {0}) (λ next. is_closer (item_at nodes next).body ≡ false))
-    (sym (sym c.next.ensures.value ∙ c.in_default.is)) tt)
+    (rw (← c.next.ensures.value, c.in_default.is) tt)
 
 pub returns-then-not-is_closer : goal.returns-then-not-is_closer
 returns-then-not-is_closer g c skipped bodies definitions footnotes asks left cl s h =
@@ -33,8 +30,7 @@ returns-then-not-is_closer g c skipped bodies definitions footnotes asks left cl
     none_by_next nodes c.args.at.now.node left cl s
     (around_at c.args.at.now.place.now skipped bodies definitions footnotes asks)
     c.args.wikilinks.now h
-    (subst (λ l. MatchOption l (Unit {0}) (λ next. is_closer (item_at nodes next).body ≡ false))
-    (sym (sym c.next.ensures.value ∙ c.in-Some.is)) other)
+    (rw (← c.next.ensures.value, c.in-Some.is) other)
 
 pub returns : goal.returns
 returns g c skipped bodies definitions footnotes asks left cl s h =
@@ -46,5 +42,4 @@ returns g c skipped bodies definitions footnotes asks left cl s h =
     (sym c.wikilinks_on.ensures ∙ c.if-not-wikilinks_on.false)
     c.take_nearest-taken.result c.args.wikilinks.now c.take_nearest-taken.new.self h c.take_nearest-taken.ensures
     c.try_wikilink.result
-    (λ o t. subst (λ (i : Item). FindsWikilink w i.end cl o c.try_wikilink.result) (c.item-second.ensures no_item)
-    (c.try_wikilink.ensures w cl o refl refl t))
+    (λ o t. rw (c.item-second.ensures no_item) at (c.try_wikilink.ensures w cl o refl refl t))

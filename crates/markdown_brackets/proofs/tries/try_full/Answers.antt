@@ -1,28 +1,18 @@
 -- A `]` ends the label, or none does.
-use Rattle.std.proofs.Common.{ℕ, Bool, [], ◌∷◌, Option, Some, None, sym, ◌∙◌, ap}
-use Rattle.std.specs.Prelude.{if◌then◌else◌}
-use Rattle.markdown_base.specs.CowText.{text_of}
-use Rattle.markdown_brackets.specs.BracketDecision.{Written, full, link_reference}
-use Rattle.markdown_brackets.proofs.ComesToLemmas.{comes_to_text, found_as, spends_end}
+use Rattle.std.proofs.Common.{[], ◌∷◌, sym, ◌∙◌}
+use Rattle.markdown_brackets.proofs.ComesToLemmas.{comes_to_text, spends_end}
 use Rattle.markdown_brackets.proofs.WrittenLemmas.{ok_map}
 use Rattle.markdown_brackets.proofs.tries.try_full.Goals as goal
 
 pub returns-then-not-reaches_closer-clause-comes : goal.returns-then-not-reaches_closer-clause-comes
 returns-then-not-reaches_closer-clause-comes g c skipped bodies o opener start =
     let none = rw c.next.ensures.value at (sym c.reaches_closer.ensures ∙ c.if-not-reaches_closer.true) in
-    let by : Bool → Option (Written ℕ) = λ b.
-    if b then Some (link_reference o (full (text_of c.args.about.reference) c.args.about.span.end)) else None in
-    found_as (ap by (sym none)) (comes_to_text g.F.BrokenLinkCallback.answers _ c.args.lookup.now c.args.spent.now)
+    rw none (comes_to_text g.F.BrokenLinkCallback.answers _ c.args.lookup.now c.args.spent.now)
 
 pub returns-clause-comes : goal.returns-clause-comes
 returns-clause-comes g c =
     let end = c.args.about.span.end in
     let one = rw c.next.ensures.value at (sym c.reaches_closer.ensures ∙ c.if-not-reaches_closer.false) in
     ok_map c.find_reference.result _ _ c.find_reference.ensures.comes (λ found comes skipped bodies o opener start.
-    let by : Bool → Option (Written ℕ) = λ b. if b then Some
-    (link_reference o (full (text_of c.args.about.reference) end)) else None in
-    found_as (ap (λ k. Some (link_reference o (record (full (text_of c.args.about.reference) end) { link_type = k })))
-    c.requires.full.kind_is ∙ ap by (sym one))
-    (comes (end ∷ []) c.args.spent.now c.insert.new.self
-    (spends_end end c.args.spent.now c.insert.new.self c.in_ok-insert.ensures.put)
-    skipped bodies o opener start))
+    rw one (rw c.requires.full.kind_is at (comes (end ∷ []) c.args.spent.now c.insert.new.self
+    (spends_end end c.args.spent.now c.insert.new.self c.in_ok-insert.ensures.put) skipped bodies o opener start)))

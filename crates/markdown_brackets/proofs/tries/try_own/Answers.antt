@@ -1,14 +1,7 @@
 -- There is no label, or that of a footnote, or that of a link.
-use Rattle.std.proofs.Common.{ℕ, Option, Some, [], Bool, sym, ◌∙◌, ap, refl}
-use Rattle.std.specs.Option.{option_and_then, option_map}
-use Rattle.std.specs.Prelude.{if◌then◌else◌}
-use Rattle.markdown_base.specs.BlockTree.{item_at, no_item}
-use Rattle.markdown_base.specs.CowText.{text_of}
-use Rattle.markdown_base.specs.declared.item.Item.{Item}
-use Rattle.markdown_brackets.specs.BracketDecision.{Written, LinkReference, footnote_written, link_reference}
-use Rattle.markdown_brackets.specs.BracketDecision.{own_written}
-use Rattle.markdown_brackets.specs.ReferenceView.{label_view}
-use Rattle.markdown_brackets.proofs.ComesToLemmas.{comes_to_text, found_as}
+use Rattle.std.proofs.Common.{[], refl}
+use Rattle.markdown_base.specs.BlockTree.{no_item}
+use Rattle.markdown_brackets.proofs.ComesToLemmas.{comes_to_text}
 use Rattle.markdown_brackets.proofs.WrittenLemmas.{ok_map}
 use Rattle.markdown_brackets.specs.StandsAt.{around_by}
 use Rattle.markdown_brackets.proofs.tries.try_own.Goals as goal
@@ -16,46 +9,20 @@ use Rattle.markdown_brackets.proofs.tries.try_own.Goals as goal
 pub returns-in_default-clause-comes : goal.returns-in_default-clause-comes
 returns-in_default-clause-comes g c spent skipped bodies o opener start =
     let at = c.args.at.now in
-    let nodes = at.tree.now.nodes in
     let own = rw (c.item-3.ensures no_item) at c.in_ok-label.ensures in
     let w = around_by at.place.now skipped bodies c.args.lookup.now in
-    found_as (ap (option_and_then (own_written w o c.args.link_type (item_at nodes at.node).end c.args.next))
-    (sym (ap (option_map label_view) c.in_default.is) ∙ own))
-    (comes_to_text g.F.BrokenLinkCallback.answers w c.args.lookup.now spent)
+    rw (← own, c.in_default.is) (comes_to_text g.F.BrokenLinkCallback.answers w c.args.lookup.now spent)
 
 pub returns-then-label-clause-comes : goal.returns-then-label-clause-comes
 returns-then-label-clause-comes g c =
-    let at = c.args.at.now in
-    let nodes = at.tree.now.nodes in
-    let end = (item_at nodes at.node).end in
     let own = rw (c.item-3.ensures no_item) at c.in_ok-label.ensures in
-    let name = text_of c.in-Some.label.name in
     ok_map c.find_footnote.result _ _ c.find_footnote.ensures.comes (λ found comes spent skipped bodies o opener start.
-    let w = around_by at.place.now skipped bodies c.args.lookup.now in
-    let link : LinkReference = record
-    { link_type = c.args.link_type; label = name; end = end; next = c.args.next; spends = [] } in
-    let by : Bool → Option (Written ℕ) = λ b. if b then footnote_written w o name else Some (link_reference o link) in
-    found_as (ap by (sym c.if-label.true)
-    ∙ ap (option_and_then (own_written w o c.args.link_type end c.args.next))
-    (sym (ap (option_map label_view) c.in-Some.is) ∙ own))
-    (comes spent skipped bodies o opener start))
+    rw (← own, c.in-Some.is, c.if-label.true) (comes spent skipped bodies o opener start))
 
 pub returns-clause-comes : goal.returns-clause-comes
 returns-clause-comes g c =
-    let at = c.args.at.now in
-    let nodes = at.tree.now.nodes in
-    let end = (item_at nodes at.node).end in
     let own = rw (c.item-3.ensures no_item) at c.in_ok-label.ensures in
-    let name = text_of c.in-Some.label.name in
-    let link : ℕ → LinkReference = λ end. record
-    { link_type = c.args.link_type; label = name; end = end; next = c.args.next; spends = [] } in
     ok_map c.find_reference.result _ _ c.find_reference.ensures.comes
     (λ found comes spent skipped bodies o opener start.
-    let w = around_by at.place.now skipped bodies c.args.lookup.now in
-    let by : Bool → Option (Written ℕ) = λ b. if b then footnote_written w o name else Some
-    (link_reference o (link end)) in
-    found_as (ap (λ (i : Item). Some (link_reference o (link i.end))) (c.item-2.ensures no_item)
-    ∙ (ap by (sym c.if-label.false)
-    ∙ ap (option_and_then (own_written w o c.args.link_type end c.args.next))
-    (sym (ap (option_map label_view) c.in-Some.is) ∙ own)))
-    (comes [] spent spent (λ end. refl) skipped bodies o opener start))
+    rw (← own, c.in-Some.is, c.if-label.false)
+    (rw (c.item-2.ensures no_item) at (comes [] spent spent (λ end. refl) skipped bodies o opener start)))

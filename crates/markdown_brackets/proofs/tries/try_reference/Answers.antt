@@ -1,20 +1,11 @@
 -- By the form of the reference.
-use Rattle.std.proofs.Common.{◌≡◌, ℕ, ◌+◌, ◌-◌, ◌<◌, Bool, true, false, Option, None, sym, ◌∙◌, ap, refl, subst}
-use Rattle.std.specs.Option.{option_and_then}
-use Rattle.std.specs.Prelude.{if◌then◌else◌}
-use Rattle.markdown_base.specs.Arena.{sibling_of}
-use Rattle.markdown_base.specs.BlockTree.{item_at, no_item}
+use Rattle.std.proofs.Common.{◌≡◌, ◌<◌, true, false, sym, ◌∙◌, ap, refl, subst}
+use Rattle.markdown_base.specs.BlockTree.{no_item}
 use Rattle.markdown_base.specs.declared.item.Item.{Item}
-use Rattle.markdown_base.specs.declared.tag.LinkType.{LinkType}
-use Rattle.markdown_base.specs.declared.tag.LinkType.TheVariants as kind
-use Rattle.markdown_brackets.specs.BracketDecision.{Written, own_written, reference_written}
-use Rattle.markdown_brackets.specs.ChainAhead.{reaches_closer}
-use Rattle.markdown_brackets.specs.Reference.{Form, collapsed, shortcut}
 use Rattle.markdown_brackets.specs.ReferenceView.{form_view}
 use Rattle.markdown_brackets.specs.StandsAt.{could_be_at, around_by}
-use Rattle.markdown_brackets.specs.WrittenView.{own_label_at}
 use Rattle.markdown_brackets.proofs.AheadOfBracketLemmas.{EndsBehind, form_behind}
-use Rattle.markdown_brackets.proofs.ComesToLemmas.{comes_to_text, found_as}
+use Rattle.markdown_brackets.proofs.ComesToLemmas.{comes_to_text}
 use Rattle.markdown_brackets.proofs.WrittenLemmas.{ok_map}
 use Rattle.markdown_brackets.proofs.tries.try_reference.Goals as goal
 use Rattle.markdown_brackets.proofs.tries.try_reference.Goals.{in-Collapsed, in-Shortcut}
@@ -41,57 +32,33 @@ try_full-requires g c k =
 
 pub returns-in-Reference-clause-comes : goal.returns-in-Reference-clause-comes
 returns-in-Reference-clause-comes g c =
-    let at = c.args.at.now in
-    let nodes = at.tree.now.nodes in
-    let own = own_label_at nodes at.place.now (g.R.LineRule.skipped at.rule.now) at.node
-    ((item_at nodes c.args.opener.node).end - 1) in
     ok_map c.try_full.result _ _ c.try_full.ensures.comes (λ found comes skipped bodies o opener start.
-    let by : Form → Option (Written ℕ) = reference_written (around_by at.place.now skipped bodies c.args.lookup.now) o
-    (item_at nodes at.node).end
-    (λ i. reaches_closer nodes i (sibling_of nodes at.node))
-    (if could_be_at nodes at.node c.args.spent.now then own else None) in
-    found_as (ap by (sym (ap form_view c.in-Reference.is) ∙ c.in_ok-label.ensures.form))
-    (comes skipped bodies o opener start))
+    rw (← c.in_ok-label.ensures.form, c.in-Reference.is) (comes skipped bodies o opener start))
 
 pub returns-then-not-could_be_reference-clause-comes : goal.returns-then-not-could_be_reference-clause-comes
 returns-then-not-could_be_reference-clause-comes g c skipped bodies o opener start =
     let at = c.args.at.now in
     let nodes = at.tree.now.nodes in
-    let own = own_label_at nodes at.place.now (g.R.LineRule.skipped at.rule.now) at.node
-    ((item_at nodes c.args.opener.node).end - 1) in
     let w = around_by at.place.now skipped bodies c.args.lookup.now in
-    let by : Bool → Form → Option (Written ℕ) = λ could form. reference_written w o (item_at nodes at.node).end
-    (λ i. reaches_closer nodes i (sibling_of nodes at.node)) (if could then own else None) form in
+    let text = comes_to_text g.F.BrokenLinkCallback.answers w c.args.lookup.now c.args.spent.now in
     let could : could_be_at nodes at.node c.args.spent.now ≡ false = sym c.could_be_reference.ensures
     ∙ c.if-not-could_be_reference.true in
     let form = c.in_ok-label.ensures.form in
-    let none : None ≡ by (could_be_at nodes at.node c.args.spent.now) _ = elim c.match-branch-2.branch [
-      | in-Collapsed w ↦ ap (λ b. by b collapsed) (sym could) ∙ ap (by _) (sym (ap form_view w.in-Collapsed.is) ∙ form)
-      | in-Shortcut w ↦ ap (λ b. by b shortcut) (sym could) ∙ ap (by _) (sym (ap form_view w.in-Shortcut.is) ∙ form)
-    ] in
-    found_as none (comes_to_text g.F.BrokenLinkCallback.answers w c.args.lookup.now c.args.spent.now)
+    elim c.match-branch-2.branch [
+      | in-Collapsed b ↦ rw (← form, b.in-Collapsed.is, could) text
+      | in-Shortcut b ↦ rw (← form, b.in-Shortcut.is, could) text
+    ]
 
 pub returns-clause-comes : goal.returns-clause-comes
 returns-clause-comes g c =
     let at = c.args.at.now in
     let nodes = at.tree.now.nodes in
-    let end = (item_at nodes at.node).end in
-    let own = own_label_at nodes at.place.now (g.R.LineRule.skipped at.rule.now) at.node
-    ((item_at nodes c.args.opener.node).end - 1) in
     let could : could_be_at nodes at.node c.args.spent.now ≡ true = sym c.could_be_reference.ensures
     ∙ c.if-not-could_be_reference.false in
     let form = c.in_ok-label.ensures.form in
-    let ends : c.item.result.now.end ≡ end = ap (λ (i : Item). i.end) (c.item.ensures no_item) in
-    let link = c.match-branch-2.link_type in
     ok_map c.try_own.result _ _ c.try_own.ensures.comes (λ found comes skipped bodies o opener start.
-    let w = around_by at.place.now skipped bodies c.args.lookup.now in
-    let by : Bool → Form → Option (Written ℕ) = λ could form. reference_written w o end
-    (λ i. reaches_closer nodes i (sibling_of nodes at.node)) (if could then own else None) form in
-    let link_by : LinkType × ℕ → Option (Written ℕ) = λ k. option_and_then (own_written w o k.0 end k.1) own in
-    let written : link_by link ≡ by (could_be_at nodes at.node c.args.spent.now) _ = elim c.match-branch-2.branch [
-      | in-Collapsed w ↦ ap link_by w.link_type-is ∙ (ap (λ n. link_by (kind.Collapsed, n + 2)) ends
-          ∙ (ap (λ b. by b collapsed) (sym could) ∙ ap (by _) (sym (ap form_view w.in-Collapsed.is) ∙ form)))
-      | in-Shortcut w ↦ ap link_by w.link_type-is ∙ (ap (λ n. link_by (kind.Shortcut, n)) ends
-          ∙ (ap (λ b. by b shortcut) (sym could) ∙ ap (by _) (sym (ap form_view w.in-Shortcut.is) ∙ form)))
-    ] in
-    found_as written (comes c.args.spent.now skipped bodies o opener start))
+    let own = comes c.args.spent.now skipped bodies o opener start in
+    elim c.match-branch-2.branch [
+      | in-Collapsed b ↦ rw (← form, b.in-Collapsed.is, could) (rw (b.link_type-is, c.item.ensures no_item) at own)
+      | in-Shortcut b ↦ rw (← form, b.in-Shortcut.is, could) (rw (b.link_type-is, c.item.ensures no_item) at own)
+    ])

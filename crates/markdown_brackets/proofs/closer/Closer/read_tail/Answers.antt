@@ -1,12 +1,10 @@
 -- The tail is that of the block's text, by the items ahead, and its title comes from there.
-use Rattle.std.proofs.Common.{◌∙◌, subst}
-use Rattle.std.specs.Prelude.{IfOk, IfSome}
+use Rattle.std.proofs.Common.{◌∙◌}
+use Rattle.std.specs.Prelude.{IfOk}
 use Rattle.markdown_base.specs.BlockTree.{no_item}
-use Rattle.markdown_base.specs.declared.item.Item.{Item}
 use Rattle.markdown_brackets.specs.ChainAhead.{starts_from}
 use Rattle.markdown_brackets.specs.LinkTail.{link_tail}
 use Rattle.markdown_brackets.specs.LinkTailView.{ReadsTail}
-use Rattle.markdown_brackets.specs.WrittenView.{IsTailFrom}
 use Rattle.markdown_brackets.proofs.TailTitleLemmas.{has_title}
 use Rattle.markdown_brackets.proofs.WrittenLemmas.{ok_both, whole_range}
 use Rattle.markdown_brackets.proofs.closer.Closer.read_tail.Goals as goal
@@ -26,8 +24,7 @@ returns-clause-from g c =
     let at = c.args.self.now in
     let place = at.place.now in
     let text = c.range-text.ensures.value ∙ whole_range place.text.now place.block_end in
-    subst (λ (i : Item). IfOk c.scan_link_tail.result (λ found. IfSome found (IsTailFrom place.text.now i.end)))
-    (c.item.ensures no_item)
+    rw (c.item.ensures no_item) at
     (ok_both c.scan_link_tail.result _ _ _ c.scan_link_tail.ensures.value c.scan_link_tail.ensures.borrowed
     (λ found reads borrows.
     has_title c.rules.result.in_table (g.R.LineRule.skipped c.rules.result.rule.now)
