@@ -1,5 +1,5 @@
 //! Numbers by which an item refers to a part of its block result.
-ghost use Rattle.std.specs.Prelude.{◌≡◌, IfOk};
+ghost use Rattle.std.specs.Prelude.{◌≡◌, ◌<◌, ◌^◌, IfOk, IsOk};
 
 use std::alloc::AllocError;
 
@@ -22,7 +22,8 @@ pub struct HeadingIndex(pub u32);
 impl CowIndex {
     /// Returns the index with this number. A number of 2^32 or more is refused, as an allocation is.
     pub fn of(number: usize) -> Result<CowIndex, AllocError>
-        ensures { IfOk result (λ ix. ix.0 ≡ number) }
+        ensures value { IfOk result (λ ix. ix.0 ≡ number) }
+        ensures fits { number < 2 ^ 32 → IsOk result }
     {
         Ok(CowIndex(in_32_bits(number)?))
     }
@@ -31,7 +32,8 @@ impl CowIndex {
 impl HeadingIndex {
     /// Returns the index with this number. A number of 2^32 or more is refused, as an allocation is.
     pub fn of(number: usize) -> Result<HeadingIndex, AllocError>
-        ensures { IfOk result (λ ix. ix.0 ≡ number) }
+        ensures value { IfOk result (λ ix. ix.0 ≡ number) }
+        ensures fits { number < 2 ^ 32 → IsOk result }
     {
         Ok(HeadingIndex(in_32_bits(number)?))
     }
@@ -39,7 +41,8 @@ impl HeadingIndex {
 
 /// Returns a number in the width in which items hold it. A number of 2^32 or more is refused, as an allocation is.
 pub fn in_32_bits(number: usize) -> Result<u32, AllocError>
-    ensures { IfOk result (λ held. held ≡ number) }
+    ensures value { IfOk result (λ held. held ≡ number) }
+    ensures fits { number < 2 ^ 32 → IsOk result }
 {
     if number > u32::MAX as usize {
         return Err(AllocError);

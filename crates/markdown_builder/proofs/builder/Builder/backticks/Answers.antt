@@ -6,6 +6,6 @@ use Rattle.markdown_builder.proofs.builder.Builder.backticks.Goals as goal
 
 pub invariant_of-self-2 : goal.invariant_of-self-2
 invariant_of-self-2 c =
-    rw (c.in_ok-append.ensures.made, c.in_ok-count.ensures)
+    rw (c.in_ok-append.ensures.made, c.in_ok-count.ensures.value)
     (backticks_keeps (standpoint c.args.self.now) c.args.end c.args.escaped c.self.invariant
     (ap standpoint c.self.view_is) c.requires.inside c.requires.run)

@@ -15,7 +15,7 @@ invariant_of-self-in_err-enter c =
     c.in_ok-push.ensures.items
     ∙ length-append c.self.inside.headings.items _ in
     let last : ix.0 ≡ length c.push.new.self.items =
-    omega (arith, more, c.len.ensures, c.self.inside.headings.ok.0, c.in_ok-ix.ensures) in
+    omega (arith, more, c.len.ensures, c.self.inside.headings.ok.0, c.in_ok-ix.ensures.value) in
     rw c.in_err-enter.ensures.stays
     (refused_keeps (standpoint c.args.self.now) _ (body.Heading c.args.level (Some ix)) c.enter.new.tree
     c.self.invariant (ap standpoint c.self.view_is) c.requires
@@ -29,7 +29,7 @@ invariant_of-self-2 c =
     c.in_ok-push.ensures.items
     ∙ length-append c.self.inside.headings.items _ in
     let last : ix.0 ≡ length c.push.new.self.items =
-    omega (arith, more, c.len.ensures, c.self.inside.headings.ok.0, c.in_ok-ix.ensures) in
+    omega (arith, more, c.len.ensures, c.self.inside.headings.ok.0, c.in_ok-ix.ensures.value) in
     rw (c.in_ok-enter.ensures.entered, c.in_ok-enter.ensures.opened)
     (placed_keeps (standpoint c.args.self.now) _ (body.Heading c.args.level (Some ix)) c.self.invariant
     (ap standpoint c.self.view_is) c.requires
