@@ -1,5 +1,6 @@
 //! Many delimiter runs in one chain, made by hand: their events with ranges, and the counts of the work.
 use crate::grown::Grown;
+use markdown_base::index::in_32_bits;
 use markdown_base::item::ItemBody;
 use markdown_test_helpers::rows::gives;
 use std::alloc::{AllocError, Global};
@@ -16,7 +17,7 @@ fn append_run(
     'marks: for left in 0..count {
         over.append(
             mark,
-            ItemBody::MaybeEmphasis((count - left) as u32, opens, closes),
+            ItemBody::MaybeEmphasis(in_32_bits(count - left)?, opens, closes),
         )?;
     }
     over.append_a()

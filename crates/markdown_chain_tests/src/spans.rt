@@ -5,7 +5,7 @@ use crate::rows::{
     compare, compare_events, compare_plain, compare_whole, outline_gives, outline_shows,
     paragraph_gives, paragraph_shows,
 };
-use markdown_base::index::AlignmentIndex;
+use markdown_base::index::{AlignmentIndex, in_32_bits};
 use markdown_base::item::{Item, ItemBody};
 use markdown_base::options::Options;
 use markdown_document::work::Work;
@@ -268,7 +268,10 @@ fn code_in_a_cell(rt: HostRuntime) -> Result<(), Fail> {
 /// Appends a run of backticks, followed by a text.
 fn append_backticks(alloc: Global, over: &mut Grown, count: usize) -> Result<(), AllocError> {
     let mark = "`".repeat(alloc, count)?;
-    over.append(mark.as_str(), ItemBody::MaybeCode(count as u32, false))?;
+    over.append(
+        mark.as_str(),
+        ItemBody::MaybeCode(in_32_bits(count)?, false),
+    )?;
     over.append_a()
 }
 
