@@ -14,6 +14,7 @@ use Rattle.markdown_base.specs.declared.tag.Alignment.TheVariants as align
 use Rattle.markdown_base.specs.declared.tag.BlockQuoteKind.{BlockQuoteKind}
 use Rattle.markdown_base.specs.declared.tag.BlockQuoteKind.TheVariants as quote
 use Rattle.markdown_base.specs.declared.tag.HeadingLevel.{HeadingLevel}
+use Rattle.markdown_base.specs.declared.tag.HeadingLevel.TheVariants as level
 use Rattle.markdown_base.specs.declared.tag.LinkType.{LinkType}
 use Rattle.markdown_base.specs.declared.tag.LinkType.TheVariants as written
 use Rattle.markdown_base.specs.declared.tag.MetadataBlockKind.{MetadataBlockKind}
@@ -21,7 +22,6 @@ use Rattle.markdown_base.specs.declared.tag.MetadataBlockKind.TheVariants as fen
 use Rattle.markdown_base.specs.declared.tag.TagEnd.{TagEnd}
 use Rattle.markdown_base.specs.declared.tag.TagEnd.TheVariants as closes
 use Rattle.markdown_out.specs.ByteLists.{joined}
-use Rattle.markdown_out.specs.TagHtml.{level_digit}
 
 -- what a control is written as in a string: a letter after a backslash, or four hexadecimal digits
 abbrev pub control_bytes : ℕ → List ℕ
@@ -73,7 +73,12 @@ boolean true = codes "true"
 boolean false = codes "false"
 
 abbrev pub level_json : HeadingLevel → List ℕ
-level_json level = quoted (codes "H" ++ level_digit level)
+level_json level.H1 = codes "\"H1\""
+level_json level.H2 = codes "\"H2\""
+level_json level.H3 = codes "\"H3\""
+level_json level.H4 = codes "\"H4\""
+level_json level.H5 = codes "\"H5\""
+level_json level.H6 = codes "\"H6\""
 
 abbrev pub quote_json : BlockQuoteKind → List ℕ
 quote_json quote.Note = codes "\"Note\""

@@ -150,7 +150,7 @@ start_parts past (event.link l) = link_parts l.kind l.destination l.title
 start_parts past (event.image i) = image_parts i.destination
 start_parts past tag = []
 
--- what an End writes outside images: nothing where its Start has written all
+-- what an End writes outside images: nothing for HTML blocks, metadata, and the End of an image
 abbrev pub end_parts : Past → TagEnd → List (List ℕ)
 end_parts past closes.Paragraph = codes "</p>\n" ∷ []
 end_parts past (closes.Heading level) = codes "</h" ∷ level_digit level ∷ codes ">\n" ∷ []
