@@ -46,3 +46,19 @@ none_further test bytes from start stop order within before none at low high =
     let same = byte_of_part bytes start stop (at - start) (omega (arith, h, high)) ∙ ap (λ k. get_or bytes k 0) place in
     ap test (sym same) ∙ here)
     (cases_lt at start)
+
+-- what is found by either of two tests
+any_by_both : (a b x y : Bool) → ((a || x) || (b || y)) ≡ ((a || b) || (x || y))
+any_by_both true b x y = refl
+any_by_both false true true y = refl
+any_by_both false true false y = refl
+any_by_both false false x y = refl
+
+-- bytes that hold one which passes either of two tests
+pub list_any-either : (p q either : ℕ → Bool) → ((byte : ℕ) → either byte ≡ (p byte || q byte)) → (bytes : List ℕ)
+    → (list_any p bytes || list_any q bytes) ≡ list_any either bytes
+list_any-either p q either h [] = refl
+list_any-either p q either h (byte ∷ bytes) =
+    any_by_both (p byte) (q byte) (list_any p bytes) (list_any q bytes)
+    ∙ ap (λ (x : Bool). (p byte || q byte) || x) (list_any-either p q either h bytes)
+    ∙ ap (λ (x : Bool). x || list_any either bytes) (sym (h byte))

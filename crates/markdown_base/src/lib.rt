@@ -3,6 +3,7 @@
 #![tactic(auto)]
 
 pub mod block_parts;
+pub mod byte_tests;
 mod copies;
 pub mod cow_str;
 pub mod event;

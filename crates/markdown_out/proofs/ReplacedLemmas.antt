@@ -1,13 +1,30 @@
 -- Bytes that are looked at together, none of which an escape replaces, wait to be copied.
-use Rattle.std.proofs.Common.{◌≡◌, ℕ, zero, suc, ◌+◌, ◌-◌, ◌<◌, ◌≤◌, List, [], ◌∷◌, false, length, get_or, sym}
+use Rattle.std.proofs.Common.{◌≡◌, ℕ, zero, suc, ◌+◌, ◌-◌, ◌<◌, ◌≤◌, List, [], ◌∷◌, Bool, true, false}
+use Rattle.std.proofs.Common.{length, get_or, refl, sym}
 use Rattle.std.proofs.Common.{arith, rules, slice_range, slice_index, ⊎_elim}
 use Rattle.std.proofs.lemmas.Bool.{cases_lt}
+use Rattle.std.specs.Prelude.{◌==◌, ◌||◌}
 use Rattle.std.specs.List.{list_any}
-use Rattle.markdown_base.proofs.ByteListLemmas.{none_further}
+use Rattle.markdown_base.proofs.ByteListLemmas.{list_any-either, none_further}
 use Rattle.markdown_out.specs.Escaped.{escaped_byte, may_be_replaced, IsBeforeReplaced}
 use Rattle.markdown_out.specs.declared.escape.Escape.{Escape}
 use Rattle.markdown_out.specs.declared.escape.Escape.TheVariants as escape
 use Rattle.markdown_out.proofs.EscapesLemmas.{Copied, Copied-keep}
+
+-- one of four is one of the middle two, or of the outer two
+by_two : (a b c d : Bool) → (a || (b || (c || d))) ≡ ((b || c) || (a || d))
+by_two true true c d = refl
+by_two true false true d = refl
+by_two true false false d = refl
+by_two false true c d = refl
+by_two false false c d = refl
+
+-- a byte that may be replaced is an angle bracket, or an ampersand or quotation mark
+pub replaced_of_two : (bytes : List ℕ)
+    → (list_any (λ byte. (byte == 60) || (byte == 62)) bytes || list_any (λ byte. (byte == 38) || (byte == 34)) bytes)
+    ≡ list_any may_be_replaced bytes
+replaced_of_two bytes = list_any-either _ _ may_be_replaced
+    (λ byte. by_two (byte == 38) (byte == 60) (byte == 62) (byte == 34)) bytes
 
 -- some bytes more are not replaced
 pub kept_further : (bytes : List ℕ) (from start stop : ℕ) → start ≤ stop → stop ≤ length bytes

@@ -8,6 +8,7 @@ ghost use Rattle.markdown_out.specs.StringAppends.{Appends, AppendsPart};
 ghost use Rattle.markdown_out.specs.Escaped.{escaped_byte, may_be_replaced, IsBeforeReplaced};
 ghost use Rattle.markdown_out.specs.Escapes.{destination_byte, destination_escaped, is_kept_byte};
 
+use markdown_base::byte_tests::holds_either;
 use percent_encoding::percent_encode_byte;
 use std::alloc::AllocError;
 
@@ -49,7 +50,10 @@ fn replacement(escape: Escape, byte: u8) -> Option<&'static str>
 const TOGETHER: usize = 32;
 
 /// The same number where fewer bytes are left.
-const FEW: usize = 16;
+const FEWER: usize = 16;
+
+/// The same number where only a few bytes are left.
+const FEW: usize = 8;
 
 /// Returns whether some escape replaces a byte.
 #[inline(always)]
@@ -64,11 +68,7 @@ fn may_be_replaced(byte: u8) -> bool
 fn holds_replaced(bytes: &[u8]) -> bool
     ensures { result ≡ list_any may_be_replaced bytes.now }
 {
-    let mut found = false;
-    for byte in bytes {
-        found |= may_be_replaced(*byte);
-    }
-    found
+    holds_either(bytes, b'<', b'>') | holds_either(bytes, b'&', b'"')
 }
 
 /// Returns an offset such that no escape replaces a byte from `from` up to it. Tests `count` bytes at a time.
@@ -92,6 +92,7 @@ fn first_replaced(bytes: &[u8], from: usize) -> usize
     ensures { IsBeforeReplaced bytes.now from result }
 {
     let start = past_kept(bytes, from, TOGETHER);
+    let start = past_kept(bytes, start, FEWER);
     let start = past_kept(bytes, start, FEW);
     let end = bytes.len();
     if end - from >= FEW && end - start < FEW && !holds_replaced(&bytes[end - FEW..end]) {

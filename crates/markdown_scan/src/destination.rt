@@ -8,6 +8,7 @@ ghost use Rattle.markdown_scan.specs.Together.{may_matter, IsPast};
 
 use crate::ascii_kinds::is_control_or_space;
 use crate::backslash::is_bare;
+use markdown_base::byte_tests::{holds, holds_at_most, holds_either};
 
 // Returns whether the byte is not allowed between angle brackets: another `<`, or a line ending.
 fn is_refused(escaped: bool, byte: u8) -> bool
@@ -86,11 +87,9 @@ const TOGETHER: usize = 16;
 fn holds_any(bytes: &[u8]) -> bool
     ensures { result ≡ list_any may_matter bytes.now }
 {
-    let mut found = false;
-    for byte in bytes {
-        found |= may_matter(*byte);
-    }
-    found
+    let controls_or_spaces = holds_at_most(bytes, b' ') | holds(bytes, b'\x7F');
+    let marks = holds_either(bytes, b'(', b')') | holds(bytes, b'\\');
+    controls_or_spaces | marks
 }
 
 // Returns an offset such that no byte before it may matter, close to the first that may.

@@ -9,6 +9,7 @@ ghost use Rattle.markdown_scan.specs.Unescape.{escape_or_entity, unescaped};
 ghost use Rattle.markdown_scan.specs.Together.{may_begin_reference, IsPast};
 
 use crate::entity::scan_entity;
+use markdown_base::byte_tests::holds;
 use markdown_base::cow_str::CowStr;
 use std::alloc::{AllocError, Global};
 
@@ -49,11 +50,7 @@ const TOGETHER: usize = 16;
 fn may_hold_reference(bytes: &[u8]) -> bool
     ensures { result ≡ list_any may_begin_reference bytes.now }
 {
-    let mut found = false;
-    for byte in bytes {
-        found |= *byte == b'\\' || *byte == b'&';
-    }
-    found
+    holds(bytes, b'\\') | holds(bytes, b'&')
 }
 
 /// Returns an offset such that no backslash or ampersand is before it: the length, or an offset close to the first one.

@@ -1,0 +1,40 @@
+//! Whether some byte is one of a few. Each loop makes one kind of comparison, so that it is compiled to compare sixteen
+//! bytes at once; several tests are joined by `|`.
+ghost use Rattle.std.specs.Prelude.{◌≡◌, ◌==◌, ◌||◌, nat_le};
+ghost use Rattle.std.specs.List.{list_any};
+
+/// Returns whether one of the bytes is `wanted`.
+#[inline(always)]
+pub fn holds(bytes: &[u8], wanted: u8) -> bool
+    ensures { result ≡ list_any (λ byte. byte == wanted) bytes.now }
+{
+    let mut found = false;
+    for byte in bytes {
+        found |= *byte == wanted;
+    }
+    found
+}
+
+/// Returns whether one of the bytes is `one` or `other`.
+#[inline(always)]
+pub fn holds_either(bytes: &[u8], one: u8, other: u8) -> bool
+    ensures { result ≡ list_any (λ byte. (byte == one) || (byte == other)) bytes.now }
+{
+    let mut found = false;
+    for byte in bytes {
+        found |= (*byte == one) | (*byte == other);
+    }
+    found
+}
+
+/// Returns whether one of the bytes is at most `most`.
+#[inline(always)]
+pub fn holds_at_most(bytes: &[u8], most: u8) -> bool
+    ensures { result ≡ list_any (λ byte. nat_le byte most) bytes.now }
+{
+    let mut found = false;
+    for byte in bytes {
+        found |= *byte <= most;
+    }
+    found
+}
