@@ -90,6 +90,8 @@ impl<'a> Allocations<'a> {
 
     /// Adds a link and returns its number. The only error is `Fault::Memory`, in which case nothing has changed and the
     /// texts are dropped.
+    // inlined: the three texts would otherwise be moved twice
+    #[inline(always)]
     pub fn allocate_link(
         &mut self,
         ty: LinkType,

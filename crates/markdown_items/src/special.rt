@@ -67,6 +67,8 @@ fn length_before_special(bytes: &[u8]) -> usize
 
 /// Returns the first byte offset from `from` on whose byte may begin something other than text, or `end`. Bytes after
 /// `end` may be read, since several are tested together.
+// inlined into the one function that calls it
+#[inline(always)]
 pub fn first_special(bytes: &[u8], from: usize, end: usize) -> usize
     requires ordered { from ≤ end }
     requires within { end ≤ length bytes.now }

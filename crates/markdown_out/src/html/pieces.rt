@@ -26,6 +26,8 @@ pub(super) fn alone(text: &str) -> [Piece<'_>; 3]
 }
 
 /// Appends one piece.
+// inlined with its callers: which pieces there are is then known, and none is stored to be read back
+#[inline(always)]
 fn push_piece(s: &mut String, piece: Piece<'_>) -> Result<(), AllocError>
     ensures ok { OnOk result (Appends s.old s.new (piece_bytes piece.entry)) }
     ensures err { OnErr result (AppendsPart s.old s.new (piece_bytes piece.entry)) }
@@ -39,6 +41,7 @@ fn push_piece(s: &mut String, piece: Piece<'_>) -> Result<(), AllocError>
 }
 
 /// Appends the pieces in their order.
+#[inline(always)]
 pub(super) fn push_pieces(s: &mut String, pieces: &[Piece<'_>]) -> Result<(), AllocError>
     ensures ok { OnOk result (Appends s.old s.new (spelled pieces.now)) }
     ensures err { OnErr result (AppendsPart s.old s.new (spelled pieces.now)) }
@@ -62,6 +65,7 @@ fn fresh_behind(bytes: &[u8], start: usize, before: bool) -> bool
 }
 
 /// Appends the pieces, and updates `fresh`.
+#[inline(always)]
 pub(super) fn put(s: &mut String, fresh: &mut bool, pieces: &[Piece<'_>]) -> Result<(), AllocError>
     ensures ok { OnOk result (Appends s.old s.new (spelled pieces.now)) }
     ensures fresh { OnOk result (fresh.new ≡ fresh_after_bytes fresh.old (spelled pieces.now)) }
