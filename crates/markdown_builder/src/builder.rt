@@ -184,6 +184,8 @@ impl<'a> Builder<'a> {
     }
 
     /// Appends a settled inline item up to byte offset `end`.
+    // inlined: it is called for each Text and each line ending
+    #[inline(always)]
     pub fn inline(&mut self, body: ItemBody, end: usize) -> Result<(), AllocError>
         requires settled { is_settled body ≡ true }
         requires inside { self.old.leaf ≡ true }
@@ -383,6 +385,7 @@ impl<'a> Builder<'a> {
 
     /// Appends the open item for a run of backticks up to byte offset `end`; `escaped` is whether a backslash precedes
     /// it.
+    #[inline(always)]
     pub fn backticks(&mut self, end: usize, escaped: bool) -> Result<(), AllocError>
         requires inside { self.old.leaf ≡ true }
         requires run { IsRunOf 96 self.old.text self.old.at end }

@@ -126,6 +126,7 @@ impl<'a> Pass<'a> {
     }
 
     /// Ends the open leaf, and closes the open blocks except the outermost `depth`.
+    #[inline(always)]
     pub fn close_down(&mut self, depth: usize) -> Result<(), AllocError>
         ensures text { IfOk result (λ _. self.new.placing.builder.text
             ≡ self.old.placing.builder.text) }

@@ -151,6 +151,7 @@ impl<'a, F: BrokenLinkCallback<'a>> Resolver<'a, F> {
 
     /// Appends the text of a span with this content, a range of byte offsets, to the table of texts, and returns its
     /// number. The only error is `Fault::Memory`.
+    #[inline(always)]
     fn store_text(
         &mut self,
         tree: &Tree<Item>,

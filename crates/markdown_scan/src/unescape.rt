@@ -75,6 +75,7 @@ fn past_plain(bytes: &[u8]) -> usize
 
 /// Returns the text before the first escape or entity, the character of that, and the text after it; `None` if there is
 /// none.
+#[inline(always)]
 fn split_at_reference<'t>(text: &'t str, in_table: bool) -> Option<(&'t str, char, &'t str)>
     ensures none { IfNone result (unescaped in_table text.now ≡ text.now) }
     ensures some { IfSome result (λ parts. unescaped in_table text.now
@@ -109,6 +110,8 @@ fn unescaped_copy(alloc: Global, text: &str, in_table: bool) -> Result<String, A
 /// Returns the text with its backslash escapes and its entities replaced by their characters; in a table, two
 /// backslashes and a pipe are replaced by the pipe. A text that does not change is returned as a slice of the source,
 /// without an allocation. The error is a refused allocation.
+// inlined: most texts are returned as they are, after one look
+#[inline(always)]
 pub fn unescape<'t>(alloc: Global, text: &'t str, in_table: bool) -> Result<CowStr<'t>, AllocError>
     ensures value { IfOk result (λ made. text_of made ≡ unescaped in_table text.now) }
     ensures borrowed { IfOk result (λ made. text_of made ≡ text.now → IsBorrowed made) }
