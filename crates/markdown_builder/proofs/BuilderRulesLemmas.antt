@@ -28,7 +28,7 @@ same_or_not i j =
     (cases_lt i j)
 
 -- two places are one, or they are not
-same_place : (d down : Bool) (i at : ℕ) → ((d ≡ down) × (i ≡ at)) ⊎ ((d ≡ down) × (i ≡ at) → ⊥)
+pub same_place : (d down : Bool) (i at : ℕ) → ((d ≡ down) × (i ≡ at)) ⊎ ((d ≡ down) × (i ≡ at) → ⊥)
 same_place true true i at = ⊎_elim (λ (e : i ≡ at). inl (refl, e)) (λ (n : i ≡ at → ⊥). inr (λ p. n p.1))
     (same_or_not i at)
 same_place false false i at = ⊎_elim (λ (e : i ≡ at). inl (refl, e)) (λ (n : i ≡ at → ⊥). inr (λ p. n p.1))

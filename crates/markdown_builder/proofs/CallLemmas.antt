@@ -20,7 +20,9 @@ use Rattle.markdown_builder.specs.declared.open_block.OpenBlock.{OpenBlock}
 use Rattle.markdown_builder.specs.Bodies.{is_leaf, is_plain_block, is_settled, mark_byte}
 use Rattle.markdown_builder.specs.BuilderView.{IsWhite, IsRunOf, follows_run, innermost_block, LastHasBody, LastBegins}
 use Rattle.markdown_builder.specs.Standing.{State, Standpoint, seen, open_item, with_item, AreOpen, IsSound}
-use Rattle.markdown_builder.specs.TreeSteps.{Tightens, texts_appended, run_marked}
+use Rattle.markdown_builder.specs.TreeSteps.{TightensList, texts_appended, run_marked}
+use Rattle.markdown_builder.specs.Tightness.{TightInTightLists}
+use Rattle.markdown_builder.proofs.ClosedListLemmas.{tight_in_tight_lists}
 use Rattle.markdown_builder.proofs.BodiesLemmas.{item_over, MayBePlaced, plain_placed, placed_fits, placed_new}
 use Rattle.markdown_builder.proofs.BodiesLemmas.{block_plain, block_parent}
 use Rattle.markdown_builder.proofs.BodiesLemmas.{settled_plain, settled_inline, settled_markup, rule_plain, plain}
@@ -30,8 +32,8 @@ use Rattle.markdown_builder.proofs.MarkLemmas.{mark_facts, one_source, two_sourc
 use Rattle.markdown_builder.proofs.RunMarkLemmas.{delimiter_ascii, run_sound}
 use Rattle.markdown_builder.proofs.RunStepLemmas.{TextsStand, texts_stand}
 use Rattle.markdown_builder.proofs.StepLemmas.{skipped, added, after_item, opened, opened_alone, after_opening}
-use Rattle.markdown_builder.proofs.StepLemmas.{more_parts, closed, defined}
-use Rattle.markdown_builder.proofs.WrittenLemmas.{StandsClosed, tightens_keeps, changed, begun_later}
+use Rattle.markdown_builder.proofs.StepLemmas.{more_parts, closed, defined, IsLeft}
+use Rattle.markdown_builder.proofs.WrittenLemmas.{list_made_tight, changed, begun_later}
 
 -- `skip`
 pub skip_keeps : {s : State} (now : Standpoint) (to : ℕ) → IsSound s → seen s ≡ now → now.at ≤ to
@@ -137,7 +139,7 @@ innermost_open s rest block k e =
     k.stands.are_open)
 
 -- `close`
-pub close_keeps : {s : State} (rest : List OpenBlock) (block : OpenBlock) (new : Arena Item) → IsSound s → s.blocks
+pub close_left : {s : State} (rest : List OpenBlock) (block : OpenBlock) (new : Arena Item) → IsSound s → s.blocks
     ≡ rest ++ block ∷ []
     → ((outer : List ℕ) (ix : ℕ) → s.tree.spine ≡ outer ++ ix ∷ []
     → new ≡ record {
@@ -146,12 +148,32 @@ pub close_keeps : {s : State} (rest : List OpenBlock) (block : OpenBlock) (new :
           outer;
       cursor = Some ix;
     })
-    → IsSound (record s { tree = new; blocks = rest; leaf = false; run = None })
-close_keeps {s} rest block new k e left =
+    → (n : ℕ) × (new.cursor ≡ Some n) × IsLeft n (record s { tree = new; blocks = rest; leaf = false; run = None })
+close_left {s} rest block new k e left =
     let l = innermost_open s rest block k e in
-    subst (λ (t : Arena Item). IsSound (record s { tree = t; blocks = rest; leaf = false; run = None }))
-    (sym (left l.0 l.1 l.2))
-    (closed s l.0 rest l.1 block k e l.2)
+    let made = left l.0 l.1 l.2 in (
+      l.1,
+      ap (λ (t : Arena Item). t.cursor) made,
+      subst (λ (t : Arena Item). IsLeft l.1 (record s { tree = t; blocks = rest; leaf = false; run = None }))
+          (sym made)
+          (closed s l.0 rest l.1 block k e l.2),
+    )
+
+pub close_keeps : {s : State} (rest : List OpenBlock) (block : OpenBlock) (new tree : Arena Item) → IsSound s
+    → s.blocks ≡ rest ++ block ∷ []
+    → ((outer : List ℕ) (ix : ℕ) → s.tree.spine ≡ outer ++ ix ∷ []
+    → new ≡ record {
+      nodes = changed_at ix (λ m. record m { item = item_over block.start s.at block.body }) s.tree.nodes;
+      spine =
+          outer;
+      cursor = Some ix;
+    })
+    → ((list : ℕ) → new.cursor ≡ Some list → TightensList list new tree)
+    → IsSound (record s { tree = tree; blocks = rest; leaf = false; run = None })
+close_keeps {s} rest block new tree k e left tightens =
+    let l = close_left rest block new k e left in
+    list_made_tight l.0 (record s { tree = new; blocks = rest; leaf = false; run = None }) tree l.2 l.1
+    (tightens l.0 l.1)
 
 -- `rule`
 pub rule_keeps : {s : State} (now : Standpoint) (end : ℕ) → IsSound s → seen s ≡ now → now.leaf ≡ false → now.at ≤ end
@@ -408,13 +430,13 @@ start_changed old new inner start last replace outer block h =
     replace outer block h ∙ rw same.1 refl
 
 -- `finish`
-pub finish_keeps : {s : State} (now : Standpoint) (new : Arena Item) → IsSound s → seen s ≡ now → now.blocks ≡ []
-    → Tightens s.tree new
-    → StandsClosed (record s { tree = new })
-finish_keeps {s} now new k e closed steps =
-    tightens_keeps s new (record {
-      closed = ap (λ (v : Standpoint). v.blocks) e
-          ∙ closed;
-      stands = k.stands;
-      runs = k.runs;
-    }) steps
+none_entered : (nodes : List (Node Item)) (spine : List ℕ) → AreOpen nodes spine [] → spine ≡ []
+none_entered nodes [] o = refl
+none_entered nodes (s ∷ spine) o = absurd o
+
+pub finish_tight : {s : State} (now : Standpoint) → IsSound s → seen s ≡ now → now.blocks ≡ []
+    → TightInTightLists s.tree.nodes
+finish_tight {s} now k e closed =
+    tight_in_tight_lists s.tree (none_entered s.tree.nodes s.tree.spine
+    (subst (λ (b : List OpenBlock). AreOpen s.tree.nodes s.tree.spine b) (ap (λ (v : Standpoint). v.blocks) e ∙ closed)
+    k.stands.are_open)) k.lists

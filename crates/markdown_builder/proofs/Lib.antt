@@ -9,6 +9,7 @@ pub mod HeadingsHoldInlineLemmas
 pub mod StandingLemmas
 pub mod StepLemmas
 pub mod TightLemmas
+mod ClosedListLemmas
 pub mod WrittenLemmas
 pub mod RunStepLemmas
 pub mod RunMarkLemmas

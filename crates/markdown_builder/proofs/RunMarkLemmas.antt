@@ -22,7 +22,9 @@ use Rattle.markdown_builder.specs.declared.open_block.OpenBlock.{OpenBlock}
 use Rattle.markdown_builder.specs.BuilderView.{IsRunOf, follows_run}
 use Rattle.markdown_builder.specs.Rising.{link_of}
 use Rattle.markdown_builder.specs.BuilderRules.{ItemFits, MayReplace, KeepsRuns}
-use Rattle.markdown_builder.specs.Standing.{State, with_item, IsOpenAt, AreOpen, Stands, LastRun, NoneTight, IsSound}
+use Rattle.markdown_builder.specs.Standing.{State, with_item, IsOpenAt, AreOpen, Stands, LastRun, IsSound}
+use Rattle.markdown_builder.specs.ClosedLists.{ListsAreTight}
+use Rattle.markdown_builder.specs.Tightness.{is_tight_list}
 use Rattle.markdown_builder.specs.TreeSteps.{byte_text, texts_appended, run_item, run_marked}
 use Rattle.markdown_builder.proofs.BodiesLemmas.{settled_alone, parent_not_inline}
 use Rattle.markdown_builder.proofs.NodeWriteLemmas.{Writes, item_writes}
@@ -30,7 +32,7 @@ use Rattle.markdown_builder.proofs.RunLemmas.{at_number, character_replaced, run
 use Rattle.markdown_builder.proofs.RunStepLemmas.{MayPrecede, TextsStand, texts_stand}
 use Rattle.markdown_builder.proofs.StandingLemmas.{open_written}
 use Rattle.markdown_builder.proofs.WrittenLemmas.{written, all_true}
-use Rattle.markdown_builder.proofs.StepLemmas.{none_tight_written}
+use Rattle.markdown_builder.proofs.ClosedListLemmas.{lists_written}
 
 -- a character of runs is ASCII
 pub delimiter_ascii : (byte : ℕ) → is_delimiter byte ≡ true → byte < 128
@@ -41,7 +43,7 @@ pub record RunStands (s : State) (byte end : ℕ) (opens closes : Bool) (texts :
     : Type 0 where
   pub stands : Stands (record s { tree = t; at = end; run = Some byte })
   pub runs : KeepsRuns s.text t.nodes
-  pub loose : NoneTight t.nodes
+  pub lists : ListsAreTight t
   pub size : length t.nodes ≡ length texts.nodes
   pub cursor : t.cursor ≡ texts.cursor
   pub links : (d : Bool) (i : ℕ) → link_of (links_of t.nodes) d i ≡ link_of (links_of texts.nodes) d i
@@ -200,7 +202,8 @@ one_marked s byte end total opens closes t old m rooted run delimiter whole p r 
           subst (λ (y : Item). MayPrecede s.text byte y) (sym stays) (p.before i n first (sym (r.links false i) ∙ e)) in
           before_run s.text byte (numbered old.nodes i) (numbered old.nodes n) (at_number n x) no_run same may h)
           whole_here r.runs;
-      loose = none_tight_written old.nodes new n x w r.loose refl;
+      lists = lists_written old.nodes new old.spine old.cursor n x r.stands.nodes.rising w r.lists refl
+          (λ o. (ap (λ (y : Item). is_tight_list y.body) was, refl, λ q. cc (q)));
       size = w.size ∙ r.size;
       cursor = r.cursor;
       links = λ d i. w.all_links d i ∙ r.links d i;
@@ -222,7 +225,7 @@ run_stands s byte end total opens closes t zero rooted run delimiter whole p low
   stands = subst (λ (a : ℕ). Stands (record s { tree = t; at = a; run = Some byte })) whole
       (stands_with_run (record s { tree = t; at = s.at + total }) (Some byte) p.sound.stands);
   runs = p.sound.runs;
-  loose = p.sound.loose;
+  lists = p.sound.lists;
   size = refl;
   cursor = refl;
   links = λ d i. refl;
@@ -265,5 +268,5 @@ run_sound s byte end total opens closes k leaf run delimiter other whole =
       last_run = subst (λ (o : Option ℕ). LastRun s.text t.nodes o (Some byte)) (sym cursor)
           (subst (λ (y : Item). IfSome (run_character y.body) (λ c. Some byte ≡ Some (byte_of s.text y))) (sym item)
           (ap (λ (b : ℕ). Some b) same));
-      loose = r.loose;
+      lists = r.lists;
     }

@@ -29,16 +29,20 @@ use Rattle.markdown_base.proofs.WellFormedLemmas.{HasMore}
 use Rattle.markdown_builder.specs.declared.open_block.OpenBlock.{OpenBlock}
 use Rattle.markdown_builder.specs.Bodies.{is_leaf}
 use Rattle.markdown_builder.specs.BuilderView.{IsWhite}
+use Rattle.markdown_builder.specs.Tightness.{is_tight_list}
 use Rattle.markdown_builder.specs.Rising.{link_of, IsOnTop, place_down, place_at}
-use Rattle.markdown_builder.specs.BuilderRules.{ItemFits, NamesNew, MayReplace, KeepsNodes}
+use Rattle.markdown_builder.specs.BuilderRules.{ItemFits, NamesNew, MayReplace, KeepsNodes, KeepsRuns}
+use Rattle.markdown_builder.specs.ClosedLists.{IsNotOpen, ListsAreTight}
 use Rattle.markdown_builder.specs.Standing.{State, open_item, entered, AreOpen, OnlyLastIsLeaf, IsTopPlace, IsUnderTop}
 use Rattle.markdown_builder.specs.Standing.{is_in_definition}
-use Rattle.markdown_builder.specs.Standing.{covered_to, AreCovered, NoneTight, IsSound}
+use Rattle.markdown_builder.specs.Standing.{covered_to, AreCovered, Stands, LastRun, IsSound}
 use Rattle.markdown_builder.proofs.BodiesLemmas.{item_over, MayBePlaced, placed_fits, placed_new, block_markup}
 use Rattle.markdown_builder.proofs.BodiesLemmas.{block_no_run, chain_of_one}
 use Rattle.markdown_builder.proofs.BodiesLemmas.{parent_not_inline}
-use Rattle.markdown_builder.proofs.BuilderRulesLemmas.{same_or_not, same_item, fits_more, write_keeps}
-use Rattle.markdown_builder.proofs.NodeWriteLemmas.{Grows, Writes, item_writes}
+use Rattle.markdown_builder.proofs.BuilderRulesLemmas.{same_or_not, fits_more, write_keeps}
+use Rattle.markdown_builder.proofs.ClosedListLemmas.{not_both, lists_appended, lists_entered, lists_written}
+use Rattle.markdown_builder.proofs.ClosedListLemmas.{open_is_loose, OthersAreTight, lists_left}
+use Rattle.markdown_builder.proofs.NodeWriteLemmas.{Writes, item_writes}
 use Rattle.markdown_builder.proofs.RunLemmas.{runs_appended, runs_written}
 use Rattle.markdown_builder.proofs.StandingLemmas.{appended_fits, IsInnermost, open_snoc, open_unsnoc, open_written}
 use Rattle.markdown_builder.proofs.StandingLemmas.{top_stays, not_inside}
@@ -49,28 +53,6 @@ pub either_passes : (a b : Bool) → (a ≡ true) ⊎ IsTrue b → IsTrue (a || 
 either_passes true b h = refl
 either_passes false true h = refl
 either_passes false false h = ⊎_elim (λ (e : false ≡ true). cc (e)) (λ (e : IsTrue false). cc (e)) h
-
--- ---- tight paragraphs
-
--- with a new item that is no tight paragraph none is tight
-none_tight_grown : (old new : List (Node Item)) (down : Bool) (at : ℕ) (x : Item) → Grows old new down at x
-    → NoneTight old
-    → is_tight_paragraph x.body ≡ false → NoneTight new
-none_tight_grown old new down at x g k h i = ⊎_elim
-    (λ (e : i ≡ length old). ap (λ (m : ℕ). is_tight_paragraph (item_at new m).body) e
-    ∙ (ap (λ (y : Item). is_tight_paragraph y.body) g.new_item ∙ h))
-    (λ (n : i ≡ length old → ⊥). ap (λ (y : Item). is_tight_paragraph y.body) (same_item old new down at x g i n) ∙ k i)
-    (same_or_not i (length old))
-
--- where an item is written that is not a tight paragraph, none is tight either
-pub none_tight_written : (old new : List (Node Item)) (at : ℕ) (x : Item) → Writes old new at x → NoneTight old
-    → is_tight_paragraph x.body ≡ false → NoneTight new
-none_tight_written old new at x w k h i = ⊎_elim
-    (λ (e : i ≡ at). ap (λ (m : ℕ). is_tight_paragraph (item_at new m).body) e
-    ∙ (ap (λ (y : Item). is_tight_paragraph y.body) w.new_item
-    ∙ h))
-    (λ (n : i ≡ at → ⊥). ap (λ (y : Item). is_tight_paragraph y.body) (w.old_items i n) ∙ k i)
-    (same_or_not i at)
 
 -- ---- the beginning
 
@@ -145,7 +127,10 @@ begun text counts tree utf8 e = subst (λ (t : Arena Item). IsSound (beginning t
   };
   runs = λ i. no_run_at i;
   last_run = tt;
-  loose = λ i. ap is_tight_paragraph (root_item i);
+  lists = record {
+    lists = λ list t o. absurd (not_both t (ap is_tight_list (root_item list)));
+    only = λ p q. let e = sym q ∙ root_item p in cc (e);
+  };
 })
   where
     no_run_at : (i : ℕ) → RunsAreWhole text (numbered root_nodes i) (next_at root_nodes i)
@@ -184,7 +169,7 @@ moved s to definitions k low boundary covered brackets = record {
   };
   runs = k.runs;
   last_run = k.last_run;
-  loose = k.loose;
+  lists = k.lists;
 }
 
 -- bytes are stepped over: white space, where no block is open
@@ -200,6 +185,15 @@ skipped s to k low boundary white =
         (covered_to blocks to)
     over [] l c w = covered_white s.text s.tree.nodes s.definitions s.at to c (w l refl)
     over (b ∷ blocks) l c w = c
+
+-- ---- open blocks
+
+-- open blocks are nodes
+open_below : (nodes : List (Node Item)) (spine : List ℕ) (blocks : List OpenBlock) → AreOpen nodes spine blocks
+    → AllByRecursion (λ s. s < length nodes) spine
+open_below nodes [] blocks o = tt
+open_below nodes (s ∷ spine) [] o = absurd o
+open_below nodes (s ∷ spine) (b ∷ blocks) o = (o.0.low, open_below nodes spine blocks o.2)
 
 -- ---- an item without children
 
@@ -262,9 +256,9 @@ added s many to b run k more fits names kind no_run loose =
           k.stands.nodes.rising
           a.grows k.stands.free no_run k.runs;
       last_run = rw none tt;
-      loose = none_tight_grown s.tree.nodes (appended s.tree x).nodes (place_down s.tree.cursor)
-          (place_at s.tree.spine s.tree.cursor) x
-          a.grows k.loose loose;
+      lists = lists_appended s.tree.nodes (appended s.tree x).nodes s.tree.spine s.tree.cursor x k.stands.nodes.rising
+          a.nodes.rising k.stands.nodes.root (open_below s.tree.nodes s.tree.spine s.blocks k.stands.are_open) a.grows
+          k.stands.free k.lists loose;
     }
 
 -- ---- a block is opened
@@ -347,9 +341,8 @@ opened s many b k outside placed parent =
           k.stands.nodes.rising
           a.grows k.stands.free placed.no_run k.runs;
       last_run = tt;
-      loose = none_tight_grown s.tree.nodes new (place_down s.tree.cursor) (place_at s.tree.spine s.tree.cursor) x
-          a.grows k.loose
-          placed.loose;
+      lists = lists_entered s.tree.nodes new s.tree.spine s.tree.cursor x k.stands.nodes.rising k.stands.nodes.root
+          a.grows k.stands.free k.lists placed.loose;
     })
 
 -- a block is appended alone
@@ -393,7 +386,7 @@ more_parts s many more k = record {
   };
   runs = k.runs;
   last_run = k.last_run;
-  loose = k.loose;
+  lists = k.lists;
 }
 
 -- ---- a block is closed
@@ -479,10 +472,20 @@ after_closing s spine blocks n block =
       run = None;
     }
 
+-- the invariant of a builder that has left a block, but for the block's own list
+pub record IsLeft (n : ℕ) (s : State) : Type 0 where
+  pub utf8 : IsUtf8 s.text
+  pub stands : Stands s
+  pub runs : KeepsRuns s.text s.tree.nodes
+  pub last_run : LastRun s.text s.tree.nodes s.tree.cursor s.run
+  pub low : n < length s.tree.nodes
+  pub below : AllByRecursion (λ t. t < n) s.tree.spine
+  pub others : OthersAreTight n s.tree
+
 -- the innermost block is left, and its end is written
 pub closed : (s : State) (spine : List ℕ) (blocks : List OpenBlock) (n : ℕ) (block : OpenBlock) → IsSound s
     → s.blocks ≡ blocks ++ block ∷ []
-    → s.tree.spine ≡ spine ++ n ∷ [] → IsSound (after_closing s spine blocks n block)
+    → s.tree.spine ≡ spine ++ n ∷ [] → IsLeft n (after_closing s spine blocks n block)
 closed s spine blocks n block k whole split =
     let at = s.at in
     let x : Item = item_over block.start at block.body in
@@ -517,6 +520,9 @@ closed s spine blocks n block k whole split =
     let covered_was : AreCovered s.text old s.definitions (covered_to (blocks ++ block ∷ []) at) =
     subst (λ (y : List OpenBlock). AreCovered s.text old s.definitions (covered_to y at)) whole k.stands.covered in
     let none : run_character x.body ≡ None = block_no_run block.body (parent_not_inline block.body h.parent) in
+    let lists : ListsAreTight (record { nodes = old; spine = spine ++ n ∷ []; cursor = s.tree.cursor }) =
+    subst (λ (y : List ℕ). ListsAreTight (record { nodes = old; spine = y; cursor = s.tree.cursor })) split k.lists in
+    let is_in : IsNotOpen (spine ++ n ∷ []) n → ⊥ = λ q. All-last (λ t. t ≡ n → ⊥) spine n q refl in
     let none_was : run_character (item_at old n).body ≡ None = ap (λ (y : Item). run_character y.body) h.item ∙ none in
     let none_now : run_character (item_at made n).body ≡ None = ap (λ (y : Item). run_character y.body) w.new_item
     ∙ none in
@@ -553,8 +559,13 @@ closed s spine blocks n block k whole split =
       };
       runs = runs_written s.text old made n x k.stands.nodes.rising w none_was none k.runs;
       last_run = rw none_now tt;
-      loose = none_tight_written old made n x w k.loose (ap (λ (y : Item). is_tight_paragraph y.body) (sym h.item)
-          ∙ k.loose n);
+      low = omega (arith, h.low, w.size);
+      below = o.above;
+      others = lists_left made spine n s.tree.cursor
+          (lists_written old made (spine ++ n ∷ []) s.tree.cursor n x k.stands.nodes.rising w lists
+          (ap (λ (y : Item). is_tight_paragraph y.body) (sym h.item)
+          ∙ open_is_loose old (spine ++ n ∷ []) s.tree.cursor n k.stands.nodes.rising lists is_in)
+          (λ q. absurd (is_in q)));
     }
 
 -- ---- definitions

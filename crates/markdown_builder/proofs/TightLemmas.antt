@@ -1,24 +1,21 @@
 -- Paragraphs made tight: those of a set of numbers, one after another, and of all tight lists in the end.
-use Rattle.std.proofs.Common.{◌≡◌, ℕ, ◌+◌, ◌-◌, ◌<◌, ◌≤◌, List, Option, Some, None, Bool, true, false, length, refl}
+use Rattle.std.proofs.Common.{◌≡◌, ℕ, ◌-◌, ◌<◌, ◌≤◌, List, Option, Some, None, Bool, true, false, length, refl}
 use Rattle.std.proofs.Common.{sym, ap, ◌∙◌, subst}
 use Rattle.std.proofs.Common.{arith, ◌⊎◌, inl, inr, ⊎_elim}
 use Rattle.std.specs.Prelude.{IfSome}
-use Rattle.std.proofs.lemmas.Bool.{cases_lt}
 use Rattle.markdown_base.specs.declared.item.Item.{Item}
 use Rattle.markdown_base.specs.declared.item.ItemBody.{ItemBody}
 use Rattle.markdown_base.specs.declared.item.ItemBody.TheVariants as body
 use Rattle.markdown_base.specs.declared.node.Node.{Node}
-use Rattle.markdown_base.specs.Arena.{child_of, sibling_of}
+use Rattle.markdown_base.specs.Arena.{Arena, child_of, sibling_of}
 use Rattle.markdown_base.specs.ArenaForest.{links_of}
-use Rattle.markdown_base.specs.BlockTree.{item_at, no_item}
-use Rattle.markdown_base.specs.Item.{is_tight_paragraph}
+use Rattle.markdown_base.specs.BlockTree.{item_at}
 use Rattle.markdown_builder.specs.Rising.{link_of, AreRising}
-use Rattle.markdown_builder.specs.Standing.{NoneTight}
-use Rattle.markdown_builder.specs.Tightness.{is_tight_list, IsInChain, first_of, later_in, IsInItemOf, IsInTightList}
-use Rattle.markdown_builder.specs.Tightness.{TightInTightLists}
+use Rattle.markdown_builder.specs.Tightness.{is_tight_list, IsInChain, first_of, later_in, IsInItemOf}
 use Rattle.markdown_builder.specs.TreeSteps.{is_paragraph, tight, Tightened, MadeTight, MakesTight}
+use Rattle.markdown_builder.specs.TreeSteps.{Tightens, none_tight, one_tight}
 use Rattle.markdown_builder.proofs.BuilderRulesLemmas.{same_or_not}
-use Rattle.markdown_builder.proofs.NodeWriteLemmas.{Writes, item_beyond}
+use Rattle.markdown_builder.proofs.NodeWriteLemmas.{Writes}
 
 -- ---- sets of numbers
 
@@ -32,7 +29,7 @@ all_left S nodes = record {
 }
 
 -- a body is tight and no paragraph, or the other way round
-paragraph_or_tight : (b : ItemBody) → b ≡ body.Paragraph → b ≡ body.TightParagraph → ⊥
+pub paragraph_or_tight : (b : ItemBody) → b ≡ body.Paragraph → b ≡ body.TightParagraph → ⊥
 paragraph_or_tight b e f = let q : body.Paragraph ≡ body.TightParagraph = sym e ∙ f in cc (q)
 
 -- some more of them are made tight, by which fewer are left
@@ -124,7 +121,7 @@ first_or_later nodes q p (first_of _) = inl refl
 first_or_later nodes q p (later_in _ _ c) = inr c
 
 -- a chain begins with a number
-nothing_in : (nodes : List (Node Item)) (l : Option ℕ) (p : ℕ) → ((number : ℕ) → l ≡ Some number → ⊥)
+pub nothing_in : (nodes : List (Node Item)) (l : Option ℕ) (p : ℕ) → ((number : ℕ) → l ≡ Some number → ⊥)
     → IsInChain nodes l p → ⊥
 nothing_in nodes l p none (first_of _) = none p refl
 nothing_in nodes l p none (later_in q _ c) = none q refl
@@ -151,29 +148,6 @@ list_same S Left old new list m = ⊎_elim
     (λ (t : Tightened S old new list). ap (λ (y : Item). is_tight_list y.body) t.now ∙ sym (ap is_tight_list t.was))
     (m.kept list)
 
--- where all are made tight that stand in tight lists, those are tight and no others
-pub tight_in_tight_lists : (old new : List (Node Item)) → NoneTight old → MadeTight (IsInTightList old) (λ p. ⊥) old new
-    → TightInTightLists new
-tight_in_tight_lists old new loose m = record {
-  all = λ p t. ⊎_elim (λ (no : ⊥). absurd no) (λ (q : (item_at new p).body ≡ body.Paragraph → ⊥). q) (m.made p (record {
-    list = t.list;
-    tight = sym (list_same (IsInTightList old) (λ q. ⊥) old new t.list m) ∙ t.tight;
-    inside = item_same new old (λ d i. sym (m.links d i)) t.list p t.inside;
-  }));
-  only = λ p e. ⊎_elim
-      (λ (f : item_at new p ≡ item_at old p). absurd (was_loose p (ap (λ (y : Item). y.body) (sym f) ∙ e)))
-      (λ (t : Tightened (IsInTightList old) old new p). record {
-        list = t.inside.list;
-        tight = list_same (IsInTightList old) (λ q. ⊥) old new t.inside.list m ∙ t.inside.tight;
-        inside = item_same old new m.links t.inside.list p t.inside.inside;
-      })
-      (m.kept p);
-}
-  where
-    was_loose : (p : ℕ) → (item_at old p).body ≡ body.TightParagraph → ⊥
-    was_loose p e = let t : is_tight_paragraph (item_at old p).body ≡ true = ap is_tight_paragraph e in let f = loose p
-        in cc (t, f)
-
 -- ---- what is still to be done
 
 -- how many nodes there are from a link's number on
@@ -186,11 +160,6 @@ pub record IsInItemFrom (nodes : List (Node Item)) (l : Option ℕ) (p : ℕ) : 
   pub item : ℕ
   pub listed : IsInChain nodes l item
   pub inside : IsInChain nodes (child_of nodes item) p
-
--- a number stands in a tight list from a number on
-pub record IsInTightListFrom (nodes : List (Node Item)) (from p : ℕ) : Type 0 where
-  pub here : IsInTightList nodes p
-  pub low : from ≤ here.list
 
 -- behind a node fewer are left
 pub fewer_nodes : (nodes : List (Node Item)) (number : ℕ) → AreRising (links_of nodes) → number < length nodes
@@ -238,63 +207,6 @@ item_made nodes old new list number m n within =
     (λ (c : IsInChain nodes (sibling_of nodes number) i.item). inr
     (record { item = i.item; listed = c; inside = i.inside }))
     (first_or_later nodes number i.item i.listed))
-
--- the same for one of the lists
-pub list_made : (nodes old new : List (Node Item)) (number : ℕ)
-    → MadeTight (IsInTightList nodes) (IsInTightListFrom nodes number) nodes old
-    → MadeTight (IsInItemOf old number) (λ p. ⊥) old new → is_tight_list (item_at old number).body ≡ true
-    → MadeTight (IsInTightList nodes) (IsInTightListFrom nodes (number + 1)) nodes new
-list_made nodes old new number m n tight =
-    made_more (IsInTightList nodes) (IsInTightListFrom nodes number) (IsInItemOf old number)
-    (IsInTightListFrom nodes (number + 1)) nodes
-    old new m n
-    (λ p i. record {
-      list = number;
-      tight = sym (list_same (IsInTightList nodes) (IsInTightListFrom nodes number) nodes old number m) ∙ tight;
-      inside = item_same old nodes (λ d i. sym (m.links d i)) number p i;
-    })
-    (λ p f. ⊎_elim
-    (λ (h : number < f.here.list). inr (record { here = f.here; low = omega (arith, h) }))
-    (λ (h : f.here.list ≤ number). let e : f.here.list ≡ number = omega (arith, h, f.low) in
-    inl (item_same nodes old m.links number p (subst (λ (q : ℕ). IsInItemOf nodes q p) e f.here.inside)))
-    (cases_lt number f.here.list))
-
--- what is no tight list is passed over
-pub list_passed : (nodes old : List (Node Item)) (number : ℕ)
-    → MadeTight (IsInTightList nodes) (IsInTightListFrom nodes number) nodes old
-    → is_tight_list (item_at old number).body ≡ false
-    → MadeTight (IsInTightList nodes) (IsInTightListFrom nodes (number + 1)) nodes old
-list_passed nodes old number m loose = record {
-  size = m.size;
-  links = m.links;
-  made = λ p s. ⊎_elim (λ (f : IsInTightListFrom nodes number p). inl (record {
-    here = f.here;
-    low = ⊎_elim (λ (h : number < f.here.list). omega (arith, h))
-        (λ (h : f.here.list ≤ number). let e : f.here.list ≡ number = omega (arith, h, f.low) in
-        let t : is_tight_list (item_at old number).body ≡ true =
-        list_same (IsInTightList nodes) (IsInTightListFrom nodes number) nodes old number m
-        ∙ subst (λ (q : ℕ). is_tight_list (item_at nodes q).body ≡ true) e f.here.tight in cc (t, loose))
-        (cases_lt number f.here.list);
-  }))
-      (λ (q : (item_at old p).body ≡ body.Paragraph → ⊥). inr q) (m.made p s);
-  kept = m.kept;
-}
-
--- and no list comes behind the last
-pub lists_done : (nodes new : List (Node Item)) (size : ℕ)
-    → MadeTight (IsInTightList nodes) (IsInTightListFrom nodes size) nodes new
-    → length nodes ≤ size
-    → MadeTight (IsInTightList nodes) (λ p. ⊥) nodes new
-lists_done nodes new size m high = record {
-  size = m.size;
-  links = m.links;
-  made = λ p s. ⊎_elim (λ (f : IsInTightListFrom nodes size p).
-      let none : item_at nodes f.here.list ≡ no_item = item_beyond nodes f.here.list (omega (arith, f.low, high)) in
-      let t : is_tight_list (item_at nodes f.here.list).body ≡ false = ap (λ (y : Item). is_tight_list y.body) none in
-      let h = f.here.tight in absurd (cc (t, h)))
-      (λ (q : (item_at new p).body ≡ body.Paragraph → ⊥). inr q) (m.made p s);
-  kept = m.kept;
-}
 
 -- ---- a loop over siblings, and one over items
 
@@ -417,11 +329,20 @@ items_left nodes list link e within = record {
   within = within;
 }
 
--- and all of tight lists
-pub lists_left : (nodes : List (Node Item)) → MadeTight (IsInTightList nodes) (IsInTightListFrom nodes 0) nodes nodes
-lists_left nodes = record {
-  size = refl;
-  links = λ d i. refl;
-  made = λ p s. inl (record { here = s; low = omega arith });
-  kept = λ p. inl refl;
-}
+-- ---- steps
+
+-- some are made tight, and then some more
+pub tightens_on : (from : ℕ) (a b c : Arena Item) → Tightens from a b → Tightens from b c → Tightens from a c
+tightens_on from a b c first none_tight = first
+tightens_on from a b c first (one_tight tree number before behind low p) =
+    one_tight tree number (tightens_on from a b tree first before) behind low p
+
+-- a link leads behind its number
+pub next_behind : (nodes : List (Node Item)) → AreRising (links_of nodes) → (d : Bool) (i low : ℕ) → low ≤ i
+    → IfSome (link_of (links_of nodes) d i) (λ j. low ≤ j)
+next_behind nodes r d i low h = of_link (link_of (links_of nodes) d i)
+    (λ j e. let q = (r.rises d i j e).0 in omega (arith, q, h))
+  where
+    of_link : (o : Option ℕ) → ((j : ℕ) → o ≡ Some j → low ≤ j) → IfSome o (λ j. low ≤ j)
+    of_link None h = tt
+    of_link (Some j) h = h j refl

@@ -29,7 +29,8 @@ use Rattle.markdown_builder.specs.BuilderRules.{ItemFits, LinkFits, MayReplace, 
 use Rattle.markdown_builder.specs.Standing.{State, open_item, with_item, AreOpen, OnlyLastIsLeaf, IsTopPlace}
 use Rattle.markdown_builder.specs.Standing.{covered_to, AreCovered}
 use Rattle.markdown_builder.specs.Standing.{Stands, LastRun, IsSound}
-use Rattle.markdown_builder.specs.TreeSteps.{is_paragraph, tight, Tightens, none_tight, one_tight}
+use Rattle.markdown_builder.specs.TreeSteps.{is_paragraph, tight, Tightens, none_tight, one_tight, TightensList}
+use Rattle.markdown_builder.specs.ClosedLists.{IsNotOpen}
 use Rattle.markdown_builder.proofs.BodiesLemmas.{item_over, MayBePlaced, placed_fits, block_no_run, block_markup}
 use Rattle.markdown_builder.proofs.BodiesLemmas.{settled_alone}
 use Rattle.markdown_builder.proofs.BodiesLemmas.{parent_not_inline}
@@ -39,7 +40,8 @@ use Rattle.markdown_builder.proofs.TightLemmas.{is_a_paragraph}
 use Rattle.markdown_builder.proofs.RunLemmas.{runs_written}
 use Rattle.markdown_builder.proofs.StandingLemmas.{IsInnermost, open_snoc, open_unsnoc, open_written, top_stays}
 use Rattle.markdown_builder.proofs.StandingLemmas.{not_inside, covered_stays}
-use Rattle.markdown_builder.proofs.StepLemmas.{covered_white, none_tight_written, block_replaces}
+use Rattle.markdown_builder.proofs.StepLemmas.{covered_white, block_replaces, IsLeft}
+use Rattle.markdown_builder.proofs.ClosedListLemmas.{lists_written, open_is_loose, lists_closed}
 
 -- what may follow at a place may follow where an item of the same kind is written
 still_fits : (old new : List (Node Item)) (number place : ℕ) (x y : Item) (d : Bool) → Writes old new number x
@@ -121,9 +123,10 @@ pub block_written : (s : State) (number : ℕ) (x : Item) (blocks : List OpenBlo
     → number < length s.tree.nodes
     → is_inline (item_at s.tree.nodes number).body ≡ false → is_inline x.body ≡ false → is_tight_paragraph x.body
     ≡ false
+    → (IsNotOpen s.tree.spine number → ⊥)
     → Stands (record s { tree = with_item s.tree number x; blocks = blocks })
     → IsSound (record s { tree = with_item s.tree number x; blocks = blocks })
-block_written s number x blocks k low was now loose h =
+block_written s number x blocks k low was now loose is_in h =
     let old = s.tree.nodes in
     let new = (with_item s.tree number x).nodes in
     let w : Writes old new number x = item_writes old number x low in
@@ -134,7 +137,8 @@ block_written s number x blocks k low was now loose h =
       runs = runs_written s.text old new number x k.stands.nodes.rising w (block_no_run (item_at old number).body was)
           none k.runs;
       last_run = last_written s.text old new number x s.tree.cursor s.run w none k.last_run;
-      loose = none_tight_written old new number x w k.loose loose;
+      lists = lists_written old new s.tree.spine s.tree.cursor number x k.stands.nodes.rising w k.lists loose
+          (λ q. absurd (is_in q));
     }
 
 -- nothing is required of the nodes that were entered
@@ -144,16 +148,12 @@ all_true (t ∷ spine) = (tt, all_true spine)
 
 -- ---- tight paragraphs
 
--- what is kept of a builder in which no block is open, where paragraphs are made tight
-pub record StandsClosed (s : State) : Type 0 where
-  pub closed : s.blocks ≡ []
+-- what is kept of a builder in which the blocks before a number are open, where paragraphs from there on are made tight
+pub record StandsBelow (from : ℕ) (s : State) : Type 0 where
+  pub below : AllByRecursion (λ t. t < from) s.tree.spine
   pub stands : Stands s
   pub runs : KeepsRuns s.text s.tree.nodes
-
--- none is open in other nodes
-none_open : (old new : List (Node Item)) (spine : List ℕ) → AreOpen old spine [] → AreOpen new spine []
-none_open old new [] o = tt
-none_open old new (a ∷ spine) o = absurd o
+  pub last_run : LastRun s.text s.tree.nodes s.tree.cursor s.run
 
 -- the root is no paragraph
 not_root : (text : List ℕ) (counts : PartCounts) (nodes : List (Node Item)) (number : ℕ) → KeepsNodes text counts nodes
@@ -164,11 +164,11 @@ not_root text counts nodes number k p = ⊎_elim (λ (h : 0 < number). h)
     (cases_lt 0 number)
 
 -- a paragraph is made tight
-made_tight : (s : State) (number : ℕ) → StandsClosed s → number < length s.tree.nodes
+made_tight : (from : ℕ) (s : State) (number : ℕ) → StandsBelow from s → from ≤ number → number < length s.tree.nodes
     → is_paragraph (item_at s.tree.nodes number).body
     ≡ true
-    → StandsClosed (record s { tree = with_item s.tree number (tight (item_at s.tree.nodes number)) })
-made_tight s number k low passes =
+    → StandsBelow from (record s { tree = with_item s.tree number (tight (item_at s.tree.nodes number)) })
+made_tight from s number k behind low passes =
     let old = s.tree.nodes in
     let item = item_at old number in
     let x = tight item in
@@ -188,24 +188,48 @@ made_tight s number k low passes =
     let m : MayReplace item x = block_replaces item x was refl (rw p refl) (rw p refl) (λ t e. cc (e)) (λ t e. cc (e))
     in
     let opens : AreOpen new s.tree.spine s.blocks =
-    subst (λ (b : List OpenBlock). AreOpen new s.tree.spine b) (sym k.closed)
-    (none_open old new s.tree.spine
-    (subst (λ (b : List OpenBlock). AreOpen old s.tree.spine b) k.closed k.stands.are_open)) in
+    open_written (λ t. t < from) old new number x w (λ t b l q z. absurd (omega (arith, z, l, behind))) s.tree.spine
+    s.blocks k.below k.stands.are_open in
     record {
-      closed = k.closed;
+      below = k.below;
       stands = written s number x s.blocks k.stands positive low fits m (λ p i. i) opens k.stands.leaves
           k.stands.covered k.stands.begun;
       runs = runs_written s.text old new number x k.stands.nodes.rising w (block_no_run item.body was) refl k.runs;
+      last_run = last_written s.text old new number x s.tree.cursor s.run w refl k.last_run;
     }
 
 -- some paragraphs are made tight
-pub tightens_keeps : (s : State) (tree : Arena Item) → StandsClosed s → Tightens s.tree tree
-    → StandsClosed (record s { tree = tree })
-tightens_keeps s tree k none_tight = k
-tightens_keeps s tree k (one_tight t number before low p) = made_tight (record s { tree = t }) number
-    (tightens_keeps s t k before) low p
+tightens_keeps : (from : ℕ) (s : State) (tree : Arena Item) → StandsBelow from s → Tightens from s.tree tree
+    → StandsBelow from (record s { tree = tree })
+tightens_keeps from s tree k none_tight = k
+tightens_keeps from s tree k (one_tight t number before behind low p) = made_tight from (record s { tree = t }) number
+    (tightens_keeps from s t k before) behind low p
+
+-- the list that was left is made tight, if it is a tight list
+pub list_made_tight : (n : ℕ) (s : State) (tree : Arena Item) → IsLeft n s → s.tree.cursor ≡ Some n
+    → TightensList n s.tree tree
+    → IsSound (record s { tree = tree })
+list_made_tight n s tree k at t =
+    let b = tightens_keeps n s tree (record {
+      below = k.below;
+      stands = k.stands;
+      runs = k.runs;
+      last_run = k.last_run;
+    }) t.steps in
+    record {
+      utf8 = k.utf8;
+      stands = b.stands;
+      runs = b.runs;
+      last_run = b.last_run;
+      lists = lists_closed s.tree tree n k.stands.nodes.rising k.low k.below at k.others t;
+    }
 
 -- ---- another open block in the place of the innermost
+
+-- the innermost open block is open
+is_open : (all spine : List ℕ) (n : ℕ) → all ≡ spine ++ n ∷ [] → IsNotOpen all n → ⊥
+is_open all spine n split o =
+    All-last (λ t. t ≡ n → ⊥) spine n (subst (λ (y : List ℕ). IsNotOpen y n) split o) refl
 
 -- the innermost open block is a leaf just where a leaf is open
 leaf_last : (blocks : List OpenBlock) (block : OpenBlock) (leaf : Bool) → OnlyLastIsLeaf (blocks ++ block ∷ []) leaf
@@ -279,6 +303,7 @@ replaced s spine blocks n block other k split o fits may loose begun covered =
       parent = may.childless ∙ h.parent;
     }) in
     block_written s n x (blocks ++ other ∷ []) k h.low was (may.inline ∙ inline) loose
+    (is_open s.tree.spine spine n split)
     (written s n x (blocks ++ other ∷ []) k.stands h.positive h.low fits m
     (λ p i. absurd (not_inside p block.start (subst (λ (y : Item). is_inside p (range_of y) ≡ true) h.item i)))
     (subst (λ (y : List ℕ). AreOpen new y (blocks ++ other ∷ [])) (sym split) opens)
@@ -355,5 +380,7 @@ begun_later s spine blocks n block start k whole split low boundary white =
       blocks_are_settled = o.fits.blocks_are_settled;
     })
     (block_replaces (open_item block) (open_item other) inline inline refl refl (λ t e. e) (λ t e. e))
-    (ap (λ (y : Item). is_tight_paragraph y.body) (sym o.innermost.here.item) ∙ k.loose n) low
+    (ap (λ (y : Item). is_tight_paragraph y.body) (sym o.innermost.here.item)
+    ∙ open_is_loose s.tree.nodes s.tree.spine s.tree.cursor n k.stands.nodes.rising k.lists
+    (is_open s.tree.spine spine n split)) low
     (covered_later s.text s.tree.nodes s.definitions blocks block start s.at o.covered white)

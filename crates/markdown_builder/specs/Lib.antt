@@ -2,6 +2,7 @@
 pub mod Bodies
 pub mod BuilderView
 pub mod Tightness
+pub mod ClosedLists
 pub mod HeadingsHoldInline
 -- the representation
 pub mod Rising

@@ -14,11 +14,12 @@ use Rattle.markdown_base.specs.ArenaChanges.{appended, changed_at}
 use Rattle.markdown_base.specs.ArenaForest.{links_of}
 use Rattle.markdown_base.specs.BlockTree.{item_at, numbered}
 use Rattle.markdown_base.specs.Coverage.{is_inside}
-use Rattle.markdown_base.specs.Item.{range_of, is_inline, is_childless, is_tight_paragraph}
+use Rattle.markdown_base.specs.Item.{range_of, is_inline, is_childless}
 use Rattle.markdown_base.specs.WellFormed.{PartCounts, run_character, byte_of}
 use Rattle.markdown_builder.specs.declared.open_block.OpenBlock.{OpenBlock}
 use Rattle.markdown_builder.specs.Bodies.{is_leaf}
 use Rattle.markdown_builder.specs.BuilderView.{BuilderView}
+use Rattle.markdown_builder.specs.ClosedLists.{ListsAreTight}
 use Rattle.markdown_builder.specs.Rising.{link_of, IsOnTop, place_down, place_at}
 use Rattle.markdown_builder.specs.BuilderRules.{LinkFits, KeepsNodes, KeepsRuns}
 
@@ -137,14 +138,10 @@ LastRun text nodes cursor run =
     IfSome cursor (λ c. IfSome (run_character (item_at nodes c).body) (λ r. run
     ≡ Some (byte_of text (item_at nodes c))))
 
--- no paragraph is tight yet
-abbrev pub NoneTight : List (Node Item) → Type 0
-NoneTight nodes = (i : ℕ) → is_tight_paragraph (item_at nodes i).body ≡ false
-
 -- the invariant of a builder
 pub record IsSound (s : State) : Type 0 where
   pub utf8 : IsUtf8 s.text
   pub stands : Stands s
   pub runs : KeepsRuns s.text s.tree.nodes
   pub last_run : LastRun s.text s.tree.nodes s.tree.cursor s.run
-  pub loose : NoneTight s.tree.nodes
+  pub lists : ListsAreTight s.tree

@@ -1,5 +1,5 @@
 -- What a builder changes in its tree in several steps: tight paragraphs, and the characters of a delimiter run.
-use Rattle.std.specs.Prelude.{◌≡◌, ℕ, zero, suc, ◌+◌, ◌-◌, ◌<◌, ◌⊎◌, Bool, true, false, List, length}
+use Rattle.std.specs.Prelude.{◌≡◌, ℕ, zero, suc, ◌+◌, ◌-◌, ◌<◌, ◌≤◌, ◌⊎◌, Bool, true, false, List, length}
 use Rattle.markdown_base.specs.declared.item.Item.{Item}
 use Rattle.markdown_base.specs.declared.item.ItemBody.{ItemBody}
 use Rattle.markdown_base.specs.declared.item.ItemBody.TheVariants as body
@@ -10,6 +10,7 @@ use Rattle.markdown_base.specs.ArenaForest.{links_of}
 use Rattle.markdown_base.specs.BlockTree.{item_at}
 use Rattle.markdown_builder.specs.Rising.{link_of}
 use Rattle.markdown_builder.specs.Standing.{with_item}
+use Rattle.markdown_builder.specs.Tightness.{is_tight_list, IsInItemOf}
 
 -- the body is that of a paragraph which is not tight
 abbrev pub is_paragraph : ItemBody → Bool
@@ -20,12 +21,12 @@ is_paragraph other = false
 abbrev pub tight : Item → Item
 tight item = record { start = item.start; end = item.end; body = body.TightParagraph }
 
--- paragraphs are made tight, one after another
-pub data Tightens (old : Arena Item) : Arena Item → Type 0 where
-  none_tight : Tightens old old
-  one_tight : (tree : Arena Item) (number : ℕ) → Tightens old tree → number < length tree.nodes
+-- paragraphs from a number on are made tight, one after another
+pub data Tightens (from : ℕ) (old : Arena Item) : Arena Item → Type 0 where
+  none_tight : Tightens from old old
+  one_tight : (tree : Arena Item) (number : ℕ) → Tightens from old tree → from ≤ number → number < length tree.nodes
       → is_paragraph (item_at tree.nodes number).body ≡ true
-      → Tightens old (with_item tree number (tight (item_at tree.nodes number)))
+      → Tightens from old (with_item tree number (tight (item_at tree.nodes number)))
 
 -- a paragraph whose number is in a set is tight now
 pub record Tightened (S : ℕ → Type 0) (old new : List (Node Item)) (p : ℕ) : Type 0 where
@@ -68,3 +69,10 @@ run_marked tree stop opens closes zero = tree
 run_marked tree stop opens closes (suc count) =
     with_item (run_marked tree stop opens closes count) (length tree.nodes - suc count)
     (run_item stop opens closes (suc count))
+
+-- the paragraphs of a list are made tight, where it is a tight one
+pub record TightensList (list : ℕ) (old new : Arena Item) : Type 0 where
+  pub steps : Tightens list old new
+  pub makes : is_tight_list (item_at old.nodes list).body ≡ true
+      → MakesTight (IsInItemOf old.nodes list) old.nodes new.nodes
+  pub same : is_tight_list (item_at old.nodes list).body ≡ false → new ≡ old

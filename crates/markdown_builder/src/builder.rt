@@ -4,7 +4,7 @@ ghost use Rattle.std.specs.Prelude.{◌≡◌};
 ghost use Rattle.markdown_builder.specs.Bodies.{is_leaf};
 
 use crate::open_block::OpenBlock;
-use crate::tight::tighten_lists;
+use crate::tight::tighten_list;
 use crate::tree_steps::{append_texts, enter, leave, mark_run, push_text, replace_last, rewrite};
 use markdown_base::block_parts::{BlockParts, HeadingAttributes, LinkDef};
 use markdown_base::cow_str::CowStr;
@@ -178,6 +178,7 @@ impl<'a> Builder<'a> {
             body: block.body,
         };
         leave(&mut self.tree, item);
+        tighten_list(&mut self.tree);
         self.leaf = false;
         self.run = None;
         Some(block)
@@ -440,7 +441,7 @@ impl<'a> Builder<'a> {
     }
 
     /// Returns what was made, when the whole text is read and all blocks are closed. The paragraphs directly in the
-    /// items of tight lists are made tight.
+    /// items of tight lists are tight.
     pub fn finish(self) -> (Tree<Item>, BlockParts<'a>)
         requires closed { self.blocks ≡ [] }
         requires read { self.at ≡ length self.text }
@@ -449,8 +450,6 @@ impl<'a> Builder<'a> {
         ensures tight { TightInTightLists result.0.nodes }
         ensures headings { HeadingsHoldInline (tree_of result.0.nodes) }
     {
-        let mut tree = self.tree;
-        tighten_lists(&mut tree);
         let parts = BlockParts {
             definitions: self.definitions,
             footnotes: self.footnotes,
@@ -458,7 +457,7 @@ impl<'a> Builder<'a> {
             alignments: self.alignments,
             headings: self.headings,
         };
-        (tree, parts)
+        (self.tree, parts)
     }
 }
 

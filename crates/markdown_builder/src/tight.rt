@@ -1,11 +1,9 @@
 //! The paragraphs of tight lists (CommonMark 5.3).
-ghost use Rattle.std.specs.Prelude.{◌≡◌, ◌<◌, length, IfSome};
-ghost use Rattle.markdown_base.specs.declared.item.Item.{Item};
-ghost use Rattle.markdown_base.specs.Arena.{Arena};
+ghost use Rattle.std.specs.Prelude.{◌≡◌, ℕ, ◌<◌, ◌≤◌, length, Some, IfSome};
 ghost use Rattle.markdown_base.specs.ArenaForest.{links_of};
 ghost use Rattle.markdown_builder.specs.Rising.{AreRising};
-ghost use Rattle.markdown_builder.specs.Tightness.{is_tight_list, IsInChain, IsInItemOf, IsInTightList};
-ghost use Rattle.markdown_builder.specs.TreeSteps.{is_paragraph, Tightens, MakesTight};
+ghost use Rattle.markdown_builder.specs.Tightness.{is_tight_list, IsInChain, IsInItemOf};
+ghost use Rattle.markdown_builder.specs.TreeSteps.{is_paragraph, Tightens, TightensList, MakesTight};
 
 use markdown_base::item::{Item, ItemBody};
 use markdown_base::tree::Tree;
@@ -23,7 +21,7 @@ fn is_paragraph(body: ItemBody) -> bool
 /// Makes a node tight, if it is a paragraph.
 fn tighten(tree: &mut Tree<Item>, number: usize)
     requires { number < length tree.old.nodes }
-    ensures steps { (first : Arena Item) → Tightens first tree.old → Tightens first tree.new }
+    ensures steps { (from : ℕ) → from ≤ number → Tightens from tree.old tree.new }
     ensures makes { MakesTight (λ p. p ≡ number) tree.old.nodes tree.new.nodes }
 {
     let item = *tree.item(number);
@@ -41,7 +39,8 @@ fn tighten(tree: &mut Tree<Item>, number: usize)
 fn tighten_siblings(tree: &mut Tree<Item>, first: Option<usize>)
     requires rising { AreRising (links_of tree.old.nodes) }
     requires within { IfSome first (λ number. number < length tree.old.nodes) }
-    ensures steps { (start : Arena Item) → Tightens start tree.old → Tightens start tree.new }
+    ensures steps { (from : ℕ) → IfSome first (λ number. from ≤ number)
+        → Tightens from tree.old tree.new }
     ensures makes { MakesTight (λ p.
         IsInChain tree.old.nodes first p) tree.old.nodes tree.new.nodes }
 {
@@ -56,7 +55,7 @@ fn tighten_siblings(tree: &mut Tree<Item>, first: Option<usize>)
 fn tighten_items(tree: &mut Tree<Item>, list: usize)
     requires rising { AreRising (links_of tree.old.nodes) }
     requires within { list < length tree.old.nodes }
-    ensures steps { (start : Arena Item) → Tightens start tree.old → Tightens start tree.new }
+    ensures steps { Tightens list tree.old tree.new }
     ensures makes { MakesTight (λ p.
         IsInItemOf tree.old.nodes list p) tree.old.nodes tree.new.nodes }
 {
@@ -78,15 +77,14 @@ fn is_tight_list(body: ItemBody) -> bool
     }
 }
 
-/// Makes the paragraphs tight that are directly in the items of tight lists.
-pub fn tighten_lists(tree: &mut Tree<Item>)
+/// Makes the paragraphs tight that are directly in the items of the list at the cursor, if it is a tight list.
+pub fn tighten_list(tree: &mut Tree<Item>)
     requires { AreRising (links_of tree.old.nodes) }
-    ensures steps { Tightens tree.old tree.new }
-    ensures makes { MakesTight (IsInTightList tree.old.nodes) tree.old.nodes tree.new.nodes }
+    ensures { (list : ℕ) → tree.old.cursor ≡ Some list → TightensList list tree.old tree.new }
 {
-    'lists: for number in 0..tree.len() {
-        if is_tight_list(tree.item(number).body) {
-            tighten_items(tree, number);
+    if let Some(list) = tree.cur() {
+        if is_tight_list(tree.item(list).body) {
+            tighten_items(tree, list);
         }
     }
 }

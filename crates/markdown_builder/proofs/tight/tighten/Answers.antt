@@ -4,21 +4,24 @@ use Rattle.markdown_base.specs.declared.item.Item.{Item}
 use Rattle.markdown_base.specs.Arena.{Arena}
 use Rattle.markdown_base.specs.BlockTree.{item_at, no_item}
 use Rattle.markdown_builder.specs.Standing.{with_item}
-use Rattle.markdown_builder.specs.TreeSteps.{is_paragraph, tight, Tightens, one_tight, MakesTight}
+use Rattle.markdown_builder.specs.TreeSteps.{is_paragraph, tight, Tightens, none_tight, one_tight, MakesTight}
 use Rattle.markdown_builder.proofs.NodeWriteLemmas.{item_writes}
 use Rattle.markdown_builder.proofs.TightLemmas.{one_made, none_made}
 use Rattle.markdown_builder.proofs.tight.tighten.Goals as goal
 
 pub returns-then-is_paragraph-clause-steps : goal.returns-then-is_paragraph-clause-steps
-returns-then-is_paragraph-clause-steps c = λ first before.
+returns-then-is_paragraph-clause-steps c = λ from behind.
     let item : c.item-item.result.now ≡ item_at c.args.tree.now.nodes c.args.number = c.item-item.ensures no_item in
     let passes = ap (λ (x : Item). is_paragraph x.body) (sym item)
     ∙ (sym c.is_paragraph.ensures ∙ c.if-is_paragraph.true) in
     let made : c.set_item.new.self ≡ with_item c.args.tree.now c.args.number
     (tight (item_at c.args.tree.now.nodes c.args.number)) =
     c.set_item.ensures ∙ rw (← item) refl in
-    subst (λ (t : Arena Item). Tightens first t) (sym made)
-    (one_tight c.args.tree.now c.args.number before c.requires passes)
+    subst (λ (t : Arena Item). Tightens from c.args.tree.now t) (sym made)
+    (one_tight c.args.tree.now c.args.number none_tight behind c.requires passes)
+
+pub returns-else-is_paragraph-clause-steps : goal.returns-else-is_paragraph-clause-steps
+returns-else-is_paragraph-clause-steps c = λ from behind. none_tight
 
 pub returns-then-is_paragraph-clause-makes : goal.returns-then-is_paragraph-clause-makes
 returns-then-is_paragraph-clause-makes c =

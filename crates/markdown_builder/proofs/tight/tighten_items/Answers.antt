@@ -1,10 +1,16 @@
 -- At first all are left; the paragraphs of one item after another are made tight.
+use Rattle.std.proofs.Common.{ℕ, ◌≤◌, Option, true, false, subst, arith}
+use Rattle.std.specs.Prelude.{IfSome}
+use Rattle.markdown_builder.specs.TreeSteps.{none_tight}
 use Rattle.markdown_builder.proofs.TightLemmas.{item_step, items_done, rising_still, items_left}
+use Rattle.markdown_builder.proofs.TightLemmas.{tightens_on, next_behind}
 use Rattle.markdown_builder.proofs.tight.tighten_items.Goals as goal
 
 pub items-init : goal.items-init
 items-init c = record {
-  steps = λ start t. t;
+  steps = none_tight;
+  behind = rw c.child-link.ensures.value
+      (next_behind c.args.tree.now.nodes c.requires.rising true c.args.list c.args.list (omega arith));
   left = items_left c.args.tree.now.nodes c.args.list c.child-link.result c.child-link.ensures.value
       c.child-link.ensures.within;
 }
@@ -24,14 +30,23 @@ items-smaller c =
     c.next-link.ensures.value).1
 
 pub items-preserved : goal.items-preserved
-items-preserved c = record {
-  steps = λ start t. c.tighten_siblings.ensures.steps start (c.items.invariant.steps start t);
-  left = (item_step c.args.tree.now.nodes c.items.tree.nodes c.tighten_siblings.new.tree.nodes c.args.list c.items.link
-      c.next-link.result
-      c.child-first.result c.in-Some.item
-      c.requires.rising c.items.invariant.left c.in-Some.is c.child-first.ensures.value c.tighten_siblings.ensures.makes
-      c.next-link.ensures.value).0;
-}
+items-preserved c =
+    let i = c.items.invariant in
+    let r = rising_still _ _ c.args.tree.now.nodes c.items.tree.nodes i.left.makes c.requires.rising in
+    let here : c.args.list ≤ c.in-Some.item =
+    subst (λ (o : Option ℕ). IfSome o (λ number. c.args.list ≤ number)) c.in-Some.is i.behind in
+    record {
+      steps = tightens_on c.args.list _ _ _ i.steps (c.tighten_siblings.ensures.steps c.args.list
+          (rw c.child-first.ensures.value (next_behind c.items.tree.nodes r true c.in-Some.item c.args.list here)));
+      behind = rw (c.next-link.ensures.value, c.tighten_siblings.ensures.makes.links false c.in-Some.item)
+          (next_behind c.items.tree.nodes r false c.in-Some.item c.args.list here);
+      left = (item_step c.args.tree.now.nodes c.items.tree.nodes c.tighten_siblings.new.tree.nodes c.args.list
+          c.items.link
+          c.next-link.result
+          c.child-first.result c.in-Some.item
+          c.requires.rising i.left c.in-Some.is c.child-first.ensures.value c.tighten_siblings.ensures.makes
+          c.next-link.ensures.value).0;
+    }
 
 pub returns-clause-makes : goal.returns-clause-makes
 returns-clause-makes c =

@@ -1,11 +1,15 @@
 -- At first all are left; one after another is made tight.
+use Rattle.std.proofs.Common.{ℕ, ◌≤◌, Option, false, subst}
+use Rattle.std.specs.Prelude.{IfSome}
 use Rattle.markdown_builder.specs.Tightness.{IsInChain}
+use Rattle.markdown_builder.specs.TreeSteps.{none_tight}
 use Rattle.markdown_builder.proofs.TightLemmas.{all_left, leads_to, sibling_step, siblings_done}
+use Rattle.markdown_builder.proofs.TightLemmas.{rising_still, tightens_on, next_behind}
 use Rattle.markdown_builder.proofs.tight.tighten_siblings.Goals as goal
 
 pub siblings-init : goal.siblings-init
 siblings-init c = record {
-  steps = λ start t. t;
+  steps = λ from h. (none_tight, h);
   left = record {
     makes = all_left (λ p. IsInChain c.args.tree.now.nodes c.args.first p) c.args.tree.now.nodes;
     inside = λ p q. q;
@@ -35,7 +39,16 @@ siblings-smaller c =
 
 pub siblings-preserved : goal.siblings-preserved
 siblings-preserved c = record {
-  steps = λ start t. c.tighten.ensures.steps start (c.siblings.invariant.steps start t);
+  steps = λ from h.
+      let before = c.siblings.invariant.steps from h in
+      let l = c.siblings.invariant.left in
+      let r = rising_still _ _ c.args.tree.now.nodes c.siblings.tree.nodes l.makes c.requires.rising in
+      let here : from ≤ c.in-Some.number =
+      subst (λ (o : Option ℕ). IfSome o (λ number. from ≤ number)) c.in-Some.is before.1 in (
+        tightens_on from _ _ _ before.0 (c.tighten.ensures.steps from here),
+        rw (c.next-link.ensures.value, c.tighten.ensures.makes.links false c.in-Some.number)
+            (next_behind c.siblings.tree.nodes r false c.in-Some.number from here),
+      );
   left = (sibling_step c.args.tree.now.nodes c.siblings.tree.nodes c.tighten.new.tree.nodes c.args.first c.siblings.link
       c.next-link.result
       c.in-Some.number
@@ -44,7 +57,7 @@ siblings-preserved c = record {
 
 pub returns : goal.returns
 returns c = record {
-  steps = λ start t. c.siblings.invariant.steps start t;
+  steps = λ from h. (c.siblings.invariant.steps from h).0;
   makes = siblings_done c.args.tree.now.nodes c.siblings.tree.nodes c.args.first c.siblings.link
       c.siblings.invariant.left
       c.in_default.not-Some;

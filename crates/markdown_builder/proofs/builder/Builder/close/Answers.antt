@@ -1,8 +1,13 @@
--- The block is left.
-use Rattle.markdown_builder.proofs.CallLemmas.{close_keeps}
+-- The block is left, and its paragraphs are made tight if it is a tight list.
+use Rattle.markdown_builder.proofs.CallLemmas.{close_left, close_keeps}
 use Rattle.markdown_builder.proofs.builder.Builder.close.Goals as goal
+
+pub tighten_list-requires : goal.tighten_list-requires
+tighten_list-requires c =
+    (close_left c.pop.new.self.items c.in_ok-block.block c.leave.new.tree c.self.invariant c.in_ok-block.ensures.items
+    c.leave.ensures).2.stands.nodes.rising
 
 pub invariant_of-self-2 : goal.invariant_of-self-2
 invariant_of-self-2 c =
-    close_keeps c.pop.new.self.items c.in_ok-block.block c.leave.new.tree c.self.invariant c.in_ok-block.ensures.items
-    c.leave.ensures
+    close_keeps c.pop.new.self.items c.in_ok-block.block c.leave.new.tree c.tighten_list.new.tree c.self.invariant
+    c.in_ok-block.ensures.items c.leave.ensures c.tighten_list.ensures

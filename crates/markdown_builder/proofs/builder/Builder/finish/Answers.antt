@@ -4,25 +4,16 @@ use Rattle.markdown_builder.specs.Standing.{standpoint}
 use Rattle.markdown_builder.proofs.FormedLemmas.{keeps_formed}
 use Rattle.markdown_builder.proofs.HeadingsHoldInlineLemmas.{headings_hold_inline}
 use Rattle.markdown_builder.proofs.CoveredLemmas.{covers_at_end}
-use Rattle.markdown_builder.proofs.TightLemmas.{tight_in_tight_lists}
-use Rattle.markdown_builder.proofs.CallLemmas.{finish_keeps}
+use Rattle.markdown_builder.proofs.CallLemmas.{finish_tight}
 use Rattle.markdown_builder.proofs.builder.Builder.finish.Goals as goal
-
-pub tighten_lists-requires : goal.tighten_lists-requires
-tighten_lists-requires c = c.self.invariant.stands.nodes.rising
 
 pub returns-clause-formed : goal.returns-clause-formed
 returns-clause-formed c =
-    let k = finish_keeps (standpoint c.args.self) c.tighten_lists.new.tree c.self.invariant
-    (ap standpoint c.self.view_is) c.requires.closed
-    c.tighten_lists.ensures.steps in
-    rw (← c.self.view_is) (keeps_formed c.self.inside.text.now c.tighten_lists.new.tree.nodes _ k.stands.nodes k.runs)
+    let k = c.self.invariant in
+    rw (← c.self.view_is) (keeps_formed c.self.inside.text.now c.self.inside.tree.nodes _ k.stands.nodes k.runs)
 
 pub returns-clause-covered : goal.returns-clause-covered
 returns-clause-covered c =
-    let k = finish_keeps (standpoint c.args.self) c.tighten_lists.new.tree c.self.invariant
-    (ap standpoint c.self.view_is) c.requires.closed
-    c.tighten_lists.ensures.steps in
     covers_at_end (standpoint c.args.self)
     (record {
       definitions = c.self.inside.definitions;
@@ -30,16 +21,12 @@ returns-clause-covered c =
       cows = c.self.inside.cows;
       alignments = c.self.inside.alignments;
       headings = c.self.inside.headings;
-    }) k.stands (ap standpoint c.self.view_is) refl c.requires.closed c.requires.read
+    }) c.self.invariant.stands (ap standpoint c.self.view_is) refl c.requires.closed c.requires.read
 
 pub returns-clause-tight : goal.returns-clause-tight
-returns-clause-tight c = tight_in_tight_lists c.self.inside.tree.nodes c.tighten_lists.new.tree.nodes
-    c.self.invariant.loose
-    c.tighten_lists.ensures.makes
+returns-clause-tight c =
+    finish_tight (standpoint c.args.self) c.self.invariant (ap standpoint c.self.view_is) c.requires.closed
 
 pub returns-clause-headings : goal.returns-clause-headings
 returns-clause-headings c =
-    let k = finish_keeps (standpoint c.args.self) c.tighten_lists.new.tree c.self.invariant
-    (ap standpoint c.self.view_is) c.requires.closed
-    c.tighten_lists.ensures.steps in
-    headings_hold_inline c.self.inside.text.now _ c.tighten_lists.new.tree.nodes k.stands.nodes
+    headings_hold_inline c.self.inside.text.now _ c.self.inside.tree.nodes c.self.invariant.stands.nodes

@@ -1,0 +1,558 @@
+-- Tight lists, open and closed: what an append, a written item and a closed block make of them.
+use Rattle.std.proofs.Common.{◌≡◌, ℕ, suc, ◌<◌, ◌≤◌, List, [], ◌∷◌, ◌++◌, Option, Some, None, Bool, true, false, length}
+use Rattle.std.proofs.Common.{refl, sym, ap, ◌∙◌, subst}
+use Rattle.std.proofs.Common.{arith, ◌⊎◌, inl, inr, ⊎_elim}
+use Rattle.std.specs.Prelude.{IfSome}
+use Rattle.std.specs.List.{AllByRecursion}
+use Rattle.std.proofs.lemmas.Bool.{cases_lt}
+use Rattle.markdown_base.specs.declared.item.Item.{Item}
+use Rattle.markdown_base.specs.declared.item.ItemBody.{ItemBody}
+use Rattle.markdown_base.specs.declared.item.ItemBody.TheVariants as body
+use Rattle.markdown_base.specs.declared.node.Node.{Node}
+use Rattle.markdown_base.specs.Arena.{Arena, child_of, sibling_of}
+use Rattle.markdown_base.specs.ArenaChanges.{innermost}
+use Rattle.markdown_base.specs.ArenaForest.{links_of}
+use Rattle.markdown_base.specs.BlockTree.{item_at, no_item}
+use Rattle.markdown_base.specs.Item.{is_tight_paragraph}
+use Rattle.markdown_base.proofs.ArenaLemmas.{All-snoc, All-front, All-last}
+use Rattle.markdown_base.proofs.ForestLemmas.{All-weaker}
+use Rattle.markdown_builder.specs.Rising.{link_of, AreRising, place_down, place_at}
+use Rattle.markdown_builder.specs.Tightness.{is_tight_list, IsInChain, first_of, later_in, IsInItemOf}
+use Rattle.markdown_builder.specs.Tightness.{TightInTightLists}
+use Rattle.markdown_builder.specs.ClosedLists.{IsNotOpen, IsClosed, IsInClosedList, ListsAreTight}
+use Rattle.markdown_builder.specs.TreeSteps.{Tightened, MakesTight, Tightens, none_tight, one_tight}
+use Rattle.markdown_builder.specs.TreeSteps.{TightensList}
+use Rattle.markdown_builder.proofs.BuilderRulesLemmas.{same_or_not, same_place, same_item}
+use Rattle.markdown_builder.proofs.NodeWriteLemmas.{Grows, Writes, item_beyond}
+use Rattle.markdown_builder.proofs.TightLemmas.{chain_same, item_same, list_same, nothing_in, paragraph_or_tight}
+
+-- ---- bodies
+
+-- a tight paragraph, by its body
+is_tight : (b : ItemBody) → is_tight_paragraph b ≡ true → b ≡ body.TightParagraph
+is_tight body.TightParagraph h = refl
+is_tight other h = cc (h)
+
+-- a test has one outcome
+pub not_both : {b : Bool} → b ≡ true → b ≡ false → ⊥
+not_both t f = let e : true ≡ false = sym t ∙ f in cc (e)
+
+-- ---- chains lead to ever larger numbers
+
+-- a link leads behind its number
+link_behind : (nodes : List (Node Item)) → AreRising (links_of nodes) → (d : Bool) (i low : ℕ) → low ≤ i
+    → IfSome (link_of (links_of nodes) d i) (λ j. low < j)
+link_behind nodes r d i low h = of_link (link_of (links_of nodes) d i)
+    (λ j e. let q = (r.rises d i j e).0 in omega (arith, q, h))
+  where
+    of_link : (o : Option ℕ) → ((j : ℕ) → o ≡ Some j → low < j) → IfSome o (λ j. low < j)
+    of_link None h = tt
+    of_link (Some j) h = h j refl
+
+chain_behind : (nodes : List (Node Item)) → AreRising (links_of nodes) → (low : ℕ) (l : Option ℕ) (p : ℕ)
+    → IfSome l (λ j. low < j) → IsInChain nodes l p → low < p
+chain_behind nodes r low l p h (first_of _) = h
+chain_behind nodes r low l p h (later_in q _ c) =
+    chain_behind nodes r low (sibling_of nodes q) p (link_behind nodes r false q low (omega (arith, h))) c
+
+-- the items of a list stand behind it, and what is in them behind these
+items_behind : (nodes : List (Node Item)) → AreRising (links_of nodes) → (list item : ℕ)
+    → IsInChain nodes (child_of nodes list) item → list < item
+items_behind nodes r list item c =
+    chain_behind nodes r list (child_of nodes list) item (link_behind nodes r true list list (omega arith)) c
+
+pub inside_behind : (nodes : List (Node Item)) → AreRising (links_of nodes) → (list p : ℕ) → IsInItemOf nodes list p
+    → list < p
+inside_behind nodes r list p i =
+    let item = items_behind nodes r list i.item i.listed in
+    let inside = items_behind nodes r i.item p i.inside in
+    omega (arith, item, inside)
+
+-- what a link leads to is a node
+link_within : (nodes : List (Node Item)) → AreRising (links_of nodes) → (d : Bool) (i : ℕ)
+    → IfSome (link_of (links_of nodes) d i) (λ j. j < length nodes)
+link_within nodes r d i = of_link (link_of (links_of nodes) d i) (λ j e. (r.rises d i j e).1)
+  where
+    of_link : (o : Option ℕ) → ((j : ℕ) → o ≡ Some j → j < length nodes) → IfSome o (λ j. j < length nodes)
+    of_link None h = tt
+    of_link (Some j) h = h j refl
+
+chain_within : (nodes : List (Node Item)) → AreRising (links_of nodes) → (l : Option ℕ) (p : ℕ)
+    → IfSome l (λ j. j < length nodes) → IsInChain nodes l p → p < length nodes
+chain_within nodes r l p h (first_of _) = h
+chain_within nodes r l p h (later_in q _ c) =
+    chain_within nodes r (sibling_of nodes q) p (link_within nodes r false q) c
+
+-- ---- nodes that are open
+
+-- no node between a closed list and its end is open
+not_open_inside : (list end p : ℕ) (spine : List ℕ) → AllByRecursion (λ s. (s < list) ⊎ (end ≤ s)) spine → list ≤ p
+    → p < end → IsNotOpen spine p
+not_open_inside list end p spine around low high =
+    All-weaker (λ s. (s < list) ⊎ (end ≤ s)) (λ s. s ≡ p → ⊥)
+    (λ s o e. ⊎_elim (λ (h : s < list). omega (arith, h, e, low)) (λ (h : end ≤ s). omega (arith, h, e, high)) o)
+    spine around
+
+-- what holds of 0 and of all numbers of a spine holds of the innermost
+innermost_has : (P : ℕ → Type 0) → P 0 → (spine : List ℕ) → AllByRecursion P spine → P (innermost spine)
+innermost_has P zero [] a = zero
+innermost_has P zero (s ∷ []) a = a.0
+innermost_has P zero (s ∷ t ∷ spine) a = innermost_has P zero (t ∷ spine) a.1
+
+-- nothing is appended inside a closed list
+place_outside : (nodes : List (Node Item)) (spine : List ℕ) (cursor : Option ℕ) (list : ℕ) → 0 < list
+    → (c : IsClosed nodes spine cursor list)
+    → (d : Bool) (i : ℕ) → list ≤ i → i < c.end → (d ≡ false → list < i)
+    → (d ≡ place_down cursor) × (i ≡ place_at spine cursor) → ⊥
+place_outside nodes spine None list positive c d i low high behind e =
+    let at = e.1 in
+    ⊎_elim (λ (h : innermost spine < list). omega (arith, h, at, low))
+    (λ (h : c.end ≤ innermost spine). omega (arith, h, at, high))
+    (innermost_has (λ s. (s < list) ⊎ (c.end ≤ s)) (inl positive) spine c.around)
+place_outside nodes spine (Some before) list positive c d i low high behind e =
+    let at = e.1 in
+    let more = behind e.0 in
+    ⊎_elim (λ (h : before ≤ list). omega (arith, h, at, more)) (λ (h : c.end ≤ before). omega (arith, h, at, high))
+    c.focus
+
+-- ---- an append
+
+-- what is in a chain was in it where nothing was appended behind one of its numbers
+chain_back : (old new : List (Node Item)) (down : Bool) (at : ℕ) (x : Item) → Grows old new down at x
+    → (l now : Option ℕ) (p : ℕ) → now ≡ l
+    → ((q : ℕ) → IsInChain old l q → (false ≡ down) × (q ≡ at) → ⊥) → IsInChain new now p → IsInChain old l p
+chain_back old new down at x g l now p e away (first_of _) = subst (λ (o : Option ℕ). IsInChain old o p) e (first_of p)
+chain_back old new down at x g l now p e away (later_in q _ c) =
+    let same : sibling_of new q ≡ sibling_of old q = g.other_links false q
+    (away q (subst (λ (o : Option ℕ). IsInChain old o q) e (first_of q))) in
+    subst (λ (o : Option ℕ). IsInChain old o p) e
+    (later_in q p (chain_back old new down at x g (sibling_of old q) (sibling_of new q) p same
+    (λ r i. away r (subst (λ (o : Option ℕ). IsInChain old o r) e (later_in q r i))) c))
+
+-- a link that leads into a chain stays
+link_stays : (old new : List (Node Item)) (down : Bool) (at : ℕ) (x : Item) → Grows old new down at x
+    → link_of (links_of old) down at ≡ None
+    → (d : Bool) (i p : ℕ) → IsInChain old (link_of (links_of old) d i) p
+    → link_of (links_of new) d i ≡ link_of (links_of old) d i
+link_stays old new down at x g free d i p c = ⊎_elim
+    (λ (e : (d ≡ down) × (i ≡ at)). absurd (nothing_in old (link_of (links_of old) d i) p
+    (λ n q. let none : link_of (links_of old) d i ≡ None = rw (e.0, e.1) free in cc (none, q)) c))
+    (λ (n : (d ≡ down) × (i ≡ at) → ⊥). g.other_links d i n)
+    (same_place d down i at)
+
+-- what was in a chain is in it
+chain_on : (old new : List (Node Item)) (down : Bool) (at : ℕ) (x : Item) → Grows old new down at x
+    → link_of (links_of old) down at ≡ None → (l : Option ℕ) (p : ℕ) → IsInChain old l p → IsInChain new l p
+chain_on old new down at x g free l p (first_of _) = first_of p
+chain_on old new down at x g free l p (later_in q _ c) =
+    later_in q p (subst (λ (o : Option ℕ). IsInChain new o p) (sym (link_stays old new down at x g free false q p c))
+    (chain_on old new down at x g free (sibling_of old q) p c))
+
+item_on : (old new : List (Node Item)) (down : Bool) (at : ℕ) (x : Item) → Grows old new down at x
+    → link_of (links_of old) down at ≡ None → (list p : ℕ) → IsInItemOf old list p → IsInItemOf new list p
+item_on old new down at x g free list p i = record {
+  item = i.item;
+  listed = subst (λ (o : Option ℕ). IsInChain new o i.item)
+      (sym (link_stays old new down at x g free true list i.item i.listed))
+      (chain_on old new down at x g free (child_of old list) i.item i.listed);
+  inside = subst (λ (o : Option ℕ). IsInChain new o p)
+      (sym (link_stays old new down at x g free true i.item p i.inside))
+      (chain_on old new down at x g free (child_of old i.item) p i.inside);
+}
+
+-- a closed list holds what it held
+record HoldsNoMore (old new : List (Node Item)) (list : ℕ) : Type 0 where
+  pub items : (item : ℕ) → IsInChain new (child_of new list) item → IsInChain old (child_of old list) item
+  pub inside : (p : ℕ) → IsInItemOf new list p → IsInItemOf old list p
+
+holds_no_more : (old new : List (Node Item)) (spine : List ℕ) (cursor : Option ℕ) (x : Item) (list : ℕ)
+    → AreRising (links_of old) → Grows old new (place_down cursor) (place_at spine cursor) x → 0 < list
+    → IsClosed old spine cursor list → HoldsNoMore old new list
+holds_no_more old new spine cursor x list r g positive c = record {
+  items = items;
+  inside = λ p i.
+      let listed = items i.item i.listed in
+      let low = items_behind old r list i.item listed in
+      let high = c.items i.item listed in
+      let same : child_of new i.item ≡ child_of old i.item =
+      g.other_links true i.item (place_outside old spine cursor list positive c true i.item (omega (arith, low)) high
+      (λ e. low)) in
+      record {
+        item = i.item;
+        listed = listed;
+        inside = chain_back old new (place_down cursor) (place_at spine cursor) x g (child_of old i.item)
+            (child_of new i.item) p same
+            (λ q k e.
+            let inside : IsInItemOf old list q = record { item = i.item; listed = listed; inside = k } in
+            let behind = inside_behind old r list q inside in
+            place_outside old spine cursor list positive c false q (omega (arith, behind)) (c.inside q inside)
+            (λ z. behind) e) i.inside;
+      };
+}
+  where
+    items : (item : ℕ) → IsInChain new (child_of new list) item → IsInChain old (child_of old list) item
+    items item k =
+        let low = c.low in
+        let same : child_of new list ≡ child_of old list =
+        g.other_links true list (place_outside old spine cursor list positive c true list (omega arith) low
+        (λ e. cc (e))) in
+        chain_back old new (place_down cursor) (place_at spine cursor) x g (child_of old list) (child_of new list) item
+        same
+        (λ q i e. let behind = items_behind old r list q i in
+        place_outside old spine cursor list positive c false q (omega (arith, behind)) (c.items q i) (λ z. behind) e) k
+
+-- a number behind all nodes holds no tight list
+tight_within : (nodes : List (Node Item)) (list : ℕ) → is_tight_list (item_at nodes list).body ≡ true
+    → list < length nodes
+tight_within nodes list t = ⊎_elim (λ (h : list < length nodes). h)
+    (λ (h : length nodes ≤ list). let none : item_at nodes list ≡ no_item = item_beyond nodes list h in
+    absurd (not_both t (ap (λ (y : Item). is_tight_list y.body) none)))
+    (cases_lt list (length nodes))
+
+-- nor does the root
+tight_positive : (nodes : List (Node Item)) (list : ℕ) → (item_at nodes 0).body ≡ body.Root
+    → is_tight_list (item_at nodes list).body ≡ true → 0 < list
+tight_positive nodes list root t = ⊎_elim (λ (h : 0 < list). h)
+    (λ (h : list ≤ 0). let z : list ≡ 0 = omega (arith, h) in
+    absurd (not_both t (ap (λ (n : ℕ). is_tight_list (item_at nodes n).body) z ∙ ap is_tight_list root)))
+    (cases_lt 0 list)
+
+-- the numbers that were closed stay so where the new node is the only one that may be open or in focus now
+record OpensOnly (n : ℕ) (few many : List ℕ) (cursor : Option ℕ) : Type 0 where
+  pub was : (list : ℕ) → IsNotOpen many list → IsNotOpen few list
+  pub is : (list : ℕ) → list < n → IsNotOpen few list → IsNotOpen many list
+  pub around : (list end : ℕ) → end ≤ n → AllByRecursion (λ s. (s < list) ⊎ (end ≤ s)) few
+      → AllByRecursion (λ s. (s < list) ⊎ (end ≤ s)) many
+  pub focus : (list end : ℕ) → end ≤ n → IfSome cursor (λ c. (c ≤ list) ⊎ (end ≤ c))
+
+-- with a new item that is no tight paragraph
+lists_more : (old new : List (Node Item)) (spine many : List ℕ) (cursor now : Option ℕ) (x : Item)
+    → AreRising (links_of old) → (item_at old 0).body ≡ body.Root
+    → Grows old new (place_down cursor) (place_at spine cursor) x
+    → link_of (links_of old) (place_down cursor) (place_at spine cursor) ≡ None
+    → ListsAreTight (record { nodes = old; spine = spine; cursor = cursor })
+    → is_tight_paragraph x.body ≡ false → OpensOnly (length old) spine many now
+    → (IsNotOpen many (length old) → IsClosed new many now (length old))
+    → ListsAreTight (record { nodes = new; spine = many; cursor = now })
+lists_more old new spine many cursor now x r root g free k loose opens last = record {
+  lists = λ list t o. ⊎_elim
+      (λ (e : list ≡ n). subst (λ (m : ℕ). IsClosed new many now m) (sym e)
+      (last (subst (λ (m : ℕ). IsNotOpen many m) e o)))
+      (λ (e : list ≡ n → ⊥).
+      let was = ap (λ (y : Item). is_tight_list y.body) (sym (same list e)) ∙ t in
+      let c = k.lists list was (opens.was list o) in
+      let no_more = holds_no_more old new spine cursor x list r g (tight_positive old list root was) c in
+      let high = c.high in
+      record {
+        end = c.end;
+        low = c.low;
+        high = omega (arith, high, g.size);
+        around = opens.around list c.end high c.around;
+        focus = opens.focus list c.end high;
+        items = λ item i. c.items item (no_more.items item i);
+        inside = λ p i. c.inside p (no_more.inside p i);
+        tight = λ p i q. let inside = c.inside p (no_more.inside p i) in
+            c.tight p (no_more.inside p i)
+            (ap (λ (y : Item). y.body) (sym (same p (λ z. omega (arith, z, inside, high)))) ∙ q);
+      })
+      (same_or_not list n);
+  only = λ p q. ⊎_elim
+      (λ (e : p ≡ n). absurd (not_both (ap is_tight_paragraph q)
+      (ap (λ (m : ℕ). is_tight_paragraph (item_at new m).body) e
+      ∙ (ap (λ (y : Item). is_tight_paragraph y.body) g.new_item ∙ loose))))
+      (λ (e : p ≡ n → ⊥).
+      let w = k.only p (ap (λ (y : Item). y.body) (sym (same p e)) ∙ q) in
+      let low = tight_within old w.list w.tight in
+      record {
+        list = w.list;
+        tight = ap (λ (y : Item). is_tight_list y.body) (same w.list (λ z. omega (arith, z, low))) ∙ w.tight;
+        closed = opens.is w.list low w.closed;
+        inside = item_on old new (place_down cursor) (place_at spine cursor) x g free w.list p w.inside;
+      })
+      (same_or_not p n);
+}
+  where
+    n : ℕ
+    n = length old
+
+    same : (i : ℕ) → (i ≡ n → ⊥) → item_at new i ≡ item_at old i
+    same i e = same_item old new (place_down cursor) (place_at spine cursor) x g i e
+
+-- the new node has no links
+new_alone : (old new : List (Node Item)) (down : Bool) (at : ℕ) (x : Item) → Grows old new down at x
+    → AreRising (links_of new) → (l : Option ℕ) (p : ℕ) → l ≡ child_of new (length old) → IsInChain new l p → ⊥
+new_alone old new down at x g r l p e c =
+    let low = items_behind new r (length old) p (subst (λ (o : Option ℕ). IsInChain new o p) e c) in
+    let high = chain_within new r l p (rw e (link_within new r true (length old))) c in
+    omega (arith, low, high, g.size)
+
+-- an item is appended
+pub lists_appended : (old new : List (Node Item)) (spine : List ℕ) (cursor : Option ℕ) (x : Item)
+    → AreRising (links_of old) → AreRising (links_of new) → (item_at old 0).body ≡ body.Root
+    → AllByRecursion (λ s. s < length old) spine
+    → Grows old new (place_down cursor) (place_at spine cursor) x
+    → link_of (links_of old) (place_down cursor) (place_at spine cursor) ≡ None
+    → ListsAreTight (record { nodes = old; spine = spine; cursor = cursor })
+    → is_tight_paragraph x.body ≡ false
+    → ListsAreTight (record { nodes = new; spine = spine; cursor = Some (length old) })
+lists_appended old new spine cursor x r s root below g free k loose =
+    let n = length old in
+    let none : (p : ℕ) → IsInChain new (child_of new n) p → ⊥ = λ p c.
+    new_alone old new (place_down cursor) (place_at spine cursor) x g s (child_of new n) p refl c in
+    lists_more old new spine spine cursor (Some n) x r root g free k loose
+    (record {
+      was = λ list o. o;
+      is = λ list l o. o;
+      around = λ list end h a. a;
+      focus = λ list end h. inr h;
+    })
+    (λ o. record {
+      end = suc n;
+      low = omega arith;
+      high = omega (arith, g.size);
+      around = All-weaker (λ t. t < n) (λ t. (t < n) ⊎ (suc n ≤ t)) (λ t h. inl h) spine below;
+      focus = inl (omega arith);
+      items = λ item c. absurd (none item c);
+      inside = λ p i. absurd (none i.item i.listed);
+      tight = λ p i q. none i.item i.listed;
+    })
+
+-- a block is appended and entered
+pub lists_entered : (old new : List (Node Item)) (spine : List ℕ) (cursor : Option ℕ) (x : Item)
+    → AreRising (links_of old) → (item_at old 0).body ≡ body.Root
+    → Grows old new (place_down cursor) (place_at spine cursor) x
+    → link_of (links_of old) (place_down cursor) (place_at spine cursor) ≡ None
+    → ListsAreTight (record { nodes = old; spine = spine; cursor = cursor })
+    → is_tight_paragraph x.body ≡ false
+    → ListsAreTight (record { nodes = new; spine = spine ++ length old ∷ []; cursor = None })
+lists_entered old new spine cursor x r root g free k loose =
+    let n = length old in
+    lists_more old new spine (spine ++ n ∷ []) cursor None x r root g free k loose
+    (record {
+      was = λ list o. All-front (λ s. s ≡ list → ⊥) spine n o;
+      is = λ list l o. All-snoc (λ s. s ≡ list → ⊥) spine n o (λ e. omega (arith, e, l));
+      around = λ list end h a. All-snoc (λ s. (s < list) ⊎ (end ≤ s)) spine n a (inr h);
+      focus = λ list end h. tt;
+    })
+    (λ o. absurd (All-last (λ s. s ≡ n → ⊥) spine n o refl))
+
+-- ---- a written item
+
+-- an item is written that is no tight paragraph: into an open node, or where no list or paragraph stands or stood
+pub lists_written : (old new : List (Node Item)) (spine : List ℕ) (cursor : Option ℕ) (at : ℕ) (x : Item)
+    → AreRising (links_of old) → Writes old new at x
+    → ListsAreTight (record { nodes = old; spine = spine; cursor = cursor })
+    → is_tight_paragraph x.body ≡ false
+    → (IsNotOpen spine at → (is_tight_list (item_at old at).body ≡ false) × (is_tight_list x.body ≡ false)
+    × (x.body ≡ body.Paragraph → ⊥))
+    → ListsAreTight (record { nodes = new; spine = spine; cursor = cursor })
+lists_written old new spine cursor at x r w k loose plain = record {
+  lists = λ list t o. ⊎_elim
+      (λ (e : list ≡ at). absurd (not_both t
+      (ap (λ (m : ℕ). is_tight_list (item_at new m).body) e
+      ∙ (ap (λ (y : Item). is_tight_list y.body) w.new_item
+      ∙ (plain (subst (λ (m : ℕ). IsNotOpen spine m) e o)).1))))
+      (λ (e : list ≡ at → ⊥).
+      let c = k.lists list (ap (λ (y : Item). is_tight_list y.body) (sym (w.old_items list e)) ∙ t) o in
+      let high = c.high in
+      record {
+        end = c.end;
+        low = c.low;
+        high = omega (arith, high, w.size);
+        around = c.around;
+        focus = c.focus;
+        items = λ item i. c.items item (items list item i);
+        inside = λ p i. c.inside p (inside list p i);
+        tight = λ p i q. ⊎_elim
+            (λ (z : p ≡ at).
+            let behind = inside_behind old r list p (inside list p i) in
+            let here =
+            not_open_inside list c.end p spine c.around (omega (arith, behind)) (c.inside p (inside list p i))
+            in
+            (plain (subst (λ (m : ℕ). IsNotOpen spine m) z here)).2
+            (ap (λ (y : Item). y.body) (sym w.new_item) ∙ (ap (λ (m : ℕ). (item_at new m).body) (sym z) ∙ q)))
+            (λ (z : p ≡ at → ⊥). c.tight p (inside list p i) (ap (λ (y : Item). y.body) (sym (w.old_items p z)) ∙ q))
+            (same_or_not p at);
+      })
+      (same_or_not list at);
+  only = λ p q. ⊎_elim
+      (λ (e : p ≡ at). absurd (not_both (ap is_tight_paragraph q)
+      (ap (λ (m : ℕ). is_tight_paragraph (item_at new m).body) e
+      ∙ (ap (λ (y : Item). is_tight_paragraph y.body) w.new_item ∙ loose))))
+      (λ (e : p ≡ at → ⊥).
+      let o = k.only p (ap (λ (y : Item). y.body) (sym (w.old_items p e)) ∙ q) in
+      record {
+        list = o.list;
+        tight = ⊎_elim
+            (λ (z : o.list ≡ at). absurd (not_both o.tight
+            (ap (λ (m : ℕ). is_tight_list (item_at old m).body) z
+            ∙ (plain (subst (λ (m : ℕ). IsNotOpen spine m) z o.closed)).0)))
+            (λ (z : o.list ≡ at → ⊥). ap (λ (y : Item). is_tight_list y.body) (w.old_items o.list z) ∙ o.tight)
+            (same_or_not o.list at);
+        closed = o.closed;
+        inside = item_same old new w.all_links o.list p o.inside;
+      })
+      (same_or_not p at);
+}
+  where
+    back : (d : Bool) (i : ℕ) → link_of (links_of old) d i ≡ link_of (links_of new) d i
+    back d i = sym (w.all_links d i)
+
+    items : (list item : ℕ) → IsInChain new (child_of new list) item → IsInChain old (child_of old list) item
+    items list item i = subst (λ (o : Option ℕ). IsInChain old o item) (w.all_links true list)
+        (chain_same new old back (child_of new list) item i)
+
+    inside : (list p : ℕ) → IsInItemOf new list p → IsInItemOf old list p
+    inside list p i = item_same new old back list p i
+
+-- an open block is no tight paragraph
+pub open_is_loose : (nodes : List (Node Item)) (spine : List ℕ) (cursor : Option ℕ) (n : ℕ)
+    → AreRising (links_of nodes) → ListsAreTight (record { nodes = nodes; spine = spine; cursor = cursor })
+    → (IsNotOpen spine n → ⊥) → is_tight_paragraph (item_at nodes n).body ≡ false
+open_is_loose nodes spine cursor n r k entered = of_test (is_tight_paragraph (item_at nodes n).body) refl
+  where
+    of_test : (b : Bool) → is_tight_paragraph (item_at nodes n).body ≡ b → b ≡ false
+    of_test false e = refl
+    of_test true e =
+        let w = k.only n (is_tight (item_at nodes n).body e) in
+        let c = k.lists w.list w.tight w.closed in
+        let low = inside_behind nodes r w.list n w.inside in
+        absurd (entered (not_open_inside w.list c.end n spine c.around (omega (arith, low)) (c.inside n w.inside)))
+
+-- ---- a block is closed
+
+-- the same, of all lists but one
+pub record OthersAreTight (number : ℕ) (tree : Arena Item) : Type 0 where
+  pub lists : (list : ℕ) → (list ≡ number → ⊥) → is_tight_list (item_at tree.nodes list).body ≡ true
+      → IsNotOpen tree.spine list
+      → IsClosed tree.nodes tree.spine tree.cursor list
+  pub only : (p : ℕ) → (item_at tree.nodes p).body ≡ body.TightParagraph → IsInClosedList tree.nodes tree.spine p
+
+-- the innermost open block is left
+pub lists_left : (nodes : List (Node Item)) (spine : List ℕ) (n : ℕ) (cursor : Option ℕ)
+    → ListsAreTight (record { nodes = nodes; spine = spine ++ n ∷ []; cursor = cursor })
+    → OthersAreTight n (record { nodes = nodes; spine = spine; cursor = Some n })
+lists_left nodes spine n cursor k = record {
+  lists = λ list e t o.
+      let c = k.lists list t (All-snoc (λ s. s ≡ list → ⊥) spine n o (λ z. e (sym z))) in
+      record {
+        end = c.end;
+        low = c.low;
+        high = c.high;
+        around = All-front (λ s. (s < list) ⊎ (c.end ≤ s)) spine n c.around;
+        focus = ⊎_elim (λ (h : n < list). inl (omega (arith, h))) (λ (h : c.end ≤ n). inr h)
+            (All-last (λ s. (s < list) ⊎ (c.end ≤ s)) spine n c.around);
+        items = c.items;
+        inside = c.inside;
+        tight = c.tight;
+      };
+  only = λ p q. let w = k.only p q in record {
+    list = w.list;
+    tight = w.tight;
+    closed = All-front (λ s. s ≡ w.list → ⊥) spine n w.closed;
+    inside = w.inside;
+  };
+}
+
+-- paragraphs are made tight in the same nodes, wherever the arena stands
+pub tightens_stays : (from : ℕ) (old new : Arena Item) → Tightens from old new
+    → (new.spine ≡ old.spine) × (new.cursor ≡ old.cursor)
+tightens_stays from old new none_tight = (refl, refl)
+tightens_stays from old new (one_tight tree number before low high p) = tightens_stays from old tree before
+
+-- a list that is made tight is closed
+list_closed : (old new : List (Node Item)) (spine : List ℕ) (n : ℕ) → AreRising (links_of old) → n < length old
+    → AllByRecursion (λ s. s < n) spine → MakesTight (IsInItemOf old n) old new → IsClosed new spine (Some n) n
+list_closed old new spine n r low below m = record {
+  end = length old;
+  low = low;
+  high = omega (arith, m.size);
+  around = All-weaker (λ s. s < n) (λ s. (s < n) ⊎ (length old ≤ s)) (λ s h. inl h) spine below;
+  focus = inl (omega arith);
+  items = λ item i. chain_within old r (child_of old n) item (link_within old r true n)
+      (subst (λ (o : Option ℕ). IsInChain old o item) (m.links true n)
+      (chain_same new old (λ d i. sym (m.links d i)) (child_of new n) item i));
+  inside = λ p i. let j = back p i in
+      chain_within old r (child_of old j.item) p (link_within old r true j.item) j.inside;
+  tight = λ p i q. ⊎_elim (λ (no : ⊥). no) (λ (h : (item_at new p).body ≡ body.Paragraph → ⊥). h q)
+      (m.made p (back p i));
+}
+  where
+    back : (p : ℕ) → IsInItemOf new n p → IsInItemOf old n p
+    back p i = item_same new old (λ d i. sym (m.links d i)) n p i
+
+-- and the other lists are as they were
+others_closed : (S : ℕ → Type 0) (old new : List (Node Item)) (spine : List ℕ) (cursor : Option ℕ) (list : ℕ)
+    → MakesTight S old new → IsClosed old spine cursor list → IsClosed new spine cursor list
+others_closed S old new spine cursor list m c = record {
+  end = c.end;
+  low = c.low;
+  high = let high = c.high in omega (arith, high, m.size);
+  around = c.around;
+  focus = c.focus;
+  items = λ item i. c.items item (subst (λ (o : Option ℕ). IsInChain old o item) (m.links true list)
+      (chain_same new old (λ d i. sym (m.links d i)) (child_of new list) item i));
+  inside = λ p i. c.inside p (back p i);
+  tight = λ p i q. ⊎_elim
+      (λ (e : item_at new p ≡ item_at old p). c.tight p (back p i) (ap (λ (y : Item). y.body) (sym e) ∙ q))
+      (λ (t : Tightened S old new p). paragraph_or_tight (item_at new p).body q (ap (λ (y : Item). y.body) t.now))
+      (m.kept p);
+}
+  where
+    back : (p : ℕ) → IsInItemOf new list p → IsInItemOf old list p
+    back p i = item_same new old (λ d i. sym (m.links d i)) list p i
+
+-- the list that was left is made tight, if it is a tight list
+pub lists_closed : (old new : Arena Item) (n : ℕ) → AreRising (links_of old.nodes) → n < length old.nodes
+    → AllByRecursion (λ s. s < n) old.spine → old.cursor ≡ Some n → OthersAreTight n old → TightensList n old new
+    → ListsAreTight new
+lists_closed old new n r low below at k t =
+    of_test (is_tight_list (item_at old.nodes n).body) refl
+  where
+    kept : is_tight_list (item_at old.nodes n).body ≡ true → MakesTight (IsInItemOf old.nodes n) old.nodes new.nodes
+        → ListsAreTight (record { nodes = new.nodes; spine = old.spine; cursor = old.cursor })
+    kept e m = record {
+      lists = λ list h o. ⊎_elim
+          (λ (z : list ≡ n). subst (λ (i : ℕ). IsClosed new.nodes old.spine old.cursor i) (sym z)
+          (subst (λ (c : Option ℕ). IsClosed new.nodes old.spine c n) (sym at)
+          (list_closed old.nodes new.nodes old.spine n r low below m)))
+          (λ (z : list ≡ n → ⊥). others_closed (IsInItemOf old.nodes n) old.nodes new.nodes old.spine old.cursor list m
+          (k.lists list z (sym (list_same (IsInItemOf old.nodes n) (λ p. ⊥) old.nodes new.nodes list m) ∙ h) o))
+          (same_or_not list n);
+      only = λ p q. ⊎_elim
+          (λ (z : item_at new.nodes p ≡ item_at old.nodes p).
+          let w = k.only p (ap (λ (y : Item). y.body) (sym z) ∙ q) in record {
+            list = w.list;
+            tight = list_same (IsInItemOf old.nodes n) (λ p. ⊥) old.nodes new.nodes w.list m ∙ w.tight;
+            closed = w.closed;
+            inside = item_same old.nodes new.nodes m.links w.list p w.inside;
+          })
+          (λ (z : Tightened (IsInItemOf old.nodes n) old.nodes new.nodes p). record {
+            list = n;
+            tight = list_same (IsInItemOf old.nodes n) (λ p. ⊥) old.nodes new.nodes n m ∙ e;
+            closed = All-weaker (λ s. s < n) (λ s. s ≡ n → ⊥) (λ s h y. omega (arith, h, y)) old.spine below;
+            inside = item_same old.nodes new.nodes m.links n p z.inside;
+          })
+          (m.kept p);
+    }
+
+    of_test : (b : Bool) → is_tight_list (item_at old.nodes n).body ≡ b → ListsAreTight new
+    of_test true e =
+        let same = tightens_stays n old new t.steps in
+        subst (λ (a : List ℕ). ListsAreTight (record { nodes = new.nodes; spine = a; cursor = new.cursor }))
+        (sym same.0)
+        (subst (λ (a : Option ℕ). ListsAreTight (record { nodes = new.nodes; spine = old.spine; cursor = a }))
+        (sym same.1)
+        (kept e (t.makes e)))
+    of_test false e = subst (λ (a : Arena Item). ListsAreTight a) (sym (t.same e)) (record {
+      lists = λ list h o. k.lists list
+          (λ z. not_both h (ap (λ (i : ℕ). is_tight_list (item_at old.nodes i).body) z ∙ e)) h o;
+      only = k.only;
+    })
+
+-- where no block is open, the paragraphs of tight lists are tight, and no others
+pub tight_in_tight_lists : (tree : Arena Item) → tree.spine ≡ [] → ListsAreTight tree → TightInTightLists tree.nodes
+tight_in_tight_lists tree none k = record {
+  all = λ p t q. (k.lists t.list t.tight (rw none tt)).tight p t.inside q;
+  only = λ p q. let w = k.only p q in record { list = w.list; tight = w.tight; inside = w.inside };
+}
