@@ -6,7 +6,7 @@ use Rattle.std.specs.List.{AllByRecursion}
 use Rattle.std.proofs.lemmas.List.{length-append}
 use Rattle.markdown_base.specs.declared.node.Node.{Node}
 use Rattle.markdown_base.specs.Arena.{Arena, child_of, sibling_of}
-use Rattle.markdown_base.specs.ArenaChanges.{innermost, changed_at, led_to}
+use Rattle.markdown_base.specs.ArenaChanges.{innermost, changed_at, follower, led_to, appended}
 use Rattle.markdown_base.specs.ArenaBounds.{node_limit, LeadsBelow, IsWithin}
 
 -- a change keeps the count
@@ -126,3 +126,57 @@ pub innermost_within : (size : ℕ) (spine : List ℕ) → 0 < size → AllByRec
 innermost_within size [] r h = r
 innermost_within size (x ∷ []) r h = h.0
 innermost_within size (x ∷ y ∷ spine) r h = innermost_within size (y ∷ spine) r h.1
+
+-- the same of an arena that a tree stores
+pub parent_within : {T : Type 0} (arena : Arena T) → IsWithin arena → innermost arena.spine < length arena.nodes
+parent_within arena w = innermost_within (length arena.nodes) arena.spine w.rooted w.spine
+
+-- a node that is there can be changed before another is added
+changed_at-append : {T : Type 0} (ix : ℕ) (change : Node T → Node T) (nodes : List (Node T)) (n : Node T)
+    → ix < length nodes → changed_at ix change (nodes ++ n ∷ []) ≡ changed_at ix change nodes ++ n ∷ []
+changed_at-append ix change [] n l = absurd (omega (arith, l))
+changed_at-append zero change (m ∷ nodes) n l = refl
+changed_at-append (suc ix) change (m ∷ nodes) n l =
+    ap (λ ns. m ∷ ns) (changed_at-append ix change nodes n (omega (arith, l)))
+
+-- and so can the link at the cursor's place
+pub led_to-append : {T : Type 0} (ix : ℕ) (spine : List ℕ) (cursor : Option ℕ) (nodes : List (Node T)) (n : Node T)
+    → IsWithin (record { nodes = nodes; spine = spine; cursor = cursor })
+    → led_to ix spine cursor (nodes ++ n ∷ []) ≡ led_to ix spine cursor nodes ++ n ∷ []
+led_to-append ix spine (Some before) nodes n w = changed_at-append before _ nodes n w.cursor
+led_to-append ix spine None nodes n w = changed_at-append (innermost spine) _ nodes n (parent_within _ w)
+
+-- the node after the cursor's place lies in the arena
+follower_within : {T : Type 0} (nodes : List (Node T)) (spine : List ℕ) (cursor : Option ℕ) (size : ℕ)
+    → AllByRecursion (LeadsBelow size) nodes → IfSome (follower nodes spine cursor) (λ ix. ix < size)
+follower_within nodes spine (Some before) size h = sibling_within nodes size before h
+follower_within nodes spine None size h = child_within nodes size (innermost spine) h
+
+-- a link at a place leads to a node that is there
+within_led : {T : Type 0} (arena : Arena T) (ix : ℕ) (spine : List ℕ) (cursor : Option ℕ) → IsWithin arena
+    → ix < length arena.nodes → IsWithin (record arena { nodes = led_to ix spine cursor arena.nodes })
+within_led arena ix spine (Some before) w l =
+    within_changed arena before (λ n. record n { next = Some ix }) w (λ n h. record { child = h.child; next = l })
+within_led arena ix spine None w l =
+    within_changed arena (innermost spine) (λ n. record n { child = Some ix }) w
+    (λ n h. record { child = l; next = h.next })
+
+-- a new node at the cursor's place
+pub within_appended : {T : Type 0} (nodes : List (Node T)) (spine : List ℕ) (cursor : Option ℕ) (item : T)
+    → IsWithin (record { nodes = nodes; spine = spine; cursor = cursor }) → length nodes < node_limit
+    → IsWithin (appended (record { nodes = nodes; spine = spine; cursor = cursor }) item)
+within_appended {T} nodes spine cursor item w few =
+    let n : Node T = record { item = item; child = None; next = follower nodes spine cursor } in
+    let s : length (nodes ++ n ∷ []) ≡ length nodes + 1 = length-append nodes (n ∷ []) in
+    let e = length-led_to (length nodes) spine cursor (nodes ++ n ∷ []) in
+    let more = within_more (record { nodes = nodes; spine = spine; cursor = cursor }) n w few
+    (record { child = tt; next = follower_within nodes spine cursor (length nodes) w.links }) in
+    let led = within_led (record { nodes = nodes ++ n ∷ []; spine = spine; cursor = cursor }) (length nodes) spine
+    cursor more (omega (arith, s)) in
+    record {
+      rooted = led.rooted;
+      cursor = omega (arith, s, e);
+      spine = led.spine;
+      links = led.links;
+      few = led.few;
+    }

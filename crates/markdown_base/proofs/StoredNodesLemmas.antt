@@ -1,17 +1,17 @@
 -- Laws of the nodes that a tree stores. A read cites `read_item`, `read_child` or `read_next`, a write `arena_changed`
--- and `within_written`, and a new node `within_stored`.
+-- and `within_written`, and a new node `within_stored` or, at the cursor, `arena_appended`.
 use Rattle.std.proofs.Common.{◌≡◌, ℕ, zero, suc, ◌<◌, List, [], ◌∷◌, ◌++◌, Option, Some, None, length, get_or, set}
-use Rattle.std.proofs.Common.{refl, ap, ◌∙◌, subst, arith}
+use Rattle.std.proofs.Common.{refl, sym, ap, ◌∙◌, subst, arith}
 use Rattle.std.specs.Prelude.{IfSome, slice_index_or}
 use Rattle.std.specs.List.{AllByRecursion}
 use Rattle.std.proofs.lemmas.List.{map-append}
 use Rattle.markdown_base.specs.declared.node.Node.{Node}
 use Rattle.markdown_base.specs.declared.stored_node.StoredNode.{StoredNode}
 use Rattle.markdown_base.specs.Arena.{Arena, items_of, child_of, sibling_of}
-use Rattle.markdown_base.specs.ArenaChanges.{changed_at}
+use Rattle.markdown_base.specs.ArenaChanges.{changed_at, follower, led_to, appended}
 use Rattle.markdown_base.specs.ArenaBounds.{node_limit, LeadsBelow, IsWithin}
 use Rattle.markdown_base.specs.StoredNodes.{target_of, node_of, nodes_of}
-use Rattle.markdown_base.proofs.ArenaLemmas.{within_more, within_changed, child_within, sibling_within}
+use Rattle.markdown_base.proofs.ArenaLemmas.{within_more, within_changed, child_within, sibling_within, led_to-append}
 
 -- the item of a node that is read
 pub read_item : {T : Type 0} (stored : List (StoredNode T)) (ix : ℕ) (n : StoredNode T) (d : T)
@@ -42,7 +42,7 @@ can_lead arena None w h = tt
 can_lead arena (Some ix) w h = omega (arith, h, w.few)
 
 -- a node that is read, changed and written back
-nodes-changed : {T : Type 0} (stored : List (StoredNode T)) (ix : ℕ) (before after : StoredNode T)
+pub nodes-changed : {T : Type 0} (stored : List (StoredNode T)) (ix : ℕ) (before after : StoredNode T)
     (change : Node T → Node T)
     → ix < length (nodes_of stored) → before ≡ get_or stored ix before → node_of after ≡ change (node_of before)
     → nodes_of (set stored ix after) ≡ changed_at ix change (nodes_of stored)
@@ -100,3 +100,28 @@ within_written stored spine cursor ix before after w l e h =
     rw (nodes-changed stored ix before after (λ n. node_of after) l e refl)
     (within_changed (record { nodes = nodes_of stored; spine = spine; cursor = cursor }) ix (λ n. node_of after) w
     (λ n k. h))
+
+-- a new node, to which the link at the cursor's place was made to lead before
+pub arena_appended : {T : Type 0} (stored redirected : List (StoredNode T)) (spine : List ℕ) (cursor : Option ℕ)
+    (ix : ℕ) (n : StoredNode T) → IsWithin (record { nodes = nodes_of stored; spine = spine; cursor = cursor })
+    → ix ≡ length (nodes_of stored) → target_of n.child ≡ None
+    → target_of n.next ≡ follower (nodes_of stored) spine cursor
+    → nodes_of redirected ≡ led_to ix spine cursor (nodes_of stored)
+    → record { nodes = nodes_of (redirected ++ n ∷ []); spine = spine; cursor = Some ix }
+    ≡ appended (record { nodes = nodes_of stored; spine = spine; cursor = cursor }) n.item
+arena_appended {T} stored redirected spine cursor ix n w count child next led =
+    let new : Node T = record { item = n.item; child = None; next = follower (nodes_of stored) spine cursor } in
+    let same : node_of n ≡ new =
+    ap (λ (o : Option ℕ). record { item = n.item; child = o; next = target_of n.next }) child
+    ∙ ap (λ (o : Option ℕ). record { item = n.item; child = None; next = o }) next in
+    let here : nodes_of (redirected ++ n ∷ []) ≡ led_to ix spine cursor (nodes_of stored ++ new ∷ []) =
+    map-append node_of redirected (n ∷ [])
+    ∙ ap (λ (ns : List (Node T)). ns ++ node_of n ∷ []) led
+    ∙ ap (λ (m : Node T). led_to ix spine cursor (nodes_of stored) ++ m ∷ []) same
+    ∙ sym (led_to-append ix spine cursor (nodes_of stored) new w) in
+    ap (λ (ns : List (Node T)). record { nodes = ns; spine = spine; cursor = Some ix }) here
+    ∙ ap (λ (k : ℕ). record (appended (record { nodes = nodes_of stored; spine = spine; cursor = cursor }) n.item) {
+      nodes = led_to k spine cursor (nodes_of stored ++ new ∷ []);
+      cursor = Some k;
+    })
+    count

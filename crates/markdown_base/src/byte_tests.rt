@@ -1,5 +1,5 @@
-//! Whether some byte is one of a few. Each loop makes one kind of comparison, so that it is compiled to compare sixteen
-//! bytes at once; several tests are joined by `|`.
+//! Whether some byte is one of a few. A loop of one comparison for each byte is compiled to compare sixteen bytes at once;
+//! several tests are joined by `|`.
 ghost use Rattle.std.specs.Prelude.{◌≡◌, ◌==◌, ◌||◌, nat_le};
 ghost use Rattle.std.specs.List.{list_any};
 
@@ -15,7 +15,8 @@ pub fn holds(bytes: &[u8], wanted: u8) -> bool
     found
 }
 
-/// Returns whether one of the bytes is `one` or `other`.
+/// Returns whether one of the bytes is `one` or `other`. This is compiled to one comparison for each byte only where
+/// the two differ in one bit, as those of all callers do.
 #[inline(always)]
 pub fn holds_either(bytes: &[u8], one: u8, other: u8) -> bool
     ensures { result ≡ list_any (λ byte. (byte == one) || (byte == other)) bytes.now }

@@ -4,13 +4,15 @@ ghost use Rattle.std.specs.Prelude.{IfOk, IfSome, OnErr};
 ghost use Rattle.markdown_base.specs.Arena.{items_of, child_of, sibling_of};
 ghost use Rattle.markdown_base.specs.ArenaChanges.{innermost, single, changed_at, follower, led_to};
 ghost use Rattle.markdown_base.specs.ArenaChanges.{appended};
-ghost use Rattle.markdown_base.specs.StoredNodes.{target_of};
+ghost use Rattle.markdown_base.specs.ArenaBounds.{node_limit, IsWithin};
+ghost use Rattle.markdown_base.specs.StoredNodes.{target_of, nodes_of};
 ghost use Rattle.markdown_base.specs.declared.item.ItemBody.TheVariants as body;
 
 use crate::item::{Item, ItemBody};
 use crate::stored_node::{Link, StoredNode};
 use std::alloc::{AllocError, Global};
 use std::marker::Model;
+use std::mem;
 
 /// The maximum number of nodes of a tree.
 const NODE_LIMIT: usize = u32::MAX as usize;
@@ -173,15 +175,12 @@ impl<T: Drop> Tree<T> {
         node.next = Link::to(next);
     }
 
-    /// Adds a node without children, followed by the node that the link leads to, if any, and returns its number. A
-    /// node beyond the limit is refused, as an allocation is; the tree is then unchanged.
-    fn add_node(&mut self, item: T, next: Link) -> Result<usize, AllocError>
-        requires { IfSome (target_of next) (λ after. after < length self.old.nodes) }
+    /// Adds a node that no link leads to, and returns its number. A node beyond the limit is refused, as an allocation is.
+    /// After a refused allocation the tree is unchanged.
+    pub fn create_node(&mut self, item: T) -> Result<usize, AllocError>
         ensures number { IfOk result (λ ix. ix ≡ length self.old.nodes) }
-        ensures made { IfOk result (λ _. self.new ≡ record self.old {
-          nodes = self.old.nodes
-              ++ record { item = item; child = None; next = target_of next } ∷ [];
-        }) }
+        ensures made { IfOk result (λ _. self.new
+            ≡ record self.old { nodes = self.old.nodes ++ single item ∷ [] }) }
         ensures refused { OnErr result (self.new ≡ self.old) }
     {
         let ix = self.nodes.len();
@@ -191,78 +190,33 @@ impl<T: Drop> Tree<T> {
         self.nodes.push(StoredNode {
             item,
             child: Link::to(None),
-            next,
+            next: Link::to(None),
         })?;
         Ok(ix)
-    }
-
-    /// Adds a node that no link leads to, and returns its number. After a refused allocation the tree is unchanged.
-    pub fn create_node(&mut self, item: T) -> Result<usize, AllocError>
-        ensures number { IfOk result (λ ix. ix ≡ length self.old.nodes) }
-        ensures made { IfOk result (λ _. self.new
-            ≡ record self.old { nodes = self.old.nodes ++ single item ∷ [] }) }
-        ensures refused { OnErr result (self.new ≡ self.old) }
-    {
-        self.add_node(item, Link::to(None))
-    }
-
-    /// Returns the node entered last, or the root.
-    fn parent(&self) -> usize
-        ensures value { result ≡ innermost self.now.spine }
-        ensures within { result < length self.now.nodes }
-    {
-        match self.spine.last() {
-            Some(&ix) => ix,
-            None => 0,
-        }
-    }
-
-    /// Returns the link to the node that would follow a node appended now, if any.
-    fn follower(&self) -> Link
-        ensures value { target_of result ≡ follower self.now.nodes self.now.spine self.now.cursor }
-        ensures within { IfSome (target_of result) (λ after. after < length self.now.nodes) }
-    {
-        match self.cur() {
-            Some(before) => self.nodes[before].next,
-            None => self.nodes[self.parent()].child,
-        }
-    }
-
-    /// Makes the link at the cursor's position lead to a node.
-    fn lead_to(&mut self, ix: usize)
-        requires { ix < length self.old.nodes }
-        ensures { self.new
-            ≡ record self.old { nodes = led_to ix self.old.spine self.old.cursor self.old.nodes } }
-    {
-        match self.cur() {
-            Some(before) => self.set_next(before, Some(ix)),
-            None => {
-                let parent = self.parent();
-                self.set_child(parent, Some(ix));
-            }
-        }
-    }
-
-    /// Moves the cursor to a node.
-    fn focus(&mut self, ix: usize)
-        requires { ix < length self.old.nodes }
-        ensures { self.new ≡ record self.old { cursor = Some ix } }
-    {
-        self.cur = Some(ix);
     }
 
     /// Inserts a node after the one at the cursor or, where there is none, as the first child of the node entered last,
     /// and returns its number. What was there follows the new node, and the cursor is at the new node. After a refused
     /// allocation the tree is unchanged.
+    // inlined: the item is then made in its place in the arena, instead of being moved there
+    #[inline(always)]
     pub fn append(&mut self, item: T) -> Result<usize, AllocError>
         ensures number { IfOk result (λ ix. ix ≡ length self.old.nodes) }
         ensures made { IfOk result (λ _. self.new ≡ appended self.old item) }
         ensures refused { OnErr result (self.new ≡ self.old) }
     {
-        let next = self.follower();
-        let ix = self.add_node(item, next)?;
-        self.lead_to(ix);
-        self.focus(ix);
+        let ix = self.nodes.len();
+        if ix == NODE_LIMIT {
+            return Err(AllocError);
+        }
+        self.nodes.reserve(1)?;
+        let next = redirect(&mut self.nodes, &self.spine, self.cur, ix);
+        self.nodes.push_reserved(StoredNode {
+            item,
+            child: Link::to(None),
+            next,
+        });
+        self.cur = Some(ix);
         Ok(ix)
     }
 
@@ -294,7 +248,7 @@ impl<T: Drop> Tree<T> {
         ensures within { IfSome result (λ ix. ix < length self.old.nodes) }
     {
         let outer = self.spine.pop()?;
-        self.focus(outer);
+        self.cur = Some(outer);
         Some(outer)
     }
 
@@ -322,5 +276,35 @@ impl<T: Drop> Tree<T> {
     {
         self.spine.clear();
         self.cur = None;
+    }
+}
+
+/// Makes the link at the cursor's position lead to a node that is about to be added, and returns the link that was there.
+// inlined: it is a step of `append`
+#[inline(always)]
+fn redirect<T>(nodes: &mut [StoredNode<T>], spine: &[usize], cur: Option<usize>, ix: usize) -> Link
+    requires within { IsWithin (record {
+      nodes = nodes_of nodes.old;
+      spine = spine.now;
+      cursor = cur;
+    }) }
+    requires few { ix < node_limit }
+    ensures before { target_of result ≡ follower (nodes_of nodes.old) spine.now cur }
+    ensures led { nodes_of nodes.new ≡ led_to ix spine.now cur (nodes_of nodes.old) }
+{
+    let link = Link::to(Some(ix));
+    match cur {
+        Some(before) => mem::replace(&mut nodes[before].next, link),
+        None => mem::replace(&mut nodes[parent(spine)].child, link),
+    }
+}
+
+/// Returns the node entered last, or the root.
+fn parent(spine: &[usize]) -> usize
+    ensures { result ≡ innermost spine.now }
+{
+    match spine.last() {
+        Some(&ix) => ix,
+        None => 0,
     }
 }

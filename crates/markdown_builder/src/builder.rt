@@ -164,7 +164,9 @@ impl<'a> Builder<'a> {
     }
 
     /// Closes the innermost open block, which ends at the current byte offset, and returns it; `None` where no block is
-    /// open.
+    /// open. The paragraphs of a tight list are made tight as the list is closed.
+    // inlined: every paragraph is closed
+    #[inline(always)]
     pub fn close(&mut self) -> Option<OpenBlock>
         ensures { MatchOption result
             ((self.old.blocks ≡ []) × (self.new ≡ self.old))

@@ -1,5 +1,6 @@
 -- lemmas
 pub mod DefinitionsLemmas
+pub mod FoldedBytesLemmas
 pub mod FoldingLemmas
 pub mod IndexLemmas
 pub mod LookUpLawsLemmas

@@ -1,5 +1,6 @@
 -- definitions and footnotes, looked up by case folding
 pub mod Folding
+pub mod FoldedBytes
 pub mod Definitions
 pub mod DistinctDefinitions
 pub mod LookUpLaws

@@ -23,6 +23,8 @@ fn is_escaped(bytes: &[u8], start: usize, at: usize) -> bool
 }
 
 /// Appends the text up to `to`, if there is any. The error is a refused allocation.
+// inlined: it is called before each item, and most items are Texts
+#[inline(always)]
 fn append_text(builder: &mut Builder<'_>, line: Line, to: usize) -> Result<(), AllocError>
     requires inside { builder.old.leaf ≡ true }
     requires low { builder.old.at ≤ to }

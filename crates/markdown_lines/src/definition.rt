@@ -130,10 +130,15 @@ fn may_define(content: &[u8]) -> bool {
     let mut escaped = false;
     for (i, found) in content.iter().enumerate() {
         let byte = *found;
-        if !escaped && (byte == b']' || byte == b'[') {
+        // `[`, the backslash and `]` are neighbours
+        if byte < b'[' || byte > b']' {
+            escaped = false;
+            continue;
+        }
+        if !escaped && byte != b'\\' {
             return byte == b']' && content[i..].starts_with(b"]:");
         }
-        escaped = !escaped && byte == b'\\';
+        escaped = !escaped;
     }
     true
 }

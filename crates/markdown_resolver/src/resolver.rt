@@ -256,6 +256,8 @@ impl<'a, F: BrokenLinkCallback<'a>> Resolver<'a, F> {
 
     /// Reads the chain from the node `first` on in place, in pass one, from left to right, and counts its items. The only
     /// error is `Fault::Memory`.
+    // inlined into the one function that calls it
+    #[inline(always)]
     fn read_chain(&mut self, tree: &mut Tree<Item>, first: usize) -> Result<(), Fault>
         requires can_ask { IfSome self.old.lookup.callback F.can_ask }
         requires ready { CanResolveBelow self.old.text.now (tables_of self.old.lookup.tables)

@@ -1,17 +1,16 @@
--- The new node's link leads to a node.
+-- The new node's links lead nowhere.
 use Rattle.std.proofs.Common.{◌<◌, length, arith}
 use Rattle.std.proofs.lemmas.List.{length-map}
 use Rattle.markdown_base.specs.ArenaBounds.{node_limit}
 use Rattle.markdown_base.specs.StoredNodes.{node_of, nodes_of}
 use Rattle.markdown_base.proofs.StoredNodesLemmas.{within_stored}
-use Rattle.markdown_base.proofs.tree.Tree.add_node.Goals as goal
+use Rattle.markdown_base.proofs.tree.Tree.create_node.Goals as goal
 
 pub invariant_of-self-2 : goal.invariant_of-self-2
 invariant_of-self-2 g c =
-    let link = rw (← c.self.view_is) at c.requires in
     let few : length (nodes_of c.self.inside.nodes.items) < node_limit =
     omega (arith, c.len-ix.ensures, length-map c.self.inside.nodes.items node_of) in
     rw c.in_ok-push.ensures.items
     (within_stored c.self.inside.nodes.items c.self.inside.spine.items c.self.inside.cur _ c.self.invariant few
     (rw c.to.ensures tt)
-    link)
+    (rw c.to-2.ensures tt))
