@@ -3,6 +3,7 @@ pub mod DestinationLemmas
 pub mod LabelLemmas
 pub mod LabelCharacterLemmas
 pub mod LabelTextLemmas
+pub mod LabelWholeLemmas
 pub mod LineStartLemmas
 pub mod LineSpaceLemmas
 pub mod BeginsWithLemmas

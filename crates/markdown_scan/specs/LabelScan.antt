@@ -1,8 +1,9 @@
 -- The scan of a label in progress, for private clauses: labels are defined in `Label`.
 use Rattle.std.specs.Prelude.{◌≡◌, ◌≢◌, IfSome, ℕ, ◌+◌, List, [], ◌∷◌, ◌++◌, take, Bool, ◌&&◌, ◌||◌, Option, Some, None}
-use Rattle.std.specs.Prelude.{if◌then◌else◌, nat_le, count_by, option_and_then, encode_utf8, String, string_bytes}
+use Rattle.std.specs.Prelude.{not, ◌==◌, if◌then◌else◌, nat_le, nat_lt, count_by, option_and_then, encode_utf8, String}
+use Rattle.std.specs.Prelude.{string_bytes}
 use Rattle.std.specs.List.{list_any}
-use Rattle.markdown_base.specs.Bytes.{backslash}
+use Rattle.markdown_base.specs.Bytes.{backslash, space}
 use Rattle.markdown_scan.specs.Backslash.{escapes_pipe, is_bare}
 use Rattle.markdown_scan.specs.Label.{label_bytes, body, put_before, with_shown, begins_character, is_not_white_space}
 
@@ -28,6 +29,15 @@ byte_shown in_table b bytes = if escapes_pipe in_table b bytes then [] else b �
 -- what a character adds to the text if these bytes follow it
 abbrev pub character_shown : Bool → ℕ → List ℕ → List ℕ
 character_shown in_table c bytes = if escapes_pipe in_table c bytes then [] else encode_utf8 c
+
+-- the byte is above a space, or it is a space that does not follow a space and is not the first byte
+abbrev pub stays : Bool → ℕ → Bool
+stays spaced b = nat_lt space b || ((b == space) && not spaced)
+
+-- all bytes are above a space, except single spaces between others; `spaced` at the start and after a space
+abbrev pub is_collapsed : Bool → List ℕ → Bool
+is_collapsed spaced [] = not spaced
+is_collapsed spaced (b ∷ bytes) = stays spaced b && is_collapsed (b == space) bytes
 
 -- the owned text if there is one, and otherwise a prefix of the source
 abbrev pub own_or : {Z : Type 0} → Option (String Z) → List ℕ → List ℕ

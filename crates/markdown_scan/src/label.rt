@@ -1,5 +1,6 @@
 //! Link labels (CommonMark 6.3).
-ghost use Rattle.std.specs.Prelude.{◌≡◌, ◌≢◌, ◌≤◌, ◌<◌, ◌-◌, ◌+◌, ℕ, Bool, false, Some, None, IfSome, IfNone, IfOk};
+ghost use Rattle.std.specs.Prelude.{◌≡◌, ◌≢◌, ◌≤◌, ◌<◌, ◌-◌, ◌+◌, ◌&&◌, ℕ, Bool, true, false, not};
+ghost use Rattle.std.specs.Prelude.{Some, None, IfSome, IfNone, IfOk};
 ghost use Rattle.std.specs.Prelude.{IsOk, OnErr, take, length};
 ghost use Rattle.std.specs.Option.{option_map};
 ghost use Rattle.std.specs.Str.{IsUtf8, IsCharBoundary};
@@ -8,7 +9,8 @@ ghost use Rattle.markdown_base.specs.StoredTexts.{IsBorrowed};
 ghost use Rattle.markdown_scan.specs.Label as label;
 ghost use Rattle.markdown_scan.specs.Label.{link_label};
 ghost use Rattle.markdown_scan.specs.LinePrefix.{prefix_after};
-ghost use Rattle.markdown_scan.specs.LabelScan.{EndsHere, LabelGoesOn, found_in};
+ghost use Rattle.markdown_scan.specs.LabelScan as scan;
+ghost use Rattle.markdown_scan.specs.LabelScan.{EndsHere, LabelGoesOn, found_in, is_collapsed};
 
 use crate::label_end::label_end;
 use crate::label_text::{LabelText, is_bare, split_first};
@@ -60,6 +62,35 @@ fn next_character<'a, R: LineRule>(
     Some((c, &tail[skipped..]))
 }
 
+// Returns whether the byte certainly stays as it is where white space is collapsed: it is above a space, as most are,
+// or it is a space that does not follow a space and is not the first byte.
+#[inline(always)]
+fn stays(spaced: bool, byte: u8) -> bool
+    ensures { result ≡ scan.stays spaced byte }
+{
+    b' ' < byte || (byte == b' ' && !spaced)
+}
+
+// Returns whether the source of a label is certainly its text as it is, as that of most labels is: no byte changes
+// where white space is collapsed, no line prefix is left out, since no line ends, and no backslash, since it is in no
+// table.
+#[inline(always)]
+fn is_shown_whole(source: &str, in_table: bool) -> bool
+    ensures { result ≡ (not in_table && is_collapsed true source.now) }
+{
+    if in_table {
+        return false;
+    }
+    let mut spaced = true;
+    for byte in source.as_bytes() {
+        if !stays(spaced, *byte) {
+            return false;
+        }
+        spaced = *byte == b' ';
+    }
+    !spaced
+}
+
 // Returns the text of a label: `source` is the part of `text` before the label's closing bracket. The error is a
 // refused allocation, which cannot occur if the label's text is a prefix of `source`.
 fn label_text<'t, R: LineRule>(
@@ -69,6 +100,8 @@ fn label_text<'t, R: LineRule>(
     rule: &R,
     in_table: bool,
 ) -> Result<CowStr<'t>, AllocError>
+    requires { IfSome (found_in (R.skipped rule.now) in_table false text.now)
+        (λ f. source.now ≡ take f.0 text.now) }
     ensures value { IfOk result (λ found.
         IfSome (found_in (R.skipped rule.now) in_table false text.now)
         (λ f. text_of found ≡ label.collapse_whitespace false false f.1)) }
@@ -78,6 +111,10 @@ fn label_text<'t, R: LineRule>(
         (IfSome (found_in (R.skipped rule.now) in_table false text.now) (λ f. (n : ℕ)
         → label.collapse_whitespace false false f.1 ≢ take n source.now)) }
 {
+    // a look at the bytes spares most labels the reading of their characters
+    if is_shown_whole(source, in_table) {
+        return Ok(CowStr::Borrowed(source));
+    }
     let mut found = LabelText::new(source);
     let mut rest = text;
     let mut escaped = false;

@@ -6,7 +6,13 @@ use Rattle.markdown_scan.specs.Label.{collapse_whitespace}
 use Rattle.markdown_scan.specs.LabelScan.{character_shown, found_in}
 use Rattle.markdown_scan.specs.LabelText.{completed}
 use Rattle.markdown_scan.proofs.LabelTextLemmas.{on_err, read_step, read_differs}
+use Rattle.markdown_scan.proofs.LabelWholeLemmas.{source_is_text}
 use Rattle.markdown_scan.proofs.label.label_text.Goals as goal
+
+pub returns-then-is_shown_whole-clause-value : goal.returns-then-is_shown_whole-clause-value
+returns-then-is_shown_whole-clause-value g c =
+    source_is_text (g.R.LineRule.skipped c.args.rule.now) c.args.in_table c.args.source.now c.args.text.now c.requires
+    (sym c.is_shown_whole.ensures ∙ c.if-is_shown_whole.true)
 
 pub returns-in_err-put_shown-clause-differs : goal.returns-in_err-put_shown-clause-differs
 returns-in_err-put_shown-clause-differs g c =
