@@ -1,5 +1,6 @@
 pub mod ByteListsLemmas
 pub mod EscapesLemmas
+pub mod KeptLemmas
 pub mod ReplacedLemmas
 pub mod EventHtmlLemmas
 pub mod FootnoteNamesLemmas

@@ -87,6 +87,8 @@ fn past_kept(bytes: &[u8], from: usize, count: usize) -> usize
 
 /// Returns the offset of the first byte from `from` on that some escape replaces, or the length. The last few bytes are
 /// tested together with some of those before them.
+// inlined: it is called for each text
+#[inline(always)]
 fn first_replaced(bytes: &[u8], from: usize) -> usize
     requires { from ≤ length bytes.now }
     ensures { IsBeforeReplaced bytes.now from result }
@@ -126,26 +128,25 @@ pub(crate) fn push_escaped(out: &mut String, escape: Escape, text: &str) -> Resu
     push_any(out, &text[from..])
 }
 
-/// A table of all bytes: at its own index each byte that a destination keeps, and a caret elsewhere.
-static KEPT: [u8; 256] = *b"\
-    ^^^^^^^^^^^^^^^^^^^^^^^^^^^^^^^^\
-    ^!^#$%^^()*+,-./0123456789:;^=^?\
-    @ABCDEFGHIJKLMNOPQRSTUVWXYZ^^^^_\
-    ^abcdefghijklmnopqrstuvwxyz^^^~^\
-    ^^^^^^^^^^^^^^^^^^^^^^^^^^^^^^^^\
-    ^^^^^^^^^^^^^^^^^^^^^^^^^^^^^^^^\
-    ^^^^^^^^^^^^^^^^^^^^^^^^^^^^^^^^\
-    ^^^^^^^^^^^^^^^^^^^^^^^^^^^^^^^^";
-
-/// Returns whether a destination keeps the byte.
+/// Returns whether a destination keeps the byte, by a few comparisons, without a table or a branch: most of what is kept
+/// is in ranges, in which no other byte is.
+#[inline(always)]
 fn is_kept(byte: u8) -> bool
     ensures { result ≡ is_kept_byte byte }
 {
-    KEPT[byte as usize] != b'^'
+    ((byte >= b'(') & (byte <= b';'))
+        | ((byte >= b'?') & (byte <= b'Z'))
+        | ((byte >= b'a') & (byte <= b'z'))
+        | ((byte >= b'#') & (byte <= b'%'))
+        | (byte == b'!')
+        | (byte == b'=')
+        | (byte == b'_')
+        | (byte == b'~')
 }
 
-/// Returns whether a destination keeps all of the bytes.
-fn are_kept(bytes: &[u8]) -> bool
+/// Returns whether a destination keeps all of the bytes, without a branch for each.
+#[inline(always)]
+fn are_kept_together(bytes: &[u8]) -> bool
     ensures { result ≡ list_all is_kept_byte bytes.now }
 {
     let mut kept = true;
@@ -153,6 +154,25 @@ fn are_kept(bytes: &[u8]) -> bool
         kept &= is_kept(*byte);
     }
     kept
+}
+
+/// Returns whether a destination keeps all of the bytes. The last few bytes are tested together with some of those before
+/// them.
+fn are_kept(bytes: &[u8]) -> bool
+    ensures { result ≡ list_all is_kept_byte bytes.now }
+{
+    let end = bytes.len();
+    if end < FEWER {
+        return are_kept_together(bytes);
+    }
+    let mut start = 0;
+    'kept: while end - start >= FEWER {
+        if !are_kept_together(&bytes[start..start + FEWER]) {
+            return false;
+        }
+        start += FEWER;
+    }
+    are_kept_together(&bytes[end - FEWER..end])
 }
 
 /// Returns what replaces a byte of a destination, or `None` where the byte is kept.

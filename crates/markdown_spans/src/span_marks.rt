@@ -113,6 +113,8 @@ pub fn note(noted: &mut Vec<SpanMark>, mark: Option<SpanMark>) -> Result<(), All
 /// Searches a chain for the first mark of a kind with the wanted key, and returns its number; `None` if there is none,
 /// or no key is wanted. `visits` counts each item that is examined, and the marks before the one that is found are
 /// recorded. The error is a refused allocation.
+// inlined: each caller names the kind
+#[inline(always)]
 pub fn walk_to(
     tree: &Tree<Item>,
     first: Option<usize>,

@@ -1,8 +1,14 @@
--- What was found is what the bytes so far are.
-use Rattle.std.proofs.Common.{◌≡◌, take}
+-- All bytes so far are kept.
+use Rattle.std.proofs.Common.{◌≡◌, ◌-◌, ◌≤◌, true, length, take}
 use Rattle.std.specs.List.{list_all}
 use Rattle.markdown_out.specs.Escapes.{is_kept_byte}
 use Rattle.markdown_out.proofs.escape.are_kept.Given as goal
 
-abbrev pub invariant-loop-byte : goal.invariant-loop-byte
-invariant-loop-byte l = l.kept ≡ list_all is_kept_byte (take l.byte-index l.bytes)
+abbrev pub invariant-kept : goal.invariant-kept
+invariant-kept l = record {
+  within : l.start ≤ length l.bytes;
+  kept : list_all is_kept_byte (take l.start l.bytes) ≡ true;
+}
+
+abbrev pub decreases-kept : goal.decreases-kept
+decreases-kept l = length l.bytes - l.start
