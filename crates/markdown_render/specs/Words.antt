@@ -3,14 +3,27 @@ use Rattle.std.specs.Prelude.{ℕ, List, [], ◌∷◌, Option, Some, None, if�
 use Rattle.std.specs.Int.RustNames.{bit_or}
 use Rattle.std.specs.Str.{bytes_eq}
 use Rattle.markdown_base.specs.declared.options.Options.{Options}
+use Rattle.markdown_base.specs.declared.options.TheConstants.Options as enable
 
 -- each word, with the bits of its option
 abbrev pub option_words : List (List ℕ × ℕ)
 option_words =
-    (codes "tables", 2) ∷ (codes "footnotes", 4) ∷ (codes "old-footnotes", 516) ∷ (codes "strikethrough", 8)
-    ∷ (codes "tasklists", 16) ∷ (codes "smart", 32) ∷ (codes "heading-attributes", 64) ∷ (codes "yaml", 128)
-    ∷ (codes "pluses", 256) ∷ (codes "math", 1024) ∷ (codes "gfm", 2048) ∷ (codes "definitions", 4096)
-    ∷ (codes "superscript", 8192) ∷ (codes "subscript", 16384) ∷ (codes "wikilinks", 32768) ∷ []
+    (codes "tables", enable.ENABLE_TABLES.0)
+    ∷ (codes "footnotes", enable.ENABLE_FOOTNOTES.0)
+    ∷ (codes "old-footnotes", enable.ENABLE_OLD_FOOTNOTES.0)
+    ∷ (codes "strikethrough", enable.ENABLE_STRIKETHROUGH.0)
+    ∷ (codes "tasklists", enable.ENABLE_TASKLISTS.0)
+    ∷ (codes "smart", enable.ENABLE_SMART_PUNCTUATION.0)
+    ∷ (codes "heading-attributes", enable.ENABLE_HEADING_ATTRIBUTES.0)
+    ∷ (codes "yaml", enable.ENABLE_YAML_STYLE_METADATA_BLOCKS.0)
+    ∷ (codes "pluses", enable.ENABLE_PLUSES_DELIMITED_METADATA_BLOCKS.0)
+    ∷ (codes "math", enable.ENABLE_MATH.0)
+    ∷ (codes "gfm", enable.ENABLE_GFM.0)
+    ∷ (codes "definitions", enable.ENABLE_DEFINITION_LIST.0)
+    ∷ (codes "superscript", enable.ENABLE_SUPERSCRIPT.0)
+    ∷ (codes "subscript", enable.ENABLE_SUBSCRIPT.0)
+    ∷ (codes "wikilinks", enable.ENABLE_WIKILINKS.0)
+    ∷ []
 
 -- the options of these bits
 abbrev pub of_bits : ℕ → Options
