@@ -2,6 +2,15 @@
 //! several tests are joined by `|`.
 ghost use Rattle.std.specs.Prelude.{◌≡◌, ◌==◌, ◌||◌, nat_le};
 ghost use Rattle.std.specs.List.{list_any};
+ghost use Rattle.markdown_base.specs.WellFormed.{is_delimiter};
+
+/// Returns whether a byte is a character of delimiter runs.
+#[inline(always)]
+pub fn is_delimiter(byte: u8) -> bool
+    ensures { result ≡ is_delimiter byte }
+{
+    byte == b'*' || byte == b'_' || byte == b'~' || byte == b'^'
+}
 
 /// Returns whether one of the bytes is `wanted`.
 #[inline(always)]

@@ -5,6 +5,7 @@ ghost use Rattle.markdown_base.specs.BlockTree.{numbered};
 ghost use Rattle.markdown_base.specs.WellFormed.{run_character, is_delimiter, byte_of, GoesOn, EndsRun, RunGoesOn};
 ghost use Rattle.markdown_base.specs.WellFormed.{RunsAreWhole};
 
+use markdown_base::byte_tests::is_delimiter;
 use markdown_base::item::{Item, ItemBody};
 use markdown_base::tree::Tree;
 
@@ -16,13 +17,6 @@ fn byte_at(text: &str, at: usize) -> u8
         Some(byte) => *byte,
         None => 0,
     }
-}
-
-/// Returns whether a byte is a character of delimiter runs.
-fn is_delimiter(byte: u8) -> bool
-    ensures { result ≡ is_delimiter byte }
-{
-    byte == b'*' || byte == b'_' || byte == b'~' || byte == b'^'
 }
 
 /// Returns whether a body is a character of a delimiter run with this count and these flags.

@@ -5,7 +5,7 @@ use Rattle.markdown_delims.specs.declared.run.Delimiter.{Delimiter}
 use Rattle.markdown_delims.specs.declared.run.Delimiter.TheVariants.{Star, Underscore, Tilde, Caret}
 use Rattle.markdown_delims.specs.declared.run.Run.{Run}
 
--- the delimiter of a byte, if it is one
+-- the delimiter of a byte, if it is one: each byte of `is_delimiter` has one, as the pairing lemmas prove
 abbrev pub delimiter_of : ℕ → Option Delimiter
 delimiter_of byte =
     if byte == asterisk then Some Star

@@ -7,7 +7,7 @@ use Rattle.std.proofs.lemmas.Bool.Decides.{eqb_tells}
 use Rattle.std.specs.Prelude.{◌||◌, ◌&&◌, ◌==◌, not, codes, min}
 use Rattle.std.specs.List.{list_all, list_any}
 use Rattle.markdown_base.proofs.ByteListLemmas.{byte_of_part, part_length}
-use Rattle.markdown_items.specs.LineItems.{is_special, is_plain, IsFirstSpecial}
+use Rattle.markdown_items.specs.LineItems.{special_bytes, is_special, is_plain, IsFirstSpecial}
 
 both_pass : (x y : Bool) → (x && y) ≡ true → (x ≡ true) × (y ≡ true)
 both_pass true y h = (refl, h)
@@ -26,7 +26,7 @@ never test (m ∷ ms) byte all h =
 
 -- a plain byte is not special
 plain_is : (byte : ℕ) → is_plain byte ≡ true → is_special byte ≡ false
-plain_is byte h = never is_plain (codes "!\"$&'*<[\\]^_`~") byte refl h
+plain_is byte h = never is_plain special_bytes byte refl h
 
 none_of_two : (x y : Bool) → x ≡ false → y ≡ false → (x || y) ≡ false
 none_of_two x y p q = rw (p, q) refl

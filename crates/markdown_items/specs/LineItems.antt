@@ -27,9 +27,12 @@ extensions_of options = record {
 abbrev pub is_escaped : List ℕ → ℕ → ℕ → Bool
 is_escaped text start at = nat_lt start at && (slice_index text (at - 1) == backslash)
 
--- the bytes that may begin something other than text
+-- the bytes that may begin something other than text; the table in code is checked against them, and so is `is_plain`
+abbrev pub special_bytes : List ℕ
+special_bytes = codes "!\"$&'*<[\\]^_`~"
+
 abbrev pub is_special : ℕ → Bool
-is_special byte = list_any (λ b. b == byte) (codes "!\"$&'*<[\\]^_`~")
+is_special byte = list_any (λ b. b == byte) special_bytes
 
 -- plain bytes, which most text consists of: none of them is special
 abbrev pub is_plain : ℕ → Bool
@@ -55,7 +58,8 @@ pub record IsWholeRun (text : List ℕ) (at end stop : ℕ) : Type 0 where
   pub whole : stop < end → slice_index text stop ≢ slice_index text at
 
 -- `count` of a character can be a delimiter run, regardless of the characters around them: any number of `*` or `_`
--- (CommonMark 6.2), one or two `~`, any number of `^`
+-- (CommonMark 6.2), one or two `~`, any number of `^`. Another character of `is_delimiter` has its case here, and
+-- remains text without it.
 abbrev pub makes_run : Extensions → ℕ → ℕ → Bool
 makes_run extensions byte count =
     if (byte == asterisk) || (byte == underscore) then true

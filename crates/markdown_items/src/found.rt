@@ -157,6 +157,7 @@ pub fn find(text: &str, line: Line, at: usize) -> Found
         b'<' => Found::Mark(ItemBody::MaybeHtml),
         b'[' => Found::Mark(ItemBody::MaybeLinkOpen),
         b']' => Found::Mark(ItemBody::MaybeLinkClose(true)),
+        // the characters of `is_delimiter`, as `value` requires; written out, they are in the same jump as the other bytes
         b'*' | b'_' | b'~' | b'^' => find_run(text, line, at),
         _ => find_mark(text, line, at),
     }

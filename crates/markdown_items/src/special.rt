@@ -7,7 +7,8 @@ const T: bool = true;
 
 const F: bool = false;
 
-// Whether a byte is one of !"$&'*<[\]^_`~, indexed by the byte: 32 bytes per line.
+// Whether a byte is one of `special_bytes`, indexed by the byte: 32 bytes per line. No constant can be computed by a loop,
+// so the table is written out, and `is_special` is proved of each entry.
 static SPECIALS: [bool; 256] = [
     F, F, F, F, F, F, F, F, F, F, F, F, F, F, F, F, F, F, F, F, F, F, F, F, F, F, F, F, F, F, F, F,
     F, T, T, F, T, F, T, T, F, F, T, F, F, F, F, F, F, F, F, F, F, F, F, F, F, F, F, F, T, F, F, F,
