@@ -152,7 +152,7 @@ tag_end_json closes.Link = codes "\"Link\""
 tag_end_json closes.Image = codes "\"Image\""
 tag_end_json (closes.MetadataBlock kind) = variant (codes "MetadataBlock") (metadata_json kind)
 
--- a tag: with what it holds beside what its End tells
+-- a tag: with what it holds beside what its End tells, or, where it holds no more, as its End
 abbrev pub tag_json : TagView → List ℕ
 tag_json (event.heading h) = variant (codes "Heading") (heading_json h)
 tag_json event.indented_code = variant (codes "CodeBlock") (codes "\"Indented\"")
@@ -162,7 +162,22 @@ tag_json (event.footnote_definition name) = variant (codes "FootnoteDefinition")
 tag_json (event.table alignments) = variant (codes "Table") (array alignment_json alignments)
 tag_json (event.link l) = variant (codes "Link") (link_json l)
 tag_json (event.image i) = variant (codes "Image") (link_json i)
-tag_json tag = tag_end_json (tag_end tag)
+tag_json event.paragraph = tag_end_json (tag_end event.paragraph)
+tag_json (event.block_quote kind) = tag_end_json (tag_end (event.block_quote kind))
+tag_json event.html_block = tag_end_json (tag_end event.html_block)
+tag_json event.list_item = tag_end_json (tag_end event.list_item)
+tag_json event.definition_list = tag_end_json (tag_end event.definition_list)
+tag_json event.definition_list_title = tag_end_json (tag_end event.definition_list_title)
+tag_json event.definition_list_definition = tag_end_json (tag_end event.definition_list_definition)
+tag_json event.table_head = tag_end_json (tag_end event.table_head)
+tag_json event.table_row = tag_end_json (tag_end event.table_row)
+tag_json event.table_cell = tag_end_json (tag_end event.table_cell)
+tag_json event.emphasis = tag_end_json (tag_end event.emphasis)
+tag_json event.strong = tag_end_json (tag_end event.strong)
+tag_json event.strikethrough = tag_end_json (tag_end event.strikethrough)
+tag_json event.superscript = tag_end_json (tag_end event.superscript)
+tag_json event.subscript = tag_end_json (tag_end event.subscript)
+tag_json (event.metadata_block kind) = tag_end_json (tag_end (event.metadata_block kind))
 
 abbrev pub event_json : EventView → List ℕ
 event_json (event.start tag) = variant (codes "Start") (tag_json tag)

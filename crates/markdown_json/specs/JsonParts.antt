@@ -49,7 +49,7 @@ link_of l = record {
   label = l.id.now;
 }
 
--- an end without a value
+-- an end without a value. A new one without a text in `fixed_end_text` is refused there.
 abbrev pub IsFixedEnd : TagEnd → Type 0
 IsFixedEnd (closes.Heading level) = ⊥
 IsFixedEnd (closes.BlockQuote kind) = ⊥

@@ -36,7 +36,7 @@ outside_parts past (task_list_marker true) = codes "<input disabled=\"\" type=\"
 outside_parts past (task_list_marker false) = codes "<input disabled=\"\" type=\"checkbox\"/>\n" ∷ []
 
 -- what an event writes inside an image: its part of the alt text, or what closes the image where the event is the End
--- that matches the image's Start
+-- that matches the image's Start. `alt_parts` has a case for each of the other events.
 abbrev pub inside_bytes : Past → ℕ → List ℕ → EventView → List ℕ
 inside_bytes past starts title (start tag) = []
 inside_bytes past zero title (end tag) = image_end title

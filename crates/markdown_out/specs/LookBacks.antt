@@ -1,6 +1,10 @@
 -- What the HTML of an event depends on in the events before it. Each look-back goes through these, of which the latest
 -- is first. Events inside an image count only for the numbers of footnotes, and for where the image ends. Whether a
 -- line is fresh depends on the bytes written: `EventHtml` defines it.
+--
+-- Each function below names the events that it looks for; its last clause is for all others, which change nothing. A
+-- new event or tag belongs there unless it opens or closes an image, metadata, a table's head, row or cell, or names
+-- a footnote.
 use Rattle.std.specs.Prelude.{◌≤◌, ℕ, zero, suc, ◌+◌, ◌^◌, Bool, true, false, List, [], ◌∷◌, ◌++◌, if◌then◌else◌}
 use Rattle.std.specs.Prelude.{reverse, Option, Some, None, nat_eq, IsSomeAnd}
 use Rattle.std.specs.List.{list_any, position_or_len}

@@ -88,12 +88,21 @@ abbrev pub cell_style : Option Alignment → List ℕ
 cell_style (Some align.Left) = codes " style=\"text-align: left\">"
 cell_style (Some align.Center) = codes " style=\"text-align: center\">"
 cell_style (Some align.Right) = codes " style=\"text-align: right\">"
-cell_style alignment = codes ">"
+cell_style (Some align.None) = codes ">"
+cell_style None = codes ">"
 
 -- the scheme that is written before a link's destination
 abbrev pub link_scheme : LinkType → List ℕ
 link_scheme written.Email = codes "mailto:"
-link_scheme kind = []
+link_scheme written.Inline = []
+link_scheme written.Reference = []
+link_scheme written.ReferenceUnknown = []
+link_scheme written.Collapsed = []
+link_scheme written.CollapsedUnknown = []
+link_scheme written.Shortcut = []
+link_scheme written.ShortcutUnknown = []
+link_scheme written.Autolink = []
+link_scheme (written.WikiLink has_pothole) = []
 
 -- the `title` attribute of a link or an image, where the title is not empty
 abbrev pub title_parts : List ℕ → List (List ℕ)
@@ -148,7 +157,8 @@ start_parts past event.superscript = codes "<sup>" ∷ []
 start_parts past event.subscript = codes "<sub>" ∷ []
 start_parts past (event.link l) = link_parts l.kind l.destination l.title
 start_parts past (event.image i) = image_parts i.destination
-start_parts past tag = []
+start_parts past event.html_block = []
+start_parts past (event.metadata_block kind) = []
 
 -- what an End writes outside images: nothing for HTML blocks, metadata, and the End of an image
 abbrev pub end_parts : Past → TagEnd → List (List ℕ)
@@ -173,4 +183,6 @@ end_parts past closes.Strikethrough = codes "</del>" ∷ []
 end_parts past closes.Superscript = codes "</sup>" ∷ []
 end_parts past closes.Subscript = codes "</sub>" ∷ []
 end_parts past closes.Link = codes "</a>" ∷ []
-end_parts past tag = []
+end_parts past closes.HtmlBlock = []
+end_parts past (closes.MetadataBlock kind) = []
+end_parts past closes.Image = []

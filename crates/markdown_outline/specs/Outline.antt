@@ -5,7 +5,7 @@ use Rattle.std.specs.List.{flat_map}
 use Rattle.std.specs.String.{string_bytes}
 use Rattle.std.specs.declared.ops.Range.{Range}
 use Rattle.markdown_base.specs.Event.{EventView, start, end, text, code, inline_math, display_math, soft_break}
-use Rattle.markdown_base.specs.Event.{hard_break}
+use Rattle.markdown_base.specs.Event.{hard_break, html, inline_html, footnote_reference, rule, task_list_marker}
 use Rattle.markdown_base.specs.Event.{TagView, heading}
 use Rattle.markdown_base.specs.HeadingLevels.{level_number}
 use Rattle.markdown_base.specs.declared.tag.TagEnd.{TagEnd}
@@ -27,12 +27,12 @@ pub record EntryView : Type 0 where
 abbrev pub entry_view : Entry → EntryView
 entry_view e = record { level = e.level; text = string_bytes e.text; range = e.range }
 
--- the level of a heading's tag; other tags have none
+-- the level of a heading's tag; other tags, new ones too, have none
 abbrev pub tag_level : TagView → Option ℕ
 tag_level (heading h) = Some (level_number h.level)
 tag_level other = None
 
--- the level of the heading that begins with an event
+-- the level of the heading that begins with an event, which is a Start
 abbrev pub opened_level : EventView → Option ℕ
 opened_level (start tag) = tag_level tag
 opened_level other = None
@@ -55,7 +55,13 @@ text_added (inline_math t) = t
 text_added (display_math t) = t
 text_added soft_break = codes " "
 text_added hard_break = codes " "
-text_added other = []
+text_added (start tag) = []
+text_added (end tag) = []
+text_added (html t) = []
+text_added (inline_html t) = []
+text_added (footnote_reference name) = []
+text_added rule = []
+text_added (task_list_marker done) = []
 
 -- the text that these events add
 abbrev pub joined_text : List Ranged → List ℕ
