@@ -42,7 +42,24 @@ texts_of_tag (opens.CodeBlock kind) = texts_of_code_block kind
 texts_of_tag (opens.FootnoteDefinition name) = name ∷ []
 texts_of_tag (opens.Link kind destination title label) = destination ∷ title ∷ label ∷ []
 texts_of_tag (opens.Image kind destination title label) = destination ∷ title ∷ label ∷ []
-texts_of_tag other = []
+texts_of_tag opens.Paragraph = []
+texts_of_tag (opens.BlockQuote kind) = []
+texts_of_tag opens.HtmlBlock = []
+texts_of_tag (opens.List first) = []
+texts_of_tag opens.Item = []
+texts_of_tag opens.DefinitionList = []
+texts_of_tag opens.DefinitionListTitle = []
+texts_of_tag opens.DefinitionListDefinition = []
+texts_of_tag (opens.Table alignments) = []
+texts_of_tag opens.TableHead = []
+texts_of_tag opens.TableRow = []
+texts_of_tag opens.TableCell = []
+texts_of_tag opens.Emphasis = []
+texts_of_tag opens.Strong = []
+texts_of_tag opens.Strikethrough = []
+texts_of_tag opens.Superscript = []
+texts_of_tag opens.Subscript = []
+texts_of_tag (opens.MetadataBlock kind) = []
 
 -- the texts of an event
 abbrev pub texts_of_event : Event → List CowStr
@@ -54,7 +71,11 @@ texts_of_event (step.DisplayMath text) = text ∷ []
 texts_of_event (step.Html text) = text ∷ []
 texts_of_event (step.InlineHtml text) = text ∷ []
 texts_of_event (step.FootnoteReference name) = name ∷ []
-texts_of_event other = []
+texts_of_event (step.End tag) = []
+texts_of_event step.SoftBreak = []
+texts_of_event step.HardBreak = []
+texts_of_event step.Rule = []
+texts_of_event (step.TaskListMarker done) = []
 
 -- a definition's destination, and its title if it has one
 abbrev pub texts_of_definition : LinkDef → List CowStr

@@ -1,8 +1,8 @@
 -- Well-formed block results: the nine rules that every block pass keeps, and every traversal relies on. Rules 2 to 9
 -- concern an item, the forest below it and the item after it (`KeepsRules`); the parts of rules 4 and 8 that concern
 -- more are in `IsWellFormed`. The root is not an item: its own range and body are not restricted.
-use Rattle.std.specs.Prelude.{◌≡◌, ℕ, zero, suc, ◌<◌, ◌≤◌, Bool, false, IsTrue, ◌==◌, ◌||◌, List, [], ◌∷◌, Option, Some}
-use Rattle.std.specs.Prelude.{None, IfSome, nat_eq, codes, length, replicate, slice_index, slice_range}
+use Rattle.std.specs.Prelude.{◌≡◌, ℕ, zero, suc, ◌<◌, ◌≤◌, Bool, true, false, IsTrue, ◌==◌, ◌||◌, List, [], ◌∷◌, Option}
+use Rattle.std.specs.Prelude.{Some, None, IfSome, nat_eq, codes, length, replicate, slice_index, slice_range}
 use Rattle.std.specs.List.{IsDistinct, filter_map, list_all, list_any}
 use Rattle.markdown_base.specs.declared.block_parts.BlockParts.{BlockParts}
 use Rattle.markdown_base.specs.declared.item.Item.{Item}
@@ -49,8 +49,15 @@ pub record ChainsAreKept (above : ItemBody) (below : Forest Numbered) : Type 0 w
 abbrev pub source_of : List ℕ → Item → List ℕ
 source_of text item = slice_range text item.start item.end
 
--- the source text of an open item is the markup that its body names
+-- an item that is not open may stand over any source text
+abbrev pub StandsOverAny : (is_open : Bool) → Type 0
+StandsOverAny true = ⊥
+StandsOverAny false = Unit {0}
+
+-- the source text of an open item is the markup that its body names; rule 7 says what delimiter runs stand over.
+-- Another body that is open has its markup here: without it, nothing with such an item is well-formed.
 abbrev pub StandsOverMarkup : List ℕ → ItemBody → Type 0
+StandsOverMarkup source (body.MaybeEmphasis count opens closes) = Unit {0}
 StandsOverMarkup source (body.MaybeMath opens closes context) = source ≡ codes "$"
 StandsOverMarkup source (body.MaybeSmartQuote quote opens closes) = (source ≡ quote ∷ [])
     × IsTrue ((quote == double_quote) || (quote == apostrophe))
@@ -59,7 +66,7 @@ StandsOverMarkup source body.MaybeHtml = source ≡ codes "<"
 StandsOverMarkup source body.MaybeLinkOpen = source ≡ codes "["
 StandsOverMarkup source (body.MaybeLinkClose reference) = source ≡ codes "]"
 StandsOverMarkup source body.MaybeImage = source ≡ codes "!["
-StandsOverMarkup source other = Unit {0}
+StandsOverMarkup source other = StandsOverAny (is_open other)
 
 -- 6. The source text of brackets, quotation marks, dollars, backticks and `<` is their markup.
 abbrev pub MarkupIsThere : List ℕ → Item → Type 0
@@ -72,13 +79,13 @@ pub record RunCharacter : Type 0 where
   pub can_open : Bool
   pub can_close : Bool
 
--- the character of a delimiter run that a body describes, if any
+-- the character of a delimiter run that a body describes, if any: no other body describes one
 abbrev pub run_character : ItemBody → Option RunCharacter
 run_character (body.MaybeEmphasis count opens closes) =
     Some (record { count = count; can_open = opens; can_close = closes })
 run_character other = None
 
--- one of the characters of delimiter runs
+-- one of the characters of delimiter runs: the set is written here, and in code in `is_delimiter` of `byte_tests`
 abbrev pub is_delimiter : ℕ → Bool
 is_delimiter byte = (byte == asterisk) || ((byte == underscore) || ((byte == tilde) || (byte == caret)))
 

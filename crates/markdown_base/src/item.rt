@@ -86,6 +86,7 @@ pub struct Item {
     pub body: ItemBody,
 }
 
+// Where a match below ends in a rest, `Item.antt` has each body, and the clause fails for one that does not belong there.
 impl ItemBody {
     ghost use Rattle.std.specs.Prelude.{◌≡◌};
     ghost use Rattle.std.specs.Option.{option_map};

@@ -15,7 +15,7 @@ abbrev pub is_autolink : LinkType → Bool
 is_autolink kind.Autolink = true
 is_autolink other = false
 
--- the tag opens no link other than an autolink
+-- the tag opens no link other than an autolink; no other tag is a link
 abbrev pub OpensNoLink : TagView → Type 0
 OpensNoLink (link v) = is_autolink v.kind ≡ true
 OpensNoLink other = ⊤

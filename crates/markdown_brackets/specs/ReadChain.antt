@@ -46,7 +46,7 @@ closing_of could_be_reference a rest p =
 abbrev pub Reader : Type 0 → Type 0
 Reader A = Label A → Forest (Label A) → Forest (Label A) → Step A
 
--- the effect of an item with this body
+-- the effect of an item with this body; each body of kind `undecided_bracket` has its case
 abbrev pub read_as : {A : Type 0} → Around → Reader A → ItemBody → Reader A
 read_as w others body.MaybeLinkOpen a below rest p = opened w false a rest p
 read_as w others body.MaybeImage a below rest p = opened w true a rest p

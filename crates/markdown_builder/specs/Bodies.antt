@@ -1,21 +1,10 @@
--- The bodies that a builder places, by the calls that place them.
+-- The bodies that a builder places, by the calls that place them. A body that a function below does not name, a new one
+-- too, is refused by the call.
 use Rattle.std.specs.Prelude.{ℕ, Bool, true, false, cond, ◌==◌, ◌||◌, Option, Some, None}
 use Rattle.markdown_base.specs.Bytes.{apostrophe, close_bracket, dollar_sign, double_quote, less_than, open_bracket}
+pub use Rattle.markdown_base.specs.Item.{is_leaf}
 use Rattle.markdown_base.specs.declared.item.ItemBody.{ItemBody}
 use Rattle.markdown_base.specs.declared.item.ItemBody.TheVariants as body
-
--- a block that contains only inline items
-abbrev pub is_leaf : ItemBody → Bool
-is_leaf body.Paragraph = true
-is_leaf body.TightParagraph = true
-is_leaf (body.Heading level ix) = true
-is_leaf (body.FencedCodeBlock ix) = true
-is_leaf body.IndentCodeBlock = true
-is_leaf body.HtmlBlock = true
-is_leaf (body.MetadataBlock kind) = true
-is_leaf body.DefinitionListTitle = true
-is_leaf body.TableCell = true
-is_leaf other = false
 
 -- a block that is opened as it is: it refers to no part, and may have children
 abbrev pub is_plain_block : ItemBody → Bool

@@ -2,7 +2,8 @@
 -- something that was found ends.
 use Rattle.std.specs.Prelude.{ℕ, ◌-◌, Bool, false, ◌==◌, max, List, ◌∷◌, drop, Option, Some, None}
 use Rattle.std.specs.Prelude.{if◌then◌else◌, nat_le}
-use Rattle.markdown_base.specs.Event.{EventView, text, html, inline_html}
+use Rattle.markdown_base.specs.Event.{EventView, start, end, text, code, inline_math, display_math, html, inline_html}
+use Rattle.markdown_base.specs.Event.{footnote_reference, soft_break, hard_break, rule, task_list_marker}
 use Rattle.markdown_base.specs.Forest.{Forest, nil, node}
 use Rattle.markdown_base.specs.declared.item.Item.{Item}
 use Rattle.markdown_base.specs.declared.item.ItemBody.{ItemBody}
@@ -41,7 +42,16 @@ abbrev pub without_first : ℕ → EventView → EventView
 without_first n (text bytes) = text (drop n bytes)
 without_first n (html bytes) = html (drop n bytes)
 without_first n (inline_html bytes) = inline_html (drop n bytes)
-without_first n other = other
+without_first n (start tag) = start tag
+without_first n (end tag) = end tag
+without_first n (code bytes) = code bytes
+without_first n (inline_math bytes) = inline_math bytes
+without_first n (display_math bytes) = display_math bytes
+without_first n (footnote_reference name) = footnote_reference name
+without_first n soft_break = soft_break
+without_first n hard_break = hard_break
+without_first n rule = rule
+without_first n (task_list_marker done) = task_list_marker done
 
 -- an event without the first n bytes of its text, where that is a slice of the source
 abbrev pub cut_event : ℕ → EventView → List Origin → EventView

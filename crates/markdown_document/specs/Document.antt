@@ -2,14 +2,13 @@
 use Rattle.markdown_base.specs.declared.item.ItemBody.TheVariants as body
 use Rattle.std.specs.Prelude.{ℕ, Bool, true, false, ◌||◌, if◌then◌else◌, nat_eq, Option, Some, None, List, [], ◌∷◌}
 use Rattle.std.specs.Prelude.{encode_utf8, slice_range}
-use Rattle.std.specs.Option.{option_map_or}
 use Rattle.std.specs.declared.ops.Range.{Range}
 use Rattle.markdown_base.specs.Bytes.{close_parenthesis, full_stop}
 use Rattle.markdown_base.specs.BlockTree.{tree_of}
 use Rattle.markdown_base.specs.Event as event
 use Rattle.markdown_base.specs.Event.{TagView, EventView}
 use Rattle.markdown_base.specs.Forest.{Forest, relabelled}
-use Rattle.markdown_base.specs.Item.{is_open, is_block, range_of}
+use Rattle.markdown_base.specs.Item.{is_block, range_of}
 use Rattle.markdown_base.specs.declared.item.Item.{Item}
 use Rattle.markdown_base.specs.declared.item.ItemBody.{ItemBody}
 use Rattle.markdown_base.specs.declared.node.Node.{Node}
@@ -58,65 +57,70 @@ as_text source a = shaped (text_over (slice_range source a.part.range.start a.pa
 abbrev pub is_ordered : (marker : ℕ) → Bool
 is_ordered marker = nat_eq marker full_stop || nat_eq marker close_parenthesis
 
--- the tag of a body that reads as a Start and an End and refers to nothing
-abbrev pub container_of : ItemBody → Option TagView
-container_of body.Paragraph = Some event.paragraph
-container_of (body.BlockQuote kind) = Some (event.block_quote kind)
-container_of body.IndentCodeBlock = Some event.indented_code
-container_of body.HtmlBlock = Some event.html_block
-container_of (body.List tight marker first) = Some (event.list (if is_ordered marker then Some first else None))
-container_of (body.ListItem indent) = Some event.list_item
-container_of (body.MetadataBlock kind) = Some (event.metadata_block kind)
-container_of (body.DefinitionList tight) = Some event.definition_list
-container_of body.DefinitionListTitle = Some event.definition_list_title
-container_of (body.DefinitionListDefinition indent) = Some event.definition_list_definition
-container_of body.TableHead = Some event.table_head
-container_of body.TableRow = Some event.table_row
-container_of body.TableCell = Some event.table_cell
-container_of body.Emphasis = Some event.emphasis
-container_of body.Strong = Some event.strong
-container_of body.Strikethrough = Some event.strikethrough
-container_of body.Superscript = Some event.superscript
-container_of body.Subscript = Some event.subscript
-container_of other = None
-
 -- inline math, or display math
 abbrev pub math : (display : Bool) → List ℕ → EventView
 math false t = event.inline_math t
 math true t = event.display_math t
 
--- how the other bodies read, from the bytes of their ranges and from what they refer to; a body without an event of its
--- own is not read before its chain is resolved where it is open, and otherwise plain
-abbrev pub other_shape : Tables → List ℕ → ItemBody → Shape
-other_shape tables source (body.Text escaped) = text_over source
-other_shape tables source (body.SynthesizeText ix) = leaf (event.text (text_at tables.cows ix.0)) (made ∷ [])
-other_shape tables source (body.SynthesizeChar c) = leaf (event.text (encode_utf8 c)) (inlined ∷ [])
-other_shape tables source (body.Code ix) = leaf (event.code (text_at tables.cows ix.0))
-    (origin_at tables.cows ix.0 ∷ [])
-other_shape tables source (body.Math ix display) = leaf (math display (text_at tables.cows ix.0))
-    (origin_at tables.cows ix.0 ∷ [])
-other_shape tables source body.Html = leaf (event.html source) (sliced ∷ [])
-other_shape tables source body.InlineHtml = leaf (event.inline_html source) (sliced ∷ [])
-other_shape tables source (body.OwnedInlineHtml ix) = leaf (event.inline_html (text_at tables.cows ix.0)) (made ∷ [])
-other_shape tables source (body.FootnoteReference ix) = leaf (event.footnote_reference (text_at tables.cows ix.0))
-    (made ∷ [])
-other_shape tables source body.SoftBreak = leaf event.soft_break []
-other_shape tables source (body.HardBreak true) = backslash_break
-other_shape tables source (body.HardBreak false) = leaf event.hard_break []
-other_shape tables source body.Rule = leaf event.rule []
-other_shape tables source (body.TaskListMarker done) = leaf (event.task_list_marker done) []
-other_shape tables source (body.Heading level named) =
-    enclosed (event.heading (heading_for level tables.headings named))
-other_shape tables source (body.FencedCodeBlock ix) = enclosed (event.fenced_code (text_at tables.cows ix.0))
-other_shape tables source (body.FootnoteDefinition ix) = enclosed (event.footnote_definition (text_at tables.cows ix.0))
-other_shape tables source (body.Table ix) = enclosed (event.table (alignments_at tables.alignments ix.0))
-other_shape tables source (body.Link ix) = enclosed (event.link (link_at tables.links ix.0))
-other_shape tables source (body.Image ix) = enclosed (event.image (link_at tables.links ix.0))
-other_shape tables source b = if is_open b then unresolved b else plain
-
--- how a body reads, from the bytes of its range and from what items refer to
+-- how a body reads, from the bytes of its range and from what items refer to. There is no rest: a body that is not here
+-- does not read as anything, and the check fails.
 abbrev pub shape_of : Tables → List ℕ → ItemBody → Shape
-shape_of tables source b = option_map_or enclosed (container_of b) (other_shape tables source b)
+-- open items
+shape_of tables source (body.MaybeEmphasis count opens closes) = unresolved (body.MaybeEmphasis count opens closes)
+shape_of tables source (body.MaybeMath opens closes context) = unresolved (body.MaybeMath opens closes context)
+shape_of tables source (body.MaybeSmartQuote quote opens closes) = unresolved (body.MaybeSmartQuote quote opens closes)
+shape_of tables source (body.MaybeCode count escaped) = unresolved (body.MaybeCode count escaped)
+shape_of tables source body.MaybeHtml = unresolved body.MaybeHtml
+shape_of tables source body.MaybeLinkOpen = unresolved body.MaybeLinkOpen
+shape_of tables source (body.MaybeLinkClose reference) = unresolved (body.MaybeLinkClose reference)
+shape_of tables source body.MaybeImage = unresolved body.MaybeImage
+-- one event
+shape_of tables source (body.Text escaped) = text_over source
+shape_of tables source (body.SynthesizeText ix) = leaf (event.text (text_at tables.cows ix.0)) (made ∷ [])
+shape_of tables source (body.SynthesizeChar c) = leaf (event.text (encode_utf8 c)) (inlined ∷ [])
+shape_of tables source (body.Code ix) = leaf (event.code (text_at tables.cows ix.0)) (origin_at tables.cows ix.0 ∷ [])
+shape_of tables source (body.Math ix display) = leaf (math display (text_at tables.cows ix.0))
+    (origin_at tables.cows ix.0 ∷ [])
+shape_of tables source body.Html = leaf (event.html source) (sliced ∷ [])
+shape_of tables source body.InlineHtml = leaf (event.inline_html source) (sliced ∷ [])
+shape_of tables source (body.OwnedInlineHtml ix) = leaf (event.inline_html (text_at tables.cows ix.0)) (made ∷ [])
+shape_of tables source (body.FootnoteReference ix) = leaf (event.footnote_reference (text_at tables.cows ix.0))
+    (made ∷ [])
+shape_of tables source body.SoftBreak = leaf event.soft_break []
+shape_of tables source (body.HardBreak true) = backslash_break
+shape_of tables source (body.HardBreak false) = leaf event.hard_break []
+shape_of tables source body.Rule = leaf event.rule []
+shape_of tables source (body.TaskListMarker done) = leaf (event.task_list_marker done) []
+-- a Start and an End
+shape_of tables source body.Emphasis = enclosed event.emphasis
+shape_of tables source body.Strong = enclosed event.strong
+shape_of tables source body.Strikethrough = enclosed event.strikethrough
+shape_of tables source body.Superscript = enclosed event.superscript
+shape_of tables source body.Subscript = enclosed event.subscript
+shape_of tables source (body.Link ix) = enclosed (event.link (link_at tables.links ix.0))
+shape_of tables source (body.Image ix) = enclosed (event.image (link_at tables.links ix.0))
+shape_of tables source body.Paragraph = enclosed event.paragraph
+shape_of tables source (body.Heading level named) = enclosed (event.heading (heading_for level tables.headings named))
+shape_of tables source (body.FencedCodeBlock ix) = enclosed (event.fenced_code (text_at tables.cows ix.0))
+shape_of tables source body.IndentCodeBlock = enclosed event.indented_code
+shape_of tables source body.HtmlBlock = enclosed event.html_block
+shape_of tables source (body.BlockQuote kind) = enclosed (event.block_quote kind)
+shape_of tables source (body.List tight marker first) =
+    enclosed (event.list (if is_ordered marker then Some first else None))
+shape_of tables source (body.ListItem indent) = enclosed event.list_item
+shape_of tables source (body.FootnoteDefinition ix) = enclosed (event.footnote_definition (text_at tables.cows ix.0))
+shape_of tables source (body.MetadataBlock kind) = enclosed (event.metadata_block kind)
+shape_of tables source (body.DefinitionList tight) = enclosed event.definition_list
+shape_of tables source body.DefinitionListTitle = enclosed event.definition_list_title
+shape_of tables source (body.DefinitionListDefinition indent) = enclosed event.definition_list_definition
+shape_of tables source (body.Table ix) = enclosed (event.table (alignments_at tables.alignments ix.0))
+shape_of tables source body.TableHead = enclosed event.table_head
+shape_of tables source body.TableRow = enclosed event.table_row
+shape_of tables source body.TableCell = enclosed event.table_cell
+-- no event of their own
+shape_of tables source body.Root = plain
+shape_of tables source body.TightParagraph = plain
+shape_of tables source body.MaybeDefinitionListTitle = plain
 
 -- the body, where it is that of a block
 abbrev pub block_of : ItemBody → Option ItemBody

@@ -17,7 +17,14 @@ pub record LinkOrigins : Type 0 where
 abbrev pub destination_origin : LinkType → Origin
 destination_origin kind.Autolink = sliced
 destination_origin (kind.WikiLink has_pothole) = sliced
-destination_origin other = made
+destination_origin kind.Inline = made
+destination_origin kind.Reference = made
+destination_origin kind.ReferenceUnknown = made
+destination_origin kind.Collapsed = made
+destination_origin kind.CollapsedUnknown = made
+destination_origin kind.Shortcut = made
+destination_origin kind.ShortcutUnknown = made
+destination_origin kind.Email = made
 
 -- the origin says that the bytes are a slice of the source within these byte offsets, and they are
 abbrev pub IsSlice : List ℕ → (start end : ℕ) → Origin → List ℕ → Type 0

@@ -1,7 +1,7 @@
 -- The entries that bodies refer to by number: that they exist, how often a body refers to one, and which of them stay
 -- the same when tables change.
 use Rattle.std.specs.Prelude.{◌≡◌, ℕ, zero, suc, ◌<◌, ◌≤◌, List, [], ◌∷◌, ◌++◌, Option, Some, None, IfSome, length}
-use Rattle.markdown_base.specs.declared.item.ItemBody.TheVariants as body
+pub use Rattle.markdown_base.specs.Item.{link_named}
 use Rattle.markdown_base.specs.Item.{text_named, alignments_named, attributes_named}
 use Rattle.markdown_base.specs.declared.cow_str.CowStr.{CowStr}
 use Rattle.markdown_base.specs.declared.item.ItemBody.{ItemBody}
@@ -19,12 +19,6 @@ abbrev pub link_origins_at : List LinkParts → ℕ → LinkOrigins
 link_origins_at [] ix = record { destination = made; title = made }
 link_origins_at (l ∷ links) zero = link_origins l
 link_origins_at (l ∷ links) (suc ix) = link_origins_at links ix
-
--- the number of the link that a body refers to
-abbrev pub link_named : ItemBody → Option ℕ
-link_named (body.Link ix) = Some ix.0
-link_named (body.Image ix) = Some ix.0
-link_named other = None
 
 -- an entry that an event takes out of its table, so that no two items may refer to it. Heading attributes are copied,
 -- and two headings may share them.

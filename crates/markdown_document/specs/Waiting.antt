@@ -1,14 +1,12 @@
 -- Which items of a chain wait for pairing, which follows pass one; and what an item becomes where nothing is found.
-use Rattle.markdown_base.specs.declared.item.ItemBody.TheVariants as body
 use Rattle.std.specs.Prelude.{ℕ, Bool, true, false, List}
+use Rattle.markdown_base.specs.Item.{body_kind, is_delimiter_kind}
 use Rattle.markdown_base.specs.declared.item.ItemBody.{ItemBody}
 use Rattle.markdown_document.specs.Document.{Shape, unresolved, Label, is_unresolved, as_text}
 
 -- pairing decides about the item: it is a character of a delimiter run, or a quotation mark
 abbrev pub waits_for_pairing : ItemBody → Bool
-waits_for_pairing (body.MaybeEmphasis count opens closes) = true
-waits_for_pairing (body.MaybeSmartQuote quote opens closes) = true
-waits_for_pairing other = false
+waits_for_pairing b = is_delimiter_kind (body_kind b)
 
 -- pass one leaves a tree of this shape as it is: it is not open, or waits for pairing
 abbrev pub is_quiet : Shape → Bool

@@ -2,7 +2,7 @@
 use Rattle.markdown_base.specs.declared.item.ItemBody.TheVariants as body
 use Rattle.markdown_inline.specs.declared.bodies.Way.TheVariants as way
 use Rattle.std.proofs.Common.{◌≡◌, ℕ, zero, suc, ◌-◌, ◌<◌, ◌≤◌, List, [], ◌∷◌, Option, Some, None, length, refl, sym}
-use Rattle.std.proofs.Common.{ap, subst, arith}
+use Rattle.std.proofs.Common.{ap, subst, arith, ◌∙◌}
 use Rattle.std.proofs.Common.{get_or, set, true, false}
 use Rattle.std.specs.Prelude.{IfSome, is_some, slice_range}
 use Rattle.std.specs.Borrow.{Bor}
@@ -32,7 +32,7 @@ use Rattle.markdown_document.specs.LinkOrigins.{IsLinkFrom, LinkOrigins}
 use Rattle.markdown_document.specs.Origins.{Origin, origin_at, origin_of}
 use Rattle.markdown_document.specs.PlacedNodes.{IsSlicedOf, HasSliceLink}
 use Rattle.markdown_document.specs.Document.{Shape, leaf, enclosed, plain, backslash_break, unresolved, sliced, made}
-use Rattle.markdown_document.specs.Document.{container_of, shape_of}
+use Rattle.markdown_document.specs.Document.{shape_of}
 use Rattle.markdown_document.specs.Places.{origin_start}
 use Rattle.markdown_document.specs.Tables.{Tables, text_at, link_at, link_origins, alignments_at}
 use Rattle.markdown_document.specs.Tables.{heading_at, heading_with, tables_of}
@@ -42,6 +42,7 @@ use Rattle.markdown_document.specs.Totals.{same}
 use Rattle.markdown_document.proofs.TablesLemmas.{same_entry-refl}
 use Rattle.markdown_inline.specs.Slices.{slice_start, texts_of, IsFrom, TagIsFrom, StartIsFrom}
 use Rattle.markdown_inline.specs.WalkSteps.{OpensWith, TakesOnly, beginning, way_at_shape, way_at, event_of_shape}
+use Rattle.markdown_inline.specs.WalkSteps.{container_of}
 
 -- an entry that is read
 pub text_at-read : (cows : List CowStr) (n : ℕ) (c : CowStr) → n < length cows → c ≡ get_or cows n c → text_at cows n
@@ -366,7 +367,12 @@ pub container_shape : (tables : Tables) (over : List ℕ) (b : ItemBody) (tag : 
     → container_of b ≡ found
     → is_some found ≡ true → IfSome found (λ t. tag ≡ t) → shape_of tables over b ≡ enclosed tag
 container_shape tables over b tag None e s h = cc s
-container_shape tables over b tag (Some t) e s h = rw e (ap enclosed (sym h))
+container_shape tables over b tag (Some t) e s h = agrees b t e ∙ ap enclosed (sym h)
+  where
+    agrees : (b : ItemBody) (t : TagView) → container_of b ≡ Some t → shape_of tables over b ≡ enclosed t
+    agrees (body.HardBreak true) t e = cc e
+    agrees (body.HardBreak false) t e = cc e
+    agrees other t e = cc e
 
 -- a Start is the event that a tree of its tag begins with
 pub opens_start : (source : List ℕ) (range : Range ℕ) (shape : Shape) (tag : Tag) → shape ≡ enclosed (tag_view tag)

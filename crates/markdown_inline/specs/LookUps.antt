@@ -22,7 +22,10 @@ is_looked_up kind.Collapsed = true
 is_looked_up kind.CollapsedUnknown = true
 is_looked_up kind.Shortcut = true
 is_looked_up kind.ShortcutUnknown = true
-is_looked_up other = false
+is_looked_up kind.Inline = false
+is_looked_up kind.Autolink = false
+is_looked_up kind.Email = false
+is_looked_up (kind.WikiLink has_pothole) = false
 
 -- what a look-up found, where it made a `]` the end of a link or an image
 abbrev pub found_by : {A : Type 0} → Becomes A → List LinkView

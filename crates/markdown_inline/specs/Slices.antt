@@ -28,10 +28,16 @@ texts_of (step.DisplayMath c) = c ∷ []
 texts_of (step.Html c) = c ∷ []
 texts_of (step.InlineHtml c) = c ∷ []
 texts_of (step.FootnoteReference c) = c ∷ []
-texts_of other = []
+texts_of (step.Start tag) = []
+texts_of (step.End tag) = []
+texts_of step.SoftBreak = []
+texts_of step.HardBreak = []
+texts_of step.Rule = []
+texts_of (step.TaskListMarker done) = []
 
 -- the byte offset from which on the text of an event that starts here is a slice, where it is one: the event's start,
--- but for code and math, which keep their whole text where the pipe of a wikilink cuts off their beginning
+-- but for code and math, which keep their whole text where the pipe of a wikilink cuts off their beginning. A new event
+-- with a text is one or the other, as in `without_first`.
 abbrev pub slice_start : List ℕ → Event → (start : ℕ) → ℕ
 slice_start source (step.Code c) start = origin_start source start
 slice_start source (step.InlineMath c) start = origin_start source start

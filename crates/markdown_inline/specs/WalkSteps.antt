@@ -2,12 +2,12 @@
 use Rattle.markdown_base.specs.declared.event.Event.TheVariants as events
 use Rattle.markdown_inline.specs.declared.bodies.Way.TheVariants as way
 use Rattle.markdown_inline.specs.declared.step.Step.TheVariants as step
-use Rattle.std.specs.Prelude.{◌≡◌, ℕ, ◌<◌, true, List, [], ◌∷◌, Option, Some, None, slice_range}
+use Rattle.std.specs.Prelude.{◌≡◌, ℕ, ◌<◌, true, if◌then◌else◌, List, [], ◌∷◌, Option, Some, None, slice_range}
 use Rattle.std.specs.declared.ops.Range.{Range}
 use Rattle.markdown_base.specs.Arena.{Arena}
 use Rattle.markdown_base.specs.BlockTree.{item_at}
-use Rattle.markdown_base.specs.Event.{EventView, event_view, start, hard_break}
-use Rattle.markdown_base.specs.Item.{LiesIn, is_open, range_of}
+use Rattle.markdown_base.specs.Event.{EventView, TagView, event_view, start, hard_break}
+use Rattle.markdown_base.specs.Item.{LiesIn, is_open, range_of, reference_of, refers}
 use Rattle.markdown_base.specs.declared.event.Event.{Event}
 use Rattle.markdown_base.specs.declared.item.Item.{Item}
 use Rattle.markdown_base.specs.declared.item.ItemBody.{ItemBody}
@@ -53,6 +53,18 @@ way_at_shape (unresolved b) = way.Open
 -- the way depends on the body alone
 abbrev pub way_at : ItemBody → Way
 way_at b = way_at_shape (shape_of no_tables [] b)
+
+-- the tag of a tree of this shape, where it reads as a Start and an End
+abbrev pub enclosing_tag : Shape → Option TagView
+enclosing_tag (leaf e origins) = None
+enclosing_tag (enclosed tag) = Some tag
+enclosing_tag plain = None
+enclosing_tag backslash_break = None
+enclosing_tag (unresolved b) = None
+
+-- the tag of a body that reads as a Start and an End and refers to nothing
+abbrev pub container_of : ItemBody → Option TagView
+container_of b = if refers (reference_of b) then None else enclosing_tag (shape_of no_tables [] b)
 
 -- the event of an item can be made: the item lies in the text, and the entries that it refers to exist
 pub record CanBegin (source : List ℕ) (tables : Tables) (item : Item) : Type 0 where

@@ -4,13 +4,13 @@ ghost use Rattle.markdown_base.specs.Event.{event_view, tag_view, link, image};
 ghost use Rattle.markdown_base.specs.CowText.{text_of};
 ghost use Rattle.markdown_base.specs.Item.{LiesIn, range_of};
 ghost use Rattle.markdown_defs.specs.AllocationCalls.{HasLink, LeavesEmptyLink};
-ghost use Rattle.markdown_document.specs.Document.{container_of, enclosed, math, shape_of};
+ghost use Rattle.markdown_document.specs.Document.{enclosed, math, shape_of};
 ghost use Rattle.markdown_document.specs.Places.{origin_start};
 ghost use Rattle.markdown_document.specs.PlacedNodes.{HasSliceLink, HasSlices};
 ghost use Rattle.markdown_document.specs.Tables.{link_at, tables_of};
 ghost use Rattle.markdown_document.specs.NamedEntries.{NamesEntries};
 ghost use Rattle.markdown_inline.specs.Slices.{TagIsFrom, slice_start, texts_of};
-ghost use Rattle.markdown_inline.specs.WalkSteps.{CanBegin, ClosesTo, OpensWith, TakesOnly, way_at};
+ghost use Rattle.markdown_inline.specs.WalkSteps.{CanBegin, ClosesTo, OpensWith, TakesOnly, container_of, way_at};
 
 use crate::heading::heading_start;
 use markdown_base::cow_str::CowStr;
@@ -62,7 +62,30 @@ pub fn way_of(body: ItemBody) -> Way
         | ItemBody::TaskListMarker(_) => Way::Leaf,
         ItemBody::Root | ItemBody::TightParagraph | ItemBody::MaybeDefinitionListTitle =>
             Way::Plain,
-        _ => Way::Start,
+        ItemBody::Emphasis
+        | ItemBody::Strong
+        | ItemBody::Strikethrough
+        | ItemBody::Superscript
+        | ItemBody::Subscript
+        | ItemBody::Link(_)
+        | ItemBody::Image(_)
+        | ItemBody::Paragraph
+        | ItemBody::Heading(_, _)
+        | ItemBody::FencedCodeBlock(_)
+        | ItemBody::IndentCodeBlock
+        | ItemBody::HtmlBlock
+        | ItemBody::BlockQuote(_)
+        | ItemBody::List(_, _, _)
+        | ItemBody::ListItem(_)
+        | ItemBody::FootnoteDefinition(_)
+        | ItemBody::MetadataBlock(_)
+        | ItemBody::DefinitionList(_)
+        | ItemBody::DefinitionListTitle
+        | ItemBody::DefinitionListDefinition(_)
+        | ItemBody::Table(_)
+        | ItemBody::TableHead
+        | ItemBody::TableRow
+        | ItemBody::TableCell => Way::Start,
     }
 }
 
@@ -88,6 +111,7 @@ pub fn leaf_event<'a>(text: &'a str, tables: &mut Allocations<'a>, item: Item) -
         ItemBody::SoftBreak => Event::SoftBreak,
         ItemBody::HardBreak(_) => Event::HardBreak,
         ItemBody::TaskListMarker(done) => Event::TaskListMarker(done),
+        // a thematic break: `leaf` excludes the rest, and for a new leaf `opens` fails here
         _ => Event::Rule,
     }
 }
@@ -119,6 +143,8 @@ pub fn start_tag<'a>(
         ItemBody::Table(ix) => Ok(Tag::Table(tables.take_alignment(ix))),
         ItemBody::Link(ix) => Ok(link_tag(tables, ix)),
         ItemBody::Image(ix) => Ok(image_tag(tables, ix)),
+        // the containers that refer to nothing: `start` and the arms above exclude the rest, and a new body that refers
+        // to something is no container, so that `tag` fails here
         _ => Ok(container_tag(body)),
     }
 }
@@ -147,6 +173,7 @@ fn container_tag<'a>(body: ItemBody) -> Tag<'a>
         ItemBody::Strikethrough => Tag::Strikethrough,
         ItemBody::Superscript => Tag::Superscript,
         ItemBody::Subscript => Tag::Subscript,
+        // a paragraph: of any other container `tag` fails here
         _ => Tag::Paragraph,
     }
 }
@@ -239,6 +266,7 @@ pub fn close_item(body: ItemBody) -> Option<TagEnd>
         ItemBody::Link(_) => Some(TagEnd::Link),
         ItemBody::Image(_) => Some(TagEnd::Image),
         ItemBody::MetadataBlock(kind) => Some(TagEnd::MetadataBlock(kind)),
+        // what is open, is one event or has none of its own: of a body that reads as a Start the clause fails here
         _ => None,
     }
 }

@@ -70,7 +70,8 @@ markup_found s above a true = option_map_or markup
     (markup_at (λ bytes. Some (prefix_below s above bytes)) (take above.block_end s.text) (start_of a) (end_of a))
     nothing
 
--- what is found at an item with this body, from the chain after it
+-- what is found at an item with this body, from the chain after it. Each body of kind `undecided_span` has its case:
+-- without one, it becomes a Text.
 abbrev pub find_by : {A : Type 0} → Setting → Above → ItemBody → Label A → Forest (Label A) → Find A
 find_by s above (body.MaybeCode count escaped) a rest =
     code_found s above a (code_close as_item (body.MaybeCode count escaped) (roots rest))

@@ -1,11 +1,12 @@
 -- A text, a link or alignments that a Start refers to are read and taken at once.
 use Rattle.std.proofs.Common.{refl, sym, ap}
-use Rattle.markdown_document.specs.Document.{container_of, enclosed}
+use Rattle.markdown_document.specs.Document.{enclosed}
 use Rattle.markdown_document.specs.Tables.{tables_of}
 use Rattle.markdown_inline.proofs.TakingLemmas.{text_at-read, alignments_at-read, heading_named, some_container}
 use Rattle.markdown_inline.proofs.TakingLemmas.{container_shape}
 use Rattle.markdown_inline.proofs.TakingLemmas.{takes_text, takes_link, takes_alignments, takes_nothing}
 use Rattle.markdown_inline.proofs.bodies.start_tag.Goals as goal
+use Rattle.markdown_inline.specs.WalkSteps.{container_of}
 
 pub heading_start-requires : goal.heading_start-requires
 heading_start-requires c = heading_named (tables_of c.args.tables.now) c.in-Heading.level c.in-Heading.named
