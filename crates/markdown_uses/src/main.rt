@@ -3,6 +3,7 @@
 
 mod contents;
 mod link_checker;
+mod link_rewriter;
 mod linter;
 mod site_generator;
 
@@ -10,7 +11,7 @@ use markdown::{Fault, Options};
 use std::alloc::Global;
 use std::process::ExitCode;
 
-/// The page of every use but the table of contents.
+/// The page of the site generator, the link checker and the linter.
 const PAGE: &str = "\
 # Bread
 Flour and water,
@@ -21,6 +22,12 @@ Flour and water,
 A <b>sourdough</b> takes longer.
 
 <hr>
+";
+
+/// The page of the link rewriter.
+const LINKS: &str = "\
+[Ovens](/ovens), [rye](rye.md \"A loaf\"), [host](//rye.example), ![a loaf](/loaf.png)
+and <https://rye.example/>.
 ";
 
 /// The page of the table of contents.
@@ -38,6 +45,8 @@ Glaze & fruit
 fn report(alloc: Global, source: &str) -> Result<String, Fault> {
     let mut notes = String::new(alloc);
     let html = site_generator::page_html(alloc, source, Options::empty())?;
+    notes.push_str(html.as_str())?;
+    let html = link_rewriter::absolute_html(alloc, LINKS, "https://bread.example")?;
     notes.push_str(html.as_str())?;
     let list = contents::contents(alloc, CHAPTERS)?;
     notes.push_str(list.as_str())?;
