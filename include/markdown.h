@@ -11,6 +11,11 @@
  * result in bytes, and writes the result to the caller's buffer if the whole fits. A caller tries with some buffer, and
  * if the number is greater than the length of the buffer, once more with a buffer of that length.
  *
+ * ## Safety of the HTML
+ *
+ * The HTML is not sanitised: raw HTML and destinations, `javascript:` among them, are as the author of the text wrote
+ * them. It is unsafe for strangers' text.
+ *
  * ## Pointers and lengths
  *
  * Lengths count bytes. No text ends with a NUL: none is read past `text_length` bytes, and none is written. No
@@ -57,7 +62,9 @@ extern "C" {
  * Bits that enable extensions. `MARKDOWN_DEFAULT` is CommonMark. Bits that are not listed here change nothing.
  */
 
-/** CommonMark without extensions. */
+/** CommonMark 0.31.2 without extensions. E-mail addresses in angle brackets, and named entities other than `&amp;`,
+ * `&lt;`, `&gt;` and `&quot;`, stay text.
+ */
 #define MARKDOWN_DEFAULT 0
 
 /** Footnotes in GitHub's style: `[^a]` and its definition `[^a]: text`. */
@@ -88,7 +95,7 @@ extern "C" {
  * ## Calls
  */
 
-/** Renders `text` as HTML.
+/** Renders `text` as HTML, which is not sanitised.
  *
  * Returns the length of the HTML in bytes. If that is at most `out_length`, the HTML is written to the front of `out`,
  * and the bytes after it are unchanged; otherwise `out` is unchanged. Returns `MARKDOWN_NOT_UTF8`, `MARKDOWN_NO_MEMORY`

@@ -1,4 +1,6 @@
-"""Calls of the library, over a shared object that is made of the static one."""
+"""Calls of the library, over a shared object that is made of the static one. The HTML is not sanitised: raw HTML and
+destinations are as the author of the text wrote them, so it is unsafe for strangers' text.
+"""
 import ctypes
 
 STRIKETHROUGH = 1 << 3

@@ -1,4 +1,5 @@
-//! Safe calls of the static library `libmarkdown_c.a`.
+//! Safe calls of the static library `libmarkdown_c.a`. The HTML is not sanitised: raw HTML and destinations are as the
+//! author of the text wrote them, so it is unsafe for strangers' text.
 
 /// Why there is nothing.
 #[derive(Clone, Copy, Debug, PartialEq, Eq)]
