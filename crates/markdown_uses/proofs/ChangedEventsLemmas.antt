@@ -27,7 +27,7 @@ module _ (change : EventView → EventView) {S : Type 0} (reads : S → Option I
   AreChanged s given = (read : List Event) × Drains reads s (items read)
       × (map event_view given ≡ map change (map event_view read))
 
-  module _ {Becomes : Item → Item → Type 0} (changes : Changes change Becomes) where
+  module _ (Becomes : Item → Item → Type 0) (changes : Changes change Becomes) where
     -- with one more before them
     before : (s t : S) (x : Item) (e : Event) (given : List Event) → reads s (Some x) t → Becomes x (Ok e)
         → AreChanged t given

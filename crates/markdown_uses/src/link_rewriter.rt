@@ -15,7 +15,11 @@ pub fn absolute_html(alloc: Global, source: &str, origin: &str) -> Result<String
 {
     let parser = Parser::new(alloc, source)?;
     let mut html = String::new(alloc);
-    let events = parser.map(|item| absolute_item(alloc, origin, item));
+    let events = parser.map(
+        |item|
+            ensures { IsAbsoluteItem origin.entry.now item.entry result }
+        { absolute_item(alloc, origin, item) },
+    );
     push_html(alloc, &mut html, events)?;
     Ok(html)
 }
