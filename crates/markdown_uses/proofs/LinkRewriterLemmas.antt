@@ -1,9 +1,9 @@
--- An item that becomes an event with its destination absolute is an event.
+-- An item that becomes an event with the site's address in its destination is an event.
 use Rattle.std.proofs.Common.{ℕ, List, Ok, Err, refl}
 use Rattle.markdown_uses.proofs.ChangedEventsLemmas.{Changes}
-use Rattle.markdown_uses.specs.LinkRewriter.{IsAbsoluteItem, absolute_event}
+use Rattle.markdown_uses.specs.LinkRewriter.{IsItemAtSite, event_at_site}
 
--- it is the event whose destination is then absolute
-pub changes_to_absolute : (origin : List ℕ) → Changes (absolute_event origin) (IsAbsoluteItem origin)
-changes_to_absolute origin (Ok read) e made = (read, refl, made)
-changes_to_absolute origin (Err fault) e made = cc made
+-- it is the event that is changed so
+pub changes_at_site : (site : List ℕ) → Changes (event_at_site site) (IsItemAtSite site)
+changes_at_site site (Ok read) e made = (read, refl, made)
+changes_at_site site (Err fault) e made = cc made

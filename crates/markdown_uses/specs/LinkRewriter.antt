@@ -1,4 +1,4 @@
--- The HTML of a text, with the origin of a site before each destination that is a path from the site's root.
+-- The HTML of a text, with the address of a site before each destination that is a path from the site's root.
 use Rattle.std.specs.Prelude.{◌≡◌, ◌++◌, ◌&&◌, ℕ, Bool, false, not, List, map, Result, Ok, Err, codes, nat_eq}
 use Rattle.std.specs.Prelude.{if◌then◌else◌}
 use Rattle.std.specs.List.{starts_with}
@@ -14,30 +14,30 @@ abbrev pub is_root_relative : List ℕ → Bool
 is_root_relative destination =
     starts_with nat_eq destination (codes "/") && not (starts_with nat_eq destination (codes "//"))
 
--- the destination with the origin before it, if it is a path from the root
-abbrev pub absolute : List ℕ → List ℕ → List ℕ
-absolute origin destination = if is_root_relative destination then origin ++ destination else destination
+-- a destination, with the site's address before it if it is a path from the root
+abbrev pub destination_at_site : List ℕ → List ℕ → List ℕ
+destination_at_site site destination = if is_root_relative destination then site ++ destination else destination
 
--- a tag whose destination, if it has one, is absolute
-abbrev pub absolute_tag : List ℕ → TagView → TagView
-absolute_tag origin (link l) = link (record l { destination = absolute origin l.destination })
-absolute_tag origin (image l) = image (record l { destination = absolute origin l.destination })
-absolute_tag origin other = other
+-- a tag: the destination of a link or an image is changed so, and other tags stay the same
+abbrev pub tag_at_site : List ℕ → TagView → TagView
+tag_at_site site (link l) = link (record l { destination = destination_at_site site l.destination })
+tag_at_site site (image l) = image (record l { destination = destination_at_site site l.destination })
+tag_at_site site other = other
 
--- an event whose destination, if it has one, is absolute
-abbrev pub absolute_event : List ℕ → EventView → EventView
-absolute_event origin (start tag) = start (absolute_tag origin tag)
-absolute_event origin other = other
+-- an event: the tag that it begins is changed so, and other events stay the same
+abbrev pub event_at_site : List ℕ → EventView → EventView
+event_at_site site (start tag) = start (tag_at_site site tag)
+event_at_site site other = other
 
--- the second item is the first, with its destination absolute; where that is refused, it is the error
-abbrev pub IsAbsoluteItem : List ℕ → Result Event Fault → Result Event Fault → Type 0
-IsAbsoluteItem origin (Ok e) (Ok made) = event_view made ≡ absolute_event origin (event_view e)
-IsAbsoluteItem origin (Ok e) (Err fault) = fault ≡ Fault.Memory
-IsAbsoluteItem origin (Err fault) made = made ≡ Err fault
+-- an item and what becomes of it: its event is changed so, unless memory for that is refused; an error stays the same
+abbrev pub IsItemAtSite : List ℕ → Result Event Fault → Result Event Fault → Type 0
+IsItemAtSite site (Ok e) (Ok made) = event_view made ≡ event_at_site site (event_view e)
+IsItemAtSite site (Ok e) (Err fault) = fault ≡ Fault.Memory
+IsItemAtSite site (Err fault) made = made ≡ Err fault
 
--- this is the HTML of the events of a block result of the text, each with its destination absolute
-pub record IsAbsoluteHtmlOf (text origin html : List ℕ) : Type 0 where
+-- this is the HTML of the events of a block result of the text, each changed so
+pub record IsHtmlAtSite (text site html : List ℕ) : Type 0 where
   pub blocks : Blocks
   pub of_text : IsOfText text no_options blocks
   pub written : (answers : Answers)
-      → html ≡ html_of (map (absolute_event origin) (views_of (reading_of blocks false answers)))
+      → html ≡ html_of (map (event_at_site site) (views_of (reading_of blocks false answers)))

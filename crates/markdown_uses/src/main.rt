@@ -46,7 +46,7 @@ fn report(alloc: Global, source: &str) -> Result<String, Fault> {
     let mut notes = String::new(alloc);
     let html = site_generator::page_html(alloc, source, Options::empty())?;
     notes.push_str(html.as_str())?;
-    let html = link_rewriter::absolute_html(alloc, LINKS, "https://bread.example")?;
+    let html = link_rewriter::html_at_site(alloc, LINKS, "https://bread.example")?;
     notes.push_str(html.as_str())?;
     let list = contents::contents(alloc, CHAPTERS)?;
     notes.push_str(list.as_str())?;
