@@ -34,18 +34,47 @@ pub fn tree_of(alloc: Global, outline: Outline<'_>) -> Result<Tree<Item>, AllocE
     let mut tree = Tree::new(alloc)?;
     let mut depth = 0;
     for (wanted, item) in outline {
-        if *wanted > depth {
-            if let Some(_above) = tree.cur() {
-                tree.push()?;
-            }
-        }
-        for _ in *wanted..depth {
-            tree.pop();
-        }
+        append_at(&mut tree, depth, *wanted, *item)?;
         depth = *wanted;
-        tree.append(*item)?;
     }
     Ok(tree)
+}
+
+/// An item as a row of a table: its depth below the root, its range and its body.
+pub type Node = (usize, usize, usize, ItemBody);
+
+/// The body of a text that no backslash precedes.
+pub const TEXT: ItemBody = ItemBody::Text {
+    backslash_escaped: false,
+};
+
+/// Returns a tree of these items in preorder.
+pub fn tree_of_nodes(alloc: Global, nodes: &[Node]) -> Result<Tree<Item>, AllocError> {
+    let mut tree = Tree::new(alloc)?;
+    let mut depth = 0;
+    for &(wanted, start, end, body) in nodes {
+        append_at(&mut tree, depth, wanted, Item { start, end, body })?;
+        depth = wanted;
+    }
+    Ok(tree)
+}
+
+/// Appends an item at a depth, where the cursor is at the given one.
+fn append_at(
+    tree: &mut Tree<Item>,
+    depth: usize,
+    wanted: usize,
+    item: Item,
+) -> Result<usize, AllocError> {
+    if wanted > depth {
+        if let Some(_above) = tree.cur() {
+            tree.push()?;
+        }
+    }
+    for _ in wanted..depth {
+        tree.pop();
+    }
+    tree.append(item)
 }
 
 /// Returns a tree of `count` copies of an item, each in the one before it.

@@ -8,10 +8,11 @@ use markdown_base::block_parts::BlockParts;
 use markdown_base::cow_str::CowStr;
 use markdown_base::item::{Item, ItemBody};
 use markdown_base::tag::HeadingLevel;
+use markdown_base::tree::Tree;
 use markdown_builder::builder::Builder;
 use markdown_builder::run_end;
 use markdown_test_helpers::rows::gives;
-use markdown_test_helpers::trees::{delimiter, text};
+use markdown_test_helpers::trees::{TEXT, push_items};
 use std::alloc::{AllocError, Global};
 use std::test::Fail;
 
@@ -35,24 +36,51 @@ fn open_tight_list(builder: &mut Builder<'_>) -> Result<(), AllocError>
     Ok(())
 }
 
+/// Returns a body as `Debug` prints it.
+fn printed(alloc: Global, body: ItemBody) -> Result<String, AllocError> {
+    format!(in alloc; "{body:?}")
+}
+
+/// Returns the items of a tree in preorder.
+fn listed(alloc: Global, tree: &mut Tree<Item>) -> Result<String, AllocError> {
+    let mut list = String::new(alloc);
+    push_items(alloc, &mut list, tree, printed)?;
+    Ok(list)
+}
+
+/// Returns the tree that was built, or None where a block is open or text is left.
+fn finished(builder: Builder<'_>) -> Option<Tree<Item>> {
+    if !builder.open_blocks().is_empty() || builder.at() != builder.text().as_bytes().len() {
+        drop(builder);
+        return None;
+    }
+    let (tree, parts) = builder.finish();
+    drop(parts);
+    Some(tree)
+}
+
+/// Checks the items of what was built, and that their tree is well-formed.
+fn has_items(alloc: Global, builder: Builder<'static>, wanted: &str) -> Result<(), Fail> {
+    let over = builder.text();
+    let Some(mut tree) = finished(builder) else {
+        return gives(over, "open", "closed");
+    };
+    let list = listed(alloc, &mut tree);
+    let is_formed = is_well_formed(alloc, over, tree);
+    gives(over, list?.as_str(), wanted)?;
+    gives(over, is_formed?, true)
+}
+
 #[test]
 fn paragraphs_of_a_tight_list_are_tight(rt: HostRuntime) -> Result<(), Fail> {
     let mut builder = Builder::new(rt.alloc(), "- a\n")?;
     open_tight_list(&mut builder)?;
     close_blocks(&mut builder, 3);
-    assert!(rt; builder.open_blocks().is_empty());
-    assert_eq!(rt; builder.at(), builder.text().as_bytes().len());
-    let (tree, _parts) = builder.finish();
-    assert_eq!(rt; tree.len(), 4);
-    assert_eq!(rt;
-        *tree.item(3),
-        Item {
-            start: 0,
-            end: 4,
-            body: ItemBody::TightParagraph,
-        }
-    );
-    Ok(())
+    has_items(
+        rt.alloc(),
+        builder,
+        "0 List(true, 45, 0) 0..4;1 ListItem(2) 0..4;2 TightParagraph 0..4;",
+    )
 }
 
 #[test]
@@ -62,18 +90,7 @@ fn a_paragraph_becomes_a_heading(rt: HostRuntime) -> Result<(), Fail> {
     builder.skip(4);
     builder.change(ItemBody::Heading(HeadingLevel::H1, None));
     builder.close();
-    assert!(rt; builder.open_blocks().is_empty());
-    let (tree, _parts) = builder.finish();
-    assert_eq!(rt; tree.len(), 2);
-    assert_eq!(rt;
-        *tree.item(1),
-        Item {
-            start: 0,
-            end: 4,
-            body: ItemBody::Heading(HeadingLevel::H1, None),
-        }
-    );
-    Ok(())
+    has_items(rt.alloc(), builder, "0 Heading(H1, None) 0..4;")
 }
 
 /// Returns the definitions, footnotes and texts of parts.
@@ -106,31 +123,29 @@ fn definitions_and_footnotes_are_kept(rt: HostRuntime) -> Result<(), Fail> {
     gives("parts", held?.as_str(), "[a]: b 0..6; [^n]; n; ")
 }
 
-#[test]
-fn delimiter_runs_are_whole(rt: HostRuntime) -> Result<(), Fail> {
+/// Returns a paragraph with a run of two `*` that can open, a letter, and a `*` that can close; or nothing, where the runs
+/// do not end at 2 and 4.
+fn runs(alloc: Global) -> Result<Builder<'static>, AllocError> {
     let over = "**a*";
     let first = run_end(over, 0, b'*');
     let second = run_end(over, 3, b'*');
-    assert_eq!(rt; first, 2);
-    assert_eq!(rt; second, 4);
-    let mut builder = Builder::new(rt.alloc(), over)?;
-    builder.open(ItemBody::Paragraph)?;
-    builder.run(b'*', first, true, false)?;
-    builder.inline(
-        ItemBody::Text {
-            backslash_escaped: false,
-        },
-        3,
-    )?;
-    builder.run(b'*', second, false, true)?;
-    builder.close();
-    assert!(rt; builder.open_blocks().is_empty());
-    let (tree, _parts) = builder.finish();
-    assert_eq!(rt; tree.len(), 6);
-    assert_eq!(rt; *tree.item(2), delimiter(0, 2, true, false));
-    assert_eq!(rt; *tree.item(3), delimiter(1, 1, true, false));
-    assert_eq!(rt; *tree.item(4), text(2, 3));
-    assert_eq!(rt; *tree.item(5), delimiter(3, 1, false, true));
-    assert!(rt; is_well_formed(rt.alloc(), over, tree)?);
-    Ok(())
+    let mut builder = Builder::new(alloc, over)?;
+    if first == 2 && second == 4 {
+        builder.open(ItemBody::Paragraph)?;
+        builder.run(b'*', first, true, false)?;
+        builder.inline(TEXT, 3)?;
+        builder.run(b'*', second, false, true)?;
+        builder.close();
+    }
+    Ok(builder)
+}
+
+#[test]
+fn delimiter_runs_are_whole(rt: HostRuntime) -> Result<(), Fail> {
+    has_items(
+        rt.alloc(),
+        runs(rt.alloc())?,
+        "0 Paragraph 0..4;1 MaybeEmphasis(2, true, false) 0..1;1 MaybeEmphasis(1, true, false) 1..2;\
+        1 Text { backslash_escaped: false } 2..3;1 MaybeEmphasis(1, false, true) 3..4;",
+    )
 }

@@ -13,20 +13,23 @@ use markdown_test_helpers::trees::{item, nested, push_items, text, tree_of};
 use std::alloc::{AllocError, Global};
 use std::test::Fail;
 
+/// Returns a tree of `count` rules side by side.
+fn wide(alloc: Global, count: u32) -> Result<Tree<Item>, AllocError> {
+    let mut tree = Tree::new(alloc)?;
+    for _ in 0..count {
+        tree.append(item(0, 1, ItemBody::Rule))?;
+    }
+    Ok(tree)
+}
+
 #[test]
 fn empty_large_and_deep(rt: HostRuntime) -> Result<(), Fail> {
     let alloc = rt.alloc();
-    assert!(rt; is_well_formed(alloc, "", Tree::new(alloc)?)?);
-
-    let mut wide = Tree::new(alloc)?;
-    for _ in 0..1_000_000u32 {
-        wide.append(item(0, 1, ItemBody::Rule))?;
-    }
-    assert!(rt; is_well_formed(alloc, "a", wide)?);
-
-    let deep = nested(alloc, item(0, 1, ItemBody::BlockQuote(None)), 100_000)?;
-    assert!(rt; is_well_formed(alloc, "a", deep)?);
-    Ok(())
+    let empty = is_well_formed(alloc, "", Tree::new(alloc)?)?;
+    let large = is_well_formed(alloc, "a", wide(alloc, 1_000_000)?)?;
+    let quote = item(0, 1, ItemBody::BlockQuote(None));
+    let deep = is_well_formed(alloc, "a", nested(alloc, quote, 100_000)?)?;
+    gives("empty, large and deep", [empty, large, deep], [true; 3])
 }
 
 #[test]

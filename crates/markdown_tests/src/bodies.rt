@@ -21,7 +21,7 @@ fn ends_with(tag: Tag<'_>, end: TagEnd) -> bool {
 }
 
 #[test]
-fn each_block_has_its_end(rt: HostRuntime) {
+fn each_block_has_its_end(rt: HostRuntime) -> Result<(), Fail> {
     let alloc = rt.alloc();
     let heading = ends_with(
         Tag::Heading {
@@ -57,7 +57,7 @@ fn each_block_has_its_end(rt: HostRuntime) {
         ),
         ends_with(Tag::MetadataBlock(yaml), TagEnd::MetadataBlock(yaml)),
     ];
-    assert_eq!(rt; ended, [true; 14]);
+    gives("ends", ended, [true; 14])
 }
 
 #[test]
@@ -88,20 +88,23 @@ fn each_other_start_has_its_end(rt: HostRuntime) -> Result<(), Fail> {
         ends_with(Tag::Superscript, TagEnd::Superscript),
         ends_with(Tag::Subscript, TagEnd::Subscript),
     ];
-    assert_eq!(rt; ended, [true; 11]);
-    Ok(())
+    gives("ends", ended, [true; 11])
 }
 
 #[test]
-fn options_have_upstream_bits(rt: HostRuntime) -> Result<(), Fail> {
+fn options_have_upstream_bits() -> Result<(), Fail> {
     let mut options = Options::ENABLE_TABLES;
-    assert_eq!(rt; options.bits(), 2);
+    let one = options.bits();
     options.insert(Options::ENABLE_OLD_FOOTNOTES);
-    assert_eq!(rt; options.bits(), 518);
-    assert!(rt; options.contains(Options::ENABLE_FOOTNOTES));
-    assert_eq!(rt; Options::ENABLE_WIKILINKS.bits(), 32768);
-    assert_eq!(rt; Options::from_bits_retain(4).bits(), 4);
-    Ok(())
+    let bits = [
+        one,
+        options.bits(),
+        Options::ENABLE_WIKILINKS.bits(),
+        Options::from_bits_retain(4).bits(),
+    ];
+    gives("bits", bits, [2, 518, 32768, 4])?;
+    let has_footnotes = options.contains(Options::ENABLE_FOOTNOTES);
+    gives("old footnotes are footnotes", has_footnotes, true)
 }
 
 #[test]
@@ -109,25 +112,34 @@ fn bodies_are_of_kinds() -> Result<(), Fail> {
     let heading = ItemBody::Heading(HeadingLevel::H1, Some(HeadingIndex(1)));
     let [code, other_code] = [ItemBody::Code(CowIndex(3)), ItemBody::Code(CowIndex(2))];
     let link = ItemBody::Link(LinkIndex(0));
+    let kinds = [
+        ItemBody::MaybeLinkOpen.is_open(),
+        ItemBody::SoftBreak.is_inline(),
+        ItemBody::Rule.is_childless(),
+        link.is_resolved(),
+        ItemBody::TightParagraph.is_tight_paragraph(),
+        ItemBody::Root.is_unplaced(),
+        link == ItemBody::Link(LinkIndex(0)),
+        Fault::from(AllocError) == Fault::Memory,
+    ];
+    gives("what is so", kinds, [true; 8])?;
+    let other_kinds = [
+        ItemBody::SoftBreak.is_open(),
+        ItemBody::Rule.is_inline(),
+        code == other_code,
+        heading == ItemBody::Heading(HeadingLevel::H1, None),
+    ];
+    gives("what is not so", other_kinds, [false; 4])?;
     let table = ItemBody::Table(AlignmentIndex(2));
-    for &(told, wanted) in &[
-        (ItemBody::MaybeLinkOpen.is_open(), true),
-        (ItemBody::SoftBreak.is_open(), false),
-        (ItemBody::SoftBreak.is_inline(), true),
-        (ItemBody::Rule.is_inline(), false),
-        (ItemBody::Rule.is_childless(), true),
-        (link.is_resolved(), true),
-        (ItemBody::TightParagraph.is_tight_paragraph(), true),
-        (ItemBody::Root.is_unplaced(), true),
-        (code.text_named() == Some(CowIndex(3)), true),
-        (table.alignments_named() == Some(AlignmentIndex(2)), true),
-        (heading.attributes_named() == Some(HeadingIndex(1)), true),
-        (code == other_code, false),
-        (link == ItemBody::Link(LinkIndex(0)), true),
-        (heading == ItemBody::Heading(HeadingLevel::H1, None), false),
-        (Fault::from(AllocError) == Fault::Memory, true),
-    ] {
-        gives("a kind", told, wanted)?;
-    }
-    Ok(())
+    gives("a text", code.text_named(), Some(CowIndex(3)))?;
+    gives(
+        "alignments",
+        table.alignments_named(),
+        Some(AlignmentIndex(2)),
+    )?;
+    gives(
+        "attributes",
+        heading.attributes_named(),
+        Some(HeadingIndex(1)),
+    )
 }

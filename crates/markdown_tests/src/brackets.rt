@@ -177,6 +177,46 @@ fn look_up<'a, F: BrokenLinkCallback<'a>>(
     }
 }
 
+/// Returns whether a label finds a link of this type with this destination, or nothing for None, and what is then left of
+/// the limit.
+fn finds<'a, F: BrokenLinkCallback<'a>>(
+    alloc: Global,
+    lookup: &mut LabelLookup<'a, F>,
+    label: &'a str,
+    wanted: Option<(LinkType, &str)>,
+) -> Result<(bool, usize), Fault>
+    requires { IfSome lookup.old.callback F.can_ask }
+    ensures { IfSome lookup.new.callback F.can_ask }
+{
+    let found = look_up(alloc, lookup, label)?;
+    let is_so = match &found {
+        Some((kind, destination)) => wanted == Some((*kind, destination.as_str())),
+        None => wanted.is_none(),
+    };
+    drop(found);
+    Ok((is_so, lookup.limit))
+}
+
+/// Looks up a label that is defined, one that is not, the same again, and the first again: an answer longer than what is
+/// left of the limit is accepted, and there is no question for the next label. Returns whether each finds what it should,
+/// and what is then left of the limit.
+fn look_up_each<'a, F: BrokenLinkCallback<'a>>(
+    alloc: Global,
+    lookup: &mut LabelLookup<'a, F>,
+) -> Result<[(bool, usize); 4], Fault>
+    requires { IfSome lookup.old.callback F.can_ask }
+    ensures { IfSome lookup.new.callback F.can_ask }
+{
+    let defined = Some((LinkType::Shortcut, "/u"));
+    let answered = Some((LinkType::ShortcutUnknown, "YOLO"));
+    Ok([
+        finds(alloc, lookup, "a", defined)?,
+        finds(alloc, lookup, "b", answered)?,
+        finds(alloc, lookup, "b", None)?,
+        finds(alloc, lookup, "a", None)?,
+    ])
+}
+
 #[test]
 fn look_ups_ask_while_the_limit_lasts(rt: HostRuntime) -> Result<(), Fail> {
     let tables = Allocations::new(rt.alloc(), defining(rt.alloc(), &[("A", "/u")])?)?;
@@ -195,22 +235,14 @@ fn look_ups_ask_while_the_limit_lasts(rt: HostRuntime) -> Result<(), Fail> {
         limit: 5,
         callback,
     };
-    let alloc = rt.alloc();
-    let defined = look_up(alloc, &mut lookup, "a")?;
-    assert_eq!(rt; defined, Some((LinkType::Shortcut, CowStr::Borrowed("/u"))));
-    assert_eq!(rt; lookup.limit, 3);
-    // an answer longer than what is left is accepted, and there is no question for the next label
-    let answered = look_up(alloc, &mut lookup, "b")?;
-    assert_eq!(rt;
-        answered,
-        Some((LinkType::ShortcutUnknown, CowStr::Borrowed("YOLO")))
-    );
-    assert_eq!(rt; lookup.limit, 0);
-    assert_eq!(rt; look_up(alloc, &mut lookup, "b")?, None);
-    assert_eq!(rt; look_up(alloc, &mut lookup, "a")?, None);
+    let found = look_up_each(rt.alloc(), &mut lookup);
     drop(lookup);
-    assert_eq!(rt; asked, 1);
-    Ok(())
+    gives("asked", asked, 1)?;
+    gives(
+        "found and left",
+        found?,
+        [(true, 3), (true, 0), (true, 0), (true, 0)],
+    )
 }
 
 #[test]
@@ -221,23 +253,37 @@ fn look_ups_with_nobody_to_ask(rt: HostRuntime) -> Result<(), Fail> {
         limit: 9,
         callback: nobody,
     };
-    assert_eq!(rt; look_up(rt.alloc(), &mut lookup, "a")?, None);
-    assert_eq!(rt; lookup.limit, 9);
-    Ok(())
+    let found = finds(rt.alloc(), &mut lookup, "a", None);
+    drop(lookup);
+    gives("found and left", found?, (true, 9))
+}
+
+/// Returns allocations with the footnote `A`.
+fn one_footnote<'a>(alloc: Global) -> Result<Allocations<'a>, Fault> {
+    let mut parts = no_parts(alloc);
+    parts.footnotes = vec![in alloc; CowStr::Borrowed("A")]?;
+    Allocations::new(alloc, parts)
+}
+
+/// Uses a footnote that is defined, and one that is not, in each style. Returns whether each is a reference, and how often
+/// the one that is defined has then been used.
+fn use_each(held: &mut Allocations<'_>) -> Result<([bool; 4], Option<usize>), Fault> {
+    let used = [
+        use_footnote(&mut held.footdefs, FootnoteStyle::Gfm, "a")?,
+        use_footnote(&mut held.footdefs, FootnoteStyle::Gfm, "b")?,
+        use_footnote(&mut held.footdefs, FootnoteStyle::Old, "b")?,
+        use_footnote(&mut held.footdefs, FootnoteStyle::Old, "A")?,
+    ];
+    let found = held.footdefs.get_mut(CowStr::Borrowed("a"))?;
+    Ok((used, found.map(|footnote| footnote.use_count)))
 }
 
 #[test]
 fn footnotes_are_references_by_their_style(rt: HostRuntime) -> Result<(), Fail> {
-    let mut parts = no_parts(rt.alloc());
-    parts.footnotes.push(CowStr::Borrowed("A"))?;
-    let mut held = Allocations::new(rt.alloc(), parts)?;
-    assert!(rt; use_footnote(&mut held.footdefs, FootnoteStyle::Gfm, "a")?);
-    assert!(rt; !use_footnote(&mut held.footdefs, FootnoteStyle::Gfm, "b")?);
-    assert!(rt; use_footnote(&mut held.footdefs, FootnoteStyle::Old, "b")?);
-    assert!(rt; use_footnote(&mut held.footdefs, FootnoteStyle::Old, "A")?);
-    let used = held.footdefs.get_mut(CowStr::Borrowed("a"))?;
-    assert_eq!(rt; used.map(|footnote| footnote.use_count), Some(2));
-    Ok(())
+    let mut held = one_footnote(rt.alloc())?;
+    let used = use_each(&mut held);
+    drop(held);
+    gives("uses", used?, ([true, false, true, true], Some(2)))
 }
 
 /// Returns the text of a wikilink with this body, and whether its name is this one.
@@ -266,6 +312,26 @@ fn bodies_of_wikilinks(rt: HostRuntime) -> Result<(), Fail> {
     Ok(())
 }
 
+fn opener(node: usize, is_image: bool) -> Opener {
+    Opener { node, is_image }
+}
+
+/// Finishes a link at the second of two openers. Returns what the list then has, from the nearest opener on.
+fn left_after_link(
+    openers: &mut ChainOpeners,
+    first: Opener,
+    second: Opener,
+) -> Result<[Option<(Opener, bool)>; 3], Fault> {
+    openers.brackets.push(first)?;
+    openers.brackets.push(second)?;
+    let nearest = openers.brackets.take_nearest();
+    openers.finish_link(second);
+    let earlier = openers.brackets.take_nearest();
+    let none = openers.brackets.take_nearest();
+    openers.clear();
+    Ok([nearest, earlier, none])
+}
+
 /// The first opener is that of a bracket or of an image, and a link is made from the second.
 #[test]
 fn links_disable_earlier_brackets_and_images_do_not(rt: HostRuntime) -> Result<(), Fail> {
@@ -275,21 +341,13 @@ fn links_disable_earlier_brackets_and_images_do_not(rt: HostRuntime) -> Result<(
         (true, false, true),
         (false, true, true),
     ] {
-        let first = Opener {
-            node: 1,
-            is_image: outer,
-        };
-        let second = Opener {
-            node: 3,
-            is_image: inner,
-        };
-        openers.brackets.push(first)?;
-        openers.brackets.push(second)?;
-        assert_eq!(rt; openers.brackets.take_nearest(), Some((second, true)));
-        openers.finish_link(second);
-        assert_eq!(rt; openers.brackets.take_nearest(), Some((first, live)));
-        assert_eq!(rt; openers.brackets.take_nearest(), None);
-        openers.clear();
+        let (first, second) = (opener(1, outer), opener(3, inner));
+        let found = left_after_link(&mut openers, first, second)?;
+        gives(
+            (outer, inner),
+            found,
+            [Some((second, true)), Some((first, live)), None],
+        )?;
     }
     Ok(())
 }

@@ -6,6 +6,7 @@ use markdown_base::tag::LinkType;
 use markdown_defs::{
     BoxedCallback, BrokenLink, BrokenLinkCallback, Closure, DefaultBrokenLinkCallback,
 };
+use markdown_test_helpers::rows::gives;
 use std::ops::Range;
 use std::test::Fail;
 
@@ -54,7 +55,7 @@ impl BoxedCallback for Second {
 }
 
 #[test]
-fn a_closure_answers_and_keeps_count(rt: HostRuntime) -> Result<(), Fail> {
+fn a_closure_answers_and_keeps_count() -> Result<(), Fail> {
     let mut asked = 0u8;
     let mut closure = Closure::new(
         |link| -> Option<(CowStr, CowStr)>
@@ -65,24 +66,26 @@ fn a_closure_answers_and_keeps_count(rt: HostRuntime) -> Result<(), Fail> {
             Some((CowStr::Borrowed("url"), CowStr::Borrowed("title")))
         },
     );
-    for _ in 0..2 {
-        assert!(rt; answers(&mut closure, Some("url")));
-    }
+    let answered = [
+        answers(&mut closure, Some("url")),
+        answers(&mut closure, Some("url")),
+    ];
     drop(closure);
-    assert_eq!(rt; asked, 2);
-    Ok(())
+    gives("answers and questions", (answered, asked), ([true; 2], 2))
 }
 
 #[test]
 fn a_boxed_object_answers_and_the_default_does_not(rt: HostRuntime) -> Result<(), Fail> {
     let mut none = DefaultBrokenLinkCallback;
-    assert!(rt; answers(&mut none, None));
+    let is_silent = answers(&mut none, None);
     let mut boxed: Box<dyn BoxedCallback> = Box::new(rt.alloc(), Second { asked: 0 })?;
-    for &wanted in &[None, Some("url")] {
-        assert!(rt; answers(&mut boxed, wanted));
-    }
+    let answered = [
+        is_silent,
+        answers(&mut boxed, None),
+        answers(&mut boxed, Some("url")),
+    ];
     drop(boxed);
-    Ok(())
+    gives("answers", answered, [true; 3])
 }
 
 #[test]
@@ -94,13 +97,12 @@ fn broken_links_are_freed_from_the_source(rt: HostRuntime) -> Result<(), Fail> {
         reference: CowStr::from(label),
     };
     let made = link.into_static(rt.alloc())?;
-    let held = (
+    let held = [
         made.span == (4..9),
         made.link_type == LinkType::Reference,
         matches!(&made.reference, CowStr::Boxed(_)),
         made.reference.as_str() == label,
-    );
+    ];
     drop(made);
-    assert_eq!(rt; held, (true, true, true, true));
-    Ok(())
+    gives("what is held", held, [true; 4])
 }

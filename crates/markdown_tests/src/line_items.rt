@@ -3,6 +3,7 @@ ghost use Rattle.std.specs.Prelude.{◌≡◌, ◌≤◌, false, length, IfOk};
 ghost use Rattle.std.specs.Str.{IsCharBoundary};
 
 use crate::block_rules::is_well_formed;
+use markdown_base::cow_str::CowStr;
 use markdown_base::item::{Item, ItemBody};
 use markdown_base::options::Options;
 use markdown_base::tree::Tree;
@@ -25,14 +26,18 @@ fn row_of(alloc: Global, item: Item) -> Result<String, AllocError> {
     }
 }
 
-/// Returns the items of a tree from the third on, each with its range.
-fn rows_of(alloc: Global, tree: &Tree<Item>) -> Result<String, AllocError> {
+/// Returns the items of a tree from the third on, each with its range, and then the texts that they refer to.
+fn rows_of(alloc: Global, tree: &Tree<Item>, texts: &[CowStr<'_>]) -> Result<String, AllocError> {
     let mut list = String::new(alloc);
     for ix in 2..tree.len() {
         let row = row_of(alloc, *tree.item(ix))?;
         let done = list.push_str(row.as_str());
         drop(row);
         done?;
+    }
+    for text in texts {
+        list.push_str(text.as_str())?;
+        list.push_str(";")?;
     }
     Ok(list)
 }
@@ -77,7 +82,7 @@ fn part_listed(
         return Ok(String::new(alloc));
     }
     let (tree, parts) = builder.finish();
-    let rows = rows_of(alloc, &tree);
+    let rows = rows_of(alloc, &tree, &parts.cows);
     drop(tree);
     drop(parts);
     rows
@@ -214,10 +219,14 @@ fn brackets_and_entities(rt: HostRuntime) -> Result<(), Fail> {
             ("a<b>", "Text 0..1;MaybeHtml 1..2;Text 2..4;"),
             (
                 "a&amp;b&#65;",
-                "Text 0..1;SynthesizeText(CowIndex(0)) 1..6;Text 6..7;SynthesizeText(CowIndex(1)) 7..12;",
+                "Text 0..1;SynthesizeText(CowIndex(0)) 1..6;Text 6..7;SynthesizeText(CowIndex(1)) 7..12;&;A;",
             ),
             ("&copy;&amp", "Text 0..10;"),
-            ("&&gt;", "Text 0..1;SynthesizeText(CowIndex(0)) 1..5;"),
+            ("&&gt;", "Text 0..1;SynthesizeText(CowIndex(0)) 1..5;>;"),
+            (
+                "&lt;&#xe9;",
+                "SynthesizeText(CowIndex(0)) 0..4;SynthesizeText(CowIndex(1)) 4..10;<;é;",
+            ),
             ("~a~ ^b^ 'c' \"d\" $e$", "Text 0..19;"),
         ],
     )
@@ -300,39 +309,50 @@ fn a_line_is_read_alone(rt: HostRuntime) -> Result<(), Fail> {
     Ok(())
 }
 
-#[test]
-fn a_run_that_was_cut_stays_one_run(rt: HostRuntime) -> Result<(), Fail> {
-    let mut builder = Builder::new(rt.alloc(), "a**b")?;
+/// Appends a paragraph over a text, whose items are read up to `cut`, and then up to the end.
+fn place_cut(builder: &mut Builder<'_>, cut: usize) -> Result<(), AllocError>
+    requires outside { builder.old.leaf ≡ false }
+    requires fresh { builder.old.at ≡ 0 }
+    requires boundary { IsCharBoundary builder.old.text cut }
+{
     builder.open(ItemBody::Paragraph)?;
-    items(&mut builder, 2, Options::ENABLE_GFM)?;
-    items(&mut builder, 4, Options::ENABLE_GFM)?;
+    items(builder, cut, Options::ENABLE_GFM)?;
+    items(
+        builder,
+        builder.text().as_bytes().len(),
+        Options::ENABLE_GFM,
+    )?;
     builder.close();
-    assert!(rt; builder.open_blocks().is_empty());
-    let (tree, _parts) = builder.finish();
-    assert_eq!(rt; tree.len(), 5);
-    assert_eq!(rt; tree.item(3).body, ItemBody::MaybeEmphasis(1, false, true));
-    assert_eq!(rt;
-        tree.item(4).body,
-        ItemBody::Text {
-            backslash_escaped: false,
-        }
-    );
-    assert!(rt; is_well_formed(rt.alloc(), "a**b", tree)?);
     Ok(())
 }
 
-#[test]
-fn entities_are_kept(rt: HostRuntime) -> Result<(), Fail> {
-    let text = "&lt;&#xe9;";
-    let mut builder = Builder::new(rt.alloc(), text)?;
-    builder.open(ItemBody::Paragraph)?;
-    items(&mut builder, 10, Options::ENABLE_GFM)?;
-    builder.close();
-    assert!(rt; builder.open_blocks().is_empty());
+/// Returns the items of a text that are read up to `cut`, and then up to the end, and whether their tree is well-formed.
+fn cut_listed(
+    alloc: Global,
+    text: &'static str,
+    cut: usize,
+) -> Result<Option<(String, bool)>, Fail> {
+    if !text.is_char_boundary(cut) {
+        return Ok(None);
+    }
+    let mut builder = Builder::new(alloc, text)?;
+    place_cut(&mut builder, cut)?;
+    if !builder.open_blocks().is_empty() || builder.at() != text.as_bytes().len() {
+        drop(builder);
+        return Ok(None);
+    }
     let (tree, parts) = builder.finish();
-    assert_eq!(rt; tree.len(), 4);
-    assert_eq!(rt; parts.cows.len(), 2);
-    assert_eq!(rt; parts.cows[0].as_str(), "<");
-    assert_eq!(rt; parts.cows[1].as_str(), "é");
-    Ok(())
+    let rows = rows_of(alloc, &tree, &parts.cows);
+    drop(parts);
+    let is_formed = is_well_formed(alloc, text, tree);
+    Ok(Some((rows?, is_formed?)))
+}
+
+#[test]
+fn a_run_that_was_cut_stays_one_run(rt: HostRuntime) -> Result<(), Fail> {
+    let Some((list, is_formed)) = cut_listed(rt.alloc(), "a**b", 2)? else {
+        return gives("a**b", "open", "closed");
+    };
+    let wanted = "Text 0..1;MaybeEmphasis(1, false, true) 1..2;Text 2..4;";
+    gives("a**b", (list.as_str(), is_formed), (wanted, true))
 }

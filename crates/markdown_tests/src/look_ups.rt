@@ -165,27 +165,32 @@ fn count_one_use(
     Ok((before, is_defined, is_counted, after))
 }
 
+/// A name, and how often its footnote has been used before one more use is counted, and after.
+static USES: [(&str, Option<usize>, Option<usize>); 6] = [
+    ("a", Some(0), Some(1)),
+    ("A", Some(1), Some(2)),
+    ("b", None, None),
+    ("a ", None, None),
+    ("STRASSE", Some(0), Some(1)),
+    ("a", Some(2), Some(3)),
+];
+
+/// Counts a use of each name, and checks what is then counted.
+fn count_uses(held: &mut Allocations<'_>) -> Result<(), Fail> {
+    for &(name, before, after) in &USES {
+        let is_defined = before.is_some();
+        let counted = count_one_use(held, name)?;
+        gives(name, counted, (before, is_defined, is_defined, after))?;
+    }
+    Ok(())
+}
+
 #[test]
 fn uses_of_footnotes_are_counted(rt: HostRuntime) -> Result<(), Fail> {
     let mut held = footnotes(rt.alloc())?;
-    let rows = &[
-        ("a", Some(0), Some(1)),
-        ("A", Some(1), Some(2)),
-        ("b", None, None),
-        ("a ", None, None),
-        ("STRASSE", Some(0), Some(1)),
-        ("a", Some(2), Some(3)),
-    ];
-    for &(name, before, after) in rows {
-        let counted = count_one_use(&mut held, name)?;
-        assert_eq!(rt;
-            counted,
-            (before, before.is_some(), before.is_some(), after),
-            "{name}"
-        );
-    }
+    let done = count_uses(&mut held);
     drop(held);
-    Ok(())
+    done
 }
 
 /// Sets how often a footnote has been used, or returns why there is none.
@@ -199,18 +204,25 @@ fn set_uses(held: &mut Allocations<'_>, name: &str, count: usize) -> Option<Abse
     }
 }
 
+/// Counts one more use of a footnote that has been used as often as can be counted. Returns whether it was counted, and
+/// how often the footnote has then been used.
+fn count_beyond(held: &mut Allocations<'_>) -> Result<(bool, Option<usize>), Fault> {
+    let is_counted = held.footdefs.count_use("straße")?;
+    let count = uses(held, "Straße")?;
+    Ok((is_counted, count))
+}
+
 #[test]
 fn a_count_stays_at_its_greatest(rt: HostRuntime) -> Result<(), Fail> {
     let mut held = footnotes(rt.alloc())?;
-    assert_eq!(rt; set_uses(&mut held, "STRASSE", usize::MAX), None);
-    assert_eq!(rt;
+    let set = [
+        set_uses(&mut held, "STRASSE", usize::MAX),
         set_uses(&mut held, "strase", usize::MAX),
-        Some(Absence::Undefined)
-    );
-    assert!(rt; held.footdefs.count_use("straße")?);
-    assert_eq!(rt; uses(&mut held, "Straße")?, Some(usize::MAX));
+    ];
+    let counted = count_beyond(&mut held);
     drop(held);
+    gives("set", set, [None, Some(Absence::Undefined)])?;
+    gives("counted", counted?, (true, Some(usize::MAX)))?;
     let footnote = FootnoteDef { use_count: 3 };
-    assert_eq!(rt; footnote.clone()?.use_count, 3);
-    Ok(())
+    gives("a copy", footnote.clone()?.use_count, 3)
 }

@@ -9,7 +9,6 @@ use markdown_test_helpers::rows::gives;
 use std::alloc::{AllocError, Global};
 use std::convert::{AsStr, TryFrom};
 use std::hash::{DefaultHasher, Hash, Hasher};
-use std::ops::Range;
 use std::test::Fail;
 
 fn hash_of(text: &CowStr<'_>) -> u64 {
@@ -39,22 +38,37 @@ fn three_forms<'a>(alloc: Global) -> Result<Vec<CowStr<'a>>, AllocError> {
     Ok(texts)
 }
 
+/// Returns the forms of texts, one after another.
+fn forms_of(alloc: Global, texts: &[CowStr<'_>]) -> Result<String, AllocError> {
+    let mut forms = String::new(alloc);
+    for text in texts {
+        forms.push_str(form_of(text))?;
+        forms.push_str(" ")?;
+    }
+    Ok(forms)
+}
+
+/// Returns whether each text is this one, and is equal to each other one, with the same hash.
+fn are_alike(texts: &[CowStr<'_>], words: &str) -> bool {
+    for text in texts {
+        for other in texts {
+            if text != other || hash_of(text) != hash_of(other) || other.as_str() != words {
+                return false;
+            }
+        }
+    }
+    true
+}
+
 #[test]
 fn texts_are_equal_whatever_their_forms(rt: HostRuntime) -> Result<(), Fail> {
     let texts = three_forms(rt.alloc())?;
-    let mut forms = String::new(rt.alloc());
-    for text in &texts {
-        forms.push_str(form_of(text))?;
-        forms.push_str(" ")?;
-        assert_eq!(rt; text.as_str(), "é");
-        for other in &texts {
-            assert!(rt; text == other);
-            assert_eq!(rt; hash_of(text), hash_of(other));
-        }
-    }
-    assert_eq!(rt; forms.as_str(), "boxed borrowed in place ");
-    assert!(rt; CowStr::from("e") != CowStr::from("é"));
-    Ok(())
+    let forms = forms_of(rt.alloc(), &texts);
+    let alike = are_alike(&texts, "é");
+    drop(texts);
+    gives("forms", forms?.as_str(), "boxed borrowed in place ")?;
+    let other = are_equal(CowStr::from("e"), CowStr::from("é"));
+    gives("equal", [alike, other], [true, false])
 }
 
 /// Returns whether two values are equal, and drops both.
@@ -66,11 +80,14 @@ fn are_equal<T: PartialEq + Drop>(left: T, right: T) -> bool {
 }
 
 #[test]
-fn events_are_equal_by_their_texts(rt: HostRuntime) {
+fn events_are_equal_by_their_texts() -> Result<(), Fail> {
     let text = |c| Event::Text(CowStr::from(c));
-    assert!(rt; are_equal(text('a'), Event::Text(CowStr::from("a"))));
-    assert!(rt; !are_equal(text('a'), Event::Code(CowStr::from("a"))));
-    assert!(rt; !are_equal(Event::Start(Tag::Paragraph), Event::End(TagEnd::Paragraph)));
+    let equal = [
+        are_equal(text('a'), Event::Text(CowStr::from("a"))),
+        are_equal(text('a'), Event::Code(CowStr::from("a"))),
+        are_equal(Event::Start(Tag::Paragraph), Event::End(TagEnd::Paragraph)),
+    ];
+    gives("equal", equal, [true, false, false])
 }
 
 /// Returns whether a text is this one, in this form.
@@ -224,44 +241,45 @@ fn definition<'a>(alloc: Global) -> Result<LinkDef<'a>, AllocError> {
     })
 }
 
-/// Returns the fields of a definition, and the form of its destination.
-fn parts<'b>(
-    definition: &'b LinkDef<'_>,
-) -> (&'b str, &'static str, Option<&'b str>, Range<usize>) {
-    let title = match &definition.title {
-        Some(title) => Some(title.as_str()),
-        None => None,
+/// Returns the form of a definition's destination, and then its destination, its title and its range.
+fn described(alloc: Global, held: Result<LinkDef<'_>, Fault>) -> Result<String, Fault> {
+    let held = held?;
+    let title = match &held.title {
+        Some(title) => title.as_str(),
+        None => "untitled",
     };
-    let span = definition.span.start..definition.span.end;
-    (
-        definition.dest.as_str(),
-        form_of(&definition.dest),
-        title,
-        span,
-    )
+    let (start, end) = (held.span.start, held.span.end);
+    let form = form_of(&held.dest);
+    let said = format!(in alloc; "{form} <{}> {title} {start}..{end}", held.dest.as_str());
+    drop(held);
+    Ok(said?)
+}
+
+/// Checks the copy of a definition, and its `'static` form.
+fn is_copied(alloc: Global, held: LinkDef<'_>, copy: &str, owned: &str) -> Result<(), Fail> {
+    let copied = described(alloc, held.try_clone(alloc));
+    let freed = described(alloc, held.into_static(alloc));
+    gives("a copy", copied?.as_str(), copy)?;
+    gives("without the source", freed?.as_str(), owned)
 }
 
 #[test]
 fn definitions_are_copied(rt: HostRuntime) -> Result<(), Fail> {
-    let alloc = rt.alloc();
-    let copy = definition(alloc)?.try_clone(alloc)?;
-    assert!(rt; parts(&copy) == (LONG, "borrowed", Some("a title"), 3..60));
-    let owned = definition(alloc)?.into_static(alloc)?;
-    assert!(rt; parts(&owned) == (LONG, "boxed", Some("a title"), 3..60));
-    Ok(())
-}
-
-#[test]
-fn definitions_without_a_title_are_copied(rt: HostRuntime) -> Result<(), Fail> {
-    let alloc = rt.alloc();
+    is_copied(
+        rt.alloc(),
+        definition(rt.alloc())?,
+        "borrowed <http://example.com/a/long/destination> a title 3..60",
+        "boxed <http://example.com/a/long/destination> a title 3..60",
+    )?;
     let untitled = LinkDef {
         dest: CowStr::from(""),
         title: None,
         span: 0..4,
     };
-    let copy = untitled.try_clone(alloc)?;
-    assert!(rt; parts(&copy) == ("", "borrowed", None, 0..4));
-    let owned = untitled.into_static(alloc)?;
-    assert!(rt; parts(&owned) == ("", "in place", None, 0..4));
-    Ok(())
+    is_copied(
+        rt.alloc(),
+        untitled,
+        "borrowed <> untitled 0..4",
+        "in place <> untitled 0..4",
+    )
 }
