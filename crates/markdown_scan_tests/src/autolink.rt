@@ -12,54 +12,65 @@ fn autolink_of(text: &str) -> Option<(usize, &str)> {
     }
 }
 
-#[test]
-fn autolinks(rt: HostRuntime) -> Result<(), Fail> {
-    for &uri in &[
-        "http://foo.bar.baz",
-        "https://foo.bar.baz/test?q=hello&id=22&boolean",
-        "irc://foo.bar:2233/baz",
-        "MAILTO:FOO@BAR.BAZ",
-        "a+b+c:d",
-        "made-up-scheme://foo,bar",
-        "https://../",
-        "localhost:5001/foo",
-        "https://example.com/\\[\\",
-        "https://example.com/?search=a&b=(c)#d",
-        "ab:é",
-        // schemes of 2 and of 32 characters
-        "ab:",
-        "abcdefghijklmnopqrstuvwxyz012345:x",
-    ] {
-        let text = format!(in rt.alloc(); "<{uri}> <b>")?;
-        let end = uri.as_bytes().len() + 2;
-        gives(uri, autolink_of(text.as_str()), Some((end, uri)))?;
-    }
-    Ok(())
-}
+/// Texts, and the end and the URI of the autolink that each begins with.
+static TEXTS: [(&str, Option<(usize, &str)>); 30] = [
+    ("<http://foo.bar.baz> <b>", Some((20, "http://foo.bar.baz"))),
+    (
+        "<https://foo.bar.baz/test?q=hello&id=22&boolean> <b>",
+        Some((48, "https://foo.bar.baz/test?q=hello&id=22&boolean")),
+    ),
+    (
+        "<irc://foo.bar:2233/baz> <b>",
+        Some((24, "irc://foo.bar:2233/baz")),
+    ),
+    ("<MAILTO:FOO@BAR.BAZ> <b>", Some((20, "MAILTO:FOO@BAR.BAZ"))),
+    ("<a+b+c:d> <b>", Some((9, "a+b+c:d"))),
+    (
+        "<made-up-scheme://foo,bar> <b>",
+        Some((26, "made-up-scheme://foo,bar")),
+    ),
+    ("<https://../> <b>", Some((13, "https://../"))),
+    ("<localhost:5001/foo> <b>", Some((20, "localhost:5001/foo"))),
+    (
+        "<https://example.com/\\[\\> <b>",
+        Some((25, "https://example.com/\\[\\")),
+    ),
+    (
+        "<https://example.com/?search=a&b=(c)#d> <b>",
+        Some((39, "https://example.com/?search=a&b=(c)#d")),
+    ),
+    ("<ab:é> <b>", Some((7, "ab:é"))),
+    // schemes of 2 and of 32 characters
+    ("<ab:> <b>", Some((5, "ab:"))),
+    (
+        "<abcdefghijklmnopqrstuvwxyz012345:x> <b>",
+        Some((36, "abcdefghijklmnopqrstuvwxyz012345:x")),
+    ),
+    // other texts
+    ("<", None),
+    ("<>", None),
+    ("< https://foo.bar >", None),
+    ("<https://foo.bar/baz bim>", None),
+    ("<m:abc>", None),
+    ("<foo.bar.baz>", None),
+    ("<foo@bar.example.com>", None),
+    ("<foo+special@Bar.baz-bar0.com>", None),
+    ("<foo\\+@bar.example.com>", None),
+    ("<1a:b>", None),
+    ("<+a:b>", None),
+    ("<ab:c<d>", None),
+    ("<ab:c\td>", None),
+    ("<ab:c\nd>", None),
+    ("<ab:c\u{7f}d>", None),
+    ("<é:b>", None),
+    // a scheme of 33 characters
+    ("<abcdefghijklmnopqrstuvwxyz0123456:x>", None),
+];
 
 #[test]
-fn other_texts() -> Result<(), Fail> {
-    for &text in &[
-        "<",
-        "<>",
-        "< https://foo.bar >",
-        "<https://foo.bar/baz bim>",
-        "<m:abc>",
-        "<foo.bar.baz>",
-        "<foo@bar.example.com>",
-        "<foo+special@Bar.baz-bar0.com>",
-        "<foo\\+@bar.example.com>",
-        "<1a:b>",
-        "<+a:b>",
-        "<ab:c<d>",
-        "<ab:c\td>",
-        "<ab:c\nd>",
-        "<ab:c\u{7f}d>",
-        "<é:b>",
-        // a scheme of 33 characters
-        "<abcdefghijklmnopqrstuvwxyz0123456:x>",
-    ] {
-        gives(text, autolink_of(text), None)?;
+fn autolinks() -> Result<(), Fail> {
+    for &(text, wanted) in &TEXTS {
+        gives(text, autolink_of(text), wanted)?;
     }
     Ok(())
 }

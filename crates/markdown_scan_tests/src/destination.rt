@@ -12,71 +12,54 @@ fn destination_of(text: &str, max_nesting: usize) -> Option<(usize, &str)> {
     }
 }
 
-#[test]
-fn destinations_in_angle_brackets() -> Result<(), Fail> {
-    for &(text, length, destination) in &[
-        ("<>)", 2, ""),
-        ("</my uri>)", 9, "/my uri"),
-        ("<b)c>)", 5, "b)c"),
-        ("<b>c)", 3, "b"),
-        ("<foo(and(bar)>)", 14, "foo(and(bar)"),
-        ("<a\\>b\\<c>", 9, "a\\>b\\<c"),
-    ] {
-        gives(text, destination_of(text, 32), Some((length, destination)))?;
-    }
-    Ok(())
-}
-
-// The destination is the first bytes of the text, as many as the row says.
-#[test]
-fn destinations_in_no_brackets() -> Result<(), Fail> {
-    for &(text, length) in &[
-        ("/uri \"title\")", 4),
-        ("./target.md)", 11),
-        (")", 0),
-        ("", 0),
-        ("/my uri)", 3),
-        ("foo\nbar)", 3),
-        ("\\(foo\\))", 7),
-        ("foo(and(bar)))", 13),
-        ("foo(and(bar))", 13),
-        ("foo\\(and\\(bar\\))", 15),
-        ("foo\\)\\:)", 7),
-        ("#fragment)", 9),
-        ("foo\\bar)", 7),
-        ("foo%20b&auml;)", 13),
-        ("\"title\")", 7),
-        ("/url\u{a0}\"title\")", 13),
-        ("foo\\ bar)", 4),
-        ("foo\u{7f}bar)", 3),
-        ("foo\\", 4),
-        ("a<b>)", 4),
-    ] {
-        gives(
-            text,
-            destination_of(text, 32),
-            text.get(..length).map(|bytes| (length, bytes)),
-        )?;
-    }
-    let behind_others = scan_link_destination("[é](é)", 5, 32);
-    gives("[é](é)", behind_others, Some((2, "é")))
-}
+/// Texts, and the length and the text of the destination that each begins with.
+static TEXTS: [(&str, Option<(usize, &str)>); 34] = [
+    // in angle brackets
+    ("<>)", Some((2, ""))),
+    ("</my uri>)", Some((9, "/my uri"))),
+    ("<b)c>)", Some((5, "b)c"))),
+    ("<b>c)", Some((3, "b"))),
+    ("<foo(and(bar)>)", Some((14, "foo(and(bar)"))),
+    ("<a\\>b\\<c>", Some((9, "a\\>b\\<c"))),
+    // without brackets
+    ("/uri \"title\")", Some((4, "/uri"))),
+    ("./target.md)", Some((11, "./target.md"))),
+    (")", Some((0, ""))),
+    ("", Some((0, ""))),
+    ("/my uri)", Some((3, "/my"))),
+    ("foo\nbar)", Some((3, "foo"))),
+    ("\\(foo\\))", Some((7, "\\(foo\\)"))),
+    ("foo(and(bar)))", Some((13, "foo(and(bar))"))),
+    ("foo(and(bar))", Some((13, "foo(and(bar))"))),
+    ("foo\\(and\\(bar\\))", Some((15, "foo\\(and\\(bar\\)"))),
+    ("foo\\)\\:)", Some((7, "foo\\)\\:"))),
+    ("#fragment)", Some((9, "#fragment"))),
+    ("foo\\bar)", Some((7, "foo\\bar"))),
+    ("foo%20b&auml;)", Some((13, "foo%20b&auml;"))),
+    ("\"title\")", Some((7, "\"title\""))),
+    ("/url\u{a0}\"title\")", Some((13, "/url\u{a0}\"title\""))),
+    ("foo\\ bar)", Some((4, "foo\\"))),
+    ("foo\u{7f}bar)", Some((3, "foo"))),
+    ("foo\\", Some((4, "foo\\"))),
+    ("a<b>)", Some((4, "a<b>"))),
+    // other texts
+    ("<foo\nbar>)", None),
+    ("<foo\rbar>)", None),
+    ("<foo\\>)", None),
+    ("<b)c", None),
+    ("<a<b>)", None),
+    ("foo(and(bar)", None),
+    ("(", None),
+    ("a( b)", None),
+];
 
 #[test]
-fn other_texts() -> Result<(), Fail> {
-    for &text in &[
-        "<foo\nbar>)",
-        "<foo\rbar>)",
-        "<foo\\>)",
-        "<b)c",
-        "<a<b>)",
-        "foo(and(bar)",
-        "(",
-        "a( b)",
-    ] {
-        gives(text, destination_of(text, 32), None)?;
+fn destinations() -> Result<(), Fail> {
+    for &(text, wanted) in &TEXTS {
+        gives(text, destination_of(text, 32), wanted)?;
     }
-    Ok(())
+    let after_others = scan_link_destination("[é](é)", 5, 32);
+    gives("[é](é)", after_others, Some((2, "é")))
 }
 
 #[test]

@@ -3,88 +3,79 @@ use markdown_scan::entity::scan_entity;
 use markdown_test_helpers::rows::gives;
 use std::test::Fail;
 
-#[test]
-fn references() -> Result<(), Fail> {
-    for &(text, length, character) in &[
-        ("&amp;", 5, '&'),
-        ("&lt;b", 4, '<'),
-        ("&gt;&gt;", 4, '>'),
-        ("&quot; ", 6, '"'),
-        // numbers, decimal and hexadecimal
-        ("&#35;", 5, '#'),
-        ("&#1234;", 7, 'Ӓ'),
-        ("&#992;", 6, 'Ϡ'),
-        ("&#0;", 4, '\u{FFFD}'),
-        ("&#X22;", 6, '"'),
-        ("&#XD06;", 7, 'ആ'),
-        ("&#xcab;", 7, 'ಫ'),
-        ("&#42;foo*", 5, '*'),
-        ("&#10;", 5, '\n'),
-        ("&#9;foo", 4, '\t'),
-        // seven decimal digits, six hexadecimal ones
-        ("&#0000065;", 10, 'A'),
-        ("&#x000041;", 10, 'A'),
-        ("&#xabcDEF;", 10, '\u{FFFD}'),
-        ("&#9999999;", 10, '\u{FFFD}'),
-        // surrogates, and the scalar values around them
-        ("&#xD7FF;", 8, '\u{D7FF}'),
-        ("&#xD800;", 8, '\u{FFFD}'),
-        ("&#xDFFF;", 8, '\u{FFFD}'),
-        ("&#xE000;", 8, '\u{E000}'),
-        // the last scalar value
-        ("&#x10FFFF;", 10, '\u{10FFFF}'),
-        ("&#x110000;", 10, '\u{FFFD}'),
-        ("&#1114111;", 10, '\u{10FFFF}'),
-        ("&#1114112;", 10, '\u{FFFD}'),
-        ("&#x0;", 5, '\u{FFFD}'),
-    ] {
-        gives(
-            text,
-            scan_entity(text.as_bytes()),
-            Some((length, character)),
-        )?;
-    }
-    Ok(())
-}
+/// Texts, and the length of the reference that each begins with, and the character that it stands for.
+static TEXTS: [(&str, Option<(usize, char)>); 60] = [
+    ("&amp;", Some((5, '&'))),
+    ("&lt;b", Some((4, '<'))),
+    ("&gt;&gt;", Some((4, '>'))),
+    ("&quot; ", Some((6, '"'))),
+    // numbers, decimal and hexadecimal
+    ("&#35;", Some((5, '#'))),
+    ("&#1234;", Some((7, 'Ӓ'))),
+    ("&#992;", Some((6, 'Ϡ'))),
+    ("&#0;", Some((4, '\u{FFFD}'))),
+    ("&#X22;", Some((6, '"'))),
+    ("&#XD06;", Some((7, 'ആ'))),
+    ("&#xcab;", Some((7, 'ಫ'))),
+    ("&#42;foo*", Some((5, '*'))),
+    ("&#10;", Some((5, '\n'))),
+    ("&#9;foo", Some((4, '\t'))),
+    // seven decimal digits, six hexadecimal ones
+    ("&#0000065;", Some((10, 'A'))),
+    ("&#x000041;", Some((10, 'A'))),
+    ("&#xabcDEF;", Some((10, '\u{FFFD}'))),
+    ("&#9999999;", Some((10, '\u{FFFD}'))),
+    // surrogates, and the scalar values around them
+    ("&#xD7FF;", Some((8, '\u{D7FF}'))),
+    ("&#xD800;", Some((8, '\u{FFFD}'))),
+    ("&#xDFFF;", Some((8, '\u{FFFD}'))),
+    ("&#xE000;", Some((8, '\u{E000}'))),
+    // the last scalar value
+    ("&#x10FFFF;", Some((10, '\u{10FFFF}'))),
+    ("&#x110000;", Some((10, '\u{FFFD}'))),
+    ("&#1114111;", Some((10, '\u{10FFFF}'))),
+    ("&#1114112;", Some((10, '\u{FFFD}'))),
+    ("&#x0;", Some((5, '\u{FFFD}'))),
+    // other texts
+    ("", None),
+    ("&", None),
+    ("&amp", None),
+    ("&Amp;", None),
+    ("&AMP;", None),
+    ("amp;", None),
+    (" &amp;", None),
+    ("&nbsp;", None),
+    ("&copy;", None),
+    ("&apos;", None),
+    ("&copy", None),
+    ("&MadeUpEntity;", None),
+    ("&x;", None),
+    ("&#;", None),
+    ("&#x;", None),
+    ("&#X;", None),
+    ("&#87654321;", None),
+    ("&#x1234567;", None),
+    ("&#00000065;", None),
+    ("&#x0000041;", None),
+    ("&#abcdef0;", None),
+    ("&ThisIsNotDefined;", None),
+    ("&hi?;", None),
+    ("&#35", None),
+    ("&#x22", None),
+    ("&#35 ;", None),
+    ("&# 35;", None),
+    ("&#xg;", None),
+    ("&#1a;", None),
+    ("&#", None),
+    ("&#x", None),
+    ("\\&amp;", None),
+    ("&;", None),
+];
 
 #[test]
-fn other_texts() -> Result<(), Fail> {
-    for &text in &[
-        "",
-        "&",
-        "&amp",
-        "&Amp;",
-        "&AMP;",
-        "amp;",
-        " &amp;",
-        "&nbsp;",
-        "&copy;",
-        "&apos;",
-        "&copy",
-        "&MadeUpEntity;",
-        "&x;",
-        "&#;",
-        "&#x;",
-        "&#X;",
-        "&#87654321;",
-        "&#x1234567;",
-        "&#00000065;",
-        "&#x0000041;",
-        "&#abcdef0;",
-        "&ThisIsNotDefined;",
-        "&hi?;",
-        "&#35",
-        "&#x22",
-        "&#35 ;",
-        "&# 35;",
-        "&#xg;",
-        "&#1a;",
-        "&#",
-        "&#x",
-        "\\&amp;",
-        "&;",
-    ] {
-        gives(text, scan_entity(text.as_bytes()), None)?;
+fn references() -> Result<(), Fail> {
+    for &(text, wanted) in &TEXTS {
+        gives(text, scan_entity(text.as_bytes()), wanted)?;
     }
     Ok(())
 }

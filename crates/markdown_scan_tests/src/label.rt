@@ -12,109 +12,105 @@ fn is_read(found: &CowStr<'_>, source: &str, text: &str) -> bool {
     found.as_str() == text && is_slice == source.starts_with(text)
 }
 
-// Returns whether a label of this length and text is read, and is a slice of the source where the source begins with
-// it.
+// Returns whether a label of this length and text is read, and is a slice of the source where the source begins with it;
+// or none is, for None.
 fn has_label(
     alloc: Global,
     text: &str,
     in_table: bool,
-    length: usize,
-    label: &str,
+    wanted: Option<(usize, &str)>,
 ) -> Result<bool, AllocError> {
-    let Some((end, found)) = scan_link_label(alloc, text, &NoPrefix, in_table)? else {
-        return Ok(false);
-    };
-    let is_same = is_read(&found, text, label);
-    drop(found);
-    Ok(is_same && end == length)
+    match (scan_link_label(alloc, text, &NoPrefix, in_table)?, wanted) {
+        (Some((end, found)), Some((length, label))) => {
+            let is_same = is_read(&found, text, label);
+            drop(found);
+            Ok(is_same && end == length)
+        }
+        (None, None) => Ok(true),
+        _ => Ok(false),
+    }
 }
 
-fn has_no_label(alloc: Global, text: &str) -> Result<bool, AllocError> {
-    Ok(scan_link_label(alloc, text, &NoPrefix, false)?.is_none())
-}
+/// Texts, whether they are in a table, and the length and the text of the label that each begins with.
+static TEXTS: [(&str, bool, Option<(usize, &str)>); 30] = [
+    ("foo] bar", false, Some((4, "foo"))),
+    ("ref\\[]", false, Some((6, "ref\\["))),
+    ("bar\\\\]", false, Some((6, "bar\\\\"))),
+    ("foo\\!]", false, Some((6, "foo\\!"))),
+    ("Foo*bar\\]]", false, Some((10, "Foo*bar\\]"))),
+    ("Foo\n  bar]", false, Some((10, "Foo bar"))),
+    (" Foo bar ]", false, Some((10, "Foo bar"))),
+    ("Foo bar ]", false, Some((9, "Foo bar"))),
+    ("Foo\r\nbar]", false, Some((9, "Foo bar"))),
+    ("a\tb\u{b}\u{c} c]", false, Some((8, "a b c"))),
+    ("é  é]", false, Some((7, "é é"))),
+    ("\\é]", false, Some((4, "\\é"))),
+    ("ẞ]", false, Some((4, "ẞ"))),
+    ("a\\|b]", false, Some((5, "a\\|b"))),
+    ("a\\|b]", true, Some((5, "a|b"))),
+    ("a\\*b]", true, Some((5, "a\\*b"))),
+    ("a\\\\|b]", true, Some((6, "a\\|b"))),
+    ("a\\\\\\|b]", true, Some((7, "a\\\\|b"))),
+    ("\\|\\|]", true, Some((5, "||"))),
+    ("\\\\]", true, Some((3, "\\\\"))),
+    // other texts
+    ("", false, None),
+    ("]", false, None),
+    (" ]", false, None),
+    ("\n ]", false, None),
+    ("ref[]", false, None),
+    ("ref[bar]]", false, None),
+    ("[[foo]]]", false, None),
+    ("foo", false, None),
+    ("foo\\]", false, None),
+    ("\t\u{b}\u{c}\r]", false, None),
+];
 
 #[test]
 fn labels(rt: HostRuntime) -> Result<(), Fail> {
-    for &(text, length, label) in &[
-        ("foo] bar", 4, "foo"),
-        ("ref\\[]", 6, "ref\\["),
-        ("bar\\\\]", 6, "bar\\\\"),
-        ("foo\\!]", 6, "foo\\!"),
-        ("Foo*bar\\]]", 10, "Foo*bar\\]"),
-        ("Foo\n  bar]", 10, "Foo bar"),
-        (" Foo bar ]", 10, "Foo bar"),
-        ("Foo bar ]", 9, "Foo bar"),
-        ("Foo\r\nbar]", 9, "Foo bar"),
-        ("a\tb\u{b}\u{c} c]", 8, "a b c"),
-        ("é  é]", 7, "é é"),
-        ("\\é]", 4, "\\é"),
-        ("ẞ]", 4, "ẞ"),
-        ("a\\|b]", 5, "a\\|b"),
-    ] {
+    for &(text, in_table, wanted) in &TEXTS {
         gives(
-            text,
-            has_label(rt.alloc(), text, false, length, label)?,
+            (text, in_table),
+            has_label(rt.alloc(), text, in_table, wanted)?,
             true,
         )?;
-    }
-    Ok(())
-}
-
-#[test]
-fn labels_in_a_table(rt: HostRuntime) -> Result<(), Fail> {
-    for &(text, length, label) in &[
-        ("a\\|b]", 5, "a|b"),
-        ("a\\*b]", 5, "a\\*b"),
-        ("a\\\\|b]", 6, "a\\|b"),
-        ("a\\\\\\|b]", 7, "a\\\\|b"),
-        ("\\|\\|]", 5, "||"),
-        ("\\\\]", 3, "\\\\"),
-    ] {
-        gives(
-            text,
-            has_label(rt.alloc(), text, true, length, label)?,
-            true,
-        )?;
-    }
-    Ok(())
-}
-
-#[test]
-fn other_texts(rt: HostRuntime) -> Result<(), Fail> {
-    for &text in &[
-        "",
-        "]",
-        " ]",
-        "\n ]",
-        "ref[]",
-        "ref[bar]]",
-        "[[foo]]]",
-        "foo",
-        "foo\\]",
-        "\t\u{b}\u{c}\r]",
-    ] {
-        gives(text, has_no_label(rt.alloc(), text)?, true)?;
     }
     let of_two_lines = scan_link_label(rt.alloc(), "a\nb]", &OneLine, false)?;
     gives("a\nb]", of_two_lines.is_none(), true)
 }
 
+/// Returns a label of `count` copies of a text, and then an end.
+fn long_label(alloc: Global, text: &str, count: usize, end: &str) -> Result<String, AllocError> {
+    let mut label = text.repeat(alloc, count)?;
+    label.push_str(end)?;
+    Ok(label)
+}
+
+/// Returns whether such a label is read.
+fn is_long_label(
+    alloc: Global,
+    text: &str,
+    count: usize,
+    end: &str,
+    in_table: bool,
+) -> Result<bool, AllocError> {
+    let label = long_label(alloc, text, count, end)?;
+    Ok(scan_link_label(alloc, label.as_str(), &NoPrefix, in_table)?.is_some())
+}
+
 #[test]
 fn labels_of_999_characters(rt: HostRuntime) -> Result<(), Fail> {
-    for &(character, length, is_none) in &[
-        ("a", 999, false),
-        ("a", 1000, true),
-        ("é", 999, false),
-        ("é", 1000, true),
+    for &(character, count, end, in_table, is_label) in &[
+        ("a", 999, "]", false, true),
+        ("a", 1000, "]", false, false),
+        ("é", 999, "]", false, true),
+        ("é", 1000, "]", false, false),
+        // 997 letters, two backslashes and a pipe are 999 characters in a table, and otherwise 1000
+        ("a", 997, "\\\\|]", true, true),
+        ("a", 997, "\\\\|]", false, false),
     ] {
-        let text = format!(in rt.alloc(); "{}]", character.repeat(rt.alloc(), length)?)?;
-        gives(length, has_no_label(rt.alloc(), text.as_str())?, is_none)?;
-    }
-    // 997 letters, two backslashes and a pipe are 999 characters in a table, and otherwise 1000.
-    let text = format!(in rt.alloc(); "{}\\\\|]", "a".repeat(rt.alloc(), 997)?)?;
-    for &in_table in &[true, false] {
-        let found = scan_link_label(rt.alloc(), text.as_str(), &NoPrefix, in_table)?;
-        gives(in_table, found.is_some(), in_table)?;
+        let found = is_long_label(rt.alloc(), character, count, end, in_table)?;
+        gives((character, count, in_table), found, is_label)?;
     }
     Ok(())
 }

@@ -56,29 +56,40 @@ fn state_of(start: &LineStart<'_>) -> (usize, usize) {
     (start.bytes_scanned(), start.remaining_space())
 }
 
+// Scans at most `most` columns of space. Returns their number and the state.
+fn space_upto(start: &mut LineStart<'_>, most: usize) -> (usize, (usize, usize)) {
+    (start.scan_space_upto(most), state_of(start))
+}
+
+// Scans this many columns of space, if there are so many. Returns whether there are, and the state.
+fn space_whole(start: &mut LineStart<'_>, columns: usize) -> (bool, (usize, usize)) {
+    (start.scan_space(columns), state_of(start))
+}
+
 #[test]
 fn a_cut_tab_owes_its_other_columns() -> Result<(), Fail> {
     let mut start = LineStart::new(" \t\tfoo".as_bytes());
-    gives("up to 2", start.scan_space_upto(2), 2)?;
-    gives("up to 2: state", state_of(&start), (2, 2))?;
-    gives("up to 1", start.scan_space_upto(1), 1)?;
-    gives("up to 1: state", state_of(&start), (2, 1))?;
-    gives("6", start.scan_space(6), false)?;
-    gives("6: state", state_of(&start), (2, 1))?;
-    gives("5", start.scan_space(5), true)?;
-    gives("5: state", state_of(&start), (3, 0))?;
-    gives("is at the end", start.is_at_eol(), false)
+    let upto = [space_upto(&mut start, 2), space_upto(&mut start, 1)];
+    let whole = [space_whole(&mut start, 6), space_whole(&mut start, 5)];
+    let is_at_eol = start.is_at_eol();
+    gives("up to 2, up to 1", upto, [(2, (2, 2)), (1, (2, 1))])?;
+    gives("6, 5", whole, [(false, (2, 1)), (true, (3, 0))])?;
+    gives("is at the end", is_at_eol, false)
 }
 
 // `>\t\tfoo` is a block quote with the indented code `  foo`.
 #[test]
 fn a_marker_takes_one_column_of_a_tab() -> Result<(), Fail> {
     let mut start = LineStart::new(">\t\tfoo".as_bytes());
-    gives("marker", start.scan_blockquote_marker(), true)?;
-    gives("marker: state", state_of(&start), (2, 2))?;
-    gives("4", start.scan_space(4), true)?;
-    gives("4: state", state_of(&start), (3, 2))?;
-    gives("up to 100", start.scan_space_upto(100), 2)
+    let marker = (start.scan_blockquote_marker(), state_of(&start));
+    let whole = space_whole(&mut start, 4);
+    let rest = start.scan_space_upto(100);
+    gives(
+        "marker and 4",
+        [marker, whole],
+        [(true, (2, 2)), (true, (3, 2))],
+    )?;
+    gives("up to 100", rest, 2)
 }
 
 // Returns whether there is a block quote marker after this number of columns of space, and the bytes scanned.

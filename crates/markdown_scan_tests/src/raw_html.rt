@@ -26,58 +26,56 @@ fn end_of(kind: Kind, text: &str) -> Option<usize> {
     }
 }
 
-#[test]
-fn comments() -> Result<(), Fail> {
-    for &(text, end) in &[
-        ("<!-- this is a --\ncomment - with hyphens -->", Some(44)),
-        ("<!--> foo -->", Some(5)),
-        ("<!---> foo -->", Some(6)),
-        ("<!---->", Some(7)),
-        ("<!----->", Some(8)),
-        ("<!-- a -- b --> c -->", Some(15)),
-        ("<!-- a --->", Some(11)),
-        ("<!-- é -->", Some(11)),
-        ("<!-- a -- >", None),
-        ("<!--", None),
-        ("<!---", None),
-        ("<!-", None),
-        ("<!", None),
-        ("<!- a -->", None),
-        ("<!-- a", None),
-    ] {
-        gives(text, end_of(Kind::Comment, text), end)?;
-    }
-    Ok(())
-}
+/// Texts, and where the raw HTML of a kind that each begins with ends.
+static TEXTS: [(Kind, &str, Option<usize>); 39] = [
+    (
+        Kind::Comment,
+        "<!-- this is a --\ncomment - with hyphens -->",
+        Some(44),
+    ),
+    (Kind::Comment, "<!--> foo -->", Some(5)),
+    (Kind::Comment, "<!---> foo -->", Some(6)),
+    (Kind::Comment, "<!---->", Some(7)),
+    (Kind::Comment, "<!----->", Some(8)),
+    (Kind::Comment, "<!-- a -- b --> c -->", Some(15)),
+    (Kind::Comment, "<!-- a --->", Some(11)),
+    (Kind::Comment, "<!-- é -->", Some(11)),
+    (Kind::Comment, "<!-- a -- >", None),
+    (Kind::Comment, "<!--", None),
+    (Kind::Comment, "<!---", None),
+    (Kind::Comment, "<!-", None),
+    (Kind::Comment, "<!", None),
+    (Kind::Comment, "<!- a -->", None),
+    (Kind::Comment, "<!-- a", None),
+    (Kind::CdataSection, "<![CDATA[>&<]]>", Some(15)),
+    (Kind::CdataSection, "<![CDATA[]]>", Some(12)),
+    (Kind::CdataSection, "<![CDATA[]]]>", Some(13)),
+    (Kind::CdataSection, "<![CDATA[ a ]> ]] > ]]> ]]>", Some(23)),
+    (Kind::CdataSection, "<![CDATA[ a ]>", None),
+    (Kind::CdataSection, "<![cdata[]]>", None),
+    (Kind::CdataSection, "<![CDATA]]>", None),
+    (Kind::CdataSection, "<![CDATA[", None),
+    (Kind::CdataSection, "<!", None),
+    (Kind::Declaration, "<!ELEMENT br EMPTY>", Some(19)),
+    (Kind::Declaration, "<!a>", Some(4)),
+    (Kind::Declaration, "<!Z \">\">", Some(6)),
+    (Kind::Declaration, "<!>", None),
+    (Kind::Declaration, "<! a>", None),
+    (Kind::Declaration, "<!1>", None),
+    (Kind::Declaration, "<!é>", None),
+    (Kind::Declaration, "<!ELEMENT", None),
+    (Kind::Declaration, "<!", None),
+    (Kind::Instruction, "<?php echo $a; ?>", Some(17)),
+    (Kind::Instruction, "<??>", Some(4)),
+    (Kind::Instruction, "<?a > b ?> c ?>", Some(10)),
+    (Kind::Instruction, "<?>", None),
+    (Kind::Instruction, "<?a>", None),
+    (Kind::Instruction, "<?", None),
+];
 
 #[test]
-fn other_kinds() -> Result<(), Fail> {
-    for &(kind, text, end) in &[
-        (Kind::CdataSection, "<![CDATA[>&<]]>", Some(15)),
-        (Kind::CdataSection, "<![CDATA[]]>", Some(12)),
-        (Kind::CdataSection, "<![CDATA[]]]>", Some(13)),
-        (Kind::CdataSection, "<![CDATA[ a ]> ]] > ]]> ]]>", Some(23)),
-        (Kind::CdataSection, "<![CDATA[ a ]>", None),
-        (Kind::CdataSection, "<![cdata[]]>", None),
-        (Kind::CdataSection, "<![CDATA]]>", None),
-        (Kind::CdataSection, "<![CDATA[", None),
-        (Kind::CdataSection, "<!", None),
-        (Kind::Declaration, "<!ELEMENT br EMPTY>", Some(19)),
-        (Kind::Declaration, "<!a>", Some(4)),
-        (Kind::Declaration, "<!Z \">\">", Some(6)),
-        (Kind::Declaration, "<!>", None),
-        (Kind::Declaration, "<! a>", None),
-        (Kind::Declaration, "<!1>", None),
-        (Kind::Declaration, "<!é>", None),
-        (Kind::Declaration, "<!ELEMENT", None),
-        (Kind::Declaration, "<!", None),
-        (Kind::Instruction, "<?php echo $a; ?>", Some(17)),
-        (Kind::Instruction, "<??>", Some(4)),
-        (Kind::Instruction, "<?a > b ?> c ?>", Some(10)),
-        (Kind::Instruction, "<?>", None),
-        (Kind::Instruction, "<?a>", None),
-        (Kind::Instruction, "<?", None),
-    ] {
+fn kinds() -> Result<(), Fail> {
+    for &(kind, text, end) in &TEXTS {
         gives(text, end_of(kind, text), end)?;
     }
     Ok(())
@@ -86,13 +84,16 @@ fn other_kinds() -> Result<(), Fail> {
 #[test]
 fn a_scan_that_failed_changes_no_other() -> Result<(), Fail> {
     let mut scanner = RawHtmlScanner::new(b"<!-- a --> <!-- b <!-- c <!a> <?x");
-    gives(1, scanner.scan_comment(13), None)?;
-    gives(2, scanner.scan_comment(20), None)?;
-    gives(3, scanner.scan_comment(13), None)?;
-    gives(4, scanner.scan_comment(2), Some(10))?;
-    gives(5, scanner.scan_declaration(27), Some(29))?;
-    gives(6, scanner.scan_processing_instruction(32), None)?;
-    gives(7, scanner.scan_cdata_section(2), None)?;
-    gives(8, scanner.scan_comment(33), None)?;
-    Ok(())
+    let ends = [
+        scanner.scan_comment(13),
+        scanner.scan_comment(20),
+        scanner.scan_comment(13),
+        scanner.scan_comment(2),
+        scanner.scan_declaration(27),
+        scanner.scan_processing_instruction(32),
+        scanner.scan_cdata_section(2),
+        scanner.scan_comment(33),
+    ];
+    let wanted = [None, None, None, Some(10), Some(29), None, None, None];
+    gives("the ends", ends, wanted)
 }

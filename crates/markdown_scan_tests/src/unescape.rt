@@ -25,7 +25,7 @@ fn stands_for(
 }
 
 #[test]
-fn escapes(rt: HostRuntime) -> Result<(), Fail> {
+fn escapes_and_entities(rt: HostRuntime) -> Result<(), Fail> {
     for &(text, expected) in &[
         // escaped punctuation, each of its 32 characters
         (
@@ -44,15 +44,7 @@ fn escapes(rt: HostRuntime) -> Result<(), Fail> {
         ("\\\\\\\\", "\\\\"),
         ("\\&amp;", "&amp;"),
         ("\\\\&amp;", "\\&"),
-    ] {
-        gives(text, stands_for(rt.alloc(), text, false, expected)?, true)?;
-    }
-    Ok(())
-}
-
-#[test]
-fn entities(rt: HostRuntime) -> Result<(), Fail> {
-    for &(text, expected) in &[
+        // entities
         ("a &amp; b &lt;c&gt; &quot;d&quot;", "a & b <c> \"d\""),
         ("&#35; &#1234; &#992; &#0;", "# Ӓ Ϡ \u{FFFD}"),
         ("&#X22; &#XD06; &#xcab;", "\" ആ ಫ"),

@@ -6,11 +6,21 @@ use std::test::Fail;
 #[test]
 fn pipes() -> Result<(), Fail> {
     let text = "[[aé|b|c]] |";
-    gives(1, scan_wikilink_pipe(text, 2, 7), Some((6, "aé")))?;
-    gives(2, scan_wikilink_pipe(text, 6, 3), Some((8, "b")))?;
-    gives(3, scan_wikilink_pipe(text, 2, 3), None)?;
-    gives(4, scan_wikilink_pipe(text, 5, 1), Some((6, "")))?;
-    gives(5, scan_wikilink_pipe(text, 0, 0), None)?;
-    gives(6, scan_wikilink_pipe("", 0, 0), None)?;
-    Ok(())
+    let pipes = [
+        scan_wikilink_pipe(text, 2, 7),
+        scan_wikilink_pipe(text, 6, 3),
+        scan_wikilink_pipe(text, 2, 3),
+        scan_wikilink_pipe(text, 5, 1),
+        scan_wikilink_pipe(text, 0, 0),
+        scan_wikilink_pipe("", 0, 0),
+    ];
+    let wanted = [
+        Some((6, "aé")),
+        Some((8, "b")),
+        None,
+        Some((6, "")),
+        None,
+        None,
+    ];
+    gives(text, pipes, wanted)
 }
