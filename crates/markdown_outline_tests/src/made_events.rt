@@ -103,75 +103,98 @@ const CLOSE: Row = (Sign::Close(HeadingLevel::H1), 0, 9);
 
 const WORDS: Row = (Sign::Words("a"), 1, 2);
 
-#[test]
-fn where_the_events_end(rt: HostRuntime) -> Result<(), Fail> {
-    let alloc = rt.alloc();
-    events_have(alloc, "no events", &[], "")?;
-    let open = (Sign::Open(HeadingLevel::H2), 5, 9);
-    let words = (Sign::Words("a"), 8, 9);
-    events_have(alloc, "None before the End", &[open, words], "2 [a]5..9 ")?;
-    let later = [open, words, (Sign::Nothing, 0, 0), WORDS, CLOSE, OPEN];
-    events_have(alloc, "None, and then more", &later, "2 [a]5..9 ")?;
-    events_have(alloc, "a Start alone", &[open], "2 []5..9 ")
-}
+const SECOND: Row = (Sign::Open(HeadingLevel::H2), 5, 9);
+
+const SECOND_WORDS: Row = (Sign::Words("a"), 8, 9);
+
+const NOTHING: Row = (Sign::Nothing, 0, 0);
+
+const REFUSED: Row = (Sign::Refused(Fault::Memory), 0, 0);
+
+const TOO_DEEP: Row = (Sign::Refused(Fault::Depth), 0, 0);
+
+/// Events, and their outline or the error.
+static OUTLINES: [(&str, &[Row], &str); 13] = [
+    // where the events end
+    ("no events", &[], ""),
+    ("None before the End", &[SECOND, SECOND_WORDS], "2 [a]5..9 "),
+    (
+        "None, and then more",
+        &[SECOND, SECOND_WORDS, NOTHING, WORDS, CLOSE, OPEN],
+        "2 [a]5..9 ",
+    ),
+    ("a Start alone", &[SECOND], "2 []5..9 "),
+    // errors
+    ("at first", &[TOO_DEEP], "Depth"),
+    ("in a heading", &[OPEN, WORDS, REFUSED], "Memory"),
+    (
+        "after a heading",
+        &[OPEN, WORDS, CLOSE, TOO_DEEP, REFUSED],
+        "Depth",
+    ),
+    ("after None", &[OPEN, WORDS, NOTHING, REFUSED], "1 [a]0..9 "),
+    // Starts and Ends
+    (
+        "an End of another level",
+        &[OPEN, WORDS, (Sign::Close(HeadingLevel::H3), 0, 9), WORDS],
+        "1 [a]0..9 ",
+    ),
+    (
+        "a Start inside",
+        &[
+            OPEN,
+            (Sign::Open(HeadingLevel::H2), 1, 3),
+            WORDS,
+            (Sign::Close(HeadingLevel::H2), 1, 3),
+            (Sign::Words("b"), 3, 4),
+            CLOSE,
+            (Sign::Open(HeadingLevel::H3), 10, 12),
+        ],
+        "1 [a]0..9 3 []10..12 ",
+    ),
+    (
+        "an End alone",
+        &[WORDS, CLOSE, WORDS, (Sign::SoftBreak, 2, 3)],
+        "",
+    ),
+    // what adds text
+    (
+        "texts",
+        &[
+            OPEN,
+            (Sign::Words("a"), 1, 2),
+            (Sign::Words("b"), 1, 2),
+            (Sign::SoftBreak, 2, 3),
+            (Sign::Code("c"), 3, 4),
+            (Sign::HardBreak, 4, 5),
+            (Sign::InlineMath("d"), 5, 6),
+            (Sign::DisplayMath("e"), 6, 7),
+            CLOSE,
+        ],
+        "1 [ab c de]0..9 ",
+    ),
+    (
+        "others",
+        &[
+            OPEN,
+            (Sign::OpenParagraph, 1, 2),
+            (Sign::InlineHtml("<b>"), 1, 2),
+            WORDS,
+            (Sign::Reference("x"), 2, 3),
+            (Sign::Done, 3, 4),
+            (Sign::CloseParagraph, 4, 5),
+            (Sign::Words(""), 5, 5),
+            (Sign::Words("b"), 5, 6),
+            CLOSE,
+        ],
+        "1 [ab]0..9 ",
+    ),
+];
 
 #[test]
-fn errors(rt: HostRuntime) -> Result<(), Fail> {
-    let alloc = rt.alloc();
-    let refused = (Sign::Refused(Fault::Memory), 0, 0);
-    let too_deep = (Sign::Refused(Fault::Depth), 0, 0);
-    events_have(alloc, "at first", &[too_deep], "Depth")?;
-    events_have(alloc, "in a heading", &[OPEN, WORDS, refused], "Memory")?;
-    let behind = [OPEN, WORDS, CLOSE, too_deep, refused];
-    events_have(alloc, "behind a heading", &behind, "Depth")?;
-    let hidden = [OPEN, WORDS, (Sign::Nothing, 0, 0), refused];
-    events_have(alloc, "behind None", &hidden, "1 [a]0..9 ")
-}
-
-#[test]
-fn starts_and_ends(rt: HostRuntime) -> Result<(), Fail> {
-    let alloc = rt.alloc();
-    let other_end = [OPEN, WORDS, (Sign::Close(HeadingLevel::H3), 0, 9), WORDS];
-    events_have(alloc, "an End of another level", &other_end, "1 [a]0..9 ")?;
-    let inside = [
-        OPEN,
-        (Sign::Open(HeadingLevel::H2), 1, 3),
-        WORDS,
-        (Sign::Close(HeadingLevel::H2), 1, 3),
-        (Sign::Words("b"), 3, 4),
-        CLOSE,
-        (Sign::Open(HeadingLevel::H3), 10, 12),
-    ];
-    events_have(alloc, "a Start inside", &inside, "1 [a]0..9 3 []10..12 ")?;
-    let outside = [WORDS, CLOSE, WORDS, (Sign::SoftBreak, 2, 3)];
-    events_have(alloc, "an End alone", &outside, "")
-}
-
-#[test]
-fn what_adds_text(rt: HostRuntime) -> Result<(), Fail> {
-    let texts = [
-        OPEN,
-        (Sign::Words("a"), 1, 2),
-        (Sign::Words("b"), 1, 2),
-        (Sign::SoftBreak, 2, 3),
-        (Sign::Code("c"), 3, 4),
-        (Sign::HardBreak, 4, 5),
-        (Sign::InlineMath("d"), 5, 6),
-        (Sign::DisplayMath("e"), 6, 7),
-        CLOSE,
-    ];
-    events_have(rt.alloc(), "texts", &texts, "1 [ab c de]0..9 ")?;
-    let silent = [
-        OPEN,
-        (Sign::OpenParagraph, 1, 2),
-        (Sign::InlineHtml("<b>"), 1, 2),
-        WORDS,
-        (Sign::Reference("x"), 2, 3),
-        (Sign::Done, 3, 4),
-        (Sign::CloseParagraph, 4, 5),
-        (Sign::Words(""), 5, 5),
-        (Sign::Words("b"), 5, 6),
-        CLOSE,
-    ];
-    events_have(rt.alloc(), "others", &silent, "1 [ab]0..9 ")
+fn outlines_of_events(rt: HostRuntime) -> Result<(), Fail> {
+    for &(row, events, wanted) in &OUTLINES {
+        events_have(rt.alloc(), row, events, wanted)?;
+    }
+    Ok(())
 }

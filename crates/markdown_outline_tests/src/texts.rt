@@ -36,64 +36,46 @@ fn texts_have(alloc: Global, options: Options, rows: &[(&str, &str)]) -> Result<
     Ok(())
 }
 
-#[test]
-fn levels(rt: HostRuntime) -> Result<(), Fail> {
-    let rows = [
-        ("", ""),
-        ("x\n", ""),
-        ("#x\n", ""),
-        ("    # A\n", ""),
-        ("#", "1 []0..1 "),
-        ("# A *b* `c`\n\nx\n\n## D", "1 [A b c]0..12 2 [D]16..20 "),
-        (
-            "### A\n# B\n###### C\n",
-            "3 [A]0..6 1 [B]6..10 6 [C]10..19 ",
-        ),
-        (
-            "## A ##\n#### B\n##### B\n",
-            "2 [A]0..8 4 [B]8..15 5 [B]15..23 ",
-        ),
-    ];
-    texts_have(rt.alloc(), Options::empty(), &rows)
-}
+/// Texts and their headings without options.
+static TEXTS: [(&str, &str); 21] = [
+    // levels
+    ("", ""),
+    ("x\n", ""),
+    ("#x\n", ""),
+    ("    # A\n", ""),
+    ("#", "1 []0..1 "),
+    ("# A *b* `c`\n\nx\n\n## D", "1 [A b c]0..12 2 [D]16..20 "),
+    (
+        "### A\n# B\n###### C\n",
+        "3 [A]0..6 1 [B]6..10 6 [C]10..19 ",
+    ),
+    (
+        "## A ##\n#### B\n##### B\n",
+        "2 [A]0..8 4 [B]8..15 5 [B]15..23 ",
+    ),
+    // underlined headings
+    ("A\n===\n\nB *c*\n---\n", "1 [A]0..6 2 [B c]7..17 "),
+    ("A\nb\n===\n", "1 [A b]0..8 "),
+    ("A  \nb\n===\n", "1 [A b]0..10 "),
+    ("A\\\nb\n===\n", "1 [A b]0..9 "),
+    // headings in containers
+    ("- # A\n- B\n  ===\n", "1 [A]2..6 1 [B]8..16 "),
+    ("> ## A\n> B\n> ---\n", "2 [A]2..7 2 [B]9..17 "),
+    ("1. > # A\n\n   # B\n", "1 [A]5..9 1 [B]13..17 "),
+    // inline markup
+    ("# ![a *b*](c \"t\") [d](e)\n", "1 [a b d]0..25 "),
+    ("# &amp; <b>x</b>\n", "1 [& x]0..17 "),
+    ("# <http://a.b> \\*\n", "1 [http://a.b *]0..18 "),
+    ("# [x]\n\n[x]: y\n", "1 [x]0..6 "),
+    ("# [x]\n", "1 [[x]]0..6 "),
+    // math without the option
+    ("# $x$ and $$y$$\n", "1 [$x$ and $$y$$]0..16 "),
+];
+
+static MATH: [(&str, &str); 1] = [("# $x$ and $$y$$\n", "1 [x and y]0..16 ")];
 
 #[test]
-fn underlined_headings(rt: HostRuntime) -> Result<(), Fail> {
-    let rows = [
-        ("A\n===\n\nB *c*\n---\n", "1 [A]0..6 2 [B c]7..17 "),
-        ("A\nb\n===\n", "1 [A b]0..8 "),
-        ("A  \nb\n===\n", "1 [A b]0..10 "),
-        ("A\\\nb\n===\n", "1 [A b]0..9 "),
-    ];
-    texts_have(rt.alloc(), Options::empty(), &rows)
-}
-
-#[test]
-fn headings_in_containers(rt: HostRuntime) -> Result<(), Fail> {
-    let rows = [
-        ("- # A\n- B\n  ===\n", "1 [A]2..6 1 [B]8..16 "),
-        ("> ## A\n> B\n> ---\n", "2 [A]2..7 2 [B]9..17 "),
-        ("1. > # A\n\n   # B\n", "1 [A]5..9 1 [B]13..17 "),
-    ];
-    texts_have(rt.alloc(), Options::empty(), &rows)
-}
-
-#[test]
-fn inline_markup(rt: HostRuntime) -> Result<(), Fail> {
-    let rows = [
-        ("# ![a *b*](c \"t\") [d](e)\n", "1 [a b d]0..25 "),
-        ("# &amp; <b>x</b>\n", "1 [& x]0..17 "),
-        ("# <http://a.b> \\*\n", "1 [http://a.b *]0..18 "),
-        ("# [x]\n\n[x]: y\n", "1 [x]0..6 "),
-        ("# [x]\n", "1 [[x]]0..6 "),
-    ];
-    texts_have(rt.alloc(), Options::empty(), &rows)
-}
-
-#[test]
-fn math(rt: HostRuntime) -> Result<(), Fail> {
-    let rows = [("# $x$ and $$y$$\n", "1 [x and y]0..16 ")];
-    texts_have(rt.alloc(), Options::ENABLE_MATH, &rows)?;
-    let rows = [("# $x$ and $$y$$\n", "1 [$x$ and $$y$$]0..16 ")];
-    texts_have(rt.alloc(), Options::empty(), &rows)
+fn headings_of_texts(rt: HostRuntime) -> Result<(), Fail> {
+    texts_have(rt.alloc(), Options::empty(), &TEXTS)?;
+    texts_have(rt.alloc(), Options::ENABLE_MATH, &MATH)
 }
