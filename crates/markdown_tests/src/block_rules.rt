@@ -379,13 +379,13 @@ fn each_body_keeps_its_rules(rt: HostRuntime) -> Result<(), Fail> {
 
 /// The link of a node that is set.
 #[derive(Clone, Copy, Drop)]
-enum Link {
+pub enum Link {
     Child,
     Next,
 }
 
 /// Sets a link between two nodes, if both exist.
-fn set_link(tree: &mut Tree<Item>, from: usize, link: Link, to: Option<usize>) {
+pub fn set_link(tree: &mut Tree<Item>, from: usize, link: Link, to: Option<usize>) {
     if from >= tree.len() || to.is_some_and(|to| to >= tree.len()) {
         return;
     }

@@ -8,6 +8,7 @@ use markdown_base::tag::{HeadingLevel, InvalidHeadingLevel, LinkType, Tag, TagEn
 use markdown_test_helpers::rows::gives;
 use std::alloc::{AllocError, Global};
 use std::convert::{AsStr, TryFrom};
+use std::fmt::Debug;
 use std::hash::{DefaultHasher, Hash, Hasher};
 use std::test::Fail;
 
@@ -192,31 +193,39 @@ fn outliving_link(alloc: Global, destination: &str) -> Result<Event<'static>, Fa
     link.into_static(alloc)
 }
 
+/// Returns the Start of a heading with a name in each of its fields.
+fn heading<'a>(alloc: Global, name: &'a str) -> Result<Event<'a>, AllocError> {
+    let classes = vec![in alloc; CowStr::from(name), CowStr::from("b")]?;
+    let attrs = vec![in alloc; (CowStr::from("c"), Some(CowStr::from(name)))]?;
+    Ok(Event::Start(Tag::Heading {
+        level: HeadingLevel::H2,
+        id: Some(CowStr::from(name)),
+        classes,
+        attrs,
+    }))
+}
+
 /// Returns the Start of a heading that outlives the text that it was made from.
 fn outliving_heading(alloc: Global, name: &str) -> Result<Event<'static>, Fault> {
     let source = String::from_str(alloc, name)?;
-    let heading = Event::Start(Tag::Heading {
-        level: HeadingLevel::H2,
-        id: Some(CowStr::from(source.as_str())),
-        classes: vec![in alloc; CowStr::from(source.as_str()), CowStr::from("b")]?,
-        attrs: vec![in alloc; (CowStr::from("c"), Some(CowStr::from(source.as_str())))]?,
-    });
+    let heading = heading(alloc, source.as_str())?;
     heading.into_static(alloc)
 }
 
-/// Returns an event and a copy of it as `Debug` prints them.
-fn printed_twice(alloc: Global, event: Result<Event<'static>, Fault>) -> Result<String, Fault> {
-    let event = event?;
-    let copy = event.try_clone(alloc)?;
-    let printed = format!(in alloc; "{event:?}; {copy:?}")?;
-    drop(event);
-    drop(copy);
-    Ok(printed)
+/// Returns a value and a copy of it as `Debug` prints them. The type is a parameter, so that no event is dropped here.
+fn both_printed<T: Debug + Drop>(
+    alloc: Global,
+    held: T,
+    copy: Result<T, Fault>,
+) -> Result<String, Fault> {
+    let copy = copy?;
+    Ok(format!(in alloc; "{held:?}; {copy:?}")?)
 }
 
 /// Checks how an event and a copy of it are printed.
-fn outlives(alloc: Global, event: Result<Event<'static>, Fault>, start: &str) -> Result<(), Fail> {
-    let printed = printed_twice(alloc, event)?;
+fn outlives(alloc: Global, event: Event<'static>, start: &str) -> Result<(), Fail> {
+    let copy = event.try_clone(alloc);
+    let printed = both_printed(alloc, event, copy)?;
     let twice = format!(in alloc; "{start}; {start}")?;
     gives(start, printed.as_str(), twice.as_str())
 }
@@ -225,10 +234,10 @@ fn outlives(alloc: Global, event: Result<Event<'static>, Fault>, start: &str) ->
 fn events_outlive_their_text(rt: HostRuntime) -> Result<(), Fail> {
     let alloc = rt.alloc();
     let link_start = "Start(Link { link_type: Inline, dest_url: \"/a\", title: \"t\", id: \"\" })";
-    outlives(alloc, outliving_link(alloc, "/a"), link_start)?;
+    outlives(alloc, outliving_link(alloc, "/a")?, link_start)?;
     let heading_start =
         "Start(Heading { level: H2, id: Some(\"a\"), classes: [\"a\", \"b\"], attrs: [(\"c\", Some(\"a\"))] })";
-    outlives(alloc, outliving_heading(alloc, "a"), heading_start)
+    outlives(alloc, outliving_heading(alloc, "a")?, heading_start)
 }
 
 const LONG: &str = "http://example.com/a/long/destination";
@@ -242,23 +251,32 @@ fn definition<'a>(alloc: Global) -> Result<LinkDef<'a>, AllocError> {
 }
 
 /// Returns the form of a definition's destination, and then its destination, its title and its range.
-fn described(alloc: Global, held: Result<LinkDef<'_>, Fault>) -> Result<String, Fault> {
-    let held = held?;
+fn described(alloc: Global, held: &LinkDef<'_>) -> Result<String, AllocError> {
     let title = match &held.title {
         Some(title) => title.as_str(),
         None => "untitled",
     };
-    let (start, end) = (held.span.start, held.span.end);
-    let form = form_of(&held.dest);
-    let said = format!(in alloc; "{form} <{}> {title} {start}..{end}", held.dest.as_str());
+    format!(in alloc;
+        "{} <{}> {title} {}..{}",
+        form_of(&held.dest),
+        held.dest.as_str(),
+        held.span.start,
+        held.span.end
+    )
+}
+
+/// Returns the same of a definition that was made.
+fn made_described(alloc: Global, made: Result<LinkDef<'_>, Fault>) -> Result<String, Fault> {
+    let held = made?;
+    let said = described(alloc, &held);
     drop(held);
     Ok(said?)
 }
 
 /// Checks the copy of a definition, and its `'static` form.
 fn is_copied(alloc: Global, held: LinkDef<'_>, copy: &str, owned: &str) -> Result<(), Fail> {
-    let copied = described(alloc, held.try_clone(alloc));
-    let freed = described(alloc, held.into_static(alloc));
+    let copied = made_described(alloc, held.try_clone(alloc));
+    let freed = made_described(alloc, held.into_static(alloc));
     gives("a copy", copied?.as_str(), copy)?;
     gives("without the source", freed?.as_str(), owned)
 }

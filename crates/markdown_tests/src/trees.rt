@@ -1,4 +1,5 @@
 //! Trees that are made, walked and changed by the calls of `Tree`.
+use crate::block_rules::{Link, set_link};
 use markdown_base::item::{Item, ItemBody};
 use markdown_base::tree::Tree;
 use markdown_test_helpers::rows::gives;
@@ -109,12 +110,13 @@ fn a_tree_is_walked(rt: HostRuntime) -> Result<(), Fail> {
     gives("a walk", walked?, wanted)
 }
 
-/// Appends a rule to the breaks, and makes the paragraph begin with the second break, which becomes a line of HTML.
+/// Creates a node, and links it after the second break. Makes the paragraph begin with the second break, which becomes a line
+/// of HTML. Returns the new node's number.
 fn write(tree: &mut Tree<Item>) -> Result<usize, AllocError> {
     let made = tree.create_node(item(0, 0, ItemBody::Rule))?;
-    if tree.len() > 4 {
-        tree.set_next(3, Some(4));
-        tree.set_child(1, Some(3));
+    set_link(tree, 3, Link::Next, Some(4));
+    set_link(tree, 1, Link::Child, Some(3));
+    if 3 < tree.len() {
         tree.set_item(3, item(3, 3, ItemBody::Html));
     }
     Ok(made)
