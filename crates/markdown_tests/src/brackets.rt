@@ -11,8 +11,8 @@ use markdown_brackets::block_rules::BlockRules;
 use markdown_brackets::chain_openers::ChainOpeners;
 use markdown_brackets::footnote::{FootnoteStyle, use_footnote};
 use markdown_brackets::items_after::NoItems;
-use markdown_brackets::link_tail::scan_link_tail;
-use markdown_brackets::look_up::{LabelLookup, look_up_label};
+use markdown_brackets::link_tail::{LinkTail, scan_link_tail};
+use markdown_brackets::look_up::{LabelLookup, Target, look_up_label};
 use markdown_brackets::openers::Opener;
 use markdown_brackets::reference::{Form, scan_form};
 use markdown_brackets::wikilink::{Shown, scan_wikilink_body};
@@ -20,6 +20,7 @@ use markdown_defs::{
     Allocations, BrokenLink, BrokenLinkCallback, Closure, DefaultBrokenLinkCallback,
 };
 use markdown_scan::line_rule::NoPrefix;
+use markdown_test_helpers::lists::is_nothing;
 use markdown_test_helpers::parts::{defining, no_parts};
 use markdown_test_helpers::rows::gives;
 use markdown_test_helpers::trees::{item, text};
@@ -36,80 +37,82 @@ fn rules(alloc: Global, in_table: bool) -> BlockRules<'static, NoPrefix> {
     }
 }
 
-/// Returns whether the text is a tail with this destination and title, each a slice of it if `are_slices` is true.
-fn is_tail(
-    alloc: Global,
-    text: &str,
-    in_table: bool,
-    destination: &str,
-    title: &str,
-    are_slices: bool,
-) -> Result<bool, AllocError> {
+/// Returns whether a tail ends with its text, and has this destination and title, each a slice if `are_slices` is true.
+fn is_tail(tail: &LinkTail<'_>, row: Tail) -> bool {
+    let (text, _, destination, title, are_slices) = row;
+    let slices = matches!(&tail.destination, CowStr::Borrowed(_))
+        && matches!(&tail.title, CowStr::Borrowed(_));
+    tail.end == text.len()
+        && tail.destination.as_str() == destination
+        && tail.title.as_str() == title
+        && slices == are_slices
+}
+
+/// Returns the tail of a link that a text begins with.
+fn tail_of(alloc: Global, text: &str, in_table: bool) -> Result<Option<LinkTail<'_>>, AllocError> {
     if !text.is_char_boundary(0) {
-        return Ok(false);
+        return Ok(None);
     }
-    match scan_link_tail(&rules(alloc, in_table), text, 0, &mut NoItems)? {
+    scan_link_tail(&rules(alloc, in_table), text, 0, &mut NoItems)
+}
+
+/// Returns whether the text is a tail, as the row says.
+fn has_tail(alloc: Global, row: Tail) -> Result<bool, AllocError> {
+    match tail_of(alloc, row.0, row.1)? {
         None => Ok(false),
         Some(tail) => {
-            let slices = matches!(&tail.destination, CowStr::Borrowed(_))
-                && matches!(&tail.title, CowStr::Borrowed(_));
-            Ok(
-                tail.end == text.len()
-                    && tail.destination.as_str() == destination
-                    && tail.title.as_str() == title
-                    && slices == are_slices,
-            )
+            let is_so = is_tail(&tail, row);
+            drop(tail);
+            Ok(is_so)
         }
     }
 }
 
+/// A text, whether it is in a table, and the destination and the title of the tail that it is, and whether they are slices
+/// of it.
+type Tail = (&'static str, bool, &'static str, &'static str, bool);
+
+static TAILS: [Tail; 11] = [
+    ("(c)", false, "c", "", true),
+    ("()", false, "", "", true),
+    ("(c \"t\")", false, "c", "t", true),
+    ("(<c d>'t' )", false, "c d", "t", true),
+    ("(\tc\n(t))", false, "c", "t", true),
+    // entities and escapes are replaced
+    ("(c&amp;d '\\'')", false, "c&d", "'", false),
+    ("(c '&#65;')", false, "c", "A", false),
+    ("(c '\\a')", false, "c", "\\a", true),
+    // in a table two backslashes and a pipe are a pipe, and reading continues after it
+    ("(c 'a\\\\|*')", true, "c", "a|*", false),
+    ("(c 'a\\\\|*')", false, "c", "a\\|*", false),
+    // a line ending stays where no item follows
+    ("(c 'a\r\nb')", false, "c", "a\r\nb", true),
+];
+
 #[test]
 fn tails_of_links(rt: HostRuntime) -> Result<(), Fail> {
-    let rows = &[
-        ("(c)", false, "c", "", true),
-        ("()", false, "", "", true),
-        ("(c \"t\")", false, "c", "t", true),
-        ("(<c d>'t' )", false, "c d", "t", true),
-        ("(\tc\n(t))", false, "c", "t", true),
-        // entities and escapes are replaced
-        ("(c&amp;d '\\'')", false, "c&d", "'", false),
-        ("(c '&#65;')", false, "c", "A", false),
-        ("(c '\\a')", false, "c", "\\a", true),
-        // in a table two backslashes and a pipe are a pipe, and reading continues after it
-        ("(c 'a\\\\|*')", true, "c", "a|*", false),
-        ("(c 'a\\\\|*')", false, "c", "a\\|*", false),
-        // a line ending stays where no item follows
-        ("(c 'a\r\nb')", false, "c", "a\r\nb", true),
-    ];
-    for &(text, in_table, destination, title, are_slices) in rows {
-        let is_so = is_tail(rt.alloc(), text, in_table, destination, title, are_slices)?;
-        gives(text, is_so, true)?;
+    for row in &TAILS {
+        gives((row.0, row.1), has_tail(rt.alloc(), *row)?, true)?;
     }
     Ok(())
 }
 
-/// Returns whether no tail of a link is read.
-fn is_no_tail(alloc: Global, text: &str) -> Result<bool, AllocError> {
-    if !text.is_char_boundary(0) {
-        return Ok(false);
-    }
-    Ok(scan_link_tail(&rules(alloc, false), text, 0, &mut NoItems)?.is_none())
-}
+static NO_TAILS: [&str; 9] = [
+    "",
+    "c",
+    "(c",
+    "(c d)",
+    "(c 't)",
+    "(c (t(u)))",
+    "(c\n\n't')",
+    "(<c)",
+    "(c 't' x)",
+];
 
 #[test]
 fn no_tails_of_links(rt: HostRuntime) -> Result<(), Fail> {
-    for &text in &[
-        "",
-        "c",
-        "(c",
-        "(c d)",
-        "(c 't)",
-        "(c (t(u)))",
-        "(c\n\n't')",
-        "(<c)",
-        "(c 't' x)",
-    ] {
-        gives(text, is_no_tail(rt.alloc(), text)?, true)?;
+    for &text in &NO_TAILS {
+        gives(text, is_nothing(tail_of(rt.alloc(), text, false)?), true)?;
     }
     Ok(())
 }
@@ -127,7 +130,11 @@ fn label_of(
     }
     let form = scan_form(&rules(alloc, false), source, at, next, after)?;
     match form {
-        Form::Reference { label, end } => Ok(Some((end, label.as_str() == "Some reference"))),
+        Form::Reference { label, end } => {
+            let is_so = label.as_str() == "Some reference";
+            drop(label);
+            Ok(Some((end, is_so)))
+        }
         Form::Collapsed => Ok(Some((0, true))),
         Form::Shortcut => Ok(None),
     }
@@ -157,23 +164,11 @@ fn forms_of_references(rt: HostRuntime) -> Result<(), Fail> {
     Ok(())
 }
 
-/// Returns what a label finds: the type of the link, and its destination.
-fn look_up<'a, F: BrokenLinkCallback<'a>>(
-    alloc: Global,
-    lookup: &mut LabelLookup<'a, F>,
-    label: &'a str,
-) -> Result<Option<(LinkType, CowStr<'a>)>, Fault>
-    requires { IfSome lookup.old.callback F.can_ask }
-    ensures { IfSome lookup.new.callback F.can_ask }
-{
-    let about = BrokenLink {
-        span: 0..3,
-        link_type: LinkType::Shortcut,
-        reference: CowStr::Borrowed(label),
-    };
-    match look_up_label(alloc, lookup, about)? {
-        None => Ok(None),
-        Some(target) => Ok(Some((target.link_type, target.destination))),
+/// Returns whether a target is of this type with this destination, or is None for None.
+fn is_target(found: &Option<Target<'_>>, wanted: Option<(LinkType, &str)>) -> bool {
+    match found {
+        Some(target) => wanted == Some((target.link_type, target.destination.as_str())),
+        None => wanted.is_none(),
     }
 }
 
@@ -188,11 +183,13 @@ fn finds<'a, F: BrokenLinkCallback<'a>>(
     requires { IfSome lookup.old.callback F.can_ask }
     ensures { IfSome lookup.new.callback F.can_ask }
 {
-    let found = look_up(alloc, lookup, label)?;
-    let is_so = match &found {
-        Some((kind, destination)) => wanted == Some((*kind, destination.as_str())),
-        None => wanted.is_none(),
+    let about = BrokenLink {
+        span: 0..3,
+        link_type: LinkType::Shortcut,
+        reference: CowStr::Borrowed(label),
     };
+    let found = look_up_label(alloc, lookup, about)?;
+    let is_so = is_target(&found, wanted);
     drop(found);
     Ok((is_so, lookup.limit))
 }

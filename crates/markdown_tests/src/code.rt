@@ -19,74 +19,63 @@ fn shown(
     text: &str,
     kind: SpanKind,
     in_table: bool,
+    prefix: &ContainerPrefix<'_>,
 ) -> Result<(String, bool), AllocError> {
-    let tree = Tree::new(alloc)?;
-    let prefix = ContainerPrefix::new(&tree, false);
-    let made = span_text(alloc, text, kind, in_table, &prefix)?;
+    let made = span_text(alloc, text, kind, in_table, prefix)?;
     let is_slice = is_slice(&made);
     Ok((made.into_string(alloc)?, is_slice))
 }
 
-/// Checks the text of a span with this source, and whether it is a slice of it.
-fn shows(
-    alloc: Global,
-    text: &str,
-    kind: SpanKind,
-    in_table: bool,
-    wanted: (&str, bool),
-) -> Result<(), Fail> {
-    let (made, is_slice) = shown(alloc, text, kind, in_table)?;
-    gives(text, (made.as_str(), is_slice), wanted)
+/// A kind of span with its source, whether it is in a table, its text, and whether that is a slice of the source.
+type Span = (SpanKind, &'static str, bool, &'static str, bool);
+
+static SPANS: [Span; 19] = [
+    (SpanKind::Code, "a`b", false, "a`b", true),
+    // a line feed, and a space
+    (SpanKind::Code, "\n ", false, "  ", false),
+    (SpanKind::Code, "\nx \ny\n", false, "x  y", false),
+    (SpanKind::Code, "a\r\nb", false, "a b", false),
+    (SpanKind::Code, "a\rb", false, "a b", false),
+    (SpanKind::Code, "a\n\nb", false, "a  b", false),
+    (SpanKind::Code, " `` ", false, "``", true),
+    (SpanKind::Code, "  a ", false, " a", true),
+    (SpanKind::Code, " a", false, " a", true),
+    (SpanKind::Code, "   ", false, "   ", true),
+    (SpanKind::Code, "", false, "", true),
+    (SpanKind::Code, "a\\|b", true, "a|b", false),
+    (SpanKind::Code, "a\\|b", false, "a\\|b", true),
+    (SpanKind::Code, "a|b", true, "a|b", true),
+    (SpanKind::Code, "é\né", false, "é é", false),
+    (SpanKind::Math, " a ", false, " a ", true),
+    (SpanKind::Math, "a\r\nb", false, "a\r\nb", false),
+    (SpanKind::Math, "a\\|b\\|", true, "a|b|", false),
+    (SpanKind::Math, "é", true, "é", true),
+];
+
+/// Checks the text of a span, and whether it is a slice of the source.
+fn shows(alloc: Global, span: Span, prefix: &ContainerPrefix<'_>) -> Result<(), Fail> {
+    let (kind, text, in_table, wanted, as_slice) = span;
+    let (made, is_slice) = shown(alloc, text, kind, in_table, prefix)?;
+    gives(
+        (text, in_table),
+        (made.as_str(), is_slice),
+        (wanted, as_slice),
+    )
 }
 
-#[test]
-fn texts_of_code(rt: HostRuntime) -> Result<(), Fail> {
-    for &(text, in_table, expected, is_slice) in &[
-        ("a`b", false, "a`b", true),
-        // a line feed, and a space
-        ("\n ", false, "  ", false),
-        ("\nx \ny\n", false, "x  y", false),
-        ("a\r\nb", false, "a b", false),
-        ("a\rb", false, "a b", false),
-        ("a\n\nb", false, "a  b", false),
-        (" `` ", false, "``", true),
-        ("  a ", false, " a", true),
-        (" a", false, " a", true),
-        ("   ", false, "   ", true),
-        ("", false, "", true),
-        ("a\\|b", true, "a|b", false),
-        ("a\\|b", false, "a\\|b", true),
-        ("a|b", true, "a|b", true),
-        ("é\né", false, "é é", false),
-    ] {
-        shows(
-            rt.alloc(),
-            text,
-            SpanKind::Code,
-            in_table,
-            (expected, is_slice),
-        )?;
+/// Checks each span.
+fn all_show(alloc: Global, prefix: &ContainerPrefix<'_>) -> Result<(), Fail> {
+    for span in &SPANS {
+        shows(alloc, *span, prefix)?;
     }
     Ok(())
 }
 
 #[test]
-fn texts_of_math(rt: HostRuntime) -> Result<(), Fail> {
-    for &(text, in_table, expected, is_slice) in &[
-        (" a ", false, " a ", true),
-        ("a\r\nb", false, "a\r\nb", false),
-        ("a\\|b\\|", true, "a|b|", false),
-        ("é", true, "é", true),
-    ] {
-        shows(
-            rt.alloc(),
-            text,
-            SpanKind::Math,
-            in_table,
-            (expected, is_slice),
-        )?;
-    }
-    Ok(())
+fn texts_of_code_and_math(rt: HostRuntime) -> Result<(), Fail> {
+    let tree = Tree::new(rt.alloc())?;
+    let prefix = ContainerPrefix::new(&tree, false);
+    all_show(rt.alloc(), &prefix)
 }
 
 fn described(alloc: Global, found: Option<MarkupFound<'_>>) -> Result<String, AllocError> {
@@ -103,41 +92,60 @@ fn described(alloc: Global, found: Option<MarkupFound<'_>>) -> Result<String, Al
 }
 
 /// Returns what begins at the `<` at `start`.
-fn markup(alloc: Global, text: &str, start: usize) -> Result<String, AllocError> {
+fn markup(
+    alloc: Global,
+    text: &str,
+    start: usize,
+    prefix: &ContainerPrefix<'_>,
+) -> Result<String, AllocError> {
     if start >= text.len() || !text.is_char_boundary(start) || !text.is_char_boundary(start + 1) {
         return String::from_str(alloc, "no character");
     }
-    let tree = Tree::new(alloc)?;
-    let prefix = ContainerPrefix::new(&tree, false);
     let mut scanner = RawHtmlScanner::new(text.as_bytes());
-    let found = scan_after_less(alloc, text, start, start + 1, &mut scanner, &prefix)?;
+    let found = scan_after_less(alloc, text, start, start + 1, &mut scanner, prefix)?;
     described(alloc, found)
 }
 
+/// Texts, where the `<` is in each, and what begins there.
+static MARKUP: [(&str, usize, &str); 12] = [
+    ("<http://a.b>", 0, "autolink 12 http://a.b"),
+    ("a <b> c", 2, "html 5"),
+    ("a <!-- x --> c", 2, "html 12"),
+    ("<!A>", 0, "html 4"),
+    ("<![CDATA[a]]>", 0, "html 13"),
+    ("x <? a", 2, "none"),
+    ("x <? b ?>", 2, "html 9"),
+    ("<foo\nbar>", 0, "html 9"),
+    ("< a", 0, "none"),
+    ("<", 0, "none"),
+    ("<a@b.c>", 0, "none"),
+    // a backslash is between
+    ("<\\!-- x -->", 0, "none"),
+];
+
 /// Checks what begins at the `<` at `start`.
-fn has_markup(alloc: Global, text: &str, start: usize, expected: &str) -> Result<(), Fail> {
-    let found = markup(alloc, text, start)?;
+fn has_markup(
+    alloc: Global,
+    text: &str,
+    start: usize,
+    expected: &str,
+    prefix: &ContainerPrefix<'_>,
+) -> Result<(), Fail> {
+    let found = markup(alloc, text, start, prefix)?;
     gives(text, found.as_str(), expected)
+}
+
+/// Checks what begins at the `<` of each text.
+fn all_have_markup(alloc: Global, prefix: &ContainerPrefix<'_>) -> Result<(), Fail> {
+    for &(text, start, expected) in &MARKUP {
+        has_markup(alloc, text, start, expected, prefix)?;
+    }
+    Ok(())
 }
 
 #[test]
 fn markup_after_a_less_than_sign(rt: HostRuntime) -> Result<(), Fail> {
-    for &(text, start, expected) in &[
-        ("<http://a.b>", 0, "autolink 12 http://a.b"),
-        ("a <b> c", 2, "html 5"),
-        ("a <!-- x --> c", 2, "html 12"),
-        ("<!A>", 0, "html 4"),
-        ("<![CDATA[a]]>", 0, "html 13"),
-        ("x <? a", 2, "none"),
-        ("x <? b ?>", 2, "html 9"),
-        ("<foo\nbar>", 0, "html 9"),
-        ("< a", 0, "none"),
-        ("<", 0, "none"),
-        ("<a@b.c>", 0, "none"),
-        // a backslash is between
-        ("<\\!-- x -->", 0, "none"),
-    ] {
-        has_markup(rt.alloc(), text, start, expected)?;
-    }
-    Ok(())
+    let tree = Tree::new(rt.alloc())?;
+    let prefix = ContainerPrefix::new(&tree, false);
+    all_have_markup(rt.alloc(), &prefix)
 }

@@ -1,13 +1,20 @@
 //! Look-ups of definitions and footnotes by case folding, and uses of footnotes.
+use markdown_base::block_parts::LinkDef;
 use markdown_base::cow_str::CowStr;
 use markdown_base::fault::Fault;
-use markdown_defs::{Absence, Allocations, FootnoteDef};
+use markdown_defs::{Absence, Allocations, FootnoteDef, RefDefs};
 use markdown_test_helpers::parts::{defining, no_parts};
 use markdown_test_helpers::rows::gives;
-use std::alloc::Global;
+use std::alloc::{AllocError, Global};
 use std::test::Fail;
 
-/// Returns whether a key finds this destination among definitions, or nothing for None.
+/// Returns whether a key finds this destination, or nothing for None.
+fn is_found(held: &RefDefs<'_>, key: &str, dest: Option<&str>) -> Result<bool, Fault> {
+    let found = held.get(key)?;
+    Ok(found.map(|definition| definition.dest.as_str()) == dest)
+}
+
+/// Returns the same of a key among definitions.
 fn finds(
     alloc: Global,
     definitions: &[(&str, &str)],
@@ -15,35 +22,39 @@ fn finds(
     dest: Option<&str>,
 ) -> Result<bool, Fault> {
     let held = Allocations::new(alloc, defining(alloc, definitions)?)?;
-    let found = held.refdefs.get(key)?;
-    Ok(found.map(|definition| definition.dest.as_str()) == dest)
+    let is_so = is_found(&held.refdefs, key, dest);
+    drop(held);
+    is_so
 }
+
+static DEFINITIONS: [(&str, &str); 4] = [
+    ("a B c", "http://example.com"),
+    ("ß", "/u"),
+    ("A", "/1"),
+    ("a", "/2"),
+];
+
+/// Keys, and the destination that each finds.
+static KEYS: [(&str, Option<&str>); 12] = [
+    ("A b C", Some("http://example.com")),
+    ("SS", Some("/u")),
+    ("ẞ", Some("/u")),
+    ("a", Some("/1")),
+    // white space is not collapsed
+    ("a  b c", None),
+    (" a b c", None),
+    ("a b c ", None),
+    ("a\tb c", None),
+    ("a\nb c", None),
+    ("abc", None),
+    ("", None),
+    ("s", None),
+];
 
 #[test]
 fn keys_find_the_first_of_equal_folding(rt: HostRuntime) -> Result<(), Fail> {
-    let definitions = [
-        ("a B c", "http://example.com"),
-        ("ß", "/u"),
-        ("A", "/1"),
-        ("a", "/2"),
-    ];
-    let rows = &[
-        ("A b C", Some("http://example.com")),
-        ("SS", Some("/u")),
-        ("ẞ", Some("/u")),
-        ("a", Some("/1")),
-        // white space is not collapsed
-        ("a  b c", None),
-        (" a b c", None),
-        ("a b c ", None),
-        ("a\tb c", None),
-        ("a\nb c", None),
-        ("abc", None),
-        ("", None),
-        ("s", None),
-    ];
-    for &(key, dest) in rows {
-        gives(key, finds(rt.alloc(), &definitions, key, dest)?, true)?;
+    for &(key, dest) in &KEYS {
+        gives(key, finds(rt.alloc(), &DEFINITIONS, key, dest)?, true)?;
     }
     Ok(())
 }
@@ -104,14 +115,31 @@ fn foldings_are_unicodes(rt: HostRuntime) -> Result<(), Fail> {
     Ok(())
 }
 
+/// Appends a label and its destination.
+fn push_definition(
+    seen: &mut String,
+    label: &str,
+    definition: &LinkDef<'_>,
+) -> Result<(), AllocError> {
+    seen.push_str(label)?;
+    seen.push_str(definition.dest.as_str())
+}
+
+/// Appends the labels and destinations that can be found, in order.
+fn push_definitions(seen: &mut String, held: &RefDefs<'_>) -> Result<(), AllocError> {
+    for (label, definition) in held.iter() {
+        push_definition(seen, label, definition)?;
+    }
+    Ok(())
+}
+
 /// Returns the labels and destinations that can be found, in order.
 fn listed(alloc: Global, definitions: &[(&str, &str)]) -> Result<String, Fault> {
     let held = Allocations::new(alloc, defining(alloc, definitions)?)?;
     let mut seen = String::new(alloc);
-    for (label, definition) in held.refdefs.iter() {
-        seen.push_str(label)?;
-        seen.push_str(definition.dest.as_str())?;
-    }
+    let done = push_definitions(&mut seen, &held.refdefs);
+    drop(held);
+    done?;
     Ok(seen)
 }
 
@@ -121,17 +149,18 @@ fn are_listed(alloc: Global, definitions: &[(&str, &str)], wanted: &str) -> Resu
     gives(wanted, seen.as_str(), wanted)
 }
 
+static REPEATED: [(&str, &str); 6] = [
+    ("Z", "1"),
+    ("b", "2"),
+    ("z", "3"),
+    ("A", "4"),
+    ("B", "5"),
+    ("C", "6"),
+];
+
 #[test]
 fn definitions_are_listed_in_order(rt: HostRuntime) -> Result<(), Fail> {
-    let repeated = [
-        ("Z", "1"),
-        ("b", "2"),
-        ("z", "3"),
-        ("A", "4"),
-        ("B", "5"),
-        ("C", "6"),
-    ];
-    are_listed(rt.alloc(), &repeated, "Z1b2A4C6")?;
+    are_listed(rt.alloc(), &REPEATED, "Z1b2A4C6")?;
     are_listed(rt.alloc(), &[], "")
 }
 
