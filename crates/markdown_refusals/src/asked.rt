@@ -16,80 +16,110 @@ pub struct Question {
     label: &'static str,
 }
 
-/// A text, and its questions to a callback, in order.
+/// A text, its options, if any, and its questions to a callback, in order.
 #[derive(Clone, Copy, Drop)]
 pub struct Source {
     pub text: &'static str,
-    pub options: Options,
+    enabled: Option<Options>,
     pub questions: &'static [Question],
 }
 
-fn plain(text: &'static str, options: Options) -> Source {
-    Source {
-        text,
-        options,
-        questions: &NONE,
+impl Source {
+    pub fn options(self) -> Options {
+        match self.enabled {
+            Some(options) => options,
+            None => Options::empty(),
+        }
     }
 }
 
-static NONE: [Question; 0] = [];
-
-static ONE: [Question; 1] = [Question {
-    start: 23,
-    end: 35,
-    form: LinkType::Collapsed,
-    label: "my website",
-}];
-
-static THREE: [Question; 3] = [
-    Question {
-        start: 0,
-        end: 3,
-        form: LinkType::Shortcut,
-        label: "a",
+/// The texts.
+pub static SOURCES: [Source; 12] = [
+    Source {
+        text: "a  \nb\n\nc",
+        enabled: None,
+        questions: &[],
     },
-    Question {
-        start: 4,
-        end: 7,
-        form: LinkType::Collapsed,
-        label: "b",
+    Source {
+        text: "`\n `x",
+        enabled: None,
+        questions: &[],
     },
-    Question {
-        start: 10,
-        end: 16,
-        form: LinkType::Reference,
-        label: "d",
+    Source {
+        text: "`\nx \ny\n`x",
+        enabled: None,
+        questions: &[],
+    },
+    Source {
+        text: "`a\r\nb`",
+        enabled: None,
+        questions: &[],
+    },
+    Source {
+        text: "[[foo]] [[bar|baz]]",
+        enabled: Some(Options::ENABLE_WIKILINKS),
+        questions: &[],
+    },
+    Source {
+        text: "Testing this![^1] out.\n\n[^1]: Footnote.",
+        enabled: Some(Options::ENABLE_FOOTNOTES),
+        questions: &[],
+    },
+    Source {
+        text: "'a' \"b\"",
+        enabled: Some(Options::ENABLE_SMART_PUNCTUATION),
+        questions: &[],
+    },
+    Source {
+        text: "$a$ $$b$$",
+        enabled: Some(Options::ENABLE_MATH),
+        questions: &[],
+    },
+    Source {
+        text: "hello\n=====\n\n* alpha\n* beta\n",
+        enabled: None,
+        questions: &[],
+    },
+    Source {
+        text: "# A *b* `c`\n\nx\n\n## D",
+        enabled: None,
+        questions: &[],
+    },
+    Source {
+        text: "Hello world, check out [my website][].",
+        enabled: None,
+        questions: &[Question {
+            start: 23,
+            end: 35,
+            form: LinkType::Collapsed,
+            label: "my website",
+        }],
+    },
+    Source {
+        text: "[a] [b][] [c][d]",
+        enabled: None,
+        questions: &[
+            Question {
+                start: 0,
+                end: 3,
+                form: LinkType::Shortcut,
+                label: "a",
+            },
+            Question {
+                start: 4,
+                end: 7,
+                form: LinkType::Collapsed,
+                label: "b",
+            },
+            Question {
+                start: 10,
+                end: 16,
+                form: LinkType::Reference,
+                label: "d",
+            },
+        ],
     },
 ];
-
-/// Returns the texts.
-pub fn sources() -> [Source; 12] {
-    [
-        plain("a  \nb\n\nc", Options::empty()),
-        plain("`\n `x", Options::empty()),
-        plain("`\nx \ny\n`x", Options::empty()),
-        plain("`a\r\nb`", Options::empty()),
-        plain("[[foo]] [[bar|baz]]", Options::ENABLE_WIKILINKS),
-        plain(
-            "Testing this![^1] out.\n\n[^1]: Footnote.",
-            Options::ENABLE_FOOTNOTES,
-        ),
-        plain("'a' \"b\"", Options::ENABLE_SMART_PUNCTUATION),
-        plain("$a$ $$b$$", Options::ENABLE_MATH),
-        plain("hello\n=====\n\n* alpha\n* beta\n", Options::empty()),
-        plain("# A *b* `c`\n\nx\n\n## D", Options::empty()),
-        Source {
-            text: "Hello world, check out [my website][].",
-            options: Options::empty(),
-            questions: &ONE,
-        },
-        Source {
-            text: "[a] [b][] [c][d]",
-            options: Options::empty(),
-            questions: &THREE,
-        },
-    ]
-}
 
 /// A callback that answers each question without allocating, and records whether each was the expected one.
 #[derive(Drop)]
@@ -154,5 +184,5 @@ pub fn callback_for(source: Source) -> Asked {
 /// Returns a parser of a text with such a callback.
 pub fn parser(alloc: Global, source: Source) -> Result<Parser<'static, Asked>, Fault> {
     let callback = Some(callback_for(source));
-    Parser::new_with_broken_link_callback(alloc, source.text, source.options, callback)
+    Parser::new_with_broken_link_callback(alloc, source.text, source.options(), callback)
 }

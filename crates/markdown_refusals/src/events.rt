@@ -10,11 +10,26 @@ fn slice() -> CowStr<'static> {
     CowStr::Borrowed(LONG)
 }
 
+/// Returns two classes.
+fn classes(alloc: Global) -> Result<Vec<CowStr<'static>>, AllocError> {
+    let second = boxed(alloc)?;
+    Ok(vec![in alloc; slice(), second]?)
+}
+
+/// Returns an attribute with a value and one without.
+fn attributes(
+    alloc: Global,
+) -> Result<Vec<(CowStr<'static>, Option<CowStr<'static>>)>, AllocError> {
+    let value = boxed(alloc)?;
+    let name = boxed(alloc)?;
+    Ok(vec![in alloc; (slice(), Some(value)), (name, None)]?)
+}
+
 /// Returns a heading with an id, two classes, an attribute with a value and one without.
 fn heading(alloc: Global) -> Result<Tag<'static>, AllocError> {
     let id = boxed(alloc)?;
-    let classes = vec![in alloc; slice(), boxed(alloc)?]?;
-    let attrs = vec![in alloc; (slice(), Some(boxed(alloc)?)), (boxed(alloc)?, None)]?;
+    let classes = classes(alloc)?;
+    let attrs = attributes(alloc)?;
     Ok(Tag::Heading {
         level: HeadingLevel::H2,
         id: Some(id),
@@ -24,11 +39,13 @@ fn heading(alloc: Global) -> Result<Tag<'static>, AllocError> {
 }
 
 fn link(alloc: Global) -> Result<Tag<'static>, AllocError> {
+    let dest_url = boxed(alloc)?;
+    let id = boxed(alloc)?;
     Ok(Tag::Link {
         link_type: LinkType::Reference,
-        dest_url: boxed(alloc)?,
+        dest_url,
         title: slice(),
-        id: boxed(alloc)?,
+        id,
     })
 }
 
@@ -39,6 +56,15 @@ fn image(alloc: Global) -> Result<Tag<'static>, AllocError> {
         title: boxed(alloc)?,
         id: slice(),
     })
+}
+
+fn fenced(alloc: Global) -> Result<Tag<'static>, AllocError> {
+    Ok(Tag::CodeBlock(CodeBlockKind::Fenced(boxed(alloc)?)))
+}
+
+fn table(alloc: Global) -> Result<Tag<'static>, AllocError> {
+    let alignments = vec![in alloc; Alignment::Left, Alignment::None]?;
+    Ok(Tag::Table(alignments))
 }
 
 /// The kinds of events that have texts.
@@ -73,16 +99,14 @@ fn event(alloc: Global, kind: Kind) -> Result<Event<'static>, AllocError> {
         Kind::Heading => Ok(Event::Start(heading(alloc)?)),
         Kind::Link => Ok(Event::Start(link(alloc)?)),
         Kind::Image => Ok(Event::Start(image(alloc)?)),
-        Kind::Fenced => Ok(Event::Start(Tag::CodeBlock(CodeBlockKind::Fenced(boxed(alloc)?)))),
+        Kind::Fenced => Ok(Event::Start(fenced(alloc)?)),
         Kind::Footnote => Ok(Event::Start(Tag::FootnoteDefinition(slice()))),
-        Kind::Table => Ok(Event::Start(Tag::Table(vec![in alloc;
-            Alignment::Left,
-            Alignment::None,
-        ]?))),
+        Kind::Table => Ok(Event::Start(table(alloc)?)),
     }
 }
 
-/// Returns whether this is what is wanted, or an allocation was refused.
+/// Returns whether this is what is wanted, or an allocation was refused. The type is a parameter, so that no event is
+/// dropped here.
 fn is_same_or_refused<T: PartialEq + Drop>(made: Result<T, Fault>, wanted: &T) -> bool {
     match made {
         Ok(made) => made == *wanted,
@@ -90,24 +114,42 @@ fn is_same_or_refused<T: PartialEq + Drop>(made: Result<T, Fault>, wanted: &T) -
     }
 }
 
-/// Returns whether an event is copied, and unchanged where an allocation was refused.
-fn is_copied(alloc: Global, kind: Kind) -> bool {
-    let (Ok(held), Ok(other)) = (event(alloc, kind), event(alloc, kind)) else {
-        return true;
-    };
-    is_same_or_refused(held.try_clone(alloc), &other) && held == other
+/// Returns the same where what is wanted was made, and otherwise true.
+fn is_wanted<T: PartialEq + Drop>(made: Result<T, Fault>, wanted: Result<T, AllocError>) -> bool {
+    match wanted {
+        Ok(wanted) => is_same_or_refused(made, &wanted),
+        Err(_) => true,
+    }
 }
 
-fn is_freed(alloc: Global, kind: Kind) -> bool {
-    let (Ok(held), Ok(other)) = (event(alloc, kind), event(alloc, kind)) else {
-        return true;
-    };
-    is_same_or_refused(held.into_static(alloc), &other)
+/// Returns whether a value and its copy are what is wanted; the copy may have been refused.
+fn are_wanted<T: PartialEq + Drop>(
+    held: T,
+    copy: Result<T, Fault>,
+    wanted: Result<T, AllocError>,
+) -> bool {
+    match wanted {
+        Ok(wanted) => is_same_or_refused(copy, &wanted) && held == wanted,
+        Err(_) => true,
+    }
+}
+
+/// Returns whether an event is copied, and unchanged where an allocation was refused.
+fn is_copied(alloc: Global, kind: Kind) -> Result<bool, AllocError> {
+    let held = event(alloc, kind)?;
+    let copy = held.try_clone(alloc);
+    Ok(are_wanted(held, copy, event(alloc, kind)))
+}
+
+fn is_freed(alloc: Global, kind: Kind) -> Result<bool, AllocError> {
+    let held = event(alloc, kind)?;
+    let freed = held.into_static(alloc);
+    Ok(is_wanted(freed, event(alloc, kind)))
 }
 
 pub fn copies(alloc: Global) -> bool {
     for kind in &KINDS {
-        if !is_copied(alloc, *kind) {
+        if !is_copied(alloc, *kind).unwrap_or(true) {
             return false;
         }
     }
@@ -116,7 +158,7 @@ pub fn copies(alloc: Global) -> bool {
 
 pub fn frees(alloc: Global) -> bool {
     for kind in &KINDS {
-        if !is_freed(alloc, *kind) {
+        if !is_freed(alloc, *kind).unwrap_or(true) {
             return false;
         }
     }

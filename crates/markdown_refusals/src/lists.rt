@@ -46,7 +46,8 @@ impl Listed for RangedTexts {
             3 => 29..37,
             _ => 37..49,
         };
-        Some((Texts.item(at)?, range))
+        let event = Texts.item(at)?;
+        Some((event, range))
     }
 }
 
@@ -80,7 +81,8 @@ impl Listed for MergedRanges {
             1 => 25..29,
             _ => 29..49,
         };
-        Some((Merged.item(at)?, range))
+        let event = Merged.item(at)?;
+        Some((event, range))
     }
 }
 

@@ -45,27 +45,44 @@ fn texts_fit(alloc: Global) -> Result<bool, Fault> {
 }
 
 /// Calls the accessors of a new parser, with ranges and without.
-fn parsers(alloc: Global, calls: bool) -> Result<bool, Fault> {
-    let parser = Parser::new(alloc, DEFINING)?;
-    if !calls {
-        return Ok(true);
-    }
+fn has_definition(parser: Parser<'_, DefaultBrokenLinkCallback>) -> bool {
     let first = lists_the_definition(parser.reference_definitions()) && parser.work().items == 0;
     let iter = parser.into_offset_iter();
-    Ok(first && lists_the_definition(iter.reference_definitions()) && iter.work().items == 0)
+    let second = lists_the_definition(iter.reference_definitions()) && iter.work().items == 0;
+    drop(iter);
+    first && second
 }
 
-/// Calls a parser whose walk is over.
+fn parsers(alloc: Global, calls: bool) -> Result<bool, Fault> {
+    let parser = Parser::new(alloc, DEFINING)?;
+    if calls {
+        return Ok(has_definition(parser));
+    }
+    drop(parser);
+    Ok(true)
+}
+
+/// Calls a parser whose walk is over, with ranges and without.
+fn is_over(parser: Parser<'_, DefaultBrokenLinkCallback>) -> bool {
+    let mut parser = parser;
+    let first = is_nothing(parser.next());
+    let second = is_nothing(parser.next());
+    let mut iter = parser.into_offset_iter();
+    let third = is_nothing(iter.next());
+    drop(iter);
+    first && second && third
+}
+
 fn ended_parsers(alloc: Global, calls: bool) -> Result<bool, Fault> {
     let mut parser = Parser::new(alloc, DEFINING)?;
     for _ in 0..4 {
         drop(parser.next());
     }
-    if !calls {
-        return Ok(true);
+    if calls {
+        return Ok(is_over(parser));
     }
-    let is_over = is_nothing(parser.next()) && is_nothing(parser.next());
-    Ok(is_over && is_nothing(parser.into_offset_iter().next()))
+    drop(parser);
+    Ok(true)
 }
 
 fn merges(alloc: Global, calls: bool) -> Result<bool, Fault> {

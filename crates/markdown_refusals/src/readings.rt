@@ -1,5 +1,5 @@
 //! Each way to read a text, compared with a run without refusals.
-use crate::asked::{Asked, Source, callback_for, parser, sources};
+use crate::asked::{Asked, SOURCES, Source, callback_for, parser};
 use crate::tries::{Outcome, all_of, compared, is_made, walked, writes};
 use markdown_base::event::Event;
 use markdown_base::fault::Fault;
@@ -17,15 +17,15 @@ type Placed = (Event<'static>, Range<usize>);
 
 /// Returns a parser of the block result of a text.
 fn of_blocks(alloc: Global, source: Source) -> Result<Parser<'static, Asked>, Fault> {
-    let blocks = Blocks::of_text(alloc, source.text, source.options)?;
+    let blocks = Blocks::of_text(alloc, source.text, source.options())?;
     Parser::from_blocks(alloc, blocks, Some(callback_for(source)))
 }
 
 /// Returns whether each constructor returns a parser, or an allocation was refused.
 fn makes(alloc: Global, source: Source) -> bool {
-    is_made(Blocks::of_text(alloc, source.text, source.options))
+    is_made(Blocks::of_text(alloc, source.text, source.options()))
         && is_made(Parser::new(alloc, source.text))
-        && is_made(Parser::new_ext(alloc, source.text, source.options))
+        && is_made(Parser::new_ext(alloc, source.text, source.options()))
         && is_made(parser(alloc, source))
         && is_made(of_blocks(alloc, source))
 }
@@ -59,16 +59,25 @@ fn is_asked(outcome: Outcome, callback: Option<Asked>) -> bool {
     }
 }
 
-fn walks(alloc: Global, source: Source) -> bool {
-    let Some(full) = events_of(alloc, source) else {
-        return true;
-    };
+/// Returns whether the events of a text are these, or a prefix of them.
+fn walks_over(alloc: Global, source: Source, full: &[Event<'static>]) -> bool {
     match parser(alloc, source) {
         Ok(parser) => {
-            let (outcome, parser) = walked(parser, full.as_slice());
+            let (outcome, parser) = walked(parser, full);
             is_left(outcome, all_events(parser))
         }
         Err(fault) => fault == Fault::Memory,
+    }
+}
+
+fn walks(alloc: Global, source: Source) -> bool {
+    match events_of(alloc, source) {
+        Some(full) => {
+            let is_so = walks_over(alloc, source, full.as_slice());
+            drop(full);
+            is_so
+        }
+        None => true,
     }
 }
 
@@ -77,17 +86,26 @@ fn placed_of(alloc: Global, source: Source) -> Option<Vec<Placed>> {
     all_of(alloc, parser(alloc, source).ok()?.into_offset_iter())
 }
 
-fn walks_with_ranges(alloc: Global, source: Source) -> bool {
-    let Some(full) = placed_of(alloc, source) else {
-        return true;
-    };
+/// Returns whether the events of a text with their ranges are these, or a prefix of them.
+fn walks_over_ranges(alloc: Global, source: Source, full: &[Placed]) -> bool {
     match parser(alloc, source) {
         Ok(parser) => {
-            let (outcome, iter) = walked(parser.into_offset_iter(), full.as_slice());
+            let (outcome, iter) = walked(parser.into_offset_iter(), full);
             drop(iter);
             outcome != Outcome::Wrong
         }
         Err(fault) => fault == Fault::Memory,
+    }
+}
+
+fn walks_with_ranges(alloc: Global, source: Source) -> bool {
+    match placed_of(alloc, source) {
+        Some(full) => {
+            let is_so = walks_over_ranges(alloc, source, full.as_slice());
+            drop(full);
+            is_so
+        }
+        None => true,
     }
 }
 
@@ -99,15 +117,22 @@ fn merged_of(alloc: Global, source: Source) -> Option<Vec<Event<'static>>> {
     )
 }
 
-fn merges(alloc: Global, source: Source) -> bool {
-    let Some(full) = merged_of(alloc, source) else {
-        return true;
-    };
+/// Returns whether the merged events of a text are these, or a prefix of them.
+fn merges_to(alloc: Global, source: Source, full: &[Event<'static>]) -> bool {
     match parser(alloc, source) {
-        Ok(parser) => {
-            compared(TextMergeStream::new(alloc, parser), full.as_slice()) != Outcome::Wrong
-        }
+        Ok(parser) => compared(TextMergeStream::new(alloc, parser), full) != Outcome::Wrong,
         Err(fault) => fault == Fault::Memory,
+    }
+}
+
+fn merges(alloc: Global, source: Source) -> bool {
+    match merged_of(alloc, source) {
+        Some(full) => {
+            let is_so = merges_to(alloc, source, full.as_slice());
+            drop(full);
+            is_so
+        }
+        None => true,
     }
 }
 
@@ -117,16 +142,25 @@ fn placed_merged_of(alloc: Global, source: Source) -> Option<Vec<Placed>> {
     all_of(alloc, TextMergeWithOffset::new(alloc, events))
 }
 
-fn merges_with_ranges(alloc: Global, source: Source) -> bool {
-    let Some(full) = placed_merged_of(alloc, source) else {
-        return true;
-    };
+/// Returns whether the merged events of a text with their ranges are these, or a prefix of them.
+fn merges_to_ranges(alloc: Global, source: Source, full: &[Placed]) -> bool {
     match parser(alloc, source) {
         Ok(parser) => {
             let merge = TextMergeWithOffset::new(alloc, parser.into_offset_iter());
-            compared(merge, full.as_slice()) != Outcome::Wrong
+            compared(merge, full) != Outcome::Wrong
         }
         Err(fault) => fault == Fault::Memory,
+    }
+}
+
+fn merges_with_ranges(alloc: Global, source: Source) -> bool {
+    match placed_merged_of(alloc, source) {
+        Some(full) => {
+            let is_so = merges_to_ranges(alloc, source, full.as_slice());
+            drop(full);
+            is_so
+        }
+        None => true,
     }
 }
 
@@ -135,19 +169,32 @@ fn are_same<T: PartialEq + Drop>(given: Vec<T>, full: &[T]) -> bool {
     given.as_slice() == full
 }
 
-/// Returns whether all events are returned at once, with the callback, or neither.
-fn collects(alloc: Global, source: Source) -> bool {
-    let Some(full) = placed_of(alloc, source) else {
-        return true;
-    };
-    let Ok(parser) = parser(alloc, source) else {
-        return true;
-    };
-    match all_events(parser) {
+/// Returns whether what was returned at once are these events and a callback that had all questions; or an allocation was
+/// refused.
+fn are_all(found: Result<(Vec<Placed>, Option<Asked>), Fault>, full: &[Placed]) -> bool {
+    match found {
         Ok((events, callback)) => {
-            are_same(events, full.as_slice()) && is_asked(Outcome::Whole, callback)
+            let is_asked = is_asked(Outcome::Whole, callback);
+            are_same(events, full) && is_asked
         }
         Err(fault) => fault == Fault::Memory,
+    }
+}
+
+/// Returns all events of a text, each with its range, and the callback.
+fn all_of_text(alloc: Global, source: Source) -> Result<(Vec<Placed>, Option<Asked>), Fault> {
+    all_events(parser(alloc, source)?)
+}
+
+/// Returns whether all events are returned at once, with the callback, or neither.
+fn collects(alloc: Global, source: Source) -> bool {
+    match placed_of(alloc, source) {
+        Some(full) => {
+            let is_so = are_all(all_of_text(alloc, source), full.as_slice());
+            drop(full);
+            is_so
+        }
+        None => true,
     }
 }
 
@@ -156,7 +203,7 @@ fn html_of(alloc: Global, source: Source) -> Result<String, Fault> {
     render(
         alloc,
         source.text,
-        source.options,
+        source.options(),
         Some(callback_for(source)),
     )
 }
@@ -174,18 +221,23 @@ fn renders(alloc: Global, source: Source) -> bool {
 
 /// Returns whether the old text is followed by all of the HTML, or by a prefix of it where an allocation was refused.
 fn pushes(alloc: Global, source: Source) -> bool {
-    let Ok(full) = html_of(alloc, source) else {
-        return true;
-    };
+    match html_of(alloc, source) {
+        Ok(full) => writes_html(alloc, source, full.as_str()),
+        Err(_) => true,
+    }
+}
+
+/// Returns the same for this HTML.
+fn writes_html(alloc: Global, source: Source, html: &str) -> bool {
     match parser(alloc, source) {
-        Ok(parser) => writes(alloc, parser, full.as_str()),
+        Ok(parser) => writes(alloc, parser, html),
         Err(fault) => fault == Fault::Memory,
     }
 }
 
 /// Returns whether each call that the block pass makes fits, or an allocation was refused.
 fn fits(alloc: Global, source: Source) -> bool {
-    match misfits(alloc, source.text, source.options) {
+    match misfits(alloc, source.text, source.options()) {
         Ok(count) => count == 0,
         Err(_) => true,
     }
@@ -198,7 +250,7 @@ fn outline_read(alloc: Global, source: Source) -> Result<Vec<Entry>, Fault> {
 
 /// Returns the outline of the block result of a text.
 fn outline_of_blocks(alloc: Global, source: Source) -> Result<Vec<Entry>, Fault> {
-    let blocks = Blocks::of_text(alloc, source.text, source.options)?;
+    let blocks = Blocks::of_text(alloc, source.text, source.options())?;
     outline_of(alloc, blocks)
 }
 
@@ -302,8 +354,8 @@ fn broken_way(alloc: Global, source: Source) -> Option<&'static str> {
 
 /// Returns the first text for which it does not hold, and the way.
 pub fn broken(alloc: Global) -> Option<(&'static str, &'static str)> {
-    for source in sources() {
-        if let Some(name) = broken_way(alloc, source) {
+    for source in &SOURCES {
+        if let Some(name) = broken_way(alloc, *source) {
             return Some((name, source.text));
         }
     }

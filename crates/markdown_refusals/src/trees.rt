@@ -8,7 +8,7 @@ use markdown_base::tag::HeadingLevel;
 use markdown_base::tree::Tree;
 use markdown_blocks::{Blocks, Fault};
 use markdown_test_helpers::parts::{link_to, one_of_each};
-use markdown_test_helpers::trees::{Outline, delimiter, item, text, tree_of};
+use markdown_test_helpers::trees::{Node, TEXT, item, tree_of_nodes};
 use std::alloc::{AllocError, Global};
 
 /// Returns a tree with its cursor at a paragraph.
@@ -47,32 +47,34 @@ pub fn pushes(alloc: Global) -> bool {
 /// A text, followed by the eight open bodies.
 const OPEN: &str = "x*'$`<[![]y";
 
-/// Returns the items of a tree over `OPEN`: a chain of the open items, a heading with attributes, and blocks that refer
-/// to a text and to alignments.
-fn all_kinds() -> [(usize, Item); 15] {
-    let heading = ItemBody::Heading(HeadingLevel::H1, Some(HeadingIndex(1)));
-    [
-        (0, item(0, 11, ItemBody::BlockQuote(None))),
-        (1, item(0, 11, ItemBody::Paragraph)),
-        (2, text(0, 1)),
-        (2, delimiter(1, 1, true, true)),
-        (2, item(2, 3, ItemBody::MaybeSmartQuote(39, true, true))),
-        (2, item(3, 4, ItemBody::MaybeMath(true, true, 0))),
-        (2, item(4, 5, ItemBody::MaybeCode(1, false))),
-        (2, item(5, 6, ItemBody::MaybeHtml)),
-        (2, item(6, 7, ItemBody::MaybeLinkOpen)),
-        (2, item(7, 9, ItemBody::MaybeImage)),
-        (2, item(9, 10, ItemBody::MaybeLinkClose(true))),
-        (2, text(10, 11)),
-        (0, item(11, 11, heading)),
-        (1, item(11, 11, ItemBody::SynthesizeText(CowIndex(0)))),
-        (0, item(11, 11, ItemBody::Table(AlignmentIndex(0)))),
-    ]
-}
+/// The items of a tree over `OPEN`: a chain of the open items, a heading with attributes, and blocks that refer to a text
+/// and to alignments.
+static ALL_KINDS: [Node; 15] = [
+    (0, 0, 11, ItemBody::BlockQuote(None)),
+    (1, 0, 11, ItemBody::Paragraph),
+    (2, 0, 1, TEXT),
+    (2, 1, 2, ItemBody::MaybeEmphasis(1, true, true)),
+    (2, 2, 3, ItemBody::MaybeSmartQuote(39, true, true)),
+    (2, 3, 4, ItemBody::MaybeMath(true, true, 0)),
+    (2, 4, 5, ItemBody::MaybeCode(1, false)),
+    (2, 5, 6, ItemBody::MaybeHtml),
+    (2, 6, 7, ItemBody::MaybeLinkOpen),
+    (2, 7, 9, ItemBody::MaybeImage),
+    (2, 9, 10, ItemBody::MaybeLinkClose(true)),
+    (2, 10, 11, TEXT),
+    (
+        0,
+        11,
+        11,
+        ItemBody::Heading(HeadingLevel::H1, Some(HeadingIndex(1))),
+    ),
+    (1, 11, 11, ItemBody::SynthesizeText(CowIndex(0))),
+    (0, 11, 11, ItemBody::Table(AlignmentIndex(0))),
+];
 
 /// Returns the block result that is checked, with a definition and a footnote among its parts.
 fn checked(alloc: Global) -> Result<Blocks<'static>, Fault> {
-    let tree = tree_of(alloc, &all_kinds())?;
+    let tree = tree_of_nodes(alloc, &ALL_KINDS)?;
     let mut parts = one_of_each(alloc)?;
     parts
         .definitions
@@ -101,25 +103,24 @@ static LINKS: [(Option<usize>, Option<usize>); 16] = [
     (None, None),
 ];
 
+/// Returns whether an item is that of a row.
+fn is_node(row: Option<&Node>, item: Item) -> bool {
+    match row {
+        Some(&(_, start, end, body)) => Item { start, end, body } == item,
+        None => false,
+    }
+}
+
 /// Returns whether a tree has these items in preorder, from the root's first child on, and these links.
-fn is_tree(
-    tree: &Tree<Item>,
-    outline: Outline<'_>,
-    links: &[(Option<usize>, Option<usize>)],
-) -> bool {
+fn is_tree(tree: &Tree<Item>, nodes: &[Node], links: &[(Option<usize>, Option<usize>)]) -> bool {
     for ix in 0..tree.len() {
         if links.get(ix) != Some(&(tree.child(ix), tree.next(ix))) {
             return false;
         }
     }
     'items: for ix in 1..tree.len() {
-        match outline.get(ix - 1) {
-            Some((_, item)) => {
-                if *item != *tree.item(ix) {
-                    return false;
-                }
-            }
-            None => return false,
+        if !is_node(nodes.get(ix - 1), *tree.item(ix)) {
+            return false;
         }
     }
     tree.len() == links.len()
@@ -158,7 +159,7 @@ pub fn checks(alloc: Global) -> bool {
     match checked(alloc) {
         Ok(blocks) => {
             let (text, options, tree, parts) = blocks.into_parts();
-            let is_held = is_tree(&tree, &all_kinds(), &LINKS) && is_one_of_each(&parts);
+            let is_held = is_tree(&tree, &ALL_KINDS, &LINKS) && is_one_of_each(&parts);
             drop(tree);
             drop(parts);
             is_held && text == OPEN && options == Options::ENABLE_MATH
