@@ -26,16 +26,22 @@ impl LineRule for Quoted {
     }
 }
 
-/// Returns the length of the tag that a text begins with, and whether it is copied.
-fn tag_of<R: LineRule>(
+/// Returns whether a text begins with a tag of this length, which is not copied; or with none, for None.
+fn has_tag<R: LineRule>(
     alloc: Global,
     text: &str,
+    length: Option<usize>,
     rule: &R,
-) -> Result<Option<(usize, bool)>, AllocError> {
+) -> Result<bool, AllocError> {
     match scan_html_tag(alloc, text, 0, rule)? {
-        Some(tag) => Ok(Some((tag.end, tag.without_prefixes.is_some()))),
-        None => Ok(None),
+        Some(tag) => Ok(length == Some(tag.end) && tag.without_prefixes.is_none()),
+        None => Ok(length.is_none()),
     }
+}
+
+/// Checks that a text begins with such a tag, where each line may continue it.
+fn begins(alloc: Global, text: &str, length: Option<usize>) -> Result<(), Fail> {
+    gives(text, has_tag(alloc, text, length, &NoPrefix)?, true)
 }
 
 /// Texts, and the length of the tag that each begins with.
@@ -94,8 +100,7 @@ static TEXTS: [(&str, Option<usize>); 43] = [
 #[test]
 fn tags(rt: HostRuntime) -> Result<(), Fail> {
     for &(text, length) in &TEXTS {
-        let wanted = length.map(|end| (end, false));
-        gives(text, tag_of(rt.alloc(), text, &NoPrefix)?, wanted)?;
+        begins(rt.alloc(), text, length)?;
     }
     Ok(())
 }
@@ -105,7 +110,7 @@ fn no_front_of_a_tag_is_one(rt: HostRuntime) -> Result<(), Fail> {
     let text = "<a foo=\"bar\" bam = 'baz <em>\"</em>'\n_boolean zoop:33=zoop:33 />";
     for end in 0..text.as_bytes().len() {
         if let Some(front) = text.get(..end) {
-            gives(front, tag_of(rt.alloc(), front, &NoPrefix)?, None)?;
+            begins(rt.alloc(), front, None)?;
         }
     }
     Ok(())
@@ -119,17 +124,21 @@ fn text_of(alloc: Global, bytes: Option<Vec<u8>>) -> Result<String, Fail> {
     }
 }
 
-/// Returns the end of the tag that begins at the third byte, and its bytes without the prefixes of its lines.
+/// Returns the end of a tag, and its bytes without the prefixes of its lines.
+fn described(alloc: Global, end: usize, bytes: Option<Vec<u8>>) -> Result<String, Fail> {
+    let text = text_of(alloc, bytes)?;
+    Ok(format!(in alloc; "{end} {}", text.as_str())?)
+}
+
+/// Returns the same of the tag that begins at the third byte.
 fn tag_at_two<R: LineRule>(alloc: Global, text: &str, rule: &R) -> Result<String, Fail> {
     if text.as_bytes().len() < 2 {
         return Ok(String::from_str(alloc, "too short")?);
     }
-    let Some(tag) = scan_html_tag(alloc, text, 2, rule)? else {
-        return Ok(String::from_str(alloc, "none")?);
-    };
-    let end = tag.end;
-    let bytes = text_of(alloc, tag.without_prefixes)?;
-    Ok(format!(in alloc; "{end} {bytes}")?)
+    match scan_html_tag(alloc, text, 2, rule)? {
+        Some(tag) => described(alloc, tag.end, tag.without_prefixes),
+        None => Ok(String::from_str(alloc, "none")?),
+    }
 }
 
 #[test]
@@ -143,8 +152,8 @@ fn prefixes_of_lines_are_left_out(rt: HostRuntime) -> Result<(), Fail> {
 
 #[test]
 fn a_line_that_may_not_end_ends_no_tag(rt: HostRuntime) -> Result<(), Fail> {
-    for &(text, is_tag) in &[("<a\nb>", false), ("<a b='\n'>", false), ("<a b>\n", true)] {
-        gives(text, tag_of(rt.alloc(), text, &OneLine)?.is_some(), is_tag)?;
+    for &(text, length) in &[("<a\nb>", None), ("<a b='\n'>", None), ("<a b>\n", Some(5))] {
+        gives(text, has_tag(rt.alloc(), text, length, &OneLine)?, true)?;
     }
     Ok(())
 }

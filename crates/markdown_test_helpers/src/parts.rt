@@ -13,20 +13,36 @@ pub fn no_parts<'a>(alloc: Global) -> BlockParts<'a> {
     }
 }
 
+/// Returns a list of one item. The type is a parameter: where it is a text, the proof takes longer.
+fn one<T: Drop>(alloc: Global, item: T) -> Result<Vec<T>, AllocError> {
+    Ok(vec![in alloc; item]?)
+}
+
+/// Appends an item to a list.
+fn put<T: Drop>(list: &mut Vec<T>, item: T) -> Result<(), AllocError> {
+    Ok(list.push(item)?)
+}
+
 /// Returns parts with one text.
 pub fn one_text(alloc: Global) -> Result<BlockParts<'static>, AllocError> {
+    let cows = one(alloc, CowStr::Borrowed("x"))?;
     let mut parts = no_parts(alloc);
-    parts.cows.push(CowStr::Borrowed("x"))?;
+    parts.cows = cows;
     Ok(parts)
 }
 
 /// Returns parts with one text, one list of alignments and the attributes of one heading.
 pub fn one_of_each<'a>(alloc: Global) -> Result<BlockParts<'a>, AllocError> {
-    let mut parts = no_parts(alloc);
-    parts.cows.push(CowStr::Borrowed("x"))?;
-    parts.alignments.push(Vec::new(alloc))?;
-    parts.headings.push(no_attributes(alloc))?;
-    Ok(parts)
+    let alignments = one(alloc, Vec::new(alloc))?;
+    let cows = one(alloc, CowStr::Borrowed("x"))?;
+    let headings = one(alloc, no_attributes(alloc))?;
+    Ok(BlockParts {
+        definitions: Vec::new(alloc),
+        footnotes: Vec::new(alloc),
+        cows,
+        alignments,
+        headings,
+    })
 }
 
 /// Returns the attributes of a heading that has none.
@@ -54,7 +70,7 @@ pub fn defining<'a>(
 ) -> Result<BlockParts<'a>, AllocError> {
     let mut held = Vec::new(alloc);
     for (label, destination) in definitions {
-        held.push((CowStr::Borrowed(label), link_to(destination)))?;
+        put(&mut held, (CowStr::Borrowed(label), link_to(destination)))?;
     }
     let mut parts = no_parts(alloc);
     parts.definitions = held;

@@ -98,6 +98,18 @@ pub fn append_block(tree: &mut Tree<Item>, block: Item, inside: &[Item]) -> Resu
     Ok(())
 }
 
+/// Appends an item with its depth, a text and its range.
+fn push_item(
+    alloc: Global,
+    list: &mut String,
+    depth: usize,
+    said: &str,
+    item: Item,
+) -> Result<(), AllocError> {
+    let row = format!(in alloc; "{depth} {said} {}..{};", item.start, item.end)?;
+    list.push_str(row.as_str())
+}
+
 /// Appends the items of a tree in preorder, each with its depth, the text that `say` returns for its
 /// body, and its range. The walk ends after 10,000 steps.
 pub fn push_items<F: Fn(Global, ItemBody) -> Result<String, AllocError> + Drop>(
@@ -114,8 +126,9 @@ pub fn push_items<F: Fn(Global, ItemBody) -> Result<String, AllocError> + Drop>(
             let item = *tree.item(ix);
             let depth = tree.walk_spine().len();
             let said = say(alloc, item.body)?;
-            let row = format!(in alloc; "{depth} {said} {}..{};", item.start, item.end)?;
-            list.push_str(row.as_str())?;
+            let done = push_item(alloc, list, depth, said.as_str(), item);
+            drop(said);
+            done?;
             tree.push()?;
         } else if let Some(ix) = tree.pop() {
             tree.next_sibling(ix);
