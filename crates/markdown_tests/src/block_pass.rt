@@ -1,13 +1,11 @@
-//! The block pass on small texts, and the items of a line.
+//! The block pass on small texts.
 use crate::rows::fits;
 use markdown_base::item::ItemBody;
 use markdown_base::options::Options;
-use markdown_builder::builder::Builder;
-use markdown_items::items;
 use markdown_plain::blocks;
 use markdown_test_helpers::documents::random_text;
 use markdown_test_helpers::rows::gives;
-use markdown_test_helpers::trees::{push_items, text};
+use markdown_test_helpers::trees::push_items;
 use std::alloc::{AllocError, Global};
 use std::test::Fail;
 
@@ -120,18 +118,11 @@ fn nothing_is_named(rt: HostRuntime) -> Result<(), Fail> {
     gives("nodes, and each kind of part", (nodes, named), (7, [0; 5]))
 }
 
-#[test]
-fn a_line_is_one_text(rt: HostRuntime) -> Result<(), Fail> {
-    let mut builder = Builder::new(rt.alloc(), "hello world")?;
-    builder.open(ItemBody::Paragraph)?;
-    builder.skip(6);
-    items(&mut builder, 11, Options::ENABLE_GFM)?;
-    builder.close();
-    let (tree, parts) = builder.finish();
-    assert_eq!(rt; tree.len(), 3);
-    assert_eq!(rt; *tree.item(2), text(6, 11));
-    assert_eq!(rt; parts.cows.len(), 0);
-    Ok(())
+/// Checks that each call of the block pass for a text fits, without footnotes and with those of each style.
+fn fits_with_footnotes(alloc: Global, text: &str) -> Result<(), Fail> {
+    fits(alloc, text, Options::empty())?;
+    fits(alloc, text, Options::ENABLE_FOOTNOTES)?;
+    fits(alloc, text, Options::ENABLE_OLD_FOOTNOTES)
 }
 
 #[test]
@@ -139,13 +130,7 @@ fn each_call_fits(rt: HostRuntime) -> Result<(), Fail> {
     let mut seed = 1;
     for _ in 0..1000 {
         let text = random_text(rt.alloc(), &mut seed)?;
-        for &options in &[
-            Options::empty(),
-            Options::ENABLE_FOOTNOTES,
-            Options::ENABLE_OLD_FOOTNOTES,
-        ] {
-            fits(rt.alloc(), text.as_str(), options)?;
-        }
+        fits_with_footnotes(rt.alloc(), text.as_str())?;
     }
     Ok(())
 }
