@@ -24,7 +24,6 @@ use markdown_base::tag::{
     BlockQuoteKind, CodeBlockKind, HeadingLevel, LinkType, MetadataBlockKind, Tag, TagEnd,
 };
 use std::alloc::{AllocError, Global};
-use std::fmt::Debug;
 use std::ops::Range;
 use std::test::Fail;
 
@@ -177,12 +176,6 @@ fn push_attributes(
     Ok(())
 }
 
-/// Appends a value as `Debug` prints it, after a space.
-fn push_printed<T: Debug>(alloc: Global, notes: &mut String, value: &T) -> Result<(), AllocError> {
-    let printed = format!(in alloc; " {value:?}")?;
-    notes.push_str(printed.as_str())
-}
-
 /// Appends the fields of a Start that its End does not have.
 fn push_held(alloc: Global, notes: &mut String, tag: &Tag<'_>) -> Result<(), AllocError> {
     match tag {
@@ -194,8 +187,8 @@ fn push_held(alloc: Global, notes: &mut String, tag: &Tag<'_>) -> Result<(), All
         } => push_attributes(notes, id, classes, attrs),
         Tag::CodeBlock(CodeBlockKind::Fenced(info)) => push_field(notes, " ", info),
         Tag::FootnoteDefinition(name) => push_field(notes, " ", name),
-        Tag::List(Some(first)) => push_printed(alloc, notes, first),
-        Tag::Table(alignments) => push_printed(alloc, notes, alignments),
+        Tag::List(Some(first)) => notes.push_str(format!(in alloc; " {first}")?.as_str()),
+        Tag::Table(alignments) => notes.push_str(format!(in alloc; " {alignments:?}")?.as_str()),
         Tag::Link {
             link_type,
             dest_url,
@@ -279,18 +272,6 @@ fn push_placed(
     notes.push_str(place.as_str())
 }
 
-/// Appends an event of an iterator, and then its range, or returns the iterator's error.
-fn push_made(
-    alloc: Global,
-    notes: &mut String,
-    made: Result<(Event<'_>, Range<usize>), Fault>,
-) -> Result<(), Fault> {
-    let (event, range) = made?;
-    let done = push_placed(alloc, notes, &event, &range);
-    drop(event);
-    Ok(done?)
-}
-
 /// Returns the events of an iterator as a text, each with its range.
 pub fn notes_of<'a, I: Iterator<Item = Result<(Event<'a>, Range<usize>), Fault>>>(
     alloc: Global,
@@ -300,8 +281,11 @@ pub fn notes_of<'a, I: Iterator<Item = Result<(Event<'a>, Range<usize>), Fault>>
     requires ends { IsFinite (I.remaining iter) }
 {
     let mut notes = String::new(alloc);
-    for made in iter {
-        push_made(alloc, &mut notes, made)?;
+    for placed in iter {
+        let (event, range) = placed?;
+        let done = push_placed(alloc, &mut notes, &event, &range);
+        drop(event);
+        done?;
     }
     Ok(notes)
 }

@@ -13,14 +13,16 @@ pub fn no_parts<'a>(alloc: Global) -> BlockParts<'a> {
     }
 }
 
-/// Returns a list of one item. The type is a parameter: where it is a text, the proof takes longer.
-fn one<T: Drop>(alloc: Global, item: T) -> Result<Vec<T>, AllocError> {
-    Ok(vec![in alloc; item]?)
-}
-
-/// Appends an item to a list.
+/// Appends an item to a list. The type is a parameter: where it is a text, the proof takes longer.
 fn put<T: Drop>(list: &mut Vec<T>, item: T) -> Result<(), AllocError> {
     Ok(list.push(item)?)
+}
+
+/// Returns a list of one item.
+fn one<T: Drop>(alloc: Global, item: T) -> Result<Vec<T>, AllocError> {
+    let mut list = Vec::new(alloc);
+    put(&mut list, item)?;
+    Ok(list)
 }
 
 /// Returns parts with one text.
