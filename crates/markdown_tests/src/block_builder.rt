@@ -4,7 +4,7 @@ ghost use Rattle.std.specs.Prelude.{◌≡◌, false};
 ghost use Rattle.std.specs.Str.{IsCharBoundary};
 
 use crate::block_rules::is_well_formed;
-use markdown_base::block_parts::BlockParts;
+use markdown_base::block_parts::{BlockParts, LinkDef};
 use markdown_base::cow_str::CowStr;
 use markdown_base::item::{Item, ItemBody};
 use markdown_base::tag::HeadingLevel;
@@ -49,7 +49,7 @@ fn listed(alloc: Global, tree: &mut Tree<Item>) -> Result<String, AllocError> {
 }
 
 /// Returns the tree that was built, or None where a block is open or text is left.
-fn finished(builder: Builder<'_>) -> Option<Tree<Item>> {
+pub fn finished(builder: Builder<'_>) -> Option<Tree<Item>> {
     if !builder.open_blocks().is_empty() || builder.at() != builder.text().as_bytes().len() {
         drop(builder);
         return None;
@@ -93,19 +93,33 @@ fn a_paragraph_becomes_a_heading(rt: HostRuntime) -> Result<(), Fail> {
     has_items(rt.alloc(), builder, "0 Heading(H1, None) 0..4;")
 }
 
+/// Appends a row that was made.
+fn push_row(list: &mut String, row: Result<String, AllocError>) -> Result<(), AllocError> {
+    let row = row?;
+    list.push_str(row.as_str())
+}
+
+/// Returns a definition: its label, its destination and its range.
+fn definition_row(
+    alloc: Global,
+    label: &CowStr<'_>,
+    link: &LinkDef<'_>,
+) -> Result<String, AllocError> {
+    let span = &link.span;
+    format!(in alloc; "[{label}]: {} {}..{}; ", link.dest, span.start, span.end)
+}
+
 /// Returns the definitions, footnotes and texts of parts.
 fn named(alloc: Global, parts: &BlockParts<'_>) -> Result<String, AllocError> {
     let mut list = String::new(alloc);
     for (label, link) in &parts.definitions {
-        let span = &link.span;
-        let row = format!(in alloc; "[{label}]: {} {}..{}; ", link.dest, span.start, span.end)?;
-        list.push_str(row.as_str())?;
+        push_row(&mut list, definition_row(alloc, label, link))?;
     }
     for name in &parts.footnotes {
-        list.push_str(format!(in alloc; "[^{name}]; ")?.as_str())?;
+        push_row(&mut list, format!(in alloc; "[^{name}]; "))?;
     }
     for text in &parts.cows {
-        list.push_str(format!(in alloc; "{text}; ")?.as_str())?;
+        push_row(&mut list, format!(in alloc; "{text}; "))?;
     }
     Ok(list)
 }

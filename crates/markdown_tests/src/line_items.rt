@@ -2,6 +2,7 @@
 ghost use Rattle.std.specs.Prelude.{◌≡◌, ◌≤◌, false, length, IfOk};
 ghost use Rattle.std.specs.Str.{IsCharBoundary};
 
+use crate::block_builder::finished;
 use crate::block_rules::is_well_formed;
 use markdown_base::cow_str::CowStr;
 use markdown_base::item::{Item, ItemBody};
@@ -326,33 +327,38 @@ fn place_cut(builder: &mut Builder<'_>, cut: usize) -> Result<(), AllocError>
     Ok(())
 }
 
-/// Returns the items of a text that are read up to `cut`, and then up to the end, and whether their tree is well-formed.
-fn cut_listed(
+/// Returns the tree of a text whose items are read up to `cut`, and then up to the end, or None where the text is not read
+/// whole.
+fn cut_tree(
     alloc: Global,
     text: &'static str,
     cut: usize,
-) -> Result<Option<(String, bool)>, Fail> {
+) -> Result<Option<Tree<Item>>, AllocError> {
     if !text.is_char_boundary(cut) {
         return Ok(None);
     }
     let mut builder = Builder::new(alloc, text)?;
     place_cut(&mut builder, cut)?;
-    if !builder.open_blocks().is_empty() || builder.at() != text.as_bytes().len() {
-        drop(builder);
-        return Ok(None);
-    }
-    let (tree, parts) = builder.finish();
-    let rows = rows_of(alloc, &tree, &parts.cows);
-    drop(parts);
+    Ok(finished(builder))
+}
+
+/// Checks the items of such a tree, and that it is well-formed.
+fn cut_has(alloc: Global, text: &'static str, cut: usize, wanted: &str) -> Result<(), Fail> {
+    let Some(tree) = cut_tree(alloc, text, cut)? else {
+        return gives(text, "open", "closed");
+    };
+    let list = rows_of(alloc, &tree, &[]);
     let is_formed = is_well_formed(alloc, text, tree);
-    Ok(Some((rows?, is_formed?)))
+    gives(text, list?.as_str(), wanted)?;
+    gives(text, is_formed?, true)
 }
 
 #[test]
 fn a_run_that_was_cut_stays_one_run(rt: HostRuntime) -> Result<(), Fail> {
-    let Some((list, is_formed)) = cut_listed(rt.alloc(), "a**b", 2)? else {
-        return gives("a**b", "open", "closed");
-    };
-    let wanted = "Text 0..1;MaybeEmphasis(1, false, true) 1..2;Text 2..4;";
-    gives("a**b", (list.as_str(), is_formed), (wanted, true))
+    cut_has(
+        rt.alloc(),
+        "a**b",
+        2,
+        "Text 0..1;MaybeEmphasis(1, false, true) 1..2;Text 2..4;",
+    )
 }
