@@ -1,5 +1,5 @@
 //! Chains of open items, which a walk resolves when it reaches them.
-use crate::rows::tree_gives;
+use crate::rows::{Given, Placed, TEXT, check_made, tree_gives, tree_of_placed};
 use markdown_base::index::CowIndex;
 use markdown_base::item::{Item, ItemBody};
 use markdown_base::options::Options;
@@ -8,9 +8,9 @@ use markdown_defs::RefDefs;
 use markdown_inline::walk::Parser;
 use markdown_test_helpers::lists::is_nothing;
 use markdown_test_helpers::notes::notes_of;
-use markdown_test_helpers::parts::{defining, no_parts, one_text};
+use markdown_test_helpers::parts::{defining, one_text};
 use markdown_test_helpers::rows::gives;
-use markdown_test_helpers::trees::{append_block, item, text};
+use markdown_test_helpers::trees::item;
 use markdown_test_parsers::parsers::{all_noted, ask_for, parser_of};
 use std::alloc::{AllocError, Global};
 use std::test::Fail;
@@ -18,42 +18,40 @@ use std::test::Fail;
 /// A text followed by the eight open bodies, in a paragraph.
 const OPEN: &str = "x*'$`<[![]y";
 
-fn open_items(alloc: Global) -> Result<Tree<Item>, AllocError> {
-    let mut tree = Tree::new(alloc)?;
-    let inside = [
-        text(0, 1),
-        item(1, 2, ItemBody::MaybeEmphasis(1, true, true)),
-        item(2, 3, ItemBody::MaybeSmartQuote(39, true, true)),
-        item(3, 4, ItemBody::MaybeMath(true, true, 0)),
-        item(4, 5, ItemBody::MaybeCode(1, false)),
-        item(5, 6, ItemBody::MaybeHtml),
-        item(6, 7, ItemBody::MaybeLinkOpen),
-        item(7, 9, ItemBody::MaybeImage),
-        item(9, 10, ItemBody::MaybeLinkClose(true)),
-        text(10, 11),
-    ];
-    append_block(&mut tree, item(0, 11, ItemBody::Paragraph), &inside)?;
-    Ok(tree)
-}
-
-/// Returns a parser of the open items.
-fn open_parser<'a>(alloc: Global) -> Result<Parser<'a>, Fail> {
-    parser_of(
-        alloc,
-        OPEN,
-        Options::empty(),
-        open_items(alloc)?,
-        no_parts(alloc),
-    )
-}
+const OPEN_ITEMS: &[Placed] = &[
+    (0, 0, 11, ItemBody::Paragraph),
+    (1, 0, 1, TEXT),
+    (1, 1, 2, ItemBody::MaybeEmphasis(1, true, true)),
+    (1, 2, 3, ItemBody::MaybeSmartQuote(39, true, true)),
+    (1, 3, 4, ItemBody::MaybeMath(true, true, 0)),
+    (1, 4, 5, ItemBody::MaybeCode(1, false)),
+    (1, 5, 6, ItemBody::MaybeHtml),
+    (1, 6, 7, ItemBody::MaybeLinkOpen),
+    (1, 7, 9, ItemBody::MaybeImage),
+    (1, 9, 10, ItemBody::MaybeLinkClose(true)),
+    (1, 10, 11, TEXT),
+];
 
 #[test]
 fn open_items_at_which_nothing_is_found(rt: HostRuntime) -> Result<(), Fail> {
-    let parser = open_parser(rt.alloc())?;
-    let notes = notes_of(rt.alloc(), parser.into_offset_iter())?;
-    let events =
-        "<p>0..11 [x]0..1 [*]1..2 =[’]2..3 [$]3..4 [`]4..5 [<]5..6 [[]6..7 [![]7..9 []]9..10 [y]10..11 </p>0..11 ";
-    gives(OPEN, notes.as_str(), events)
+    check_made(
+        rt.alloc(),
+        &[(
+            OPEN,
+            &[],
+            OPEN_ITEMS,
+            Given::Events(
+                "<p>0..11 [x]0..1 [*]1..2 =[’]2..3 [$]3..4 [`]4..5 [<]5..6 [[]6..7 [![]7..9 []]9..10 [y]10..11 </p>0..11 ",
+            ),
+        )],
+    )
+}
+
+/// Returns a parser of the open items, with the definition of `foo`.
+fn open_parser<'a>(alloc: Global) -> Result<Parser<'a>, Fail> {
+    let tree = tree_of_placed(alloc, OPEN_ITEMS)?;
+    let parts = defining(alloc, &[("foo", "/u")])?;
+    parser_of(alloc, OPEN, Options::empty(), tree, parts)
 }
 
 /// Returns the number of items of resolved chains that a parser has counted after `calls` calls of `next`.
@@ -72,21 +70,17 @@ fn items_are_counted_once(rt: HostRuntime) -> Result<(), Fail> {
     Ok(())
 }
 
-/// Returns a tree with a paragraph of a text and of one that is referred to by its number.
-fn with_a_named_text(alloc: Global) -> Result<Tree<Item>, AllocError> {
-    let mut tree = Tree::new(alloc)?;
-    let inside = [
-        text(0, 1),
-        item(1, 2, ItemBody::SynthesizeText(CowIndex(0))),
-    ];
-    append_block(&mut tree, item(0, 2, ItemBody::Paragraph), &inside)?;
-    Ok(tree)
-}
+/// A text, and one that is referred to by its number.
+const NAMED_TEXT: &[Placed] = &[
+    (0, 0, 2, ItemBody::Paragraph),
+    (1, 0, 1, TEXT),
+    (1, 1, 2, ItemBody::SynthesizeText(CowIndex(0))),
+];
 
 #[test]
 fn named_texts(rt: HostRuntime) -> Result<(), Fail> {
     let alloc = rt.alloc();
-    let tree = with_a_named_text(alloc)?;
+    let tree = tree_of_placed(alloc, NAMED_TEXT)?;
     let parser = parser_of(alloc, "ab", Options::empty(), tree, one_text(alloc)?)?;
     let (events, callback) = all_noted(alloc, parser)?;
     gives(
@@ -140,13 +134,7 @@ fn is_defined(definitions: &RefDefs<'_>, label: &str) -> bool {
 #[test]
 fn definitions_stay(rt: HostRuntime) -> Result<(), Fail> {
     let alloc = rt.alloc();
-    let mut parser = parser_of(
-        alloc,
-        OPEN,
-        Options::empty(),
-        open_items(alloc)?,
-        defining(alloc, &[("foo", "/u")])?,
-    )?;
+    let mut parser = open_parser(alloc)?;
     let at_first = is_defined(parser.reference_definitions(), "FOO");
     ask_for(&mut parser, 5);
     let in_between = is_defined(parser.reference_definitions(), "foo");

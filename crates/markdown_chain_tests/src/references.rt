@@ -2,7 +2,7 @@
 //! definition.
 ghost use Rattle.std.specs.Prelude.{◌≡◌, ◌+◌, ◌%◌, ◌^◌};
 
-use crate::rows::{compare_events, compare_plain, compare_whole};
+use crate::rows::{Rows, Table, check};
 use markdown_base::cow_str::CowStr;
 use markdown_base::item::ItemBody;
 use markdown_base::options::Options;
@@ -17,78 +17,159 @@ use markdown_test_parsers::parsers::{all_noted, parser_asking, parser_gives, par
 use std::alloc::Global;
 use std::test::Fail;
 
+const FULL_REFERENCES: Rows = &[
+    (
+        "[foo][bar]\n\n[bar]: /url \"title\"",
+        "<p><a href=\"/url\" title=\"title\">foo</a></p>\n",
+    ),
+    (
+        "[link [foo [bar]]][ref]\n\n[ref]: /uri",
+        "<p><a href=\"/uri\">link [foo [bar]]</a></p>\n",
+    ),
+    (
+        "[link \\[bar][ref]\n\n[ref]: /uri",
+        "<p><a href=\"/uri\">link [bar</a></p>\n",
+    ),
+    (
+        "[foo [bar](/uri)][ref]\n\n[ref]: /uri",
+        "<p>[foo <a href=\"/uri\">bar</a>]<a href=\"/uri\">ref</a></p>\n",
+    ),
+    (
+        "[foo *bar [baz][ref]*][ref]\n\n[ref]: /uri",
+        "<p>[foo <em>bar <a href=\"/uri\">baz</a></em>]<a href=\"/uri\">ref</a></p>\n",
+    ),
+    (
+        "*[foo*][ref]\n\n[ref]: /uri",
+        "<p>*<a href=\"/uri\">foo*</a></p>\n",
+    ),
+    (
+        "[foo *bar][ref]*\n\n[ref]: /uri",
+        "<p><a href=\"/uri\">foo *bar</a>*</p>\n",
+    ),
+    (
+        "[foo`][ref]`\n\n[ref]: /uri",
+        "<p>[foo<code>][ref]</code></p>\n",
+    ),
+    (
+        "[foo][BaR]\n\n[bar]: /url \"title\"",
+        "<p><a href=\"/url\" title=\"title\">foo</a></p>\n",
+    ),
+    ("[ẞ]\n\n[SS]: /url", "<p><a href=\"/url\">ẞ</a></p>\n"),
+    (
+        "[foo] [bar]\n\n[bar]: /url \"title\"",
+        "<p>[foo] <a href=\"/url\" title=\"title\">bar</a></p>\n",
+    ),
+    (
+        "[foo]: /url1\n\n[foo]: /url2\n\n[bar][foo]",
+        "<p><a href=\"/url1\">bar</a></p>\n",
+    ),
+    ("[bar][foo\\!]\n\n[foo!]: /url", "<p>[bar][foo!]</p>\n"),
+    (
+        "[foo][ref[]\n\n[ref[]: /uri",
+        "<p>[foo][ref[]</p>\n<p>[ref[]: /uri</p>\n",
+    ),
+    (
+        "[foo][bar][baz]\n\n[baz]: /url",
+        "<p>[foo]<a href=\"/url\">bar</a></p>\n",
+    ),
+    (
+        "[foo][bar][baz]\n\n[baz]: /url1\n[bar]: /url2",
+        "<p><a href=\"/url2\">foo</a><a href=\"/url1\">baz</a></p>\n",
+    ),
+    (
+        "[foo][bar][baz]\n\n[baz]: /url1\n[foo]: /url2",
+        "<p>[foo]<a href=\"/url1\">bar</a></p>\n",
+    ),
+    (
+        "[a]\\[b]\n\n[a]: /u\n[b]: /v",
+        "<p><a href=\"/u\">a</a>[b]</p>\n",
+    ),
+];
+
+const COLLAPSED_REFERENCES_AND_SHORTCUTS: Rows = &[
+    ("[foo][]\n\n[foo]: /u", "<p><a href=\"/u\">foo</a></p>\n"),
+    (
+        "[*foo* bar][]\n\n[*foo* bar]: /url \"title\"",
+        "<p><a href=\"/url\" title=\"title\"><em>foo</em> bar</a></p>\n",
+    ),
+    (
+        "[Foo][]\n\n[foo]: /url \"title\"",
+        "<p><a href=\"/url\" title=\"title\">Foo</a></p>\n",
+    ),
+    (
+        "[foo] \n[]\n\n[foo]: /url \"title\"",
+        "<p><a href=\"/url\" title=\"title\">foo</a>\n[]</p>\n",
+    ),
+    (
+        "[[*foo* bar]]\n\n[*foo* bar]: /url \"title\"",
+        "<p>[<a href=\"/url\" title=\"title\"><em>foo</em> bar</a>]</p>\n",
+    ),
+    (
+        "[[bar [foo]\n\n[foo]: /url",
+        "<p>[[bar <a href=\"/url\">foo</a></p>\n",
+    ),
+    (
+        "[foo] bar\n\n[foo]: /url",
+        "<p><a href=\"/url\">foo</a> bar</p>\n",
+    ),
+    ("\\[foo]\n\n[foo]: /url", "<p>[foo]</p>\n"),
+    (
+        "*[foo*]\n\n[foo*]: /url",
+        "<p>*<a href=\"/url\">foo*</a></p>\n",
+    ),
+    ("[foo]()\n\n[foo]: /url1", "<p><a href=\"\">foo</a></p>\n"),
+    (
+        "[foo](not a link)\n\n[foo]: /url1",
+        "<p><a href=\"/url1\">foo</a>(not a link)</p>\n",
+    ),
+    ("[a]: /1\n[A]: /2\n\n[a]", "<p><a href=\"/1\">a</a></p>\n"),
+    ("[a]: /u\r\n\n[a]", "<p><a href=\"/u\">a</a></p>\n"),
+    (
+        "![foo *bar*][]\n\n[foo *bar*]: train.jpg \"train & tracks\"",
+        "<p><img src=\"train.jpg\" alt=\"foo bar\" title=\"train &amp; tracks\" /></p>\n",
+    ),
+    (
+        "![[foo]]\n\n[[foo]]: /url2",
+        "<p>![[foo]]</p>\n<p>[[foo]]: /url2</p>\n",
+    ),
+    ("!\\[foo]\n\n[foo]: /url", "<p>![foo]</p>\n"),
+    (
+        "\\![foo]\n\n[foo]: /url",
+        "<p>!<a href=\"/url\">foo</a></p>\n",
+    ),
+];
+
+const UNDEFINED: &[&str] = &["[]", "[foo]", "[foo][]", "[foo][bar]"];
+
+const TYPES_AND_RANGES: Rows = &[
+    (
+        "[foo][]\n\n[foo]: /u",
+        "<p>0..8 <a Collapsed (/u) () (foo)>0..5 [foo]1..4 </a>0..5 </p>0..8 ",
+    ),
+    (
+        "# H1\n[testing][Some reference]\n\n[Some reference]: https://github.com",
+        "<h1>0..5 [H1]2..4 </h1>0..5 <p>5..31 \
+                <a Reference (https://github.com) () (Some reference)>5..30 [testing]6..13 </a>5..30 </p>5..31 ",
+    ),
+    (
+        "[foo]\n\n[foo]: /u",
+        "<p>0..6 <a Shortcut (/u) () (foo)>0..5 [foo]1..4 </a>0..5 </p>0..6 ",
+    ),
+    (
+        "[foo](u)",
+        "<p>0..8 <a Inline (u) () ()>0..8 [foo]1..4 </a>0..8 </p>0..8 ",
+    ),
+];
+
 #[test]
-fn full_references(rt: HostRuntime) -> Result<(), Fail> {
-    compare_whole(
+fn texts(rt: HostRuntime) -> Result<(), Fail> {
+    check(
         rt.alloc(),
-        Options::empty(),
         &[
-            (
-                "[foo][bar]\n\n[bar]: /url \"title\"",
-                "<p><a href=\"/url\" title=\"title\">foo</a></p>\n",
-            ),
-            (
-                "[link [foo [bar]]][ref]\n\n[ref]: /uri",
-                "<p><a href=\"/uri\">link [foo [bar]]</a></p>\n",
-            ),
-            (
-                "[link \\[bar][ref]\n\n[ref]: /uri",
-                "<p><a href=\"/uri\">link [bar</a></p>\n",
-            ),
-            (
-                "[foo [bar](/uri)][ref]\n\n[ref]: /uri",
-                "<p>[foo <a href=\"/uri\">bar</a>]<a href=\"/uri\">ref</a></p>\n",
-            ),
-            (
-                "[foo *bar [baz][ref]*][ref]\n\n[ref]: /uri",
-                "<p>[foo <em>bar <a href=\"/uri\">baz</a></em>]<a href=\"/uri\">ref</a></p>\n",
-            ),
-            (
-                "*[foo*][ref]\n\n[ref]: /uri",
-                "<p>*<a href=\"/uri\">foo*</a></p>\n",
-            ),
-            (
-                "[foo *bar][ref]*\n\n[ref]: /uri",
-                "<p><a href=\"/uri\">foo *bar</a>*</p>\n",
-            ),
-            (
-                "[foo`][ref]`\n\n[ref]: /uri",
-                "<p>[foo<code>][ref]</code></p>\n",
-            ),
-            (
-                "[foo][BaR]\n\n[bar]: /url \"title\"",
-                "<p><a href=\"/url\" title=\"title\">foo</a></p>\n",
-            ),
-            ("[ẞ]\n\n[SS]: /url", "<p><a href=\"/url\">ẞ</a></p>\n"),
-            (
-                "[foo] [bar]\n\n[bar]: /url \"title\"",
-                "<p>[foo] <a href=\"/url\" title=\"title\">bar</a></p>\n",
-            ),
-            (
-                "[foo]: /url1\n\n[foo]: /url2\n\n[bar][foo]",
-                "<p><a href=\"/url1\">bar</a></p>\n",
-            ),
-            ("[bar][foo\\!]\n\n[foo!]: /url", "<p>[bar][foo!]</p>\n"),
-            (
-                "[foo][ref[]\n\n[ref[]: /uri",
-                "<p>[foo][ref[]</p>\n<p>[ref[]: /uri</p>\n",
-            ),
-            (
-                "[foo][bar][baz]\n\n[baz]: /url",
-                "<p>[foo]<a href=\"/url\">bar</a></p>\n",
-            ),
-            (
-                "[foo][bar][baz]\n\n[baz]: /url1\n[bar]: /url2",
-                "<p><a href=\"/url2\">foo</a><a href=\"/url1\">baz</a></p>\n",
-            ),
-            (
-                "[foo][bar][baz]\n\n[baz]: /url1\n[foo]: /url2",
-                "<p>[foo]<a href=\"/url1\">bar</a></p>\n",
-            ),
-            (
-                "[a]\\[b]\n\n[a]: /u\n[b]: /v",
-                "<p><a href=\"/u\">a</a>[b]</p>\n",
-            ),
+            Table::Whole(&[], FULL_REFERENCES),
+            Table::Whole(&[], COLLAPSED_REFERENCES_AND_SHORTCUTS),
+            Table::Unchanged(UNDEFINED),
+            Table::Events(&[], TYPES_AND_RANGES),
         ],
     )
 }
@@ -117,106 +198,30 @@ fn labels_end_in_their_block(rt: HostRuntime) -> Result<(), Fail> {
     block_gives(rt.alloc(), 2, "<p>0..2 [[]0..1 [a]1..2 []]2..3 </p>0..2 ")
 }
 
-#[test]
-fn collapsed_references_and_shortcuts(rt: HostRuntime) -> Result<(), Fail> {
-    compare_whole(
-        rt.alloc(),
-        Options::empty(),
-        &[
-            ("[foo][]\n\n[foo]: /u", "<p><a href=\"/u\">foo</a></p>\n"),
-            (
-                "[*foo* bar][]\n\n[*foo* bar]: /url \"title\"",
-                "<p><a href=\"/url\" title=\"title\"><em>foo</em> bar</a></p>\n",
-            ),
-            (
-                "[Foo][]\n\n[foo]: /url \"title\"",
-                "<p><a href=\"/url\" title=\"title\">Foo</a></p>\n",
-            ),
-            (
-                "[foo] \n[]\n\n[foo]: /url \"title\"",
-                "<p><a href=\"/url\" title=\"title\">foo</a>\n[]</p>\n",
-            ),
-            (
-                "[[*foo* bar]]\n\n[*foo* bar]: /url \"title\"",
-                "<p>[<a href=\"/url\" title=\"title\"><em>foo</em> bar</a>]</p>\n",
-            ),
-            (
-                "[[bar [foo]\n\n[foo]: /url",
-                "<p>[[bar <a href=\"/url\">foo</a></p>\n",
-            ),
-            (
-                "[foo] bar\n\n[foo]: /url",
-                "<p><a href=\"/url\">foo</a> bar</p>\n",
-            ),
-            ("\\[foo]\n\n[foo]: /url", "<p>[foo]</p>\n"),
-            (
-                "*[foo*]\n\n[foo*]: /url",
-                "<p>*<a href=\"/url\">foo*</a></p>\n",
-            ),
-            ("[foo]()\n\n[foo]: /url1", "<p><a href=\"\">foo</a></p>\n"),
-            (
-                "[foo](not a link)\n\n[foo]: /url1",
-                "<p><a href=\"/url1\">foo</a>(not a link)</p>\n",
-            ),
-            ("[a]: /1\n[A]: /2\n\n[a]", "<p><a href=\"/1\">a</a></p>\n"),
-            ("[a]: /u\r\n\n[a]", "<p><a href=\"/u\">a</a></p>\n"),
-            (
-                "![foo *bar*][]\n\n[foo *bar*]: train.jpg \"train & tracks\"",
-                "<p><img src=\"train.jpg\" alt=\"foo bar\" title=\"train &amp; tracks\" /></p>\n",
-            ),
-            (
-                "![[foo]]\n\n[[foo]]: /url2",
-                "<p>![[foo]]</p>\n<p>[[foo]]: /url2</p>\n",
-            ),
-            ("!\\[foo]\n\n[foo]: /url", "<p>![foo]</p>\n"),
-            (
-                "\\![foo]\n\n[foo]: /url",
-                "<p>!<a href=\"/url\">foo</a></p>\n",
-            ),
-        ],
-    )?;
-    compare_plain(rt.alloc(), &["[]", "[foo]", "[foo][]", "[foo][bar]"])
-}
+/// Two labels without a definition, each in a paragraph.
+const TWO_LABELS: &str = "[a]\n\n[b]";
+
+/// Each bracket asks once, directly before the next event: a text, the number of events that are taken,
+/// and that of the questions.
+const QUESTIONS: &[(&str, usize, u64)] = &[
+    ("See also [`g()`][crate::g].", usize::MAX, 1),
+    ("See also [`g()`][crate::g][].", usize::MAX, 1),
+    ("[brokenlink1] some other node [brokenlink2]", usize::MAX, 2),
+    ("[a](b) [c]: d", usize::MAX, 1),
+    ("[a]: /u\n\n[a]", usize::MAX, 0),
+    (TWO_LABELS, 0, 0),
+    (TWO_LABELS, 1, 0),
+    (TWO_LABELS, 2, 1),
+    (TWO_LABELS, 6, 1),
+    (TWO_LABELS, 7, 2),
+    (TWO_LABELS, 20, 2),
+];
 
 #[test]
-fn types_and_ranges(rt: HostRuntime) -> Result<(), Fail> {
-    compare_events(
-        rt.alloc(),
-        Options::empty(),
-        &[
-            (
-                "[foo][]\n\n[foo]: /u",
-                "<p>0..8 <a Collapsed (/u) () (foo)>0..5 [foo]1..4 </a>0..5 </p>0..8 ",
-            ),
-            (
-                "# H1\n[testing][Some reference]\n\n[Some reference]: https://github.com",
-                "<h1>0..5 [H1]2..4 </h1>0..5 <p>5..31 \
-                <a Reference (https://github.com) () (Some reference)>5..30 [testing]6..13 </a>5..30 </p>5..31 ",
-            ),
-            (
-                "[foo]\n\n[foo]: /u",
-                "<p>0..6 <a Shortcut (/u) () (foo)>0..5 [foo]1..4 </a>0..5 </p>0..6 ",
-            ),
-            (
-                "[foo](u)",
-                "<p>0..8 <a Inline (u) () ()>0..8 [foo]1..4 </a>0..8 </p>0..8 ",
-            ),
-        ],
-    )
-}
-
-#[test]
-fn each_bracket_asks_once(rt: HostRuntime) -> Result<(), Fail> {
-    let rows = &[
-        ("See also [`g()`][crate::g].", 1),
-        ("See also [`g()`][crate::g][].", 1),
-        ("[brokenlink1] some other node [brokenlink2]", 2),
-        ("[a](b) [c]: d", 1),
-        ("[a]: /u\n\n[a]", 0),
-    ];
-    for &(source, questions) in rows {
-        let (_, asked) = questions_in(rt.alloc(), source, usize::MAX)?;
-        gives(source, asked, questions)?;
+fn questions(rt: HostRuntime) -> Result<(), Fail> {
+    for &(source, events, questions) in QUESTIONS {
+        let (_, asked) = questions_in(rt.alloc(), source, events)?;
+        gives((source, events), asked, questions)?;
     }
     Ok(())
 }
@@ -379,15 +384,6 @@ fn references_expand_up_to_a_limit(rt: HostRuntime) -> Result<(), Fail> {
             (found.as_str(), asked.as_str()),
             (events, questions),
         )?;
-    }
-    Ok(())
-}
-
-#[test]
-fn questions_stand_directly_before_the_next_event(rt: HostRuntime) -> Result<(), Fail> {
-    for &(events, questions) in &[(0, 0), (1, 0), (2, 1), (6, 1), (7, 2), (20, 2)] {
-        let (_, asked) = questions_in(rt.alloc(), "[a]\n\n[b]", events)?;
-        gives(events, asked, questions)?;
     }
     Ok(())
 }

@@ -8,10 +8,10 @@ use markdown_inline::walk::Parser;
 use markdown_render::merged::merged_html;
 use markdown_test_helpers::parts::{no_parts, one_of_each};
 use markdown_test_helpers::rows::gives;
-use markdown_test_helpers::trees::{Outline, append_block, item, tree_of};
+use markdown_test_helpers::trees::{item, tree_of};
 use markdown_test_parsers::html::parser_shows;
 use markdown_test_parsers::parsers::{parser_gives, parser_of, plain_parser, text_parser};
-use std::alloc::Global;
+use std::alloc::{AllocError, Global};
 use std::test::Fail;
 
 /// Checks the HTML of the merge of a parser.
@@ -31,48 +31,93 @@ pub fn assert_html(
     merge_shows(alloc, source, text_parser(alloc, source, options)?, wanted)
 }
 
-/// Checks the HTML of each text.
-pub fn compare_whole(alloc: Global, options: Options, rows: &[(&str, &str)]) -> Result<(), Fail> {
-    for (source, wanted) in rows {
-        assert_html(alloc, options, source, wanted)?;
+/// Texts, each with what it gives.
+pub type Rows = &'static [(&'static str, &'static str)];
+
+/// Texts that are read with the same options, and what their rows say of them. A table is written in
+/// the call that checks it, and its rows are constants of about twenty: a check takes the square of
+/// the size of each constant.
+#[derive(Clone, Copy, Drop)]
+pub enum Table {
+    /// Each text is one paragraph with this HTML inside.
+    Inside(&'static [Options], Rows),
+    /// Each text is one paragraph that shows the text unchanged, with no options.
+    Unchanged(&'static [&'static str]),
+    /// Each text has this HTML.
+    Whole(&'static [Options], Rows),
+    /// Each text has these events, each with its range.
+    Events(&'static [Options], Rows),
+}
+
+/// Returns the options that any of these has.
+fn union_of(list: &[Options]) -> Options {
+    let mut all = Options::empty();
+    for options in list {
+        all = all.union(*options);
+    }
+    all
+}
+
+/// Checks each row of the tables.
+pub fn check(alloc: Global, tables: &[Table]) -> Result<(), Fail> {
+    for table in tables {
+        check_table(alloc, *table)?;
     }
     Ok(())
 }
 
-/// Checks that a text is one paragraph with this inside.
-fn assert_inside(alloc: Global, options: Options, source: &str, inside: &str) -> Result<(), Fail> {
-    let wanted = format!(in alloc; "<p>{inside}</p>\n")?;
-    assert_html(alloc, options, source, wanted.as_str())
+fn check_table(alloc: Global, table: Table) -> Result<(), Fail> {
+    match table {
+        Table::Inside(options, rows) => check_inside(alloc, union_of(options), rows),
+        Table::Unchanged(rows) => check_unchanged(alloc, rows),
+        Table::Whole(options, rows) => check_whole(alloc, union_of(options), rows),
+        Table::Events(options, rows) => check_events(alloc, union_of(options), rows),
+    }
 }
 
-/// Checks that each text is one paragraph with this inside.
-pub fn compare(alloc: Global, options: Options, rows: &[(&str, &str)]) -> Result<(), Fail> {
+fn check_inside(alloc: Global, options: Options, rows: Rows) -> Result<(), Fail> {
     for (source, inside) in rows {
         assert_inside(alloc, options, source, inside)?;
     }
     Ok(())
 }
 
-/// Checks that each text is one paragraph that shows the text unchanged.
-pub fn compare_plain(alloc: Global, rows: &[&str]) -> Result<(), Fail> {
+fn check_unchanged(alloc: Global, rows: &[&str]) -> Result<(), Fail> {
     for source in rows {
         assert_inside(alloc, Options::empty(), source, source)?;
     }
     Ok(())
 }
 
-/// Checks the events of a text, each with its range.
-fn assert_events(alloc: Global, options: Options, source: &str, wanted: &str) -> Result<(), Fail> {
-    let parser = text_parser(alloc, source, options)?;
-    parser_gives(alloc, source, parser, wanted)
+fn check_whole(alloc: Global, options: Options, rows: Rows) -> Result<(), Fail> {
+    for (source, wanted) in rows {
+        assert_html(alloc, options, source, wanted)?;
+    }
+    Ok(())
 }
 
-/// Checks the events of each text, each with its range.
-pub fn compare_events(alloc: Global, options: Options, rows: &[(&str, &str)]) -> Result<(), Fail> {
+fn check_events(alloc: Global, options: Options, rows: Rows) -> Result<(), Fail> {
     for (source, wanted) in rows {
         assert_events(alloc, options, source, wanted)?;
     }
     Ok(())
+}
+
+/// Checks that a text is one paragraph with this inside.
+pub fn assert_inside(
+    alloc: Global,
+    options: Options,
+    source: &str,
+    inside: &str,
+) -> Result<(), Fail> {
+    let wanted = format!(in alloc; "<p>{inside}</p>\n")?;
+    assert_html(alloc, options, source, wanted.as_str())
+}
+
+/// Checks the events of a text, each with its range.
+fn assert_events(alloc: Global, options: Options, source: &str, wanted: &str) -> Result<(), Fail> {
+    let parser = text_parser(alloc, source, options)?;
+    parser_gives(alloc, source, parser, wanted)
 }
 
 /// Returns the counts of the work for all events of a text.
@@ -82,100 +127,72 @@ pub fn work_of(alloc: Global, source: &str) -> Result<Work, Fail> {
     Ok(parser.work())
 }
 
-/// Returns a parser of a tree over a text, which may refer to one text, one list of alignments and the attributes of
-/// one heading.
-fn outlined<'a>(
+/// An item made by hand: its depth below the root, its range and its body.
+pub type Placed = (usize, usize, usize, ItemBody);
+
+/// The body of a text.
+pub const TEXT: ItemBody = ItemBody::Text {
+    backslash_escaped: false,
+};
+
+/// Returns a tree of these items, which are in preorder.
+pub fn tree_of_placed(alloc: Global, placed: &[Placed]) -> Result<Tree<Item>, AllocError> {
+    let mut outline = Vec::new(alloc);
+    for &(depth, start, end, body) in placed {
+        outline.push((depth, item(start, end, body)))?;
+    }
+    tree_of(alloc, &outline)
+}
+
+/// What a tree made by hand gives.
+#[derive(Clone, Copy, Drop)]
+pub enum Given {
+    /// This HTML, merged and not.
+    Html(&'static str),
+    /// These events, each with its range.
+    Events(&'static str),
+}
+
+/// A tree made by hand over a text, which may refer to one text, one list of alignments and the
+/// attributes of one heading: the text, the options, the items in preorder, and what it gives.
+pub type Made = (&'static str, &'static [Options], &'static [Placed], Given);
+
+/// Returns the parser of a tree made by hand.
+fn made_parser<'a>(
     alloc: Global,
     source: &'a str,
-    options: Options,
-    outline: Outline<'_>,
+    options: &[Options],
+    placed: &[Placed],
 ) -> Result<Parser<'a>, Fail> {
-    let tree = tree_of(alloc, outline)?;
-    parser_of(alloc, source, options, tree, one_of_each(alloc)?)
+    let tree = tree_of_placed(alloc, placed)?;
+    let parts = one_of_each(alloc)?;
+    parser_of(alloc, source, union_of(options), tree, parts)
 }
 
-/// Checks the HTML of such a tree over a text, merged and not.
-pub fn outline_shows(
-    alloc: Global,
-    source: &str,
-    options: Options,
-    outline: Outline<'_>,
-    wanted: &str,
-) -> Result<(), Fail> {
-    parser_shows(
-        alloc,
-        source,
-        outlined(alloc, source, options, outline)?,
-        wanted,
-    )?;
-    merge_shows(
-        alloc,
-        source,
-        outlined(alloc, source, options, outline)?,
-        wanted,
-    )
+/// Checks what a tree made by hand gives.
+fn check_made_row(alloc: Global, row: Made) -> Result<(), Fail> {
+    let (source, options, placed, given) = row;
+    let parser = made_parser(alloc, source, options, placed)?;
+    match given {
+        Given::Html(html) => {
+            parser_shows(alloc, source, parser, html)?;
+            merge_shows(
+                alloc,
+                source,
+                made_parser(alloc, source, options, placed)?,
+                html,
+            )
+        }
+        Given::Events(events) => parser_gives(alloc, source, parser, events),
+    }
 }
 
-/// Checks the events of such a tree over a text, each with its range.
-pub fn outline_gives(
-    alloc: Global,
-    source: &str,
-    options: Options,
-    outline: Outline<'_>,
-    wanted: &str,
-) -> Result<(), Fail> {
-    parser_gives(
-        alloc,
-        source,
-        outlined(alloc, source, options, outline)?,
-        wanted,
-    )
-}
-
-/// Returns a parser of a paragraph of these items.
-fn paragraph<'a>(
-    alloc: Global,
-    source: &'a str,
-    options: Options,
-    items: &[Item],
-) -> Result<Parser<'a>, Fail> {
-    let mut tree = Tree::new(alloc)?;
-    append_block(&mut tree, item(0, source.len(), ItemBody::Paragraph), items)?;
-    parser_of(alloc, source, options, tree, no_parts(alloc))
-}
-
-/// Checks the events of a paragraph of these items, each with its range.
-pub fn paragraph_gives(
-    alloc: Global,
-    source: &str,
-    options: Options,
-    items: &[Item],
-    wanted: &str,
-) -> Result<(), Fail> {
-    let parser = paragraph(alloc, source, options, items)?;
-    parser_gives(alloc, source, parser, wanted)
-}
-
-/// Checks the HTML of a paragraph of these items, merged and not.
-pub fn paragraph_shows(
-    alloc: Global,
-    source: &str,
-    options: Options,
-    items: &[Item],
-    wanted: &str,
-) -> Result<(), Fail> {
-    parser_shows(
-        alloc,
-        source,
-        paragraph(alloc, source, options, items)?,
-        wanted,
-    )?;
-    merge_shows(
-        alloc,
-        source,
-        paragraph(alloc, source, options, items)?,
-        wanted,
-    )
+/// Checks what each tree made by hand gives.
+pub fn check_made(alloc: Global, rows: &[Made]) -> Result<(), Fail> {
+    for row in rows {
+        check_made_row(alloc, *row)?;
+    }
+    Ok(())
 }
 
 /// Checks the HTML of a tree over a text.
