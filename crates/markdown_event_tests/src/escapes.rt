@@ -115,49 +115,50 @@ fn link_to(alloc: Global, destination: &str) -> Result<Vec<u8>, AllocError> {
     Ok(expected)
 }
 
-/// Checks the HTML of events.
-fn is_written<'s>(
-    alloc: Global,
-    row: &str,
-    signs: &'s [Sign<'s>],
-    expected: &[u8],
-) -> Result<(), Fail> {
-    let html = html_of(alloc, items_of(alloc, signs))?;
-    gives(row, html.as_str().as_bytes() == expected, true)
+/// A place of a text in HTML.
+#[derive(Clone, Copy, Debug, Drop)]
+enum Place {
+    Text,
+    Math,
+    Destination,
+}
+
+/// Returns the sign of the event with a text at a place.
+fn sign_at<'s>(place: Place, text: &'s str) -> Sign<'s> {
+    match place {
+        Place::Text => Sign::Words(text),
+        Place::Math => Sign::InlineMath(text),
+        Place::Destination => Sign::Link(LinkType::Inline, text, ""),
+    }
+}
+
+/// Returns the HTML of that event, by the tables.
+fn html_at(alloc: Global, place: Place, text: &str) -> Result<Vec<u8>, AllocError> {
+    match place {
+        Place::Text => between(alloc, "", text, "\"", ""),
+        Place::Math => between(
+            alloc,
+            "<span class=\"math math-inline\">",
+            text,
+            "&quot;",
+            "</span>",
+        ),
+        Place::Destination => link_to(alloc, text),
+    }
+}
+
+/// Checks what the bytes of a text are written as at a place.
+fn is_escaped(alloc: Global, place: Place, text: &str) -> Result<(), Fail> {
+    let expected = html_at(alloc, place, text)?;
+    let html = html_of(alloc, items_of(alloc, &[sign_at(place, text)]))?;
+    gives(place, html.as_str().as_bytes() == expected.as_slice(), true)
 }
 
 #[test]
-fn each_byte_of_a_text_is_escaped(rt: HostRuntime) -> Result<(), Fail> {
-    let alloc = rt.alloc();
-    let all = all_bytes(alloc)?;
-    let expected = between(alloc, "", all.as_str(), "\"", "")?;
-    is_written(
-        alloc,
-        "text",
-        &[Sign::Words(all.as_str())],
-        expected.as_slice(),
-    )
-}
-
-#[test]
-fn each_byte_of_math_is_escaped(rt: HostRuntime) -> Result<(), Fail> {
-    let alloc = rt.alloc();
-    let all = all_bytes(alloc)?;
-    let before = "<span class=\"math math-inline\">";
-    let expected = between(alloc, before, all.as_str(), "&quot;", "</span>")?;
-    is_written(
-        alloc,
-        "math",
-        &[Sign::InlineMath(all.as_str())],
-        expected.as_slice(),
-    )
-}
-
-#[test]
-fn each_byte_of_a_destination_is_escaped(rt: HostRuntime) -> Result<(), Fail> {
-    let alloc = rt.alloc();
-    let all = all_bytes(alloc)?;
-    let expected = link_to(alloc, all.as_str())?;
-    let link = Sign::Link(LinkType::Inline, all.as_str(), "");
-    is_written(alloc, "destination", &[link], expected.as_slice())
+fn each_byte_is_escaped(rt: HostRuntime) -> Result<(), Fail> {
+    let all = all_bytes(rt.alloc())?;
+    for place in [Place::Text, Place::Math, Place::Destination] {
+        is_escaped(rt.alloc(), place, all.as_str())?;
+    }
+    Ok(())
 }

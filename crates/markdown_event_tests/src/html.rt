@@ -1,7 +1,7 @@
 //! What `push_html` writes, where no allocation is refused.
 ghost use Rattle.std.specs.Iterator.{IsFinite};
 
-use crate::events::{Item, harden};
+use crate::events::{Item, html_of_hardened};
 use crate::signs::{Sign, items_of};
 use markdown_base::fault::Fault;
 use markdown_base::tag::{
@@ -10,7 +10,6 @@ use markdown_base::tag::{
 use markdown_out::html::push_html;
 use markdown_out::merge::TextMergeStream;
 use markdown_test_helpers::rows::gives;
-use markdown_test_parsers::html::html_of;
 use std::alloc::{AllocError, Global};
 use std::test::Fail;
 
@@ -29,27 +28,29 @@ fn written<'a, I: Iterator<Item = Item<'a>>>(
     Ok((fault, html))
 }
 
-/// Checks the HTML that the events of these signs append, and the result of the call.
-fn ends_with<'s>(
-    alloc: Global,
-    signs: &'s [Sign<'s>],
-    html: &str,
-    fault: Option<Fault>,
-) -> Result<(), Fail> {
-    let (found, all) = written(alloc, items_of(alloc, signs))?;
+/// Signs of events, the HTML that their events append, and the error of the call.
+type Row = (&'static [Sign<'static>], &'static str, Option<Fault>);
+
+/// Checks the result of a call that appends the HTML of a row.
+fn has_written(found: (Option<Fault>, String), row: Row) -> Result<(), Fail> {
+    let (fault, all) = found;
+    let (_, html, wanted) = row;
     gives(
         html,
-        (found, all.as_str().strip_prefix("old ")),
-        (fault, Some(html)),
+        (fault, all.as_str().strip_prefix("old ")),
+        (wanted, Some(html)),
     )
 }
 
-/// Checks the HTML that the events of these signs append.
-fn writes<'s>(alloc: Global, signs: &'s [Sign<'s>], html: &str) -> Result<(), Fail> {
-    ends_with(alloc, signs, html, None)
+/// Checks the HTML that the events of each row append, and the result of the call.
+fn check(alloc: Global, rows: &[Row]) -> Result<(), Fail> {
+    for row in rows {
+        has_written(written(alloc, items_of(alloc, row.0))?, *row)?;
+    }
+    Ok(())
 }
 
-static BLOCKS: [Sign<'static>; 17] = [
+const BLOCKS: &[Sign<'static>] = &[
     Sign::Open(TagEnd::Paragraph),
     Sign::Open(TagEnd::Heading(HeadingLevel::H1)),
     Sign::Open(TagEnd::Heading(HeadingLevel::H6)),
@@ -69,7 +70,13 @@ static BLOCKS: [Sign<'static>; 17] = [
     Sign::Definition("n"),
 ];
 
-static LISTS: [Sign<'static>; 5] = [
+const CODE: &[Sign<'static>] = &[
+    Sign::Fenced("rust ignore"),
+    Sign::Close(TagEnd::CodeBlock),
+    Sign::Fenced(" rust"),
+];
+
+const LISTS: &[Sign<'static>] = &[
     Sign::Open(TagEnd::List(false)),
     Sign::Open(TagEnd::List(true)),
     Sign::Ordered(0),
@@ -77,33 +84,7 @@ static LISTS: [Sign<'static>; 5] = [
     Sign::Ordered(18446744073709551615),
 ];
 
-#[test]
-fn starts_of_blocks(rt: HostRuntime) -> Result<(), Fail> {
-    let alloc = rt.alloc();
-    let html = "<p>\n<h1>\n<h6>\n<blockquote>\n\
-        <blockquote class=\"markdown-alert-note\">\n\
-        <blockquote class=\"markdown-alert-tip\">\n\
-        <blockquote class=\"markdown-alert-important\">\n\
-        <blockquote class=\"markdown-alert-warning\">\n\
-        <blockquote class=\"markdown-alert-caution\">\n\
-        <pre><code>\n<pre><code class=\"language-rs\">\n\
-        <li>\n<dl>\n<dt>\n<dd>\n\
-        <div class=\"footnote-definition\" id=\"n\">\
-        <sup class=\"footnote-definition-label\">1</sup>";
-    writes(alloc, &BLOCKS, html)?;
-    let code = [
-        Sign::Fenced("rust ignore"),
-        Sign::Close(TagEnd::CodeBlock),
-        Sign::Fenced(" rust"),
-    ];
-    let html = "<pre><code class=\"language-rust\"></code></pre>\n<pre><code>";
-    writes(alloc, &code, html)?;
-    let html =
-        "<ul>\n<ol>\n<ol start=\"0\">\n<ol start=\"7\">\n<ol start=\"18446744073709551615\">\n";
-    writes(alloc, &LISTS, html)
-}
-
-static MARKUP: [Sign<'static>; 8] = [
+const MARKUP: &[Sign<'static>] = &[
     Sign::Open(TagEnd::Emphasis),
     Sign::Open(TagEnd::Strong),
     Sign::Open(TagEnd::Strikethrough),
@@ -114,14 +95,7 @@ static MARKUP: [Sign<'static>; 8] = [
     Sign::Image("u", "t"),
 ];
 
-#[test]
-fn starts_of_inline_markup(rt: HostRuntime) -> Result<(), Fail> {
-    let html = "<em><strong><del><sub><sup><a href=\"/a%20b\" title=\"t&quot;\">\
-        <a href=\"mailto:a@b.c\"><img src=\"u\" alt=\"\" title=\"t\" />";
-    writes(rt.alloc(), &MARKUP, html)
-}
-
-static ENDS: [Sign<'static>; 25] = [
+const ENDS: &[Sign<'static>] = &[
     Sign::Close(TagEnd::Paragraph),
     Sign::Close(TagEnd::Heading(HeadingLevel::H4)),
     Sign::Close(TagEnd::BlockQuote(Some(BlockQuoteKind::Tip))),
@@ -150,14 +124,52 @@ static ENDS: [Sign<'static>; 25] = [
 ];
 
 #[test]
-fn ends(rt: HostRuntime) -> Result<(), Fail> {
-    let html = "</p>\n</h4>\n</blockquote>\n</code></pre>\n</ol>\n</ul>\n</li>\n\
-        </dl>\n</dt>\n</dd>\n</th></tr></thead><tbody>\n</td></tr>\n</tbody></table>\n\
-        </em></strong></del></sub></sup></a></div>\n";
-    writes(rt.alloc(), &ENDS, html)
+fn starts_and_ends(rt: HostRuntime) -> Result<(), Fail> {
+    check(
+        rt.alloc(),
+        &[
+            (
+                BLOCKS,
+                "<p>\n<h1>\n<h6>\n<blockquote>\n\
+                <blockquote class=\"markdown-alert-note\">\n\
+                <blockquote class=\"markdown-alert-tip\">\n\
+                <blockquote class=\"markdown-alert-important\">\n\
+                <blockquote class=\"markdown-alert-warning\">\n\
+                <blockquote class=\"markdown-alert-caution\">\n\
+                <pre><code>\n<pre><code class=\"language-rs\">\n\
+                <li>\n<dl>\n<dt>\n<dd>\n\
+                <div class=\"footnote-definition\" id=\"n\">\
+                <sup class=\"footnote-definition-label\">1</sup>",
+                None,
+            ),
+            (
+                CODE,
+                "<pre><code class=\"language-rust\"></code></pre>\n<pre><code>",
+                None,
+            ),
+            (
+                LISTS,
+                "<ul>\n<ol>\n<ol start=\"0\">\n<ol start=\"7\">\n<ol start=\"18446744073709551615\">\n",
+                None,
+            ),
+            (
+                MARKUP,
+                "<em><strong><del><sub><sup><a href=\"/a%20b\" title=\"t&quot;\">\
+                <a href=\"mailto:a@b.c\"><img src=\"u\" alt=\"\" title=\"t\" />",
+                None,
+            ),
+            (
+                ENDS,
+                "</p>\n</h4>\n</blockquote>\n</code></pre>\n</ol>\n</ul>\n</li>\n\
+                </dl>\n</dt>\n</dd>\n</th></tr></thead><tbody>\n</td></tr>\n</tbody></table>\n\
+                </em></strong></del></sub></sup></a></div>\n",
+                None,
+            ),
+        ],
+    )
 }
 
-static OTHERS: [Sign<'static>; 11] = [
+const OTHERS: &[Sign<'static>] = &[
     Sign::Code("a<\""),
     Sign::InlineMath("b<\""),
     Sign::DisplayMath("c"),
@@ -171,19 +183,7 @@ static OTHERS: [Sign<'static>; 11] = [
     Sign::Task(false),
 ];
 
-#[test]
-fn other_events(rt: HostRuntime) -> Result<(), Fail> {
-    let alloc = rt.alloc();
-    writes(alloc, &[], "")?;
-    let html = "<code>a&lt;\"</code><span class=\"math math-inline\">b&lt;&quot;</span>\
-        <span class=\"math math-display\">c</span><d><e>\n<br />\n<hr />\n\
-        <sup class=\"footnote-reference\"><a href=\"#f&quot;\">1</a></sup>\
-        <input disabled=\"\" type=\"checkbox\" checked=\"\"/>\n\
-        <input disabled=\"\" type=\"checkbox\"/>\n";
-    writes(alloc, &OTHERS, html)
-}
-
-static METADATA: [Sign<'static>; 6] = [
+const METADATA: &[Sign<'static>] = &[
     Sign::Open(TagEnd::MetadataBlock(MetadataBlockKind::YamlStyle)),
     Sign::Words("a"),
     Sign::Words(""),
@@ -192,7 +192,7 @@ static METADATA: [Sign<'static>; 6] = [
     Sign::Words("b"),
 ];
 
-static FOOTNOTES: [Sign<'static>; 8] = [
+const FOOTNOTES: &[Sign<'static>] = &[
     Sign::Reference("A"),
     Sign::Image("u", ""),
     Sign::Reference("i"),
@@ -203,24 +203,55 @@ static FOOTNOTES: [Sign<'static>; 8] = [
     Sign::Reference("a"),
 ];
 
+const HEADING: &[Sign<'static>] = &[
+    Sign::FullHeading,
+    Sign::Words("t"),
+    Sign::Close(TagEnd::Heading(HeadingLevel::H2)),
+];
+
 #[test]
-fn look_backs(rt: HostRuntime) -> Result<(), Fail> {
-    let alloc = rt.alloc();
-    let after_empty = [Sign::Words(""), Sign::Rule];
-    writes(alloc, &after_empty, "\n<hr />\n")?;
-    let out_of_order = [Sign::Words("a"), Sign::Close(TagEnd::Image), Sign::Rule];
-    writes(alloc, &out_of_order, "a\n<hr />\n")?;
-    writes(alloc, &METADATA, "<i>b")?;
-    let html = "<sup class=\"footnote-reference\"><a href=\"#A\">1</a></sup>\
-        <img src=\"u\" alt=\"[2]\" />\n\
-        <div class=\"footnote-definition\" id=\"a\">\
-        <sup class=\"footnote-definition-label\">3</sup></div>\n\
-        <sup class=\"footnote-reference\"><a href=\"#A\">1</a></sup>\
-        <sup class=\"footnote-reference\"><a href=\"#a\">3</a></sup>";
-    writes(alloc, &FOOTNOTES, html)
+fn other_events(rt: HostRuntime) -> Result<(), Fail> {
+    check(
+        rt.alloc(),
+        &[
+            (&[], "", None),
+            (
+                OTHERS,
+                "<code>a&lt;\"</code><span class=\"math math-inline\">b&lt;&quot;</span>\
+                <span class=\"math math-display\">c</span><d><e>\n<br />\n<hr />\n\
+                <sup class=\"footnote-reference\"><a href=\"#f&quot;\">1</a></sup>\
+                <input disabled=\"\" type=\"checkbox\" checked=\"\"/>\n\
+                <input disabled=\"\" type=\"checkbox\"/>\n",
+                None,
+            ),
+            // what an event before decides
+            (&[Sign::Words(""), Sign::Rule], "\n<hr />\n", None),
+            (
+                &[Sign::Words("a"), Sign::Close(TagEnd::Image), Sign::Rule],
+                "a\n<hr />\n",
+                None,
+            ),
+            (METADATA, "<i>b", None),
+            (
+                FOOTNOTES,
+                "<sup class=\"footnote-reference\"><a href=\"#A\">1</a></sup>\
+                <img src=\"u\" alt=\"[2]\" />\n\
+                <div class=\"footnote-definition\" id=\"a\">\
+                <sup class=\"footnote-definition-label\">3</sup></div>\n\
+                <sup class=\"footnote-reference\"><a href=\"#A\">1</a></sup>\
+                <sup class=\"footnote-reference\"><a href=\"#a\">3</a></sup>",
+                None,
+            ),
+            (
+                HEADING,
+                "<h2 id=\"i\" class=\"a b&quot;\" k=\"v\" x=\"\">t</h2>\n",
+                None,
+            ),
+        ],
+    )
 }
 
-static IMAGE: [Sign<'static>; 10] = [
+const IMAGE: &[Sign<'static>] = &[
     Sign::Image("c", "t"),
     Sign::Words("a "),
     Sign::Open(TagEnd::Emphasis),
@@ -234,7 +265,7 @@ static IMAGE: [Sign<'static>; 10] = [
 ];
 
 /// Events in an image without their counterparts: a Start that has no End, and Ends that have no Start.
-static ANYTHING: [Sign<'static>; 11] = [
+const ANYTHING: &[Sign<'static>] = &[
     Sign::Image("u", ""),
     Sign::Table(&[]),
     Sign::Close(TagEnd::Paragraph),
@@ -248,18 +279,7 @@ static ANYTHING: [Sign<'static>; 11] = [
     Sign::Words("z"),
 ];
 
-#[test]
-fn images(rt: HostRuntime) -> Result<(), Fail> {
-    let alloc = rt.alloc();
-    let open = [Sign::Image("u", ""), Sign::Words("a\"b")];
-    writes(alloc, &open, "<img src=\"u\" alt=\"a&quot;b\" />")?;
-    let html = "<img src=\"c\" alt=\"a b $x$[x]\" title=\"t\" />\n";
-    writes(alloc, &IMAGE, html)?;
-    let html = "<img src=\"u\" alt=\"c&lt;b&gt; [1][x]\" />z";
-    writes(alloc, &ANYTHING, html)
-}
-
-static TABLE: [Sign<'static>; 22] = [
+const TABLE: &[Sign<'static>] = &[
     Sign::Table(&[
         Alignment::Left,
         Alignment::None,
@@ -289,17 +309,7 @@ static TABLE: [Sign<'static>; 22] = [
     Sign::Close(TagEnd::Table),
 ];
 
-#[test]
-fn tables(rt: HostRuntime) -> Result<(), Fail> {
-    let alloc = rt.alloc();
-    let html = "<table><thead><tr><th style=\"text-align: left\">a</th><th></th>\
-        </tr></thead><tbody>\n<tr><td style=\"text-align: left\">b</td><td></td>\
-        <td style=\"text-align: center\"></td><td style=\"text-align: right\"></td><td></td></tr>\n\
-        </tbody></table>\n";
-    writes(alloc, &TABLE, html)
-}
-
-static NO_ROW: [Sign<'static>; 5] = [
+const NO_ROW: &[Sign<'static>] = &[
     Sign::Close(TagEnd::Paragraph),
     Sign::Table(&[Alignment::Left]),
     Sign::Open(TagEnd::TableCell),
@@ -308,63 +318,80 @@ static NO_ROW: [Sign<'static>; 5] = [
 ];
 
 #[test]
-fn a_table_without_rows(rt: HostRuntime) -> Result<(), Fail> {
-    let alloc = rt.alloc();
-    let html = "</p>\n<table><th style=\"text-align: left\"></th><th>";
-    writes(alloc, &NO_ROW, html)
-}
-
-static HEADING: [Sign<'static>; 3] = [
-    Sign::FullHeading,
-    Sign::Words("t"),
-    Sign::Close(TagEnd::Heading(HeadingLevel::H2)),
-];
-
-#[test]
-fn headings(rt: HostRuntime) -> Result<(), Fail> {
-    let alloc = rt.alloc();
-    let html = "<h2 id=\"i\" class=\"a b&quot;\" k=\"v\" x=\"\">t</h2>\n";
-    writes(alloc, &HEADING, html)
-}
-
-static AT_ONCE: [Sign<'static>; 3] = [
-    Sign::Words("a"),
-    Sign::Refused(Fault::Memory),
-    Sign::Words("b"),
-];
-
-#[test]
-fn errors(rt: HostRuntime) -> Result<(), Fail> {
-    let alloc = rt.alloc();
-    ends_with(alloc, &AT_ONCE, "a", Some(Fault::Memory))?;
-    for &fault in &[Fault::Blocks, Fault::Depth, Fault::Memory] {
-        let in_image = [
-            Sign::Image("u", "t"),
-            Sign::Words("a"),
-            Sign::Refused(fault),
-        ];
-        ends_with(alloc, &in_image, "<img src=\"u\" alt=\"a", Some(fault))?;
-    }
-    Ok(())
-}
-
-/// Checks the HTML that the merge of the events appends, and the result of the call.
-fn merged_ends_with<'s>(
-    alloc: Global,
-    signs: &'s [Sign<'s>],
-    html: &str,
-    fault: Option<Fault>,
-) -> Result<(), Fail> {
-    let merge = TextMergeStream::new(alloc, items_of(alloc, signs));
-    let (found, all) = written(alloc, merge)?;
-    gives(
-        html,
-        (found, all.as_str().strip_prefix("old ")),
-        (fault, Some(html)),
+fn images_and_tables(rt: HostRuntime) -> Result<(), Fail> {
+    check(
+        rt.alloc(),
+        &[
+            (
+                &[Sign::Image("u", ""), Sign::Words("a\"b")],
+                "<img src=\"u\" alt=\"a&quot;b\" />",
+                None,
+            ),
+            (
+                IMAGE,
+                "<img src=\"c\" alt=\"a b $x$[x]\" title=\"t\" />\n",
+                None,
+            ),
+            (
+                ANYTHING,
+                "<img src=\"u\" alt=\"c&lt;b&gt; [1][x]\" />z",
+                None,
+            ),
+            (
+                TABLE,
+                "<table><thead><tr><th style=\"text-align: left\">a</th><th></th>\
+                </tr></thead><tbody>\n<tr><td style=\"text-align: left\">b</td><td></td>\
+                <td style=\"text-align: center\"></td><td style=\"text-align: right\"></td><td></td></tr>\n\
+                </tbody></table>\n",
+                None,
+            ),
+            (
+                NO_ROW,
+                "</p>\n<table><th style=\"text-align: left\"></th><th>",
+                None,
+            ),
+        ],
     )
 }
 
-static RUNS: [Sign<'static>; 5] = [
+const MEMORY: Sign<'static> = Sign::Refused(Fault::Memory);
+
+const BLOCKS_FAULT: Sign<'static> = Sign::Refused(Fault::Blocks);
+
+const DEPTH_FAULT: Sign<'static> = Sign::Refused(Fault::Depth);
+
+const IN_IMAGE: &str = "<img src=\"u\" alt=\"a";
+
+#[test]
+fn errors(rt: HostRuntime) -> Result<(), Fail> {
+    check(
+        rt.alloc(),
+        &[
+            (
+                &[Sign::Words("a"), MEMORY, Sign::Words("b")],
+                "a",
+                Some(Fault::Memory),
+            ),
+            (
+                &[Sign::Image("u", "t"), Sign::Words("a"), BLOCKS_FAULT],
+                IN_IMAGE,
+                Some(Fault::Blocks),
+            ),
+            (
+                &[Sign::Image("u", "t"), Sign::Words("a"), DEPTH_FAULT],
+                IN_IMAGE,
+                Some(Fault::Depth),
+            ),
+            (
+                &[Sign::Image("u", "t"), Sign::Words("a"), MEMORY],
+                IN_IMAGE,
+                Some(Fault::Memory),
+            ),
+        ],
+    )
+}
+
+const RUNS: &[Sign<'static>] = &[
     Sign::Words("a"),
     Sign::Words("<b"),
     Sign::Image("u", ""),
@@ -374,21 +401,23 @@ static RUNS: [Sign<'static>; 5] = [
 
 #[test]
 fn html_of_merges(rt: HostRuntime) -> Result<(), Fail> {
-    let alloc = rt.alloc();
-    let html = "a&lt;b<img src=\"u\" alt=\"c&quot;\" />";
-    merged_ends_with(alloc, &RUNS, html, None)?;
-    let at_once = [Sign::Words("a"), Sign::Refused(Fault::Memory)];
-    merged_ends_with(alloc, &at_once, "a", Some(Fault::Memory))?;
-    let in_image = [
-        Sign::Image("u", "t"),
-        Sign::Words("c"),
-        Sign::Refused(Fault::Memory),
+    let rows: &[Row] = &[
+        (RUNS, "a&lt;b<img src=\"u\" alt=\"c&quot;\" />", None),
+        (&[Sign::Words("a"), MEMORY], "a", Some(Fault::Memory)),
+        (
+            &[Sign::Image("u", "t"), Sign::Words("c"), MEMORY],
+            "<img src=\"u\" alt=\"c",
+            Some(Fault::Memory),
+        ),
     ];
-    let open = "<img src=\"u\" alt=\"c";
-    merged_ends_with(alloc, &in_image, open, Some(Fault::Memory))
+    for row in rows {
+        let merge = TextMergeStream::new(rt.alloc(), items_of(rt.alloc(), row.0));
+        has_written(written(rt.alloc(), merge)?, *row)?;
+    }
+    Ok(())
 }
 
-static SOFT: [Sign<'static>; 4] = [
+const SOFT: &[Sign<'static>] = &[
     Sign::Open(TagEnd::Paragraph),
     Sign::Words("a"),
     Sign::SoftBreak,
@@ -397,7 +426,6 @@ static SOFT: [Sign<'static>; 4] = [
 
 #[test]
 fn html_of_mapped_events(rt: HostRuntime) -> Result<(), Fail> {
-    let alloc = rt.alloc();
-    let html = html_of(alloc, items_of(alloc, &SOFT).map(harden))?;
+    let html = html_of_hardened(rt.alloc(), items_of(rt.alloc(), SOFT))?;
     gives("a soft break", html.as_str(), "<p>a<br />\nb")
 }

@@ -1,5 +1,5 @@
 //! Parsers under merges and adapters, and their HTML.
-use crate::events::{harden, is_soft_break};
+use crate::events::{html_of_hardened, is_soft_break};
 use markdown_base::cow_str::CowStr;
 use markdown_base::event::Event;
 use markdown_base::fault::Fault;
@@ -8,7 +8,6 @@ use markdown_out::merge::{TextMergeStream, TextMergeWithOffset};
 use markdown_render::merged::{merged_html, offsets_can_be_merged};
 use markdown_test_helpers::notes::notes_of;
 use markdown_test_helpers::rows::gives;
-use markdown_test_parsers::html::html_of;
 use markdown_test_parsers::parsers::plain_parser;
 use std::alloc::Global;
 use std::ops::Range;
@@ -18,15 +17,14 @@ type Placed<'a> = Result<(Event<'a>, Range<usize>), Fault>;
 
 #[test]
 fn html_of_a_map(rt: HostRuntime) -> Result<(), Fail> {
-    let parser = plain_parser(rt.alloc(), "a\nb")?;
-    let html = html_of(rt.alloc(), parser.map(harden))?;
+    let html = html_of_hardened(rt.alloc(), plain_parser(rt.alloc(), "a\nb")?)?;
     gives("a\nb", html.as_str(), "<p>a<br />\nb</p>\n")
 }
 
 #[test]
 fn html_of_a_mapped_merge(rt: HostRuntime) -> Result<(), Fail> {
     let merge = TextMergeStream::new(rt.alloc(), plain_parser(rt.alloc(), "a\nb")?);
-    let html = html_of(rt.alloc(), merge.map(harden))?;
+    let html = html_of_hardened(rt.alloc(), merge)?;
     gives("a\nb", html.as_str(), "<p>a<br />\nb</p>\n")
 }
 

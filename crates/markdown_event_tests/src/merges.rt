@@ -35,13 +35,27 @@ fn merge_gives<'s>(alloc: Global, signs: &'s [Sign<'s>], wanted: &str) -> Result
 
 #[test]
 fn runs(rt: HostRuntime) -> Result<(), Fail> {
-    let alloc = rt.alloc();
-    let [a, b, c] = [Sign::Words("a"), Sign::Words("b"), Sign::Words("c")];
-    let [empty, rule] = [Sign::Words(""), Sign::Rule];
-    merge_gives(alloc, &[rule, empty, empty, rule], "--")?;
-    merge_gives(alloc, &[empty, empty], "")?;
-    merge_gives(alloc, &[rule, empty, rule], "-[]-")?;
-    merge_gives(alloc, &[a, b, Sign::Refused(Fault::Memory), c], "[ab]![c]")
+    let rows: &[(&[Sign<'static>], &str)] = &[
+        (
+            &[Sign::Rule, Sign::Words(""), Sign::Words(""), Sign::Rule],
+            "--",
+        ),
+        (&[Sign::Words(""), Sign::Words("")], ""),
+        (&[Sign::Rule, Sign::Words(""), Sign::Rule], "-[]-"),
+        (
+            &[
+                Sign::Words("a"),
+                Sign::Words("b"),
+                Sign::Refused(Fault::Memory),
+                Sign::Words("c"),
+            ],
+            "[ab]![c]",
+        ),
+    ];
+    for &(signs, wanted) in rows {
+        merge_gives(rt.alloc(), signs, wanted)?;
+    }
+    Ok(())
 }
 
 type Ranged<'a> = Result<(Event<'a>, Range<usize>), Fault>;
@@ -85,15 +99,16 @@ fn merged_ranges<'s>(alloc: Global, rows: &'s [(Sign<'s>, usize, usize)]) -> Res
     said_of(alloc, TextMergeWithOffset::new(alloc, items), say_ranged)
 }
 
+static CODE: [(Sign<'static>, usize, usize); 4] = [
+    (Sign::Open(TagEnd::CodeBlock), 5, 32),
+    (Sign::Words("first line\n"), 5, 16),
+    (Sign::Words("second line\n"), 20, 32),
+    (Sign::Close(TagEnd::CodeBlock), 5, 32),
+];
+
 #[test]
 fn runs_with_ranges(rt: HostRuntime) -> Result<(), Fail> {
-    let items = [
-        (Sign::Open(TagEnd::CodeBlock), 5, 32),
-        (Sign::Words("first line\n"), 5, 16),
-        (Sign::Words("second line\n"), 20, 32),
-        (Sign::Close(TagEnd::CodeBlock), 5, 32),
-    ];
-    let notes = merged_ranges(rt.alloc(), &items)?;
+    let notes = merged_ranges(rt.alloc(), &CODE)?;
     let wanted = "-5..32 [first line\nsecond line\n]5..32 -5..32 ";
     gives("code", notes.as_str(), wanted)
 }

@@ -96,23 +96,25 @@ fn a_deep_tree(rt: HostRuntime) -> Result<(), Fail> {
     parser_gives(alloc, "nested paragraphs", parser, wanted.as_str())
 }
 
-#[test]
-fn a_walk_that_changes_hands(rt: HostRuntime) -> Result<(), Fail> {
-    let alloc = rt.alloc();
-    let mut parser = plain_parser(alloc, "*hello* world")?;
-    let given = ask_for(&mut parser, 3);
-    let events = "</em>0..7 [ world]7..13 </p>0..13 ";
-    parser_gives(alloc, "*hello* world", parser, events)?;
-    gives("events before", given, 3)
+/// Checks how many events the first calls of `next` return, and the events that are left.
+fn is_handed_on(
+    alloc: Global,
+    source: &str,
+    calls: u64,
+    given: u64,
+    left: &str,
+) -> Result<(), Fail> {
+    let mut parser = plain_parser(alloc, source)?;
+    let found = ask_for(&mut parser, calls);
+    parser_gives(alloc, source, parser, left)?;
+    gives((source, "events before"), found, given)
 }
 
 #[test]
-fn a_walk_that_is_over_changes_hands(rt: HostRuntime) -> Result<(), Fail> {
-    let alloc = rt.alloc();
-    let mut ended = plain_parser(alloc, "")?;
-    let given = ask_for(&mut ended, 2);
-    parser_gives(alloc, "", ended, "")?;
-    gives("events before", given, 0)
+fn walks_that_change_hands(rt: HostRuntime) -> Result<(), Fail> {
+    let left = "</em>0..7 [ world]7..13 </p>0..13 ";
+    is_handed_on(rt.alloc(), "*hello* world", 3, 3, left)?;
+    is_handed_on(rt.alloc(), "", 2, 0, "")
 }
 
 fn end_of(item: Result<(Event<'_>, Range<usize>), Fault>) -> usize {

@@ -1,5 +1,5 @@
 //! What the two programs print for texts, with arguments and without.
-use crate::runs::{Command, Program, words_of};
+use crate::runs::{Given, Input, Program, words_of};
 use markdown_render::words::options_of;
 use markdown_test_helpers::rows::gives;
 use markdown_test_parsers::fits::fits;
@@ -18,152 +18,135 @@ fn fits_with(alloc: Global, words: &[String], input: &str) -> Result<(), Fail> {
 fn printed(alloc: Global, program: Program, words: &[&str], input: &str) -> Result<String, Fail> {
     let words = words_of(alloc, words)?;
     fits_with(alloc, &words, input)?;
-    let command = Command {
-        program,
+    let given = Given {
         words: &words,
+        input: Input::Bytes(input.as_bytes()),
+        out: None,
+        err: None,
     };
-    command.printed(alloc, &mut input.as_bytes())
+    program.printed(alloc, given)
 }
 
-/// Checks what a program prints for a text without arguments.
-fn prints(alloc: Global, program: Program, input: &str, wanted: &str) -> Result<(), Fail> {
-    let found = printed(alloc, program, &[], input)?;
-    gives(input, found.as_str(), wanted)
-}
+/// Arguments, a text, and what is printed.
+type Row = (&'static [&'static str], &'static str, &'static str);
 
-#[test]
-fn prints_html(rt: HostRuntime) -> Result<(), Fail> {
-    let rows = &[
-        ("", "0 "),
-        ("hello world", "0 <p>hello world</p>\n"),
-        ("a\nb", "0 <p>a\nb</p>\n"),
-        ("a  \nb", "0 <p>a<br />\nb</p>\n"),
-        ("a\\\nb\n\nc", "0 <p>a<br />\nb</p>\n<p>c</p>\n"),
-        ("a<b>&\"", "0 <p>a<b>&amp;\"</p>\n"),
-        (
-            "hello\n=====\n\n* alpha\n* beta\n",
-            "0 <h1>hello</h1>\n<ul>\n<li>alpha</li>\n<li>beta</li>\n</ul>\n",
-        ),
-        ("[test]:\\", "0 "),
-        ("[a]:", "0 <p>[a]:</p>\n"),
-    ];
-    for &(input, wanted) in rows {
-        prints(rt.alloc(), Program::Html, input, wanted)?;
+/// Checks what a program prints for each row.
+fn prints(alloc: Global, program: Program, rows: &[Row]) -> Result<(), Fail> {
+    for &(words, input, wanted) in rows {
+        let found = printed(alloc, program, words, input)?;
+        gives((words, input), found.as_str(), wanted)?;
     }
     Ok(())
 }
 
-#[test]
-fn prints_events(rt: HostRuntime) -> Result<(), Fail> {
-    let rows = &[
-        ("", "0 "),
-        (
-            "hello world",
-            "0 [{\"Start\":\"Paragraph\"},{\"start\":0,\"end\":11}]\n\
+const WITHOUT_WORDS: &[Row] = &[
+    (&[], "", "0 "),
+    (&[], "hello world", "0 <p>hello world</p>\n"),
+    (&[], "a\nb", "0 <p>a\nb</p>\n"),
+    (&[], "a  \nb", "0 <p>a<br />\nb</p>\n"),
+    (&[], "a\\\nb\n\nc", "0 <p>a<br />\nb</p>\n<p>c</p>\n"),
+    (&[], "a<b>&\"", "0 <p>a<b>&amp;\"</p>\n"),
+    (
+        &[],
+        "hello\n=====\n\n* alpha\n* beta\n",
+        "0 <h1>hello</h1>\n<ul>\n<li>alpha</li>\n<li>beta</li>\n</ul>\n",
+    ),
+    (&[], "[test]:\\", "0 "),
+    (&[], "[a]:", "0 <p>[a]:</p>\n"),
+];
+
+/// Words that turn an option on.
+const WITH_A_WORD: &[Row] = &[
+    (
+        &["strikethrough"],
+        "Hello world, this is a ~~complicated~~ *very simple* example.",
+        "0 <p>Hello world, this is a <del>complicated</del> <em>very simple</em> example.</p>\n",
+    ),
+    (&["smart"], "'a' ...", "0 <p>‘a’ ...</p>\n"),
+    (
+        &["math"],
+        "$a$",
+        "0 <p><span class=\"math math-inline\">a</span></p>\n",
+    ),
+    (&["superscript"], "a^b^", "0 <p>a<sup>b</sup></p>\n"),
+    (&["subscript"], "a~b~", "0 <p>a<sub>b</sub></p>\n"),
+    (&["wikilinks"], "[[a]]", "0 <p><a href=\"a\">a</a></p>\n"),
+    (
+        &["footnotes"],
+        "a[^b]\n\n[^b]: c",
+        "0 <p>a<sup class=\"footnote-reference\"><a href=\"#b\">1</a></sup></p>\n\
+            <div class=\"footnote-definition\" id=\"b\"><sup class=\"footnote-definition-label\">1</sup>\n\
+            <p>c</p>\n</div>\n",
+    ),
+    (
+        &["old-footnotes"],
+        "a[^b]",
+        "0 <p>a<sup class=\"footnote-reference\"><a href=\"#b\">1</a></sup></p>\n",
+    ),
+];
+
+/// These options are accepted, and no item depends on them.
+const WORDS_THAT_CHANGE_NO_TEXT: &[Row] = &[
+    (&["tables"], "| a |\n| - |", "0 <p>| a |\n| - |</p>\n"),
+    (&["tasklists"], "- [x] a", "0 <ul>\n<li>[x] a</li>\n</ul>\n"),
+    (&["heading-attributes"], "# a {#b}", "0 <h1>a {#b}</h1>\n"),
+    (&["yaml"], "---\na: b\n---", "0 <hr />\n<h2>a: b</h2>\n"),
+    (&["pluses"], "+++\na = 1\n+++", "0 <p>+++\na = 1\n+++</p>\n"),
+    (
+        &["gfm"],
+        "> [!NOTE]\n> a",
+        "0 <blockquote>\n<p>[!NOTE]\na</p>\n</blockquote>\n",
+    ),
+    (&["definitions"], "a\n: b", "0 <p>a\n: b</p>\n"),
+];
+
+const EVENTS: &[Row] = &[
+    (&[], "", "0 "),
+    (
+        &[],
+        "hello world",
+        "0 [{\"Start\":\"Paragraph\"},{\"start\":0,\"end\":11}]\n\
             [{\"Text\":\"hello world\"},{\"start\":0,\"end\":11}]\n\
             [{\"End\":\"Paragraph\"},{\"start\":0,\"end\":11}]\n",
-        ),
-        (
-            "é\n\"",
-            "0 [{\"Start\":\"Paragraph\"},{\"start\":0,\"end\":4}]\n\
+    ),
+    (
+        &[],
+        "é\n\"",
+        "0 [{\"Start\":\"Paragraph\"},{\"start\":0,\"end\":4}]\n\
             [{\"Text\":\"é\"},{\"start\":0,\"end\":2}]\n\
             [\"SoftBreak\",{\"start\":2,\"end\":3}]\n\
             [{\"Text\":\"\\\"\"},{\"start\":3,\"end\":4}]\n\
             [{\"End\":\"Paragraph\"},{\"start\":0,\"end\":4}]\n",
-        ),
-    ];
-    for &(input, wanted) in rows {
-        prints(rt.alloc(), Program::Events, input, wanted)?;
-    }
-    Ok(())
-}
+    ),
+    (
+        &["tables", "strikethrough"],
+        "~~a~~",
+        "0 [{\"Start\":\"Paragraph\"},{\"start\":0,\"end\":5}]\n\
+            [{\"Start\":\"Strikethrough\"},{\"start\":0,\"end\":5}]\n\
+            [{\"Text\":\"a\"},{\"start\":2,\"end\":3}]\n\
+            [{\"End\":\"Strikethrough\"},{\"start\":0,\"end\":5}]\n\
+            [{\"End\":\"Paragraph\"},{\"start\":0,\"end\":5}]\n",
+    ),
+];
 
-/// Checks the HTML that is printed for a text with one argument.
-fn word_prints(alloc: Global, word: &str, input: &str, wanted: &str) -> Result<(), Fail> {
-    let found = printed(alloc, Program::Html, &[word], input)?;
-    gives(word, found.as_str(), wanted)
+#[test]
+fn texts(rt: HostRuntime) -> Result<(), Fail> {
+    prints(rt.alloc(), Program::Html, WITHOUT_WORDS)?;
+    prints(rt.alloc(), Program::Html, WITH_A_WORD)?;
+    prints(rt.alloc(), Program::Html, WORDS_THAT_CHANGE_NO_TEXT)?;
+    prints(rt.alloc(), Program::Events, EVENTS)
 }
 
 /// Checks that something else is printed for a text without arguments.
-fn needs_a_word(alloc: Global, word: &str, input: &str, wanted: &str) -> Result<(), Fail> {
+fn needs_a_word(alloc: Global, input: &str, wanted: &str) -> Result<(), Fail> {
     let plain = printed(alloc, Program::Html, &[], input)?;
-    gives((word, "alone"), plain.as_str() == wanted, false)
+    gives((input, "alone"), plain.as_str() == wanted, false)
 }
 
 #[test]
 fn words_turn_options_on(rt: HostRuntime) -> Result<(), Fail> {
-    let rows = &[
-        (
-            "strikethrough",
-            "Hello world, this is a ~~complicated~~ *very simple* example.",
-            "0 <p>Hello world, this is a <del>complicated</del> <em>very simple</em> example.</p>\n",
-        ),
-        ("smart", "'a' ...", "0 <p>‘a’ ...</p>\n"),
-        (
-            "math",
-            "$a$",
-            "0 <p><span class=\"math math-inline\">a</span></p>\n",
-        ),
-        ("superscript", "a^b^", "0 <p>a<sup>b</sup></p>\n"),
-        ("subscript", "a~b~", "0 <p>a<sub>b</sub></p>\n"),
-        ("wikilinks", "[[a]]", "0 <p><a href=\"a\">a</a></p>\n"),
-        (
-            "footnotes",
-            "a[^b]\n\n[^b]: c",
-            "0 <p>a<sup class=\"footnote-reference\"><a href=\"#b\">1</a></sup></p>\n\
-            <div class=\"footnote-definition\" id=\"b\"><sup class=\"footnote-definition-label\">1</sup>\n\
-            <p>c</p>\n</div>\n",
-        ),
-        (
-            "old-footnotes",
-            "a[^b]",
-            "0 <p>a<sup class=\"footnote-reference\"><a href=\"#b\">1</a></sup></p>\n",
-        ),
-    ];
-    for &(word, input, wanted) in rows {
-        word_prints(rt.alloc(), word, input, wanted)?;
-        needs_a_word(rt.alloc(), word, input, wanted)?;
+    for &(_, input, wanted) in WITH_A_WORD {
+        needs_a_word(rt.alloc(), input, wanted)?;
     }
     Ok(())
-}
-
-/// These options are accepted, and no item depends on them.
-#[test]
-fn words_that_change_no_text(rt: HostRuntime) -> Result<(), Fail> {
-    let rows = &[
-        ("tables", "| a |\n| - |", "0 <p>| a |\n| - |</p>\n"),
-        ("tasklists", "- [x] a", "0 <ul>\n<li>[x] a</li>\n</ul>\n"),
-        ("heading-attributes", "# a {#b}", "0 <h1>a {#b}</h1>\n"),
-        ("yaml", "---\na: b\n---", "0 <hr />\n<h2>a: b</h2>\n"),
-        ("pluses", "+++\na = 1\n+++", "0 <p>+++\na = 1\n+++</p>\n"),
-        (
-            "gfm",
-            "> [!NOTE]\n> a",
-            "0 <blockquote>\n<p>[!NOTE]\na</p>\n</blockquote>\n",
-        ),
-        ("definitions", "a\n: b", "0 <p>a\n: b</p>\n"),
-    ];
-    for &(word, input, wanted) in rows {
-        word_prints(rt.alloc(), word, input, wanted)?;
-    }
-    Ok(())
-}
-
-#[test]
-fn words_turn_options_of_events_on(rt: HostRuntime) -> Result<(), Fail> {
-    let found = printed(
-        rt.alloc(),
-        Program::Events,
-        &["tables", "strikethrough"],
-        "~~a~~",
-    )?;
-    gives(
-        "~~a~~",
-        found.as_str(),
-        "0 [{\"Start\":\"Paragraph\"},{\"start\":0,\"end\":5}]\n\
-        [{\"Start\":\"Strikethrough\"},{\"start\":0,\"end\":5}]\n\
-        [{\"Text\":\"a\"},{\"start\":2,\"end\":3}]\n\
-        [{\"End\":\"Strikethrough\"},{\"start\":0,\"end\":5}]\n\
-        [{\"End\":\"Paragraph\"},{\"start\":0,\"end\":5}]\n",
-    )
 }

@@ -1,25 +1,39 @@
-//! Runs of the two programs, over any reader and writers.
+//! Runs of the two programs, over one reader and one writer, so that each program is proved for one type of each.
 use markdown_render::run::run as run_html;
 use markdown_text_json::run::run as run_events;
 use std::alloc::{AllocError, Global};
 use std::io::{self, ErrorKind, Read, Write};
 use std::test::Fail;
 
-/// A reader and writer of which each call fails with an error of this kind.
-#[derive(Drop)]
-pub struct Failing(pub ErrorKind);
+/// Standard input: bytes, or a reader of which each call fails.
+#[derive(Clone, Copy, Drop)]
+pub enum Input<'i> {
+    Bytes(&'i [u8]),
+    Failing(ErrorKind),
+}
 
-impl Read for Failing {
+impl Read for Input<'_> {
     fn read(&mut self, buf: &mut [u8]) -> io::Result<usize> {
-        let _ = buf;
-        Err(io::Error::from(self.0))
+        match self {
+            Input::Bytes(rest) => rest.read(buf),
+            Input::Failing(kind) => Err(io::Error::from(*kind)),
+        }
     }
 }
 
-impl Write for Failing {
+/// Standard output or standard error: what was written, and the error of each write, if it fails.
+#[derive(Drop)]
+struct Output {
+    written: Vec<u8>,
+    error: Option<ErrorKind>,
+}
+
+impl Write for Output {
     fn write(&mut self, buf: &[u8]) -> io::Result<usize> {
-        let _ = buf;
-        Err(io::Error::from(self.0))
+        match self.error {
+            Some(kind) => Err(io::Error::from(kind)),
+            None => self.written.write(buf),
+        }
     }
 
     fn flush(&mut self) -> io::Result<()> {
@@ -34,47 +48,42 @@ pub enum Program {
     Events,
 }
 
-/// A program and its arguments.
+/// What a program is given: its arguments, its input, and the errors of its writes to standard output and to standard
+/// error.
 #[derive(Clone, Copy, Drop)]
-pub struct Command<'w> {
-    pub program: Program,
-    pub words: &'w [String],
+pub struct Given<'i> {
+    pub words: &'i [String],
+    pub input: Input<'i>,
+    pub out: Option<ErrorKind>,
+    pub err: Option<ErrorKind>,
 }
 
-impl Command<'_> {
+impl Program {
     /// Runs the program, and returns its status.
-    pub fn run<R: Read, W: Write, E: Write>(
-        self,
-        alloc: Global,
-        input: &mut R,
-        out: &mut W,
-        err: &mut E,
-    ) -> u8 {
-        match self.program {
-            Program::Html => run_html(alloc, self.words, input, out, err),
-            Program::Events => run_events(alloc, self.words, input, out, err),
+    fn run(self, alloc: Global, given: Given<'_>, out: &mut Output, err: &mut Output) -> u8 {
+        let mut input = given.input;
+        match self {
+            Program::Html => run_html(alloc, given.words, &mut input, out, err),
+            Program::Events => run_events(alloc, given.words, &mut input, out, err),
         }
     }
 
-    /// Runs the program, and returns its status and its message.
-    pub fn said<R: Read, W: Write>(
-        self,
-        alloc: Global,
-        input: &mut R,
-        out: &mut W,
-    ) -> Result<String, Fail> {
-        let mut err = Vec::new(alloc);
-        let status = self.run(alloc, input, out, &mut err);
-        let text = String::from_utf8(err)?;
-        Ok(format!(in alloc; "{status} {text}")?)
-    }
-
-    /// Returns the same, and then what was printed.
-    pub fn printed<R: Read>(self, alloc: Global, input: &mut R) -> Result<String, Fail> {
-        let mut out = Vec::new(alloc);
-        let status = self.said(alloc, input, &mut out)?;
-        let text = String::from_utf8(out)?;
-        Ok(format!(in alloc; "{status}{text}")?)
+    /// Runs the program, and returns its status, its message, and then what it printed.
+    pub fn printed(self, alloc: Global, given: Given<'_>) -> Result<String, Fail> {
+        let mut out = Output {
+            written: Vec::new(alloc),
+            error: given.out,
+        };
+        let mut err = Output {
+            written: Vec::new(alloc),
+            error: given.err,
+        };
+        let status = self.run(alloc, given, &mut out, &mut err);
+        let Output { written: said, .. } = err;
+        let message = String::from_utf8(said)?;
+        let Output { written, .. } = out;
+        let text = String::from_utf8(written)?;
+        Ok(format!(in alloc; "{status} {message}{text}")?)
     }
 }
 
