@@ -11,10 +11,21 @@ fn assert_html(alloc: Global, source: &str, wanted: &str) -> Result<(), Fail> {
     parser_shows(alloc, source, plain_parser(alloc, source)?, wanted)
 }
 
-/// Checks the HTML of each text.
-pub fn compare(alloc: Global, rows: &[(&str, &str)]) -> Result<(), Fail> {
+/// Texts, each with its HTML. A check takes the square of the size of each constant, so that rows are in several of
+/// about twenty: examples of CommonMark in its order, and other texts.
+pub type Rows = &'static [(&'static str, &'static str)];
+
+fn compare_rows(alloc: Global, rows: Rows) -> Result<(), Fail> {
     for (source, wanted) in rows {
         assert_html(alloc, source, wanted)?;
+    }
+    Ok(())
+}
+
+/// Checks the HTML of each text of each table.
+pub fn compare(alloc: Global, tables: &[Rows]) -> Result<(), Fail> {
+    for rows in tables {
+        compare_rows(alloc, rows)?;
     }
     Ok(())
 }
