@@ -34,17 +34,17 @@ const EXAMPLES: Rows = &[
     (
         "> - foo\n- bar\n",
         "<blockquote>\n<ul>\n<li>foo</li>\n</ul>\n</blockquote>\n<ul>\n<li>bar</li>\n\
-                </ul>\n",
+        </ul>\n",
     ),
     (
         ">     foo\n    bar\n",
         "<blockquote>\n<pre><code>foo\n</code></pre>\n</blockquote>\n<pre><code>bar\n\
-                </code></pre>\n",
+        </code></pre>\n",
     ),
     (
         "> ```\nfoo\n```\n",
         "<blockquote>\n<pre><code></code></pre>\n</blockquote>\n<p>foo</p>\n\
-                <pre><code></code></pre>\n",
+        <pre><code></code></pre>\n",
     ),
     (
         "> foo\n    - bar\n",
@@ -59,7 +59,7 @@ const EXAMPLES: Rows = &[
     (
         "> foo\n\n> bar\n",
         "<blockquote>\n<p>foo</p>\n</blockquote>\n<blockquote>\n<p>bar</p>\n\
-                </blockquote>\n",
+        </blockquote>\n",
     ),
     (
         "> foo\n> bar\n",
@@ -76,7 +76,7 @@ const EXAMPLES: Rows = &[
     (
         "> aaa\n***\n> bbb\n",
         "<blockquote>\n<p>aaa</p>\n</blockquote>\n<hr />\n<blockquote>\n<p>bbb</p>\n\
-                </blockquote>\n",
+        </blockquote>\n",
     ),
     (
         "> bar\nbaz\n",
@@ -93,17 +93,17 @@ const EXAMPLES: Rows = &[
     (
         "> > > foo\nbar\n",
         "<blockquote>\n<blockquote>\n<blockquote>\n<p>foo\nbar</p>\n</blockquote>\n\
-                </blockquote>\n</blockquote>\n",
+        </blockquote>\n</blockquote>\n",
     ),
     (
         ">>> foo\n> bar\n>>baz\n",
         "<blockquote>\n<blockquote>\n<blockquote>\n<p>foo\nbar\nbaz</p>\n\
-                </blockquote>\n</blockquote>\n</blockquote>\n",
+        </blockquote>\n</blockquote>\n</blockquote>\n",
     ),
     (
         ">     code\n\n>    not code\n",
         "<blockquote>\n<pre><code>code\n</code></pre>\n</blockquote>\n<blockquote>\n\
-                <p>not code</p>\n</blockquote>\n",
+        <p>not code</p>\n</blockquote>\n",
     ),
 ];
 

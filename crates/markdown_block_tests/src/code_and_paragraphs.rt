@@ -35,7 +35,7 @@ const INDENTED_CODE: Rows = &[
     (
         "# Heading\n    foo\nHeading\n------\n    foo\n----\n",
         "<h1>Heading</h1>\n<pre><code>foo\n</code></pre>\n<h2>Heading</h2>\n\
-                <pre><code>foo\n</code></pre>\n<hr />\n",
+        <pre><code>foo\n</code></pre>\n<hr />\n",
     ),
     (
         "        foo\n    bar\n",
@@ -168,7 +168,7 @@ const OTHER_CODE: Rows = &[
     (
         "1. ~~~ x\n   a\n     b\n   ~~~\n2. c\n",
         "<ol>\n<li>\n<pre><code class=\"language-x\">a\n  b\n</code></pre>\n</li>\n\
-                <li>c</li>\n</ol>\n",
+        <li>c</li>\n</ol>\n",
     ),
     ("```\na\n```b\n```\n", "<pre><code>a\n```b\n</code></pre>\n"),
     (

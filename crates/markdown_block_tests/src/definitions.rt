@@ -90,10 +90,10 @@ const MORE_EXAMPLES: Rows = &[
     ),
     (
         "[foo]: /foo-url \"foo\"\n[bar]: /bar-url\n  \"bar\"\n[baz]: /baz-url\n\n\
-                [foo],\n[bar],\n[baz]\n",
+        [foo],\n[bar],\n[baz]\n",
         "<p><a href=\"/foo-url\" title=\"foo\">foo</a>,\n\
-                <a href=\"/bar-url\" title=\"bar\">bar</a>,\n\
-                <a href=\"/baz-url\">baz</a></p>\n",
+        <a href=\"/bar-url\" title=\"bar\">bar</a>,\n\
+        <a href=\"/baz-url\">baz</a></p>\n",
     ),
     (
         "[foo]\n\n> [foo]: /url\n",

@@ -54,7 +54,7 @@ const ATX_HEADINGS: Rows = &[
     (
         "# foo\n## foo\n### foo\n#### foo\n##### foo\n###### foo\n",
         "<h1>foo</h1>\n<h2>foo</h2>\n<h3>foo</h3>\n<h4>foo</h4>\n<h5>foo</h5>\n\
-                <h6>foo</h6>\n",
+        <h6>foo</h6>\n",
     ),
     ("####### foo\n", "<p>####### foo</p>\n"),
     ("#5 bolt\n\n#hashtag\n", "<p>#5 bolt</p>\n<p>#hashtag</p>\n"),

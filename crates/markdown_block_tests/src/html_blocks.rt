@@ -6,13 +6,13 @@ const EXAMPLES: Rows = &[
     (
         "<table><tr><td>\n<pre>\n**Hello**,\n\n_world_.\n</pre>\n</td></tr></table>\n",
         "<table><tr><td>\n<pre>\n**Hello**,\n<p><em>world</em>.\n</pre></p>\n\
-                </td></tr></table>\n",
+        </td></tr></table>\n",
     ),
     (
         "<table>\n  <tr>\n    <td>\n           hi\n    </td>\n  </tr>\n</table>\n\n\
-                okay.\n",
+        okay.\n",
         "<table>\n  <tr>\n    <td>\n           hi\n    </td>\n  </tr>\n</table>\n\
-                <p>okay.</p>\n",
+        <p>okay.</p>\n",
     ),
     (
         " <div>\n  *hello*\n         <foo><a>\n",
@@ -74,17 +74,17 @@ const EXAMPLES: Rows = &[
 const MORE_EXAMPLES: Rows = &[
     (
         "<pre language=\"haskell\"><code>\nimport Text.HTML.TagSoup\n\nmain :: IO ()\n\
-                main = print $ parseTags tags\n</code></pre>\nokay\n",
+        main = print $ parseTags tags\n</code></pre>\nokay\n",
         "<pre language=\"haskell\"><code>\nimport Text.HTML.TagSoup\n\nmain :: IO ()\n\
-                main = print $ parseTags tags\n</code></pre>\n<p>okay</p>\n",
+        main = print $ parseTags tags\n</code></pre>\n<p>okay</p>\n",
     ),
     (
         "<script type=\"text/javascript\">\n// JavaScript example\n\n\
-                document.getElementById(\"demo\").innerHTML = \"Hello JavaScript!\";\n\
-                </script>\nokay\n",
+        document.getElementById(\"demo\").innerHTML = \"Hello JavaScript!\";\n\
+        </script>\nokay\n",
         "<script type=\"text/javascript\">\n// JavaScript example\n\n\
-                document.getElementById(\"demo\").innerHTML = \"Hello JavaScript!\";\n\
-                </script>\n<p>okay</p>\n",
+        document.getElementById(\"demo\").innerHTML = \"Hello JavaScript!\";\n\
+        </script>\n<p>okay</p>\n",
     ),
     (
         "<textarea>\n\n*foo*\n\n_bar_\n\n</textarea>\n",
@@ -92,9 +92,9 @@ const MORE_EXAMPLES: Rows = &[
     ),
     (
         "<style\n  type=\"text/css\">\nh1 {color:red;}\n\np {color:blue;}\n</style>\n\
-                okay\n",
+        okay\n",
         "<style\n  type=\"text/css\">\nh1 {color:red;}\n\np {color:blue;}\n</style>\n\
-                <p>okay</p>\n",
+        <p>okay</p>\n",
     ),
     (
         "<style\n  type=\"text/css\">\n\nfoo\n",
@@ -131,11 +131,11 @@ const MORE_EXAMPLES: Rows = &[
     ("<!DOCTYPE html>\n", "<!DOCTYPE html>\n"),
     (
         "<![CDATA[\nfunction matchwo(a,b)\n\
-                {\n  if (a < b && a < 0) then {\n    return 1;\n\n  } else {\n\n    return 0;\n  }\n\
-                }\n]]>\nokay\n",
+        {\n  if (a < b && a < 0) then {\n    return 1;\n\n  } else {\n\n    return 0;\n  }\n\
+        }\n]]>\nokay\n",
         "<![CDATA[\nfunction matchwo(a,b)\n\
-                {\n  if (a < b && a < 0) then {\n    return 1;\n\n  } else {\n\n    return 0;\n  }\n\
-                }\n]]>\n<p>okay</p>\n",
+        {\n  if (a < b && a < 0) then {\n    return 1;\n\n  } else {\n\n    return 0;\n  }\n\
+        }\n]]>\n<p>okay</p>\n",
     ),
     (
         "  <!-- foo -->\n\n    <!-- foo -->\n",
@@ -169,7 +169,7 @@ const MORE_EXAMPLES: Rows = &[
     (
         "<table>\n\n  <tr>\n\n    <td>\n      Hi\n    </td>\n\n  </tr>\n\n</table>\n",
         "<table>\n  <tr>\n<pre><code>&lt;td&gt;\n  Hi\n&lt;/td&gt;\n\
-                </code></pre>\n  </tr>\n</table>\n",
+        </code></pre>\n  </tr>\n</table>\n",
     ),
 ];
 

@@ -6,13 +6,13 @@ const EXAMPLES: Rows = &[
     (
         "A paragraph\nwith two lines.\n\n    indented code\n\n> A block quote.\n",
         "<p>A paragraph\nwith two lines.</p>\n<pre><code>indented code\n</code></pre>\n\
-                <blockquote>\n<p>A block quote.</p>\n</blockquote>\n",
+        <blockquote>\n<p>A block quote.</p>\n</blockquote>\n",
     ),
     (
         "1.  A paragraph\n    with two lines.\n\n        indented code\n\n    > A block quote.\n",
         "<ol>\n<li>\n<p>A paragraph\nwith two lines.</p>\n<pre><code>indented code\n\
-                </code></pre>\n<blockquote>\n<p>A block quote.</p>\n</blockquote>\n</li>\n\
-                </ol>\n",
+        </code></pre>\n<blockquote>\n<p>A block quote.</p>\n</blockquote>\n</li>\n\
+        </ol>\n",
     ),
     ("- one\n\n two\n", "<ul>\n<li>one</li>\n</ul>\n<p>two</p>\n"),
     (
@@ -30,12 +30,12 @@ const EXAMPLES: Rows = &[
     (
         "   > > 1.  one\n>>\n>>     two\n",
         "<blockquote>\n<blockquote>\n<ol>\n<li>\n<p>one</p>\n<p>two</p>\n</li>\n</ol>\n\
-                </blockquote>\n</blockquote>\n",
+        </blockquote>\n</blockquote>\n",
     ),
     (
         ">>- one\n>>\n  >  > two\n",
         "<blockquote>\n<blockquote>\n<ul>\n<li>one</li>\n</ul>\n<p>two</p>\n\
-                </blockquote>\n</blockquote>\n",
+        </blockquote>\n</blockquote>\n",
     ),
     ("-one\n\n2.two\n", "<p>-one</p>\n<p>2.two</p>\n"),
     (
@@ -45,7 +45,7 @@ const EXAMPLES: Rows = &[
     (
         "1.  foo\n\n    ```\n    bar\n    ```\n\n    baz\n\n    > bam\n",
         "<ol>\n<li>\n<p>foo</p>\n<pre><code>bar\n</code></pre>\n<p>baz</p>\n\
-                <blockquote>\n<p>bam</p>\n</blockquote>\n</li>\n</ol>\n",
+        <blockquote>\n<p>bam</p>\n</blockquote>\n</li>\n</ol>\n",
     ),
     (
         "- Foo\n\n      bar\n\n\n      baz\n",
@@ -66,7 +66,7 @@ const EXAMPLES: Rows = &[
     (
         "  10.  foo\n\n           bar\n",
         "<ol start=\"10\">\n<li>\n<p>foo</p>\n<pre><code>bar\n</code></pre>\n</li>\n\
-                </ol>\n",
+        </ol>\n",
     ),
 ];
 
@@ -74,17 +74,17 @@ const MORE_EXAMPLES: Rows = &[
     (
         "    indented code\n\nparagraph\n\n    more code\n",
         "<pre><code>indented code\n</code></pre>\n<p>paragraph</p>\n\
-                <pre><code>more code\n</code></pre>\n",
+        <pre><code>more code\n</code></pre>\n",
     ),
     (
         "1.     indented code\n\n   paragraph\n\n       more code\n",
         "<ol>\n<li>\n<pre><code>indented code\n</code></pre>\n<p>paragraph</p>\n\
-                <pre><code>more code\n</code></pre>\n</li>\n</ol>\n",
+        <pre><code>more code\n</code></pre>\n</li>\n</ol>\n",
     ),
     (
         "1.      indented code\n\n   paragraph\n\n       more code\n",
         "<ol>\n<li>\n<pre><code> indented code\n</code></pre>\n<p>paragraph</p>\n\
-                <pre><code>more code\n</code></pre>\n</li>\n</ol>\n",
+        <pre><code>more code\n</code></pre>\n</li>\n</ol>\n",
     ),
     ("   foo\n\nbar\n", "<p>foo</p>\n<p>bar</p>\n"),
     (
@@ -98,7 +98,7 @@ const MORE_EXAMPLES: Rows = &[
     (
         "-\n  foo\n-\n  ```\n  bar\n  ```\n-\n      baz\n",
         "<ul>\n<li>foo</li>\n<li>\n<pre><code>bar\n</code></pre>\n</li>\n<li>\n\
-                <pre><code>baz\n</code></pre>\n</li>\n</ul>\n",
+        <pre><code>baz\n</code></pre>\n</li>\n</ul>\n",
     ),
     ("-   \n  foo\n", "<ul>\n<li>foo</li>\n</ul>\n"),
     ("-\n\n  foo\n", "<ul>\n<li></li>\n</ul>\n<p>foo</p>\n"),
@@ -122,33 +122,33 @@ const INDENTED_ITEMS: Rows = &[
     (
         " 1.  A paragraph\n     with two lines.\n\n         indented code\n\n     > A block quote.\n",
         "<ol>\n<li>\n<p>A paragraph\nwith two lines.</p>\n<pre><code>indented code\n\
-                </code></pre>\n<blockquote>\n<p>A block quote.</p>\n</blockquote>\n</li>\n\
-                </ol>\n",
+        </code></pre>\n<blockquote>\n<p>A block quote.</p>\n</blockquote>\n</li>\n\
+        </ol>\n",
     ),
     (
         "  1.  A paragraph\n      with two lines.\n\n          indented code\n\n      > A block quote.\n",
         "<ol>\n<li>\n<p>A paragraph\nwith two lines.</p>\n<pre><code>indented code\n\
-                </code></pre>\n<blockquote>\n<p>A block quote.</p>\n</blockquote>\n</li>\n\
-                </ol>\n",
+        </code></pre>\n<blockquote>\n<p>A block quote.</p>\n</blockquote>\n</li>\n\
+        </ol>\n",
     ),
     (
         "   1.  A paragraph\n       with two lines.\n\n           indented code\n\n       > A block quote.\n",
         "<ol>\n<li>\n<p>A paragraph\nwith two lines.</p>\n<pre><code>indented code\n\
-                </code></pre>\n<blockquote>\n<p>A block quote.</p>\n</blockquote>\n</li>\n\
-                </ol>\n",
+        </code></pre>\n<blockquote>\n<p>A block quote.</p>\n</blockquote>\n</li>\n\
+        </ol>\n",
     ),
     (
         "    1.  A paragraph\n        with two lines.\n\n            indented code\n\n\
-                \x20       > A block quote.\n",
+        \x20       > A block quote.\n",
         "<pre><code>1.  A paragraph\n    with two lines.\n\n        indented code\n\n    &gt; A block quote.\n\
-                </code></pre>\n",
+        </code></pre>\n",
     ),
     (
         "  1.  A paragraph\n\
-                with two lines.\n\n          indented code\n\n      > A block quote.\n",
+        with two lines.\n\n          indented code\n\n      > A block quote.\n",
         "<ol>\n<li>\n<p>A paragraph\nwith two lines.</p>\n<pre><code>indented code\n\
-                </code></pre>\n<blockquote>\n<p>A block quote.</p>\n</blockquote>\n</li>\n\
-                </ol>\n",
+        </code></pre>\n<blockquote>\n<p>A block quote.</p>\n</blockquote>\n</li>\n\
+        </ol>\n",
     ),
     (
         "  1.  A paragraph\n    with two lines.\n",
@@ -157,17 +157,17 @@ const INDENTED_ITEMS: Rows = &[
     (
         "> 1. > Blockquote\ncontinued here.\n",
         "<blockquote>\n<ol>\n<li>\n<blockquote>\n<p>Blockquote\ncontinued here.</p>\n\
-                </blockquote>\n</li>\n</ol>\n</blockquote>\n",
+        </blockquote>\n</li>\n</ol>\n</blockquote>\n",
     ),
     (
         "> 1. > Blockquote\n> continued here.\n",
         "<blockquote>\n<ol>\n<li>\n<blockquote>\n<p>Blockquote\ncontinued here.</p>\n\
-                </blockquote>\n</li>\n</ol>\n</blockquote>\n",
+        </blockquote>\n</li>\n</ol>\n</blockquote>\n",
     ),
     (
         "- foo\n  - bar\n    - baz\n      - boo\n",
         "<ul>\n<li>foo\n<ul>\n<li>bar\n<ul>\n<li>baz\n<ul>\n<li>boo</li>\n</ul>\n\
-                </li>\n</ul>\n</li>\n</ul>\n</li>\n</ul>\n",
+        </li>\n</ul>\n</li>\n</ul>\n</li>\n</ul>\n",
     ),
     (
         "- foo\n - bar\n  - baz\n   - boo\n",
@@ -188,7 +188,7 @@ const INDENTED_ITEMS: Rows = &[
     (
         "1. - 2. foo\n",
         "<ol>\n<li>\n<ul>\n<li>\n<ol start=\"2\">\n<li>foo</li>\n</ol>\n</li>\n</ul>\n\
-                </li>\n</ol>\n",
+        </li>\n</ol>\n",
     ),
     (
         "- # Foo\n- Bar\n  ---\n  baz\n",

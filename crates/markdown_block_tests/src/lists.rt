@@ -22,37 +22,37 @@ const EXAMPLES: Rows = &[
     (
         "The number of windows in my house is\n1.  The number of doors is 6.\n",
         "<p>The number of windows in my house is</p>\n<ol>\n\
-                <li>The number of doors is 6.</li>\n</ol>\n",
+        <li>The number of doors is 6.</li>\n</ol>\n",
     ),
     (
         "- foo\n\n- bar\n\n\n- baz\n",
         "<ul>\n<li>\n<p>foo</p>\n</li>\n<li>\n<p>bar</p>\n</li>\n<li>\n<p>baz</p>\n\
-                </li>\n</ul>\n",
+        </li>\n</ul>\n",
     ),
     (
         "- foo\n  - bar\n    - baz\n\n\n      bim\n",
         "<ul>\n<li>foo\n<ul>\n<li>bar\n<ul>\n<li>\n<p>baz</p>\n<p>bim</p>\n</li>\n\
-                </ul>\n</li>\n</ul>\n</li>\n</ul>\n",
+        </ul>\n</li>\n</ul>\n</li>\n</ul>\n",
     ),
     (
         "- foo\n- bar\n\n<!-- -->\n\n- baz\n- bim\n",
         "<ul>\n<li>foo</li>\n<li>bar</li>\n</ul>\n<!-- -->\n<ul>\n<li>baz</li>\n\
-                <li>bim</li>\n</ul>\n",
+        <li>bim</li>\n</ul>\n",
     ),
     (
         "-   foo\n\n    notcode\n\n-   foo\n\n<!-- -->\n\n    code\n",
         "<ul>\n<li>\n<p>foo</p>\n<p>notcode</p>\n</li>\n<li>\n<p>foo</p>\n</li>\n\
-                </ul>\n<!-- -->\n<pre><code>code\n</code></pre>\n",
+        </ul>\n<!-- -->\n<pre><code>code\n</code></pre>\n",
     ),
     (
         "- a\n - b\n  - c\n   - d\n  - e\n - f\n- g\n",
         "<ul>\n<li>a</li>\n<li>b</li>\n<li>c</li>\n<li>d</li>\n<li>e</li>\n<li>f</li>\n\
-                <li>g</li>\n</ul>\n",
+        <li>g</li>\n</ul>\n",
     ),
     (
         "1. a\n\n  2. b\n\n   3. c\n",
         "<ol>\n<li>\n<p>a</p>\n</li>\n<li>\n<p>b</p>\n</li>\n<li>\n<p>c</p>\n</li>\n\
-                </ol>\n",
+        </ol>\n",
     ),
     (
         "- a\n - b\n  - c\n   - d\n    - e\n",
@@ -61,7 +61,7 @@ const EXAMPLES: Rows = &[
     (
         "1. a\n\n  2. b\n\n    3. c\n",
         "<ol>\n<li>\n<p>a</p>\n</li>\n<li>\n<p>b</p>\n</li>\n</ol>\n<pre><code>3. c\n\
-                </code></pre>\n",
+        </code></pre>\n",
     ),
 ];
 
@@ -69,7 +69,7 @@ const MORE_EXAMPLES: Rows = &[
     (
         "- a\n- b\n\n- c\n",
         "<ul>\n<li>\n<p>a</p>\n</li>\n<li>\n<p>b</p>\n</li>\n<li>\n<p>c</p>\n</li>\n\
-                </ul>\n",
+        </ul>\n",
     ),
     (
         "* a\n*\n\n* c\n",
@@ -78,22 +78,22 @@ const MORE_EXAMPLES: Rows = &[
     (
         "- a\n- b\n\n  c\n- d\n",
         "<ul>\n<li>\n<p>a</p>\n</li>\n<li>\n<p>b</p>\n<p>c</p>\n</li>\n<li>\n<p>d</p>\n\
-                </li>\n</ul>\n",
+        </li>\n</ul>\n",
     ),
     (
         "- a\n- b\n\n  [ref]: /url\n- d\n",
         "<ul>\n<li>\n<p>a</p>\n</li>\n<li>\n<p>b</p>\n</li>\n<li>\n<p>d</p>\n</li>\n\
-                </ul>\n",
+        </ul>\n",
     ),
     (
         "- a\n- ```\n  b\n\n\n  ```\n- c\n",
         "<ul>\n<li>a</li>\n<li>\n<pre><code>b\n\n\n</code></pre>\n</li>\n<li>c</li>\n\
-                </ul>\n",
+        </ul>\n",
     ),
     (
         "- a\n  - b\n\n    c\n- d\n",
         "<ul>\n<li>a\n<ul>\n<li>\n<p>b</p>\n<p>c</p>\n</li>\n</ul>\n</li>\n<li>d</li>\n\
-                </ul>\n",
+        </ul>\n",
     ),
     (
         "* a\n  > b\n  >\n* c\n",
@@ -102,7 +102,7 @@ const MORE_EXAMPLES: Rows = &[
     (
         "- a\n  > b\n  ```\n  c\n  ```\n- d\n",
         "<ul>\n<li>a\n<blockquote>\n<p>b</p>\n</blockquote>\n<pre><code>c\n\
-                </code></pre>\n</li>\n<li>d</li>\n</ul>\n",
+        </code></pre>\n</li>\n<li>d</li>\n</ul>\n",
     ),
     ("- a\n", "<ul>\n<li>a</li>\n</ul>\n"),
     (
@@ -120,7 +120,7 @@ const MORE_EXAMPLES: Rows = &[
     (
         "- a\n  - b\n  - c\n\n- d\n  - e\n  - f\n",
         "<ul>\n<li>\n<p>a</p>\n<ul>\n<li>b</li>\n<li>c</li>\n</ul>\n</li>\n<li>\n\
-                <p>d</p>\n<ul>\n<li>e</li>\n<li>f</li>\n</ul>\n</li>\n</ul>\n",
+        <p>d</p>\n<ul>\n<li>e</li>\n<li>f</li>\n</ul>\n</li>\n</ul>\n",
     ),
 ];
 
@@ -128,22 +128,22 @@ const OTHER_TEXTS: Rows = &[
     (
         "- a\n\n  > b\n- c\n",
         "<ul>\n<li>\n<p>a</p>\n<blockquote>\n<p>b</p>\n</blockquote>\n</li>\n<li>\n\
-                <p>c</p>\n</li>\n</ul>\n",
+        <p>c</p>\n</li>\n</ul>\n",
     ),
     (
         "- a\n  > b\n\n- c\n",
         "<ul>\n<li>\n<p>a</p>\n<blockquote>\n<p>b</p>\n</blockquote>\n</li>\n<li>\n\
-                <p>c</p>\n</li>\n</ul>\n",
+        <p>c</p>\n</li>\n</ul>\n",
     ),
     (
         "- a\n  - b\n\n- c\n",
         "<ul>\n<li>\n<p>a</p>\n<ul>\n<li>b</li>\n</ul>\n</li>\n<li>\n<p>c</p>\n</li>\n\
-                </ul>\n",
+        </ul>\n",
     ),
     (
         "- a\n  - b\n\n  - c\n- d\n",
         "<ul>\n<li>a\n<ul>\n<li>\n<p>b</p>\n</li>\n<li>\n<p>c</p>\n</li>\n</ul>\n\
-                </li>\n<li>d</li>\n</ul>\n",
+        </li>\n<li>d</li>\n</ul>\n",
     ),
     ("- a\n\n", "<ul>\n<li>a</li>\n</ul>\n"),
     (
@@ -173,7 +173,7 @@ const OTHER_TEXTS: Rows = &[
     (
         "- a\n- - b\n\n  - c\n",
         "<ul>\n<li>a</li>\n<li>\n<ul>\n<li>\n<p>b</p>\n</li>\n<li>\n<p>c</p>\n</li>\n\
-                </ul>\n</li>\n</ul>\n",
+        </ul>\n</li>\n</ul>\n",
     ),
     (
         "- ```\n\n  ```\n- a\n",

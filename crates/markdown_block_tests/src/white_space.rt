@@ -35,7 +35,7 @@ const TABS: Rows = &[
     (
         " - foo\n   - bar\n\t - baz\n",
         "<ul>\n<li>foo\n<ul>\n<li>bar\n<ul>\n<li>baz</li>\n</ul>\n</li>\n</ul>\n</li>\n\
-                </ul>\n",
+        </ul>\n",
     ),
     ("#\tFoo\n", "<h1>Foo</h1>\n"),
     ("*\t*\t*\t\n", "<hr />\n"),

@@ -7,15 +7,15 @@ const FOOTNOTES: Rows = &[
     (
         "Testing this![^1] out.\n\n[^1]: Footnote.",
         "<p>Testing this!<sup class=\"footnote-reference\"><a href=\"#1\">1</a></sup> out.</p>\n\
-                <div class=\"footnote-definition\" id=\"1\"><sup class=\"footnote-definition-label\">1</sup>\n\
-                <p>Footnote.</p>\n</div>\n",
+        <div class=\"footnote-definition\" id=\"1\"><sup class=\"footnote-definition-label\">1</sup>\n\
+        <p>Footnote.</p>\n</div>\n",
     ),
     // numbered by the first reference or definition, whichever comes first
     (
         "x[^A]\n\n[^a]: y",
         "<p>x<sup class=\"footnote-reference\"><a href=\"#A\">1</a></sup></p>\n\
-                <div class=\"footnote-definition\" id=\"a\"><sup class=\"footnote-definition-label\">2</sup>\n\
-                <p>y</p>\n</div>\n",
+        <div class=\"footnote-definition\" id=\"a\"><sup class=\"footnote-definition-label\">2</sup>\n\
+        <p>y</p>\n</div>\n",
     ),
     ("a[^b]", "<p>a[^b]</p>\n"),
 ];
@@ -31,13 +31,13 @@ const RANGES: Rows = &[
     (
         "Testing this[^1] out.\n\n[^1]: Footnote.",
         "<p>0..22 [Testing this]0..12 [^1]12..16 [ out.]16..21 </p>0..22 \
-                <footnote (1)>23..38 <p>29..38 [Footnote.]29..38 </p>29..38 </footnote>23..38 ",
+        <footnote (1)>23..38 <p>29..38 [Footnote.]29..38 </p>29..38 </footnote>23..38 ",
     ),
     // an exclamation mark before a footnote reference is a text of its own
     (
         "Testing this![^1] out.\n\n[^1]: Footnote.",
         "<p>0..23 [Testing this]0..12 [!]12..13 [^1]13..17 [ out.]17..22 </p>0..23 \
-                <footnote (1)>24..39 <p>30..39 [Footnote.]30..39 </p>30..39 </footnote>24..39 ",
+        <footnote (1)>24..39 <p>30..39 [Footnote.]30..39 </p>30..39 </footnote>24..39 ",
     ),
 ];
 

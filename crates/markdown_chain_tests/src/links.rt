@@ -195,7 +195,7 @@ const RANGES: Rows = &[
     (
         "> [a](b \"x\n> y\")",
         "<blockquote>0..16 <p>2..16 <a Inline (b) =(x\ny) ()>2..16 [a]3..4 </a>2..16 </p>2..16 \
-                </blockquote>0..16 ",
+        </blockquote>0..16 ",
     ),
 ];
 

@@ -29,7 +29,7 @@ const WHAT_OPENS_AND_CLOSES: Rows = &[
     (
         "**Gomphocarpus (*Gomphocarpus physocarpus*, syn.\n*Asclepias physocarpa*)**",
         "<strong>Gomphocarpus (<em>Gomphocarpus physocarpus</em>, syn.\n\
-                <em>Asclepias physocarpa</em>)</strong>",
+        <em>Asclepias physocarpa</em>)</strong>",
     ),
     (
         "**foo \"*bar*\" foo**",

@@ -149,7 +149,7 @@ const TYPES_AND_RANGES: Rows = &[
     (
         "# H1\n[testing][Some reference]\n\n[Some reference]: https://github.com",
         "<h1>0..5 [H1]2..4 </h1>0..5 <p>5..31 \
-                <a Reference (https://github.com) () (Some reference)>5..30 [testing]6..13 </a>5..30 </p>5..31 ",
+        <a Reference (https://github.com) () (Some reference)>5..30 [testing]6..13 </a>5..30 </p>5..31 ",
     ),
     (
         "[foo]\n\n[foo]: /u",

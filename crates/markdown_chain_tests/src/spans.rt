@@ -66,7 +66,7 @@ const AUTOLINKS: Rows = &[
     (
         "<https://foo.bar.baz/test?q=hello&id=22&boolean>",
         "<a href=\"https://foo.bar.baz/test?q=hello&amp;id=22&amp;boolean\">\
-                https://foo.bar.baz/test?q=hello&amp;id=22&amp;boolean</a>",
+        https://foo.bar.baz/test?q=hello&amp;id=22&amp;boolean</a>",
     ),
     (
         "<MAILTO:FOO@BAR.BAZ>",

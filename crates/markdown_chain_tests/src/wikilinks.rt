@@ -27,12 +27,12 @@ const RANGES: Rows = &[
     (
         "[[foo]] [[bar|baz]]",
         "<p>0..19 <a WikiLink { has_pothole: false } (foo) () ()>0..7 [foo]2..5 </a>0..7 [ ]7..8 \
-                <a WikiLink { has_pothole: true } (bar) () ()>8..19 [baz]14..17 </a>8..19 </p>0..19 ",
+        <a WikiLink { has_pothole: true } (bar) () ()>8..19 [baz]14..17 </a>8..19 </p>0..19 ",
     ),
     (
         "For a new ferrari, [[Wikientry|click here]]!",
         "<p>0..44 [For a new ferrari, ]0..19 <a WikiLink { has_pothole: true } (Wikientry) () ()>19..43 \
-                [click here]31..41 </a>19..43 [!]43..44 </p>0..44 ",
+        [click here]31..41 </a>19..43 [!]43..44 </p>0..44 ",
     ),
     (
         "[[a|]]",

@@ -75,8 +75,8 @@ const WITH_A_WORD: &[Row] = &[
         &["footnotes"],
         "a[^b]\n\n[^b]: c",
         "0 <p>a<sup class=\"footnote-reference\"><a href=\"#b\">1</a></sup></p>\n\
-            <div class=\"footnote-definition\" id=\"b\"><sup class=\"footnote-definition-label\">1</sup>\n\
-            <p>c</p>\n</div>\n",
+        <div class=\"footnote-definition\" id=\"b\"><sup class=\"footnote-definition-label\">1</sup>\n\
+        <p>c</p>\n</div>\n",
     ),
     (
         &["old-footnotes"],
@@ -106,26 +106,26 @@ const EVENTS: &[Row] = &[
         &[],
         "hello world",
         "0 [{\"Start\":\"Paragraph\"},{\"start\":0,\"end\":11}]\n\
-            [{\"Text\":\"hello world\"},{\"start\":0,\"end\":11}]\n\
-            [{\"End\":\"Paragraph\"},{\"start\":0,\"end\":11}]\n",
+        [{\"Text\":\"hello world\"},{\"start\":0,\"end\":11}]\n\
+        [{\"End\":\"Paragraph\"},{\"start\":0,\"end\":11}]\n",
     ),
     (
         &[],
         "é\n\"",
         "0 [{\"Start\":\"Paragraph\"},{\"start\":0,\"end\":4}]\n\
-            [{\"Text\":\"é\"},{\"start\":0,\"end\":2}]\n\
-            [\"SoftBreak\",{\"start\":2,\"end\":3}]\n\
-            [{\"Text\":\"\\\"\"},{\"start\":3,\"end\":4}]\n\
-            [{\"End\":\"Paragraph\"},{\"start\":0,\"end\":4}]\n",
+        [{\"Text\":\"é\"},{\"start\":0,\"end\":2}]\n\
+        [\"SoftBreak\",{\"start\":2,\"end\":3}]\n\
+        [{\"Text\":\"\\\"\"},{\"start\":3,\"end\":4}]\n\
+        [{\"End\":\"Paragraph\"},{\"start\":0,\"end\":4}]\n",
     ),
     (
         &["tables", "strikethrough"],
         "~~a~~",
         "0 [{\"Start\":\"Paragraph\"},{\"start\":0,\"end\":5}]\n\
-            [{\"Start\":\"Strikethrough\"},{\"start\":0,\"end\":5}]\n\
-            [{\"Text\":\"a\"},{\"start\":2,\"end\":3}]\n\
-            [{\"End\":\"Strikethrough\"},{\"start\":0,\"end\":5}]\n\
-            [{\"End\":\"Paragraph\"},{\"start\":0,\"end\":5}]\n",
+        [{\"Start\":\"Strikethrough\"},{\"start\":0,\"end\":5}]\n\
+        [{\"Text\":\"a\"},{\"start\":2,\"end\":3}]\n\
+        [{\"End\":\"Strikethrough\"},{\"start\":0,\"end\":5}]\n\
+        [{\"End\":\"Paragraph\"},{\"start\":0,\"end\":5}]\n",
     ),
 ];
 
