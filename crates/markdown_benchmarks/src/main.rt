@@ -13,8 +13,9 @@ mod look_ups;
 mod scans;
 mod tasks;
 
+use std::alloc::Global;
 use std::env::{self, Env};
-use std::io::{self, Read};
+use std::io::{self, Read, Write};
 use std::process::ExitCode;
 
 /// Returns the first argument.
@@ -33,36 +34,47 @@ fn is_document(rt: &(impl Env + AllocGlobal)) -> Option<bool> {
     }
 }
 
+/// Returns all of the input as a text.
+fn text_of<R: Read>(alloc: Global, input: &mut R) -> Option<String> {
+    let mut bytes = Vec::new(alloc);
+    input.read_to_end(&mut bytes).ok()?;
+    String::from_utf8(bytes).ok()
+}
+
+/// Returns the line that is printed for a line that names a task and its size, or says what is wrong with it.
+fn answer_of(alloc: Global, line: &str) -> Result<String, &'static str> {
+    let (task, size) = tasks::task_and_size(line).ok_or("no task and size\n")?;
+    let number = tasks::run(alloc, task, size).ok_or("no such task, or out of memory\n")?;
+    format!(in alloc; "{line}: {number}\n").or(Err("out of memory\n"))
+}
+
+/// Prints the answer for each line, up to the first that has none. Returns whether each has one.
+fn prints_answers<W: Write>(alloc: Global, text: &str, out: &mut W) -> bool {
+    for line in text.lines() {
+        let answer = answer_of(alloc, line);
+        let printed = match &answer {
+            Ok(answer) => answer.as_str(),
+            Err(said) => said,
+        };
+        if out.write_all(printed.as_bytes()).is_err() || answer.is_err() {
+            return false;
+        }
+    }
+    true
+}
+
 fn main(rt: HostRuntime) -> ExitCode {
     let alloc = rt.alloc();
     let Some(is_document) = is_document(&rt) else {
         return ExitCode::FAILURE;
     };
-    let mut input = Vec::new(alloc);
-    if rt.stdin().read_to_end(&mut input).is_err() {
-        return ExitCode::FAILURE;
-    }
-    let Ok(text) = String::from_utf8(input) else {
+    let Some(text) = text_of(alloc, &mut rt.stdin()) else {
         return ExitCode::FAILURE;
     };
-    if is_document {
-        return ExitCode::from(u8::from(fits::misfits_of(alloc, text.as_str()) != Some(0)));
-    }
-    for line in text.as_str().lines() {
-        let Some((task, size)) = tasks::task_and_size(line) else {
-            let _ = rt.println("no task and size");
-            return ExitCode::FAILURE;
-        };
-        let Some(came_to) = tasks::run(alloc, task, size) else {
-            let _ = rt.println("no such task, or out of memory");
-            return ExitCode::FAILURE;
-        };
-        let Ok(answer) = came_to.to_string(alloc) else {
-            return ExitCode::FAILURE;
-        };
-        let _ = rt.print(line);
-        let _ = rt.print(": ");
-        let _ = rt.println(answer.as_str());
-    }
-    ExitCode::SUCCESS
+    let succeeds = if is_document {
+        fits::misfits_of(alloc, text.as_str()) == Some(0)
+    } else {
+        prints_answers(alloc, text.as_str(), &mut rt.stdout())
+    };
+    ExitCode::from(u8::from(!succeeds))
 }
