@@ -1,5 +1,5 @@
 //! Chains of open items, which a walk resolves when it reaches them.
-use crate::rows::{Given, Placed, TEXT, check_made, tree_gives, tree_of_placed};
+use crate::rows::{Given, check_made, tree_gives};
 use markdown_base::index::CowIndex;
 use markdown_base::item::{Item, ItemBody};
 use markdown_base::options::Options;
@@ -11,6 +11,7 @@ use markdown_test_helpers::notes::notes_of;
 use markdown_test_helpers::parts::{defining, one_text};
 use markdown_test_helpers::rows::gives;
 use markdown_test_helpers::trees::item;
+use markdown_test_parsers::made::{Placed, TEXT, tree_of_placed};
 use markdown_test_parsers::parsers::{all_noted, ask_for, parser_of};
 use std::alloc::{AllocError, Global};
 use std::test::Fail;

@@ -1,8 +1,9 @@
 //! Inline links and images (CommonMark 6.3 and 6.4), through parsers of texts and of trees made by hand.
-use crate::rows::{Given, Placed, Rows, TEXT, Table, assert_inside, check, check_made};
+use crate::rows::{Given, Rows, Table, assert_inside, check, check_made};
 use markdown_base::index::AlignmentIndex;
 use markdown_base::item::ItemBody;
 use markdown_base::options::Options;
+use markdown_test_parsers::made::{Placed, TEXT};
 use std::alloc::{AllocError, Global};
 use std::test::Fail;
 

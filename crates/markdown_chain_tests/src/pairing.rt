@@ -1,9 +1,10 @@
 //! Pairing of delimiter runs, quotes and the last break (CommonMark 6.2), through parsers of texts and of trees made
 //! by hand.
-use crate::rows::{Given, Placed, Rows, TEXT, Table, check, check_made, work_of};
+use crate::rows::{Given, Rows, Table, check, check_made, work_of};
 use markdown_base::item::ItemBody;
 use markdown_base::options::Options;
 use markdown_test_helpers::rows::gives;
+use markdown_test_parsers::made::{Placed, TEXT};
 use std::test::Fail;
 
 const WHAT_OPENS_AND_CLOSES: Rows = &[

@@ -8,10 +8,10 @@ use markdown_inline::walk::Parser;
 use markdown_render::merged::merged_html;
 use markdown_test_helpers::parts::{no_parts, one_of_each};
 use markdown_test_helpers::rows::gives;
-use markdown_test_helpers::trees::{item, tree_of};
 use markdown_test_parsers::html::parser_shows;
+use markdown_test_parsers::made::{Placed, tree_of_placed};
 use markdown_test_parsers::parsers::{parser_gives, parser_of, plain_parser, text_parser};
-use std::alloc::{AllocError, Global};
+use std::alloc::Global;
 use std::test::Fail;
 
 /// Checks the HTML of the merge of a parser.
@@ -125,23 +125,6 @@ pub fn work_of(alloc: Global, source: &str) -> Result<Work, Fail> {
     let mut parser = plain_parser(alloc, source)?;
     count_left(&mut parser);
     Ok(parser.work())
-}
-
-/// An item made by hand: its depth below the root, its range and its body.
-pub type Placed = (usize, usize, usize, ItemBody);
-
-/// The body of a text.
-pub const TEXT: ItemBody = ItemBody::Text {
-    backslash_escaped: false,
-};
-
-/// Returns a tree of these items, which are in preorder.
-pub fn tree_of_placed(alloc: Global, placed: &[Placed]) -> Result<Tree<Item>, AllocError> {
-    let mut outline = Vec::new(alloc);
-    for &(depth, start, end, body) in placed {
-        outline.push((depth, item(start, end, body)))?;
-    }
-    tree_of(alloc, &outline)
 }
 
 /// What a tree made by hand gives.

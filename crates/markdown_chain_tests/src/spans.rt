@@ -1,12 +1,13 @@
 //! Code spans (CommonMark 6.1), math, autolinks (6.5) and raw HTML (6.6), through parsers of texts and of trees made by
 //! hand.
 use crate::grown::Grown;
-use crate::rows::{Given, Placed, Rows, TEXT, Table, check, check_made};
+use crate::rows::{Given, Rows, Table, check, check_made};
 use markdown_base::index::{AlignmentIndex, in_32_bits};
 use markdown_base::item::ItemBody;
 use markdown_base::options::Options;
 use markdown_document::work::Work;
 use markdown_test_helpers::rows::gives;
+use markdown_test_parsers::made::{Placed, TEXT};
 use std::alloc::{AllocError, Global};
 use std::test::Fail;
 

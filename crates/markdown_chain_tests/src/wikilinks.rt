@@ -1,9 +1,10 @@
 //! Wikilinks, with a pipe and without, and rules that they share with links.
-use crate::rows::{Given, Placed, Rows, TEXT, Table, assert_inside, check, check_made};
+use crate::rows::{Given, Rows, Table, assert_inside, check, check_made};
 use crate::walks::count_left;
 use markdown_base::item::ItemBody;
 use markdown_base::options::Options;
 use markdown_test_helpers::rows::gives;
+use markdown_test_parsers::made::{Placed, TEXT};
 use markdown_test_parsers::parsers::text_parser;
 use std::alloc::Global;
 use std::test::Fail;

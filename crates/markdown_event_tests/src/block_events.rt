@@ -7,52 +7,39 @@ use markdown_base::options::Options;
 use markdown_base::tag::{Alignment, BlockQuoteKind, HeadingLevel, MetadataBlockKind};
 use markdown_test_helpers::parts::{no_parts, one_text};
 use markdown_test_helpers::rows::gives;
-use markdown_test_helpers::trees::{Outline, item, text, tree_of};
 use markdown_test_parsers::html::parser_shows;
+use markdown_test_parsers::made::{Placed, TEXT, tree_of_placed};
 use markdown_test_parsers::parsers::{all_noted, parser_of};
 use std::alloc::{AllocError, Global};
 use std::test::Fail;
 
-/// Returns the events of a tree over a text, as a text.
-fn events_of<'a>(
-    alloc: Global,
-    source: &'a str,
-    outline: Outline<'_>,
-    parts: BlockParts<'a>,
-) -> Result<String, Fail> {
-    let tree = tree_of(alloc, outline)?;
-    let parser = parser_of(alloc, source, Options::empty(), tree, parts)?;
+/// Returns the events of a tree over `abc`, as a text.
+fn events_of(alloc: Global, placed: &[Placed], parts: BlockParts<'static>) -> Result<String, Fail> {
+    let tree = tree_of_placed(alloc, placed)?;
+    let parser = parser_of(alloc, "abc", Options::empty(), tree, parts)?;
     let (events, callback) = all_noted(alloc, parser)?;
     drop(callback);
     Ok(events)
 }
 
 /// Checks the events of a tree over `abc`, which may refer to one text.
-fn tree_gives(
-    alloc: Global,
-    outline: Outline<'_>,
-    row: ItemBody,
-    wanted: &str,
-) -> Result<(), Fail> {
-    let events = events_of(alloc, "abc", outline, one_text(alloc)?)?;
+fn tree_gives(alloc: Global, placed: &[Placed], row: ItemBody, wanted: &str) -> Result<(), Fail> {
+    let events = events_of(alloc, placed, one_text(alloc)?)?;
     gives(row, events.as_str(), wanted)
 }
 
 /// Checks the Start and the End of a body that contains a text.
 fn block_gives(alloc: Global, body: ItemBody, start: &str, end: &str) -> Result<(), Fail> {
-    let outline = [(0, item(0, 3, body)), (1, text(1, 2))];
     let wanted = format!(in alloc; "<{start}>0..3 [b]1..2 </{end}>0..3 ")?;
-    tree_gives(alloc, &outline, body, wanted.as_str())
+    let placed = [(0, 0, 3, body), (1, 1, 2, TEXT)];
+    tree_gives(alloc, &placed, body, wanted.as_str())
 }
 
 /// Checks the event of a body in an item.
 fn leaf_gives(alloc: Global, body: ItemBody, name: &str) -> Result<(), Fail> {
-    let outline = [
-        (0, item(0, 3, ItemBody::ListItem(2))),
-        (1, item(1, 2, body)),
-    ];
     let wanted = format!(in alloc; "<li>0..3 {name}1..2 </li>0..3 ")?;
-    tree_gives(alloc, &outline, body, wanted.as_str())
+    let placed = [(0, 0, 3, ItemBody::ListItem(2)), (1, 1, 2, body)];
+    tree_gives(alloc, &placed, body, wanted.as_str())
 }
 
 #[test]
@@ -135,18 +122,19 @@ fn two_columns(alloc: Global) -> Result<BlockParts<'static>, AllocError> {
     Ok(parts)
 }
 
+const TABLE: &[Placed] = &[
+    (0, 0, 3, ItemBody::Table(AlignmentIndex(0))),
+    (1, 0, 2, ItemBody::TableHead),
+    (2, 0, 1, ItemBody::TableCell),
+    (3, 0, 1, TEXT),
+    (2, 1, 2, ItemBody::TableCell),
+    (1, 2, 3, ItemBody::TableRow),
+];
+
 #[test]
 fn a_table(rt: HostRuntime) -> Result<(), Fail> {
     let alloc = rt.alloc();
-    let outline = [
-        (0, item(0, 3, ItemBody::Table(AlignmentIndex(0)))),
-        (1, item(0, 2, ItemBody::TableHead)),
-        (2, item(0, 1, ItemBody::TableCell)),
-        (3, text(0, 1)),
-        (2, item(1, 2, ItemBody::TableCell)),
-        (1, item(2, 3, ItemBody::TableRow)),
-    ];
-    let found = events_of(alloc, "abc", &outline, two_columns(alloc)?)?;
+    let found = events_of(alloc, TABLE, two_columns(alloc)?)?;
     let events =
         "<table [None, Right]>0..3 <thead>0..2 <td>0..1 [a]0..1 </td>0..1 <td>1..2 </td>1..2 \
         </thead>0..2 <tr>2..3 </tr>2..3 </table>0..3 ";
@@ -175,30 +163,33 @@ fn attributed(alloc: Global) -> Result<BlockParts<'static>, AllocError> {
     Ok(parts)
 }
 
+const SHARED: ItemBody = ItemBody::Heading(HeadingLevel::H2, Some(HeadingIndex(1)));
+
+const HEADINGS: &[Placed] = &[
+    (0, 0, 1, ItemBody::Heading(HeadingLevel::H6, None)),
+    (0, 1, 2, SHARED),
+    (0, 2, 3, SHARED),
+];
+
 #[test]
 fn headings_that_share_attributes(rt: HostRuntime) -> Result<(), Fail> {
     let alloc = rt.alloc();
-    let shared = ItemBody::Heading(HeadingLevel::H2, Some(HeadingIndex(1)));
-    let outline = [
-        (0, item(0, 1, ItemBody::Heading(HeadingLevel::H6, None))),
-        (0, item(1, 2, shared)),
-        (0, item(2, 3, shared)),
-    ];
     let events = "<h6>0..1 </h6>0..1 <h2 #(i) .(c) (k):(v) (n)>1..2 </h2>1..2 \
         <h2 #(i) .(c) (k):(v) (n)>2..3 </h2>2..3 ";
-    let found = events_of(alloc, "abc", &outline, attributed(alloc)?)?;
+    let found = events_of(alloc, HEADINGS, attributed(alloc)?)?;
     gives("headings", found.as_str(), events)
 }
+
+const LIST: &[Placed] = &[
+    (0, 0, 2, ItemBody::List(true, b'-', 0)),
+    (1, 0, 2, ItemBody::ListItem(2)),
+    (2, 2, 2, ItemBody::TightParagraph),
+];
 
 #[test]
 fn a_list_with_an_empty_tight_paragraph(rt: HostRuntime) -> Result<(), Fail> {
     let alloc = rt.alloc();
-    let outline = [
-        (0, item(0, 2, ItemBody::List(true, b'-', 0))),
-        (1, item(0, 2, ItemBody::ListItem(2))),
-        (2, item(2, 2, ItemBody::TightParagraph)),
-    ];
-    let tree = tree_of(alloc, &outline)?;
+    let tree = tree_of_placed(alloc, LIST)?;
     let parser = parser_of(alloc, "- ", Options::empty(), tree, no_parts(alloc))?;
     parser_shows(alloc, "- ", parser, "<ul>\n<li></li>\n</ul>\n")
 }

@@ -8,9 +8,10 @@ use markdown_inline::runs::{gather, gather_offsets};
 use markdown_test_helpers::lists::is_nothing;
 use markdown_test_helpers::parts::no_parts;
 use markdown_test_helpers::rows::gives;
-use markdown_test_helpers::trees::{Outline, item, nested, text, tree_of};
+use markdown_test_helpers::trees::{item, nested};
 use markdown_test_parsers::callbacks::{Reply, Replying, questions_in};
 use markdown_test_parsers::html::parser_shows;
+use markdown_test_parsers::made::{Placed, TEXT, tree_of_placed};
 use markdown_test_parsers::parsers::{
     all_noted, ask_for, parser_asking, parser_gives, parser_of, plain_parser, text_parser,
 };
@@ -54,30 +55,39 @@ fn texts(rt: HostRuntime) -> Result<(), Fail> {
 }
 
 /// Checks the events of a tree over a text, each with its range.
-fn tree_gives(alloc: Global, source: &str, outline: Outline<'_>, events: &str) -> Result<(), Fail> {
-    let tree = tree_of(alloc, outline)?;
+fn tree_gives(alloc: Global, source: &str, placed: &[Placed], events: &str) -> Result<(), Fail> {
+    let tree = tree_of_placed(alloc, placed)?;
     let parser = parser_of(alloc, source, Options::empty(), tree, no_parts(alloc))?;
     parser_gives(alloc, source, parser, events)
 }
 
+const A_BREAK: &[Placed] = &[
+    (0, 0, 2, ItemBody::Paragraph),
+    (1, 0, 1, TEXT),
+    (1, 1, 2, ItemBody::HardBreak(true)),
+];
+
+const A_TIGHT_PARAGRAPH: &[Placed] = &[
+    (0, 0, 1, ItemBody::Paragraph),
+    (1, 0, 1, TEXT),
+    (0, 1, 1, ItemBody::TightParagraph),
+    (0, 1, 2, ItemBody::Paragraph),
+    (1, 1, 2, TEXT),
+];
+
 #[test]
 fn trees_made_by_hand(rt: HostRuntime) -> Result<(), Fail> {
-    let hard = [
-        (0, item(0, 2, ItemBody::Paragraph)),
-        (1, text(0, 1)),
-        (1, item(1, 2, ItemBody::HardBreak(true))),
-    ];
-    let events = "<p>0..2 [a]0..1 //1..2 </p>0..2 ";
-    tree_gives(rt.alloc(), "a\\", &hard, events)?;
-    let tight = [
-        (0, item(0, 1, ItemBody::Paragraph)),
-        (1, text(0, 1)),
-        (0, item(1, 1, ItemBody::TightParagraph)),
-        (0, item(1, 2, ItemBody::Paragraph)),
-        (1, text(1, 2)),
-    ];
-    let events = "<p>0..1 [a]0..1 </p>0..1 <p>1..2 [b]1..2 </p>1..2 ";
-    tree_gives(rt.alloc(), "ab", &tight, events)
+    for &(source, placed, events) in &[
+        ("a\\", A_BREAK, "<p>0..2 [a]0..1 //1..2 </p>0..2 "),
+        (
+            "ab",
+            A_TIGHT_PARAGRAPH,
+            "<p>0..1 [a]0..1 </p>0..1 <p>1..2 [b]1..2 </p>1..2 ",
+        ),
+    ] {
+        tree_gives(rt.alloc(), source, placed, events)?;
+    }
+    Ok(())
 }
 
 /// Returns the events of `count` paragraphs of one byte, each in the one before it, with their ranges.
@@ -194,23 +204,33 @@ fn callbacks_that_do_not_answer(rt: HostRuntime) -> Result<(), Fail> {
     )
 }
 
-#[test]
-fn an_empty_text_at_the_place_of_another_is_kept(rt: HostRuntime) -> Result<(), Fail> {
-    let alloc = rt.alloc();
-    let paragraph = item(0, 2, ItemBody::Paragraph);
-    let tree = tree_of(alloc, &[(0, paragraph), (1, text(0, 0)), (1, text(0, 2))])?;
-    let parser = parser_of(alloc, "ab", Options::ENABLE_GFM, tree, no_parts(alloc))?;
-    parser_shows(alloc, "ab", parser, "<p>ab</p>\n")
+/// Checks the HTML of a tree over a text.
+fn tree_shows(
+    alloc: Global,
+    source: &str,
+    options: Options,
+    placed: &[Placed],
+    html: &str,
+) -> Result<(), Fail> {
+    let tree = tree_of_placed(alloc, placed)?;
+    let parser = parser_of(alloc, source, options, tree, no_parts(alloc))?;
+    parser_shows(alloc, source, parser, html)
 }
 
+const TWO_TEXTS: &[Placed] = &[
+    (0, 0, 2, ItemBody::Paragraph),
+    (1, 0, 0, TEXT),
+    (1, 0, 2, TEXT),
+];
+
+const ONE_TEXT: &[Placed] = &[(0, 0, 6, ItemBody::Paragraph), (1, 0, 6, TEXT)];
+
 #[test]
-fn a_text_made_by_hand_is_escaped(rt: HostRuntime) -> Result<(), Fail> {
+fn html_of_trees_made_by_hand(rt: HostRuntime) -> Result<(), Fail> {
     let alloc = rt.alloc();
-    let source = "a<b>&\"";
-    let tree = tree_of(
-        alloc,
-        &[(0, item(0, 6, ItemBody::Paragraph)), (1, text(0, 6))],
-    )?;
-    let parser = parser_of(alloc, source, Options::empty(), tree, no_parts(alloc))?;
-    parser_shows(alloc, source, parser, "<p>a&lt;b&gt;&amp;\"</p>\n")
+    // an empty text at the place of another is kept
+    tree_shows(alloc, "ab", Options::ENABLE_GFM, TWO_TEXTS, "<p>ab</p>\n")?;
+    // a text is escaped
+    let html = "<p>a&lt;b&gt;&amp;\"</p>\n";
+    tree_shows(alloc, "a<b>&\"", Options::empty(), ONE_TEXT, html)
 }

@@ -4,5 +4,6 @@
 pub mod callbacks;
 pub mod fits;
 pub mod html;
+pub mod made;
 pub mod parsers;
 pub mod sound;
