@@ -33,86 +33,47 @@ fn all_bytes(alloc: Global) -> Result<String, AllocError> {
     Ok(all)
 }
 
-/// Returns what a byte of a text is written as, by the table, if it is not written unchanged; a quote is written as
-/// `quote`.
-fn escaped(byte: u8, quote: &str) -> Option<&str> {
-    match byte {
-        b'&' => Some("&amp;"),
-        b'<' => Some("&lt;"),
-        b'>' => Some("&gt;"),
-        b'"' => Some(quote),
-        _ => None,
-    }
-}
-
-/// Appends what a text is written as, with `quote` for a quote.
-fn push_escaped(expected: &mut Vec<u8>, text: &str, quote: &str) -> Result<(), AllocError> {
-    for byte in text.as_bytes() {
-        match escaped(*byte, quote) {
-            Some(other) => expected.extend_from_slice(other.as_bytes())?,
-            None => expected.push(*byte)?,
-        }
-    }
-    Ok(())
+/// Returns what a text is written as, by the table, with `quote` for a quote.
+fn escaped(alloc: Global, text: &str, quote: &str) -> Result<String, AllocError> {
+    let ampersands = text.replace(alloc, "&", "&amp;")?;
+    let openers = ampersands.as_str().replace(alloc, "<", "&lt;")?;
+    let closers = openers.as_str().replace(alloc, ">", "&gt;")?;
+    closers.as_str().replace(alloc, "\"", quote)
 }
 
 /// The bytes that a destination keeps.
 const KEPT: &str =
     "ABCDEFGHIJKLMNOPQRSTUVWXYZabcdefghijklmnopqrstuvwxyz0123456789!#$%()*+,-./:;=?@_~";
 
-/// Appends `%` and two digits.
-fn push_percent(expected: &mut Vec<u8>, byte: u8) -> Result<(), AllocError> {
-    let digits = "0123456789ABCDEF".as_bytes();
-    expected.push(b'%')?;
-    for digit in [byte >> 4, byte & 15] {
-        if let Some(d) = digits.get(digit as usize) {
-            expected.push(*d)?;
-        }
-    }
-    Ok(())
-}
-
 /// Appends what a byte of a destination is written as, by the table.
-fn push_destination(expected: &mut Vec<u8>, byte: u8) -> Result<(), AllocError> {
-    match byte {
-        b'&' => expected.extend_from_slice("&amp;".as_bytes())?,
-        b'\'' => expected.extend_from_slice("&#x27;".as_bytes())?,
-        other if KEPT.as_bytes().contains(&other) => expected.push(other)?,
-        other => push_percent(expected, other)?,
+fn push_destination(alloc: Global, expected: &mut String, byte: u8) -> Result<(), AllocError> {
+    if byte == b'&' {
+        return expected.push_str("&amp;");
     }
-    Ok(())
+    if byte == b'\'' {
+        return expected.push_str("&#x27;");
+    }
+    if KEPT.as_bytes().contains(&byte) {
+        return expected.push(char::from(byte));
+    }
+    let code = format!(in alloc; "%{byte:02X}")?;
+    expected.push_str(code.as_str())
 }
 
-/// Appends what a destination is written as.
-fn push_destinations(expected: &mut Vec<u8>, text: &str) -> Result<(), AllocError> {
-    for byte in text.as_bytes() {
-        push_destination(expected, *byte)?;
+/// Returns the Start of a link with this destination.
+fn link_to(alloc: Global, destination: &str) -> Result<String, AllocError> {
+    let mut expected = String::from_str(alloc, "<a href=\"")?;
+    for byte in destination.as_bytes() {
+        push_destination(alloc, &mut expected, *byte)?;
     }
-    Ok(())
-}
-
-/// Returns what a text is written as, with this for a quote, between two others.
-fn between(
-    alloc: Global,
-    before: &str,
-    text: &str,
-    quote: &str,
-    after: &str,
-) -> Result<Vec<u8>, AllocError> {
-    let mut expected = Vec::new(alloc);
-    expected.extend_from_slice(before.as_bytes())?;
-    push_escaped(&mut expected, text, quote)?;
-    expected.extend_from_slice(after.as_bytes())?;
+    expected.push_str("\">")?;
     Ok(expected)
 }
 
-/// Returns the HTML of the Start of a link with this destination.
-fn link_to(alloc: Global, destination: &str) -> Result<Vec<u8>, AllocError> {
-    let mut expected = Vec::new(alloc);
-    expected.extend_from_slice("<a href=\"".as_bytes())?;
-    push_destinations(&mut expected, destination)?;
-    expected.extend_from_slice("\">".as_bytes())?;
-    Ok(expected)
+/// Returns math with this text.
+fn math_of(alloc: Global, text: &str) -> Result<String, AllocError> {
+    let inside = escaped(alloc, text, "&quot;")?;
+    format!(in alloc; "<span class=\"math math-inline\">{inside}</span>")
 }
 
 /// A place of a text in HTML.
@@ -133,16 +94,10 @@ fn sign_at<'s>(place: Place, text: &'s str) -> Sign<'s> {
 }
 
 /// Returns the HTML of that event, by the tables.
-fn html_at(alloc: Global, place: Place, text: &str) -> Result<Vec<u8>, AllocError> {
+fn html_at(alloc: Global, place: Place, text: &str) -> Result<String, AllocError> {
     match place {
-        Place::Text => between(alloc, "", text, "\"", ""),
-        Place::Math => between(
-            alloc,
-            "<span class=\"math math-inline\">",
-            text,
-            "&quot;",
-            "</span>",
-        ),
+        Place::Text => escaped(alloc, text, "\""),
+        Place::Math => math_of(alloc, text),
         Place::Destination => link_to(alloc, text),
     }
 }
@@ -151,7 +106,7 @@ fn html_at(alloc: Global, place: Place, text: &str) -> Result<Vec<u8>, AllocErro
 fn is_escaped(alloc: Global, place: Place, text: &str) -> Result<(), Fail> {
     let expected = html_at(alloc, place, text)?;
     let html = html_of(alloc, items_of(alloc, &[sign_at(place, text)]))?;
-    gives(place, html.as_str().as_bytes() == expected.as_slice(), true)
+    gives(place, html.as_str() == expected.as_str(), true)
 }
 
 #[test]

@@ -399,22 +399,29 @@ const RUNS: &[Sign<'static>] = &[
     Sign::Words("\""),
 ];
 
-#[test]
-fn html_of_merges(rt: HostRuntime) -> Result<(), Fail> {
-    let rows: &[Row] = &[
-        (RUNS, "a&lt;b<img src=\"u\" alt=\"c&quot;\" />", None),
-        (&[Sign::Words("a"), MEMORY], "a", Some(Fault::Memory)),
-        (
-            &[Sign::Image("u", "t"), Sign::Words("c"), MEMORY],
-            "<img src=\"u\" alt=\"c",
-            Some(Fault::Memory),
-        ),
-    ];
+/// Checks the HTML that the merge of the events of each row appends, and the result of the call.
+fn check_merges(alloc: Global, rows: &[Row]) -> Result<(), Fail> {
     for row in rows {
-        let merge = TextMergeStream::new(rt.alloc(), items_of(rt.alloc(), row.0));
-        has_written(written(rt.alloc(), merge)?, *row)?;
+        let merge = TextMergeStream::new(alloc, items_of(alloc, row.0));
+        has_written(written(alloc, merge)?, *row)?;
     }
     Ok(())
+}
+
+#[test]
+fn html_of_merges(rt: HostRuntime) -> Result<(), Fail> {
+    check_merges(
+        rt.alloc(),
+        &[
+            (RUNS, "a&lt;b<img src=\"u\" alt=\"c&quot;\" />", None),
+            (&[Sign::Words("a"), MEMORY], "a", Some(Fault::Memory)),
+            (
+                &[Sign::Image("u", "t"), Sign::Words("c"), MEMORY],
+                "<img src=\"u\" alt=\"c",
+                Some(Fault::Memory),
+            ),
+        ],
+    )
 }
 
 const SOFT: &[Sign<'static>] = &[

@@ -1,30 +1,47 @@
-//! The results of the merges, where no allocation is refused.
+//! The results of a merge, where no allocation is refused.
+ghost use Rattle.std.specs.Iterator.{IsFinite};
+
 use crate::events::Item;
-use crate::signs::{Sign, item_of, items_of};
+use crate::signs::{Sign, items_of};
 use markdown_base::event::Event;
 use markdown_base::fault::Fault;
-use markdown_base::tag::TagEnd;
-use markdown_out::merge::{TextMergeStream, TextMergeWithOffset};
+use markdown_out::merge::TextMergeStream;
 use markdown_test_helpers::events::text;
-use markdown_test_helpers::lists::{Items, Listed, is_nothing, said_of};
+use markdown_test_helpers::lists::{Items, Listed, is_nothing};
 use markdown_test_helpers::rows::gives;
 use std::alloc::{AllocError, Global};
-use std::ops::Range;
 use std::test::Fail;
 
-/// Returns an item as a text: a text in brackets, a rule as a dash, an error as `!`.
-fn say_item(alloc: Global, item: &Item<'_>) -> Result<String, AllocError> {
+/// Appends an item as a text: a text in brackets, a rule as a dash, an error as `!`.
+fn push_item(notes: &mut String, item: &Item<'_>) -> Result<(), AllocError> {
     match item {
-        Ok(Event::Text(text)) => format!(in alloc; "[{}]", text.as_str()),
-        Ok(_) => String::from_str(alloc, "-"),
-        Err(_) => String::from_str(alloc, "!"),
+        Ok(Event::Text(text)) => {
+            notes.push_str("[")?;
+            notes.push_str(text.as_str())?;
+            notes.push_str("]")
+        }
+        Ok(_) => notes.push_str("-"),
+        Err(_) => notes.push_str("!"),
     }
+}
+
+/// Returns the items of an iterator as a text.
+fn noted<'a, I: Iterator<Item = Item<'a>>>(alloc: Global, items: I) -> Result<String, Fail>
+    requires can { I.can_next items }
+    requires ends { IsFinite (I.remaining items) }
+{
+    let mut notes = String::new(alloc);
+    for item in items {
+        let done = push_item(&mut notes, &item);
+        drop(item);
+        done?;
+    }
+    Ok(notes)
 }
 
 /// Returns the merge of these items up to its first None, as a text.
 fn merged<'s>(alloc: Global, signs: &'s [Sign<'s>]) -> Result<String, Fail> {
-    let merge = TextMergeStream::new(alloc, items_of(alloc, signs));
-    said_of(alloc, merge, say_item)
+    noted(alloc, TextMergeStream::new(alloc, items_of(alloc, signs)))
 }
 
 /// Checks the merge of these items.
@@ -58,82 +75,18 @@ fn runs(rt: HostRuntime) -> Result<(), Fail> {
     Ok(())
 }
 
-type Ranged<'a> = Result<(Event<'a>, Range<usize>), Fault>;
-
-/// Returns an item with its range.
-fn ranged<'a>(item: Item<'a>, range: Range<usize>) -> Ranged<'a> {
-    let event = item?;
-    Ok((event, range))
-}
-
-/// The items of signs, with their ranges.
-#[derive(Drop)]
-struct SignedRanged<'s> {
-    alloc: Global,
-    rows: &'s [(Sign<'s>, usize, usize)],
-}
-
-impl<'s> Listed for SignedRanged<'s> {
-    type Item = Ranged<'s>;
-
-    fn item(&self, at: usize) -> Option<Ranged<'s>> {
-        let (sign, start, end) = *self.rows.get(at)?;
-        Some(ranged(item_of(self.alloc, sign), start..end))
-    }
-}
-
-/// Returns an item as a text, as `say_item` does, and then its range.
-fn say_ranged(alloc: Global, item: &Ranged<'_>) -> Result<String, AllocError> {
-    match item {
-        Ok((Event::Text(text), range)) => {
-            format!(in alloc; "[{}]{}..{} ", text.as_str(), range.start, range.end)
-        }
-        Ok((_, range)) => format!(in alloc; "-{}..{} ", range.start, range.end),
-        Err(_) => String::from_str(alloc, "!"),
-    }
-}
-
-/// Returns the merge of these items up to its first None, as a text, each with its range.
-fn merged_ranges<'s>(alloc: Global, rows: &'s [(Sign<'s>, usize, usize)]) -> Result<String, Fail> {
-    let items = Items::of(SignedRanged { alloc, rows }, rows.len());
-    said_of(alloc, TextMergeWithOffset::new(alloc, items), say_ranged)
-}
-
-static CODE: [(Sign<'static>, usize, usize); 4] = [
-    (Sign::Open(TagEnd::CodeBlock), 5, 32),
-    (Sign::Words("first line\n"), 5, 16),
-    (Sign::Words("second line\n"), 20, 32),
-    (Sign::Close(TagEnd::CodeBlock), 5, 32),
-];
-
-#[test]
-fn runs_with_ranges(rt: HostRuntime) -> Result<(), Fail> {
-    let notes = merged_ranges(rt.alloc(), &CODE)?;
-    let wanted = "-5..32 [first line\nsecond line\n]5..32 -5..32 ";
-    gives("code", notes.as_str(), wanted)
-}
-
-/// An iterator that returns None in between: a text for a letter, and None for any other sign.
+/// An iterator that returns None in between: a text for each word.
 #[derive(Drop)]
 struct Answers<'a> {
-    signs: &'a [u8],
-}
-
-/// Returns the result for a sign.
-fn answer_of<'a>(sign: u8) -> Option<Item<'a>> {
-    match sign {
-        b'a' => Some(Ok(text("a"))),
-        b'b' => Some(Ok(text("b"))),
-        b'c' => Some(Ok(text("c"))),
-        _ => None,
-    }
+    words: &'a [Option<&'a str>],
 }
 
 impl<'a> Listed for Answers<'a> {
     type Item = Item<'a>;
 
     fn item(&self, at: usize) -> Option<Item<'a>> {
-        answer_of(*self.signs.get(at)?)
+        let word = (*self.words.get(at)?)?;
+        Some(Ok(text(word)))
     }
 }
 
@@ -146,7 +99,8 @@ fn is_text<'a>(answer: Option<Item<'a>>, words: &str) -> bool {
 
 #[test]
 fn stretches_between_nones(rt: HostRuntime) -> Result<(), Fail> {
-    let answers = Items::of(Answers { signs: b"a.bc.." }, 6);
+    let words = &[Some("a"), None, Some("b"), Some("c"), None, None];
+    let answers = Items::of(Answers { words }, 6);
     let mut merge = TextMergeStream::new(rt.alloc(), answers);
     let first = is_text(merge.next(), "a");
     let second = is_text(merge.next(), "bc");

@@ -1,12 +1,12 @@
 //! Events for tests, each by a sign that can be copied, so that lists of them are constants. An event is made on
 //! demand: no
 //! list of events is dropped at the end of a scope, for which a proof takes many seconds.
-use crate::events::{Item, end, reference, start};
+use crate::events::Item;
 use markdown_base::cow_str::CowStr;
 use markdown_base::event::Event;
 use markdown_base::fault::Fault;
 use markdown_base::tag::{Alignment, CodeBlockKind, HeadingLevel, LinkType, Tag, TagEnd};
-use markdown_test_helpers::events::{image, link, text};
+use markdown_test_helpers::events::{image, link};
 use markdown_test_helpers::lists::{Items, Listed};
 use std::alloc::{AllocError, Global};
 
@@ -76,7 +76,7 @@ fn tag_of<'a>(alloc: Global, tag: TagEnd) -> Tag<'a> {
 
 /// Returns the Start of a table.
 fn table<'a>(alloc: Global, alignments: &[Alignment]) -> Item<'a> {
-    start(Tag::Table(alignments.to_vec(alloc)?))
+    Ok(Event::Start(Tag::Table(alignments.to_vec(alloc)?)))
 }
 
 /// Returns two classes.
@@ -96,38 +96,48 @@ fn attributes<'a>(alloc: Global) -> Result<Vec<(CowStr<'a>, Option<CowStr<'a>>)>
 fn full_heading<'a>(alloc: Global) -> Item<'a> {
     let classes = classes(alloc)?;
     let attrs = attributes(alloc)?;
-    start(Tag::Heading {
+    Ok(Event::Start(Tag::Heading {
         level: HeadingLevel::H2,
         id: Some(CowStr::Borrowed("i")),
         classes,
         attrs,
-    })
+    }))
+}
+
+/// Returns the event of a sign that has no tag to be made and is no error, and a rule for any other sign. It calls
+/// nothing: a call in an arm makes each arm slower to prove.
+fn event_of<'s>(sign: Sign<'s>) -> Event<'s> {
+    match sign {
+        Sign::Close(tag) => Event::End(tag),
+        Sign::Ordered(first) => Event::Start(Tag::List(Some(first))),
+        Sign::Fenced(info) => Event::Start(Tag::CodeBlock(CodeBlockKind::Fenced(CowStr::Borrowed(
+            info,
+        )))),
+        Sign::Definition(name) => Event::Start(Tag::FootnoteDefinition(CowStr::Borrowed(name))),
+        Sign::Words(words) => Event::Text(CowStr::Borrowed(words)),
+        Sign::Code(words) => Event::Code(CowStr::Borrowed(words)),
+        Sign::InlineMath(words) => Event::InlineMath(CowStr::Borrowed(words)),
+        Sign::DisplayMath(words) => Event::DisplayMath(CowStr::Borrowed(words)),
+        Sign::Html(html) => Event::Html(CowStr::Borrowed(html)),
+        Sign::InlineHtml(html) => Event::InlineHtml(CowStr::Borrowed(html)),
+        Sign::Reference(name) => Event::FootnoteReference(CowStr::Borrowed(name)),
+        Sign::SoftBreak => Event::SoftBreak,
+        Sign::HardBreak => Event::HardBreak,
+        Sign::Task(done) => Event::TaskListMarker(done),
+        _ => Event::Rule,
+    }
 }
 
 /// Returns the item of a sign.
-pub fn item_of<'s>(alloc: Global, sign: Sign<'s>) -> Item<'s> {
+fn item_of<'s>(alloc: Global, sign: Sign<'s>) -> Item<'s> {
     match sign {
-        Sign::Open(tag) => start(tag_of(alloc, tag)),
-        Sign::Close(tag) => end(tag),
-        Sign::Ordered(first) => start(Tag::List(Some(first))),
-        Sign::Fenced(info) => start(Tag::CodeBlock(CodeBlockKind::Fenced(CowStr::Borrowed(info)))),
-        Sign::Definition(name) => start(Tag::FootnoteDefinition(CowStr::Borrowed(name))),
+        Sign::Open(tag) => Ok(Event::Start(tag_of(alloc, tag))),
         Sign::Link(link_type, destination, title) => Ok(link(link_type, destination, title)),
         Sign::Image(destination, title) => Ok(image(destination, title)),
-        Sign::Words(words) => Ok(text(words)),
-        Sign::Code(words) => Ok(Event::Code(CowStr::Borrowed(words))),
-        Sign::InlineMath(words) => Ok(Event::InlineMath(CowStr::Borrowed(words))),
-        Sign::DisplayMath(words) => Ok(Event::DisplayMath(CowStr::Borrowed(words))),
-        Sign::Html(html) => Ok(Event::Html(CowStr::Borrowed(html))),
-        Sign::InlineHtml(html) => Ok(Event::InlineHtml(CowStr::Borrowed(html))),
-        Sign::Reference(name) => reference(name),
-        Sign::SoftBreak => Ok(Event::SoftBreak),
-        Sign::HardBreak => Ok(Event::HardBreak),
-        Sign::Rule => Ok(Event::Rule),
-        Sign::Task(done) => Ok(Event::TaskListMarker(done)),
-        Sign::Refused(fault) => Err(fault),
         Sign::Table(alignments) => table(alloc, alignments),
         Sign::FullHeading => full_heading(alloc),
+        Sign::Refused(fault) => Err(fault),
+        _ => Ok(event_of(sign)),
     }
 }
 
