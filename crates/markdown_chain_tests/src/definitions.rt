@@ -45,8 +45,10 @@ fn the_first_of_each_label_is_listed(rt: HostRuntime) -> Result<(), Fail> {
 
 /// Returns the span of the definition that a key finds.
 fn span_of(definitions: &RefDefs<'_>, key: &str) -> Result<Option<(usize, usize)>, Fault> {
-    let found = definitions.get(key)?;
-    Ok(found.map(|definition| (definition.span.start, definition.span.end)))
+    match definitions.get(key)? {
+        Some(definition) => Ok(Some((definition.span.start, definition.span.end))),
+        None => Ok(None),
+    }
 }
 
 /// Checks that a key finds a definition of a text with this span, after this number of events.

@@ -90,9 +90,20 @@ impl<'a> Listed for Answers<'a> {
     }
 }
 
+/// Returns whether an item is this text.
+fn is_words(item: &Item<'_>, words: &str) -> bool {
+    match item {
+        Ok(Event::Text(text)) => text.as_str() == words,
+        _ => false,
+    }
+}
+
 /// Returns whether a result is this text.
-fn is_text<'a>(answer: Option<Item<'a>>, words: &str) -> bool {
-    let is = matches!(&answer, Some(Ok(Event::Text(text))) if text.as_str() == words);
+fn is_text(answer: Option<Item<'_>>, words: &str) -> bool {
+    let is = match &answer {
+        Some(item) => is_words(item, words),
+        None => false,
+    };
     drop(answer);
     is
 }

@@ -70,7 +70,12 @@ fn merged_with<'a, F: BrokenLinkCallback<'a>>(
 fn given_and_asked(alloc: Global, source: &str) -> Result<(String, Option<u64>), Fail> {
     let callback = Recording::replying(alloc, Reply::Target("YOLO", "SWAG"));
     let (events, callback) = all_noted(alloc, parser_asking(alloc, source, callback)?)?;
-    Ok((events, callback.map(|it| it.replying.asked)))
+    let asked = match &callback {
+        Some(recording) => Some(recording.replying.asked),
+        None => None,
+    };
+    drop(callback);
+    Ok((events, asked))
 }
 
 #[test]

@@ -9,6 +9,20 @@ use markdown_test_helpers::rows::gives;
 use std::alloc::Global;
 use std::test::Fail;
 
+/// Returns the HTML of the events of an iterator, or the error of the call. The error is turned into one of a test by
+/// `html_of`: both in one function take several times as long to prove.
+fn html_or_fault<'a, I: Iterator<Item = Result<Event<'a>, Fault>>>(
+    alloc: Global,
+    iter: I,
+) -> Result<String, Fault>
+    requires can { I.can_next iter }
+    requires ends { IsFinite (I.remaining iter) }
+{
+    let mut html = String::new(alloc);
+    push_html(alloc, &mut html, iter)?;
+    Ok(html)
+}
+
 /// Returns the HTML of the events of an iterator.
 pub fn html_of<'a, I: Iterator<Item = Result<Event<'a>, Fault>>>(
     alloc: Global,
@@ -17,9 +31,7 @@ pub fn html_of<'a, I: Iterator<Item = Result<Event<'a>, Fault>>>(
     requires can { I.can_next iter }
     requires ends { IsFinite (I.remaining iter) }
 {
-    let mut html = String::new(alloc);
-    push_html(alloc, &mut html, iter)?;
-    Ok(html)
+    Ok(html_or_fault(alloc, iter)?)
 }
 
 /// Checks the HTML of a parser.
