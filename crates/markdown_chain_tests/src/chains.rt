@@ -11,6 +11,7 @@ use markdown_test_helpers::notes::notes_of;
 use markdown_test_helpers::parts::{defining, one_text};
 use markdown_test_helpers::rows::gives;
 use markdown_test_helpers::trees::item;
+use markdown_test_parsers::faults::or_fail;
 use markdown_test_parsers::made::{Placed, TEXT, tree_of_placed};
 use markdown_test_parsers::parsers::{all_noted, ask_for, parser_of};
 use std::alloc::{AllocError, Global};
@@ -83,7 +84,7 @@ fn named_texts(rt: HostRuntime) -> Result<(), Fail> {
     let alloc = rt.alloc();
     let tree = tree_of_placed(alloc, NAMED_TEXT)?;
     let parser = parser_of(alloc, "ab", Options::empty(), tree, one_text(alloc)?)?;
-    let (events, callback) = all_noted(alloc, parser)?;
+    let (events, callback) = or_fail(all_noted(alloc, parser))?;
     gives(
         "ab",
         (events.as_str(), is_nothing(callback)),

@@ -12,6 +12,7 @@ use markdown_test_helpers::parts::defining;
 use markdown_test_helpers::rows::gives;
 use markdown_test_helpers::trees::{item, text, tree_of};
 use markdown_test_parsers::callbacks::{Recording, Reply, Replying, questions_in};
+use markdown_test_parsers::faults::or_fail;
 use markdown_test_parsers::fits::fits;
 use markdown_test_parsers::parsers::{all_noted, parser_asking, parser_gives, parser_of};
 use std::alloc::Global;
@@ -229,7 +230,7 @@ fn questions(rt: HostRuntime) -> Result<(), Fail> {
 /// Returns the events of a text, and the questions, with a callback that has these answers.
 fn asked_of(alloc: Global, source: &str, reply: Reply) -> Result<(String, String), Fail> {
     let parser = parser_asking(alloc, source, Recording::replying(alloc, reply))?;
-    let (events, callback) = all_noted(alloc, parser)?;
+    let (events, callback) = or_fail(all_noted(alloc, parser))?;
     let questions = match callback {
         Some(recording) => recording.into_questions(),
         None => String::new(alloc),
@@ -308,7 +309,7 @@ fn is_rendered<'a, F: BrokenLinkCallback<'a>>(
 {
     let options = Options::empty();
     fits(alloc, source, options)?;
-    let html = render(alloc, source, options, Some(callback))?;
+    let html = or_fail(render(alloc, source, options, Some(callback)))?;
     gives(source, html.as_str(), wanted)
 }
 

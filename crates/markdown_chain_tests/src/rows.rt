@@ -8,6 +8,7 @@ use markdown_inline::walk::Parser;
 use markdown_render::merged::merged_html;
 use markdown_test_helpers::parts::{no_parts, one_of_each};
 use markdown_test_helpers::rows::gives;
+use markdown_test_parsers::faults::or_fail;
 use markdown_test_parsers::html::parser_shows;
 use markdown_test_parsers::made::{Placed, tree_of_placed};
 use markdown_test_parsers::parsers::{parser_gives, parser_of, plain_parser, text_parser};
@@ -16,7 +17,7 @@ use std::test::Fail;
 
 /// Checks the HTML of the merge of a parser.
 fn merge_shows(alloc: Global, row: &str, parser: Parser<'_>, wanted: &str) -> Result<(), Fail> {
-    let html = merged_html(alloc, parser)?;
+    let html = or_fail(merged_html(alloc, parser))?;
     gives((row, "merged"), html.as_str(), wanted)
 }
 

@@ -7,6 +7,7 @@ use markdown_base::options::Options;
 use markdown_base::tag::{Alignment, BlockQuoteKind, HeadingLevel, MetadataBlockKind};
 use markdown_test_helpers::parts::{no_parts, one_text};
 use markdown_test_helpers::rows::gives;
+use markdown_test_parsers::faults::or_fail;
 use markdown_test_parsers::html::parser_shows;
 use markdown_test_parsers::made::{Placed, TEXT, tree_of_placed};
 use markdown_test_parsers::parsers::{all_noted, parser_of};
@@ -17,7 +18,7 @@ use std::test::Fail;
 fn events_of(alloc: Global, placed: &[Placed], parts: BlockParts<'static>) -> Result<String, Fail> {
     let tree = tree_of_placed(alloc, placed)?;
     let parser = parser_of(alloc, "abc", Options::empty(), tree, parts)?;
-    let (events, callback) = all_noted(alloc, parser)?;
+    let (events, callback) = or_fail(all_noted(alloc, parser))?;
     drop(callback);
     Ok(events)
 }

@@ -8,6 +8,7 @@ use markdown_out::merge::{TextMergeStream, TextMergeWithOffset};
 use markdown_render::merged::{merged_html, offsets_can_be_merged};
 use markdown_test_helpers::notes::notes_of;
 use markdown_test_helpers::rows::gives;
+use markdown_test_parsers::faults::or_fail;
 use markdown_test_parsers::parsers::plain_parser;
 use std::alloc::Global;
 use std::ops::Range;
@@ -31,7 +32,7 @@ fn html_of_a_mapped_merge(rt: HostRuntime) -> Result<(), Fail> {
 #[test]
 fn html_of_a_merge(rt: HostRuntime) -> Result<(), Fail> {
     let alloc = rt.alloc();
-    let html = merged_html(alloc, plain_parser(alloc, "a\nb")?)?;
+    let html = or_fail(merged_html(alloc, plain_parser(alloc, "a\nb")?))?;
     gives("a\nb", html.as_str(), "<p>a\nb</p>\n")
 }
 

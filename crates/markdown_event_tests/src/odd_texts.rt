@@ -6,6 +6,7 @@ use markdown_defs::DefaultBrokenLinkCallback;
 use markdown_render::render;
 use markdown_test_helpers::documents::random_text;
 use markdown_test_helpers::rows::gives;
+use markdown_test_parsers::faults::or_fail;
 use markdown_test_parsers::html::html_of;
 use markdown_test_parsers::parsers::text_parser;
 use markdown_test_parsers::sound::is_sound;
@@ -64,7 +65,7 @@ fn all_options() -> Options {
 fn is_read(alloc: Global, source: &str, options: Options) -> Result<(), Fail> {
     gives((source, "sound"), is_sound(alloc, source, options)?, true)?;
     let html = html_of(alloc, text_parser(alloc, source, options)?)?;
-    let rendered = render(alloc, source, options, None::<DefaultBrokenLinkCallback>)?;
+    let rendered = or_fail(render(alloc, source, options, None::<DefaultBrokenLinkCallback>))?;
     gives(source, rendered.as_str(), html.as_str())
 }
 

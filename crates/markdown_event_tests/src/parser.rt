@@ -10,6 +10,7 @@ use markdown_test_helpers::parts::no_parts;
 use markdown_test_helpers::rows::gives;
 use markdown_test_helpers::trees::{item, nested};
 use markdown_test_parsers::callbacks::{Reply, Replying, questions_in};
+use markdown_test_parsers::faults::or_fail;
 use markdown_test_parsers::html::parser_shows;
 use markdown_test_parsers::made::{Placed, TEXT, tree_of_placed};
 use markdown_test_parsers::parsers::{
@@ -182,7 +183,7 @@ fn stays_with<'a, F: BrokenLinkCallback<'a>>(
     requires { F.can_ask callback }
 {
     let (source, wanted) = UNKNOWN;
-    let (events, callback) = all_noted(alloc, parser_asking(alloc, source, callback)?)?;
+    let (events, callback) = or_fail(all_noted(alloc, parser_asking(alloc, source, callback)?))?;
     gives(
         row,
         (events.as_str(), is_nothing(callback)),

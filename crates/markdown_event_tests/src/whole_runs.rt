@@ -4,6 +4,7 @@ use markdown_defs::{BrokenLinkCallback, DefaultBrokenLinkCallback};
 use markdown_render::{merged_html, render};
 use markdown_test_helpers::rows::gives;
 use markdown_test_parsers::callbacks::{Recording, Reply};
+use markdown_test_parsers::faults::or_fail;
 use markdown_test_parsers::fits::fits;
 use markdown_test_parsers::parsers::{all_noted, parser_asking};
 use std::alloc::Global;
@@ -13,7 +14,7 @@ use std::test::Fail;
 fn is_rendered(alloc: Global, source: &str, wanted: &str) -> Result<(), Fail> {
     let options = Options::ENABLE_SUBSCRIPT;
     fits(alloc, source, options)?;
-    let html = render(alloc, source, options, None::<DefaultBrokenLinkCallback>)?;
+    let html = or_fail(render(alloc, source, options, None::<DefaultBrokenLinkCallback>))?;
     gives(source, html.as_str(), wanted)
 }
 
@@ -43,7 +44,7 @@ fn html_with_a_callback(rt: HostRuntime) -> Result<(), Fail> {
     let (source, wanted) = ASKING;
     fits(rt.alloc(), source, Options::empty())?;
     let callback = Recording::replying(rt.alloc(), WEBSITE);
-    let html = render(rt.alloc(), source, Options::empty(), Some(callback))?;
+    let html = or_fail(render(rt.alloc(), source, Options::empty(), Some(callback)))?;
     gives(source, html.as_str(), wanted)
 }
 
@@ -63,13 +64,13 @@ fn merged_with<'a, F: BrokenLinkCallback<'a>>(
 ) -> Result<String, Fail>
     requires { F.can_ask callback }
 {
-    Ok(merged_html(alloc, parser_asking(alloc, source, callback)?)?)
+    or_fail(merged_html(alloc, parser_asking(alloc, source, callback)?))
 }
 
 /// Returns the events of a text, and the number of questions to a callback that answers, if it is returned.
 fn given_and_asked(alloc: Global, source: &str) -> Result<(String, Option<u64>), Fail> {
     let callback = Recording::replying(alloc, Reply::Target("YOLO", "SWAG"));
-    let (events, callback) = all_noted(alloc, parser_asking(alloc, source, callback)?)?;
+    let (events, callback) = or_fail(all_noted(alloc, parser_asking(alloc, source, callback)?))?;
     let asked = match &callback {
         Some(recording) => Some(recording.replying.asked),
         None => None,

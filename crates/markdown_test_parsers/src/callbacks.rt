@@ -1,6 +1,7 @@
 //! Callbacks that record their questions.
 ghost use Rattle.std.specs.Prelude.{◌≡◌, ◌+◌, ◌%◌, ◌^◌, None};
 
+use crate::faults::or_fail;
 use crate::parsers::parser_asking;
 use markdown_base::cow_str::CowStr;
 use markdown_base::tag::LinkType;
@@ -144,7 +145,7 @@ pub fn take_events<'a, F: BrokenLinkCallback<'a>>(
 ) -> Result<usize, Fail>
     requires { F.can_ask callback }
 {
-    Ok(take_some(parser_asking(alloc, source, callback)?, most)?)
+    or_fail(take_some(parser_asking(alloc, source, callback)?, most))
 }
 
 /// Takes at most `most` events of a text with a closure that answers no question. Returns the number

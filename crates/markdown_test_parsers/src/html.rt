@@ -1,6 +1,7 @@
 //! The HTML of events.
 ghost use Rattle.std.specs.Iterator.{IsFinite};
 
+use crate::faults::or_fail;
 use markdown_base::event::Event;
 use markdown_base::fault::Fault;
 use markdown_inline::walk::Parser;
@@ -8,20 +9,6 @@ use markdown_out::html::push_html;
 use markdown_test_helpers::rows::gives;
 use std::alloc::Global;
 use std::test::Fail;
-
-/// Returns the HTML of the events of an iterator, or the error of the call. The error is turned into one of a test by
-/// `html_of`: both in one function take several times as long to prove.
-fn html_or_fault<'a, I: Iterator<Item = Result<Event<'a>, Fault>>>(
-    alloc: Global,
-    iter: I,
-) -> Result<String, Fault>
-    requires can { I.can_next iter }
-    requires ends { IsFinite (I.remaining iter) }
-{
-    let mut html = String::new(alloc);
-    push_html(alloc, &mut html, iter)?;
-    Ok(html)
-}
 
 /// Returns the HTML of the events of an iterator.
 pub fn html_of<'a, I: Iterator<Item = Result<Event<'a>, Fault>>>(
@@ -31,7 +18,9 @@ pub fn html_of<'a, I: Iterator<Item = Result<Event<'a>, Fault>>>(
     requires can { I.can_next iter }
     requires ends { IsFinite (I.remaining iter) }
 {
-    Ok(html_or_fault(alloc, iter)?)
+    let mut html = String::new(alloc);
+    or_fail(push_html(alloc, &mut html, iter))?;
+    Ok(html)
 }
 
 /// Checks the HTML of a parser.

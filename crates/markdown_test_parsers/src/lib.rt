@@ -2,6 +2,7 @@
 #![tactic(auto)]
 
 pub mod callbacks;
+pub mod faults;
 pub mod fits;
 pub mod html;
 pub mod made;

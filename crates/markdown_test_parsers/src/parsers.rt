@@ -2,6 +2,7 @@
 ghost use Rattle.std.specs.Prelude.{IfOk, IfSome};
 ghost use Rattle.markdown_inline.specs.ParserLeft.{parser_callback};
 
+use crate::faults::or_fail;
 use crate::fits::fits;
 use markdown_base::block_parts::BlockParts;
 use markdown_base::event::Event;
@@ -27,8 +28,8 @@ pub fn parser_of<'a>(
     tree: Tree<Item>,
     parts: BlockParts<'a>,
 ) -> Result<Parser<'a>, Fail> {
-    let blocks = Blocks::checked(alloc, source, options, tree, parts)?;
-    Ok(Parser::from_blocks(alloc, blocks, None)?)
+    let blocks = or_fail(Blocks::checked(alloc, source, options, tree, parts))?;
+    or_fail(Parser::from_blocks(alloc, blocks, None))
 }
 
 /// Returns a parser of a text with these options.
@@ -38,13 +39,13 @@ pub fn text_parser<'a>(
     options: Options,
 ) -> Result<Parser<'a>, Fail> {
     fits(alloc, source, options)?;
-    Ok(Parser::new_ext(alloc, source, options)?)
+    or_fail(Parser::new_ext(alloc, source, options))
 }
 
 /// Returns a parser of a text with no options.
 pub fn plain_parser<'a>(alloc: Global, source: &'a str) -> Result<Parser<'a>, Fail> {
     fits(alloc, source, Options::empty())?;
-    Ok(Parser::new(alloc, source)?)
+    or_fail(Parser::new(alloc, source))
 }
 
 /// Returns a parser of a text with a callback, with no options.

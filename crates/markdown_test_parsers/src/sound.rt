@@ -1,5 +1,6 @@
 //! Checks of what holds for the events of every text: each End closes the last Start that is open, no Start stays open,
 //! and each range is in the text, between characters.
+use crate::faults::or_fail;
 use crate::parsers::{all_events, text_parser};
 use markdown_base::event::Event;
 use markdown_base::options::Options;
@@ -50,7 +51,7 @@ fn all_lie_in(source: &str, events: &[(Event<'_>, Range<usize>)]) -> bool {
 
 /// Returns whether the walk over a text ends and its events are sound.
 pub fn is_sound(alloc: Global, source: &str, options: Options) -> Result<bool, Fail> {
-    let (events, callback) = all_events(text_parser(alloc, source, options)?)?;
+    let (events, callback) = or_fail(all_events(text_parser(alloc, source, options)?))?;
     drop(callback);
     let balanced = are_balanced(alloc, events.as_slice());
     let placed = all_lie_in(source, events.as_slice());
