@@ -52,7 +52,7 @@ Spells-prop k l (node ix below after) =
     let here = link-set l (Some ix) in
     let within : IsProp (ix < k.size) = le_prop in
     let inside = Spells-prop k (k.child ix) below in
-    let behind = Spells-prop k (k.next ix) after in
+    let later = Spells-prop k (k.next ix) after in
     hlevel
 
 -- each node is reached once
@@ -128,7 +128,7 @@ Throughout-prop p h nil = Unit-prop
 Throughout-prop p h (node a below after) =
     let here = h a below after in
     let inside = Throughout-prop p h below in
-    let behind = Throughout-prop p h after in
+    let later = Throughout-prop p h after in
     hlevel
 
 -- a block result is well formed

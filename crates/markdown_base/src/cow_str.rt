@@ -43,8 +43,7 @@ impl<'a> CowStr<'a> {
         }
     }
 
-    /// Returns an owned copy of a text, stored inline if it has at most 22 bytes, and otherwise on the heap. The error
-    /// is a refused allocation.
+    /// Returns an owned copy of a text, stored inline if it has at most 22 bytes, and otherwise on the heap.
     fn owned<'b>(alloc: Global, text: &str) -> Result<CowStr<'b>, AllocError>
         ensures text { IfOk result (λ made. text_of made ≡ text.now) }
         ensures short { length text.now ≤ 22 → IsOk result }

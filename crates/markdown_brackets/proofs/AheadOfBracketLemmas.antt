@@ -12,20 +12,20 @@ use Rattle.markdown_base.specs.declared.item.ItemBody.{ItemBody}
 use Rattle.markdown_base.specs.declared.item.ItemBody.TheVariants as body
 use Rattle.markdown_base.specs.declared.node.Node.{Node}
 use Rattle.markdown_document.specs.ChainRest.{as_item, start_of, end_of, open_body}
-use Rattle.markdown_document.specs.Document.{Label, Part, part_of, shape_of}
+use Rattle.markdown_document.specs.Document.{TreeNode, Part, part_of, shape_of}
 use Rattle.markdown_document.specs.Tables.{Tables}
 use Rattle.markdown_brackets.specs.BracketDecision.{closer_ends_at, past_second, start_of_first_past}
 use Rattle.markdown_brackets.specs.ChainAhead.{begins_with_closer, first_start, numbers_past, reaches_closer}
 use Rattle.markdown_brackets.specs.ChainAhead.{starts_from}
 use Rattle.markdown_brackets.specs.ChainHeld.{Holds, numbers_of}
 use Rattle.markdown_brackets.specs.Reference.{FoundLabel, Form, reference, collapsed, shortcut, form_at, form_by_label}
-use Rattle.markdown_brackets.specs.Reference.{is_closer, is_opener, bracket_label, stands_at}
+use Rattle.markdown_brackets.specs.Reference.{is_closing_bracket, is_opener, bracket_label, stands_at}
 use Rattle.markdown_brackets.specs.declared.footnote.FootnoteStyle.{FootnoteStyle}
 use Rattle.markdown_brackets.proofs.ChainAheadLemmas.{below_is, not_below_is, is_below, is_not_below}
 
 -- a bracket reads as an open one, and nothing else does
 brackets_read : (tables : Tables) (source : List ℕ) (b : ItemBody)
-    → (is_closer (open_body (shape_of tables source b)) ≡ is_closer b)
+    → (is_closing_bracket (open_body (shape_of tables source b)) ≡ is_closing_bracket b)
     × (is_opener (open_body (shape_of tables source b)) ≡ is_opener b)
 brackets_read tables source (body.HardBreak true) = (refl, refl)
 brackets_read tables source (body.HardBreak false) = (refl, refl)
@@ -33,54 +33,56 @@ brackets_read tables source other = (refl, refl)
 
 module _ (source : List ℕ) (tables : Tables) (nodes : List (Node Item)) where
   -- an item as its label
-  abbrev ReadsAs : Label ℕ → Type 0
-  ReadsAs a = part_of source tables (item_at nodes a.tag) ≡ a.part
+  abbrev ReadsAs : TreeNode ℕ → Type 0
+  ReadsAs a = part_of source tables (item_at nodes a.note) ≡ a.part
 
-  pub same_start : (a : Label ℕ) → ReadsAs a → (item_at nodes a.tag).start ≡ start_of a
+  pub same_start : (a : TreeNode ℕ) → ReadsAs a → (item_at nodes a.note).start ≡ start_of a
   same_start a h = ap (λ (p : Part). p.range.start) h
 
-  pub same_end : (a : Label ℕ) → ReadsAs a → (item_at nodes a.tag).end ≡ end_of a
+  pub same_end : (a : TreeNode ℕ) → ReadsAs a → (item_at nodes a.note).end ≡ end_of a
   same_end a h = ap (λ (p : Part). p.range.end) h
 
-  pub same_closer : (a : Label ℕ) → ReadsAs a → is_closer (item_at nodes a.tag).body
-      ≡ is_closer (open_body a.part.shape)
+  pub same_closer : (a : TreeNode ℕ) → ReadsAs a → is_closing_bracket (item_at nodes a.note).body
+      ≡ is_closing_bracket (open_body a.part.shape)
   same_closer a h =
-      sym (brackets_read tables _ (item_at nodes a.tag).body).0 ∙ ap (λ (p : Part). is_closer (open_body p.shape)) h
+      sym (brackets_read tables _ (item_at nodes a.note).body).0 ∙ ap (λ (p : Part). is_closing_bracket
+      (open_body p.shape)) h
 
-  same_opener : (a : Label ℕ) → ReadsAs a → is_opener (item_at nodes a.tag).body ≡ is_opener (open_body a.part.shape)
+  same_opener : (a : TreeNode ℕ) → ReadsAs a → is_opener (item_at nodes a.note).body ≡ is_opener
+      (open_body a.part.shape)
   same_opener a h =
-      sym (brackets_read tables _ (item_at nodes a.tag).body).1 ∙ ap (λ (p : Part). is_opener (open_body p.shape)) h
+      sym (brackets_read tables _ (item_at nodes a.note).body).1 ∙ ap (λ (p : Part). is_opener (open_body p.shape)) h
 
   -- where the first item past a byte starts
-  start_ahead : (i : ℕ) (l : Option ℕ) (f : Forest (Label ℕ)) → Holds source tables nodes l f
+  start_ahead : (i : ℕ) (l : Option ℕ) (f : Forest (TreeNode ℕ)) → Holds source tables nodes l f
       → first_start nodes (numbers_past nodes i (numbers_of f)) ≡ start_of_first_past f i
   start_ahead i l nil h = refl
   start_ahead i l (node a below after) h =
-      rw (same_end a h.2) (by (nat_lt i (end_of a)) (start_ahead i (sibling_of nodes a.tag) after h.4))
+      rw (same_end a h.2) (by (nat_lt i (end_of a)) (start_ahead i (sibling_of nodes a.note) after h.4))
     where
       by : (b : Bool) → first_start nodes (numbers_past nodes i (numbers_of after)) ≡ start_of_first_past after i
-          → first_start nodes (if b then node a.tag (numbers_of below) (numbers_of after) else numbers_past nodes i
+          → first_start nodes (if b then node a.note (numbers_of below) (numbers_of after) else numbers_past nodes i
           (numbers_of after))
           ≡ (if b then Some (start_of a) else start_of_first_past after i)
       by true more = ap Some (same_start a h.2)
       by false more = more
 
-  pub starts_ahead : (l : Option ℕ) (f : Forest (Label ℕ)) → Holds source tables nodes l f
+  pub starts_ahead : (l : Option ℕ) (f : Forest (TreeNode ℕ)) → Holds source tables nodes l f
       → forest_at (links_of nodes) l ≡ numbers_of f → (i : ℕ) → starts_from nodes l i ≡ start_of_first_past f i
   starts_ahead l f h found i = rw found (start_ahead i l f h)
 
   -- whether a `]` ends at a byte
-  closer_ahead : (i : ℕ) → 0 < i → (l : Option ℕ) (f : Forest (Label ℕ)) → Holds source tables nodes l f
+  closer_ahead : (i : ℕ) → 0 < i → (l : Option ℕ) (f : Forest (TreeNode ℕ)) → Holds source tables nodes l f
       → begins_with_closer nodes i (numbers_past nodes (i - 1) (numbers_of f)) ≡ closer_ends_at i f
   closer_ahead i some l nil h = refl
   closer_ahead i some l (node a below after) h =
-      rw (same_end a h.2) (by (nat_lt (end_of a) i) refl (closer_ahead i some (sibling_of nodes a.tag) after h.4))
+      rw (same_end a h.2) (by (nat_lt (end_of a) i) refl (closer_ahead i some (sibling_of nodes a.note) after h.4))
     where
       by : (d : Bool) → nat_lt (end_of a) i ≡ d
           → begins_with_closer nodes i (numbers_past nodes (i - 1) (numbers_of after)) ≡ closer_ends_at i after
-          → begins_with_closer nodes i (if nat_lt (i - 1) (end_of a) then node a.tag (numbers_of below)
+          → begins_with_closer nodes i (if nat_lt (i - 1) (end_of a) then node a.note (numbers_of below)
           (numbers_of after) else numbers_past nodes (i - 1) (numbers_of after))
-          ≡ (if d then closer_ends_at i after else is_closer (open_body a.part.shape) && (end_of a == i))
+          ≡ (if d then closer_ends_at i after else is_closing_bracket (open_body a.part.shape) && (end_of a == i))
       by true e more = rw (not_below_is (i - 1) (end_of a) (omega (arith, is_below (end_of a) i e))) more
       by false e more = rw (
         below_is (i - 1) (end_of a) (omega (arith, is_not_below (end_of a) i e, some)),
@@ -88,29 +90,29 @@ module _ (source : List ℕ) (tables : Tables) (nodes : List (Node Item)) where
         same_end a h.2,
       ) refl
 
-  pub closers_ahead : (l : Option ℕ) (f : Forest (Label ℕ)) → Holds source tables nodes l f
+  pub closers_ahead : (l : Option ℕ) (f : Forest (TreeNode ℕ)) → Holds source tables nodes l f
       → forest_at (links_of nodes) l ≡ numbers_of f → (i : ℕ) → 0 < i → reaches_closer nodes i l ≡ closer_ends_at i f
   closers_ahead l f h found i some = rw found (closer_ahead i some l f h)
 
   -- the first item and the second at a byte offset
   first_stands : (at : ℕ) (kind : ItemBody → Bool)
-      → ((a : Label ℕ) → ReadsAs a → kind (item_at nodes a.tag).body ≡ kind (open_body a.part.shape))
-      → (l : Option ℕ) (f : Forest (Label ℕ)) → Holds source tables nodes l f
+      → ((a : TreeNode ℕ) → ReadsAs a → kind (item_at nodes a.note).body ≡ kind (open_body a.part.shape))
+      → (l : Option ℕ) (f : Forest (TreeNode ℕ)) → Holds source tables nodes l f
       → stands_at at kind (option_map (item_at nodes) l) ≡ stands_at at kind (option_map as_item (first_root f))
   first_stands at kind same l nil h = rw h refl
   first_stands at kind same l (node a below after) h = rw (h.0, same_start a h.2, same a h.2) refl
 
   second_stands : (at : ℕ) (kind : ItemBody → Bool)
-      → ((a : Label ℕ) → ReadsAs a → kind (item_at nodes a.tag).body ≡ kind (open_body a.part.shape))
-      → (l : Option ℕ) (f : Forest (Label ℕ)) → Holds source tables nodes l f
+      → ((a : TreeNode ℕ) → ReadsAs a → kind (item_at nodes a.note).body ≡ kind (open_body a.part.shape))
+      → (l : Option ℕ) (f : Forest (TreeNode ℕ)) → Holds source tables nodes l f
       → stands_at at kind (option_map (item_at nodes) (option_and_then (sibling_of nodes) l))
       ≡ stands_at at kind (option_map as_item (first_root (past_second f)))
   second_stands at kind same l nil h = rw h refl
   second_stands at kind same l (node a below after) h = rw h.0
-      (first_stands at kind same (sibling_of nodes a.tag) after h.4)
+      (first_stands at kind same (sibling_of nodes a.note) after h.4)
 
   pub form_ahead_is : (style : FootnoteStyle) (skipped : List ℕ → Option ℕ) (in_table : Bool) (text : List ℕ) (at : ℕ)
-      (l : Option ℕ) (f : Forest (Label ℕ)) → Holds source tables nodes l f
+      (l : Option ℕ) (f : Forest (TreeNode ℕ)) → Holds source tables nodes l f
       → form_at style skipped in_table text at (option_map (item_at nodes) l)
       (option_map (item_at nodes) (option_and_then (sibling_of nodes) l))
       ≡ form_at style skipped in_table text at (option_map as_item (first_root f))
@@ -118,33 +120,33 @@ module _ (source : List ℕ) (tables : Tables) (nodes : List (Node Item)) where
   form_ahead_is style skipped in_table text at l f h =
       rw (
         first_stands at is_opener same_opener l f h,
-        second_stands (at + 1) is_closer same_closer l f h,
+        second_stands (at + 1) is_closing_bracket same_closer l f h,
         first_stands at (λ b. true)
             (λ a r. refl) l f h,
       ) refl
 
 -- the label of a full reference ends after a byte offset
-abbrev pub EndsBehind : ℕ → Form → Type 0
-EndsBehind at (reference label end) = at < end
-EndsBehind at other = Unit {0}
+abbrev pub EndsAfter : ℕ → Form → Type 0
+EndsAfter at (reference label end) = at < end
+EndsAfter at other = Unit {0}
 
 -- it ends after its `]`
-label_behind : (at : ℕ) (l : Option FoundLabel) → 0 < at → EndsBehind 0 (form_by_label at l)
-label_behind at None some = tt
-label_behind at (Some l) some = by l.is_footnote
+label_ends_after : (at : ℕ) (l : Option FoundLabel) → 0 < at → EndsAfter 0 (form_by_label at l)
+label_ends_after at None some = tt
+label_ends_after at (Some l) some = by l.is_footnote
   where
-    by : (b : Bool) → EndsBehind 0 (if b then shortcut else reference l.name (at + l.length))
+    by : (b : Bool) → EndsAfter 0 (if b then shortcut else reference l.name (at + l.length))
     by true = tt
     by false = omega (arith, some)
 
-pub form_behind : (style : FootnoteStyle) (skipped : List ℕ → Option ℕ) (in_table : Bool) (text : List ℕ) (at : ℕ)
+pub form_after : (style : FootnoteStyle) (skipped : List ℕ → Option ℕ) (in_table : Bool) (text : List ℕ) (at : ℕ)
     (next after : Option Item)
-    → 0 < at → EndsBehind 0 (form_at style skipped in_table text at next after)
-form_behind style skipped in_table text at next after some =
-    by (stands_at at is_opener next && stands_at (at + 1) is_closer after) (stands_at at (λ b. true) next)
+    → 0 < at → EndsAfter 0 (form_at style skipped in_table text at next after)
+form_after style skipped in_table text at next after some =
+    by (stands_at at is_opener next && stands_at (at + 1) is_closing_bracket after) (stands_at at (λ b. true) next)
   where
-    by : (empty starts : Bool) → EndsBehind 0 (if empty then collapsed else if starts
+    by : (empty starts : Bool) → EndsAfter 0 (if empty then collapsed else if starts
         then form_by_label at (bracket_label style skipped in_table (drop at text)) else shortcut)
     by true starts = tt
-    by false true = label_behind at (bracket_label style skipped in_table (drop at text)) some
+    by false true = label_ends_after at (bracket_label style skipped in_table (drop at text)) some
     by false false = tt

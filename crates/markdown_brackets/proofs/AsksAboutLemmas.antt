@@ -8,7 +8,7 @@ use Rattle.markdown_base.specs.Questions.{Question, Answers, Answer}
 use Rattle.markdown_base.specs.declared.item.Item.{Item}
 use Rattle.markdown_document.specs.ChainRest.{as_item, end_of}
 use Rattle.markdown_defs.specs.Definitions.{Labelled}
-use Rattle.markdown_brackets.specs.BracketDecision.{Around, Becomes, Closing, Decision, Written, LinkReference}
+use Rattle.markdown_brackets.specs.BracketDecision.{BracketContext, Becomes, Closing, Decision, Written, LinkReference}
 use Rattle.markdown_brackets.specs.BracketDecision.{Progress, a_text, block_text, carried_out, decided, form_of, found}
 use Rattle.markdown_brackets.specs.BracketDecision.{left_for_one, lines, link_reference, past_second, question_at}
 use Rattle.markdown_brackets.specs.BracketDecision.{second_end}
@@ -16,7 +16,8 @@ use Rattle.markdown_brackets.specs.BracketOptions.{footnote_style}
 use Rattle.markdown_brackets.specs.ClosingBracket.{closed, put}
 use Rattle.markdown_brackets.specs.LeftList.{Split, bracket_taken}
 use Rattle.markdown_brackets.specs.Lookup.{LookedUp, look_up, answered}
-use Rattle.markdown_brackets.specs.Reference.{FoundLabel, collapsed, form_by_label, is_closer, is_opener, bracket_label}
+use Rattle.markdown_brackets.specs.Reference.{FoundLabel, collapsed, form_by_label, is_closing_bracket, is_opener}
+use Rattle.markdown_brackets.specs.Reference.{bracket_label}
 use Rattle.markdown_brackets.specs.Reference.{reference, shortcut, stands_at}
 use Rattle.markdown_brackets.proofs.ClosingBracketLemmas.{IsFull, IsOwn, either, found_cases}
 use Rattle.markdown_brackets.proofs.LabelPairLemmas.{IsLabelFrom, label_from}
@@ -45,9 +46,9 @@ pub record Told : Type 0 where
   pub limit : ℕ
 
 abbrev pub told_by : {A : Type 0} → Progress A → Told
-told_by p = record { asked = p.asked; spent = p.spent; limit = p.known.limit }
+told_by p = record { asked = p.asked; spent = p.spent; limit = p.state.limit }
 
-module _ {A : Type 0} (w : Around) (c : Closing A) where
+module _ {A : Type 0} (w : BracketContext) (c : Closing A) where
   -- the label that follows was asked about, or is defined, and its `]` is used up
   pub record AsksFull (more : List Question) (spent spent' : List ℕ) : Type 0 where
     pub end : ℕ
@@ -60,7 +61,7 @@ module _ {A : Type 0} (w : Around) (c : Closing A) where
   pub record AsksOwn (more : List Question) (spent spent' : List ℕ) : Type 0 where
     pub could : c.could_be_reference ≡ true
     pub keeps : spent' ≡ spent
-    pub most : AtMostOneTo (end_of c.label) more
+    pub most : AtMostOneTo (end_of c.node) more
 
   -- or none
   pub record AsksNone (more : List Question) (spent spent' : List ℕ) : Type 0 where
@@ -87,11 +88,11 @@ module _ {A : Type 0} (w : Around) (c : Closing A) where
   looked_told o r p ways =
       let q : Question = question_at o r in
       let at : ℕ → LookedUp = λ (limit : ℕ). look_up w.setting.rules.definitions w.setting.rules.asks limit
-      p.known.answers q in
-      let found : LookedUp = at p.known.limit in
+      p.state.answers q in
+      let found : LookedUp = at p.state.limit in
       let most : AtMostOneTo r.end found.questions =
-      look_up_asks w.setting.rules.definitions w.setting.rules.asks p.known.limit p.known.answers q in
-      let none : p.known.limit ≡ 0 → (found.limit ≡ 0) × (found.questions ≡ []) =
+      look_up_asks w.setting.rules.definitions w.setting.rules.asks p.state.limit p.state.answers q in
+      let none : p.state.limit ≡ 0 → (found.limit ≡ 0) × (found.questions ≡ []) =
       λ z. rw z (refl, refl) in
       record {
         more = found.questions;
@@ -141,12 +142,12 @@ module _ {A : Type 0} (w : Around) (c : Closing A) where
 
   -- the label that follows begins where the `]` ends
   pub full_label : (label : List ℕ) (end : ℕ) → form_of w c ≡ reference label end
-      → IsLabelFrom (lines w) (block_text w) (end_of c.label) end
-  full_label label end e = by (stands_at from is_opener next && stands_at (from + 1) is_closer after)
+      → IsLabelFrom (lines w) (block_text w) (end_of c.node) end
+  full_label label end e = by (stands_at from is_opener next && stands_at (from + 1) is_closing_bracket after)
       (stands_at from (λ b. true) next) e
     where
       from : ℕ
-      from = end_of c.label
+      from = end_of c.node
 
       next : Option Item
       next = option_map as_item (first_root c.rest)

@@ -9,9 +9,9 @@ use Rattle.markdown_base.specs.declared.item.Item.{Item}
 use Rattle.markdown_base.specs.declared.item.ItemBody.{ItemBody}
 use Rattle.markdown_base.specs.declared.item.ItemBody.TheVariants as body
 use Rattle.markdown_base.specs.declared.tag.LinkType.TheVariants as kind
-use Rattle.markdown_document.specs.Document.{Shape, leaf, enclosed, Plain, label_of}
+use Rattle.markdown_document.specs.Document.{Shape, leaf, enclosed, Plain, tree_node_of}
 use Rattle.markdown_document.specs.Tables.{no_tables}
-use Rattle.markdown_brackets.specs.BracketDecision.{Around, Progress, uses_once_more, decided}
+use Rattle.markdown_brackets.specs.BracketDecision.{BracketContext, Progress, uses_once_more, decided}
 use Rattle.markdown_brackets.specs.ClosingBracket.{closed}
 use Rattle.markdown_brackets.specs.LeftList.{done, trees_onto}
 use Rattle.markdown_brackets.specs.ReadChain.{begun, read_chain}
@@ -51,7 +51,7 @@ items_from i j bang false (b ∷ bytes) =
 
 abbrev chain_of : List ℕ → List Item → Forest Plain
 chain_of source [] = nil
-chain_of source (item ∷ items) = node (label_of source no_tables item) nil (chain_of source items)
+chain_of source (item ∷ items) = node (tree_node_of source no_tables item) nil (chain_of source items)
 
 -- a link as `{destination title:text}`, an image as `!{..}`, a footnote reference as `^{name}`
 abbrev leaf_bytes : EventView → List ℕ
@@ -82,8 +82,8 @@ ranges nil = []
 ranges (node a below after) = range_pair a ∷ (ranges below ++ ranges after)
 
 -- lines have no prefix, and nothing is defined except, if footnotes are enabled, the footnote `a`
-abbrev around : ℕ → Bool → List ℕ → Around
-around options asks source = record {
+abbrev bracket_context : ℕ → Bool → List ℕ → BracketContext
+bracket_context options asks source = record {
   setting = record {
     text = source;
     rules = record {
@@ -99,7 +99,7 @@ around options asks source = record {
 
 abbrev progress : ℕ → Bool → ℕ → Answers → List ℕ → Progress (Unit {0})
 progress options asks limit answers source =
-    read_chain (around options asks source) (λ a below rest p. record p { left = done a below ∷ p.left })
+    read_chain (bracket_context options asks source) (λ a below rest p. record p { left = done a below ∷ p.left })
     (chain_of source (items_from 0 0 false false source))
     (begun (record { limit = limit; answers = answers; uses = λ name. 0 }))
 
@@ -170,7 +170,7 @@ unfolding read_chain closed decided
 footnote_ranges = refl
 
 -- uses are counted
-used_twice : (progress 4 false 100 [] (codes "[^a] [^a]")).known.uses
+used_twice : (progress 4 false 100 [] (codes "[^a] [^a]")).state.uses
     ≡ uses_once_more (codes "a") (uses_once_more (codes "a") (λ name. 0))
 unfolding read_chain closed decided
 used_twice = refl
@@ -247,6 +247,6 @@ asks_two = progress 0 true 3 (answer (codes "long") [] ∷ answer (codes "v") []
 
 second_is_text : (shown (forest_of asks_two) ≡ codes "{long:a} [b]")
     × (length asks_two.asked ≡ 1)
-    × (asks_two.known.answers ≡ answer (codes "v") [] ∷ [])
+    × (asks_two.state.answers ≡ answer (codes "v") [] ∷ [])
 unfolding read_chain closed decided
 second_is_text = (refl, refl, refl)

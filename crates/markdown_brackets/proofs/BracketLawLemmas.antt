@@ -6,44 +6,44 @@ use Rattle.markdown_base.specs.Forest.{Forest, nil, node}
 use Rattle.markdown_base.specs.Questions.{Question, Answers}
 use Rattle.markdown_base.specs.declared.item.ItemBody.{ItemBody}
 use Rattle.markdown_base.specs.declared.item.ItemBody.TheVariants as body
-use Rattle.markdown_document.specs.Document.{Label}
+use Rattle.markdown_document.specs.Document.{TreeNode}
 use Rattle.markdown_document.specs.ChainRest.{begun_at, end_of, open_body}
 use Rattle.markdown_brackets.specs.BracketLaws.{with_later, HandsOn, ClosesInOne}
-use Rattle.markdown_brackets.specs.BracketDecision.{Around, Becomes, Closing, Decision, Written, LinkReference}
+use Rattle.markdown_brackets.specs.BracketDecision.{BracketContext, Becomes, Closing, Decision, Written, LinkReference}
 use Rattle.markdown_brackets.specs.BracketDecision.{Progress, a_text, carried_out, decided, found, left_for_one}
 use Rattle.markdown_brackets.specs.BracketDecision.{link_reference, looked_up, question_at, second_end}
 use Rattle.markdown_brackets.specs.ClosingBracket.{closed, put, put_decided}
 use Rattle.markdown_brackets.specs.LeftList.{Split, bracket_taken}
 use Rattle.markdown_brackets.specs.Lookup.{LookedUp, look_up}
-use Rattle.markdown_document.specs.Setting.{Known}
+use Rattle.markdown_document.specs.Setting.{ReferenceState}
 use Rattle.markdown_brackets.specs.ReadChain.{Reader, opened, closing_of, read_as, read, read_past, read_chain}
 use Rattle.markdown_brackets.proofs.LookupLawsLemmas.{LooksOn, looks_on}
 
 -- a step that asks one question at most
 pub record AsksOne {A : Type 0} (step : Progress A → Progress A) (p : Progress A) : Type 0 where
   pub once : length (step p).asked ≤ length p.asked + 1
-  pub silent : p.known.limit ≡ 0 → length (step p).asked ≡ length p.asked
+  pub silent : p.state.limit ≡ 0 → length (step p).asked ≡ length p.asked
   pub hands_on : HandsOn step p
 
 -- one that asks nothing
 pub asks_none : {A : Type 0} (step : Progress A → Progress A) (p : Progress A) → (step p).asked ≡ p.asked
-    → (step p).known.answers ≡ p.known.answers
+    → (step p).state.answers ≡ p.state.answers
     → ((later : Answers) → step (with_later later p) ≡ with_later later (step p)) → AsksOne step p
 asks_none step p e f h =
     let n : length (step p).asked ≡ length p.asked = ap length e in
-    let m : length (step p).known.answers ≡ length p.known.answers = ap length f in
+    let m : length (step p).state.answers ≡ length p.state.answers = ap length f in
     record {
       once = omega (arith, n);
       silent = λ z. n;
       hands_on = record { asks = omega (arith, n); takes = omega (arith, n, m); hands_on = λ later l. h later };
     }
 
-module _ {A : Type 0} (w : Around) (c : Closing A) where
+module _ {A : Type 0} (w : BracketContext) (c : Closing A) where
   abbrev Asks : (Progress A → Decision A) → Progress A → Type 0
   Asks try p = AsksOne (λ p. put_decided w c (try p)) p
 
   -- what is put asks nothing and takes no answer
-  put_knows : (b : Becomes A) (p : Progress A) → ((put w c b p).asked ≡ p.asked) × ((put w c b p).known ≡ p.known)
+  put_knows : (b : Becomes A) (p : Progress A) → ((put w c b p).asked ≡ p.asked) × ((put w c b p).state ≡ p.state)
   put_knows a_text p = (refl, refl)
   put_knows other p = (refl, refl)
 
@@ -58,27 +58,27 @@ module _ {A : Type 0} (w : Around) (c : Closing A) where
   look_up_law : (o : Split A) (r : LinkReference) (p : Progress A) → Asks (carried_out w (Some (link_reference o r))) p
   look_up_law o r p =
       let q : Question = question_at o r in
-      let alone : LookedUp = found_by p.known.limit p.known.answers q in
+      let alone : LookedUp = found_by p.state.limit p.state.answers q in
       let d : Decision A = looked_up o r alone p in
       let here : (later : Answers)
-      → LooksOn p.known.answers later alone (found_by p.known.limit (p.known.answers ++ later) q) =
-      λ later. looks_on w.setting.rules.definitions w.setting.rules.asks p.known.limit q p.known.answers later in
+      → LooksOn p.state.answers later alone (found_by p.state.limit (p.state.answers ++ later) q) =
+      λ later. looks_on w.setting.rules.definitions w.setting.rules.asks p.state.limit q p.state.answers later in
       let asked : length (put_decided w c d).asked ≡ length p.asked + length alone.questions =
       ap length (put_knows d.becomes d.progress).0 ∙ length-append p.asked alone.questions in
-      let left : length (put_decided w c d).known.answers ≡ length alone.answers =
-      ap (λ (known : Known). length known.answers) (put_knows d.becomes d.progress).1 in
+      let left : length (put_decided w c d).state.answers ≡ length alone.answers =
+      ap (λ (state : ReferenceState). length state.answers) (put_knows d.becomes d.progress).1 in
       let none = here [] in
       record {
         once = omega (arith, asked, none.once);
         silent = λ z.
-            let P : ℕ → Type 0 = λ limit. length (found_by limit p.known.answers q).questions ≡ 0 in
+            let P : ℕ → Type 0 = λ limit. length (found_by limit p.state.answers q).questions ≡ 0 in
             let nothing : length alone.questions ≡ 0 = subst P (sym z) refl in
             omega (arith, asked, nothing);
         hands_on = record {
           asks = omega (arith, asked);
           takes = omega (arith, asked, left, none.takes);
           hands_on = λ later enough.
-              let fits : length alone.questions ≤ length p.known.answers = omega (arith, enough, asked) in
+              let fits : length alone.questions ≤ length p.state.answers = omega (arith, enough, asked) in
               ap (λ (l : LookedUp). put_decided w c (looked_up o r l (with_later later p))) ((here later).hands_on fits)
               ∙ put_later d.becomes d.progress later;
         };
@@ -88,7 +88,7 @@ module _ {A : Type 0} (w : Around) (c : Closing A) where
   carried_law (Some (link_reference o r)) p = look_up_law o r p
   carried_law x p = asks_none (λ p. put_decided w c (carried_out w x p)) p refl refl (λ later. refl)
 
-pub closed_law : {A : Type 0} (w : Around) (c : Closing A) (p : Progress A) → ClosesInOne w c p
+pub closed_law : {A : Type 0} (w : BracketContext) (c : Closing A) (p : Progress A) → ClosesInOne w c p
 unfolding closed decided
 closed_law w c p =
     let second = second_end w c.rest in
@@ -111,10 +111,10 @@ both f g p h k = record {
       ∙ k.hands_on later (omega (arith, enough, h.asks, h.takes));
 }
 
-module _ {A : Type 0} (w : Around) (others : Reader A)
-    (rule : (a : Label A) (below rest : Forest (Label A)) (p : Progress A)
+module _ {A : Type 0} (w : BracketContext) (others : Reader A)
+    (rule : (a : TreeNode A) (below rest : Forest (TreeNode A)) (p : Progress A)
     → HandsOn (others a below rest) p) where
-  read_as_law : (b : ItemBody) (a : Label A) (below rest : Forest (Label A)) (p : Progress A)
+  read_as_law : (b : ItemBody) (a : TreeNode A) (below rest : Forest (TreeNode A)) (p : Progress A)
       → HandsOn (read_as w others b a below rest) p
   read_as_law body.MaybeLinkOpen a below rest p
       = (asks_none (opened w false a rest) p refl refl (λ later. refl)).hands_on
@@ -124,7 +124,7 @@ module _ {A : Type 0} (w : Around) (others : Reader A)
       record { asks = r.asks; takes = r.takes; hands_on = r.hands_on }
   read_as_law other a below rest p = rule a below rest p
 
-  read_past_law : (o : Option ℕ) (a : Label A) (below rest : Forest (Label A)) (p : Progress A)
+  read_past_law : (o : Option ℕ) (a : TreeNode A) (below rest : Forest (TreeNode A)) (p : Progress A)
       → HandsOn (read_past w others o a below rest) p
   read_past_law None a below rest p = read_as_law (open_body a.part.shape) a below rest p
   read_past_law (Some i) a below rest p = by (nat_le (end_of a) i)
@@ -137,7 +137,7 @@ module _ {A : Type 0} (w : Around) (others : Reader A)
           (record p { goes_on = None }) in
           record { asks = r.asks; takes = r.takes; hands_on = r.hands_on }
 
-  pub chain_law : (chain : Forest (Label A)) (p : Progress A) → HandsOn (read_chain w others chain) p
+  pub chain_law : (chain : Forest (TreeNode A)) (p : Progress A) → HandsOn (read_chain w others chain) p
   unfolding read_chain
   chain_law nil p = (asks_none (λ p. p) p refl refl (λ later. refl)).hands_on
   chain_law (node a below rest) p =

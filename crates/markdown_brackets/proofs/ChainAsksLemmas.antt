@@ -2,8 +2,8 @@
 use Rattle.std.proofs.Common.{◌≡◌, List, [], ◌++◌, refl, sym, ◌∙◌, ap, append-nil, append_assoc}
 use Rattle.markdown_base.specs.Forest.{Forest}
 use Rattle.markdown_base.specs.Questions.{Question}
-use Rattle.markdown_document.specs.Document.{Label}
-use Rattle.markdown_brackets.specs.BracketDecision.{Around, Progress}
+use Rattle.markdown_document.specs.Document.{TreeNode}
+use Rattle.markdown_brackets.specs.BracketDecision.{BracketContext, Progress}
 use Rattle.markdown_brackets.specs.ReadChain.{Reader, closing_of, read_chain}
 use Rattle.markdown_brackets.proofs.AsksAboutLemmas.{closed_told}
 use Rattle.markdown_brackets.proofs.ReadChainLemmas.{Reads, chain_keeps}
@@ -24,8 +24,8 @@ asks_on r q p later here = record {
       ∙ append_assoc p.asked here.more later.more;
 }
 
-module _ {A : Type 0} (w : Around) (others : Reader A)
-    (rule : (a : Label A) (below rest : Forest (Label A)) (p : Progress A)
+module _ {A : Type 0} (w : BracketContext) (others : Reader A)
+    (rule : (a : TreeNode A) (below rest : Forest (TreeNode A)) (p : Progress A)
     → AsksMore (others a below rest p) p) where
   asks_reads : (p : Progress A) → Reads w others (λ chain q. AsksMore q p)
   asks_reads p = record {
@@ -39,5 +39,5 @@ module _ {A : Type 0} (w : Around) (others : Reader A)
   }
 
   -- a chain
-  pub read_asks : (chain : Forest (Label A)) (p : Progress A) → AsksMore (read_chain w others chain p) p
+  pub read_asks : (chain : Forest (TreeNode A)) (p : Progress A) → AsksMore (read_chain w others chain p) p
   read_asks chain p = chain_keeps (asks_reads p) chain p (asks_nothing p p refl)

@@ -7,12 +7,12 @@ use Rattle.markdown_base.specs.Forest.{Forest, nil, node}
 use Rattle.markdown_base.specs.declared.item.ItemBody.{ItemBody}
 use Rattle.markdown_base.specs.declared.item.ItemBody.TheVariants as body
 use Rattle.markdown_document.specs.ChainRest.{open_body}
-use Rattle.markdown_document.specs.Document.{Origin, Shape, leaf, enclosed, Label, is_unresolved}
-use Rattle.markdown_document.specs.Setting.{Known}
-use Rattle.markdown_brackets.specs.BracketDecision.{Around, Closing, Progress}
+use Rattle.markdown_document.specs.Document.{Origin, Shape, leaf, enclosed, TreeNode, is_unresolved}
+use Rattle.markdown_document.specs.Setting.{ReferenceState}
+use Rattle.markdown_brackets.specs.BracketDecision.{BracketContext, Closing, Progress}
 use Rattle.markdown_brackets.specs.ChainBegins.{BeginsLaw, BeginsSo, BeginsWith, trees_of}
 use Rattle.markdown_brackets.specs.ClosingBracket.{footnote_onto}
-use Rattle.markdown_brackets.specs.LeftList.{Entry, Mark, Split, before_footnote}
+use Rattle.markdown_brackets.specs.LeftList.{Entry, OpenerState, Split, before_footnote}
 use Rattle.markdown_brackets.specs.LeftList.{done, nearest, opens_bracket, opens_wikilink}
 use Rattle.markdown_brackets.specs.LeftList.{trees_onto, waits, without_bracket, without_wikilink}
 use Rattle.markdown_brackets.specs.ReadChain.{Reader, begun, closing_of, read, read_as, read_chain}
@@ -22,7 +22,7 @@ use Rattle.markdown_brackets.proofs.LeftListLemmas.{same_before_footnote, split_
 use Rattle.markdown_brackets.proofs.ReadChainLemmas.{Reads, chain_keeps}
 
 -- what is added after a tree does not change how the trees begin: so a rule that adds more trees keeps the first one
-pub begins_onto : {A : Type 0} (test : Shape → Bool) (left : List (Entry A)) (one other : Forest (Label A))
+pub begins_onto : {A : Type 0} (test : Shape → Bool) (left : List (Entry A)) (one other : Forest (TreeNode A))
     → (BeginsWith test one → BeginsWith test other)
     → BeginsWith test (trees_onto left one) → BeginsWith test (trees_onto left other)
 begins_onto test [] one other k h = k h
@@ -31,7 +31,7 @@ begins_onto test (done a below ∷ left) one other k h = begins_onto test left (
 begins_onto test (waits m a ∷ left) one other k h = begins_onto test left (node a nil one) (node a nil other)
     (λ first. first) h
 
-module _ {A : Type 0} (w : Around) (test : Shape → Bool) (events : (e : EventView) (origins : List Origin)
+module _ {A : Type 0} (w : BracketContext) (test : Shape → Bool) (events : (e : EventView) (origins : List Origin)
     → test (leaf e origins) ≡ true) (tags : (tag : TagView) → test (enclosed tag) ≡ true) where
   -- the first tree of a left list passes, or this is true where there is none
   abbrev First : Bool → List (Entry A) → Type 0
@@ -39,18 +39,18 @@ module _ {A : Type 0} (w : Around) (test : Shape → Bool) (events : (e : EventV
   First none (done a below ∷ left) = First (test a.part.shape) left
   First none (waits m a ∷ left) = First (test a.part.shape) left
 
-  abbrev begins : Forest (Label A) → Bool
+  abbrev begins : Forest (TreeNode A) → Bool
   begins nil = false
   begins (node a below after) = test a.part.shape
 
-  first-from_trees : (left : List (Entry A)) (later : Forest (Label A)) → BeginsWith test (trees_onto left later)
+  first-from_trees : (left : List (Entry A)) (later : Forest (TreeNode A)) → BeginsWith test (trees_onto left later)
       → First (begins later) left
   first-from_trees [] nil h = absurd h
   first-from_trees [] (node a below after) h = h
   first-from_trees (done a below ∷ left) later h = first-from_trees left (node a below later) h
   first-from_trees (waits m a ∷ left) later h = first-from_trees left (node a nil later) h
 
-  first-trees : (left : List (Entry A)) (later : Forest (Label A)) → First (begins later) left
+  first-trees : (left : List (Entry A)) (later : Forest (TreeNode A)) → First (begins later) left
       → BeginsWith test (trees_onto left later)
   first-trees [] nil h = cc h
   first-trees [] (node a below after) h = h
@@ -81,19 +81,19 @@ module _ {A : Type 0} (w : Around) (test : Shape → Bool) (events : (e : EventV
   abbrev IsFirstAt : Split A → Type 0
   IsFirstAt o = First (test o.opener.part.shape) o.before
 
-  first_split : (none : Bool) (after before : List (Entry A)) (m : Mark) (a : Label A)
+  first_split : (none : Bool) (after before : List (Entry A)) (m : OpenerState) (a : TreeNode A)
       → First none (after ++ waits m a ∷ before) → First (test a.part.shape) before
   first_split none [] before m a h = h
   first_split none (done b below ∷ after) before m a h = first_split (test b.part.shape) after before m a h
   first_split none (waits n b ∷ after) before m a h = first_split (test b.part.shape) after before m a h
 
-  first_nearest : (opens : Mark → Bool) (left : List (Entry A)) (o : Split A) → nearest opens left ≡ Some o
+  first_nearest : (opens : OpenerState → Bool) (left : List (Entry A)) (o : Split A) → nearest opens left ≡ Some o
       → First true left → IsFirstAt o
   first_nearest opens left o e h =
-      first_split true o.after o.before o.mark o.opener (subst (First true) (split_at opens left o e) h)
+      first_split true o.after o.before o.state o.opener (subst (First true) (split_at opens left o e) h)
 
   module _ (c : Closing A) where
-    first_footnote : (is_image : Bool) (a : Label A) (name : List ℕ) (none : Bool) (before : List (Entry A))
+    first_footnote : (is_image : Bool) (a : TreeNode A) (name : List ℕ) (none : Bool) (before : List (Entry A))
         → First none before
         → First false (footnote_onto w c is_image a name before)
     first_footnote true a name none before h = first_or before (λ k. events _ _) h
@@ -107,10 +107,10 @@ module _ {A : Type 0} (w : Around) (test : Shape → Bool) (events : (e : EventV
       text = λ left h. first_or left (λ k. events _ _) h;
       link = λ left o target end h found live.
           let at = first_nearest opens_bracket left o found h in
-          same_before_link first_marked o.mark.is_image o.before _ (first_or o.before (λ k. tags _) at);
+          same_before_link first_marked o.state.is_image o.before _ (first_or o.before (λ k. tags _) at);
       footnote = λ left o name h found live.
           let at = first_nearest opens_bracket left o found h in
-          first_footnote o.mark.is_image o.opener name _ (before_footnote o.before)
+          first_footnote o.state.is_image o.opener name _ (before_footnote o.before)
           (same_before_footnote first_marked o.before _ at);
       wikilink = λ left o v end h found live is.
           let at = first_nearest opens_wikilink left o found h in
@@ -119,17 +119,17 @@ module _ {A : Type 0} (w : Around) (test : Shape → Bool) (events : (e : EventV
 
   module _ (others : Reader A) (rule : BeginsSo test others) where
     -- an open item puts a first tree
-    first_put : (b : ItemBody) (a : Label A) (below rest : Forest (Label A)) (known : Known)
+    first_put : (b : ItemBody) (a : TreeNode A) (below rest : Forest (TreeNode A)) (state : ReferenceState)
         → is_unresolved a.part.shape ≡ true
-        → First false (read_as w others b a below rest (begun known)).left
-    first_put body.MaybeLinkOpen a below rest known h = events _ _
-    first_put body.MaybeImage a below rest known h = events _ _
-    first_put (body.MaybeLinkClose could) a below rest known h =
-        in_each_case w (closing_of could a rest (begun known)) (First true) (First false)
-        (first_cases (closing_of could a rest (begun known)))
-        (begun known) refl
-    first_put other a below rest known h = first-from_trees (others a below rest (begun known)).left nil
-        (rule.puts a below rest known h)
+        → First false (read_as w others b a below rest (begun state)).left
+    first_put body.MaybeLinkOpen a below rest state h = events _ _
+    first_put body.MaybeImage a below rest state h = events _ _
+    first_put (body.MaybeLinkClose could) a below rest state h =
+        in_each_case w (closing_of could a rest (begun state)) (First true) (First false)
+        (first_cases (closing_of could a rest (begun state)))
+        (begun state) refl
+    first_put other a below rest state h = first-from_trees (others a below rest (begun state)).left nil
+        (rule.puts a below rest state h)
 
     -- and each later item keeps one
     first_reads : Reads w others (λ chain p. First false p.left)
@@ -144,14 +144,16 @@ module _ {A : Type 0} (w : Around) (test : Shape → Bool) (events : (e : EventV
       cuts = λ i a below rest p h. h;
     }
 
-    pub read_begins : (a : Label A) (below rest : Forest (Label A)) (known : Known) → is_unresolved a.part.shape ≡ true
-        → BeginsWith test (trees_of (read_chain w others (node a below rest) (begun known)))
+    pub read_begins : (a : TreeNode A) (below rest : Forest (TreeNode A)) (state : ReferenceState)
+        → is_unresolved a.part.shape ≡ true
+        → BeginsWith test (trees_of (read_chain w others (node a below rest) (begun state)))
     unfolding read_chain
-    read_begins a below rest known h =
-        let first : Progress A = read w others a below rest (begun known) in
+    read_begins a below rest state h =
+        let first : Progress A = read w others a below rest (begun state) in
         first-trees (read_chain w others rest first).left nil
-        (chain_keeps first_reads rest first (first_put (open_body a.part.shape) a below rest known h))
+        (chain_keeps first_reads rest first (first_put (open_body a.part.shape) a below rest state h))
 
 pub begins_law : {A : Type 0} → BeginsLaw A
-begins_law w others test events tags rule a below rest known h = read_begins w test events tags others rule a below rest
-    known h
+begins_law w others test events tags rule a below rest state h = read_begins w test events tags others rule a below
+    rest
+    state h

@@ -11,7 +11,8 @@ use Rattle.markdown_base.specs.declared.tag.LinkType.TheVariants as kind
 use Rattle.markdown_document.specs.Document.{as_text}
 use Rattle.markdown_document.specs.ChainRest.{start_of, end_of}
 use Rattle.markdown_brackets.specs.BracketOptions.{footnote_style}
-use Rattle.markdown_brackets.specs.BracketDecision.{Around, Closing, Written, LinkReference, Progress, Wikilink, a_link}
+use Rattle.markdown_brackets.specs.BracketDecision.{BracketContext, Closing, Written, LinkReference, Progress, Wikilink}
+use Rattle.markdown_brackets.specs.BracketDecision.{a_link}
 use Rattle.markdown_brackets.specs.BracketDecision.{a_text, block_text, bracket_found, carried_out, closer_ends_at}
 use Rattle.markdown_brackets.specs.BracketDecision.{decided, footnote_label, footnote_written, form_of, found, full}
 use Rattle.markdown_brackets.specs.BracketDecision.{inline_link, inline_target, label_of_opener, left_for_one, lines}
@@ -61,7 +62,7 @@ pub record Stays {A : Type 0} (q : List (Entry A) → Type 0) : Type 0 where
   pub bracket : (left : List (Entry A)) → q left → q (bracket_taken left)
   pub wikilink : (left : List (Entry A)) → q left → q (wikilink_taken left)
 
-module _ {A : Type 0} (w : Around) (c : Closing A) where
+module _ {A : Type 0} (w : BracketContext) (c : Closing A) where
   -- a full reference, whose label follows the `]`
   pub record IsFull (r : LinkReference) : Type 0 where
     pub form : form_of w c ≡ reference r.label r.end
@@ -71,24 +72,24 @@ module _ {A : Type 0} (w : Around) (c : Closing A) where
   -- one whose label ends with the `]`
   pub record IsOwn (r : LinkReference) : Type 0 where
     pub could : c.could_be_reference ≡ true
-    pub end : r.end ≡ end_of c.label
+    pub end : r.end ≡ end_of c.node
     pub spends : r.spends ≡ []
-    pub form : ((r.link_type ≡ kind.Collapsed) × (r.next ≡ end_of c.label + 2) × (form_of w c ≡ collapsed))
-        ⊎ ((r.link_type ≡ kind.Shortcut) × (r.next ≡ end_of c.label))
+    pub form : ((r.link_type ≡ kind.Collapsed) × (r.next ≡ end_of c.node + 2) × (form_of w c ≡ collapsed))
+        ⊎ ((r.link_type ≡ kind.Shortcut) × (r.next ≡ end_of c.node))
 
   -- what is to hold of what is written from an opener on
   pub record WrittenCases (o : Split A) (p : Written A → Type 0) : Type 0 where
-    pub inline : (t : LinkTail) → link_tail (lines w) (start_of_first_past c.rest) (block_text w) (end_of c.label)
+    pub inline : (t : LinkTail) → link_tail (lines w) (start_of_first_past c.rest) (block_text w) (end_of c.node)
         ≡ Some t
         → p (inline_link o t)
     pub refers : (r : LinkReference) → IsFull r ⊎ IsOwn r → p (link_reference o r)
     pub footnote : (name : List ℕ) → p (footnote_label o name)
 
   own_cases : (o : Split A) (p : Written A → Type 0) → WrittenCases o p → (link_type : LinkType) (next : ℕ)
-      → ((link_type ≡ kind.Collapsed) × (next ≡ end_of c.label + 2) × (form_of w c ≡ collapsed))
-      ⊎ ((link_type ≡ kind.Shortcut) × (next ≡ end_of c.label))
-      → IfSome (option_and_then (own_written w o link_type (end_of c.label) next) (label_of_opener w c o)) p
-  own_cases o p k link_type next form = if_then p (own_written w o link_type (end_of c.label) next)
+      → ((link_type ≡ kind.Collapsed) × (next ≡ end_of c.node + 2) × (form_of w c ≡ collapsed))
+      ⊎ ((link_type ≡ kind.Shortcut) × (next ≡ end_of c.node))
+      → IfSome (option_and_then (own_written w o link_type (end_of c.node) next) (label_of_opener w c o)) p
+  own_cases o p k link_type next form = if_then p (own_written w o link_type (end_of c.node) next)
       (label_of_opener w c o)
       (λ l is. by_label l l.is_footnote (could_be c.could_be_reference _ l is))
     where
@@ -100,7 +101,7 @@ module _ {A : Type 0} (w : Around) (c : Closing A) where
           → IfSome (if is_footnote then footnote_written w o l.name else Some (link_reference o (record {
             link_type = link_type;
             label = l.name;
-            end = end_of c.label;
+            end = end_of c.node;
             next = next;
             spends = [];
           }))) p
@@ -110,21 +111,21 @@ module _ {A : Type 0} (w : Around) (c : Closing A) where
       by_label l false could = k.refers _ (inr (record { could = could; end = refl; spends = refl; form = form }))
 
   reference_cases : (o : Split A) (p : Written A → Type 0) → WrittenCases o p → (form : Form) → form_of w c ≡ form
-      → IfSome (reference_written w o (end_of c.label) (λ i. closer_ends_at i c.rest) (label_of_opener w c o) form) p
+      → IfSome (reference_written w o (end_of c.node) (λ i. closer_ends_at i c.rest) (label_of_opener w c o) form) p
   reference_cases o p k (reference label to) e =
       if_test p (closer_ends_at to c.rest) (Some (link_reference o (full label to)))
       (λ closes. k.refers (full label to) (inl (record { form = e; closes = closes; is = refl })))
-  reference_cases o p k collapsed e = own_cases o p k kind.Collapsed (end_of c.label + 2) (inl (refl, refl, e))
-  reference_cases o p k shortcut e = own_cases o p k kind.Shortcut (end_of c.label) (inr (refl, refl))
+  reference_cases o p k collapsed e = own_cases o p k kind.Collapsed (end_of c.node + 2) (inl (refl, refl, e))
+  reference_cases o p k shortcut e = own_cases o p k kind.Shortcut (end_of c.node) (inr (refl, refl))
 
   -- it holds of what is found from an opener on
-  pub bracket_cases : (o : Split A) (p : Written A → Type 0) → (is_live o.mark.bracket ≡ true → WrittenCases o p)
+  pub bracket_cases : (o : Split A) (p : Written A → Type 0) → (is_live o.state.bracket ≡ true → WrittenCases o p)
       → IfSome (bracket_found w c o) p
-  bracket_cases o p k = if_test p (is_live o.mark.bracket) (written w c o) (λ live.
+  bracket_cases o p k = if_test p (is_live o.state.bracket) (written w c o) (λ live.
       if_or p (option_map (inline_link o)
-      (link_tail (lines w) (start_of_first_past c.rest) (block_text w) (end_of c.label)))
-      (reference_written w o (end_of c.label) (λ i. closer_ends_at i c.rest) (label_of_opener w c o) (form_of w c))
-      (if_map p (inline_link o) (link_tail (lines w) (start_of_first_past c.rest) (block_text w) (end_of c.label))
+      (link_tail (lines w) (start_of_first_past c.rest) (block_text w) (end_of c.node)))
+      (reference_written w o (end_of c.node) (λ i. closer_ends_at i c.rest) (label_of_opener w c o) (form_of w c))
+      (if_map p (inline_link o) (link_tail (lines w) (start_of_first_past c.rest) (block_text w) (end_of c.node))
       (k live).inline)
       (reference_cases o p (k live) (form_of w c) refl))
 
@@ -139,12 +140,13 @@ module _ {A : Type 0} (w : Around) (c : Closing A) where
 
     -- it holds of what is found at the `]`
     pub found_cases : (p : Written A → Type 0) (second : Option ℕ)
-        → ((left : List (Entry A)) (o : Split A) → q left → nearest opens_bracket left ≡ Some o → is_live o.mark.bracket
+        → ((left : List (Entry A)) (o : Split A) → q left → nearest opens_bracket left ≡ Some o
+        → is_live o.state.bracket
         ≡ true
         → WrittenCases o p)
         → ((left : List (Entry A)) (o : Split A) (v : Wikilink A) (end : ℕ) → q left → nearest opens_wikilink left
         ≡ Some o
-        → is_live o.mark.wikilink ≡ true → wikilink_in w (past_second (inside o)) (start_of c.label) ≡ Some v → second
+        → is_live o.state.wikilink ≡ true → wikilink_in w (past_second (inside o)) (start_of c.node) ≡ Some v → second
         ≡ Some end
         → p (wikilink o v end))
         → (left : List (Entry A)) → q left → IfSome (found w c second left) p
@@ -153,31 +155,32 @@ module _ {A : Type 0} (w : Around) (c : Closing A) where
         (if_then p (λ end. option_and_then (wikilink_found w c end) (nearest opens_wikilink (bracket_taken left)))
         second (λ end s.
         if_then p (wikilink_found w c end) (nearest opens_wikilink (bracket_taken left)) (λ o e.
-        if_test p (is_live o.mark.wikilink) _ (λ live.
-        if_map p (λ v. wikilink o v end) (wikilink_in w (past_second (inside o)) (start_of c.label)) (λ v is.
+        if_test p (is_live o.state.wikilink) _ (λ live.
+        if_map p (λ v. wikilink o v end) (wikilink_in w (past_second (inside o)) (start_of c.node)) (λ v is.
         wikilinks (bracket_taken left) o v end (stays.bracket left h) e live is s)))))
         (if_then p (bracket_found w c) (nearest opens_bracket (left_for_one second left)) (λ o e.
         bracket_cases o p (λ live. brackets (left_for_one second left) o (one_stays second left h) e live)))
 
 -- `q` holds of the left list before, and `p` is to hold of it after
-pub record Cases {A : Type 0} (w : Around) (c : Closing A) (q p : List (Entry A) → Type 0) : Type 0 where
+pub record Cases {A : Type 0} (w : BracketContext) (c : Closing A) (q p : List (Entry A) → Type 0) : Type 0 where
   pub bracket_goes : (left : List (Entry A)) → q left → q (bracket_taken left)
   pub wikilink_goes : (left : List (Entry A)) → q left → q (wikilink_taken left)
-  pub text : (left : List (Entry A)) → q left → p (done (as_text w.setting.text c.label) nil ∷ left)
+  pub text : (left : List (Entry A)) → q left → p (done (as_text w.setting.text c.node) nil ∷ left)
   pub link : (left : List (Entry A)) (o : Split A) (target : LinkView) (end : ℕ) → q left → nearest opens_bracket left
       ≡ Some o
-      → is_live o.mark.bracket ≡ true
-      → p (done (linked o target end) (inside o) ∷ before_link o.mark.is_image o.before)
+      → is_live o.state.bracket ≡ true
+      → p (done (linked o target end) (inside o) ∷ before_link o.state.is_image o.before)
   pub footnote : (left : List (Entry A)) (o : Split A) (name : List ℕ) → q left → nearest opens_bracket left ≡ Some o
-      → is_live o.mark.bracket ≡ true
-      → p (footnote_onto w c o.mark.is_image o.opener name (before_footnote o.before))
+      → is_live o.state.bracket ≡ true
+      → p (footnote_onto w c o.state.is_image o.opener name (before_footnote o.before))
   pub wikilink : (left : List (Entry A)) (o : Split A) (v : Wikilink A) (end : ℕ) → q left → nearest opens_wikilink left
       ≡ Some o
-      → is_live o.mark.wikilink ≡ true
-      → wikilink_in w (past_second (inside o)) (start_of c.label) ≡ Some v
+      → is_live o.state.wikilink ≡ true
+      → wikilink_in w (past_second (inside o)) (start_of c.node) ≡ Some v
       → p (done (linked o (wikilink_target v) end) v.children ∷ before_wikilink o.before)
 
-module _ {A : Type 0} (w : Around) (c : Closing A) (before after : List (Entry A) → Type 0) (k : Cases w c before after)
+module _ {A : Type 0} (w : BracketContext) (c : Closing A) (before after : List (Entry A) → Type 0)
+    (k : Cases w c before after)
   where
     pub in_each_case : (p : Progress A) → before p.left → after (closed w c p).left
     unfolding closed decided
@@ -188,7 +191,7 @@ module _ {A : Type 0} (w : Around) (c : Closing A) (before after : List (Entry A
           inline = λ t is. k.link left o (inline_target w t) t.ends h e live;
           refers = λ r way.
               let rules = w.setting.rules in
-              let result = look_up rules.definitions rules.asks p.known.limit p.known.answers (question_at o r) in
+              let result = look_up rules.definitions rules.asks p.state.limit p.state.answers (question_at o r) in
               refers left o r h e live result.target (looked_up o r result now).progress goes;
           footnote = λ name. k.footnote left o name h e live;
         })
@@ -211,7 +214,7 @@ module _ {A : Type 0} (w : Around) (c : Closing A) (before after : List (Entry A
 
         refers : (left : List (Entry A)) (o : Split A) (r : LinkReference) → before left → nearest opens_bracket left
             ≡ Some o
-            → is_live o.mark.bracket ≡ true → (target : Option LinkView) (p : Progress A) → before p.left
+            → is_live o.state.bracket ≡ true → (target : Option LinkView) (p : Progress A) → before p.left
             → after (put w c (unwrap_or (option_map (λ t. a_link o t r.end r.next) target) a_text) p).left
         refers left o r h e live None p g = k.text p.left g
         refers left o r h e live (Some t) p g = k.link left o t r.end h e live

@@ -21,7 +21,8 @@ use Rattle.markdown_defs.specs.Definitions.{Labelled}
 use Rattle.markdown_defs.specs.Folding.{is_match}
 use Rattle.markdown_defs.specs.Footnotes.{footnote_at}
 use Rattle.markdown_defs.specs.FootnoteCounts as footnotes
-use Rattle.markdown_brackets.specs.BracketDecision.{Around, Becomes, Written, LinkReference, Progress, a_text, a_link}
+use Rattle.markdown_brackets.specs.BracketDecision.{BracketContext, Becomes, Written, LinkReference, Progress, a_text}
+use Rattle.markdown_brackets.specs.BracketDecision.{a_link}
 use Rattle.markdown_brackets.specs.BracketDecision.{a_footnote, carried_out, footnote_label, footnote_written}
 use Rattle.markdown_brackets.specs.BracketDecision.{inline_link, inline_target, link_reference, looked_up, question_at}
 use Rattle.markdown_brackets.specs.BracketDecision.{to_be, uses_once_more}
@@ -33,7 +34,7 @@ use Rattle.markdown_brackets.specs.LinkTail as scanned
 use Rattle.markdown_brackets.specs.LinkTailView.{IsTail, ReadsTail}
 use Rattle.markdown_brackets.specs.Lookup.{LookedUp, answered, look_up, unknown}
 use Rattle.markdown_brackets.specs.LookupView.{LooksUp}
-use Rattle.markdown_brackets.specs.StandsAt.{Spends, ComesTo, around_by, reference_to}
+use Rattle.markdown_brackets.specs.StandsAt.{Spends, ComesTo, bracket_context_by, reference_to}
 use Rattle.markdown_brackets.specs.SpentEnds.{is_spent}
 use Rattle.markdown_brackets.specs.TargetOrigins.{IsLookedUp, IsTargetFrom}
 use Rattle.markdown_brackets.specs.declared.closing_bracket.ClosedBracket.{ClosedBracket}
@@ -79,7 +80,7 @@ none_from source start end target h = by target.link_type h
     by kind.Inline h = absurd h
     by other h = tt
 
-module _ {C : Type 0} (step : C → Question → Option Answer → C → Type 0) (w : Around) (old : LabelLookup C)
+module _ {C : Type 0} (step : C → Question → Option Answer → C → Type 0) (w : BracketContext) (old : LabelLookup C)
     (spent : SpentEnds) where
   -- where nobody is asked and no end is used up
   comes_unasked : (new : LabelLookup C) (x : Option (Written ℕ)) (becomes : Becomes ℕ) (found : ClosedBracket)
@@ -117,7 +118,8 @@ module _ {C : Type 0} (step : C → Question → Option Answer → C → Type 0)
       (a_link o (inline_target w t) t.ends t.ends) found refl (λ p later. refl) (is t reads)
 
 -- by another name of what was found
-pub found_as : {C : Type 0} {step : C → Question → Option Answer → C → Type 0} {w : Around} {old new : LabelLookup C}
+pub found_as : {C : Type 0} {step : C → Question → Option Answer → C
+    → Type 0} {w : BracketContext} {old new : LabelLookup C}
     {spent spent' : SpentEnds} {found : ClosedBracket} {x y : Option (Written ℕ)} → x ≡ y
     → ComesTo step w x old new spent spent' found
     → ComesTo step w y old new spent spent' found
@@ -133,8 +135,8 @@ spends_end end spent spent' put other = put other ∙ rw (same_test end other, o
 
 module _ {C : Type 0} (step : C → Question → Option Answer → C → Type 0) (place : ChainPlace) (skipped : List ℕ → ℕ)
     (bodies : List ItemBody) (old new : LabelLookup C) (o : Split ℕ) where
-  abbrev w : Around
-  w = around_by place skipped bodies old
+  abbrev w : BracketContext
+  w = bracket_context_by place skipped bodies old
 
   -- a label that was looked up
   abbrev pub link_or_text : (end next : ℕ) → Option LinkView → Becomes ℕ

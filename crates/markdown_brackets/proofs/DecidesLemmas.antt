@@ -8,8 +8,9 @@ use Rattle.markdown_base.specs.BlockTree.{item_at}
 use Rattle.markdown_base.specs.Questions.{Question, Answer}
 use Rattle.markdown_base.specs.declared.item.Item.{Item}
 use Rattle.markdown_base.specs.declared.node.Node.{Node}
-use Rattle.markdown_document.specs.Setting.{Known, uses_of}
-use Rattle.markdown_brackets.specs.BracketDecision.{Around, Closing, Decision, Progress, a_wikilink, bracket_found}
+use Rattle.markdown_document.specs.Setting.{ReferenceState, uses_of}
+use Rattle.markdown_brackets.specs.BracketDecision.{BracketContext, Closing, Decision, Progress, a_wikilink}
+use Rattle.markdown_brackets.specs.BracketDecision.{bracket_found}
 use Rattle.markdown_brackets.specs.BracketDecision.{to_be}
 use Rattle.markdown_brackets.specs.Decides.{Decides, StandsBefore}
 use Rattle.markdown_brackets.specs.DecisionView.{knowing}
@@ -31,7 +32,7 @@ use Rattle.markdown_brackets.proofs.SplitLemmas.{opener_splits, taken_splits}
 use Rattle.markdown_brackets.proofs.TakeWikilinkLemmas.{closer_found, opener_holds, rest_brackets, rest_found, rest_of}
 use Rattle.markdown_brackets.proofs.TakeWikilinkLemmas.{left_of, IsNearest, TakenOff, is_nearest}
 
-module _ {C : Type 0} (step : C → Question → Option Answer → C → Type 0) (w : Around) (c : Closing ℕ)
+module _ {C : Type 0} (step : C → Question → Option Answer → C → Type 0) (w : BracketContext) (c : Closing ℕ)
     (left : List (Entry ℕ))
     (lookup : LabelLookup C) (spent : SpentEnds)
     (taken : Option (Opener × Bool)) (old new held : List Waiting) (old_is : old ≡ brackets_of left)
@@ -74,7 +75,7 @@ module _ {C : Type 0} (step : C → Question → Option Answer → C → Type 0)
     is = h.is;
     left_then = bracket_taken t.left_then;
     splits =
-        let none : Known = record { limit = 0; answers = []; uses = λ name. 0 } in
+        let none : ReferenceState = record { limit = 0; answers = []; uses = λ name. 0 } in
         let start : Progress ℕ = begun none in
         rw (ap (λ (d : Decision ℕ). d.becomes) (h.comes start [])) at
         (opener_splits w c (bracket_taken t.left_then) (nearest opens_bracket t.left_then)
@@ -101,7 +102,7 @@ module _ {C : Type 0} (step : C → Question → Option Answer → C → Type 0)
         rest = there.holds;
         rest_found = found_at s.source s.tables nodes (sibling_of nodes closer) c.rest there;
         ends = rw s.number at
-            (same_end s.source s.tables nodes c.label (closer_found nodes closer left c s).holds.2);
+            (same_end s.source s.tables nodes c.node (closer_found nodes closer left c s).holds.2);
         could = could;
         openers = by taken (nearest opens_bracket t.left_then)
             (is_nearest for_bracket taken old new _ _ _ m (old_is ∙ sym t.brackets) (top_bracket t.left_then))
@@ -112,7 +113,7 @@ module _ {C : Type 0} (step : C → Question → Option Answer → C → Type 0)
           → IfSome o (SplitsAt t.left_then) → AreTaken nodes taken o
       by None None k splits = tt
       by (Some k) (Some o) is splits =
-          let number : k.0.node ≡ o.opener.tag = ap (λ (p : Opener). p.node) is.0 in
+          let number : k.0.node ≡ o.opener.note = ap (λ (p : Opener). p.node) is.0 in
           let here = opener_holds nodes closer left c s t.left_then t.trees o splits in
           record {
             opener = is.0;

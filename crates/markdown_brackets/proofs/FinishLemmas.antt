@@ -8,17 +8,19 @@ use Rattle.markdown_base.specs.Arena.{sibling_of}
 use Rattle.markdown_base.specs.Forest.{Forest, nil, node, roots}
 use Rattle.markdown_base.specs.declared.item.Item.{Item}
 use Rattle.markdown_base.specs.declared.node.Node.{Node}
-use Rattle.markdown_document.specs.Document.{Label}
+use Rattle.markdown_document.specs.Document.{TreeNode}
 use Rattle.markdown_document.specs.Tables.{Tables}
-use Rattle.markdown_brackets.specs.BracketDecision.{Around, Becomes, Closing, Progress, a_footnote, a_link, a_text}
+use Rattle.markdown_brackets.specs.BracketDecision.{BracketContext, Becomes, Closing, Progress, a_footnote, a_link}
+use Rattle.markdown_brackets.specs.BracketDecision.{a_text}
 use Rattle.markdown_brackets.specs.BracketDecision.{a_wikilink}
 use Rattle.markdown_brackets.specs.ChainHeld.{Holds, numbers_of}
 use Rattle.markdown_brackets.specs.ClosingBracket.{footnote_onto, put}
 use Rattle.markdown_brackets.specs.DecisionView.{IsBecome}
 use Rattle.markdown_brackets.specs.Decides.{EachOpener, StandsBefore}
-use Rattle.markdown_brackets.specs.Finish.{AreBehind, AreRising, IsSplit, LeftRises, SplitsAs}
-use Rattle.markdown_brackets.specs.LeftList.{Entry, Flag, Mark, Split, before_footnote, before_link, before_wikilink}
-use Rattle.markdown_brackets.specs.LeftList.{disabled, disabled_flag, disabled_mark, done, gone, on_marks}
+use Rattle.markdown_brackets.specs.Finish.{AreNumbersAfter, AreRising, IsSplit, LeftRises, SplitsAs}
+use Rattle.markdown_brackets.specs.LeftList.{Entry, Flag, OpenerState, Split, before_footnote, before_link}
+use Rattle.markdown_brackets.specs.LeftList.{before_wikilink}
+use Rattle.markdown_brackets.specs.LeftList.{disabled, disabled_flag, disabled_state, done, gone, on_states}
 use Rattle.markdown_brackets.specs.LeftList.{second_folded, trees_onto, waits, without_bracket, without_wikilink}
 use Rattle.markdown_brackets.specs.HeldOpeners.{brackets_of, held_as, wikilinks_of}
 use Rattle.markdown_brackets.specs.Openers.{Waiting, before}
@@ -48,25 +50,25 @@ first_each P [] opener e h = let none = e in cc
 first_each P (t ∷ held) opener e h = let same : t.opener ≡ opener = cc in subst (λ (o : Opener). P o.node) same h.0
 
 -- the openers of a left list by one of their flags
-abbrev held_by : (Mark → Flag) → List (Entry ℕ) → List Waiting
+abbrev held_by : (OpenerState → Flag) → List (Entry ℕ) → List Waiting
 held_by flag [] = []
 held_by flag (done a below ∷ left) = held_by flag left
-held_by flag (waits m a ∷ left) = held_as a.tag m.is_image (flag m) (held_by flag left)
+held_by flag (waits m a ∷ left) = held_as a.note m.is_image (flag m) (held_by flag left)
 
 brackets_by : (left : List (Entry ℕ)) → brackets_of left ≡ held_by for_bracket left
 brackets_by [] = refl
 brackets_by (done a below ∷ left) = brackets_by left
-brackets_by (waits m a ∷ left) = ap (held_as a.tag m.is_image m.bracket) (brackets_by left)
+brackets_by (waits m a ∷ left) = ap (held_as a.note m.is_image m.bracket) (brackets_by left)
 
 wikilinks_by : (left : List (Entry ℕ)) → wikilinks_of left ≡ held_by for_wikilink left
 wikilinks_by [] = refl
 wikilinks_by (done a below ∷ left) = wikilinks_by left
-wikilinks_by (waits m a ∷ left) = ap (held_as a.tag m.is_image m.wikilink) (wikilinks_by left)
+wikilinks_by (waits m a ∷ left) = ap (held_as a.note m.is_image m.wikilink) (wikilinks_by left)
 
 -- the number of an entry
 abbrev number_of : Entry ℕ → ℕ
-number_of (done a below) = a.tag
-number_of (waits m a) = a.tag
+number_of (done a below) = a.note
+number_of (waits m a) = a.note
 
 -- all numbers are greater than this one
 abbrev AreAfter : ℕ → List (Entry ℕ) → Type 0
@@ -82,32 +84,33 @@ LinksOn nodes n (e ∷ left) = (number_of e < n) × (sibling_of nodes (number_of
 -- numbers that rise
 -- a fact of the numbers of all trees is one of those that are later
 numbers_from : (P : List ℕ → Type 0) → ((m : ℕ) (numbers : List ℕ) → P (m ∷ numbers) → P numbers)
-    → (left : List (Entry ℕ)) (f : Forest (Label ℕ)) → P (roots (numbers_of (trees_onto left f)))
+    → (left : List (Entry ℕ)) (f : Forest (TreeNode ℕ)) → P (roots (numbers_of (trees_onto left f)))
     → P (roots (numbers_of f))
 numbers_from P later [] f h = h
 numbers_from P later (done a below ∷ left) f h = later _ _ (numbers_from P later left (node a below f) h)
 numbers_from P later (waits m a ∷ left) f h = later _ _ (numbers_from P later left (node a nil f) h)
 
-rising_from : (left : List (Entry ℕ)) (f : Forest (Label ℕ)) → AreRising (roots (numbers_of (trees_onto left f)))
+rising_from : (left : List (Entry ℕ)) (f : Forest (TreeNode ℕ)) → AreRising (roots (numbers_of (trees_onto left f)))
     → AreRising (roots (numbers_of f))
 rising_from = numbers_from AreRising (λ m numbers h. h.1)
 
-behind : (n : ℕ) (left : List (Entry ℕ)) (f : Forest (Label ℕ)) → AreBehind n (roots (numbers_of (trees_onto left f)))
-    → AreBehind n (roots (numbers_of f))
-behind n = numbers_from (AreBehind n) (λ m numbers h. h.1)
+after : (n : ℕ) (left : List (Entry ℕ)) (f : Forest (TreeNode ℕ)) → AreNumbersAfter n (roots (numbers_of
+    (trees_onto left f)))
+    → AreNumbersAfter n (roots (numbers_of f))
+after n = numbers_from (AreNumbersAfter n) (λ m numbers h. h.1)
 
-after_all : (n : ℕ) (left : List (Entry ℕ)) (f : Forest (Label ℕ))
-    → AreBehind n (roots (numbers_of (trees_onto left f))) → AreAfter n left
+after_all : (n : ℕ) (left : List (Entry ℕ)) (f : Forest (TreeNode ℕ))
+    → AreNumbersAfter n (roots (numbers_of (trees_onto left f))) → AreAfter n left
 after_all n [] f h = tt
-after_all n (done a below ∷ left) f h = ((behind n left (node a below f) h).0, after_all n left (node a below f) h)
-after_all n (waits m a ∷ left) f h = ((behind n left (node a nil f) h).0, after_all n left (node a nil f) h)
+after_all n (done a below ∷ left) f h = ((after n left (node a below f) h).0, after_all n left (node a below f) h)
+after_all n (waits m a ∷ left) f h = ((after n left (node a nil f) h).0, after_all n left (node a nil f) h)
 
 -- each node of the left list leads to the next
 links_on : (source : List ℕ) (tables : Tables) (nodes : List (Node Item)) (first : Option ℕ) (left : List (Entry ℕ))
-    (a : Label ℕ)
-    (below later below' later' : Forest (Label ℕ))
+    (a : TreeNode ℕ)
+    (below later below' later' : Forest (TreeNode ℕ))
     → Holds source tables nodes first (trees_onto left (node a below later))
-    → AreRising (roots (numbers_of (trees_onto left (node a below' later')))) → LinksOn nodes a.tag left
+    → AreRising (roots (numbers_of (trees_onto left (node a below' later')))) → LinksOn nodes a.note left
 links_on source tables nodes first [] a below later below' later' h r = tt
 links_on source tables nodes first (done b under ∷ left) a below later below' later' h r =
     let at = Holds-from source tables nodes first left (node b under (node a below later)) h in
@@ -136,31 +139,32 @@ stays : (n number : ℕ) (is_image : Bool) (f : Flag) (held : List Waiting) → 
 stays n number is_image gone held lt e = e
 stays n number is_image other held lt e = rw (lt_false n number lt) refl
 
-goes_all : (flag : Mark → Flag) (n : ℕ) (after left : List (Entry ℕ)) → AreAfter n after
+goes_all : (flag : OpenerState → Flag) (n : ℕ) (after left : List (Entry ℕ)) → AreAfter n after
     → before n (held_by flag (after ++ left))
     ≡ before n (held_by flag left)
 goes_all flag n [] left h = refl
 goes_all flag n (done a below ∷ after) left h = goes_all flag n after left h.1
 goes_all flag n (waits m a ∷ after) left h =
-    goes n a.tag m.is_image (flag m) (held_by flag (after ++ left)) (omega (arith, h.0))
+    goes n a.note m.is_image (flag m) (held_by flag (after ++ left)) (omega (arith, h.0))
     ∙ goes_all flag n after left h.1
 
-stays_all : (flag : Mark → Flag) (nodes : List (Node Item)) (n next : ℕ) (left : List (Entry ℕ))
+stays_all : (flag : OpenerState → Flag) (nodes : List (Node Item)) (n next : ℕ) (left : List (Entry ℕ))
     → LinksOn nodes next left → next ≤ n
     → before n (held_by flag left) ≡ held_by flag left
 stays_all flag nodes n next [] h le = refl
-stays_all flag nodes n next (done a below ∷ left) h le = stays_all flag nodes n a.tag left h.2 (omega (arith, h.0, le))
+stays_all flag nodes n next (done a below ∷ left) h le = stays_all flag nodes n a.note left h.2 (omega (arith, h.0, le))
 stays_all flag nodes n next (waits m a ∷ left) h le =
-    stays n a.tag m.is_image (flag m) (held_by flag left) (omega (arith, h.0, le))
-    (stays_all flag nodes n a.tag left h.2 (omega (arith, h.0, le)))
+    stays n a.note m.is_image (flag m) (held_by flag left) (omega (arith, h.0, le))
+    (stays_all flag nodes n a.note left h.2 (omega (arith, h.0, le)))
 
-before_opener : (flag : Mark → Flag) (nodes : List (Node Item)) (m : Mark) (a : Label ℕ) (after left : List (Entry ℕ))
-    → AreAfter a.tag after → LinksOn nodes a.tag left
-    → before a.tag (held_by flag (after ++ waits m a ∷ left)) ≡ held_by flag left
+before_opener : (flag : OpenerState → Flag) (nodes : List (Node Item)) (m : OpenerState) (a : TreeNode ℕ)
+    (after left : List (Entry ℕ))
+    → AreAfter a.note after → LinksOn nodes a.note left
+    → before a.note (held_by flag (after ++ waits m a ∷ left)) ≡ held_by flag left
 before_opener flag nodes m a after left h links =
-    goes_all flag a.tag after (waits m a ∷ left) h
-    ∙ goes a.tag a.tag m.is_image (flag m) (held_by flag left) (omega arith)
-    ∙ stays_all flag nodes a.tag a.tag left links (omega arith)
+    goes_all flag a.note after (waits m a ∷ left) h
+    ∙ goes a.note a.note m.is_image (flag m) (held_by flag left) (omega arith)
+    ∙ stays_all flag nodes a.note a.note left links (omega arith)
 
 -- an opener that is not the last entry before a node leads not to it
 same_number : (n : ℕ) → (n == n) ≡ true
@@ -176,14 +180,15 @@ far_one : (nodes : List (Node Item)) (n next number : ℕ) (is_image : Bool) (f 
 far_one nodes n next number is_image gone held e lt rest = rest
 far_one nodes n next number is_image other held e lt rest = rw (e, other_number next n lt) refl
 
-far : (flag : Mark → Flag) (nodes : List (Node Item)) (n next : ℕ) (left : List (Entry ℕ)) → LinksOn nodes next left
+far : (flag : OpenerState → Flag) (nodes : List (Node Item)) (n next : ℕ) (left : List (Entry ℕ))
+    → LinksOn nodes next left
     → next < n
     → without_second nodes n (held_by flag left) ≡ held_by flag left
 far flag nodes n next [] h lt = refl
-far flag nodes n next (done a below ∷ left) h lt = far flag nodes n a.tag left h.2 (omega (arith, h.0, lt))
+far flag nodes n next (done a below ∷ left) h lt = far flag nodes n a.note left h.2 (omega (arith, h.0, lt))
 far flag nodes n next (waits m a ∷ left) h lt =
-    far_one nodes n next a.tag m.is_image (flag m) (held_by flag left) h.1 lt
-    (far flag nodes n a.tag left h.2 (omega (arith, h.0, lt)))
+    far_one nodes n next a.note m.is_image (flag m) (held_by flag left) h.1 lt
+    (far flag nodes n a.note left h.2 (omega (arith, h.0, lt)))
 
 -- the last one before it does
 near_one : (nodes : List (Node Item)) (n number : ℕ) (is_image : Bool) (f : Flag) (held : List Waiting)
@@ -197,12 +202,12 @@ near_one nodes n number is_image f held e rest none =
 second_gone : (nodes : List (Node Item)) (n : ℕ) (left : List (Entry ℕ)) → LinksOn nodes n left
     → without_second nodes n (held_by for_wikilink left) ≡ held_by for_wikilink (second_folded left)
 second_gone nodes n [] h = refl
-second_gone nodes n (done a below ∷ left) h = far for_wikilink nodes n a.tag left h.2 h.0
+second_gone nodes n (done a below ∷ left) h = far for_wikilink nodes n a.note left h.2 h.0
 second_gone nodes n (waits m a ∷ left) h =
-    near_one nodes n a.tag m.is_image m.wikilink (held_by for_wikilink left) h.1
-    (stays_all for_wikilink nodes a.tag a.tag left h.2
+    near_one nodes n a.note m.is_image m.wikilink (held_by for_wikilink left) h.1
+    (stays_all for_wikilink nodes a.note a.note left h.2
     (omega arith))
-    (far for_wikilink nodes n a.tag left h.2 h.0)
+    (far for_wikilink nodes n a.note left h.2 h.0)
 
 -- openers with other flags
 disabled_held : (number : ℕ) (is_image : Bool) (f : Flag) (held held' : List Waiting) → held'
@@ -215,8 +220,8 @@ disabled_held number false gone held held' e = e
 disabled_held number false f held held' e = ap (held_as number false disabled) e
 
 abbrev Disabled : List (Entry ℕ) → Type 0
-Disabled left = (brackets_of (on_marks disabled_mark left) ≡ map openers.disabled_opener (brackets_of left))
-    × (wikilinks_of (on_marks disabled_mark left) ≡ map openers.disabled_opener (wikilinks_of left))
+Disabled left = (brackets_of (on_states disabled_state left) ≡ map openers.disabled_opener (brackets_of left))
+    × (wikilinks_of (on_states disabled_state left) ≡ map openers.disabled_opener (wikilinks_of left))
 
 all_disabled : (left : List (Entry ℕ)) → Disabled left
 all_disabled [] = (refl, refl)
@@ -225,27 +230,27 @@ all_disabled (waits m a ∷ left) = by m.is_image m.bracket m.wikilink (all_disa
   where
     by : (i : Bool) (b w : Flag) → Disabled left
         → Disabled (waits (record { is_image = i; bracket = b; wikilink = w }) a ∷ left)
-    by true b w e = (disabled_held a.tag true b _ _ e.0, disabled_held a.tag true w _ _ e.1)
-    by false b w e = (disabled_held a.tag false b _ _ e.0, disabled_held a.tag false w _ _ e.1)
+    by true b w e = (disabled_held a.note true b _ _ e.0, disabled_held a.note true w _ _ e.1)
+    by false b w e = (disabled_held a.note false b _ _ e.0, disabled_held a.note false w _ _ e.1)
 
 brackets_folded : (left : List (Entry ℕ)) → brackets_of (second_folded left) ≡ brackets_of left
 brackets_folded [] = refl
 brackets_folded (done a below ∷ left) = refl
 brackets_folded (waits m a ∷ left) = refl
 
-no_brackets : (left : List (Entry ℕ)) → (brackets_of (on_marks without_bracket left) ≡ [])
-    × (wikilinks_of (on_marks without_bracket left) ≡ wikilinks_of left)
+no_brackets : (left : List (Entry ℕ)) → (brackets_of (on_states without_bracket left) ≡ [])
+    × (wikilinks_of (on_states without_bracket left) ≡ wikilinks_of left)
 no_brackets [] = (refl, refl)
 no_brackets (done a below ∷ left) = no_brackets left
 no_brackets (waits m a ∷ left) =
-    let r = no_brackets left in (r.0, ap (held_as a.tag m.is_image m.wikilink) r.1)
+    let r = no_brackets left in (r.0, ap (held_as a.note m.is_image m.wikilink) r.1)
 
-no_wikilinks : (left : List (Entry ℕ)) → (wikilinks_of (on_marks without_wikilink left) ≡ [])
-    × (brackets_of (on_marks without_wikilink left) ≡ brackets_of left)
+no_wikilinks : (left : List (Entry ℕ)) → (wikilinks_of (on_states without_wikilink left) ≡ [])
+    × (brackets_of (on_states without_wikilink left) ≡ brackets_of left)
 no_wikilinks [] = (refl, refl)
 no_wikilinks (done a below ∷ left) = no_wikilinks left
 no_wikilinks (waits m a ∷ left) =
-    let r = no_wikilinks left in (r.0, ap (held_as a.tag m.is_image m.bracket) r.1)
+    let r = no_wikilinks left in (r.0, ap (held_as a.note m.is_image m.bracket) r.1)
 
 -- the stacks at an opener of the left list
 module _ (nodes : List (Node Item)) (closer : ℕ) (left : List (Entry ℕ)) (c : Closing ℕ)
@@ -253,28 +258,28 @@ module _ (nodes : List (Node Item)) (closer : ℕ) (left : List (Entry ℕ)) (c 
     (rises : LeftRises left)
     (o : Split ℕ) (h : IsSplit left o) where
   abbrev n : ℕ
-  n = o.opener.tag
+  n = o.opener.note
 
-  onto : (f : Forest (Label ℕ)) → trees_onto left f
+  onto : (f : Forest (TreeNode ℕ)) → trees_onto left f
       ≡ trees_onto o.before (node o.opener nil (trees_onto h.after_then f))
   onto f =
       ap (λ (l : List (Entry ℕ)). trees_onto l f) h.left_is
       ∙ onto_append h.after_then (waits h.mark_then o.opener ∷ o.before) f
 
   rising : AreRising (roots (numbers_of (trees_onto o.before (node o.opener nil (trees_onto h.after_then nil)))))
-  rising = subst (λ (f : Forest (Label ℕ)). AreRising (roots (numbers_of f))) (onto nil) rises
+  rising = subst (λ (f : Forest (TreeNode ℕ)). AreRising (roots (numbers_of f))) (onto nil) rises
 
   links : LinksOn nodes n o.before
   links =
-      links_on s.source s.tables nodes s.first o.before o.opener nil (trees_onto h.after_then (node c.label nil c.rest))
+      links_on s.source s.tables nodes s.first o.before o.opener nil (trees_onto h.after_then (node c.node nil c.rest))
       nil
       (trees_onto h.after_then nil)
-      (rw (onto (node c.label nil c.rest)) at s.holds) rising
+      (rw (onto (node c.node nil c.rest)) at s.holds) rising
 
   later : AreAfter n h.after_then
   later = after_all n h.after_then nil (rising_from o.before (node o.opener nil (trees_onto h.after_then nil)) rising).0
 
-  before_by : (flag : Mark → Flag) → before n (held_by flag left) ≡ held_by flag o.before
+  before_by : (flag : OpenerState → Flag) → before n (held_by flag left) ≡ held_by flag o.before
   before_by flag =
       rw h.left_is (before_opener flag nodes h.mark_then o.opener h.after_then o.before later links)
 
@@ -311,7 +316,7 @@ module _ (nodes : List (Node Item)) (closer : ℕ) (left : List (Entry ℕ)) (c 
       ∙ sym (all_disabled (second_folded o.before)).1
 
   -- before a footnote reference
-  footnote_stacks : (w : Around) (i : Bool) (name : List ℕ)
+  footnote_stacks : (w : BracketContext) (i : Bool) (name : List ℕ)
       → let to = footnote_onto w c i o.opener name (before_footnote o.before) in
       ([] ≡ brackets_of to) × (before n (without_second nodes n (before n (wikilinks_of left))) ≡ wikilinks_of to)
   footnote_stacks w true name =
@@ -323,10 +328,10 @@ module _ (nodes : List (Node Item)) (closer : ℕ) (left : List (Entry ℕ)) (c 
   wikilink_brackets : map openers.disabled_opener (before n (brackets_of left)) ≡ brackets_of (before_wikilink o.before)
   wikilink_brackets =
       ap (map openers.disabled_opener) brackets_before ∙ sym (all_disabled o.before).0
-      ∙ sym (no_wikilinks (on_marks disabled_mark o.before)).1
+      ∙ sym (no_wikilinks (on_states disabled_state o.before)).1
 
   wikilink_wikilinks : [] ≡ wikilinks_of (before_wikilink o.before)
-  wikilink_wikilinks = sym (no_wikilinks (on_marks disabled_mark o.before)).0
+  wikilink_wikilinks = sym (no_wikilinks (on_states disabled_state o.before)).0
 
 -- what each kind leaves of the stacks
 abbrev pub Finishes : List (Node Item) → ClosedBracket → (brackets wikilinks brackets' wikilinks' : List Waiting)
@@ -346,7 +351,7 @@ Finishes nodes (Wikilinked opener name has_pothole shown end) brackets wikilinks
 pub finished : (nodes : List (Node Item)) (found : ClosedBracket)
     (brackets wikilinks brackets' wikilinks' : List Waiting)
     → Finishes nodes found brackets wikilinks brackets' wikilinks'
-    → (w : Around) (c : Closing ℕ) (closer : ℕ) (left : List (Entry ℕ)) (becomes : Becomes ℕ) (p : Progress ℕ)
+    → (w : BracketContext) (c : Closing ℕ) (closer : ℕ) (left : List (Entry ℕ)) (becomes : Becomes ℕ) (p : Progress ℕ)
     → StandsBefore nodes closer left c → LeftRises left → SplitsAs left becomes → IsBecome w becomes found
     → brackets ≡ brackets_of left → wikilinks ≡ wikilinks_of left → p.left ≡ left
     → (brackets' ≡ brackets_of (put w c becomes p).left) × (wikilinks' ≡ wikilinks_of (put w c becomes p).left)
@@ -355,12 +360,12 @@ finished nodes Text brackets wikilinks brackets' wikilinks' f w c closer left a_
 finished nodes (Link opener target end next) brackets wikilinks brackets' wikilinks' f w c closer left
     (a_link o view to on) p s rises split is eb ew ep =
     let left_then = rw (is.0, eb, ew) at f in (
-      left_then.0 ∙ link_brackets nodes closer left c s rises o split o.mark.is_image,
-      left_then.1 ∙ link_wikilinks nodes closer left c s rises o split o.mark.is_image,
+      left_then.0 ∙ link_brackets nodes closer left c s rises o split o.state.is_image,
+      left_then.1 ∙ link_wikilinks nodes closer left c s rises o split o.state.is_image,
     )
 finished nodes (Footnote opener label) brackets wikilinks brackets' wikilinks' f w c closer left (a_footnote o name) p s
     rises split is eb ew ep =
-    let stacks = footnote_stacks nodes closer left c s rises o split w o.mark.is_image name in
+    let stacks = footnote_stacks nodes closer left c s rises o split w o.state.is_image name in
     let left_then = rw (is.0, ew) at f in (left_then.0 ∙ stacks.0, left_then.1 ∙ stacks.1)
 finished nodes (Wikilinked opener label has_pothole shown end) brackets wikilinks brackets' wikilinks' f w c closer left
     (a_wikilink o found to) p s rises split is eb ew ep =

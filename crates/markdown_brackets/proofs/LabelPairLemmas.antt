@@ -18,7 +18,7 @@ use Rattle.markdown_brackets.specs.declared.footnote.FootnoteStyle.{FootnoteStyl
 use Rattle.markdown_brackets.proofs.LabelLengthLemmas.{label_read}
 
 -- the first n bytes are a prefix that contains no `[`, and nothing is escaped after a line ending
-record IsBehind (escaped : Bool) (n : ℕ) (bytes : List ℕ) : Type 0 where
+record IsAfter (escaped : Bool) (n : ℕ) (bytes : List ℕ) : Type 0 where
   free : list_any (nat_eq 91) (take n bytes) ≡ false
   bare : 0 < n → escaped ≡ false
 
@@ -47,61 +47,62 @@ no_backslash true b bytes h = refl
 no_backslash false b bytes h = grind (arith, nat_tests)
 
 -- each line continues after its prefix
-abbrev behind : (List ℕ → ℕ) → List ℕ → Option ℕ
-behind skipped bytes = Some (skipped bytes)
+abbrev skipping : (List ℕ → ℕ) → List ℕ → Option ℕ
+skipping skipped bytes = Some (skipped bytes)
 
 module _ (skipped : List ℕ → ℕ) (none : HoldsNoOpener skipped) where
   -- no label goes on at a `[` that is not escaped
   opens_none : (n : ℕ) (rest : List ℕ) → list_any (nat_eq 91) (take n (91 ∷ rest)) ≡ false
-      → body false (label_bytes (behind skipped) n (91 ∷ rest)) ≡ None
+      → body false (label_bytes (skipping skipped) n (91 ∷ rest)) ≡ None
   opens_none zero rest h = refl
   opens_none (suc n) rest h = absurd (cc h)
 
-  pair_here : (escaped : Bool) (n : ℕ) (rest : List ℕ) (k : ℕ) (text : List ℕ) → IsBehind escaped n (93 ∷ 91 ∷ rest)
-      → body escaped (label_bytes (behind skipped) n (93 ∷ 91 ∷ rest)) ≡ Some (k, text) → 1 < k → ⊥
+  pair_here : (escaped : Bool) (n : ℕ) (rest : List ℕ) (k : ℕ) (text : List ℕ) → IsAfter escaped n (93 ∷ 91 ∷ rest)
+      → body escaped (label_bytes (skipping skipped) n (93 ∷ 91 ∷ rest)) ≡ Some (k, text) → 1 < k → ⊥
   pair_here true zero rest k text h e l = none-some (k, text) e
   pair_here false zero rest k text h e l =
       let same = ap (λ (p : ℕ × List ℕ). p.0) (same_Some (0, []) (k, text) e) in
       absurd (omega (arith, same, l))
   pair_here true (suc n) rest k text h e l = absurd (cc (h.bare (omega arith)))
   pair_here false (suc n) rest k text h e l =
-      let later = one_more [] (body false (label_bytes (behind skipped) n (91 ∷ rest))) k text e in
+      let later = one_more [] (body false (label_bytes (skipping skipped) n (91 ∷ rest))) k text e in
       none-some (later.place, later.text)
       (subst (λ o. o ≡ Some (later.place, later.text)) (opens_none n rest h.free) later.found)
 
   -- after a byte, and the prefix that follows it
-  behind_byte : (escaped : Bool) (b : ℕ) (bytes : List ℕ) (m : ℕ) → prefix_after (behind skipped) b bytes ≡ Some m
-      → IsBehind (is_bare escaped b backslash) m bytes
-  behind_byte escaped b bytes m e = by (ends_line b bytes) refl e
+  byte_after_prefix : (escaped : Bool) (b : ℕ) (bytes : List ℕ) (m : ℕ) → prefix_after
+      (skipping skipped) b bytes ≡ Some m
+      → IsAfter (is_bare escaped b backslash) m bytes
+  byte_after_prefix escaped b bytes m e = by (ends_line b bytes) refl e
     where
-      by : (ends : Bool) → ends_line b bytes ≡ ends → (if ends then behind skipped bytes else Some 0) ≡ Some m
-          → IsBehind (is_bare escaped b backslash) m bytes
+      by : (ends : Bool) → ends_line b bytes ≡ ends → (if ends then skipping skipped bytes else Some 0) ≡ Some m
+          → IsAfter (is_bare escaped b backslash) m bytes
       by true line e = record {
         free = subst (λ n. list_any (nat_eq 91) (take n bytes) ≡ false) (same_Some (skipped bytes) m e) (none bytes);
         bare = λ l. no_backslash escaped b bytes line;
       }
       by false line e =
           let same = same_Some 0 m e in
-          subst (λ m. IsBehind (is_bare escaped b backslash) m bytes) same
+          subst (λ m. IsAfter (is_bare escaped b backslash) m bytes) same
           (record { free = refl; bare = λ l. absurd (omega (arith, l)) })
 
   -- what is found from a byte on, if it is not found at that byte, is found after it
   abbrev IsPast : (later : Bool) → List ℕ → ℕ → Type 0
-  IsPast later bytes k = (m : ℕ) × IsBehind later m bytes × Found (body later (label_bytes (behind skipped) m bytes)) k
+  IsPast later bytes k = (m : ℕ) × IsAfter later m bytes × Found (body later (label_bytes (skipping skipped) m bytes)) k
 
   past_byte : (escaped : Bool) (b : ℕ) (bytes : List ℕ) (k : ℕ) (text : List ℕ)
-      → body escaped (label_bytes (behind skipped) 0 (b ∷ bytes)) ≡ Some (k, text) → 0 < k
+      → body escaped (label_bytes (skipping skipped) 0 (b ∷ bytes)) ≡ Some (k, text) → 0 < k
       → IsPast (is_bare escaped b backslash) bytes k
   past_byte escaped b bytes k text e l = by (is_bare escaped b 93) (is_bare escaped b 91)
-      (prefix_after (behind skipped) b bytes) refl e
+      (prefix_after (skipping skipped) b bytes) refl e
     where
       later : Bool
       later = is_bare escaped b backslash
 
-      by : (closes opens : Bool) (o : Option ℕ) → prefix_after (behind skipped) b bytes ≡ o
+      by : (closes opens : Bool) (o : Option ℕ) → prefix_after (skipping skipped) b bytes ≡ o
           → (if closes then Some (0, []) else if opens then None
           else put_before 1 (b ∷ [])
-          (body later (if is_none o then refused ∷ [] else label_bytes (behind skipped) (unwrap_or o 0) bytes)))
+          (body later (if is_none o then refused ∷ [] else label_bytes (skipping skipped) (unwrap_or o 0) bytes)))
           ≡ Some (k, text) → IsPast later bytes k
       by true opens o f e = let same = ap (λ (p : ℕ × List ℕ). p.0) (same_Some (0, []) (k, text) e) in absurd
           (omega (arith, same, l))
@@ -109,23 +110,24 @@ module _ (skipped : List ℕ → ℕ) (none : HoldsNoOpener skipped) where
       by false false None f e = absurd (none-some (k, text) e)
       by false false (Some m) f e = (
         m,
-        behind_byte escaped b bytes m f,
-        one_more (b ∷ []) (body later (label_bytes (behind skipped) m bytes)) k
+        byte_after_prefix escaped b bytes m f,
+        one_more (b ∷ []) (body later (label_bytes (skipping skipped) m bytes)) k
             text e,
       )
 
-  no_pair : (i : ℕ) (escaped : Bool) (n : ℕ) (bytes rest : List ℕ) (k : ℕ) (text : List ℕ) → IsBehind escaped n bytes
-      → body escaped (label_bytes (behind skipped) n bytes) ≡ Some (k, text) → suc i < k → drop i bytes ≡ 93 ∷ 91 ∷ rest
+  no_pair : (i : ℕ) (escaped : Bool) (n : ℕ) (bytes rest : List ℕ) (k : ℕ) (text : List ℕ) → IsAfter escaped n bytes
+      → body escaped (label_bytes (skipping skipped) n bytes) ≡ Some (k, text) → suc i < k → drop i bytes ≡ 93 ∷ 91
+      ∷ rest
       → ⊥
   no_pair zero escaped n bytes rest k text h e l d =
-      let here = subst (λ xs. body escaped (label_bytes (behind skipped) n xs) ≡ Some (k, text)) d e in
-      pair_here escaped n rest k text (subst (IsBehind escaped n) d h) here l
+      let here = subst (λ xs. body escaped (label_bytes (skipping skipped) n xs) ≡ Some (k, text)) d e in
+      pair_here escaped n rest k text (subst (IsAfter escaped n) d h) here l
   no_pair (suc i) escaped n [] rest k text h e l d = absurd (cc d)
   no_pair (suc i) escaped (suc n) (b ∷ bytes) rest k text h e l d =
-      let later = one_more [] (body escaped (label_bytes (behind skipped) n bytes)) k text e in
+      let later = one_more [] (body escaped (label_bytes (skipping skipped) n bytes)) k text e in
       let free = or_second (nat_eq 91 b) (list_any (nat_eq 91) (take n bytes)) h.free in
-      let behind : IsBehind escaped n bytes = record { free = free; bare = λ l. h.bare (omega arith) } in
-      no_pair i escaped n bytes rest later.place later.text behind later.found (omega (arith, l, later.after)) d
+      let skipping : IsAfter escaped n bytes = record { free = free; bare = λ l. h.bare (omega arith) } in
+      no_pair i escaped n bytes rest later.place later.text skipping later.found (omega (arith, l, later.after)) d
   no_pair (suc i) escaped zero (b ∷ bytes) rest k text h e l d =
       let r = past_byte escaped b bytes k text e (omega (arith, l)) in
       no_pair i (is_bare escaped b backslash) r.0 bytes rest r.2.place r.2.text r.1 r.2.found
@@ -181,11 +183,11 @@ not_next text from later opens closes e =
 
 -- if two labels end together, the second does not begin directly after a `]`
 pub labels_apart : (skipped : List ℕ → ℕ) → HoldsNoOpener skipped → (text : List ℕ) (from later to : ℕ)
-    → IsLabelFrom (behind skipped) text from to → IsLabelFrom (behind skipped) text later to → from < later
+    → IsLabelFrom (skipping skipped) text from to → IsLabelFrom (skipping skipped) text later to → from < later
     → get_or text (later - 1) 0 ≡ 93 → ⊥
 labels_apart skipped none text from later to first second l byte =
-    let one = first_byte (behind skipped) text from to first in
-    let two = first_byte (behind skipped) text later to second in
+    let one = first_byte (skipping skipped) text from to first in
+    let two = first_byte (skipping skipped) text later to second in
     let apart = not_next text from later one.1 byte in
     let i : ℕ = later - from - 2 in
     let here : (from + 1) + i ≡ later - 1 = omega (arith, apart, l) in

@@ -15,9 +15,9 @@ pub mod QuestionEndsLemmas
 pub mod ClosingBracketLemmas
 pub mod NoLinkLemmas
 pub mod BracketWeightLemmas
-pub mod KeptLabelsLemmas
+pub mod KeptNodesLemmas
 pub mod KeptShapesLemmas
-pub mod BracketTagLemmas
+pub mod BracketNoteLemmas
 pub mod ChainBeginsLemmas
 pub mod QuietItemsLemmas
 pub mod HeldTreesLemmas

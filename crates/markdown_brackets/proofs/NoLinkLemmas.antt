@@ -5,15 +5,17 @@ use Rattle.std.specs.Prelude.{⊤, ◌⊎◌, IfSome, if◌then◌else◌}
 use Rattle.std.specs.Option.{option_map, option_and_then}
 use Rattle.markdown_base.specs.Event.{LinkView, link, image}
 use Rattle.markdown_base.specs.Forest.{Forest, nil, node}
-use Rattle.markdown_document.specs.Document.{Shape, enclosed, Label}
-use Rattle.markdown_document.specs.Setting.{Known}
+use Rattle.markdown_document.specs.Document.{Shape, enclosed, TreeNode}
+use Rattle.markdown_document.specs.Setting.{ReferenceState}
 use Rattle.markdown_document.specs.ChainRest.{begun_at, past_byte, cut_shape, start_of}
-use Rattle.markdown_brackets.specs.BracketDecision.{Around, Closing, Progress, Wikilink, over, text_from, wikilink_in}
+use Rattle.markdown_brackets.specs.BracketDecision.{BracketContext, Closing, Progress, Wikilink, over, text_from}
+use Rattle.markdown_brackets.specs.BracketDecision.{wikilink_in}
 use Rattle.markdown_brackets.specs.BracketDecision.{wikilink_by, shown_children, if_some, past_second}
 use Rattle.markdown_brackets.specs.ClosingBracket.{footnote_onto, wikilink_target, closed}
-use Rattle.markdown_brackets.specs.LeftList.{Flag, gone, Mark, Entry, done, waits, is_live, trees_onto, Split, inside}
+use Rattle.markdown_brackets.specs.LeftList.{Flag, gone, OpenerState, Entry, done, waits, is_live, trees_onto, Split}
+use Rattle.markdown_brackets.specs.LeftList.{inside}
 use Rattle.markdown_brackets.specs.LeftList.{nearest, opens_bracket, opens_wikilink, without_bracket, without_wikilink}
-use Rattle.markdown_brackets.specs.LeftList.{on_marks, disabled_flag, disabled_mark, second_folded, before_link}
+use Rattle.markdown_brackets.specs.LeftList.{on_states, disabled_flag, disabled_state, second_folded, before_link}
 use Rattle.markdown_brackets.specs.LeftList.{before_wikilink, before_footnote}
 use Rattle.markdown_brackets.proofs.ClosingBracketLemmas.{Cases, in_each_case, some_of}
 use Rattle.markdown_brackets.specs.NoLinkInLink.{IsNoLink, IsFreeOfLinks, ClosesOverNone, HasNoneBelow, HasNoLinkInLink}
@@ -31,7 +33,7 @@ or_split true b h = inl refl
 or_split false b h = inr h
 
 -- a `[` that may still become a link
-abbrev is_live_link : Mark → Bool
+abbrev is_live_link : OpenerState → Bool
 is_live_link m = not m.is_image && (is_live m.bracket || is_live m.wikilink)
 
 abbrev any_live : {A : Type 0} → List (Entry A) → Bool
@@ -60,13 +62,13 @@ abbrev IsSound : {A : Type 0} → List (Entry A) → Type 0
 IsSound [] = ⊤
 IsSound (e ∷ left) = (any_live left ≡ true → IsFree e) × IsWell e × IsSound left
 
-free_onto : {A : Type 0} (left : List (Entry A)) (later : Forest (Label A)) → AllFree left → IsFreeOfLinks later
+free_onto : {A : Type 0} (left : List (Entry A)) (later : Forest (TreeNode A)) → AllFree left → IsFreeOfLinks later
     → IsFreeOfLinks (trees_onto left later)
 free_onto [] later h k = k
 free_onto (done a below ∷ left) later h k = free_onto left (node a below later) h.1 (h.0.0, h.0.1, k)
 free_onto (waits m a ∷ left) later h k = free_onto left (node a nil later) h.1 (h.0, tt, k)
 
-well_onto : {A : Type 0} (left : List (Entry A)) (later : Forest (Label A)) → AllWell left → HasNoLinkInLink later
+well_onto : {A : Type 0} (left : List (Entry A)) (later : Forest (TreeNode A)) → AllWell left → HasNoLinkInLink later
     → HasNoLinkInLink (trees_onto left later)
 well_onto [] later h k = k
 well_onto (done a below ∷ left) later h k = well_onto left (node a below later) h.1 (h.0.0, h.0.1, k)
@@ -77,22 +79,22 @@ all_well [] s = tt
 all_well (e ∷ left) s = (s.1, all_well left s.2)
 
 -- what is free of links has none in a link
-shape_well : {A : Type 0} (shape : Shape) (below : Forest (Label A)) → IsFreeOfLinks below → HasNoneBelow shape below
+shape_well : {A : Type 0} (shape : Shape) (below : Forest (TreeNode A)) → IsFreeOfLinks below → HasNoneBelow shape below
 shape_well (enclosed (link v)) below h = h
 shape_well other below h = tt
 
-free_well : {A : Type 0} (f : Forest (Label A)) → IsFreeOfLinks f → HasNoLinkInLink f
+free_well : {A : Type 0} (f : Forest (TreeNode A)) → IsFreeOfLinks f → HasNoLinkInLink f
 free_well nil h = tt
 free_well (node a below after) h = (shape_well a.part.shape below h.1, free_well below h.1, free_well after h.2)
 
 -- an opener, in a sound left list
-record SoundAt {A : Type 0} (m : Mark) (a : Label A) (after before : List (Entry A)) : Type 0 where
+record SoundAt {A : Type 0} (m : OpenerState) (a : TreeNode A) (after before : List (Entry A)) : Type 0 where
   sound : IsSound before
   live : (is_live_link m || any_live before) ≡ true → any_live (after ++ waits m a ∷ before) ≡ true
   free : (is_live_link m || any_live before) ≡ true → AllFree after
   well : AllWell after
 
-sound_split : {A : Type 0} (after before : List (Entry A)) (m : Mark) (a : Label A)
+sound_split : {A : Type 0} (after before : List (Entry A)) (m : OpenerState) (a : TreeNode A)
     → IsSound (after ++ waits m a ∷ before) → SoundAt m a after before
 sound_split [] before m a s = record { sound = s.2; live = λ q. q; free = λ q. tt; well = tt }
 sound_split (done b below ∷ after) before m a s =
@@ -107,14 +109,15 @@ sound_split (waits n b ∷ after) before m a s =
       well = (s.1, r.well);
     }
 
-sound_nearest : {A : Type 0} (test : Mark → Bool) (left : List (Entry A)) (o : Split A) → nearest test left ≡ Some o
-    → IsSound left → SoundAt o.mark o.opener o.after o.before
+sound_nearest : {A : Type 0} (test : OpenerState → Bool) (left : List (Entry A)) (o : Split A)
+    → nearest test left ≡ Some o
+    → IsSound left → SoundAt o.state o.opener o.after o.before
 sound_nearest test left o e s =
-    sound_split o.after o.before o.mark o.opener (subst IsSound (split_at test left o e) s)
+    sound_split o.after o.before o.state o.opener (subst IsSound (split_at test left o e) s)
 
 -- a change of openers that makes none live
-abbrev Lowers : (Mark → Mark) → Type 0
-Lowers f = (m : Mark) → is_live_link (f m) ≡ true → is_live_link m ≡ true
+abbrev Lowers : (OpenerState → OpenerState) → Type 0
+Lowers f = (m : OpenerState) → is_live_link (f m) ≡ true → is_live_link m ≡ true
 
 lowers_flags : (i b w b' w' : Bool) → (b' ≡ true → b ≡ true) → (w' ≡ true → w ≡ true) → (not i && (b' || w')) ≡ true
     → (not i && (b || w)) ≡ true
@@ -133,24 +136,24 @@ disabled_is_dead : (f : Flag) → is_live (disabled_flag f) ≡ false
 disabled_is_dead gone = refl
 disabled_is_dead other = refl
 
-mark_is_dead : (m : Mark) → is_live_link (disabled_mark m) ≡ false
+mark_is_dead : (m : OpenerState) → is_live_link (disabled_state m) ≡ false
 mark_is_dead m = by m.is_image m.bracket m.wikilink
   where
     flags : (b w : Flag) → (is_live (disabled_flag b) || is_live (disabled_flag w)) ≡ false
     flags gone w = disabled_is_dead w
     flags other w = disabled_is_dead w
 
-    by : (i : Bool) (b w : Flag) → is_live_link (disabled_mark (record { is_image = i; bracket = b; wikilink = w }))
+    by : (i : Bool) (b w : Flag) → is_live_link (disabled_state (record { is_image = i; bracket = b; wikilink = w }))
         ≡ false
     by true b w = refl
     by false b w = flags b w
 
-none_live : {A : Type 0} (left : List (Entry A)) → any_live (on_marks disabled_mark left) ≡ false
+none_live : {A : Type 0} (left : List (Entry A)) → any_live (on_states disabled_state left) ≡ false
 none_live [] = refl
 none_live (done a below ∷ left) = none_live left
 none_live (waits m a ∷ left) = rw (mark_is_dead m) (none_live left)
 
-lowers_disabled : Lowers disabled_mark
+lowers_disabled : Lowers disabled_state
 lowers_disabled m h = let e = mark_is_dead m in cc
 
 sounds_marked : {A : Type 0} → Marked {A = A} (λ m n. is_live_link n ≡ true → is_live_link m ≡ true)
@@ -177,7 +180,7 @@ live_if i b w e h = rw (e, h) refl
 live_wikilink_if : (i b w : Bool) → i ≡ false → w ≡ true → (not i && (b || w)) ≡ true
 live_wikilink_if i b w e h = rw (e, h) (or_right b true refl)
 
-link_entry : {A : Type 0} (i : Bool) (a : Label A) (target : LinkView) (start end : ℕ) (below : Forest (Label A))
+link_entry : {A : Type 0} (i : Bool) (a : TreeNode A) (target : LinkView) (start end : ℕ) (below : Forest (TreeNode A))
     (before : List (Entry A))
     → IsSound before → (i ≡ false → IsFreeOfLinks below) → (any_live before ≡ true → IsFreeOfLinks below)
     → HasNoLinkInLink below
@@ -192,14 +195,15 @@ link_entry false a target start end below before s f g h = (
   (same_before_link sounds_marked false before).1 s,
 )
 
-wikilink_entry : {A : Type 0} (i : Bool) (a : Label A) (target : LinkView) (start end : ℕ) (below : Forest (Label A))
+wikilink_entry : {A : Type 0} (i : Bool) (a : TreeNode A) (target : LinkView) (start end : ℕ) (below : Forest
+    (TreeNode A))
     (before : List (Entry A))
     → IsSound before → (i ≡ false → IsFreeOfLinks below) → HasNoLinkInLink below
     → IsSound (done (over a (enclosed (if i then image target else link target)) start end) below ∷ before_wikilink
     before)
 wikilink_entry i a target start end below before s f h = (
   λ q. absurd (let e = none_live before in let d = (same_marks sounds_marked without_wikilink lowers_wikilink
-      (on_marks disabled_mark before)).0 q in cc),
+      (on_states disabled_state before)).0 q in cc),
   (well i f, h),
   (same_before_wikilink sounds_marked before).1 s,
 )
@@ -210,14 +214,14 @@ wikilink_entry i a target start end below before s f h = (
     well false f = f refl
 
 -- trees from a byte on
-begun_free : {A : Type 0} (i : ℕ) (a : Label A) → IsNoLink a.part.shape → IsNoLink (begun_at i a).part.shape
+begun_free : {A : Type 0} (i : ℕ) (a : TreeNode A) → IsNoLink a.part.shape → IsNoLink (begun_at i a).part.shape
 begun_free i a h = by (i - a.part.range.start) a.part.shape h
   where
     by : (n : ℕ) (shape : Shape) → IsNoLink shape → IsNoLink (cut_shape n shape)
     by n (enclosed tag) h = h
     by n other h = tt
 
-begun_well : {A : Type 0} (i : ℕ) (a : Label A) (below : Forest (Label A)) → HasNoneBelow a.part.shape below
+begun_well : {A : Type 0} (i : ℕ) (a : TreeNode A) (below : Forest (TreeNode A)) → HasNoneBelow a.part.shape below
     → HasNoneBelow (begun_at i a).part.shape below
 begun_well i a below h = by (i - a.part.range.start) a.part.shape h
   where
@@ -225,10 +229,10 @@ begun_well i a below h = by (i - a.part.range.start) a.part.shape h
     by n (enclosed tag) h = h
     by n other h = tt
 
-pub from_keeps : {A : Type 0} (p : Forest (Label A) → Type 0)
-    → ((i : ℕ) (a : Label A) (below after : Forest (Label A)) → p (node a below after)
+pub from_keeps : {A : Type 0} (p : Forest (TreeNode A) → Type 0)
+    → ((i : ℕ) (a : TreeNode A) (below after : Forest (TreeNode A)) → p (node a below after)
     → p (node (begun_at i a) below after) × p after)
-    → (i : ℕ) (f : Forest (Label A)) → p f → p (past_byte i f)
+    → (i : ℕ) (f : Forest (TreeNode A)) → p f → p (past_byte i f)
 from_keeps p on i nil h = h
 from_keeps p on i (node a below after) h =
     let r = on i a below after h in by (nat_le a.part.range.end i) r.0 (from_keeps p on i after r.1)
@@ -238,39 +242,39 @@ from_keeps p on i (node a below after) h =
     by true here more = more
     by false here more = here
 
-free_from : {A : Type 0} (i : ℕ) (f : Forest (Label A)) → IsFreeOfLinks f → IsFreeOfLinks (past_byte i f)
+free_from : {A : Type 0} (i : ℕ) (f : Forest (TreeNode A)) → IsFreeOfLinks f → IsFreeOfLinks (past_byte i f)
 free_from = from_keeps IsFreeOfLinks (λ i a below after h. ((begun_free i a h.0, h.1, h.2), h.2))
 
-well_from : {A : Type 0} (i : ℕ) (f : Forest (Label A)) → HasNoLinkInLink f → HasNoLinkInLink (past_byte i f)
+well_from : {A : Type 0} (i : ℕ) (f : Forest (TreeNode A)) → HasNoLinkInLink f → HasNoLinkInLink (past_byte i f)
 well_from = from_keeps HasNoLinkInLink (λ i a below after h. ((begun_well i a below h.0, h.1, h.2), h.2))
 
 -- a fact of the trees that a wikilink shows: it holds of one Text, and of the trees from a byte on
-if_some_keeps : {A : Type 0} (p : Forest (Label A) → Type 0) (f : Forest (Label A)) → p f → IfSome (if_some f) p
+if_some_keeps : {A : Type 0} (p : Forest (TreeNode A) → Type 0) (f : Forest (TreeNode A)) → p f → IfSome (if_some f) p
 if_some_keeps p nil h = tt
 if_some_keeps p (node a below after) h = h
 
-module _ {A : Type 0} (w : Around) (p : Forest (Label A) → Type 0)
-    (texts : (a : Label A) (i j : ℕ) → p (node (text_from w a i j) nil nil))
-    (from : (i : ℕ) (f : Forest (Label A)) → p f → p (past_byte i f)) where
-  shown_keeps : (first : Label A) (trees : Forest (Label A)) (end : ℕ) (shows : Shows) → p trees
+module _ {A : Type 0} (w : BracketContext) (p : Forest (TreeNode A) → Type 0)
+    (texts : (a : TreeNode A) (i j : ℕ) → p (node (text_from w a i j) nil nil))
+    (from : (i : ℕ) (f : Forest (TreeNode A)) → p f → p (past_byte i f)) where
+  shown_keeps : (first : TreeNode A) (trees : Forest (TreeNode A)) (end : ℕ) (shows : Shows) → p trees
       → IfSome (shown_children w first trees end shows) p
   shown_keeps first trees end shows_name h = texts first (start_of first) end
   shown_keeps first trees end (shows_nothing at) h = texts first at at
   shown_keeps first trees end (shows_from at) h = if_some_keeps p (past_byte at trees) (from at trees h)
 
-  named_keeps : (first : Label A) (trees : Forest (Label A)) (end : ℕ) (b : WikilinkBody) → p trees
+  named_keeps : (first : TreeNode A) (trees : Forest (TreeNode A)) (end : ℕ) (b : WikilinkBody) → p trees
       → IfSome (wikilink_by w first trees end b) (λ found. p found.children)
   named_keeps first trees end b h = by (shown_children w first trees end b.shows)
       (shown_keeps first trees end b.shows h)
     where
-      by : (o : Option (Forest (Label A))) → IfSome o p
+      by : (o : Option (Forest (TreeNode A))) → IfSome o p
           → IfSome (option_map (λ children. record
           { name = b.name; has_pothole = has_pothole b.shows; children = children }) o)
           (λ (found : Wikilink A). p found.children)
       by None k = tt
       by (Some f) k = k
 
-  pub wikilink_keeps : (trees : Forest (Label A)) (end : ℕ) → p trees
+  pub wikilink_keeps : (trees : Forest (TreeNode A)) (end : ℕ) → p trees
       → IfSome (wikilink_in w trees end) (λ found. p found.children)
   wikilink_keeps nil end h = tt
   wikilink_keeps (node first below after) end h = by
@@ -281,16 +285,16 @@ module _ {A : Type 0} (w : Around) (p : Forest (Label A) → Type 0)
       by None = tt
       by (Some b) = named_keeps first (node first below after) end b h
 
-free_past : {A : Type 0} (f : Forest (Label A)) → IsFreeOfLinks f → IsFreeOfLinks (past_second f)
+free_past : {A : Type 0} (f : Forest (TreeNode A)) → IsFreeOfLinks f → IsFreeOfLinks (past_second f)
 free_past nil h = tt
 free_past (node a below after) h = h.2
 
-well_past : {A : Type 0} (f : Forest (Label A)) → HasNoLinkInLink f → HasNoLinkInLink (past_second f)
+well_past : {A : Type 0} (f : Forest (TreeNode A)) → HasNoLinkInLink f → HasNoLinkInLink (past_second f)
 well_past nil h = tt
 well_past (node a below after) h = h.2
 
-module _ {A : Type 0} (w : Around) (c : Closing A) where
-  footnote_entry : (i : Bool) (a : Label A) (name : List ℕ) (before : List (Entry A)) → IsSound before
+module _ {A : Type 0} (w : BracketContext) (c : Closing A) where
+  footnote_entry : (i : Bool) (a : TreeNode A) (name : List ℕ) (before : List (Entry A)) → IsSound before
       → IsSound (footnote_onto w c i a name before)
   footnote_entry true a name before s = (λ q. (tt, tt), (tt, tt), (λ q. (tt, tt), (tt, tt), s))
   footnote_entry false a name before s = (λ q. (tt, tt), (tt, tt), s)
@@ -302,32 +306,33 @@ module _ {A : Type 0} (w : Around) (c : Closing A) where
     text = λ left s. (λ q. (tt, tt), (tt, tt), s);
     link = λ left o target end s found live.
         let at = sound_nearest opens_bracket left o found s in
-        link_entry o.mark.is_image o.opener target (start_of o.opener) end (inside o) o.before at.sound
-        (λ e. free_onto o.after nil (at.free (or_left (is_live_link o.mark) (any_live o.before)
-        (live_if o.mark.is_image (is_live o.mark.bracket) (is_live o.mark.wikilink) e live))) tt)
-        (λ q. free_onto o.after nil (at.free (or_right (is_live_link o.mark) (any_live o.before) q)) tt)
+        link_entry o.state.is_image o.opener target (start_of o.opener) end (inside o) o.before at.sound
+        (λ e. free_onto o.after nil (at.free (or_left (is_live_link o.state) (any_live o.before)
+        (live_if o.state.is_image (is_live o.state.bracket) (is_live o.state.wikilink) e live))) tt)
+        (λ q. free_onto o.after nil (at.free (or_right (is_live_link o.state) (any_live o.before) q)) tt)
         (well_onto o.after nil at.well tt);
     footnote = λ left o name s found live.
         let at = sound_nearest opens_bracket left o found s in
-        footnote_entry o.mark.is_image o.opener name (before_footnote o.before)
+        footnote_entry o.state.is_image o.opener name (before_footnote o.before)
         ((same_before_footnote sounds_marked o.before).1 at.sound);
     wikilink = λ left o v end s found live is.
         let at = sound_nearest opens_wikilink left o found s in
-        let shown = wikilink_in w (past_second (inside o)) (start_of c.label) in
-        wikilink_entry o.mark.is_image o.opener (wikilink_target v) (start_of o.opener) end v.children o.before
+        let shown = wikilink_in w (past_second (inside o)) (start_of c.node) in
+        wikilink_entry o.state.is_image o.opener (wikilink_target v) (start_of o.opener) end v.children o.before
         at.sound
         (λ i. some_of shown v (λ v. IsFreeOfLinks v.children) is
-        (wikilink_keeps w IsFreeOfLinks (λ a x y. (tt, tt, tt)) free_from (past_second (inside o)) (start_of c.label)
+        (wikilink_keeps w IsFreeOfLinks (λ a x y. (tt, tt, tt)) free_from (past_second (inside o)) (start_of c.node)
         (free_past (inside o) (free_onto o.after nil
-        (at.free (or_left (is_live_link o.mark) (any_live o.before)
-        (live_wikilink_if o.mark.is_image (is_live o.mark.bracket)
-        (is_live o.mark.wikilink) i live))) tt))))
+        (at.free (or_left (is_live_link o.state) (any_live o.before)
+        (live_wikilink_if o.state.is_image (is_live o.state.bracket)
+        (is_live o.state.wikilink) i live))) tt))))
         (some_of shown v (λ v. HasNoLinkInLink v.children) is
-        (wikilink_keeps w HasNoLinkInLink (λ a x y. (tt, tt, tt)) well_from (past_second (inside o)) (start_of c.label)
+        (wikilink_keeps w HasNoLinkInLink (λ a x y. (tt, tt, tt)) well_from (past_second (inside o)) (start_of c.node)
         (well_past (inside o) (well_onto o.after nil at.well tt))));
   }
 
-closed_sound : {A : Type 0} (w : Around) (c : Closing A) (p : Progress A) → IsSound p.left → IsSound (closed w c p).left
+closed_sound : {A : Type 0} (w : BracketContext) (c : Closing A) (p : Progress A) → IsSound p.left → IsSound
+    (closed w c p).left
 closed_sound w c p s = in_each_case w c IsSound IsSound (sound_cases w c) p s
 
 -- trees that are put at the right
@@ -341,8 +346,9 @@ sound_more (done a below ∷ more) left f s = (
 )
 sound_more (waits m a ∷ more) left f s = absurd f
 
-module _ {A : Type 0} (w : Around) (others : Reader A)
-    (rule : (a : Label A) (below rest : Forest (Label A)) (p : Progress A) → IsNoLink a.part.shape → IsFreeOfLinks below
+module _ {A : Type 0} (w : BracketContext) (others : Reader A)
+    (rule : (a : TreeNode A) (below rest : Forest (TreeNode A)) (p : Progress A) → IsNoLink a.part.shape
+    → IsFreeOfLinks below
     → HasMoreTrees p.left (others a below rest p).left) where
   sound_reads : Reads w others (λ chain p. IsFreeOfLinks chain × IsSound p.left)
   sound_reads = record {
@@ -355,8 +361,8 @@ module _ {A : Type 0} (w : Around) (others : Reader A)
     cuts = λ i a below rest p h. ((begun_free i a h.0.0, h.0.1, h.0.2), h.1);
   }
 
-  pub no_link_in_link : (chain : Forest (Label A)) (known : Known) → IsFreeOfLinks chain
-      → HasNoLinkInLink (trees_onto (read_chain w others chain (begun known)).left nil)
-  no_link_in_link chain known f =
-      let left = (read_chain w others chain (begun known)).left in
-      well_onto left nil (all_well left (chain_keeps sound_reads chain (begun known) (f, tt)).1) tt
+  pub no_link_in_link : (chain : Forest (TreeNode A)) (state : ReferenceState) → IsFreeOfLinks chain
+      → HasNoLinkInLink (trees_onto (read_chain w others chain (begun state)).left nil)
+  no_link_in_link chain state f =
+      let left = (read_chain w others chain (begun state)).left in
+      well_onto left nil (all_well left (chain_keeps sound_reads chain (begun state) (f, tt)).1) tt

@@ -4,9 +4,10 @@ use Rattle.std.specs.Prelude.{IfSome, if◌then◌else◌, ⊤}
 use Rattle.std.specs.Option.{option_map}
 use Rattle.markdown_base.specs.Forest.{Forest, nil, node}
 use Rattle.markdown_document.specs.ChainRest.{joined_chains}
-use Rattle.markdown_document.specs.Document.{Label}
+use Rattle.markdown_document.specs.Document.{TreeNode}
 use Rattle.markdown_brackets.specs.DecisionView.{opener_of}
-use Rattle.markdown_brackets.specs.LeftList.{Flag, gone, Mark, Entry, done, waits, is_live, trees_onto, Split, behind}
+use Rattle.markdown_brackets.specs.LeftList.{Flag, gone, OpenerState, Entry, done, waits, is_live, trees_onto, Split}
+use Rattle.markdown_brackets.specs.LeftList.{with_entry}
 use Rattle.markdown_brackets.specs.LeftList.{nearest, change_nearest, opens_bracket, opens_wikilink, without_bracket}
 use Rattle.markdown_brackets.specs.LeftList.{without_wikilink, bracket_taken, wikilink_taken}
 use Rattle.markdown_brackets.specs.HeldOpeners.{brackets_of, wikilinks_of, held_as}
@@ -14,15 +15,15 @@ use Rattle.markdown_brackets.proofs.LeftListLemmas.{IsSplitBy, Marked, onto_appe
 use Rattle.markdown_brackets.specs.Openers.{Waiting}
 
 -- the nearest opener for a `]` is on top of the stack, and taking it off is taking it off the stack
-abbrev pub for_bracket : Mark → Flag
+abbrev pub for_bracket : OpenerState → Flag
 for_bracket m = m.bracket
 
-abbrev pub for_wikilink : Mark → Flag
+abbrev pub for_wikilink : OpenerState → Flag
 for_wikilink m = m.wikilink
 
-abbrev pub Top : (Mark → Flag) → (held rest : List Waiting) → Option (Split ℕ) → Type 0
+abbrev pub Top : (OpenerState → Flag) → (held rest : List Waiting) → Option (Split ℕ) → Type 0
 Top flag held rest None = (held ≡ []) × (rest ≡ [])
-Top flag held rest (Some o) = held ≡ record { opener = opener_of o; is_live = is_live (flag o.mark) } ∷ rest
+Top flag held rest (Some o) = held ≡ record { opener = opener_of o; is_live = is_live (flag o.state) } ∷ rest
 
 abbrev pub TopBracket : List (Entry ℕ) → Option (Split ℕ) → Type 0
 TopBracket left = Top for_bracket (brackets_of left) (brackets_of (bracket_taken left))
@@ -30,34 +31,35 @@ TopBracket left = Top for_bracket (brackets_of left) (brackets_of (bracket_taken
 abbrev pub TopWikilink : List (Entry ℕ) → Option (Split ℕ) → Type 0
 TopWikilink left = Top for_wikilink (wikilinks_of left) (wikilinks_of (wikilink_taken left))
 
-top_behind : (flag : Mark → Flag) (held rest : List Waiting) (e : Entry ℕ) (o : Option (Split ℕ)) → Top flag held rest o
-    → Top flag held rest (option_map (behind e) o)
-top_behind flag held rest e None h = h
-top_behind flag held rest e (Some o) h = h
+top_after : (flag : OpenerState → Flag) (held rest : List Waiting) (e : Entry ℕ) (o : Option (Split ℕ))
+    → Top flag held rest o
+    → Top flag held rest (option_map (with_entry e) o)
+top_after flag held rest e None h = h
+top_after flag held rest e (Some o) h = h
 
 pub top_bracket : (left : List (Entry ℕ)) → TopBracket left (nearest opens_bracket left)
 top_bracket [] = (refl, refl)
-top_bracket (done a below ∷ left) = top_behind for_bracket _ _ (done a below) (nearest opens_bracket left)
+top_bracket (done a below ∷ left) = top_after for_bracket _ _ (done a below) (nearest opens_bracket left)
     (top_bracket left)
 top_bracket (waits m a ∷ left) = by m.is_image m.bracket m.wikilink (top_bracket left)
   where
     by : (i : Bool) (b w : Flag) → TopBracket left (nearest opens_bracket left)
         → TopBracket (waits (record { is_image = i; bracket = b; wikilink = w }) a ∷ left)
         (nearest opens_bracket (waits (record { is_image = i; bracket = b; wikilink = w }) a ∷ left))
-    by i gone w h = top_behind for_bracket _ _ (waits (record { is_image = i; bracket = gone; wikilink = w }) a)
+    by i gone w h = top_after for_bracket _ _ (waits (record { is_image = i; bracket = gone; wikilink = w }) a)
         (nearest opens_bracket left) h
     by i other w h = refl
 
 pub top_wikilink : (left : List (Entry ℕ)) → TopWikilink left (nearest opens_wikilink left)
 top_wikilink [] = (refl, refl)
-top_wikilink (done a below ∷ left) = top_behind for_wikilink _ _ (done a below) (nearest opens_wikilink left)
+top_wikilink (done a below ∷ left) = top_after for_wikilink _ _ (done a below) (nearest opens_wikilink left)
     (top_wikilink left)
 top_wikilink (waits m a ∷ left) = by m.is_image m.bracket m.wikilink (top_wikilink left)
   where
     by : (i : Bool) (b w : Flag) → TopWikilink left (nearest opens_wikilink left)
         → TopWikilink (waits (record { is_image = i; bracket = b; wikilink = w }) a ∷ left)
         (nearest opens_wikilink (waits (record { is_image = i; bracket = b; wikilink = w }) a ∷ left))
-    by i b gone h = top_behind for_wikilink _ _ (waits (record { is_image = i; bracket = b; wikilink = gone }) a)
+    by i b gone h = top_after for_wikilink _ _ (waits (record { is_image = i; bracket = b; wikilink = gone }) a)
         (nearest opens_wikilink left) h
     by i b other h = refl
 
@@ -71,7 +73,7 @@ wikilinks_stay (waits m a ∷ left) = by (opens_bracket m) (wikilinks_stay left)
         → wikilinks_of (if b then waits (without_bracket m) a ∷ left else waits m a ∷ bracket_taken left)
         ≡ wikilinks_of (waits m a ∷ left)
     by true h = refl
-    by false h = ap (held_as a.tag m.is_image m.wikilink) h
+    by false h = ap (held_as a.note m.is_image m.wikilink) h
 
 pub brackets_stay : (left : List (Entry ℕ)) → brackets_of (wikilink_taken left) ≡ brackets_of left
 brackets_stay [] = refl
@@ -82,11 +84,11 @@ brackets_stay (waits m a ∷ left) = by (opens_wikilink m) (brackets_stay left)
         → brackets_of (if b then waits (without_wikilink m) a ∷ left else waits m a ∷ wikilink_taken left)
         ≡ brackets_of (waits m a ∷ left)
     by true h = refl
-    by false h = ap (held_as a.tag m.is_image m.bracket) h
+    by false h = ap (held_as a.note m.is_image m.bracket) h
 
 -- what is taken off stays a tree
 trees_marked : Marked (λ m n. ⊤)
-    (λ left left'. (later : Forest (Label ℕ)) → trees_onto left' later ≡ trees_onto left later)
+    (λ left left'. (later : Forest (TreeNode ℕ)) → trees_onto left' later ≡ trees_onto left later)
 trees_marked = record {
   equal = λ m. tt;
   bracket = λ m. tt;
@@ -98,16 +100,17 @@ trees_marked = record {
   twice = λ one two three h k later. k later ∙ h later;
 }
 
-pub trees_stay : (test : Mark → Bool) (f : Mark → Mark) (left : List (Entry ℕ)) (later : Forest (Label ℕ))
+pub trees_stay : (test : OpenerState → Bool) (f : OpenerState → OpenerState) (left : List (Entry ℕ)) (later : Forest
+    (TreeNode ℕ))
     → trees_onto (change_nearest test f left) later ≡ trees_onto left later
 trees_stay test f left later = same_change trees_marked test f (λ m. tt) left later
 
 -- the trees of a left list at an opener
 abbrev pub SplitsAt : List (Entry ℕ) → Split ℕ → Type 0
-SplitsAt left o = (later : Forest (Label ℕ)) → trees_onto left later
+SplitsAt left o = (later : Forest (TreeNode ℕ)) → trees_onto left later
     ≡ trees_onto o.before (node o.opener nil (trees_onto o.after later))
 
-pub splits_at : (test : Mark → Bool) (left : List (Entry ℕ)) → IfSome (nearest test left) (SplitsAt left)
+pub splits_at : (test : OpenerState → Bool) (left : List (Entry ℕ)) → IfSome (nearest test left) (SplitsAt left)
 splits_at test left = by (nearest test left) (split_nearest test (λ m. m) left)
   where
     by : (o : Option (Split ℕ)) → IfSome o (IsSplitBy (λ m. m) left (change_nearest test (λ m. m) left))
@@ -115,9 +118,9 @@ splits_at test left = by (nearest test left) (split_nearest test (λ m. m) left)
     by None h = tt
     by (Some o) h = λ later.
         ap (λ (l : List (Entry ℕ)). trees_onto l later) h.is
-        ∙ onto_append o.after (waits o.mark o.opener ∷ o.before) later
+        ∙ onto_append o.after (waits o.state o.opener ∷ o.before) later
 
-pub onto_joined : (left : List (Entry ℕ)) (f g : Forest (Label ℕ)) → trees_onto left (joined_chains f g)
+pub onto_joined : (left : List (Entry ℕ)) (f g : Forest (TreeNode ℕ)) → trees_onto left (joined_chains f g)
     ≡ joined_chains (trees_onto left f) g
 onto_joined [] f g = refl
 onto_joined (done a below ∷ left) f g = onto_joined left (node a below f) g

@@ -17,14 +17,14 @@ use Rattle.markdown_base.specs.WellFormed.{StandsOverMarkup}
 use Rattle.markdown_base.specs.declared.item.ItemBody.{ItemBody}
 use Rattle.markdown_base.specs.declared.item.ItemBody.TheVariants as body
 use Rattle.markdown_document.specs.ChainRest.{begun_at, cut_shape, end_of, open_body, start_of}
-use Rattle.markdown_document.specs.Document.{Shape, plain, Label}
-use Rattle.markdown_document.specs.Setting.{Known}
-use Rattle.markdown_brackets.specs.BracketDecision.{Around, Closing, Progress, block_text, lines}
+use Rattle.markdown_document.specs.Document.{Shape, plain, TreeNode}
+use Rattle.markdown_document.specs.Setting.{ReferenceState}
+use Rattle.markdown_brackets.specs.BracketDecision.{BracketContext, Closing, Progress, block_text, lines}
 use Rattle.markdown_brackets.specs.ClosingBracket.{closed}
 use Rattle.markdown_brackets.specs.QuestionEnds.{AsksNothing, HoldsNoOpener, StandInLine, StandsInLine}
 use Rattle.markdown_brackets.specs.QuestionsAsked.{AsksAtMost, EndApart, closers_among, closes_bracket}
 use Rattle.markdown_brackets.specs.ReadChain.{Reader, among, begun, closing_of, read_chain}
-use Rattle.markdown_brackets.specs.Reference.{is_closer}
+use Rattle.markdown_brackets.specs.Reference.{is_closing_bracket}
 use Rattle.markdown_brackets.proofs.AsksAboutLemmas.{Asks, AsksFull, AsksNone, AsksOwn, AtMostOneTo, Told, closed_told}
 use Rattle.markdown_brackets.proofs.AsksAboutLemmas.{full_label, told_by}
 use Rattle.markdown_brackets.proofs.LabelPairLemmas.{IsLabelFrom, first_byte, labels_apart}
@@ -48,14 +48,14 @@ one_at_most end [] h = omega arith
 one_at_most end (q ∷ []) h = omega arith
 one_at_most end (q ∷ r ∷ more) h = absurd h
 
-few_asked : {A : Type 0} (w : Around) (c : Closing A) (s t : Told) (h : Asks w c s t) → length h.more ≤ 1
+few_asked : {A : Type 0} (w : BracketContext) (c : Closing A) (s t : Told) (h : Asks w c s t) → length h.more ≤ 1
 few_asked w c s t h = ⊎_elim
     (λ (k : AsksFull w c h.more s.spent t.spent). one_at_most k.end h.more k.most)
     (λ (k : AsksOwn w c h.more s.spent t.spent ⊎ AsksNone w c h.more s.spent t.spent). ⊎_elim
-    (λ (k : AsksOwn w c h.more s.spent t.spent). one_at_most (end_of c.label) h.more k.most)
+    (λ (k : AsksOwn w c h.more s.spent t.spent). one_at_most (end_of c.node) h.more k.most)
     (λ (k : AsksNone w c h.more s.spent t.spent). let none = ap length k.none in omega (arith, none)) k) h.way
 
-closer_more : {A : Type 0} (w : Around) (c : Closing A) (n closers : ℕ) (s t u : Told) → Asks w c t u
+closer_more : {A : Type 0} (w : BracketContext) (c : Closing A) (n closers : ℕ) (s t u : Told) → Asks w c t u
     → AtMost n (suc closers) s t → AtMost n closers s u
 closer_more w c n closers s t u a h =
     let sum : length u.asked ≡ length t.asked + length a.more = ap length a.asked ∙ length-append t.asked a.more in
@@ -72,16 +72,17 @@ closer_more w c n closers s t u a h =
 abbrev one_if : Bool → ℕ
 one_if b = cond b 1 0
 
-module _ {A : Type 0} (w : Around) (others : Reader A) (nothing : AsksNothing others) where
-  other_told : (a : Label A) (below rest : Forest (Label A)) (p : Progress A) → told_by (others a below rest p)
+module _ {A : Type 0} (w : BracketContext) (others : Reader A) (nothing : AsksNothing others) where
+  other_told : (a : TreeNode A) (below rest : Forest (TreeNode A)) (p : Progress A) → told_by (others a below rest p)
       ≡ told_by p
   other_told a below rest p = ap told_by (nothing a below rest p)
 
-  closers_on : (a : Label A) (rest : Forest (Label A))
+  closers_on : (a : TreeNode A) (rest : Forest (TreeNode A))
       → closers_among (a ∷ roots rest) ≡ one_if (closes_bracket a) + closers_among (roots rest)
-  closers_on a rest = sum_by-cons (λ (a : Label A). one_if (closes_bracket a)) a (roots rest)
+  closers_on a rest = sum_by-cons (λ (a : TreeNode A). one_if (closes_bracket a)) a (roots rest)
 
-  fewer : (n : ℕ) (s t : Told) (a : Label A) (rest : Forest (Label A)) → AtMost n (closers_among (a ∷ roots rest)) s t
+  fewer : (n : ℕ) (s t : Told) (a : TreeNode A) (rest : Forest (TreeNode A)) → AtMost n (closers_among (a
+      ∷ roots rest)) s t
       → AtMost n (closers_among (roots rest)) s t
   fewer n s t a rest h = record { once = omega (arith, closers_on a rest, h.once); silent = h.silent }
 
@@ -91,39 +92,39 @@ module _ {A : Type 0} (w : Around) (others : Reader A) (nothing : AsksNothing ot
     opens = λ i a below rest q h. fewer n s (told_by q) a rest h;
     closes = λ could a below rest q e h.
         let c : Closing A = closing_of could a rest q in
-        let one : one_if (closes_bracket a) ≡ 1 = ap (λ (b : ItemBody). one_if (is_closer b)) e in
+        let one : one_if (closes_bracket a) ≡ 1 = ap (λ (b : ItemBody). one_if (is_closing_bracket b)) e in
         closer_more w c n (closers_among (roots rest)) s (told_by q) (told_by (closed w c q)) (closed_told w c q)
         (record { once = omega (arith, closers_on a rest, one, h.once); silent = h.silent });
     other = λ a below rest q h. rw (other_told a below rest q) (fewer n s (told_by q) a rest h);
     passes = λ a below rest q h. fewer n s (told_by q) a rest h;
     cuts = λ i a below rest q h.
         let same : one_if (closes_bracket (begun_at i a)) ≡ one_if (closes_bracket a) =
-        ap (λ (b : ItemBody). one_if (is_closer b)) (cut_body (i - start_of a) a.part.shape) in
+        ap (λ (b : ItemBody). one_if (is_closing_bracket b)) (cut_body (i - start_of a) a.part.shape) in
         record {
           once = omega (arith, closers_on a rest, closers_on (begun_at i a) rest, same, h.once);
           silent = h.silent;
         };
   }
 
-  few_more : (chain : Forest (Label A)) (known : Known)
-      → AtMost (closers_among (roots chain)) 0 (told_by (begun {A = A} known))
-      (told_by (read_chain w others chain (begun known)))
-  few_more chain known =
-      let s : Told = told_by (begun {A = A} known) in
-      let h = chain_keeps (more_reads (closers_among (roots chain)) s) chain (begun known)
+  few_more : (chain : Forest (TreeNode A)) (state : ReferenceState)
+      → AtMost (closers_among (roots chain)) 0 (told_by (begun {A = A} state))
+      (told_by (read_chain w others chain (begun state)))
+  few_more chain state =
+      let s : Told = told_by (begun {A = A} state) in
+      let h = chain_keeps (more_reads (closers_among (roots chain)) s) chain (begun state)
       (record { once = omega arith; silent = λ z. (z, refl) }) in
       record { once = omega (arith, h.once); silent = h.silent }
 
-  pub asks_at_most : (chain : Forest (Label A)) (known : Known)
-      → AsksAtMost (closers_among (roots chain)) known.limit (read_chain w others chain (begun known)).asked
-  asks_at_most chain known =
-      let h = few_more chain known in
+  pub asks_at_most : (chain : Forest (TreeNode A)) (state : ReferenceState)
+      → AsksAtMost (closers_among (roots chain)) state.limit (read_chain w others chain (begun state)).asked
+  asks_at_most chain state =
+      let h = few_more chain state in
       record { once = omega (arith, h.once); silent = λ z. (h.silent z).1 }
 
   -- a limit of 0 stays
-  pub stays_zero : (chain : Forest (Label A)) (known : Known) → known.limit ≡ 0
-      → (read_chain w others chain (begun known)).known.limit ≡ 0
-  stays_zero chain known z = ((few_more chain known).silent z).0
+  pub stays_zero : (chain : Forest (TreeNode A)) (state : ReferenceState) → state.limit ≡ 0
+      → (read_chain w others chain (begun state)).state.limit ≡ 0
+  stays_zero chain state z = ((few_more chain state).silent z).0
 
 -- ---- where they end
 
@@ -155,27 +156,27 @@ apart_pushed questions q h k =
     (none_there q.span.end questions k))
 
 -- a label that follows a `]` by a byte ends there, whose own `]` is used up
-record IsUsedUp (w : Around) (last : ℕ) (spent : List ℕ) (end : ℕ) : Type 0 where
+record IsUsedUp (w : BracketContext) (last : ℕ) (spent : List ℕ) (end : ℕ) : Type 0 where
   used : among end spent ≡ true
   from : ℕ
-  behind : from ≤ last
+  after : from ≤ last
   label : IsLabelFrom (lines w) (block_text w) from end
 
 -- each question ends at a byte offset or before, or with such a label
-abbrev EndsBy : Around → ℕ → List ℕ → Question → Type 0
+abbrev EndsBy : BracketContext → ℕ → List ℕ → Question → Type 0
 EndsBy w last spent q = (q.span.end ≤ last) ⊎ IsUsedUp w last spent q.span.end
 
-record IsToldTo (w : Around) (last : ℕ) (t : Told) : Type 0 where
+record IsToldTo (w : BracketContext) (last : ℕ) (t : Told) : Type 0 where
   apart : EndApart t.asked
   each : AllByRecursion (EndsBy w last t.spent) t.asked
 
-ends_later : (w : Around) (last later : ℕ) (spent spent' : List ℕ) (q : Question) → last ≤ later
+ends_later : (w : BracketContext) (last later : ℕ) (spent spent' : List ℕ) (q : Question) → last ≤ later
     → (among q.span.end spent ≡ true → among q.span.end spent' ≡ true) → EndsBy w last spent q → EndsBy w later spent' q
 ends_later w last later spent spent' q l more (inl k) = inl (omega (arith, k, l))
 ends_later w last later spent spent' q l more (inr k) =
-    inr (record { used = more k.used; from = k.from; behind = omega (arith, k.behind, l); label = k.label })
+    inr (record { used = more k.used; from = k.from; after = omega (arith, k.after, l); label = k.label })
 
-told_later : (w : Around) (last later : ℕ) (t : Told) → last ≤ later → IsToldTo w last t → IsToldTo w later t
+told_later : (w : BracketContext) (last later : ℕ) (t : Told) → last ≤ later → IsToldTo w last t → IsToldTo w later t
 told_later w last later t l h = record {
   apart = h.apart;
   each = all_also (EndsBy w last t.spent) (EndsBy w later t.spent)
@@ -191,10 +192,10 @@ pub record ClosesUpTo (text : List ℕ) (last end : ℕ) : Type 0 where
 among_first : (n m : ℕ) (ms : List ℕ) → n ≡ m → among n (m ∷ ms) ≡ true
 among_first n m ms e = grind (arith, nat_tests)
 
-module _ {A : Type 0} (w : Around) (none : HoldsNoOpener w.skipped) (c : Closing A) (last : ℕ)
-    (at : ClosesUpTo w.setting.text last (end_of c.label)) where
+module _ {A : Type 0} (w : BracketContext) (none : HoldsNoOpener w.skipped) (c : Closing A) (last : ℕ)
+    (at : ClosesUpTo w.setting.text last (end_of c.node)) where
   abbrev here : ℕ
-  here = end_of c.label
+  here = end_of c.node
 
   -- no earlier question ends where the label ends that follows
   full_apart : (spent : List ℕ) (end : ℕ) → IsLabelFrom (lines w) (block_text w) here end → (q : Question)
@@ -207,7 +208,7 @@ module _ {A : Type 0} (w : Around) (none : HoldsNoOpener w.skipped) (c : Closing
       let within : here < w.above.block_end = omega (arith, first.0, size) in
       let byte = get_or-take w.above.block_end w.setting.text (here - 1) 0 (omega (arith, within)) ∙ at.byte in
       let earlier = subst (IsLabelFrom (lines w) (block_text w) k.from) (sym e) k.label in
-      labels_apart w.skipped none (block_text w) k.from here end earlier label (omega (arith, k.behind, at.later)) byte
+      labels_apart w.skipped none (block_text w) k.from here end earlier label (omega (arith, k.after, at.later)) byte
 
   -- nor where the `]` ends, where that is not used up
   own_apart : (spent : List ℕ) → among here spent ≡ false → (q : Question) → EndsBy w last spent q → (here ≡ q.span.end)
@@ -251,7 +252,7 @@ module _ {A : Type 0} (w : Around) (none : HoldsNoOpener w.skipped) (c : Closing
         (λ q e. inr (record {
           used = among_first q.span.end k.end s.spent e;
           from = here;
-          behind = omega arith;
+          after = omega arith;
           label = rw e label;
         })))
 
@@ -291,7 +292,7 @@ abbrev IfCloses : List ℕ → ℕ → ItemBody → ℕ → Type 0
 IfCloses text last (body.MaybeLinkClose could) end = ClosesUpTo text last end
 IfCloses text last other end = Unit {0}
 
-if_closes : {A : Type 0} (text : List ℕ) (last : ℕ) (b : ItemBody) (a : Label A) (next : Option (Label A))
+if_closes : {A : Type 0} (text : List ℕ) (last : ℕ) (b : ItemBody) (a : TreeNode A) (next : Option (TreeNode A))
     → StandsInLine text a next
     → open_body a.part.shape ≡ b → last ≤ start_of a
     → IfCloses text last b (end_of a)
@@ -302,12 +303,12 @@ if_closes text last (body.MaybeLinkClose could) a next h is l =
 if_closes text last other a next h is l = tt
 
 -- of each `]` of a chain
-abbrev CloseInLine : {A : Type 0} → List ℕ → ℕ → Forest (Label A) → Type 0
+abbrev CloseInLine : {A : Type 0} → List ℕ → ℕ → Forest (TreeNode A) → Type 0
 CloseInLine text last nil = Unit {0}
 CloseInLine text last (node a below rest) =
     (last ≤ end_of a) × IfCloses text last (open_body a.part.shape) (end_of a) × CloseInLine text (end_of a) rest
 
-in_line : {A : Type 0} (text : List ℕ) (last : ℕ) (chain : Forest (Label A)) → StandInLine text chain
+in_line : {A : Type 0} (text : List ℕ) (last : ℕ) (chain : Forest (TreeNode A)) → StandInLine text chain
     → IfSome (first_root chain) (λ a. last ≤ start_of a) → CloseInLine text last chain
 in_line text last nil stand l = tt
 in_line text last (node a below rest) stand l =
@@ -322,12 +323,13 @@ unused_then true true h = cc h
 unused_then false true h = cc h
 unused_then could false h = refl
 
-module _ {A : Type 0} (w : Around) (others : Reader A) (nothing : AsksNothing others) (none : HoldsNoOpener w.skipped)
+module _ {A : Type 0} (w : BracketContext) (others : Reader A) (nothing : AsksNothing others)
+    (none : HoldsNoOpener w.skipped)
   where
-    abbrev IsToldBefore : Forest (Label A) → Told → Type 0
+    abbrev IsToldBefore : Forest (TreeNode A) → Told → Type 0
     IsToldBefore chain t = (last : ℕ) × CloseInLine w.setting.text last chain × IsToldTo w last t
 
-    past_told : (a : Label A) (below rest : Forest (Label A)) (t : Told) → IsToldBefore (node a below rest) t
+    past_told : (a : TreeNode A) (below rest : Forest (TreeNode A)) (t : Told) → IsToldBefore (node a below rest) t
         → IsToldBefore rest t
     past_told a below rest t h = (end_of a, h.1.2, told_later w h.0 (end_of a) t h.1.0 h.2)
 
@@ -348,12 +350,12 @@ module _ {A : Type 0} (w : Around) (others : Reader A) (nothing : AsksNothing ot
       cuts = λ i a below rest p h. (h.0, (h.1.0, rw (cut_body (i - start_of a) a.part.shape) h.1.1, h.1.2), h.2);
     }
 
-    pub end_apart : (chain : Forest (Label A)) (known : Known) → StandInLine w.setting.text chain
-        → EndApart (read_chain w others chain (begun known)).asked
+    pub end_apart : (chain : Forest (TreeNode A)) (state : ReferenceState) → StandInLine w.setting.text chain
+        → EndApart (read_chain w others chain (begun state)).asked
     unfolding IsDistinct
-    end_apart chain known stand = (chain_keeps told_reads chain (begun known)
+    end_apart chain state stand = (chain_keeps told_reads chain (begun state)
         (0, in_line w.setting.text 0 chain stand (from_start chain), record { apart = tt; each = tt })).2.apart
       where
-        from_start : (chain : Forest (Label A)) → IfSome (first_root chain) (λ a. 0 ≤ start_of a)
+        from_start : (chain : Forest (TreeNode A)) → IfSome (first_root chain) (λ a. 0 ≤ start_of a)
         from_start nil = tt
         from_start (node a below rest) = omega arith

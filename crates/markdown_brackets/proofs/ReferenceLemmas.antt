@@ -3,7 +3,8 @@ use Rattle.std.proofs.Common.{◌≡◌, ℕ, ◌+◌, ◌≤◌, ◌&&◌, Bool
 use Rattle.std.specs.Prelude.{if◌then◌else◌}
 use Rattle.std.proofs.lemmas.List.{drop_all}
 use Rattle.markdown_base.specs.declared.item.Item.{Item}
-use Rattle.markdown_brackets.specs.Reference.{collapsed, form_at, form_by_label, is_closer, is_opener, bracket_label}
+use Rattle.markdown_brackets.specs.Reference.{collapsed, form_at, form_by_label, is_closing_bracket, is_opener}
+use Rattle.markdown_brackets.specs.Reference.{bracket_label}
 use Rattle.markdown_brackets.specs.Reference.{shortcut, stands_at}
 use Rattle.markdown_brackets.specs.declared.footnote.FootnoteStyle.{FootnoteStyle}
 
@@ -20,8 +21,8 @@ pub form_past : (style : FootnoteStyle) (skipped : List ℕ → Option ℕ) (in_
     (next after : Option Item)
     → length text ≤ at
     → form_at style skipped in_table text at next after
-    ≡ (if stands_at at is_opener next && stands_at (at + 1) is_closer after
+    ≡ (if stands_at at is_opener next && stands_at (at + 1) is_closing_bracket after
     then collapsed else shortcut)
 form_past style skipped in_table text at next after past =
     rw (drop_all at text past) (by_items style skipped in_table at
-    (stands_at at is_opener next && stands_at (at + 1) is_closer after) (stands_at at (λ b. true) next))
+    (stands_at at is_opener next && stands_at (at + 1) is_closing_bracket after) (stands_at at (λ b. true) next))

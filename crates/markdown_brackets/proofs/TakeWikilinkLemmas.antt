@@ -10,10 +10,10 @@ use Rattle.markdown_base.specs.declared.item.Item.{Item}
 use Rattle.markdown_base.specs.declared.node.Node.{Node}
 use Rattle.markdown_base.proofs.ArenaForestLemmas.{height}
 use Rattle.markdown_document.specs.ChainRest.{start_of, joined_chains, open_body}
-use Rattle.markdown_document.specs.Document.{Label}
+use Rattle.markdown_document.specs.Document.{TreeNode}
 use Rattle.markdown_document.specs.Totals.{same}
 use Rattle.markdown_document.proofs.TablesLemmas.{same-refl}
-use Rattle.markdown_brackets.specs.BracketDecision.{Around, Closing, Decision, Written, Progress, Wikilink}
+use Rattle.markdown_brackets.specs.BracketDecision.{BracketContext, Closing, Decision, Written, Progress, Wikilink}
 use Rattle.markdown_brackets.specs.BracketDecision.{bracket_found, carried_out, decided, found, left_for_one}
 use Rattle.markdown_brackets.specs.BracketDecision.{past_second, second_end, wikilink, wikilink_found, wikilink_in}
 use Rattle.std.specs.Option.{option_and_then, option_map, option_or}
@@ -24,10 +24,10 @@ use Rattle.markdown_brackets.specs.DecisionView.{opener_of}
 use Rattle.markdown_brackets.specs.Finish.{IsSplit}
 use Rattle.markdown_brackets.specs.LeftList.{Entry, Split, done, inside, is_live, nearest, opens_bracket}
 use Rattle.markdown_brackets.specs.LeftList.{opens_wikilink, waits, without_bracket, without_wikilink, bracket_taken}
-use Rattle.markdown_brackets.specs.LeftList.{wikilink_taken, trees_onto, Flag, Mark}
+use Rattle.markdown_brackets.specs.LeftList.{wikilink_taken, trees_onto, Flag, OpenerState}
 use Rattle.markdown_brackets.specs.HeldOpeners.{brackets_of, wikilinks_of}
 use Rattle.markdown_brackets.specs.Openers.{Waiting}
-use Rattle.markdown_brackets.specs.Reference.{is_closer}
+use Rattle.markdown_brackets.specs.Reference.{is_closing_bracket}
 use Rattle.markdown_brackets.specs.StandsAt.{FindsWikilink, IsWikilink, HoldsInside, TriesWikilink, TakesNone}
 use Rattle.markdown_brackets.specs.StandsAt.{TakesWikilink}
 use Rattle.markdown_brackets.specs.declared.closing_bracket.ClosedBracket.{ClosedBracket}
@@ -61,12 +61,12 @@ left_of None old new m = m.1 ∙ sym (ap rest_of m.0)
 left_of (Some t) old new m = sym (ap rest_of m)
 
 -- the opener on top is the nearest one
-abbrev pub IsNearest : (Mark → Flag) → Option (Opener × Bool) → Option (Split ℕ) → Type 0
+abbrev pub IsNearest : (OpenerState → Flag) → Option (Opener × Bool) → Option (Split ℕ) → Type 0
 IsNearest flag None None = ⊤
-IsNearest flag (Some t) (Some o) = (t.0 ≡ opener_of o) × (t.1 ≡ is_live (flag o.mark))
+IsNearest flag (Some t) (Some o) = (t.0 ≡ opener_of o) × (t.1 ≡ is_live (flag o.state))
 IsNearest flag taken o = ⊥
 
-pub is_nearest : (flag : Mark → Flag) (taken : Option (Opener × Bool)) (old new held rest : List Waiting)
+pub is_nearest : (flag : OpenerState → Flag) (taken : Option (Opener × Bool)) (old new held rest : List Waiting)
     (o : Option (Split ℕ)) → TakenOff taken old new → old ≡ held → Top flag held rest o → IsNearest flag taken o
 is_nearest flag None old new held rest None m e top = tt
 is_nearest flag None old new held rest (Some o) m e top = let a = sym m.0 ∙ e ∙ top in cc
@@ -76,7 +76,7 @@ is_nearest flag (Some t) old new held rest (Some o) m e top =
     (ap (λ (v : Waiting). v.opener) first, ap (λ (v : Waiting). v.is_live) first)
 
 -- without the one on top, a stack holds the list without the nearest opener
-rest_is : (flag : Mark → Flag) (held rest : List Waiting) (o : Option (Split ℕ)) → Top flag held rest o
+rest_is : (flag : OpenerState → Flag) (held rest : List Waiting) (o : Option (Split ℕ)) → Top flag held rest o
     → rest_of held ≡ rest
 rest_is flag held rest None h = ap rest_of h.0 ∙ sym h.1
 rest_is flag held rest (Some o) h = ap rest_of h
@@ -103,68 +103,68 @@ taken_both (waits m a ∷ left) = by (opens_bracket m) (opens_wikilink m) refl r
 
 module _ (nodes : List (Node Item)) (closer : ℕ) (left : List (Entry ℕ)) (c : Closing ℕ)
     (s : StandsBefore nodes closer left c) where
-  abbrev behind_left : Forest (Label ℕ)
-  behind_left = node c.label nil c.rest
+  abbrev after_left : Forest (TreeNode ℕ)
+  after_left = node c.node nil c.rest
 
   -- all trees from a part of the left list on are at most as high as there are nodes
-  low : height (numbers_of (trees_onto left behind_left)) ≤ length nodes
+  low : height (numbers_of (trees_onto left after_left)) ≤ length nodes
   low = subst (λ g. height g ≤ length nodes) s.found (height_found (links_of nodes) s.first)
 
   -- the `]` and the chain after it
-  pub closer_found : Found s.source s.tables nodes (Some closer) behind_left
+  pub closer_found : Found s.source s.tables nodes (Some closer) after_left
   closer_found =
-      let h = Holds-from s.source s.tables nodes s.first left behind_left s.holds in
+      let h = Holds-from s.source s.tables nodes s.first left after_left s.holds in
       let first : h.0 ≡ Some closer = h.1.0 ∙ ap (λ n. Some n) s.number in
       record {
         holds = rw first at h.1;
-        low = omega (arith, low, height-later left behind_left);
+        low = omega (arith, low, height-later left after_left);
       }
 
   pub rest_found : Found s.source s.tables nodes (sibling_of nodes closer) c.rest
-  rest_found = rw s.number at (found_after s.source s.tables nodes (Some closer) c.label nil c.rest closer_found)
+  rest_found = rw s.number at (found_after s.source s.tables nodes (Some closer) c.node nil c.rest closer_found)
 
   -- an opener of the left list, with flags of its own
-  module _ (other : List (Entry ℕ)) (trees : (later : Forest (Label ℕ)) → trees_onto other later
+  module _ (other : List (Entry ℕ)) (trees : (later : Forest (TreeNode ℕ)) → trees_onto other later
       ≡ trees_onto left later) (o : Split ℕ)
       (splits : SplitsAt other o) where
-    onto : trees_onto left behind_left ≡ trees_onto o.before (node o.opener nil (trees_onto o.after behind_left))
-    onto = sym (trees behind_left) ∙ splits behind_left
+    onto : trees_onto left after_left ≡ trees_onto o.before (node o.opener nil (trees_onto o.after after_left))
+    onto = sym (trees after_left) ∙ splits after_left
 
-    pub opener_holds : Holds s.source s.tables nodes (Some o.opener.tag)
-        (node o.opener nil (trees_onto o.after behind_left))
+    pub opener_holds : Holds s.source s.tables nodes (Some o.opener.note)
+        (node o.opener nil (trees_onto o.after after_left))
     opener_holds =
         let h = Holds-from s.source s.tables nodes s.first o.before _ (rw onto at s.holds) in rw h.1.0 at h.1
 
-    opener_low : height (numbers_of (node o.opener nil (trees_onto o.after behind_left))) ≤ length nodes
+    opener_low : height (numbers_of (node o.opener nil (trees_onto o.after after_left))) ≤ length nodes
     opener_low =
         let whole = rw onto at low in
-        omega (arith, whole, height-later o.before (node o.opener nil (trees_onto o.after behind_left)))
+        omega (arith, whole, height-later o.before (node o.opener nil (trees_onto o.after after_left)))
 
     pub between : (opener : Opener) → opener ≡ opener_of o → HoldsInside nodes closer opener c o
     between opener e =
-        let n : opener.node ≡ o.opener.tag = ap (λ (p : Opener). p.node) e in
-        let after : trees_onto o.after behind_left ≡ joined_chains (inside o) behind_left = onto_joined o.after nil
-        behind_left in
-        let there : Found s.source s.tables nodes (sibling_of nodes opener.node) (joined_chains (inside o) behind_left)
+        let n : opener.node ≡ o.opener.note = ap (λ (p : Opener). p.node) e in
+        let after : trees_onto o.after after_left ≡ joined_chains (inside o) after_left = onto_joined o.after nil
+        after_left in
+        let there : Found s.source s.tables nodes (sibling_of nodes opener.node) (joined_chains (inside o) after_left)
         = rw (n, ← after) (record { holds = opener_holds.4; low = omega (arith, opener_low) }) in
-        let once = s.once c.label.tag in
-        let counted = ap (λ f. times_of c.label.tag f) onto in
-        let first = total-onto (same c.label.tag) o.before (node o.opener nil (trees_onto o.after behind_left)) in
-        let second = ap (λ f. times_of c.label.tag f) after in
-        let third = total-joined (same c.label.tag) (inside o) behind_left in
+        let once = s.once c.node.note in
+        let counted = ap (λ f. times_of c.node.note f) onto in
+        let first = total-onto (same c.node.note) o.before (node o.opener nil (trees_onto o.after after_left)) in
+        let second = ap (λ f. times_of c.node.note f) after in
+        let third = total-joined (same c.node.note) (inside o) after_left in
         record {
           source = s.source;
           tables = s.tables;
           holds = there.holds;
-          found = found_at s.source s.tables nodes (sibling_of nodes opener.node) (joined_chains (inside o) behind_left)
+          found = found_at s.source s.tables nodes (sibling_of nodes opener.node) (joined_chains (inside o) after_left)
               there;
-          apart = omega (arith, once, counted, first, second, third, same-refl c.label.tag);
+          apart = omega (arith, once, counted, first, second, third, same-refl c.node.note);
           number = s.number;
-          starts = rw (← s.number) (same_start s.source s.tables nodes c.label closer_found.holds.2);
+          starts = rw (← s.number) (same_start s.source s.tables nodes c.node closer_found.holds.2);
           order = s.order;
         }
 
-  module _ (w : Around) where
+  module _ (w : BracketContext) where
     -- the decision, with the end of a second `]`
     abbrev decided_by : Option ℕ → Progress ℕ → Decision ℕ
     decided_by second p = carried_out w (found w c second p.left)
@@ -189,27 +189,30 @@ module _ (nodes : List (Node Item)) (closer : ℕ) (left : List (Entry ℕ)) (c 
         → TakesNone w c left held
     none_by_off held h off = none_tried held h (by c.rest)
       where
-        by : (rest : Forest (Label ℕ)) → second_end w rest ≡ None
+        by : (rest : Forest (TreeNode ℕ)) → second_end w rest ≡ None
         by nil = refl
         by (node a below after) = rw off refl
 
     pub none_by_next : (held : List Waiting) → held ≡ wikilinks_of left
-        → MatchOption (sibling_of nodes closer) (Unit {0}) (λ next. is_closer (item_at nodes next).body ≡ false)
+        → MatchOption (sibling_of nodes closer) (Unit {0}) (λ next. is_closing_bracket
+        (item_at nodes next).body ≡ false)
         → TakesNone w c left held
     none_by_next held h next = none_tried held h (by c.rest (sibling_of nodes closer) rest_found.holds next)
       where
-        by : (rest : Forest (Label ℕ)) (l : Option ℕ) → Holds s.source s.tables nodes l rest
-            → MatchOption l (Unit {0}) (λ next. is_closer (item_at nodes next).body ≡ false) → second_end w rest ≡ None
+        by : (rest : Forest (TreeNode ℕ)) (l : Option ℕ) → Holds s.source s.tables nodes l rest
+            → MatchOption l (Unit {0}) (λ next. is_closing_bracket (item_at nodes next).body ≡ false)
+            → second_end w rest ≡ None
         by nil l h m = refl
         by (node a below after) None h m = let e = h.0 in cc
         by (node a below after) (Some next) h m =
-            let e : next ≡ a.tag = let q = h.0 in cc in
-            let none : is_closer (open_body a.part.shape) ≡ false =
+            let e : next ≡ a.note = let q = h.0 in cc in
+            let none : is_closing_bracket (open_body a.part.shape) ≡ false =
             sym (same_closer s.source s.tables nodes a h.2) ∙ rw e at m in
             rw (none, and-false (wikilinks_on w.setting.rules.options)) refl
 
     -- where a wikilink is tried
-    module _ (next : ℕ) (is_next : sibling_of nodes closer ≡ Some next) (closes : is_closer (item_at nodes next).body
+    module _ (next : ℕ) (is_next : sibling_of nodes closer ≡ Some next) (closes : is_closing_bracket
+        (item_at nodes next).body
         ≡ true)
         (on : wikilinks_on w.setting.rules.options ≡ true) where
       abbrev end : ℕ
@@ -221,12 +224,12 @@ module _ (nodes : List (Node Item)) (closer : ℕ) (left : List (Entry ℕ)) (c 
       second_is : second_end w c.rest ≡ Some end
       second_is = by c.rest (sibling_of nodes closer) rest_found.holds is_next
         where
-          by : (rest : Forest (Label ℕ)) (l : Option ℕ) → Holds s.source s.tables nodes l rest → l ≡ Some next
+          by : (rest : Forest (TreeNode ℕ)) (l : Option ℕ) → Holds s.source s.tables nodes l rest → l ≡ Some next
               → second_end w rest ≡ Some end
           by nil l h e = let q : l ≡ None = h in cc
           by (node a below after) l h e =
-              let n : next ≡ a.tag = let q = h.0 in cc in
-              let is : is_closer (open_body a.part.shape) ≡ true =
+              let n : next ≡ a.note = let q = h.0 in cc in
+              let is : is_closing_bracket (open_body a.part.shape) ≡ true =
               sym (same_closer s.source s.tables nodes a h.2) ∙ rw n at closes in
               rw (on, n, is, same_end s.source s.tables nodes a h.2) refl
 
@@ -285,7 +288,7 @@ module _ (nodes : List (Node Item)) (closer : ℕ) (left : List (Entry ℕ)) (c 
               where
                 shown : Option (Wikilink ℕ)
                 shown =
-                    if is_live o.mark.wikilink then wikilink_in w (past_second (inside o)) (start_of c.label) else None
+                    if is_live o.state.wikilink then wikilink_in w (past_second (inside o)) (start_of c.node) else None
 
                 splits : IsSplit (bracket_taken (wikilink_taken left)) o
                 splits = rw (taken_both left) at
@@ -301,7 +304,7 @@ module _ (nodes : List (Node Item)) (closer : ℕ) (left : List (Entry ℕ)) (c 
                     → option_and_then (wikilink_found w c end) wikilink_opener ≡ option_map (λ v. wikilink o v end) x
                 all_is x e =
                     ap (option_and_then (wikilink_found w c end)) q
-                    ∙ (found_is (is_live o.mark.wikilink) (wikilink_in w (past_second (inside o)) (start_of c.label))
+                    ∙ (found_is (is_live o.state.wikilink) (wikilink_in w (past_second (inside o)) (start_of c.node))
                     ∙ ap (option_map (λ v. wikilink o v end)) e)
 
                 inner : (x : Option (Wikilink ℕ)) → shown ≡ x → (r : Option ClosedBracket)

@@ -1,4 +1,4 @@
--- What is read in an arena at an opener and its `]` is what the definition reads from their labels, and the result is
+-- What is read in an arena at an opener and its `]` is what the definition reads from their nodes, and the result is
 -- the same.
 use Rattle.std.proofs.Common.{◌≡◌, ℕ, ◌-◌, ◌<◌, Bool, true, false, List, Option, Some, None, refl, sym, ◌∙◌, ap, take}
 use Rattle.std.proofs.Math.Path.{fun_ext}
@@ -13,7 +13,8 @@ use Rattle.markdown_base.specs.declared.item.ItemBody.{ItemBody}
 use Rattle.markdown_base.specs.declared.node.Node.{Node}
 use Rattle.markdown_document.specs.ChainRest.{as_item, end_of, start_of}
 use Rattle.markdown_document.specs.declared.chain_place.ChainPlace.{ChainPlace}
-use Rattle.markdown_brackets.specs.BracketDecision.{Around, Closing, bracket_found, closer_ends_at, inline_link, lines}
+use Rattle.markdown_brackets.specs.BracketDecision.{BracketContext, Closing, bracket_found, closer_ends_at, inline_link}
+use Rattle.markdown_brackets.specs.BracketDecision.{lines}
 use Rattle.markdown_brackets.specs.BracketDecision.{past_second, reference_written, start_of_first_past, written}
 use Rattle.markdown_brackets.specs.BracketOptions.{footnote_style}
 use Rattle.markdown_brackets.specs.ChainAhead.{reaches_closer, starts_from}
@@ -21,31 +22,31 @@ use Rattle.markdown_brackets.specs.DecisionView.{opener_of}
 use Rattle.markdown_brackets.specs.LeftList.{Split, is_live}
 use Rattle.markdown_brackets.specs.LinkTail.{link_tail}
 use Rattle.markdown_brackets.specs.Reference.{Form, FoundLabel, reference, collapsed, shortcut, form_at, own_label}
-use Rattle.markdown_brackets.specs.StandsAt.{TriesOpener, ComesTo, around_by}
+use Rattle.markdown_brackets.specs.StandsAt.{TriesOpener, ComesTo, bracket_context_by}
 use Rattle.markdown_brackets.specs.WrittenView.{form_ahead, written_at}
 use Rattle.markdown_brackets.specs.declared.closing_bracket.ClosedBracket.{ClosedBracket}
 use Rattle.markdown_brackets.specs.declared.closing_bracket.ClosedBracket.TheVariants.{Text}
 use Rattle.markdown_brackets.specs.declared.look_up.LabelLookup.{LabelLookup}
 use Rattle.markdown_brackets.specs.declared.openers.Opener.{Opener}
 use Rattle.markdown_brackets.specs.declared.spent_ends.SpentEnds.{SpentEnds}
-use Rattle.markdown_brackets.proofs.AheadOfBracketLemmas.{EndsBehind, closers_ahead, form_ahead_is, form_behind}
+use Rattle.markdown_brackets.proofs.AheadOfBracketLemmas.{EndsAfter, closers_ahead, form_ahead_is, form_after}
 use Rattle.markdown_brackets.proofs.AheadOfBracketLemmas.{starts_ahead}
 use Rattle.markdown_brackets.proofs.ComesToLemmas.{comes_to_text, found_as}
 
 -- a reference by two tests that agree past byte 0
-reference_same : (w : Around) (o : Split ℕ) (end : ℕ) (closes closes' : ℕ → Bool) (own : Option FoundLabel)
+reference_same : (w : BracketContext) (o : Split ℕ) (end : ℕ) (closes closes' : ℕ → Bool) (own : Option FoundLabel)
     (form : Form)
-    → EndsBehind 0 form → ((i : ℕ) → 0 < i → closes i ≡ closes' i)
+    → EndsAfter 0 form → ((i : ℕ) → 0 < i → closes i ≡ closes' i)
     → reference_written w o end closes own form ≡ reference_written w o end closes' own form
-reference_same w o end closes closes' own (reference label to) behind same = rw (same to behind) refl
-reference_same w o end closes closes' own collapsed behind same = refl
-reference_same w o end closes closes' own shortcut behind same = refl
+reference_same w o end closes closes' own (reference label to) after same = rw (same to after) refl
+reference_same w o end closes closes' own collapsed after same = refl
+reference_same w o end closes closes' own shortcut after same = refl
 
 module _ {C : Type 0} (step : C → Question → Option Answer → C → Type 0) (nodes : List (Node Item)) (place : ChainPlace)
     (skipped : List ℕ → ℕ) (bodies : List ItemBody) (old new : LabelLookup C) (closer : ℕ) (could_be : Bool)
     (c : Closing ℕ) where
-  abbrev w : Around
-  w = around_by place skipped bodies old
+  abbrev w : BracketContext
+  w = bracket_context_by place skipped bodies old
 
   -- what is written there
   pub written_is : (taken : Option (Opener × Bool)) (all : Option (Split ℕ)) (o : Split ℕ) (start : ℕ)
@@ -60,7 +61,7 @@ module _ {C : Type 0} (step : C → Question → Option Answer → C → Type 0)
       (option_map as_item (first_root c.rest)) (option_map as_item (first_root (past_second c.rest))) =
       form_ahead_is t.source t.tables nodes (footnote_style place.options) (lines w) place.in_table text end next c.rest
       t.rest in
-      let behind : EndsBehind 0 form = form_behind (footnote_style place.options) (lines w) place.in_table text end
+      let after : EndsAfter 0 form = form_after (footnote_style place.options) (lines w) place.in_table text end
       (option_map (item_at nodes) next)
       (option_map (item_at nodes) (option_and_then (sibling_of nodes) next)) some in
       let starts : starts_from nodes next
@@ -69,7 +70,7 @@ module _ {C : Type 0} (step : C → Question → Option Answer → C → Type 0)
       let own : Option FoundLabel = if could_be
       then own_label (footnote_style place.options) (lines w) place.in_table text start end else None in
       ap (λ other. option_or (option_map (inline_link o) (link_tail (lines w) (starts_from nodes next) text end)) other)
-      (reference_same w o end (λ i. reaches_closer nodes i next) (λ i. closer_ends_at i c.rest) own form behind
+      (reference_same w o end (λ i. reaches_closer nodes i next) (λ i. closer_ends_at i c.rest) own form after
       (closers_ahead t.source t.tables nodes next c.rest t.rest t.rest_found))
       ∙ rw (form_is, starts, t.ends, e, ← t.could) refl
 
@@ -84,7 +85,7 @@ module _ {C : Type 0} (step : C → Question → Option Answer → C → Type 0)
       → ComesTo step w (option_and_then (bracket_found w c) o) old new spent spent' found
   comes_by_live opener live None spent spent' found e some rule goes comes t = absurd t.openers
   comes_by_live opener live (Some o) spent spent' found e some rule goes comes t =
-      let is : is_live o.mark.bracket ≡ true = sym t.openers.live ∙ e in
+      let is : is_live o.state.bracket ≡ true = sym t.openers.live ∙ e in
       found_as (rw (goes, is) (written_is (Some (opener, live)) (Some o) o ((item_at nodes opener.node).end - 1) t some
       (ap (λ n. n - 1) t.openers.ends))) (comes o t.openers.opener t.openers.starts)
 
@@ -99,5 +100,5 @@ module _ {C : Type 0} (step : C → Question → Option Answer → C → Type 0)
       → ComesTo step w (option_and_then (bracket_found w c) o) old old spent spent Text
   comes_by_dead opener live None spent e t = absurd t.openers
   comes_by_dead opener live (Some o) spent e t =
-      let dead : is_live o.mark.bracket ≡ false = sym t.openers.live ∙ e in
+      let dead : is_live o.state.bracket ≡ false = sym t.openers.live ∙ e in
       found_as (rw dead refl) (comes_to_text step w old spent)

@@ -14,11 +14,11 @@ use Rattle.markdown_base.specs.Forest.{Forest, nil, node, first_root}
 use Rattle.markdown_base.specs.declared.item.Item.{Item}
 use Rattle.markdown_base.specs.declared.node.Node.{Node}
 use Rattle.markdown_document.specs.ChainRest.{start_of, end_of, joined_chains, past_byte}
-use Rattle.markdown_document.specs.Document.{Label}
+use Rattle.markdown_document.specs.Document.{TreeNode}
 use Rattle.markdown_document.specs.Places.{follows_pipe}
 use Rattle.markdown_document.specs.Tables.{Tables}
 use Rattle.markdown_scan.specs.WikilinkPipe.{wikilink_pipe}
-use Rattle.markdown_brackets.specs.BracketDecision.{Around, Closing, Wikilink, past_second, if_some, text_from}
+use Rattle.markdown_brackets.specs.BracketDecision.{BracketContext, Closing, Wikilink, past_second, if_some, text_from}
 use Rattle.markdown_brackets.specs.BracketDecision.{wikilink_by, wikilink_in}
 use Rattle.markdown_brackets.specs.ChainAhead.{numbers_past}
 use Rattle.markdown_brackets.specs.ChainHeld.{numbers_of, times_of, link_to}
@@ -100,20 +100,20 @@ body_within text block_end start end = by (nat_lt start end)
         (pipe_found text start (end - start)))
     by false = tt
 
-module _ (source : List ℕ) (tables : Tables) (nodes : List (Node Item)) (w : Around) (closer : Label ℕ)
-    (rest : Forest (Label ℕ))
-    (reads : (item_at nodes closer.tag).start ≡ start_of closer) (order : start_of closer ≤ end_of closer)
+module _ (source : List ℕ) (tables : Tables) (nodes : List (Node Item)) (w : BracketContext) (closer : TreeNode ℕ)
+    (rest : Forest (TreeNode ℕ))
+    (reads : (item_at nodes closer.note).start ≡ start_of closer) (order : start_of closer ≤ end_of closer)
     (opener : Opener) (end : ℕ) where
-  none_at_all : (trees : Forest (Label ℕ)) (r : Option ClosedBracket) → IsWikilinkAt opener end None r
+  none_at_all : (trees : Forest (TreeNode ℕ)) (r : Option ClosedBracket) → IsWikilinkAt opener end None r
       → IsWikilink w opener end trees None r
   none_at_all trees None h = tt
   none_at_all trees (Some x) h = absurd h
 
-  module _ (b : WikilinkBody) (trees : Forest (Label ℕ)) where
-    abbrev as_wikilink : Forest (Label ℕ) → Wikilink ℕ
+  module _ (b : WikilinkBody) (trees : Forest (TreeNode ℕ)) where
+    abbrev as_wikilink : Forest (TreeNode ℕ) → Wikilink ℕ
     as_wikilink children = record { name = b.name; has_pothole = has_pothole b.shows; children = children }
 
-    is_found : (shown : ShownNodes) (children : Forest (Label ℕ)) → shown_of w trees shown ≡ children
+    is_found : (shown : ShownNodes) (children : Forest (TreeNode ℕ)) → shown_of w trees shown ≡ children
         → link_to children ≡ Some (first_shown shown) → IsShownAfterPipe w.setting.text shown
         → (r : Option ClosedBracket) → IsWikilinkAt opener end (Some (b, shown)) r
         → IsWikilink w opener end trees (Some (as_wikilink children)) r
@@ -128,48 +128,48 @@ module _ (source : List ℕ) (tables : Tables) (nodes : List (Node Item)) (w : A
     )
     is_found shown children so first piped r h = absurd h
 
-    from_found : (at : ℕ) (children : Forest (Label ℕ)) → ((n : ℕ) → shown_of w trees (From n at) ≡ children)
+    from_found : (at : ℕ) (children : Forest (TreeNode ℕ)) → ((n : ℕ) → shown_of w trees (From n at) ≡ children)
         → follows_pipe w.setting.text at ≡ true → (r : Option ClosedBracket)
         → IsWikilinkAt opener end (option_map (λ shown. (b, shown)) (option_map (λ n. From n at) (link_to children))) r
         → IsWikilink w opener end trees (option_map as_wikilink (if_some children)) r
     from_found at nil so piped r h = none_at_all trees r h
-    from_found at (node q below after) so piped r h = is_found (From q.tag at) (node q below after) (so q.tag) refl
+    from_found at (node q below after) so piped r h = is_found (From q.note at) (node q below after) (so q.note) refl
         piped r h
 
   -- what it shows
-  shows_so : (f : Label ℕ) (below after : Forest (Label ℕ)) (l : Option ℕ)
+  shows_so : (f : TreeNode ℕ) (below after : Forest (TreeNode ℕ)) (l : Option ℕ)
       → Found source tables nodes l (joined_chains (node f below after) (node closer nil rest))
-      → times_of closer.tag (node f below after) ≡ 0 → l ≡ Some f.tag → (name : List ℕ) (shows : Shows)
+      → times_of closer.note (node f below after) ≡ 0 → l ≡ Some f.note → (name : List ℕ) (shows : Shows)
       → StartsWithin w.setting.text (start_of closer) shows
       → (r : Option ClosedBracket)
       → IsWikilinkAt opener end (option_map (λ shown. (record { name = name; shows = shows }, shown))
-      (shown_in nodes f.tag closer.tag shows (start_of f) (start_of closer))) r
+      (shown_in nodes f.note closer.note shows (start_of f) (start_of closer))) r
       → IsWikilink w opener end (node f below after) (wikilink_by w f (node f below after) (start_of closer)
       (record { name = name; shows = shows })) r
-  shows_so f below after l s apart e name shows_name behind r h =
+  shows_so f below after l s apart e name shows_name later r h =
       is_found (record { name = name; shows = shows_name }) (node f below after)
-      (Over f.tag (start_of f) (start_of closer))
+      (Over f.note (start_of f) (start_of closer))
       (node (text_from w f (start_of f) (start_of closer)) nil nil) refl refl tt r h
-  shows_so f below after l s apart e name (shows_nothing at) behind r h =
-      is_found (record { name = name; shows = shows_nothing at }) (node f below after) (Over f.tag at at)
+  shows_so f below after l s apart e name (shows_nothing at) later r h =
+      is_found (record { name = name; shows = shows_nothing at }) (node f below after) (Over f.note at at)
       (node (text_from w f at at) nil nil) refl refl tt r h
-  shows_so f below after l s apart e name (shows_from at) behind r h =
+  shows_so f below after l s apart e name (shows_from at) later r h =
       let trees = node f below after in
       let b : WikilinkBody = record { name = name; shows = shows_from at } in
-      let is : shown_from_node closer.tag at
-      (first_root (numbers_past nodes at (forest_at (links_of nodes) (Some f.tag))))
+      let is : shown_from_node closer.note at
+      (first_root (numbers_past nodes at (forest_at (links_of nodes) (Some f.note))))
       ≡ option_map (λ n. From n at) (link_to (past_byte at trees)) =
       rw (← e, found_at source tables nodes l _ s)
-      (from_is source tables nodes closer nil rest at (omega (arith, behind.0, order)) l trees s.holds apart) in
-      from_found b trees at (past_byte at trees) (λ n. refl) behind.1 r (rw is at h)
+      (from_is source tables nodes closer nil rest at (omega (arith, later.0, order)) l trees s.holds apart) in
+      from_found b trees at (past_byte at trees) (λ n. refl) later.1 r (rw is at h)
 
   -- the wikilink of these trees
-  pub wikilink_is : (trees : Forest (Label ℕ)) (l : Option ℕ)
+  pub wikilink_is : (trees : Forest (TreeNode ℕ)) (l : Option ℕ)
       → Found source tables nodes l (joined_chains trees (node closer nil rest))
-      → times_of closer.tag trees ≡ 0
+      → times_of closer.note trees ≡ 0
       → (r : Option ClosedBracket)
       → IsWikilinkAt opener end
-      (option_and_then (wikilink_from nodes w.setting.text w.above.block_end closer.tag) (link_to trees)) r
+      (option_and_then (wikilink_from nodes w.setting.text w.above.block_end closer.note) (link_to trees)) r
       → IsWikilink w opener end trees (wikilink_in w trees (start_of closer)) r
   wikilink_is nil l s apart r h = none_at_all nil r h
   wikilink_is (node f below after) l s apart r h =
@@ -180,53 +180,55 @@ module _ (source : List ℕ) (tables : Tables) (nodes : List (Node Item)) (w : A
       by : (o : Option WikilinkBody) → IfSome o (λ b. StartsWithin w.setting.text (start_of closer) b.shows)
           → IsWikilinkAt opener end (option_and_then
           (λ b. option_map (λ shown. (b, shown))
-          (shown_in nodes f.tag closer.tag b.shows (start_of f) (start_of closer))) o) r
+          (shown_in nodes f.note closer.note b.shows (start_of f) (start_of closer))) o) r
           → IsWikilink w opener end (node f below after)
           (option_and_then (wikilink_by w f (node f below after) (start_of closer)) o) r
-      by None behind h = none_at_all (node f below after) r h
-      by (Some b) behind h = shows_so f below after l s apart s.holds.0 b.name b.shows behind r h
+      by None later h = none_at_all (node f below after) r h
+      by (Some b) later h = shows_so f below after l s apart s.holds.0 b.name b.shows later r h
 
 -- by the opener that was taken off
-low_of : (nodes : List (Node Item)) (l : Option ℕ) (f : Forest (Label ℕ)) → forest_at (links_of nodes) l ≡ numbers_of f
+low_of : (nodes : List (Node Item)) (l : Option ℕ) (f : Forest (TreeNode ℕ)) → forest_at
+    (links_of nodes) l ≡ numbers_of f
     → height (numbers_of f) ≤ length nodes
 low_of nodes l f e = subst (λ g. height g ≤ length nodes) e (height_found (links_of nodes) l)
 
 -- the trees past the second of some, in an arena
-module _ (source : List ℕ) (tables : Tables) (nodes : List (Node Item)) (closer : Label ℕ) (rest : Forest (Label ℕ))
+module _ (source : List ℕ) (tables : Tables) (nodes : List (Node Item)) (closer : TreeNode ℕ) (rest : Forest
+    (TreeNode ℕ))
   where
-    pub record PastSecond (trees : Forest (Label ℕ)) : Type 0 where
+    pub record PastSecond (trees : Forest (TreeNode ℕ)) : Type 0 where
       pub link : Option ℕ
       pub found : Found source tables nodes link (joined_chains (past_second trees) (node closer nil rest))
-      pub apart : times_of closer.tag (past_second trees) ≡ 0
+      pub apart : times_of closer.note (past_second trees) ≡ 0
 
-    pub past_second_found : (l : Option ℕ) (trees : Forest (Label ℕ))
+    pub past_second_found : (l : Option ℕ) (trees : Forest (TreeNode ℕ))
         → Found source tables nodes l (joined_chains trees (node closer nil rest))
-        → times_of closer.tag trees ≡ 0
+        → times_of closer.note trees ≡ 0
         → PastSecond trees
     past_second_found l nil s apart = record { link = l; found = s; apart = apart }
     past_second_found l (node a below after) s apart =
         record {
-          link = sibling_of nodes a.tag;
+          link = sibling_of nodes a.note;
           found = found_after source tables nodes l a below _ s;
           apart = omega
               (arith, apart);
         }
 
-pub finds_none : (nodes : List (Node Item)) (w : Around) (end closer : ℕ) (c : Closing ℕ) (o : Option (Split ℕ))
+pub finds_none : (nodes : List (Node Item)) (w : BracketContext) (end closer : ℕ) (c : Closing ℕ) (o : Option (Split ℕ))
     → TriesWikilink nodes closer None c o → FindsWikilink w end c o None
 finds_none nodes w end closer c None t = refl
 finds_none nodes w end closer c (Some o) t = absurd t
 
-pub finds_dead : (nodes : List (Node Item)) (w : Around) (end closer : ℕ) (opener : Opener) (live : Bool)
+pub finds_dead : (nodes : List (Node Item)) (w : BracketContext) (end closer : ℕ) (opener : Opener) (live : Bool)
     (c : Closing ℕ)
     (o : Option (Split ℕ)) → live ≡ false
     → TriesWikilink nodes closer (Some (opener, live)) c o → FindsWikilink w end c o None
 finds_dead nodes w end closer opener live c None e t = absurd t
 finds_dead nodes w end closer opener live c (Some o) e t =
-    let dead : is_live o.mark.wikilink ≡ false = sym t.live ∙ e in
+    let dead : is_live o.state.wikilink ≡ false = sym t.live ∙ e in
     rw dead tt
 
-pub finds_live : (nodes : List (Node Item)) (w : Around) (end closer : ℕ) (opener : Opener) (live : Bool)
+pub finds_live : (nodes : List (Node Item)) (w : BracketContext) (end closer : ℕ) (opener : Opener) (live : Bool)
     (c : Closing ℕ)
     (o : Option (Split ℕ)) (r : Option ClosedBracket) → live ≡ true
     → IsWikilinkAt opener end (wikilink_nodes nodes w.setting.text w.above.block_end opener.node closer) r
@@ -234,15 +236,15 @@ pub finds_live : (nodes : List (Node Item)) (w : Around) (end closer : ℕ) (ope
 finds_live nodes w end closer opener live c None r e h t = absurd t
 finds_live nodes w end closer opener live c (Some o) r e h t =
     let s = t.stands in
-    let alive : is_live o.mark.wikilink ≡ true = sym t.live ∙ e in
+    let alive : is_live o.state.wikilink ≡ true = sym t.live ∙ e in
     let all : Found s.source s.tables nodes (sibling_of nodes opener.node)
-    (joined_chains (inside o) (node c.label nil c.rest)) =
+    (joined_chains (inside o) (node c.node nil c.rest)) =
     record { holds = s.holds; low = low_of nodes _ _ s.found } in
-    let past = past_second_found s.source s.tables nodes c.label c.rest (sibling_of nodes opener.node) (inside o) all
+    let past = past_second_found s.source s.tables nodes c.node c.rest (sibling_of nodes opener.node) (inside o) all
     s.apart in
-    let begins = second_is s.source s.tables nodes c.label nil c.rest opener.node (inside o) s.holds s.apart in
-    let reads : (item_at nodes c.label.tag).start ≡ start_of c.label = rw s.number s.starts in
-    let at : IsWikilinkAt opener end (option_and_then (wikilink_from nodes w.setting.text w.above.block_end c.label.tag)
+    let begins = second_is s.source s.tables nodes c.node nil c.rest opener.node (inside o) s.holds s.apart in
+    let reads : (item_at nodes c.node.note).start ≡ start_of c.node = rw s.number s.starts in
+    let at : IsWikilinkAt opener end (option_and_then (wikilink_from nodes w.setting.text w.above.block_end c.node.note)
     (link_to (past_second (inside o)))) r = rw (← begins, s.number) h in
-    rw alive (rw t.opener at (wikilink_is s.source s.tables nodes w c.label c.rest reads s.order opener end
+    rw alive (rw t.opener at (wikilink_is s.source s.tables nodes w c.node c.rest reads s.order opener end
     (past_second (inside o)) past.link past.found past.apart r at))

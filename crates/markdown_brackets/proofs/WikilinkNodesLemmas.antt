@@ -9,7 +9,7 @@ use Rattle.markdown_base.specs.Forest.{Forest, nil, node, first_root}
 use Rattle.markdown_base.specs.declared.item.Item.{Item}
 use Rattle.markdown_base.specs.declared.node.Node.{Node}
 use Rattle.markdown_document.specs.ChainRest.{end_of, begun_at, joined_chains, past_byte}
-use Rattle.markdown_document.specs.Document.{Label}
+use Rattle.markdown_document.specs.Document.{TreeNode}
 use Rattle.markdown_document.specs.Tables.{Tables}
 use Rattle.markdown_document.specs.Totals.{same}
 use Rattle.markdown_document.proofs.TablesLemmas.{same-refl}
@@ -29,64 +29,66 @@ equal_by : (n m : ℕ) → (n == m) ≡ true → n ≡ m
 equal_by n m e = grind (arith, nat_tests)
 
 -- a node that does not occur in some trees is not their first
-apart_root : (k : ℕ) (a : Label ℕ) (below after : Forest (Label ℕ)) → times_of k (node a below after) ≡ 0 → (a.tag == k)
+apart_root : (k : ℕ) (a : TreeNode ℕ) (below after : Forest (TreeNode ℕ)) → times_of k (node a below after) ≡ 0 →
+    (a.note == k)
     ≡ false
-apart_root k a below after none = by (a.tag == k) refl
+apart_root k a below after none = by (a.note == k) refl
   where
-    by : (b : Bool) → (a.tag == k) ≡ b → b ≡ false
+    by : (b : Bool) → (a.note == k) ≡ b → b ≡ false
     by false e = refl
     by true e =
-        let one : same k a.tag ≡ 1 = subst (λ n. same k n ≡ 1) (sym (equal_by a.tag k e)) (same-refl k) in
+        let one : same k a.note ≡ 1 = subst (λ n. same k n ≡ 1) (sym (equal_by a.note k e)) (same-refl k) in
         absurd (omega (arith, one, none))
 
 -- nor the first of those after it
-apart_after : (k : ℕ) (a : Label ℕ) (below after : Forest (Label ℕ)) → times_of k (node a below after) ≡ 0
+apart_after : (k : ℕ) (a : TreeNode ℕ) (below after : Forest (TreeNode ℕ)) → times_of k (node a below after) ≡ 0
     → times_of k after ≡ 0
 apart_after k a below after none = omega (arith, none)
 
-module _ (source : List ℕ) (tables : Tables) (nodes : List (Node Item)) (closer : Label ℕ)
-    (below_closer rest : Forest (Label ℕ)) where
-  abbrev Up : Forest (Label ℕ) → Forest (Label ℕ)
+module _ (source : List ℕ) (tables : Tables) (nodes : List (Node Item)) (closer : TreeNode ℕ)
+    (below_closer rest : Forest (TreeNode ℕ)) where
+  abbrev Up : Forest (TreeNode ℕ) → Forest (TreeNode ℕ)
   Up f = joined_chains f (node closer below_closer rest)
 
   -- the link to what precedes the `]`
-  unless_closer : (l : Option ℕ) (f : Forest (Label ℕ)) → Holds source tables nodes l (Up f) → times_of closer.tag f ≡ 0
-      → unless_is closer.tag l ≡ link_to f
-  unless_closer l nil h none = rw (h.0, is_itself closer.tag) refl
-  unless_closer l (node a below after) h none = rw (h.0, apart_root closer.tag a below after none) refl
+  unless_closer : (l : Option ℕ) (f : Forest (TreeNode ℕ)) → Holds source tables nodes l (Up f)
+      → times_of closer.note f ≡ 0
+      → unless_is closer.note l ≡ link_to f
+  unless_closer l nil h none = rw (h.0, is_itself closer.note) refl
+  unless_closer l (node a below after) h none = rw (h.0, apart_root closer.note a below after none) refl
 
   -- the second node of those
-  pub second_is : (opener : ℕ) (f : Forest (Label ℕ)) → Holds source tables nodes (sibling_of nodes opener) (Up f)
-      → times_of closer.tag f ≡ 0
-      → body_start nodes opener closer.tag ≡ link_to (past_second f)
+  pub second_is : (opener : ℕ) (f : Forest (TreeNode ℕ)) → Holds source tables nodes (sibling_of nodes opener) (Up f)
+      → times_of closer.note f ≡ 0
+      → body_start nodes opener closer.note ≡ link_to (past_second f)
   second_is opener nil h none = rw (unless_closer (sibling_of nodes opener) nil h none) refl
   second_is opener (node a below after) h none =
       rw (unless_closer (sibling_of nodes opener) (node a below after) h none)
-      (unless_closer (sibling_of nodes a.tag) after h.4 (apart_after closer.tag a below after none))
+      (unless_closer (sibling_of nodes a.note) after h.4 (apart_after closer.note a below after none))
 
   -- the node in which the part of the body from a byte offset on begins
-  pub from_is : (at : ℕ) → at < end_of closer → (l : Option ℕ) (f : Forest (Label ℕ))
+  pub from_is : (at : ℕ) → at < end_of closer → (l : Option ℕ) (f : Forest (TreeNode ℕ))
       → Holds source tables nodes l (Up f)
-      → times_of closer.tag f ≡ 0
-      → shown_from_node closer.tag at (first_root (numbers_past nodes at (numbers_of (Up f))))
+      → times_of closer.note f ≡ 0
+      → shown_from_node closer.note at (first_root (numbers_past nodes at (numbers_of (Up f))))
       ≡ option_map (λ n. From n at) (link_to (past_byte at f))
-  from_is at behind l nil h none =
-      rw (same_end source tables nodes closer h.2, below_is at (end_of closer) behind, is_itself closer.tag) refl
-  from_is at behind l (node a below after) h none =
+  from_is at beyond l nil h none =
+      rw (same_end source tables nodes closer h.2, below_is at (end_of closer) beyond, is_itself closer.note) refl
+  from_is at beyond l (node a below after) h none =
       rw (same_end source tables nodes a h.2)
       (by (nat_lt at (end_of a)) refl
-      (from_is at behind (sibling_of nodes a.tag) after h.4 (apart_after closer.tag a below after none)))
+      (from_is at beyond (sibling_of nodes a.note) after h.4 (apart_after closer.note a below after none)))
     where
       by : (b : Bool) → nat_lt at (end_of a) ≡ b
-          → shown_from_node closer.tag at (first_root (numbers_past nodes at (numbers_of (Up after))))
+          → shown_from_node closer.note at (first_root (numbers_past nodes at (numbers_of (Up after))))
           ≡ option_map (λ n. From n at) (link_to (past_byte at after))
-          → shown_from_node closer.tag at (first_root (if b then node a.tag (numbers_of below) (numbers_of (Up after))
+          → shown_from_node closer.note at (first_root (if b then node a.note (numbers_of below) (numbers_of (Up after))
           else numbers_past nodes at (numbers_of (Up after))))
           ≡ option_map (λ n. From n at) (link_to (if nat_le (end_of a) at then past_byte at after
           else node (begun_at at a) below after))
       by true e more =
           let later : nat_le (end_of a) at ≡ false = grind (arith, nat_tests) in
-          rw (later, apart_root closer.tag a below after none) refl
+          rw (later, apart_root closer.note a below after none) refl
       by false e more =
           let before : nat_le (end_of a) at ≡ true = grind (arith, nat_tests) in
           rw before more

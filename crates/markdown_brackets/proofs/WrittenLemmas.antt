@@ -9,13 +9,13 @@ use Rattle.markdown_base.specs.BlockTree.{item_at}
 use Rattle.markdown_base.specs.declared.item.Item.{Item}
 use Rattle.markdown_base.specs.declared.node.Node.{Node}
 use Rattle.markdown_document.specs.declared.chain_place.ChainPlace.{ChainPlace}
-use Rattle.markdown_brackets.specs.BracketDecision.{Around, Written, inline_link, reference_written}
+use Rattle.markdown_brackets.specs.BracketDecision.{BracketContext, Written, inline_link, reference_written}
 use Rattle.markdown_brackets.specs.BracketOptions.{footnote_style}
 use Rattle.markdown_brackets.specs.ChainAhead.{reaches_closer, starts_from}
 use Rattle.markdown_brackets.specs.LeftList.{Split}
 use Rattle.markdown_brackets.specs.LinkTail as scanned
 use Rattle.markdown_brackets.specs.LinkTailView.{ReadsTail}
-use Rattle.markdown_brackets.specs.Reference.{collapsed, shortcut, is_closer, is_opener, stands_at}
+use Rattle.markdown_brackets.specs.Reference.{collapsed, shortcut, is_closing_bracket, is_opener, stands_at}
 use Rattle.markdown_brackets.specs.WrittenView.{written_at}
 use Rattle.markdown_brackets.proofs.LabelLengthLemmas.{no_label_past_block}
 use Rattle.markdown_brackets.proofs.LinkTailLemmas.{tail_past_end}
@@ -42,7 +42,7 @@ ok_both (Ok x) P Q G h k f = f x h k
 ok_both (Err e) P Q G h k f = tt
 
 -- if the bytes from the opener to the `]` are no label, the `]` is not a collapsed or shortcut reference
-no_reference : (w : Around) (o : Split ℕ) (could_be : Bool) (end : ℕ) (closes : ℕ → Bool) (empty : Bool)
+no_reference : (w : BracketContext) (o : Split ℕ) (could_be : Bool) (end : ℕ) (closes : ℕ → Bool) (empty : Bool)
     → reference_written w o end closes (if could_be then None else None) (if empty then collapsed else shortcut) ≡ None
 no_reference w o true end closes true = refl
 no_reference w o false end closes true = refl
@@ -51,7 +51,7 @@ no_reference w o false end closes false = refl
 
 -- past the block's end nothing is written
 pub nothing_past_block : (nodes : List (Node Item)) (place : ChainPlace) (skipped : List ℕ → Option ℕ) (closer : ℕ)
-    (w : Around)
+    (w : BracketContext)
     (o : Split ℕ) (could_be : Bool) (start : ℕ) → place.block_end < (item_at nodes closer).end
     → written_at nodes place skipped closer w o could_be start ≡ None
 nothing_past_block nodes place skipped closer w o could_be start past =
@@ -67,4 +67,4 @@ nothing_past_block nodes place skipped closer w o could_be start past =
           past,
       form_past (footnote_style place.options) skipped place.in_table text end after second within,
     ) (no_reference w o could_be end (λ i. reaches_closer nodes i next)
-    (stands_at end is_opener after && stands_at (end + 1) is_closer second))
+    (stands_at end is_opener after && stands_at (end + 1) is_closing_bracket second))

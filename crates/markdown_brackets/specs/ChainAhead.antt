@@ -8,7 +8,7 @@ use Rattle.markdown_base.specs.BlockTree.{item_at}
 use Rattle.markdown_base.specs.Forest.{Forest, nil, node}
 use Rattle.markdown_base.specs.declared.item.Item.{Item}
 use Rattle.markdown_base.specs.declared.node.Node.{Node}
-use Rattle.markdown_brackets.specs.Reference.{is_closer}
+use Rattle.markdown_brackets.specs.Reference.{is_closing_bracket}
 
 -- the links from a link on lead through a chain
 abbrev pub IsChain : List (Node Item) → Option ℕ → Type 0
@@ -37,7 +37,7 @@ starts_from nodes link i = first_start nodes (numbers_past nodes i (forest_at (l
 abbrev pub begins_with_closer : List (Node Item) → (end : ℕ) → Forest ℕ → Bool
 begins_with_closer nodes end nil = false
 begins_with_closer nodes end (node ix below after) =
-    is_closer (item_at nodes ix).body && ((item_at nodes ix).end == end)
+    is_closing_bracket (item_at nodes ix).body && ((item_at nodes ix).end == end)
 
 -- the first item that ends at this byte offset or later is a `]` that ends there
 abbrev pub reaches_closer : List (Node Item) → (end : ℕ) → Option ℕ → Bool

@@ -8,7 +8,7 @@ use Rattle.markdown_base.specs.declared.node.Node.{Node}
 use Rattle.markdown_document.specs.ChainRest.{start_of, end_of}
 use Rattle.markdown_document.specs.Tables.{Tables}
 use Rattle.markdown_defs.specs.Callback.{Asks}
-use Rattle.markdown_brackets.specs.BracketDecision.{Around, Becomes, Closing, Progress, decided, to_be}
+use Rattle.markdown_brackets.specs.BracketDecision.{BracketContext, Becomes, Closing, Progress, decided, to_be}
 use Rattle.markdown_brackets.specs.ChainHeld.{Holds, numbers_of, times_of}
 use Rattle.markdown_brackets.specs.DecisionView.{IsBecome, knowing}
 use Rattle.markdown_brackets.specs.Finish.{SplitsAs}
@@ -63,15 +63,15 @@ pub record StandsBefore (nodes : List (Node Item)) (closer : ℕ) (left : List (
   pub source : List ℕ
   pub tables : Tables
   pub first : Option ℕ
-  pub holds : Holds source tables nodes first (trees_onto left (node c.label nil c.rest))
-  pub found : forest_at (links_of nodes) first ≡ numbers_of (trees_onto left (node c.label nil c.rest))
-  pub once : (n : ℕ) → times_of n (trees_onto left (node c.label nil c.rest)) ≤ 1
-  pub number : c.label.tag ≡ closer
-  pub order : start_of c.label ≤ end_of c.label
+  pub holds : Holds source tables nodes first (trees_onto left (node c.node nil c.rest))
+  pub found : forest_at (links_of nodes) first ≡ numbers_of (trees_onto left (node c.node nil c.rest))
+  pub once : (n : ℕ) → times_of n (trees_onto left (node c.node nil c.rest)) ≤ 1
+  pub number : c.node.note ≡ closer
+  pub order : start_of c.node ≤ end_of c.node
 
 -- the decision: the callback answered these questions, at most one, and the result is what the rules say whatever
 -- answers follow, which are left; the stacks contain the openers that are left
-pub record Decides {C : Type 0} (step : C → Question → Option Answer → C → Type 0) (w : Around) (c : Closing ℕ)
+pub record Decides {C : Type 0} (step : C → Question → Option Answer → C → Type 0) (w : BracketContext) (c : Closing ℕ)
     (left : List (Entry ℕ)) (limit limit' : ℕ) (uses uses' : List ℕ → ℕ) (spent spent' : SpentEnds)
     (callback callback' : Option C) (brackets wikilinks : List Waiting) (found : ClosedBracket) : Type 0 where
   pub answers : Answers

@@ -5,13 +5,14 @@ use Rattle.markdown_base.specs.Forest.{Forest, nil, node}
 use Rattle.markdown_base.specs.Questions.{Answers}
 use Rattle.markdown_base.specs.declared.item.ItemBody.{ItemBody}
 use Rattle.markdown_document.specs.ChainRest.{past_byte, start_of}
-use Rattle.markdown_document.specs.Document.{Label}
+use Rattle.markdown_document.specs.Document.{TreeNode}
 use Rattle.markdown_document.specs.Places.{follows_pipe}
 use Rattle.markdown_defs.specs.Allocations.{Allocated}
 use Rattle.markdown_defs.specs.Definitions.{Labelled}
 use Rattle.markdown_defs.specs.Footnotes.{footnote_at}
 use Rattle.markdown_defs.specs.declared.footnotes.FootnoteDefs.{FootnoteDefs}
-use Rattle.markdown_brackets.specs.BracketDecision.{Around, Becomes, a_text, a_link, a_footnote, a_wikilink, Progress}
+use Rattle.markdown_brackets.specs.BracketDecision.{BracketContext, Becomes, a_text, a_link, a_footnote, a_wikilink}
+use Rattle.markdown_brackets.specs.BracketDecision.{Progress}
 use Rattle.markdown_brackets.specs.BracketDecision.{past_second, text_from}
 use Rattle.markdown_brackets.specs.ChainHeld.{link_to}
 use Rattle.markdown_brackets.specs.LeftList.{Split, inside}
@@ -25,13 +26,14 @@ use Rattle.markdown_brackets.specs.declared.wikilink_nodes.ShownNodes.TheVariant
 use Rattle.markdown_document.specs.declared.chain_place.ChainPlace.{ChainPlace}
 
 -- by this rule each line continues after a prefix of the length given by `skipped`
-abbrev pub GoesOnBehind : (rule : List ℕ → Option ℕ) → (List ℕ → ℕ) → Type 0
-GoesOnBehind rule skipped = (bytes : List ℕ) → rule bytes ≡ Some (skipped bytes)
+abbrev pub GoesOnAfter : (rule : List ℕ → Option ℕ) → (List ℕ → ℕ) → Type 0
+GoesOnAfter rule skipped = (bytes : List ℕ) → rule bytes ≡ Some (skipped bytes)
 
 -- what reading the brackets of a chain at this place depends on: the line prefixes, the blocks above, the definitions
 -- and footnotes, and whether there is a callback
-abbrev pub around_at : ChainPlace → (List ℕ → ℕ) → List ItemBody → List Labelled → FootnoteDefs → Bool → Around
-around_at place skipped bodies definitions footnotes asks = record {
+abbrev pub bracket_context_at : ChainPlace → (List ℕ → ℕ) → List ItemBody → List Labelled → FootnoteDefs → Bool
+    → BracketContext
+bracket_context_at place skipped bodies definitions footnotes asks = record {
   setting = record {
     text = place.text.now;
     rules = record {
@@ -47,10 +49,10 @@ around_at place skipped bodies definitions footnotes asks = record {
 
 -- an opener of the left list, as a stack stores it
 abbrev pub opener_of : Split ℕ → Opener
-opener_of o = record { node = o.opener.tag; is_image = o.mark.is_image }
+opener_of o = record { node = o.opener.note; is_image = o.state.is_image }
 
 -- the trees that a wikilink shows, from those of its body
-abbrev pub shown_of : Around → Forest (Label ℕ) → ShownNodes → Forest (Label ℕ)
+abbrev pub shown_of : BracketContext → Forest (TreeNode ℕ) → ShownNodes → Forest (TreeNode ℕ)
 shown_of w nil shown = nil
 shown_of w (node first below after) (Over ix start end) = node (text_from w first start end) nil nil
 shown_of w (node first below after) (From ix at) = past_byte at (node first below after)
@@ -66,7 +68,7 @@ first_shown (Over ix start end) = ix
 first_shown (From ix at) = ix
 
 -- a returned value represents what a `]` becomes; the title of an inline link comes from its range in the source
-abbrev pub IsBecome : Around → Becomes ℕ → ClosedBracket → Type 0
+abbrev pub IsBecome : BracketContext → Becomes ℕ → ClosedBracket → Type 0
 IsBecome w a_text Text = Unit {0}
 IsBecome w (a_link o target end next) (Link opener found found_end found_next) =
     (opener ≡ opener_of o) × (target_view found ≡ target) × (found_end ≡ end) × (found_next ≡ next)
@@ -85,4 +87,4 @@ pub record CountsUses (old new : Allocated) : Type 0 where
 
 -- the progress with this limit, these answers and these counts of uses
 abbrev pub knowing : ℕ → Answers → (List ℕ → ℕ) → Progress ℕ → Progress ℕ
-knowing limit answers uses p = record p { known = record { limit = limit; answers = answers; uses = uses } }
+knowing limit answers uses p = record p { state = record { limit = limit; answers = answers; uses = uses } }

@@ -15,10 +15,10 @@ held_as number is_image gone held = held
 abbrev pub brackets_of : List (Entry ℕ) → List Waiting
 brackets_of [] = []
 brackets_of (done a below ∷ left) = brackets_of left
-brackets_of (waits m a ∷ left) = held_as a.tag m.is_image m.bracket (brackets_of left)
+brackets_of (waits m a ∷ left) = held_as a.note m.is_image m.bracket (brackets_of left)
 
 -- the openers on the stack of wikilinks, the nearest first
 abbrev pub wikilinks_of : List (Entry ℕ) → List Waiting
 wikilinks_of [] = []
 wikilinks_of (done a below ∷ left) = wikilinks_of left
-wikilinks_of (waits m a ∷ left) = held_as a.tag m.is_image m.wikilink (wikilinks_of left)
+wikilinks_of (waits m a ∷ left) = held_as a.note m.is_image m.wikilink (wikilinks_of left)

@@ -24,7 +24,7 @@ pub mod ReadChain
 pub mod BracketLaws
 pub mod QuestionsAsked
 pub mod QuestionEnds
-pub mod BracketTags
+pub mod BracketNotes
 pub mod NoLinkInLink
 pub mod BracketWeight
 pub mod KeptShapes

@@ -4,9 +4,9 @@ use Rattle.markdown_base.specs.Event.{TagView, link}
 use Rattle.markdown_base.specs.Forest.{Forest, nil, Each, Throughout}
 use Rattle.markdown_base.specs.declared.tag.LinkType.{LinkType}
 use Rattle.markdown_base.specs.declared.tag.LinkType.TheVariants as kind
-use Rattle.markdown_document.specs.Document.{Shape, enclosed, Label}
-use Rattle.markdown_document.specs.Setting.{Known}
-use Rattle.markdown_brackets.specs.BracketDecision.{Around, Progress}
+use Rattle.markdown_document.specs.Document.{Shape, enclosed, TreeNode}
+use Rattle.markdown_document.specs.Setting.{ReferenceState}
+use Rattle.markdown_brackets.specs.BracketDecision.{BracketContext, Progress}
 use Rattle.markdown_brackets.specs.LeftList.{Entry, done, waits, trees_onto}
 use Rattle.markdown_brackets.specs.ReadChain.{Reader, begun, read_chain}
 
@@ -26,21 +26,21 @@ IsNoLink (enclosed tag) = OpensNoLink tag
 IsNoLink other = ⊤
 
 -- no tree is such a link, at any depth
-abbrev pub IsFreeOfLinks : {A : Type 0} → Forest (Label A) → Type 0
+abbrev pub IsFreeOfLinks : {A : Type 0} → Forest (TreeNode A) → Type 0
 IsFreeOfLinks f = Each (λ a. IsNoLink a.part.shape) f
 
 -- if the tag is that of a link, no such link is below it
-abbrev pub ClosesOverNone : {A : Type 0} → TagView → Forest (Label A) → Type 0
+abbrev pub ClosesOverNone : {A : Type 0} → TagView → Forest (TreeNode A) → Type 0
 ClosesOverNone (link v) below = IsFreeOfLinks below
 ClosesOverNone other below = ⊤
 
 -- if the shape is that of a link, no such link is below it
-abbrev pub HasNoneBelow : {A : Type 0} → Shape → Forest (Label A) → Type 0
+abbrev pub HasNoneBelow : {A : Type 0} → Shape → Forest (TreeNode A) → Type 0
 HasNoneBelow (enclosed tag) below = ClosesOverNone tag below
 HasNoneBelow other below = ⊤
 
 -- no link contains such a link, at any depth
-abbrev pub HasNoLinkInLink : {A : Type 0} → Forest (Label A) → Type 0
+abbrev pub HasNoLinkInLink : {A : Type 0} → Forest (TreeNode A) → Type 0
 HasNoLinkInLink f = Throughout (λ a below after. HasNoneBelow a.part.shape below) f
 
 -- all entries are complete trees, without such links
@@ -58,8 +58,9 @@ pub record HasMoreTrees {A : Type 0} (left left' : List (Entry A)) : Type 0 wher
 -- a chain without such links is read so that no link contains one, if the rule for items other than brackets adds trees
 -- without them
 abbrev pub NoLinkLaw : Type 0 → Type 0
-NoLinkLaw A = (w : Around) (others : Reader A)
-    → ((a : Label A) (below rest : Forest (Label A)) (p : Progress A) → IsNoLink a.part.shape → IsFreeOfLinks below
+NoLinkLaw A = (w : BracketContext) (others : Reader A)
+    → ((a : TreeNode A) (below rest : Forest (TreeNode A)) (p : Progress A) → IsNoLink a.part.shape
+    → IsFreeOfLinks below
     → HasMoreTrees p.left (others a below rest p).left)
-    → (chain : Forest (Label A)) (known : Known) → IsFreeOfLinks chain
-    → HasNoLinkInLink (trees_onto (read_chain w others chain (begun known)).left nil)
+    → (chain : Forest (TreeNode A)) (state : ReferenceState) → IsFreeOfLinks chain
+    → HasNoLinkInLink (trees_onto (read_chain w others chain (begun state)).left nil)

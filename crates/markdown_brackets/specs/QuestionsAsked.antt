@@ -3,15 +3,15 @@ use Rattle.std.specs.Prelude.{◌≡◌, ℕ, ◌≤◌, Bool, List, [], map, le
 use Rattle.std.specs.List.{IsDistinct}
 use Rattle.markdown_base.specs.Questions.{Question}
 use Rattle.markdown_document.specs.ChainRest.{open_body}
-use Rattle.markdown_document.specs.Document.{Label}
-use Rattle.markdown_brackets.specs.Reference.{is_closer}
+use Rattle.markdown_document.specs.Document.{TreeNode}
+use Rattle.markdown_brackets.specs.Reference.{is_closing_bracket}
 
--- the label is an open `]`
-abbrev pub closes_bracket : {A : Type 0} → Label A → Bool
-closes_bracket a = is_closer (open_body a.part.shape)
+-- the node is an open `]`
+abbrev pub closes_bracket : {A : Type 0} → TreeNode A → Bool
+closes_bracket a = is_closing_bracket (open_body a.part.shape)
 
--- the number of open `]` among these labels
-abbrev pub closers_among : {A : Type 0} → List (Label A) → ℕ
+-- the number of open `]` among these nodes
+abbrev pub closers_among : {A : Type 0} → List (TreeNode A) → ℕ
 closers_among items = count_by closes_bracket items
 
 -- at most `closers` questions are asked, and none at a limit of 0

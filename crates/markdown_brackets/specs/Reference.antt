@@ -74,9 +74,9 @@ is_opener body.MaybeLinkOpen = true
 is_opener other = false
 
 -- the body is a `]`
-abbrev pub is_closer : ItemBody → Bool
-is_closer (body.MaybeLinkClose could_be_ref) = true
-is_closer other = false
+abbrev pub is_closing_bracket : ItemBody → Bool
+is_closing_bracket (body.MaybeLinkClose could_be_ref) = true
+is_closing_bracket other = false
 
 -- the body is a `]` that could be a reference
 abbrev pub could_be_reference : ItemBody → Bool
@@ -96,6 +96,6 @@ form_by_label p (Some l) = if l.is_footnote then shortcut else reference l.name 
 -- the form of a reference whose `]` ends at the byte offset p, from the two items after it
 abbrev pub form_at : FootnoteStyle → (List ℕ → Option ℕ) → Bool → List ℕ → ℕ → Option Item → Option Item → Form
 form_at style skipped in_table text p next after =
-    if stands_at p is_opener next && stands_at (p + 1) is_closer after then collapsed
+    if stands_at p is_opener next && stands_at (p + 1) is_closing_bracket after then collapsed
     else if stands_at p (λ b. true) next then form_by_label p (bracket_label style skipped in_table (drop p text))
     else shortcut

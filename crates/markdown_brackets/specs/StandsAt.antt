@@ -13,9 +13,9 @@ use Rattle.markdown_base.specs.declared.node.Node.{Node}
 use Rattle.markdown_document.specs.ChainRest.{start_of, end_of}
 use Rattle.markdown_document.specs.Tables.{Tables}
 use Rattle.markdown_document.specs.ChainRest.{joined_chains}
-use Rattle.markdown_document.specs.Document.{Label}
+use Rattle.markdown_document.specs.Document.{TreeNode}
 use Rattle.markdown_base.specs.Forest.{Forest, nil, node, first_root}
-use Rattle.markdown_brackets.specs.BracketDecision.{Around, Becomes, Closing, Written, LinkReference, Progress}
+use Rattle.markdown_brackets.specs.BracketDecision.{BracketContext, Becomes, Closing, Written, LinkReference, Progress}
 use Rattle.markdown_brackets.specs.BracketDecision.{Wikilink}
 use Rattle.markdown_brackets.specs.BracketDecision.{a_wikilink, bracket_found, carried_out, decided, past_second, to_be}
 use Rattle.markdown_brackets.specs.BracketDecision.{wikilink_in}
@@ -26,13 +26,14 @@ use Rattle.markdown_brackets.specs.Wikilink.{wikilink_body}
 use Rattle.markdown_brackets.specs.declared.wikilink_nodes.ShownNodes.{ShownNodes}
 use Rattle.markdown_brackets.specs.declared.closing_bracket.ClosedBracket.TheVariants.{Wikilinked}
 use Rattle.markdown_brackets.specs.ChainHeld.{Holds, numbers_of, times_of, link_to}
-use Rattle.markdown_brackets.specs.DecisionView.{IsBecome, IsShownAfterPipe, around_at, first_shown, knowing, opener_of}
+use Rattle.markdown_brackets.specs.DecisionView.{IsBecome, IsShownAfterPipe, bracket_context_at, first_shown, knowing}
+use Rattle.markdown_brackets.specs.DecisionView.{opener_of}
 use Rattle.markdown_brackets.specs.DecisionView.{shown_of}
 use Rattle.markdown_brackets.specs.LeftList.{Split, inside, is_live, Entry, trees_onto, bracket_taken, wikilink_taken}
 use Rattle.markdown_brackets.specs.LeftList.{nearest, opens_bracket}
 use Rattle.markdown_brackets.specs.ReadChain.{among}
 use Rattle.markdown_brackets.specs.SpentEnds.{is_spent}
-use Rattle.markdown_brackets.specs.declared.closer.Closer.{Closer}
+use Rattle.markdown_brackets.specs.declared.bracket_reader.BracketReader.{BracketReader}
 use Rattle.markdown_brackets.specs.declared.closing_bracket.ClosedBracket.{ClosedBracket}
 use Rattle.markdown_brackets.specs.declared.look_up.LabelLookup.{LabelLookup}
 use Rattle.markdown_brackets.specs.declared.openers.Opener.{Opener}
@@ -80,13 +81,14 @@ reference_to about next spends = record {
 }
 
 -- what the brackets of a chain at this place depend on, by what labels are looked up in
-abbrev pub around_by : {C : Type 0} → ChainPlace → (List ℕ → ℕ) → List ItemBody → LabelLookup C → Around
-around_by place skipped bodies lookup =
-    around_at place skipped bodies lookup.tables.refdefs lookup.tables.footdefs (is_some lookup.callback)
+abbrev pub bracket_context_by : {C : Type 0} → ChainPlace → (List ℕ → ℕ) → List ItemBody → LabelLookup C
+    → BracketContext
+bracket_context_by place skipped bodies lookup =
+    bracket_context_at place skipped bodies lookup.tables.refdefs lookup.tables.footdefs (is_some lookup.callback)
 
 -- the result of carrying out what was found: the callback answered these questions, at most one, and the result is what
 -- the rules say whatever answers follow, which are left
-pub record ComesTo {C : Type 0} (step : C → Question → Option Answer → C → Type 0) (w : Around)
+pub record ComesTo {C : Type 0} (step : C → Question → Option Answer → C → Type 0) (w : BracketContext)
     (find : Option (Written ℕ)) (old new : LabelLookup C) (spent spent' : SpentEnds) (found : ClosedBracket) : Type 0
   where
     pub answers : Answers
@@ -102,18 +104,19 @@ pub record ComesTo {C : Type 0} (step : C → Question → Option Answer → C �
     pub is : IsBecome w becomes found
 
 -- what is found from an opener at a `]` is carried out as the rules say, where that opener is the one of a split
-abbrev pub Tries : {C R : Type 0} → (C → Question → Option Answer → C → Type 0) → Closer R → Opener
-    → (old new : LabelLookup C) → (spent spent' : SpentEnds) → (Around → Split ℕ → Option (Written ℕ))
+abbrev pub Tries : {C R : Type 0} → (C → Question → Option Answer → C → Type 0) → BracketReader R → Opener
+    → (old new : LabelLookup C) → (spent spent' : SpentEnds) → (BracketContext → Split ℕ → Option (Written ℕ))
     → ClosedBracket → Type 0
 Tries step at opener old new spent spent' find found = (skipped : List ℕ → ℕ) (bodies : List ItemBody) (o : Split ℕ)
     → opener ≡ opener_of o → (item_at at.tree.now.nodes opener.node).start ≡ start_of o.opener
-    → ComesTo step (around_by at.place.now skipped bodies old) (find (around_by at.place.now skipped bodies old) o) old
+    → ComesTo step (bracket_context_by at.place.now skipped bodies old) (find
+    (bracket_context_by at.place.now skipped bodies old) o) old
     new spent spent' found
 
 -- the opener that was taken off a stack is this one of the left list, and has its range
 pub record IsTaken (nodes : List (Node Item)) (t : Opener × Bool) (o : Split ℕ) : Type 0 where
   pub opener : t.0 ≡ opener_of o
-  pub live : t.1 ≡ is_live o.mark.bracket
+  pub live : t.1 ≡ is_live o.state.bracket
   pub starts : (item_at nodes t.0.node).start ≡ start_of o.opener
   pub ends : (item_at nodes t.0.node).end ≡ end_of o.opener
 
@@ -131,7 +134,7 @@ pub record TriesOpener (nodes : List (Node Item)) (closer : ℕ) (could_be : Boo
   pub tables : Tables
   pub rest : Holds source tables nodes (sibling_of nodes closer) c.rest
   pub rest_found : forest_at (links_of nodes) (sibling_of nodes closer) ≡ numbers_of c.rest
-  pub ends : (item_at nodes closer).end ≡ end_of c.label
+  pub ends : (item_at nodes closer).end ≡ end_of c.node
   pub could : c.could_be_reference ≡ could_be
   pub openers : AreTaken nodes taken o
 
@@ -176,7 +179,8 @@ IsWikilinkAt opener end (Some v) (Some (Wikilinked found_opener name pothole sho
 IsWikilinkAt opener end (Some v) found = ⊥
 
 -- a returned value is this wikilink, which shows trees, or `None` if there is none
-abbrev pub IsWikilink : Around → Opener → (end : ℕ) → Forest (Label ℕ) → Option (Wikilink ℕ) → Option ClosedBracket
+abbrev pub IsWikilink : BracketContext → Opener → (end : ℕ) → Forest (TreeNode ℕ) → Option (Wikilink ℕ)
+    → Option ClosedBracket
     → Type 0
 IsWikilink w opener end trees None None = Unit {0}
 IsWikilink w opener end trees None (Some found) = ⊥
@@ -191,19 +195,19 @@ pub record HoldsInside (nodes : List (Node Item)) (closer : ℕ) (opener : Opene
   pub source : List ℕ
   pub tables : Tables
   pub holds : Holds source tables nodes (sibling_of nodes opener.node)
-      (joined_chains (inside o) (node c.label nil c.rest))
+      (joined_chains (inside o) (node c.node nil c.rest))
   pub found : forest_at (links_of nodes) (sibling_of nodes opener.node)
-      ≡ numbers_of (joined_chains (inside o) (node c.label nil c.rest))
-  pub apart : times_of c.label.tag (inside o) ≡ 0
-  pub number : c.label.tag ≡ closer
-  pub starts : (item_at nodes closer).start ≡ start_of c.label
-  pub order : start_of c.label ≤ end_of c.label
+      ≡ numbers_of (joined_chains (inside o) (node c.node nil c.rest))
+  pub apart : times_of c.node.note (inside o) ≡ 0
+  pub number : c.node.note ≡ closer
+  pub starts : (item_at nodes closer).start ≡ start_of c.node
+  pub order : start_of c.node ≤ end_of c.node
 
 -- the opener that was taken off a stack is this one of the left list, and precedes the `]`
 pub record IsTakenBefore (nodes : List (Node Item)) (closer : ℕ) (t : Opener × Bool) (c : Closing ℕ) (o : Split ℕ)
     : Type 0 where
   pub opener : t.0 ≡ opener_of o
-  pub live : t.1 ≡ is_live o.mark.wikilink
+  pub live : t.1 ≡ is_live o.state.wikilink
   pub stands : HoldsInside nodes closer t.0 c o
 
 -- the opener with which a wikilink is tried, if any, is that of the split
@@ -215,25 +219,26 @@ TriesWikilink nodes closer (Some t) c None = ⊥
 TriesWikilink nodes closer (Some t) c (Some o) = IsTakenBefore nodes closer t c o
 
 -- a returned value is the wikilink of the opener, if the opener is live and there is one
-abbrev pub FindsWikilink : Around → (end : ℕ) → Closing ℕ → Option (Split ℕ) → Option ClosedBracket → Type 0
+abbrev pub FindsWikilink : BracketContext → (end : ℕ) → Closing ℕ → Option (Split ℕ) → Option ClosedBracket → Type 0
 FindsWikilink w end c None found = found ≡ None
 FindsWikilink w end c (Some o) found =
     IsWikilink w (opener_of o) end (past_second (inside o))
-    (if is_live o.mark.wikilink then wikilink_in w (past_second (inside o)) (start_of c.label) else None) found
+    (if is_live o.state.wikilink then wikilink_in w (past_second (inside o)) (start_of c.node) else None) found
 
 -- no wikilink is found: what is found from the nearest bracket opener is carried out, with a left list without the
 -- opener that was tried
-pub record TakesNone (w : Around) (c : Closing ℕ) (left : List (Entry ℕ)) (held : List Waiting) : Type 0 where
+pub record TakesNone (w : BracketContext) (c : Closing ℕ) (left : List (Entry ℕ)) (held : List Waiting) : Type 0 where
   pub left_then : List (Entry ℕ)
   pub held_is : held ≡ wikilinks_of left_then
   pub brackets : brackets_of left_then ≡ brackets_of left
-  pub trees : (later : Forest (Label ℕ)) → trees_onto left_then later ≡ trees_onto left later
+  pub trees : (later : Forest (TreeNode ℕ)) → trees_onto left_then later ≡ trees_onto left later
   pub decides : (p : Progress ℕ) → decided w c (record p { left = left })
       ≡ carried_out w (option_and_then (bracket_found w c) (nearest opens_bracket left_then))
       (record p { left = bracket_taken left_then })
 
 -- a wikilink is found
-pub record TakesOne (w : Around) (c : Closing ℕ) (left : List (Entry ℕ)) (held : List Waiting) (found : ClosedBracket)
+pub record TakesOne (w : BracketContext) (c : Closing ℕ) (left : List (Entry ℕ)) (held : List Waiting)
+    (found : ClosedBracket)
     : Type 0 where
   pub opener : Split ℕ
   pub wikilink : Wikilink ℕ
@@ -245,6 +250,6 @@ pub record TakesOne (w : Around) (c : Closing ℕ) (left : List (Entry ℕ)) (he
   pub is : IsBecome w (a_wikilink opener wikilink end) found
 
 -- a wikilink is found, or none
-abbrev pub TakesWikilink : Around → Closing ℕ → List (Entry ℕ) → List Waiting → Option ClosedBracket → Type 0
+abbrev pub TakesWikilink : BracketContext → Closing ℕ → List (Entry ℕ) → List Waiting → Option ClosedBracket → Type 0
 TakesWikilink w c left held None = TakesNone w c left held
 TakesWikilink w c left held (Some found) = TakesOne w c left held found

@@ -7,7 +7,7 @@ use Rattle.markdown_base.specs.CowText.{text_of}
 use Rattle.markdown_base.specs.declared.item.Item.{Item}
 use Rattle.markdown_base.specs.declared.tag.LinkType.TheVariants as kind
 use Rattle.markdown_base.specs.declared.node.Node.{Node}
-use Rattle.markdown_brackets.specs.BracketDecision.{Around, Written, inline_link, reference_written}
+use Rattle.markdown_brackets.specs.BracketDecision.{BracketContext, Written, inline_link, reference_written}
 use Rattle.markdown_brackets.specs.BracketOptions.{footnote_style}
 use Rattle.markdown_brackets.specs.ChainAhead.{reaches_closer, starts_from}
 use Rattle.markdown_brackets.specs.LeftList.{Split}
@@ -46,12 +46,12 @@ module _ (nodes : List (Node Item)) (place : ChainPlace) (skipped : List ℕ →
       (item_at nodes closer).end
 
   -- the reference there, from an opener on
-  abbrev pub reference_at : Around → Split ℕ → (could_be : Bool) → (start : ℕ) → Option (Written ℕ)
+  abbrev pub reference_at : BracketContext → Split ℕ → (could_be : Bool) → (start : ℕ) → Option (Written ℕ)
   reference_at w o could_be start =
       reference_written w o (item_at nodes closer).end (λ i. reaches_closer nodes i (sibling_of nodes closer))
       (if could_be then own_label_at start else None) form_ahead
 
   -- the inline link there, or else the reference
-  abbrev pub written_at : Around → Split ℕ → (could_be : Bool) → (start : ℕ) → Option (Written ℕ)
+  abbrev pub written_at : BracketContext → Split ℕ → (could_be : Bool) → (start : ℕ) → Option (Written ℕ)
   written_at w o could_be start =
       option_or (option_map (inline_link o) tail_ahead) (reference_at w o could_be start)

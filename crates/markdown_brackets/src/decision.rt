@@ -8,9 +8,9 @@ ghost use Rattle.markdown_document.specs.ChainRest.{end_of};
 ghost use Rattle.markdown_document.specs.Setting.{uses_of};
 ghost use Rattle.markdown_defs.specs.Definitions.{Labelled};
 ghost use Rattle.markdown_defs.specs.declared.footnotes.FootnoteDefs.{FootnoteDefs};
-ghost use Rattle.markdown_brackets.specs.BracketDecision.{Around, Closing};
+ghost use Rattle.markdown_brackets.specs.BracketDecision.{BracketContext, Closing};
 ghost use Rattle.markdown_brackets.specs.Decides.{CanDecide, Decides, EachOpener, StandsBefore};
-ghost use Rattle.markdown_brackets.specs.DecisionView.{CountsUses, GoesOnBehind, around_at};
+ghost use Rattle.markdown_brackets.specs.DecisionView.{CountsUses, GoesOnAfter, bracket_context_at};
 ghost use Rattle.markdown_brackets.specs.HeldOpeners.{brackets_of, wikilinks_of};
 ghost use Rattle.markdown_brackets.specs.LeftList.{Entry, Split};
 ghost use Rattle.markdown_brackets.specs.Reference.{could_be_reference};
@@ -21,12 +21,12 @@ ghost use Rattle.markdown_brackets.specs.Wikilink.{has_pothole};
 ghost use Rattle.markdown_brackets.specs.WikilinkNodes.{CanFindWikilink};
 ghost use Rattle.markdown_brackets.specs.WikilinkView.{shown_view};
 
-use crate::closer::Closer;
+use crate::bracket_reader::BracketReader;
 use crate::closing_bracket::ClosedBracket;
 use crate::look_up::LabelLookup;
 use crate::openers::{Opener, OpenerStack};
 use crate::options::wikilinks_on;
-use crate::reference::is_closer;
+use crate::reference::is_closing_bracket;
 use crate::tries::try_opener;
 use crate::waiting::WaitingBrackets;
 use crate::wikilink::{Shown, scan_wikilink_body};
@@ -48,7 +48,7 @@ fn has_pothole(shown: Shown) -> bool
 // Returns the wikilink of an opener whose body ends before the `]`, the first of two; the second ends at the byte
 // offset `end`. Returns `None` if there is no wikilink.
 fn find_wikilink<'a, R>(
-    at: &Closer<'_, 'a, R>,
+    at: &BracketReader<'_, 'a, R>,
     opener: Opener,
     end: usize,
 ) -> Option<ClosedBracket<'a>>
@@ -75,13 +75,13 @@ fn find_wikilink<'a, R>(
 // Returns the wikilink of the opener that was taken for two `]`, the second of which ends at the byte offset `end`.
 // Returns `None` if there is no wikilink.
 fn try_wikilink<'a, R>(
-    at: &Closer<'_, 'a, R>,
+    at: &BracketReader<'_, 'a, R>,
     taken: Option<(Opener, bool)>,
     end: usize,
 ) -> Option<ClosedBracket<'a>>
     requires { IfSome taken (λ t.
         CanFindWikilink at.now.tree.now.nodes at.now.place.now.text.now t.0.node at.now.node) }
-    ensures { (w : Around) (c : Closing ℕ) (o : Option (Split ℕ))
+    ensures { (w : BracketContext) (c : Closing ℕ) (o : Option (Split ℕ))
         → w.setting.text ≡ at.now.place.now.text.now
         → w.above.block_end ≡ at.now.place.now.block_end
         → TriesWikilink at.now.tree.now.nodes at.now.node taken c o
@@ -98,7 +98,7 @@ fn try_wikilink<'a, R>(
 
 // Returns the wikilink that the `]` and the next one close, if there is one. An opener that was tried is removed.
 fn take_wikilink<'a, R>(
-    at: &Closer<'_, 'a, R>,
+    at: &BracketReader<'_, 'a, R>,
     wikilinks: &mut OpenerStack,
 ) -> Option<ClosedBracket<'a>>
     requires closer { at.now.node < length at.now.tree.now.nodes }
@@ -108,7 +108,8 @@ fn take_wikilink<'a, R>(
         (footnotes : FootnoteDefs) (asks : Bool) (left : List (Entry ℕ)) (c : Closing ℕ)
         → StandsBefore at.now.tree.now.nodes at.now.node left c
         → wikilinks.old ≡ wikilinks_of left
-        → TakesWikilink (around_at at.now.place.now skipped bodies definitions footnotes asks) c
+        → TakesWikilink
+        (bracket_context_at at.now.place.now skipped bodies definitions footnotes asks) c
         left wikilinks.new result }
 {
     if !wikilinks_on(at.place.options) {
@@ -118,7 +119,7 @@ fn take_wikilink<'a, R>(
         return None;
     };
     let second = *at.tree.item(next);
-    if !is_closer(second.body) {
+    if !is_closing_bracket(second.body) {
         return None;
     }
     let taken = wikilinks.take_nearest();
@@ -129,7 +130,7 @@ fn take_wikilink<'a, R>(
 /// answers of the callback. The openers that were tried are removed. The only error is `Fault::Memory`, in which case
 /// the callback was not called.
 pub fn decide_bracket<'a, R: LineRule, F: BrokenLinkCallback<'a>>(
-    at: &Closer<'_, 'a, R>,
+    at: &BracketReader<'_, 'a, R>,
     waiting: &mut WaitingBrackets,
     lookup: &mut LabelLookup<'a, F>,
 ) -> Result<ClosedBracket<'a>, Fault>
@@ -138,14 +139,15 @@ pub fn decide_bracket<'a, R: LineRule, F: BrokenLinkCallback<'a>>(
     requires asks { IfSome lookup.old.callback F.can_ask }
     ensures decides { IfOk result (λ found.
         (bodies : List ItemBody) (skipped : List ℕ → ℕ) (left : List (Entry ℕ))
-        (c : Closing ℕ) → GoesOnBehind (R.skipped at.now.rule.now) skipped
+        (c : Closing ℕ) → GoesOnAfter (R.skipped at.now.rule.now) skipped
         → StandsBefore at.now.tree.now.nodes at.now.node left c
         → c.could_be_reference
         ≡ (could_be_reference (item_at at.now.tree.now.nodes at.now.node).body
-        && not (is_spent waiting.old.spent (end_of c.label)))
+        && not (is_spent waiting.old.spent (end_of c.node)))
         → waiting.old.openers.brackets ≡ brackets_of left
         → waiting.old.openers.wikilinks ≡ wikilinks_of left
-        → Decides F.answers (around_at at.now.place.now skipped bodies lookup.old.tables.refdefs
+        → Decides F.answers
+        (bracket_context_at at.now.place.now skipped bodies lookup.old.tables.refdefs
         lookup.old.tables.footdefs (is_some lookup.old.callback)) c left
         lookup.old.limit lookup.new.limit (uses_of lookup.old.tables.footdefs)
         (uses_of lookup.new.tables.footdefs) waiting.old.spent waiting.new.spent

@@ -1,6 +1,6 @@
 //! The openers that still wait after a finished link, image, wikilink or footnote reference.
 ghost use Rattle.std.specs.Prelude.{◌≡◌, ◌<◌, ℕ, List, length};
-ghost use Rattle.markdown_brackets.specs.BracketDecision.{Around, Becomes, Closing, Progress};
+ghost use Rattle.markdown_brackets.specs.BracketDecision.{BracketContext, Becomes, Closing, Progress};
 ghost use Rattle.markdown_brackets.specs.ClosingBracket.{put};
 ghost use Rattle.markdown_brackets.specs.Decides.{EachOpener, StandsBefore};
 ghost use Rattle.markdown_brackets.specs.DecisionView.{IsBecome};
@@ -47,7 +47,7 @@ fn close_second(openers: &mut ChainOpeners, tree: &Tree<Item>, node: usize)
 /// that the decision read, before any change.
 pub fn finish_bracket(openers: &mut ChainOpeners, tree: &Tree<Item>, found: &ClosedBracket<'_>)
     requires { EachOpener (λ n. n < length tree.now.nodes) openers.old.wikilinks }
-    ensures { (w : Around) (c : Closing ℕ) (closer : ℕ) (left : List (Entry ℕ))
+    ensures { (w : BracketContext) (c : Closing ℕ) (closer : ℕ) (left : List (Entry ℕ))
         (becomes : Becomes ℕ) (p : Progress ℕ)
         → StandsBefore tree.now.nodes closer left c → LeftRises left → SplitsAs left becomes
         → IsBecome w becomes found.now

@@ -8,7 +8,7 @@ ghost use Rattle.markdown_base.specs.Forest.{first_root};
 ghost use Rattle.markdown_brackets.specs.ChainAhead.{IsChain, IsChain-prop, numbers_past, reaches_closer};
 
 use crate::items_after::ItemsAfter;
-use crate::reference::is_closer;
+use crate::reference::is_closing_bracket;
 use markdown_base::item::Item;
 use markdown_base::tree::Tree;
 
@@ -64,7 +64,7 @@ pub(crate) fn reaches_closer(tree: &Tree<Item>, first: Option<usize>, end: usize
     ensures { result ≡ reaches_closer tree.now.nodes end first }
 {
     match first_past(tree, first, end - 1) {
-        Some(ix) => is_closer(tree.item(ix).body) && tree.item(ix).end == end,
+        Some(ix) => is_closing_bracket(tree.item(ix).body) && tree.item(ix).end == end,
         None => false,
     }
 }

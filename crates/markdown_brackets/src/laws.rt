@@ -4,7 +4,7 @@ ghost use Rattle.markdown_base.specs.Questions.{Question, Answers};
 ghost use Rattle.markdown_brackets.specs.NoLinkInLink.{NoLinkLaw};
 ghost use Rattle.markdown_defs.specs.Definitions.{Labelled};
 ghost use Rattle.markdown_brackets.specs.BracketLaws.{ClosedLaw, ChainLaw};
-ghost use Rattle.markdown_brackets.specs.BracketTags.{BracketTagLaw};
+ghost use Rattle.markdown_brackets.specs.BracketNotes.{BracketNoteLaw};
 ghost use Rattle.markdown_brackets.specs.BracketWeight.{BracketWeightLaw};
 ghost use Rattle.markdown_brackets.specs.ChainBegins.{BeginsLaw};
 ghost use Rattle.markdown_brackets.specs.KeptShapes.{KeptShapesLaw};
@@ -76,10 +76,10 @@ pub fn brackets_leave_nothing_open()
     ensures { KeptShapesLaw ℕ × KeptShapesLaw ⊤ }
 {}
 
-/// States that brackets do not depend on tags: a chain without its tags is read as the chain is, except for the tags,
+/// States that brackets do not depend on notes: a chain without its notes is read as the chain is, except for the notes,
 /// if this holds for the rule for items other than brackets.
-pub fn tags_say_nothing_to_brackets()
-    ensures { BracketTagLaw ℕ ⊤ }
+pub fn notes_say_nothing_to_brackets()
+    ensures { BracketNoteLaw ℕ ⊤ }
 {}
 
 /// States that a chain whose first item is open, once it is read, begins with a tree that passes any test that each

@@ -3,9 +3,9 @@
 #![tactic(auto)]
 
 pub mod block_rules;
+pub mod bracket_reader;
 mod byte_at;
 pub mod chain_openers;
-pub mod closer;
 pub mod closing_bracket;
 pub mod decision;
 pub mod finish;

@@ -59,7 +59,7 @@ fn scan_destination(text: &str, at: usize) -> Option<(usize, &str)>
 }
 
 // Returns the title at the byte offset `at`, and the byte offset after it and the separator that follows; `at` and an
-// empty title if there is none. The error is a refused allocation.
+// empty title if there is none.
 fn scan_title_part<'t, R: LineRule, I: ItemsAfter>(
     rules: &BlockRules<'_, R>,
     text: &'t str,

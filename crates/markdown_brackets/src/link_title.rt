@@ -77,9 +77,8 @@ struct TitleStart {
     closer: u8,
 }
 
-// Reads a title to the mark that closes it. Returns the byte offset after that mark, and
-// the title's text; `None` if no mark closes it, a line of it continues after the text's end, or it contains a `(` that
-// is not allowed. The error is a refused allocation.
+// Reads a title to the mark that closes it. Returns the byte offset after that mark, and the title's text; `None` if no
+// mark closes it, a line of it continues after the text's end, or it contains a `(` that is not allowed.
 fn scan_title_text<'t, I: ItemsAfter>(
     alloc: Global,
     text: &'t str,

@@ -61,7 +61,7 @@ fn title_or_empty(title: Option<CowStr<'_>>) -> CowStr<'_>
     }
 }
 
-// Returns the link to a definition. The only error is `Fault::Memory`.
+// Returns the link to a definition.
 fn defined_target<'a>(
     alloc: Global,
     definition: &LinkDef<'a>,
@@ -104,8 +104,7 @@ fn answered_target<'a>(
     }
 }
 
-// Calls the callback, if there is one, for a label that is not defined, and returns the link for its answer. The only
-// error is `Fault::Memory`, in which case the callback was not called.
+// Calls the callback, if there is one, for a label that is not defined, and returns the link for its answer.
 fn ask<'a, F: BrokenLinkCallback<'a>>(
     alloc: Global,
     callback: &mut Option<F>,
@@ -137,8 +136,7 @@ fn ask<'a, F: BrokenLinkCallback<'a>>(
     Ok(answered_target(answer, link_type, id))
 }
 
-// Returns the link to the label's definition or, without one, the link for the callback's answer. The only error is
-// `Fault::Memory`, in which case the callback was not called.
+// Returns the link to the label's definition or, without one, the link for the callback's answer.
 fn find_target<'a, F: BrokenLinkCallback<'a>>(
     alloc: Global,
     definitions: &RefDefs<'a>,

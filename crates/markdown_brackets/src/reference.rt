@@ -47,7 +47,6 @@ fn name_start(is_footnote: bool) -> usize
 }
 
 // Returns the label whose text is at the beginning of `text`, after its opening brackets; `None` if there is no label.
-// The error is a refused allocation.
 fn scan_name<'t, R: LineRule>(
     alloc: Global,
     text: &'t str,
@@ -77,7 +76,7 @@ fn scan_name<'t, R: LineRule>(
 }
 
 // Returns the footnote label whose bytes after its `[` the text begins with, with this rule for its lines; `None` if
-// there is none. The error is a refused allocation.
+// there is none.
 fn scan_after_caret<'t, R: LineRule>(
     alloc: Global,
     text: &'t str,
@@ -98,8 +97,7 @@ fn scan_after_caret<'t, R: LineRule>(
     }
 }
 
-// Returns the footnote label of this style whose bytes after its `[` the text begins with; `None` if there is none. The
-// error is a refused allocation.
+// Returns the footnote label of this style whose bytes after its `[` the text begins with; `None` if there is none.
 fn scan_footnote_label<'t, R: LineRule>(
     rules: &BlockRules<'_, R>,
     text: &'t str,
@@ -186,8 +184,8 @@ fn is_opener(body: ItemBody) -> bool
     matches!(body, ItemBody::MaybeLinkOpen)
 }
 
-pub(crate) fn is_closer(body: ItemBody) -> bool
-    ensures { result ≡ def.is_closer body }
+pub(crate) fn is_closing_bracket(body: ItemBody) -> bool
+    ensures { result ≡ def.is_closing_bracket body }
 {
     matches!(body, ItemBody::MaybeLinkClose(_))
 }
@@ -205,15 +203,15 @@ pub(crate) fn could_be_reference(body: ItemBody) -> bool
 // Returns whether the two items are a `[` at the byte offset `at` and a `]` directly after it.
 fn is_empty_pair(at: usize, next: Option<Item>, after: Option<Item>) -> bool
     requires { at + 1 < 2 ^ 64 }
-    ensures { result
-        ≡ (def.stands_at at def.is_opener next && def.stands_at (at + 1) def.is_closer after) }
+    ensures { result ≡ (def.stands_at at def.is_opener next
+        && def.stands_at (at + 1) def.is_closing_bracket after) }
 {
     match (next, after) {
         (Some(first), Some(second)) => {
             first.start == at
                 && is_opener(first.body)
                 && second.start == at + 1
-                && is_closer(second.body)
+                && is_closing_bracket(second.body)
         }
         _ => false,
     }

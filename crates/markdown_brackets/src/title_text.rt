@@ -43,7 +43,7 @@ impl<'t> TitleText<'t> {
     }
 
     /// Appends the line that ends at the byte offset `at` and a line feed; the next line starts at the byte offset
-    /// `start`. The error is a refused allocation.
+    /// `start`.
     pub(crate) fn join_line(&mut self, at: usize, start: usize) -> Result<(), AllocError>
         requires order { self.old.from ≤ at }
         requires here { IsCharBoundary self.old.text.now at }
@@ -64,7 +64,7 @@ impl<'t> TitleText<'t> {
     }
 
     /// Returns the title that ends at the byte offset `at`, with its escapes and entities replaced. If no lines were
-    /// joined and nothing is replaced, it is a slice of the source. The error is a refused allocation.
+    /// joined and nothing is replaced, it is a slice of the source.
     pub(crate) fn finish(
         self,
         alloc: Global,

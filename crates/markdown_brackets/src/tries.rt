@@ -9,22 +9,22 @@ ghost use Rattle.markdown_base.specs.CowText.{text_of};
 ghost use Rattle.markdown_base.specs.declared.fault.Fault.{Fault};
 ghost use Rattle.markdown_base.specs.declared.item.ItemBody.{ItemBody};
 ghost use Rattle.markdown_document.specs.ChainRest.{start_of};
-ghost use Rattle.markdown_brackets.specs.BracketDecision.{Around, Closing, a_link, bracket_found};
+ghost use Rattle.markdown_brackets.specs.BracketDecision.{BracketContext, Closing, a_link, bracket_found};
 ghost use Rattle.markdown_brackets.specs.BracketDecision.{footnote_written, full, inline_target};
 ghost use Rattle.markdown_brackets.specs.BracketDecision.{link_reference, own_written};
 ghost use Rattle.markdown_brackets.specs.ChainAhead.{reaches_closer};
 ghost use Rattle.markdown_brackets.specs.Decides.{CanTry};
-ghost use Rattle.markdown_brackets.specs.DecisionView.{CountsUses, GoesOnBehind, IsBecome, opener_of};
+ghost use Rattle.markdown_brackets.specs.DecisionView.{CountsUses, GoesOnAfter, IsBecome, opener_of};
 ghost use Rattle.markdown_brackets.specs.LeftList.{Split};
 ghost use Rattle.markdown_brackets.specs.LinkTail as scanned;
 ghost use Rattle.markdown_brackets.specs.LinkTailView.{IsTail};
 ghost use Rattle.markdown_brackets.specs.StandsAt.{CanTryInside, ComesTo, IsFull, Spends};
-ghost use Rattle.markdown_brackets.specs.StandsAt.{Tries, TriesOpener, around_by, could_be_at, reference_to};
+ghost use Rattle.markdown_brackets.specs.StandsAt.{Tries, TriesOpener, bracket_context_by, could_be_at, reference_to};
 ghost use Rattle.markdown_brackets.specs.TargetOrigins.{IsLookedUp};
 ghost use Rattle.markdown_brackets.specs.WrittenView.{IsTailFrom, own_label_at, reference_at, written_at};
 ghost use Rattle.markdown_brackets.specs.declared.spent_ends.SpentEnds.{SpentEnds};
 
-use crate::closer::Closer;
+use crate::bracket_reader::BracketReader;
 use crate::closing_bracket::ClosedBracket;
 use crate::footnote::use_footnote;
 use crate::items_ahead::reaches_closer;
@@ -42,7 +42,7 @@ use markdown_scan::line_rule::LineRule;
 
 // Returns the inline link or image with this tail.
 fn inline_link(opener: Opener, tail: LinkTail<'_>) -> ClosedBracket<'_>
-    ensures { (w : Around) (o : Split ℕ) (t : scanned.LinkTail) → opener ≡ opener_of o
+    ensures { (w : BracketContext) (o : Split ℕ) (t : scanned.LinkTail) → opener ≡ opener_of o
         → IsTail w.above.in_table t tail.entry
         → IsTailFrom w.setting.text (start_of o.opener) tail.entry
         → IsBecome w (a_link o (inline_target w t) t.ends t.ends) result }
@@ -61,10 +61,9 @@ fn inline_link(opener: Opener, tail: LinkTail<'_>) -> ClosedBracket<'_>
 }
 
 // Looks up the link label of a reference, after which the chain continues at the byte offset `next`. Returns a link or
-// an image, or a Text if nothing is found. The only error is `Fault::Memory`, in which case the callback was not
-// called.
+// an image, or a Text if nothing is found.
 fn find_reference<'a, R, F: BrokenLinkCallback<'a>>(
-    at: &Closer<'_, 'a, R>,
+    at: &BracketReader<'_, 'a, R>,
     opener: Opener,
     about: BrokenLink<'a>,
     next: usize,
@@ -95,9 +94,9 @@ fn find_reference<'a, R, F: BrokenLinkCallback<'a>>(
 }
 
 // Returns a footnote reference, or a Text if the label is not one. If the footnote is defined, one more use of it is
-// counted. The only error is `Fault::Memory`.
+// counted.
 fn find_footnote<'a, R, F: BrokenLinkCallback<'a>>(
-    at: &Closer<'_, 'a, R>,
+    at: &BracketReader<'_, 'a, R>,
     opener: Opener,
     name: CowStr<'a>,
     lookup: &mut LabelLookup<'a, F>,
@@ -117,10 +116,9 @@ fn find_footnote<'a, R, F: BrokenLinkCallback<'a>>(
     Ok(ClosedBracket::Text)
 }
 
-// Tries a full reference with this label: a `]` has to end there, and can then no longer be a reference. The only error
-// is `Fault::Memory`, in which case the callback was not called.
+// Tries a full reference with this label: a `]` has to end there, and can then no longer be a reference.
 fn try_full<'a, R, F: BrokenLinkCallback<'a>>(
-    at: &Closer<'_, 'a, R>,
+    at: &BracketReader<'_, 'a, R>,
     opener: Opener,
     about: BrokenLink<'a>,
     spent: &mut SpentEnds,
@@ -150,9 +148,9 @@ fn try_full<'a, R, F: BrokenLinkCallback<'a>>(
 }
 
 // Tries the bytes from the opener's `[` through the `]` as a label: a link label is looked up, and a footnote label may
-// be a footnote reference. The only error is `Fault::Memory`, in which case the callback was not called.
+// be a footnote reference.
 fn try_own<'a, R: LineRule, F: BrokenLinkCallback<'a>>(
-    at: &Closer<'_, 'a, R>,
+    at: &BracketReader<'_, 'a, R>,
     opener: Opener,
     link_type: LinkType,
     next: usize,
@@ -188,10 +186,9 @@ fn try_own<'a, R: LineRule, F: BrokenLinkCallback<'a>>(
     find_reference(at, opener, about, next, lookup)
 }
 
-// Tries a reference of the form that follows the `]`, which is in the block. The only error is `Fault::Memory`, in which
-// case the callback was not called.
+// Tries a reference of the form that follows the `]`, which is in the block.
 fn try_reference<'a, R: LineRule, F: BrokenLinkCallback<'a>>(
-    at: &Closer<'_, 'a, R>,
+    at: &BracketReader<'_, 'a, R>,
     opener: Opener,
     spent: &mut SpentEnds,
     lookup: &mut LabelLookup<'a, F>,
@@ -228,10 +225,9 @@ fn try_reference<'a, R: LineRule, F: BrokenLinkCallback<'a>>(
     try_own(at, opener, link_type, next, lookup)
 }
 
-// Tries an inline link, and then a reference; nothing is read beyond the block's end. The only error is
-// `Fault::Memory`, in which case the callback was not called.
+// Tries an inline link, and then a reference; nothing is read beyond the block's end.
 fn try_live<'a, R: LineRule, F: BrokenLinkCallback<'a>>(
-    at: &Closer<'_, 'a, R>,
+    at: &BracketReader<'_, 'a, R>,
     opener: Opener,
     spent: &mut SpentEnds,
     lookup: &mut LabelLookup<'a, F>,
@@ -259,9 +255,9 @@ fn try_live<'a, R: LineRule, F: BrokenLinkCallback<'a>>(
 }
 
 /// Returns what the `]` becomes with the opener that was taken for it: a link or an image, a footnote reference, or a
-/// Text. The only error is `Fault::Memory`, in which case the callback was not called.
+/// Text.
 pub(crate) fn try_opener<'a, R: LineRule, F: BrokenLinkCallback<'a>>(
-    at: &Closer<'_, 'a, R>,
+    at: &BracketReader<'_, 'a, R>,
     taken: Option<(Opener, bool)>,
     spent: &mut SpentEnds,
     lookup: &mut LabelLookup<'a, F>,
@@ -271,11 +267,12 @@ pub(crate) fn try_opener<'a, R: LineRule, F: BrokenLinkCallback<'a>>(
     requires asks { IfSome lookup.old.callback F.can_ask }
     ensures tries { IfOk result (λ found.
         (bodies : List ItemBody) (skipped : List ℕ → ℕ) (c : Closing ℕ) (o : Option (Split ℕ))
-        → GoesOnBehind (R.skipped at.now.rule.now) skipped
+        → GoesOnAfter (R.skipped at.now.rule.now) skipped
         → TriesOpener at.now.tree.now.nodes at.now.node
         (could_be_at at.now.tree.now.nodes at.now.node spent.old) taken c o
-        → ComesTo F.answers (around_by at.now.place.now skipped bodies lookup.old)
-        (option_and_then (bracket_found (around_by at.now.place.now skipped bodies lookup.old) c)
+        → ComesTo F.answers (bracket_context_by at.now.place.now skipped bodies lookup.old)
+        (option_and_then
+        (bracket_found (bracket_context_by at.now.place.now skipped bodies lookup.old) c)
         o) lookup.old lookup.new spent.old spent.new found) }
     ensures uses { CountsUses lookup.old.tables lookup.new.tables }
     ensures again { IfSome lookup.new.callback F.can_ask }

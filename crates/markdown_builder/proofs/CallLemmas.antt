@@ -412,12 +412,12 @@ pub begin_later_keeps : {s : State} (now : Standpoint) (inner : OpenBlock) (star
 begin_later_keeps {s} now inner start blocks new k e low boundary white last replace write =
     subst (λ (v : Standpoint). start ≤ v.at → IsCharBoundary v.text start
     → IfSome (innermost_block v.blocks) (λ block. IsWhite v.text block.start start)
-    → IsSound (record s { tree = new; blocks = blocks })) e (λ here between behind.
+    → IsSound (record s { tree = new; blocks = blocks })) e (λ here between after.
     let r = ends_with s.blocks inner last in
     let l = innermost_open s r.outer inner k r.whole in
     rw (replace r.outer inner r.whole, write l.0 l.1 l.2)
     (begun_later s l.0 r.outer l.1 inner start k r.whole l.2 here between
-    (subst (λ (o : Option OpenBlock). IfSome o (λ block. IsWhite s.text block.start start)) (sym last) behind))) low
+    (subst (λ (o : Option OpenBlock). IfSome o (λ block. IsWhite s.text block.start start)) (sym last) after))) low
     boundary white
 
 -- it begins there

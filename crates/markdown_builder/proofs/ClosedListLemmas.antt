@@ -39,33 +39,33 @@ not_both t f = let e : true ≡ false = sym t ∙ f in cc (e)
 
 -- ---- chains lead to ever larger numbers
 
--- a link leads behind its number
-link_behind : (nodes : List (Node Item)) → AreRising (links_of nodes) → (d : Bool) (i low : ℕ) → low ≤ i
+-- a link leads after its number
+link_after_item : (nodes : List (Node Item)) → AreRising (links_of nodes) → (d : Bool) (i low : ℕ) → low ≤ i
     → IfSome (link_of (links_of nodes) d i) (λ j. low < j)
-link_behind nodes r d i low h = of_link (link_of (links_of nodes) d i)
+link_after_item nodes r d i low h = of_link (link_of (links_of nodes) d i)
     (λ j e. let q = (r.rises d i j e).0 in omega (arith, q, h))
   where
     of_link : (o : Option ℕ) → ((j : ℕ) → o ≡ Some j → low < j) → IfSome o (λ j. low < j)
     of_link None h = tt
     of_link (Some j) h = h j refl
 
-chain_behind : (nodes : List (Node Item)) → AreRising (links_of nodes) → (low : ℕ) (l : Option ℕ) (p : ℕ)
+chain_after : (nodes : List (Node Item)) → AreRising (links_of nodes) → (low : ℕ) (l : Option ℕ) (p : ℕ)
     → IfSome l (λ j. low < j) → IsInChain nodes l p → low < p
-chain_behind nodes r low l p h (first_of _) = h
-chain_behind nodes r low l p h (later_in q _ c) =
-    chain_behind nodes r low (sibling_of nodes q) p (link_behind nodes r false q low (omega (arith, h))) c
+chain_after nodes r low l p h (first_of _) = h
+chain_after nodes r low l p h (later_in q _ c) =
+    chain_after nodes r low (sibling_of nodes q) p (link_after_item nodes r false q low (omega (arith, h))) c
 
--- the items of a list stand behind it, and what is in them behind these
-items_behind : (nodes : List (Node Item)) → AreRising (links_of nodes) → (list item : ℕ)
+-- the items of a list stand after it, and what is in them after these
+items_after_item : (nodes : List (Node Item)) → AreRising (links_of nodes) → (list item : ℕ)
     → IsInChain nodes (child_of nodes list) item → list < item
-items_behind nodes r list item c =
-    chain_behind nodes r list (child_of nodes list) item (link_behind nodes r true list list (omega arith)) c
+items_after_item nodes r list item c =
+    chain_after nodes r list (child_of nodes list) item (link_after_item nodes r true list list (omega arith)) c
 
-pub inside_behind : (nodes : List (Node Item)) → AreRising (links_of nodes) → (list p : ℕ) → IsInItemOf nodes list p
+pub inside_after : (nodes : List (Node Item)) → AreRising (links_of nodes) → (list p : ℕ) → IsInItemOf nodes list p
     → list < p
-inside_behind nodes r list p i =
-    let item = items_behind nodes r list i.item i.listed in
-    let inside = items_behind nodes r i.item p i.inside in
+inside_after nodes r list p i =
+    let item = items_after_item nodes r list i.item i.listed in
+    let inside = items_after_item nodes r i.item p i.inside in
     omega (arith, item, inside)
 
 -- what a link leads to is a node
@@ -104,20 +104,20 @@ place_outside : (nodes : List (Node Item)) (spine : List ℕ) (cursor : Option �
     → (c : IsClosed nodes spine cursor list)
     → (d : Bool) (i : ℕ) → list ≤ i → i < c.end → (d ≡ false → list < i)
     → (d ≡ place_down cursor) × (i ≡ place_at spine cursor) → ⊥
-place_outside nodes spine None list positive c d i low high behind e =
+place_outside nodes spine None list positive c d i low high after e =
     let at = e.1 in
     ⊎_elim (λ (h : innermost spine < list). omega (arith, h, at, low))
     (λ (h : c.end ≤ innermost spine). omega (arith, h, at, high))
     (innermost_has (λ s. (s < list) ⊎ (c.end ≤ s)) (inl positive) spine c.around)
-place_outside nodes spine (Some before) list positive c d i low high behind e =
+place_outside nodes spine (Some before) list positive c d i low high after e =
     let at = e.1 in
-    let more = behind e.0 in
+    let more = after e.0 in
     ⊎_elim (λ (h : before ≤ list). omega (arith, h, at, more)) (λ (h : c.end ≤ before). omega (arith, h, at, high))
     c.focus
 
 -- ---- an append
 
--- what is in a chain was in it where nothing was appended behind one of its numbers
+-- what is in a chain was in it where nothing was appended after one of its numbers
 chain_back : (old new : List (Node Item)) (down : Bool) (at : ℕ) (x : Item) → Grows old new down at x
     → (l now : Option ℕ) (p : ℕ) → now ≡ l
     → ((q : ℕ) → IsInChain old l q → (false ≡ down) × (q ≡ at) → ⊥) → IsInChain new now p → IsInChain old l p
@@ -172,7 +172,7 @@ holds_no_more old new spine cursor x list r g positive c = record {
   items = items;
   inside = λ p i.
       let listed = items i.item i.listed in
-      let low = items_behind old r list i.item listed in
+      let low = items_after_item old r list i.item listed in
       let high = c.items i.item listed in
       let same : child_of new i.item ≡ child_of old i.item =
       g.other_links true i.item (place_outside old spine cursor list positive c true i.item (omega (arith, low)) high
@@ -184,9 +184,9 @@ holds_no_more old new spine cursor x list r g positive c = record {
             (child_of new i.item) p same
             (λ q k e.
             let inside : IsInItemOf old list q = record { item = i.item; listed = listed; inside = k } in
-            let behind = inside_behind old r list q inside in
-            place_outside old spine cursor list positive c false q (omega (arith, behind)) (c.inside q inside)
-            (λ z. behind) e) i.inside;
+            let after = inside_after old r list q inside in
+            place_outside old spine cursor list positive c false q (omega (arith, after)) (c.inside q inside)
+            (λ z. after) e) i.inside;
       };
 }
   where
@@ -198,10 +198,10 @@ holds_no_more old new spine cursor x list r g positive c = record {
         (λ e. cc (e))) in
         chain_back old new (place_down cursor) (place_at spine cursor) x g (child_of old list) (child_of new list) item
         same
-        (λ q i e. let behind = items_behind old r list q i in
-        place_outside old spine cursor list positive c false q (omega (arith, behind)) (c.items q i) (λ z. behind) e) k
+        (λ q i e. let after = items_after_item old r list q i in
+        place_outside old spine cursor list positive c false q (omega (arith, after)) (c.items q i) (λ z. after) e) k
 
--- a number behind all nodes holds no tight list
+-- a number after all nodes holds no tight list
 tight_within : (nodes : List (Node Item)) (list : ℕ) → is_tight_list (item_at nodes list).body ≡ true
     → list < length nodes
 tight_within nodes list t = ⊎_elim (λ (h : list < length nodes). h)
@@ -282,7 +282,7 @@ lists_more old new spine many cursor now x r root g free k loose opens last = re
 new_alone : (old new : List (Node Item)) (down : Bool) (at : ℕ) (x : Item) → Grows old new down at x
     → AreRising (links_of new) → (l : Option ℕ) (p : ℕ) → l ≡ child_of new (length old) → IsInChain new l p → ⊥
 new_alone old new down at x g r l p e c =
-    let low = items_behind new r (length old) p (subst (λ (o : Option ℕ). IsInChain new o p) e c) in
+    let low = items_after_item new r (length old) p (subst (λ (o : Option ℕ). IsInChain new o p) e c) in
     let high = chain_within new r l p (rw e (link_within new r true (length old))) c in
     omega (arith, low, high, g.size)
 
@@ -365,9 +365,9 @@ lists_written old new spine cursor at x r w k loose plain = record {
         inside = λ p i. c.inside p (inside list p i);
         tight = λ p i q. ⊎_elim
             (λ (z : p ≡ at).
-            let behind = inside_behind old r list p (inside list p i) in
+            let after = inside_after old r list p (inside list p i) in
             let here =
-            not_open_inside list c.end p spine c.around (omega (arith, behind)) (c.inside p (inside list p i))
+            not_open_inside list c.end p spine c.around (omega (arith, after)) (c.inside p (inside list p i))
             in
             (plain (subst (λ (m : ℕ). IsNotOpen spine m) z here)).2
             (ap (λ (y : Item). y.body) (sym w.new_item) ∙ (ap (λ (m : ℕ). (item_at new m).body) (sym z) ∙ q)))
@@ -416,7 +416,7 @@ open_is_loose nodes spine cursor n r k entered = of_test (is_tight_paragraph (it
     of_test true e =
         let w = k.only n (is_tight (item_at nodes n).body e) in
         let c = k.lists w.list w.tight w.closed in
-        let low = inside_behind nodes r w.list n w.inside in
+        let low = inside_after nodes r w.list n w.inside in
         absurd (entered (not_open_inside w.list c.end n spine c.around (omega (arith, low)) (c.inside n w.inside)))
 
 -- ---- a block is closed

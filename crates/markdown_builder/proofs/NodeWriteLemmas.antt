@@ -76,7 +76,7 @@ field_here g d v change k (suc ix) (n ∷ nodes) h = field_here g d v change k i
 
 -- ---- an append
 
--- what an append behind a free place does
+-- what an append after a free place does
 pub record Grows (old new : List (Node Item)) (down : Bool) (at : ℕ) (item : Item) : Type 0 where
   pub size : length new ≡ suc (length old)
   pub old_items : (i : ℕ) → i < length old → item_at new i ≡ item_at old i

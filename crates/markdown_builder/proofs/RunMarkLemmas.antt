@@ -60,7 +60,7 @@ stands_with_run s run h = record {
   fits = h.fits;
   are_open = h.are_open;
   leaves = h.leaves;
-  behind = h.behind;
+  after = h.after;
   top = h.top;
   covered = h.covered;
   boundary = h.boundary;
@@ -127,14 +127,14 @@ goes_on s byte end total opens closes t old (suc m) run whole p r low =
     ≡ Some (numbered old.nodes (suc n)) = ap (λ (o : Option ℕ). option_map (numbered old.nodes) o) link in
     let item : item_at old.nodes (suc n) ≡ run_item end opens closes (suc m) =
     r.marked (suc n) (suc m) (omega (arith, p.size, low)) (omega arith) (omega arith) in
-    let behind : slice_index s.text (end - suc m) ≡ byte = run.same (end - suc m) (omega (arith, whole, low))
+    let after : slice_index s.text (end - suc m) ≡ byte = run.same (end - suc m) (omega (arith, whole, low))
     (omega (arith, run.more)) in
     let here : slice_index s.text (end - suc (suc m)) ≡ byte = run.same (end - suc (suc m)) (omega (arith, whole, low))
     (omega (arith, run.more)) in
     let touches : end - suc m ≡ (end - suc (suc m)) + 1 = omega (arith, whole, low) in
     subst (λ (o : Option Numbered). RunGoesOn s.text (at_number n x) (suc (suc m)) opens closes o) (sym next) (record {
       body = ap (λ (y : Item). run_character y.body) item;
-      same = ap (λ (y : Item). byte_of s.text y) item ∙ (behind ∙ sym here);
+      same = ap (λ (y : Item). byte_of s.text y) item ∙ (after ∙ sym here);
       touches = ap (λ (y : Item). y.start) item ∙ touches;
       number = refl;
     })

@@ -154,7 +154,7 @@ pub record Appended (s : State) (many : PartCounts) (x : Item) : Type 0 where
   pub nodes : KeepsNodes s.text many (appended s.tree x).nodes
   pub free : (d : Bool) → link_of (links_of (appended s.tree x).nodes) d (length s.tree.nodes) ≡ None
   pub are_open : AreOpen (appended s.tree x).nodes s.tree.spine s.blocks
-  pub behind : AllByRecursion (λ o. o < length s.tree.nodes) s.tree.spine
+  pub after : AllByRecursion (λ o. o < length s.tree.nodes) s.tree.spine
   pub top : IsTopPlace (appended s.tree x).nodes s.tree.spine (Some (length s.tree.nodes))
   pub covered : AreCovered s.text (appended s.tree x).nodes s.definitions (covered_to s.blocks s.at)
 
@@ -203,8 +203,8 @@ appended_fits s many x h more fits names kind low =
         last = g.other_links false t n ∙ o.last;
         item = g.old_items t o.low ∙ o.item;
         parent = o.parent;
-      }) s.tree.spine s.blocks (off_place s.tree.spine s.tree.spine s.tree.cursor h.behind) h.are_open;
-      behind = open_low old s.tree.spine s.blocks h.are_open;
+      }) s.tree.spine s.blocks (off_place s.tree.spine s.tree.spine s.tree.cursor h.after) h.are_open;
+      after = open_low old s.tree.spine s.blocks h.are_open;
       top = top_appended old new s.tree.spine s.tree.cursor x g h.free h.top;
       covered = covered_stays s.text old new s.definitions (covered_to s.blocks s.at) (λ p b. under_top p b g)
           h.covered;

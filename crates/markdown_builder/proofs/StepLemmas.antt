@@ -118,7 +118,7 @@ begun text counts tree utf8 e = subst (λ (t : Arena Item). IsSound (beginning t
     };
     are_open = tt;
     leaves = refl;
-    behind = tt;
+    after = tt;
     top = tt;
     covered = λ p l dark. absurd (omega (arith, l));
     boundary = IsCharBoundary-start text utf8;
@@ -139,7 +139,7 @@ begun text counts tree utf8 e = subst (λ (t : Arena Item). IsSound (beginning t
 
 -- ---- a step over bytes
 
--- what is covered up to a place is covered over white space behind it
+-- what is covered up to a place is covered over white space after it
 pub covered_white : (text : List ℕ) (nodes : List (Node Item)) (definitions : List (CowStr × LinkDef)) (from to : ℕ)
     → AreCovered text nodes definitions from
     → IsWhite text from to → AreCovered text nodes definitions to
@@ -160,7 +160,7 @@ moved s to definitions k low boundary covered brackets = record {
     fits = λ x e l. k.stands.fits x e (omega (arith, l, low));
     are_open = k.stands.are_open;
     leaves = k.stands.leaves;
-    behind = k.stands.behind;
+    after = k.stands.after;
     top = k.stands.top;
     covered = covered;
     boundary = boundary;
@@ -241,7 +241,7 @@ added s many to b run k more fits names kind no_run loose =
         });
         are_open = a.are_open;
         leaves = k.stands.leaves;
-        behind = a.behind;
+        after = a.after;
         top = a.top;
         covered = covered_added s.text (appended s.tree x).nodes s.definitions s.tree.spine s.blocks n s.at to b
             a.are_open a.top
@@ -321,7 +321,7 @@ opened s many b k outside placed parent =
         free = rw i (a.free true);
         fits = λ y e l. rw (i, a.grows.new_item)
             (record { kind = e; chains_are_kept = chain_of_one b (record { number = length new; item = y }) parent });
-        are_open = open_snoc new n block s.tree.spine s.blocks a.are_open a.behind (record {
+        are_open = open_snoc new n block s.tree.spine s.blocks a.are_open a.after (record {
           positive = k.stands.nodes.rooted;
           low = omega (arith, a.grows.size);
           last = a.free false;
@@ -329,7 +329,7 @@ opened s many b k outside placed parent =
           parent = parent;
         });
         leaves = leaves_open s.blocks block (subst (λ (l : Bool). OnlyLastIsLeaf s.blocks l) outside k.stands.leaves);
-        behind = tt;
+        after = tt;
         top = top_open new s.tree.spine n a.top;
         covered = subst (λ (to : ℕ). AreCovered s.text new s.definitions to) (sym (covered_open s.blocks block))
             a.covered;
@@ -377,7 +377,7 @@ more_parts s many more k = record {
     fits = k.stands.fits;
     are_open = k.stands.are_open;
     leaves = k.stands.leaves;
-    behind = k.stands.behind;
+    after = k.stands.after;
     top = k.stands.top;
     covered = k.stands.covered;
     boundary = k.stands.boundary;
@@ -540,7 +540,7 @@ closed s spine blocks n block k whole split =
         are_open = opens;
         leaves = leaves_closed blocks block s.leaf
             (subst (λ (y : List OpenBlock). OnlyLastIsLeaf y s.leaf) whole k.stands.leaves);
-        behind = o.above;
+        after = o.above;
         top = top;
         covered = covered_closed s.text made s.definitions spine blocks n at block opens top w.new_item
             (covered_stays s.text old made s.definitions (covered_to (blocks ++ block ∷ []) at) (λ p b. record {

@@ -114,7 +114,7 @@ chain_same old new h l p (later_in q _ c) =
     later_in q p (subst (λ (o : Option ℕ). IsInChain new o p) (sym (h false q))
     (chain_same old new h (sibling_of old q) p c))
 
--- what stands in a chain is its first number, or stands behind that
+-- what stands in a chain is its first number, or stands after that
 pub first_or_later : (nodes : List (Node Item)) (q p : ℕ) → IsInChain nodes (Some q) p
     → (p ≡ q) ⊎ IsInChain nodes (sibling_of nodes q) p
 first_or_later nodes q p (first_of _) = inl refl
@@ -161,7 +161,7 @@ pub record IsInItemFrom (nodes : List (Node Item)) (l : Option ℕ) (p : ℕ) : 
   pub listed : IsInChain nodes l item
   pub inside : IsInChain nodes (child_of nodes item) p
 
--- behind a node fewer are left
+-- after a node fewer are left
 pub fewer_nodes : (nodes : List (Node Item)) (number : ℕ) → AreRising (links_of nodes) → number < length nodes
     → (nodes_from (length nodes) (sibling_of nodes number) < length nodes - number)
     × IfSome (sibling_of nodes number) (λ j. j < length nodes)
@@ -240,16 +240,16 @@ sibling_step nodes old new first link next number r l e n f =
     l.makes in
     let here : (p : ℕ) → IsInChain nodes (Some number) p
     → IsInChain nodes first p = λ p c. l.inside p (subst (λ (o : Option ℕ). IsInChain nodes o p) (sym e) c) in
-    let behind : next ≡ sibling_of nodes number = f ∙ (n.links false number ∙ l.makes.links false number) in
+    let after : next ≡ sibling_of nodes number = f ∙ (n.links false number ∙ l.makes.links false number) in
     let fewer = fewer_nodes nodes number r (leads_to nodes nodes link number refl l.within e) in (
       record {
         makes = subst (λ (o : Option ℕ). MadeTight (λ p. IsInChain nodes first p) (λ p. IsInChain nodes o p) nodes new)
-            (sym behind)
+            (sym after)
             (sibling_made nodes old new first number m n here);
-        inside = λ p c. here p (later_in number p (subst (λ (o : Option ℕ). IsInChain nodes o p) behind c));
-        within = subst (λ (o : Option ℕ). IfSome o (λ j. j < length nodes)) (sym behind) fewer.1;
+        inside = λ p c. here p (later_in number p (subst (λ (o : Option ℕ). IsInChain nodes o p) after c));
+        within = subst (λ (o : Option ℕ). IfSome o (λ j. j < length nodes)) (sym after) fewer.1;
       },
-      rw (behind, e) fewer.0,
+      rw (after, e) fewer.0,
     )
 
 pub item_step : (nodes old new : List (Node Item)) (list : ℕ) (link next first : Option ℕ) (number : ℕ)
@@ -264,16 +264,16 @@ item_step nodes old new list link next first number r l e below n f =
     let here : (p : ℕ) → IsInChain nodes (Some number) p
     → IsInChain nodes (child_of nodes list) p = λ p c. l.inside p
     (subst (λ (o : Option ℕ). IsInChain nodes o p) (sym e) c) in
-    let behind : next ≡ sibling_of nodes number = f ∙ (n.links false number ∙ l.makes.links false number) in
+    let after : next ≡ sibling_of nodes number = f ∙ (n.links false number ∙ l.makes.links false number) in
     let fewer = fewer_nodes nodes number r (leads_to nodes nodes link number refl l.within e) in (
       record {
         makes = subst (λ (o : Option ℕ). MadeTight (IsInItemOf nodes list) (IsInItemFrom nodes o) nodes new)
-            (sym behind)
+            (sym after)
             (item_made nodes old new list number m d here);
-        inside = λ p c. here p (later_in number p (subst (λ (o : Option ℕ). IsInChain nodes o p) behind c));
-        within = subst (λ (o : Option ℕ). IfSome o (λ j. j < length nodes)) (sym behind) fewer.1;
+        inside = λ p c. here p (later_in number p (subst (λ (o : Option ℕ). IsInChain nodes o p) after c));
+        within = subst (λ (o : Option ℕ). IfSome o (λ j. j < length nodes)) (sym after) fewer.1;
       },
-      rw (behind, e) fewer.0,
+      rw (after, e) fewer.0,
     )
 
 -- links still rise
@@ -334,13 +334,13 @@ items_left nodes list link e within = record {
 -- some are made tight, and then some more
 pub tightens_on : (from : ℕ) (a b c : Arena Item) → Tightens from a b → Tightens from b c → Tightens from a c
 tightens_on from a b c first none_tight = first
-tightens_on from a b c first (one_tight tree number before behind low p) =
-    one_tight tree number (tightens_on from a b tree first before) behind low p
+tightens_on from a b c first (one_tight tree number before after low p) =
+    one_tight tree number (tightens_on from a b tree first before) after low p
 
--- a link leads behind its number
-pub next_behind : (nodes : List (Node Item)) → AreRising (links_of nodes) → (d : Bool) (i low : ℕ) → low ≤ i
+-- a link leads after its number
+pub next_after : (nodes : List (Node Item)) → AreRising (links_of nodes) → (d : Bool) (i low : ℕ) → low ≤ i
     → IfSome (link_of (links_of nodes) d i) (λ j. low ≤ j)
-next_behind nodes r d i low h = of_link (link_of (links_of nodes) d i)
+next_after nodes r d i low h = of_link (link_of (links_of nodes) d i)
     (λ j e. let q = (r.rises d i j e).0 in omega (arith, q, h))
   where
     of_link : (o : Option ℕ) → ((j : ℕ) → o ≡ Some j → low ≤ j) → IfSome o (λ j. low ≤ j)

@@ -87,7 +87,7 @@ written s number x blocks h positive low fits m stays opens leaves covered begun
           (h.fits y q l);
       are_open = opens;
       leaves = leaves;
-      behind = h.behind;
+      after = h.after;
       top = top_kept old new links s.tree.spine s.tree.cursor h.top;
       covered = covered_stays s.text old new s.definitions (covered_to blocks s.at)
           (λ p b. record {
@@ -168,7 +168,7 @@ made_tight : (from : ℕ) (s : State) (number : ℕ) → StandsBelow from s → 
     → is_paragraph (item_at s.tree.nodes number).body
     ≡ true
     → StandsBelow from (record s { tree = with_item s.tree number (tight (item_at s.tree.nodes number)) })
-made_tight from s number k behind low passes =
+made_tight from s number k after low passes =
     let old = s.tree.nodes in
     let item = item_at old number in
     let x = tight item in
@@ -188,7 +188,7 @@ made_tight from s number k behind low passes =
     let m : MayReplace item x = block_replaces item x was refl (rw p refl) (rw p refl) (λ t e. cc (e)) (λ t e. cc (e))
     in
     let opens : AreOpen new s.tree.spine s.blocks =
-    open_written (λ t. t < from) old new number x w (λ t b l q z. absurd (omega (arith, z, l, behind))) s.tree.spine
+    open_written (λ t. t < from) old new number x w (λ t b l q z. absurd (omega (arith, z, l, after))) s.tree.spine
     s.blocks k.below k.stands.are_open in
     record {
       below = k.below;
@@ -202,8 +202,8 @@ made_tight from s number k behind low passes =
 tightens_keeps : (from : ℕ) (s : State) (tree : Arena Item) → StandsBelow from s → Tightens from s.tree tree
     → StandsBelow from (record s { tree = tree })
 tightens_keeps from s tree k none_tight = k
-tightens_keeps from s tree k (one_tight t number before behind low p) = made_tight from (record s { tree = t }) number
-    (tightens_keeps from s t k before) behind low p
+tightens_keeps from s tree k (one_tight t number before after low p) = made_tight from (record s { tree = t }) number
+    (tightens_keeps from s t k before) after low p
 
 -- the list that was left is made tight, if it is a tight list
 pub list_made_tight : (n : ℕ) (s : State) (tree : Arena Item) → IsLeft n s → s.tree.cursor ≡ Some n
@@ -319,7 +319,7 @@ covered_changed : (text : List ℕ) (nodes : List (Node Item)) (definitions : Li
 covered_changed text nodes definitions [] block b at c = c
 covered_changed text nodes definitions (x ∷ blocks) block b at c = c
 
--- and where it begins behind white space
+-- and where it begins after white space
 covered_later : (text : List ℕ) (nodes : List (Node Item)) (definitions : List (CowStr × LinkDef))
     (blocks : List OpenBlock)
     (block : OpenBlock) (start at : ℕ)
@@ -356,7 +356,7 @@ changed s spine blocks n block b k whole split leaf placed no_text no_alignments
     (All-last (λ c. c.start ≤ s.at) blocks block o.begun)
     (covered_changed s.text s.tree.nodes s.definitions blocks block b s.at o.covered)
 
--- the innermost open block begins later, behind white space
+-- the innermost open block begins later, after white space
 pub begun_later : (s : State) (spine : List ℕ) (blocks : List OpenBlock) (n : ℕ) (block : OpenBlock) (start : ℕ)
     → IsSound s
     → s.blocks ≡ blocks ++ block ∷ []

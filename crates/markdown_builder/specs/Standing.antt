@@ -125,7 +125,7 @@ pub record Stands (s : State) : Type 0 where
       (record { number = length s.tree.nodes; item = x })
   pub are_open : AreOpen s.tree.nodes s.tree.spine s.blocks
   pub leaves : OnlyLastIsLeaf s.blocks s.leaf
-  pub behind : IfSome s.tree.cursor (λ c. AllByRecursion (λ o. o < c) s.tree.spine)
+  pub after : IfSome s.tree.cursor (λ c. AllByRecursion (λ o. o < c) s.tree.spine)
   pub top : IsTopPlace s.tree.nodes s.tree.spine s.tree.cursor
   pub covered : AreCovered s.text s.tree.nodes s.definitions (covered_to s.blocks s.at)
   pub boundary : IsCharBoundary s.text s.at

@@ -55,7 +55,7 @@ pub struct FootnoteDefs {
 }
 
 impl FootnoteDefs {
-    /// Returns the footnotes of these names, none of them used yet. The only error is `Fault::Memory`.
+    /// Returns the footnotes of these names, none of them used yet.
     pub(super) fn new(alloc: Global, names: Vec<CowStr<'_>>) -> Result<FootnoteDefs, Fault>
         ensures unused { IfOk result (λ made. (name : List ℕ)
             → footnote_at made name ≡ unused_at names.entry.items name) }
@@ -149,7 +149,7 @@ fn none_if_undefined<'a>(
     }
 }
 
-/// Adds a footnote that is not used yet. The only error is `Fault::Memory`.
+/// Adds a footnote that is not used yet.
 fn add_unused(
     by_folding: &mut BTreeMap<String, FootnoteDef>,
     alloc: Global,

@@ -10,15 +10,15 @@ use Rattle.markdown_base.specs.Arena.{Arena, child_of, sibling_of}
 use Rattle.markdown_base.specs.ArenaForest.{links_of, Spells}
 use Rattle.markdown_base.specs.Forest.{Forest, nil, node, Each, roots, relabelled}
 use Rattle.markdown_document.specs.Counts.{comparisons_per_delimiter}
-use Rattle.markdown_document.specs.Document.{Part, Label, part_of}
+use Rattle.markdown_document.specs.Document.{Part, TreeNode, part_of}
 use Rattle.markdown_document.specs.Setting.{Setting}
 use Rattle.markdown_document.specs.Tables.{Tables}
-use Rattle.markdown_delims.specs.declared.marks.Marks.{Marks}
+use Rattle.markdown_delims.specs.declared.extensions.Extensions.{Extensions}
 use Rattle.markdown_delims.specs.ChainForest.{RisesFrom}
 use Rattle.markdown_delims.specs.ChainReading.{runs_in, StandsWhole, ReadFurther, ReadsTree, PaysForTree, CanReadTree}
 use Rattle.markdown_delims.specs.ChainReading.{is_among, NoneBelow, labels, IsSpelled, IsChainAt, IsPaired}
 use Rattle.markdown_delims.specs.ChainStanding.{Chain, view, left_texts, flat, read_back}
-use Rattle.markdown_delims.specs.Layers.{marks_of}
+use Rattle.markdown_delims.specs.Layers.{extensions_of}
 use Rattle.markdown_delims.specs.OpenRuns.{Openers}
 use Rattle.markdown_delims.specs.Pairing.{Read, done_read, waiting, texts_before, read_trees, reads_from, runs_paired}
 use Rattle.markdown_delims.specs.PairingFinds.{finds_from}
@@ -30,8 +30,8 @@ use Rattle.markdown_delims.proofs.PairingLemmas.{paired_none}
 use Rattle.markdown_delims.proofs.WriteLemmas.{kept_none, kept_both}
 
 -- the numbers of a chain
-abbrev pub numbers_of : Forest (Label ℕ) → Forest ℕ
-numbers_of f = relabelled (λ a. a.tag) f
+abbrev pub numbers_of : Forest (TreeNode ℕ) → Forest ℕ
+numbers_of f = relabelled (λ a. a.note) f
 
 pub numbers_of-labels : (s : Setting) (tables : Tables) (nodes : List (Node Item)) (f : Forest ℕ)
     → numbers_of (labels s tables nodes f) ≡ f
@@ -40,7 +40,7 @@ numbers_of-labels s tables nodes (node ix below after) =
     ap (λ g. node ix g (numbers_of (labels s tables nodes after))) (numbers_of-labels s tables nodes below)
     ∙ ap (node ix below) (numbers_of-labels s tables nodes after)
 
--- links lead through a chain of numbers where they lead through its labels
+-- links lead through a chain of numbers where they lead through its nodes
 module _ (s : Setting) (tables : Tables) (nodes : List (Node Item)) where
   abbrev seen : View Part
   seen = parts_of (part_of s.text tables) nodes
@@ -51,15 +51,16 @@ module _ (s : Setting) (tables : Tables) (nodes : List (Node Item)) where
   holds_spelled l (node ix below after) h =
       (h.0, h.1, refl, holds_spelled (child_of nodes ix) below h.2, holds_spelled (sibling_of nodes ix) after h.3)
 
-  pub spelled_holds : (l : Option ℕ) (f : Forest (Label ℕ)) → Holds seen l f → Spells (links_of nodes) l (numbers_of f)
+  pub spelled_holds : (l : Option ℕ) (f : Forest (TreeNode ℕ)) → Holds seen l f → Spells (links_of nodes) l
+      (numbers_of f)
   spelled_holds l nil h = h
   spelled_holds l (node a below after) h =
-      (h.0, h.1, spelled_holds (child_of nodes a.tag) below h.3, spelled_holds (sibling_of nodes a.tag) after h.4)
+      (h.0, h.1, spelled_holds (child_of nodes a.note) below h.3, spelled_holds (sibling_of nodes a.note) after h.4)
 
-  pub labels_hold : (l : Option ℕ) (f : Forest (Label ℕ)) → Holds seen l f → labels s tables nodes (numbers_of f) ≡ f
-  labels_hold l nil h = refl
-  labels_hold l (node a below after) h =
-      rw (h.2, labels_hold (child_of nodes a.tag) below h.3, labels_hold (sibling_of nodes a.tag) after h.4) refl
+  pub nodes_hold : (l : Option ℕ) (f : Forest (TreeNode ℕ)) → Holds seen l f → labels s tables nodes (numbers_of f) ≡ f
+  nodes_hold l nil h = refl
+  nodes_hold l (node a below after) h =
+      rw (h.2, nodes_hold (child_of nodes a.note) below h.3, nodes_hold (sibling_of nodes a.note) after h.4) refl
 
   -- a forest without numbers of the chain may occur anywhere below
   Between-none : (own : ℕ → Bool) (lo : ℕ) (f : Forest ℕ) (hi : ℕ) → Each (λ n. own n ≡ false) f
@@ -78,11 +79,11 @@ module _ (s : Setting) (tables : Tables) (nodes : List (Node Item)) where
       → RisesFrom lo (roots f) → NoneBelow own f → Rises own lo (labels s tables nodes f) (length nodes)
   rises_chain own l nil lo h k r n = h
   rises_chain own l (node ix below after) lo h k r n =
-      let behind = rises_chain own (sibling_of nodes ix) after (suc ix) k.1 k.3 r.1 n.1 in
-      let end = next_number-from own (suc ix) (labels s tables nodes after) (length nodes) behind in (
+      let later = rises_chain own (sibling_of nodes ix) after (suc ix) k.1 k.3 r.1 n.1 in
+      let end = next_number-from own (suc ix) (labels s tables nodes after) (length nodes) later in (
         r.0,
         (end, Between-none own (suc ix) below (next_number (labels s tables nodes after) (length nodes)) n.0),
-        behind,
+        later,
       )
 
   pub touched_chain : (touched : ℕ → Bool) (f : Forest ℕ) → AllByRecursion (λ ix. touched ix ≡ true) (roots f)
@@ -90,10 +91,10 @@ module _ (s : Setting) (tables : Tables) (nodes : List (Node Item)) where
   touched_chain touched nil h = tt
   touched_chain touched (node ix below after) h = (h.0, touched_chain touched after h.1)
 
-pub rising_numbers : (own : ℕ → Bool) (lo : ℕ) (f : Forest (Label ℕ)) (hi : ℕ) → Rises own lo f hi
+pub rising_numbers : (own : ℕ → Bool) (lo : ℕ) (f : Forest (TreeNode ℕ)) (hi : ℕ) → Rises own lo f hi
     → RisesFrom lo (roots (numbers_of f))
 rising_numbers own lo nil hi r = tt
-rising_numbers own lo (node a below after) hi r = (r.0, rising_numbers own (suc a.tag) after hi r.2)
+rising_numbers own lo (node a below after) hi r = (r.0, rising_numbers own (suc a.note) after hi r.2)
 
 -- each number of a forest is among its numbers
 among_more : (x : ℕ) (xs ys : List ℕ) → AllByRecursion (λ ix. is_among xs ix ≡ true) ys
@@ -110,18 +111,18 @@ among_all [] = tt
 among_all (x ∷ xs) = (ap (λ b. b || is_among xs x) (eq-eqb x x refl), among_more x xs xs (among_all xs))
 
 -- the cut goes back to the beginning
-pub over_all : (own : ℕ → Bool) (k : View Part) (first : Option ℕ) (left : Forest (Label ℕ)) (l : Option ℕ)
-    (right : Forest (Label ℕ))
+pub over_all : (own : ℕ → Bool) (k : View Part) (first : Option ℕ) (left : Forest (TreeNode ℕ)) (l : Option ℕ)
+    (right : Forest (TreeNode ℕ))
     (hi : ℕ) → Cut own k first left l right hi → CutSomewhere own k first nil (read_back left right) hi
 over_all own k first nil l right hi c = record { link = l; cut = c }
-over_all own k first (node a below before) l right hi c = over_all own k first before (Some a.tag) (node a below right)
+over_all own k first (node a below before) l right hi c = over_all own k first before (Some a.note) (node a below right)
     hi
     (step_left own k first a below before l right hi c)
 
 -- no link leads to nothing
-pub nothing_left : (k : View Part) (g : Forest (Label ℕ)) → Holds k None g → g ≡ nil
+pub nothing_left : (k : View Part) (g : Forest (TreeNode ℕ)) → Holds k None g → g ≡ nil
 nothing_left k nil h = refl
-nothing_left k (node b below after) h = let no : None ≡ Some b.tag = h.0 in cc
+nothing_left k (node b below after) h = let no : None ≡ Some b.note = h.0 in cc
 
 -- a chain of an arena, before anything of it is read
 module _ (s : Setting) (tables : Tables) (old : Arena Item) (first : ℕ) (f : Forest ℕ) (c : IsSpelled old.nodes first f)
@@ -135,7 +136,7 @@ module _ (s : Setting) (tables : Tables) (old : Arena Item) (first : ℕ) (f : F
       bound = length old.nodes;
     }
 
-    abbrev pub chain : Forest (Label ℕ)
+    abbrev pub chain : Forest (TreeNode ℕ)
     chain = labels s tables old.nodes f
 
     pub chain_cut : Cut (is_among (roots f)) (view whole_chain old) (Some first) nil (Some first) chain
@@ -153,12 +154,12 @@ module _ (s : Setting) (tables : Tables) (old : Arena Item) (first : ℕ) (f : F
     chain_touched = touched_chain s tables old.nodes (is_among (roots f)) f (among_all (roots f))
 
     -- and after all of it is: the chain as it is now
-    pub record AllRead (new : Arena Item) (now : Forest (Label ℕ)) : Type 0 where
+    pub record AllRead (new : Arena Item) (now : Forest (TreeNode ℕ)) : Type 0 where
       pub spelled : Spells (links_of new.nodes) (Some first) (numbers_of now)
-      pub labels_are : labels s tables new.nodes (numbers_of now) ≡ now
+      pub nodes_are : labels s tables new.nodes (numbers_of now) ≡ now
       pub rising : RisesFrom 0 (roots (numbers_of now))
 
-    pub chain_read : (new : Arena Item) (left rest : Forest (Label ℕ)) (l : Option ℕ) → l ≡ None
+    pub chain_read : (new : Arena Item) (left rest : Forest (TreeNode ℕ)) (l : Option ℕ) → l ≡ None
         → Cut (is_among (roots f)) (view whole_chain new) (Some first) left l rest (length old.nodes)
         → AllRead new (read_back left nil) × (rest ≡ nil)
     unfolding whole_chain
@@ -170,19 +171,19 @@ module _ (s : Setting) (tables : Tables) (old : Arena Item) (first : ℕ) (f : F
         let holds = subst (λ m. Holds (view whole_chain new) m (read_back left nil)) r.cut.left r.cut.right in (
           record {
             spelled = spelled_holds s tables new.nodes (Some first) (read_back left nil) holds;
-            labels_are = labels_hold s tables new.nodes (Some first) (read_back left nil) holds;
+            nodes_are = nodes_hold s tables new.nodes (Some first) (read_back left nil) holds;
             rising = rising_numbers (is_among (roots f)) 0 (read_back left nil) (length old.nodes) r.cut.rises_right;
           },
           is,
         )
 
 -- what was read, as trees
-back_texts : (xs : List (Label ℕ)) (before after : Forest (Label ℕ)) → read_back (left_texts xs before) after
+back_texts : (xs : List (TreeNode ℕ)) (before after : Forest (TreeNode ℕ)) → read_back (left_texts xs before) after
     ≡ read_back before (texts_before xs after)
 back_texts [] before after = refl
 back_texts (x ∷ xs) before after = back_texts xs before (node x nil after)
 
-flat_back : (rs : List (Read ℕ)) (after : Forest (Label ℕ)) → read_trees rs after ≡ read_back (flat rs) after
+flat_back : (rs : List (Read ℕ)) (after : Forest (TreeNode ℕ)) → read_trees rs after ≡ read_back (flat rs) after
 flat_back [] after = refl
 flat_back (done_read a below ∷ rs) after = flat_back rs (node a below after)
 flat_back (waiting dropped run xs ∷ rs) after = flat_back rs (texts_before xs after)
@@ -238,15 +239,15 @@ module _ (s : Setting) (tables : Tables) (old : Arena Item) (first count : ℕ) 
 
   module _ (t : Arena Item) (o now : Openers) (last : Option ℕ) where
     -- a tree more
-    pub read_on : (m : Marks) (text : List ℕ) (u : Arena Item) (new : Openers) (last' l : Option ℕ) (ix : ℕ)
-        → marks_of s.rules.options ≡ m
+    pub read_on : (m : Extensions) (text : List ℕ) (u : Arena Item) (new : Openers) (last' l : Option ℕ) (ix : ℕ)
+        → extensions_of s.rules.options ≡ m
         → s.text ≡ text → (a : RunsRead t o now last (Some ix)) → ReadsTree m text ix last t u now new last' l
         → ReadFurther runs_chain t u a.rs a.rest now new last' l (suc ix)
     unfolding whole_chain
     read_on m text u new last' l ix is e a step = step runs_chain a.rs a.rest is e a.stands
 
-    pub reads_more : (m : Marks) (text : List ℕ) (u : Arena Item) (new : Openers) (last' l : Option ℕ) (ix : ℕ)
-        → marks_of s.rules.options ≡ m → s.text ≡ text → RunsRead t o now last (Some ix)
+    pub reads_more : (m : Extensions) (text : List ℕ) (u : Arena Item) (new : Openers) (last' l : Option ℕ) (ix : ℕ)
+        → extensions_of s.rules.options ≡ m → s.text ≡ text → RunsRead t o now last (Some ix)
         → ReadsTree m text ix last t u now new last' l
         → RunsRead u o new last' l
     unfolding whole_chain
@@ -270,19 +271,20 @@ module _ (s : Setting) (tables : Tables) (old : Arena Item) (first count : ℕ) 
     unfolding whole_chain
     all_paid l a = a.paid
 
-    pub pays : (text : List ℕ) (ix : ℕ) (new : Openers) → s.text ≡ text → (rs : List (Read ℕ)) (rest : Forest (Label ℕ))
+    pub pays : (text : List ℕ) (ix : ℕ) (new : Openers) → s.text ≡ text → (rs : List (Read ℕ)) (rest : Forest
+        (TreeNode ℕ))
         → StandsWhole runs_chain t rs last (Some ix) rest now → PaysForTree text ix last t now new
         → new.potential ≤ now.potential + comparisons_per_delimiter * runs_in s.text rest
     unfolding whole_chain
     pays text ix new e rs rest st paid = omega (arith, paid runs_chain rs rest e st, ap (λ x. runs_in x rest) e)
 
-    pub can_go_on : (m : Marks) (text : List ℕ) (ix : ℕ) → marks_of s.rules.options ≡ m → s.text ≡ text
+    pub can_go_on : (m : Extensions) (text : List ℕ) (ix : ℕ) → extensions_of s.rules.options ≡ m → s.text ≡ text
         → o.potential + comparisons_per_delimiter * runs_in text (labels s tables old.nodes f) < 2 ^ 128
         → RunsRead t o now last (Some ix) → CanReadTree m text ix last t now
     unfolding whole_chain
     can_go_on m text ix is e room a = record {
       chain = runs_chain;
-      marks_are = is;
+      extensions_are = is;
       text_is = e;
       rs = a.rs;
       rest = a.rest;
@@ -307,7 +309,7 @@ module _ (s : Setting) (tables : Tables) (old : Arena Item) (first count : ℕ) 
         record {
           forest = numbers_of (read_back (flat a.rs) nil);
           spelled = r.0.spelled;
-          pairs = r.0.labels_are ∙ sym (flat_back a.rs nil) ∙ ap (λ fs. read_trees fs nil) rs;
+          pairs = r.0.nodes_are ∙ sym (flat_back a.rs nil) ∙ ap (λ fs. read_trees fs nil) rs;
           rising = r.0.rising;
           kept = a.kept;
         }
@@ -330,14 +332,14 @@ numbers_left size None = 0
 numbers_left size (Some ix) = size - ix
 
 -- a link to a chain whose numbers are above one
-pub fewer_left : (own : ℕ → Bool) (k : View Part) (l : Option ℕ) (f : Forest (Label ℕ)) (ix hi : ℕ) → ix < k.size
+pub fewer_left : (own : ℕ → Bool) (k : View Part) (l : Option ℕ) (f : Forest (TreeNode ℕ)) (ix hi : ℕ) → ix < k.size
     → Holds k l f
     → Rises own (suc ix) f hi → numbers_left k.size l < k.size - ix
 fewer_left own k None f ix hi w h r = omega arith
 fewer_left own k (Some j) nil ix hi w h r = cc
-fewer_left own k (Some j) (node a below after) ix hi w h r = let e : j ≡ a.tag = cc in omega (arith, e, r.0)
+fewer_left own k (Some j) (node a below after) ix hi w h r = let e : j ≡ a.note = cc in omega (arith, e, r.0)
 
-pub goes_down : (h : Chain) (t u : Arena Item) (begun : List (Read ℕ)) (chain : Forest (Label ℕ)) (old new : Openers)
+pub goes_down : (h : Chain) (t u : Arena Item) (begun : List (Read ℕ)) (chain : Forest (TreeNode ℕ)) (old new : Openers)
     (last l : Option ℕ)
     (ix : ℕ) → ix < length t.nodes → length u.nodes ≡ length t.nodes → ReadFurther h t u begun chain old new last l
     (suc ix)

@@ -5,7 +5,7 @@ use Rattle.std.specs.Prelude.{⊤, if◌then◌else◌, not, ◌&&◌, ◌||◌}
 use Rattle.markdown_base.specs.declared.item.Item.{Item}
 use Rattle.markdown_base.specs.Arena.{Arena, sibling_of}
 use Rattle.markdown_base.specs.Forest.{Forest, nil, node}
-use Rattle.markdown_document.specs.Document.{Part, Label}
+use Rattle.markdown_document.specs.Document.{Part, TreeNode}
 use Rattle.markdown_document.specs.Setting.{Setting}
 use Rattle.markdown_delims.specs.declared.run.Characters.{Characters}
 use Rattle.markdown_delims.specs.declared.run.Delimiter.{Delimiter}
@@ -23,7 +23,7 @@ use Rattle.markdown_delims.proofs.PairLemmas.{last_link}
 use Rattle.markdown_delims.proofs.WriteLemmas.{kept_none}
 
 -- an opener that the search of the stack finds
-pub record FoundAs (closer : Run) (rs : List (Read ℕ)) (inside : Forest (Label ℕ)) (f : Found) : Type 0 where
+pub record FoundAs (closer : Run) (rs : List (Read ℕ)) (inside : Forest (TreeNode ℕ)) (f : Found) : Type 0 where
   pub found : FoundOpener ℕ
   pub finds : nearest_opener closer rs inside ≡ Some found
   pub run_is : f.opener.run ≡ found.run
@@ -31,7 +31,7 @@ pub record FoundAs (closer : Run) (rs : List (Read ℕ)) (inside : Forest (Label
   pub before_are : AreOpen f.before found.before
 
 -- whether a run may be taken
-same_take : (closer : Run) (r : OpenRun) (dropped : Bool) (run : Run) (xs : List (Label ℕ)) → IsOpen r dropped run xs
+same_take : (closer : Run) (r : OpenRun) (dropped : Bool) (run : Run) (xs : List (TreeNode ℕ)) → IsOpen r dropped run xs
     → may_take closer r ≡ (not dropped && may_pair run closer)
 same_take closer r dropped run xs is = ap (λ d. not d && may_pair r.opener.run closer) is.dropped_is
     ∙ ap (λ o. not dropped && may_pair o closer) is.run_is
@@ -43,7 +43,7 @@ Agree (Some f) (Some found) =
     (f.opener.run ≡ found.run) × AreLast f.opener found.characters × AreOpen f.before found.before
 Agree f found = ⊥
 
-agree : (closer : Run) (runs : List OpenRun) (rs : List (Read ℕ)) (inside : Forest (Label ℕ)) → AreOpen runs rs
+agree : (closer : Run) (runs : List OpenRun) (rs : List (Read ℕ)) (inside : Forest (TreeNode ℕ)) → AreOpen runs rs
     → Agree (nearest_run closer runs) (nearest_opener closer rs inside)
 agree closer runs [] inside a = rw a tt
 agree closer runs (done_read b below ∷ rs) inside a = agree closer runs rs (node b below inside) a
@@ -59,7 +59,7 @@ agree closer (r ∷ runs) (waiting dropped run xs ∷ rs) inside a =
     here_or true further = (a.0.run_is, a.0.are, a.1)
     here_or false further = further
 
-pub found_as : (closer : Run) (runs : List OpenRun) (rs : List (Read ℕ)) (inside : Forest (Label ℕ)) (f : Found)
+pub found_as : (closer : Run) (runs : List OpenRun) (rs : List (Read ℕ)) (inside : Forest (TreeNode ℕ)) (f : Found)
     → AreOpen runs rs → nearest_run closer runs ≡ Some f → FoundAs closer rs inside f
 found_as closer runs rs inside f a h =
     by_found (nearest_opener closer rs inside) refl
@@ -70,7 +70,8 @@ found_as closer runs rs inside f a h =
     by_found None e g = absurd g
     by_found (Some found) e g = record { found = found; finds = e; run_is = g.0; are = g.1; before_are = g.2 }
 
-pub found_none : (closer : Run) (runs : List OpenRun) (rs : List (Read ℕ)) (inside : Forest (Label ℕ)) → AreOpen runs rs
+pub found_none : (closer : Run) (runs : List OpenRun) (rs : List (Read ℕ)) (inside : Forest (TreeNode ℕ))
+    → AreOpen runs rs
     → nearest_run closer runs ≡ None → nearest_opener closer rs inside ≡ None
 found_none closer runs rs inside a h =
     none_by (nearest_opener closer rs inside)
@@ -81,12 +82,13 @@ found_none closer runs rs inside a h =
     none_by (Some found) g = absurd g
 
 -- an opener that is found is in the chain
-stands_over : (xs : List (Label ℕ)) (before : Forest (Label ℕ)) → (top before ≡ None → ⊥) → top (left_texts xs before)
+stands_over : (xs : List (TreeNode ℕ)) (before : Forest (TreeNode ℕ)) → (top before ≡ None → ⊥) → top
+    (left_texts xs before)
     ≡ None → ⊥
 stands_over [] before h e = h e
 stands_over (x ∷ xs) before h e = cc
 
-pub opener_stands : (closer : Run) (rs : List (Read ℕ)) (inside : Forest (Label ℕ)) (f : FoundOpener ℕ)
+pub opener_stands : (closer : Run) (rs : List (Read ℕ)) (inside : Forest (TreeNode ℕ)) (f : FoundOpener ℕ)
     → 0 < length f.characters
     → nearest_opener closer rs inside ≡ Some f → top (flat rs) ≡ None → ⊥
 opener_stands closer [] inside f some h e = cc
@@ -94,7 +96,7 @@ opener_stands closer (done_read a below ∷ rs) inside f some h e = cc
 opener_stands closer (waiting dropped run xs ∷ rs) inside f some h e =
     here_or (not dropped && may_pair run closer) (opener_stands closer rs (texts_before xs inside) f some) h
   where
-    none_left : (ys : List (Label ℕ)) → 0 < length ys → top (left_texts ys (flat rs)) ≡ None → ⊥
+    none_left : (ys : List (TreeNode ℕ)) → 0 < length ys → top (left_texts ys (flat rs)) ≡ None → ⊥
     none_left [] l q = omega (arith, l)
     none_left (y ∷ ys) l q = cc
 
@@ -128,18 +130,18 @@ open-dropped closer (r ∷ runs) (waiting dropped run xs ∷ rs) a = (
 )
 
 -- trees and characters that are done leave the open runs
-pub open-trees : (runs : List OpenRun) (f : Forest (Label ℕ)) (rs : List (Read ℕ)) → AreOpen runs rs
+pub open-trees : (runs : List OpenRun) (f : Forest (TreeNode ℕ)) (rs : List (Read ℕ)) → AreOpen runs rs
     → AreOpen runs (trees_done f rs)
 open-trees runs nil rs a = a
 open-trees runs (node b below after) rs a = open-trees runs after (done_read b below ∷ rs) a
 
-open-done : (runs : List OpenRun) (xs : List (Label ℕ)) (rs : List (Read ℕ)) → AreOpen runs rs
+open-done : (runs : List OpenRun) (xs : List (TreeNode ℕ)) (rs : List (Read ℕ)) → AreOpen runs rs
     → AreOpen runs (characters_done xs rs)
 open-done runs [] rs a = a
 open-done runs (x ∷ xs) rs a = open-done runs xs rs a
 
 -- what layers leave of both sides, whose characters are consecutive
-pub record LayersLeave (number end : ℕ) (xs vs : List (Label ℕ)) (made : Layers ℕ) : Type 0 where
+pub record LayersLeave (number end : ℕ) (xs vs : List (TreeNode ℕ)) (made : Layers ℕ) : Type 0 where
   pub next : ℕ
   pub next_is : next ≡ end + min (length xs) (length vs)
   pub opening : LastFrom number made.opening
@@ -147,7 +149,8 @@ pub record LayersLeave (number end : ℕ) (xs vs : List (Label ℕ)) (made : Lay
   pub closing : FirstFrom next made.closing
   pub closing_count : length made.closing ≡ length vs - min (length xs) (length vs)
 
-pub layers_leave : (s : Setting) (d : Delimiter) (number end : ℕ) (xs vs : List (Label ℕ)) (inside : Forest (Label ℕ))
+pub layers_leave : (s : Setting) (d : Delimiter) (number end : ℕ) (xs vs : List (TreeNode ℕ)) (inside : Forest
+    (TreeNode ℕ))
     → LastFrom number xs
     → FirstFrom end vs → LayersLeave number end xs vs (layers s d xs vs inside)
 layers_leave s d number end [] vs inside f g = record {
@@ -194,15 +197,17 @@ layers_leave s d number end (x ∷ y ∷ xs) (v ∷ w ∷ vs) inside f g =
     }
 
 -- the cut goes to the right over characters
-read_over : (own : ℕ → Bool) (k : View Part) (first : Option ℕ) (vs xs : List (Label ℕ)) (before : Forest (Label ℕ))
+read_over : (own : ℕ → Bool) (k : View Part) (first : Option ℕ) (vs xs : List (TreeNode ℕ)) (before : Forest
+    (TreeNode ℕ))
     (l : Option ℕ)
-    (after : Forest (Label ℕ)) (hi : ℕ) → Cut own k first (left_texts xs before) l (texts vs after) hi
+    (after : Forest (TreeNode ℕ)) (hi : ℕ) → Cut own k first (left_texts xs before) l (texts vs after) hi
     → (m : Option ℕ) × Cut own k first (left_texts (last_first vs xs) before) m after hi
 read_over own k first [] xs before l after hi c = (l, c)
-read_over own k first (v ∷ vs) xs before l after hi c = read_over own k first vs (v ∷ xs) before (k.next v.tag) after hi
+read_over own k first (v ∷ vs) xs before l after hi c = read_over own k first vs (v ∷ xs) before
+    (k.next v.note) after hi
     (step_right own k first (left_texts xs before) l v nil (texts vs after) hi c)
 
-touched_read : (touched : ℕ → Bool) (vs xs : List (Label ℕ)) (before after : Forest (Label ℕ))
+touched_read : (touched : ℕ → Bool) (vs xs : List (TreeNode ℕ)) (before after : Forest (TreeNode ℕ))
     → AllTouched touched (left_texts xs before)
     → AllTouched touched (texts vs after) → AllTouched touched (left_texts (last_first vs xs) before)
     × AllTouched touched after
@@ -210,45 +215,45 @@ touched_read touched [] xs before after h a = (h, a)
 touched_read touched (v ∷ vs) xs before after h a = touched_read touched vs (v ∷ xs) before after (a.0, h) a.1
 
 -- characters in reverse
-last_from : (number : ℕ) (vs xs : List (Label ℕ)) → FirstFrom (number + length xs) vs → LastFrom number xs
+last_from : (number : ℕ) (vs xs : List (TreeNode ℕ)) → FirstFrom (number + length xs) vs → LastFrom number xs
     → LastFrom number (last_first vs xs)
 last_from number [] xs f g = g
 last_from number (v ∷ vs) xs f g =
     last_from number vs (v ∷ xs)
     (rw (← (let e : suc (number + length xs) ≡ number + suc (length xs) = omega arith in e)) f.2) (f.0, f.1, g)
 
-last_count : (vs xs : List (Label ℕ)) → length (last_first vs xs) ≡ length vs + length xs
+last_count : (vs xs : List (TreeNode ℕ)) → length (last_first vs xs) ≡ length vs + length xs
 last_count [] xs = omega arith
 last_count (v ∷ vs) xs = omega (arith, last_count vs (v ∷ xs))
 
-in_reverse : (c : Characters) (vs : List (Label ℕ)) → AreFirst c vs → AreLast c (last_first vs [])
+in_reverse : (c : Characters) (vs : List (TreeNode ℕ)) → AreFirst c vs → AreLast c (last_first vs [])
 in_reverse c vs are = record {
   from = last_from c.number vs []
       (subst (λ n. FirstFrom n vs) (let e : c.number ≡ c.number + 0 = omega arith in e) are.from) tt;
   count = omega (arith, last_count vs [], are.count);
 }
 
-flat-done : (xs : List (Label ℕ)) (rs : List (Read ℕ)) → flat (characters_done xs rs) ≡ left_texts xs (flat rs)
+flat-done : (xs : List (TreeNode ℕ)) (rs : List (Read ℕ)) → flat (characters_done xs rs) ≡ left_texts xs (flat rs)
 flat-done [] rs = refl
 flat-done (x ∷ xs) rs = ap (node x nil) (flat-done xs rs)
 
-flat-opened : (b : Bool) (run : Run) (xs : List (Label ℕ)) (rs : List (Read ℕ)) → flat (opened_if b run xs rs)
+flat-opened : (b : Bool) (run : Run) (xs : List (TreeNode ℕ)) (rs : List (Read ℕ)) → flat (opened_if b run xs rs)
     ≡ left_texts xs (flat rs)
 flat-opened true run xs rs = refl
 flat-opened false run xs rs = flat-done xs rs
 
-last_there : (k : View Part) (first : Option ℕ) (c : Characters) (xs : List (Label ℕ)) (before : Forest (Label ℕ))
+last_there : (k : View Part) (first : Option ℕ) (c : Characters) (xs : List (TreeNode ℕ)) (before : Forest (TreeNode ℕ))
     (l : Option ℕ)
     → 0 < c.count → AreLast c xs → LeftHolds k first (left_texts xs before) l
     → (c.number + (c.count - 1) < k.size) × (Some (c.number + (c.count - 1)) ≡ top (left_texts xs before))
 last_there k first c [] before l some are h = absurd (omega (arith, some, are.count))
 last_there k first c (x ∷ xs) before l some are h =
-    let e : x.tag ≡ c.number + (c.count - 1) = omega (arith, are.from.0, are.count) in
+    let e : x.note ≡ c.number + (c.count - 1) = omega (arith, are.from.0, are.count) in
     (omega (arith, h.0, e), ap Some (sym e))
 
-module _ (h : Chain) (s : Arena Item) (rs : List (Read ℕ)) (last : Option ℕ) (c : Characters) (vs : List (Label ℕ))
-    (after : Forest (Label ℕ)) (st : StandsAt h s rs last c vs after) (some : 0 < c.count) where
-  abbrev xs : List (Label ℕ)
+module _ (h : Chain) (s : Arena Item) (rs : List (Read ℕ)) (last : Option ℕ) (c : Characters) (vs : List (TreeNode ℕ))
+    (after : Forest (TreeNode ℕ)) (st : StandsAt h s rs last c vs after) (some : 0 < c.count) where
+  abbrev xs : List (TreeNode ℕ)
   xs = last_first vs []
 
   over : (m : Option ℕ) × Cut h.touched (view h s) h.first (left_texts xs (flat rs)) m after h.bound
@@ -291,7 +296,7 @@ module _ (h : Chain) (s : Arena Item) (rs : List (Read ℕ)) (last : Option ℕ)
   opened_lone runs a e = subst (λ b. AreOpen runs (opened_if b c.run xs rs)) (sym e) (open-done runs xs rs a)
 
 -- what was read may be replaced by the same chain
-pub stands_as : (h : Chain) (s : Arena Item) (rs rs' : List (Read ℕ)) (last l : Option ℕ) (rest : Forest (Label ℕ))
+pub stands_as : (h : Chain) (s : Arena Item) (rs rs' : List (Read ℕ)) (last l : Option ℕ) (rest : Forest (TreeNode ℕ))
     → flat rs' ≡ flat rs
     → Stands h s rs last l rest → Stands h s rs' last l rest
 stands_as h s rs rs' last l rest e st = record {

@@ -5,14 +5,14 @@ use Rattle.std.specs.Prelude.{not}
 use Rattle.markdown_base.specs.declared.item.Item.{Item}
 use Rattle.markdown_base.specs.Arena.{Arena}
 use Rattle.markdown_base.specs.Forest.{Forest, nil}
-use Rattle.markdown_document.specs.Document.{Label}
+use Rattle.markdown_document.specs.Document.{TreeNode}
 use Rattle.markdown_document.specs.Setting.{Setting}
-use Rattle.markdown_delims.specs.declared.marks.Marks.{Marks}
+use Rattle.markdown_delims.specs.declared.extensions.Extensions.{Extensions}
 use Rattle.markdown_delims.specs.declared.run.Characters.{Characters}
 use Rattle.markdown_delims.specs.declared.run.Run.{Run}
 use Rattle.markdown_delims.specs.ChainStanding.{Chain, view, texts, AreLast, AreOpen, Reads, StandsAt, Finds}
 use Rattle.markdown_delims.specs.ChainStanding.{Pairs, CanPair, IsRead, Keeps, RunRead, CanRead}
-use Rattle.markdown_delims.specs.Layers.{marks_of}
+use Rattle.markdown_delims.specs.Layers.{extensions_of}
 use Rattle.markdown_delims.specs.OpenRuns.{Openers}
 use Rattle.markdown_delims.specs.Pairing.{Read, FoundOpener, nearest_opener, drop_read, Layers, layers, left_over}
 use Rattle.markdown_delims.specs.Pairing.{after_layers, after_search, still_waiting, closed_by, run_read}
@@ -26,7 +26,7 @@ use Rattle.markdown_delims.proofs.WriteLemmas.{kept_none, kept_both}
 
 -- one turn of a closer with characters left
 module _ (s : Setting) (k : ℕ) (closer : Run) (rs : List (Read ℕ)) where
-  closed_turn : (vs : List (Label ℕ)) → 0 < length vs
+  closed_turn : (vs : List (TreeNode ℕ)) → 0 < length vs
       → (closed_by s (suc k) closer vs rs
       ≡ after_search s (λ left others. closed_by s k closer left others) closer vs rs (nearest_opener closer rs nil))
       × (closer_finds s (suc k) closer vs rs
@@ -36,7 +36,7 @@ module _ (s : Setting) (k : ℕ) (closer : Run) (rs : List (Read ℕ)) where
   closed_turn (v ∷ vs) some = (refl, refl)
 
   -- and of one without
-  closed_empty : (turns : ℕ) (vs : List (Label ℕ)) → length vs ≡ 0
+  closed_empty : (turns : ℕ) (vs : List (TreeNode ℕ)) → length vs ≡ 0
       → (closed_by s turns closer vs rs ≡ rs) × (closer_finds s turns closer vs rs ≡ 0)
   unfolding closed_by closer_finds
   closed_empty zero [] none = (refl, refl)
@@ -44,9 +44,9 @@ module _ (s : Setting) (k : ℕ) (closer : Run) (rs : List (Read ℕ)) where
   closed_empty turns (v ∷ vs) none = absurd (omega (arith, none))
 
 -- a run that cannot close is read
-pub kept_read : (h : Chain) (s t : Arena Item) (run : Run) (vs : List (Label ℕ)) (rs : List (Read ℕ))
+pub kept_read : (h : Chain) (s t : Arena Item) (run : Run) (vs : List (TreeNode ℕ)) (rs : List (Read ℕ))
     (old new : Openers)
-    (last l : Option ℕ) (after : Forest (Label ℕ)) → not run.can_close ≡ true → new.examined ≡ old.examined
+    (last l : Option ℕ) (after : Forest (TreeNode ℕ)) → not run.can_close ≡ true → new.examined ≡ old.examined
     → IsRead h s t (left_over run vs rs) new.runs last l after → RunRead h s t run vs rs old new last l after
 kept_read h s t run vs rs old new last l after e counted r =
     by_case run.can_close refl
@@ -59,11 +59,11 @@ kept_read h s t run vs rs old new last l after e counted r =
     }
 
 -- the state after some finds
-pub record ClosingAt (h : Chain) (met : Characters) (met_vs : List (Label ℕ)) (begun : List (Read ℕ))
-    (after : Forest (Label ℕ))
+pub record ClosingAt (h : Chain) (met : Characters) (met_vs : List (TreeNode ℕ)) (begun : List (Read ℕ))
+    (after : Forest (TreeNode ℕ))
     (s t : Arena Item) (old now : Openers) (closer : Characters) (last : Option ℕ) : Type 0 where
   pub rs : List (Read ℕ)
-  pub vs : List (Label ℕ)
+  pub vs : List (TreeNode ℕ)
   pub turns : ℕ
   pub stands : StandsAt h t rs last closer vs after
   pub kept : Kept h.touched s t
@@ -74,7 +74,8 @@ pub record ClosingAt (h : Chain) (met : Characters) (met_vs : List (Label ℕ)) 
   pub found : old.examined + closer_finds h.setting (length met_vs) met.run met_vs begun
       ≤ now.examined + closer_finds h.setting turns closer.run vs rs
 
-pub closing_begin : (h : Chain) (met : Characters) (vs : List (Label ℕ)) (rs : List (Read ℕ)) (after : Forest (Label ℕ))
+pub closing_begin : (h : Chain) (met : Characters) (vs : List (TreeNode ℕ)) (rs : List (Read ℕ)) (after : Forest
+    (TreeNode ℕ))
     (s : Arena Item)
     (o : Openers) (last : Option ℕ) → StandsAt h s rs last met vs after → AreOpen o.runs rs
     → ClosingAt h met vs rs after s s o o met last
@@ -91,7 +92,8 @@ closing_begin h met vs rs after s o last st a = record {
   found = omega arith;
 }
 
-module _ (h : Chain) (met : Characters) (met_vs : List (Label ℕ)) (begun : List (Read ℕ)) (after : Forest (Label ℕ))
+module _ (h : Chain) (met : Characters) (met_vs : List (TreeNode ℕ)) (begun : List (Read ℕ)) (after : Forest
+    (TreeNode ℕ))
     (s t : Arena Item)
     (old now : Openers) (closer : Characters) (last : Option ℕ)
     (a : ClosingAt h met met_vs begun after s t old now closer last) (some : 0 < closer.count) where
@@ -145,10 +147,10 @@ module _ (h : Chain) (met : Characters) (met_vs : List (Label ℕ)) (begun : Lis
     are_dropped : AreOpen dropped rs'
     are_dropped = subst (λ runs. AreOpen runs rs') (sym is) (open-dropped closer.run now.runs a.rs a.are)
 
-    pub can_keep : (m : Marks) → marks_of h.setting.rules.options ≡ m → CanRead m closer last t dropped
+    pub can_keep : (m : Extensions) → extensions_of h.setting.rules.options ≡ m → CanRead m closer last t dropped
     can_keep m e = record {
       chain = h;
-      marks_are = e;
+      extensions_are = e;
       rs = rs';
       vs = a.vs;
       after = after;
@@ -179,7 +181,8 @@ module _ (h : Chain) (met : Characters) (met_vs : List (Label ℕ)) (begun : Lis
         opener_stands closer.run a.rs nil taken.found (omega (arith, taken.are.count, some_open)) taken.finds
         (sym a.stands.stands.last_is ∙ e)
 
-    module _ (m : Marks) (marks_are : marks_of h.setting.rules.options ≡ m) (ix : ℕ) (is : last ≡ Some ix) where
+    module _ (m : Extensions) (extensions_are : extensions_of h.setting.rules.options ≡ m) (ix : ℕ)
+        (is : last ≡ Some ix) where
       stands_after : StandsAt h t a.rs (Some ix) closer a.vs after
       stands_after = subst (λ x. StandsAt h t a.rs x closer a.vs after) is a.stands
 
@@ -189,7 +192,7 @@ module _ (h : Chain) (met : Characters) (met_vs : List (Label ℕ)) (begun : Lis
       pub can_pair : CanPair m opener closer ix t
       can_pair = record {
         chain = h;
-        marks_are = marks_are;
+        extensions_are = extensions_are;
         rs = a.rs;
         vs = a.vs;
         after = after;
@@ -203,7 +206,7 @@ module _ (h : Chain) (met : Characters) (met_vs : List (Label ℕ)) (begun : Lis
         made = layers h.setting taken.found.run.delimiter taken.found.characters a.vs taken.found.inside
 
         reads : Reads h t u (after_layers taken.found made) (Some root) rest (texts made.closing after)
-        reads = p h a.rs a.vs after taken.found marks_are stands_after finds_here
+        reads = p h a.rs a.vs after taken.found extensions_are stands_after finds_here
 
         leave : LayersLeave opener.number closer.number taken.found.characters a.vs made
         leave = layers_leave h.setting taken.found.run.delimiter opener.number closer.number taken.found.characters a.vs
@@ -220,13 +223,13 @@ module _ (h : Chain) (met : Characters) (met_vs : List (Label ℕ)) (begun : Lis
         found_one examined counted = omega (arith, a.found, (search_is (Some taken.found) taken.finds).1, counted)
 
         -- the opener is used up
-        none_open : (xs : List (Label ℕ)) → length xs ≡ 0
+        none_open : (xs : List (TreeNode ℕ)) → length xs ≡ 0
             → AreOpen before (still_waiting taken.found.run xs taken.found.before)
         none_open [] e = taken.before_are
         none_open (x ∷ xs) e = absurd (omega (arith, e))
 
         -- or some of its characters are left
-        some_open_still : (left : Characters) (xs : List (Label ℕ)) → left.run ≡ taken.found.run → AreLast left xs
+        some_open_still : (left : Characters) (xs : List (TreeNode ℕ)) → left.run ≡ taken.found.run → AreLast left xs
             → 0 < left.count
             → AreOpen (record { dropped = false; opener = left } ∷ before)
             (still_waiting taken.found.run xs taken.found.before)
@@ -284,7 +287,7 @@ module _ (h : Chain) (met : Characters) (met_vs : List (Label ℕ)) (begun : Lis
               are = open-trees new.runs made.whole _ open_runs;
             }) (omega (arith, found_one new.examined counted, empty.1))
           where
-            no_characters : (vs : List (Label ℕ)) → length vs ≡ 0 → texts vs after ≡ after
+            no_characters : (vs : List (TreeNode ℕ)) → length vs ≡ 0 → texts vs after ≡ after
             no_characters [] e = refl
             no_characters (v ∷ vs) e = absurd (omega (arith, e))
 

@@ -1,4 +1,4 @@
--- In a chain in which the tag of each character is its run, each tree that is made from a run is a character of it, or
+-- In a chain in which the note of each character is its run, each tree that is made from a run is a character of it, or
 -- joins it to a run with which it may pair: this holds for all that is read, since the characters of a closer belong to
 -- one run, and so do those of an open run.
 use Rattle.std.proofs.Common.{◌≡◌, inl, inr, ℕ, zero, suc, ◌-◌, Bool, true, false, List, [], ◌∷◌, Option, Some, None}
@@ -7,14 +7,14 @@ use Rattle.std.specs.Prelude.{⊤}
 use Rattle.std.specs.List.{AllByRecursion}
 use Rattle.std.specs.declared.ops.Range.{Range}
 use Rattle.markdown_base.specs.Forest.{Forest, nil, node}
-use Rattle.markdown_document.specs.Document.{Shape, Label, is_unresolved}
-use Rattle.markdown_document.specs.Labels.{retagged}
+use Rattle.markdown_document.specs.Document.{Shape, TreeNode, is_unresolved}
+use Rattle.markdown_document.specs.TreeNodes.{annotated}
 use Rattle.markdown_document.specs.Setting.{Setting}
 use Rattle.markdown_document.specs.Waiting.{text_if, as_closed}
 use Rattle.markdown_delims.specs.declared.run.Delimiter.{Delimiter}
 use Rattle.markdown_delims.specs.declared.run.Run.{Run}
 use Rattle.markdown_delims.specs.JoinedRuns.{HasCharacter, IsMadeOfRun, JoinedLaw, JoinsRuns}
-use Rattle.markdown_delims.specs.Layers.{marks_of, layer_of_one, layer_of_two, run_of, spanned}
+use Rattle.markdown_delims.specs.Layers.{extensions_of, layer_of_one, layer_of_two, run_of, spanned}
 use Rattle.markdown_delims.specs.MayPair.{may_pair}
 use Rattle.markdown_delims.specs.Pairing.{Read, done_read, read_trees, FoundOpener, nearest_opener, Layers, layers}
 use Rattle.markdown_delims.specs.Pairing.{still_waiting, last_first, left_over, after_layers, first_texts, reads_from}
@@ -31,7 +31,7 @@ abbrev MaybeRun : Type 0
 MaybeRun = Option RunAt
 
 abbrev Character : Type 0
-Character = Label MaybeRun
+Character = TreeNode MaybeRun
 
 -- what holds of the range of a character, where another thing did
 has_other : (p : RunAt) (holds other : Range ℕ → Type 0) → ((r : Range ℕ) → holds r → other r)
@@ -41,13 +41,14 @@ has_other p holds other i nil h = absurd h
 has_other p holds other i (node a below after) (inl h) = inl (h.0, i a.part.range h.1)
 has_other p holds other i (node a below after) (inr h) = inr (has_other p holds other i after h)
 
--- the first tree of what is left of a chain begins a run if and only if its tag says so, and the run's other characters
+-- the first tree of what is left of a chain begins a run if and only if its note says so, and the run's other
+-- characters
 -- follow
 abbrev Follows : ℕ → MaybeRun → List ℕ → Forest Character → Type 0
 Follows more before source nil = ⊤
-Follows (suc more) before source (node a below after) = (a.tag ≡ before) × Follows more before source after
+Follows (suc more) before source (node a below after) = (a.note ≡ before) × Follows more before source after
 Follows zero before source (node a below after) =
-    (a.tag ≡ run_at a.part.range.start (run_of source a.part)) × Follows (further a.tag) a.tag source after
+    (a.note ≡ run_at a.part.range.start (run_of source a.part)) × Follows (further a.note) a.note source after
 
 fresh : (before : MaybeRun) (source : List ℕ) (chain : Forest Character) → Follows 0 before source chain
     → Follows 0 None source chain
@@ -57,7 +58,7 @@ fresh before source (node a below after) h = h
 module _ (whole : Forest Character) where
   -- a character of this run, as it is in the chain
   abbrev IsOf : RunAt → Character → Type 0
-  IsOf p x = (x.tag ≡ Some p) × HasCharacter p (λ own. own ≡ x.part.range) whole
+  IsOf p x = (x.note ≡ Some p) × HasCharacter p (λ own. own ≡ x.part.range) whole
 
   record AreOf (run : Run) (xs : List Character) : Type 0 where
     at : RunAt
@@ -65,7 +66,7 @@ module _ (whole : Forest Character) where
     all : AllByRecursion (IsOf at) xs
 
   abbrev IsTree : Character → Forest Character → Type 0
-  IsTree a below = IsMadeOfRun whole a.tag a.part.range below × JoinsRuns whole below
+  IsTree a below = IsMadeOfRun whole a.note a.part.range below × JoinsRuns whole below
 
   -- what was read
   abbrev IsOpen : Run → List Character → Type 0
@@ -77,7 +78,7 @@ module _ (whole : Forest Character) where
   -- what is still to be read
   abbrev AreThere : Forest Character → Type 0
   AreThere nil = ⊤
-  AreThere (node a below after) = ((p : RunAt) → a.tag ≡ Some p → HasCharacter p (λ own. own ≡ a.part.range) whole)
+  AreThere (node a below after) = ((p : RunAt) → a.note ≡ Some p → HasCharacter p (λ own. own ≡ a.part.range) whole)
       × JoinsRuns whole below × AreThere after
 
   -- a character that stays text, and several
@@ -136,11 +137,11 @@ module _ (whole : Forest Character) where
     layers_join d [] vs inside a b h = (h, tt, b)
     layers_join d (x ∷ xs) [] inside a b h = (h, a, tt)
     layers_join d (x ∷ []) (v ∷ vs) inside a b h =
-        ((layer_joins (layer_of_one (marks_of s.rules.options) d) x v inside a.0 b.0 h, tt), tt, b.1)
+        ((layer_joins (layer_of_one (extensions_of s.rules.options) d) x v inside a.0 b.0 h, tt), tt, b.1)
     layers_join d (x ∷ y ∷ xs) (v ∷ []) inside a b h =
-        ((layer_joins (layer_of_one (marks_of s.rules.options) d) x v inside a.0 b.0 h, tt), a.1, tt)
+        ((layer_joins (layer_of_one (extensions_of s.rules.options) d) x v inside a.0 b.0 h, tt), a.1, tt)
     layers_join d (x ∷ y ∷ xs) (v ∷ w ∷ vs) inside a b h =
-        let shape : List ℕ → Shape = layer_of_two (marks_of s.rules.options) d in
+        let shape : List ℕ → Shape = layer_of_two (extensions_of s.rules.options) d in
         layers_join d xs vs (node (spanned s.text shape y w) inside nil) a.1.1 b.1.1
         (layer_joins shape y w inside a.1.0 b.1.0 h, tt)
 
@@ -186,7 +187,7 @@ module _ (whole : Forest Character) where
     firsts_of (suc n) p (node a below after) f h =
         let k = firsts_of n p after f.1 h.2 in (((f.0, h.0 p f.0), k.0), k.1, k.2)
 
-    of_length : (n : ℕ) (p : RunAt) (a : Character) (below after : Forest Character) → a.tag ≡ Some p
+    of_length : (n : ℕ) (p : RunAt) (a : Character) (below after : Forest Character) → a.note ≡ Some p
         → Follows (n - 1) (Some p) s.text after → AreThere (node a below after)
         → AllByRecursion (IsOf p) (first_texts s.text n (node a below after))
         × Follows 0 None s.text (later (n - 1) after)
@@ -204,12 +205,12 @@ module _ (whole : Forest Character) where
         × HoldsOf (first_texts s.text run.length (node a below after)) rs (later (run.length - 1) after)
     run_holds run a below after rs e h =
         let p : RunAt = record { start = a.part.range.start; run = run } in
-        let tag : a.tag ≡ Some p = h.1.0 ∙ ap (run_at a.part.range.start) e in
+        let tag : a.note ≡ Some p = h.1.0 ∙ ap (run_at a.part.range.start) e in
         let k = of_length run.length p a below after tag (subst (λ t. Follows (further t) t s.text after) tag h.1.1) h.2
         in
         (record { at = p; same = refl; all = k.0 }, (h.0, k.1, k.2))
 
-    closed_tree : (b : Bool) (a : Character) (below : Forest Character) → a.tag ≡ None → JoinsRuns whole below
+    closed_tree : (b : Bool) (a : Character) (below : Forest Character) → a.note ≡ None → JoinsRuns whole below
         → IsTree (text_if b s.text a) below
     closed_tree true a below e h = (subst (λ t. IsMadeOfRun whole t a.part.range below) (sym e) tt, h)
     closed_tree false a below e h = (subst (λ t. IsMadeOfRun whole t a.part.range below) (sym e) tt, h)
@@ -218,7 +219,7 @@ module _ (whole : Forest Character) where
         ≡ None
         → HoldsOf [] rs (node a below after) → HoldsOf [] (done_read (as_closed s.text a) below ∷ rs) after
     tree_holds a below after rs e h =
-        let tag : a.tag ≡ None = h.1.0 ∙ ap (run_at a.part.range.start) e in (
+        let tag : a.note ≡ None = h.1.0 ∙ ap (run_at a.part.range.start) e in (
           (closed_tree (is_unresolved a.part.shape) a below tag h.2.1, h.0),
           subst (λ t. Follows (further t) t s.text after) tag h.1.1,
           h.2.2,
@@ -258,7 +259,7 @@ module _ (whole : Forest Character) where
         (reads_from s 0 chain []) nil (reads-stay-of s AreOf HoldsOf join_on 0 chain [] (tt, f, h)).0 tt)
 
 -- below the trees of a chain with its runs told are none
-none_below : {A : Type 0} (whole : Forest Character) (f : Forest (Label A)) → JoinsRuns whole (retagged no_run f)
+none_below : {A : Type 0} (whole : Forest Character) (f : Forest (TreeNode A)) → JoinsRuns whole (annotated no_run f)
 none_below whole nil = tt
 none_below whole (node a below after) = (tt, none_below whole below, none_below whole after)
 
@@ -268,8 +269,8 @@ Stands whole part = (p : RunAt) (r : Range ℕ) → HasCharacter p (λ own. own 
     → HasCharacter p (λ own. own ≡ r) whole
 
 module _ {A : Type 0} (s : Setting) where
-  -- each character has its run as its tag, and occurs in its own chain
-  runs_follow : (more : ℕ) (before : MaybeRun) (chain : Forest (Label A))
+  -- each character has its run as its note, and occurs in its own chain
+  runs_follow : (more : ℕ) (before : MaybeRun) (chain : Forest (TreeNode A))
       → Follows more before s.text (with_runs s more before chain)
   runs_follow more before nil = tt
   runs_follow (suc more) before (node a below after) = (refl, runs_follow more before after)
@@ -277,7 +278,7 @@ module _ {A : Type 0} (s : Setting) where
       let here : MaybeRun = run_at a.part.range.start (run_of s.text a.part) in
       (refl, runs_follow (further here) here after)
 
-  runs_there : (whole : Forest Character) (more : ℕ) (before : MaybeRun) (chain : Forest (Label A))
+  runs_there : (whole : Forest Character) (more : ℕ) (before : MaybeRun) (chain : Forest (TreeNode A))
       → Stands whole (with_runs s more before chain) → AreThere whole (with_runs s more before chain)
   runs_there whole more before nil h = tt
   runs_there whole (suc more) before (node a below after) h = (

@@ -2,8 +2,8 @@
 use Rattle.std.proofs.Common.{◌≡◌, Bool, true, false, List, [], ◌∷◌, Option, Some, None, refl, ap, sym, ◌∙◌}
 use Rattle.std.specs.Prelude.{not, ◌&&◌, IfSome, IfNone}
 use Rattle.markdown_base.specs.Forest.{Forest, nil, node, Each}
-use Rattle.markdown_document.specs.Document.{Label, is_unresolved, shaped, as_text}
-use Rattle.markdown_document.specs.Labels.{retagged, retag}
+use Rattle.markdown_document.specs.Document.{TreeNode, is_unresolved, shaped, as_text}
+use Rattle.markdown_document.specs.TreeNodes.{annotated, annotate}
 use Rattle.markdown_document.specs.Setting.{Setting}
 use Rattle.markdown_document.specs.Waiting.{text_if, as_closed}
 use Rattle.markdown_delims.specs.declared.run.Run.{Run}
@@ -11,16 +11,16 @@ use Rattle.markdown_delims.specs.MayPair.{may_pair}
 use Rattle.markdown_delims.specs.Pairing.{Read, done_read, waiting, texts_before, FoundOpener, found_if, nearest_opener}
 use Rattle.markdown_delims.specs.Pairing.{paired, NothingOpen}
 use Rattle.markdown_delims.specs.PairingFinds.{finds_in}
-use Rattle.markdown_delims.specs.Layers.{marks_of}
+use Rattle.markdown_delims.specs.Layers.{extensions_of}
 use Rattle.markdown_delims.specs.PairingLaws.{below_trees, NonePairs, PairingClosedLaw, PairingOrderLaw, JoinsLaw}
-use Rattle.markdown_delims.specs.PairingLaws.{MissesNoneLaw, KeepsLaw, PairingTagLaw}
+use Rattle.markdown_delims.specs.PairingLaws.{MissesNoneLaw, KeepsLaw, PairingNoteLaw}
 use Rattle.markdown_delims.specs.Quotes.{first_turn, quotes_after, with_quotes}
 use Rattle.markdown_delims.proofs.KeepLemmas.{EachTree, MakesTrees, IsReadable, runs-keep, IsClosedTree}
 use Rattle.markdown_delims.proofs.KeepLemmas.{as_closed-closed, paired-closed}
 use Rattle.markdown_delims.proofs.LayerLawLemmas.{one-closed, two-closed}
 use Rattle.markdown_delims.proofs.OrderLemmas.{deep, paired-deep, finds-deep}
 
-closed_nothing : {A : Type 0} (f : Forest (Label A)) → EachTree IsClosedTree f → NothingOpen f
+closed_nothing : {A : Type 0} (f : Forest (TreeNode A)) → EachTree IsClosedTree f → NothingOpen f
 closed_nothing nil h = tt
 closed_nothing (node a below after) h = (h.0, closed_nothing after h.1)
 
@@ -28,7 +28,7 @@ pub closed-law : {A : Type 0} → PairingClosedLaw A
 closed-law s chain = closed_nothing (paired s chain) (paired-closed s chain)
 
 -- a change below each tree, and no other
-below_same : {A : Type 0} (change : Forest (Label A) → Forest (Label A)) (f : Forest (Label A))
+below_same : {A : Type 0} (change : Forest (TreeNode A) → Forest (TreeNode A)) (f : Forest (TreeNode A))
     → deep (λ x. x) change f ≡ below_trees change f
 below_same change nil = refl
 below_same change (node a below after) = ap (node a (change below)) (below_same change after)
@@ -39,48 +39,48 @@ order-law s change none stays chain =
     ∙ paired-deep (λ x. x) change s none (λ f h. stays f (closed_nothing f h)
     ∙ sym (below_same change f)) chain ∙ below_same change (paired s chain)
 
--- other tags, and no other change
-tags_same : {A B : Type 0} (f : A → B) (g : Forest (Label A)) → deep f (retagged f) g ≡ retagged f g
-tags_same f nil = refl
-tags_same f (node a below after) = ap (node (retag f a) (retagged f below)) (tags_same f after)
+-- other notes, and no other change
+notes_same : {A B : Type 0} (f : A → B) (g : Forest (TreeNode A)) → deep f (annotated f) g ≡ annotated f g
+notes_same f nil = refl
+notes_same f (node a below after) = ap (node (annotate f a) (annotated f below)) (notes_same f after)
 
-pub tag-law : {A B : Type 0} → PairingTagLaw A B
-tag-law f s chain = ap (paired s) (sym (tags_same f chain))
-    ∙ paired-deep f (retagged f) s refl (λ g h. sym (tags_same f g)) chain
-    ∙ tags_same f (paired s chain)
+pub tag-law : {A B : Type 0} → PairingNoteLaw A B
+tag-law f s chain = ap (paired s) (sym (notes_same f chain))
+    ∙ paired-deep f (annotated f) s refl (λ g h. sym (notes_same f g)) chain
+    ∙ notes_same f (paired s chain)
 
 -- nor do searches depend on them
-pub tag-finds : {A B : Type 0} (f : A → B) (s : Setting) (chain : Forest (Label A)) → finds_in s (retagged f chain)
+pub tag-finds : {A B : Type 0} (f : A → B) (s : Setting) (chain : Forest (TreeNode A)) → finds_in s (annotated f chain)
     ≡ finds_in s chain
-tag-finds f s chain = ap (finds_in s) (sym (tags_same f chain))
-    ∙ finds-deep f (retagged f) s refl (λ g h. sym (tags_same f g)) chain
+tag-finds f s chain = ap (finds_in s) (sym (notes_same f chain))
+    ∙ finds-deep f (annotated f) s refl (λ g h. sym (notes_same f g)) chain
 
--- what holds for each label at every depth, and for a label that is not open if it held for one with the same block
-module _ {A : Type 0} (p : Label A → Type 0) (stays : (a b : Label A) → p a → b.part.block ≡ a.part.block
+-- what holds for each node at every depth, and for a node that is not open if it held for one with the same block
+module _ {A : Type 0} (p : TreeNode A → Type 0) (stays : (a b : TreeNode A) → p a → b.part.block ≡ a.part.block
     → is_unresolved b.part.shape ≡ false → p b) (s : Setting) where
-  abbrev HoldsBelow : Label A → Forest (Label A) → Type 0
+  abbrev HoldsBelow : TreeNode A → Forest (TreeNode A) → Type 0
   HoldsBelow a below = p a × Each p below
 
-  each_holds : (f : Forest (Label A)) → EachTree HoldsBelow f → Each p f
+  each_holds : (f : Forest (TreeNode A)) → EachTree HoldsBelow f → Each p f
   each_holds nil h = tt
   each_holds (node a below after) h = (h.0.0, h.0.1, each_holds after h.1)
 
   makes_such : MakesTrees s p HoldsBelow
   makes_such = record {
     text = λ x h. (h, tt);
-    one = λ d x v inside h i. (stays x _ h refl (one-closed (marks_of s.rules.options) d _), each_holds inside i);
-    two = λ d x v inside h i. (stays x _ h refl (two-closed (marks_of s.rules.options) d _), each_holds inside i);
+    one = λ d x v inside h i. (stays x _ h refl (one-closed (extensions_of s.rules.options) d _), each_holds inside i);
+    two = λ d x v inside h i. (stays x _ h refl (two-closed (extensions_of s.rules.options) d _), each_holds inside i);
   }
 
-  same_block : (b : Bool) (a : Label A) → (text_if b s.text a).part.block ≡ a.part.block
+  same_block : (b : Bool) (a : TreeNode A) → (text_if b s.text a).part.block ≡ a.part.block
   same_block true a = refl
   same_block false a = refl
 
-  quotes_readable : (single double : Bool) (chain : Forest (Label A)) → Each p chain
+  quotes_readable : (single double : Bool) (chain : Forest (TreeNode A)) → Each p chain
       → EachTree (IsReadable p HoldsBelow s) (quotes_after single double chain)
   quotes_readable single double nil h = tt
   quotes_readable single double (node a below after) h =
-      let quoted : Label A = shaped (first_turn a after single double).made a in (
+      let quoted : TreeNode A = shaped (first_turn a after single double).made a in (
         (
           stays a (as_text s.text quoted) h.0 refl refl,
           (
@@ -92,7 +92,7 @@ module _ {A : Type 0} (p : Label A → Type 0) (stays : (a b : Label A) → p a 
         quotes_readable (first_turn a after single double).single (first_turn a after single double).double after h.2,
       )
 
-  pub paired-keeps : (chain : Forest (Label A)) → Each p chain → Each p (paired s chain)
+  pub paired-keeps : (chain : Forest (TreeNode A)) → Each p chain → Each p (paired s chain)
   unfolding paired with_quotes
   paired-keeps chain h = each_holds (paired s chain) (runs-keep p HoldsBelow s makes_such (with_quotes chain)
       (quotes_readable false false chain h))

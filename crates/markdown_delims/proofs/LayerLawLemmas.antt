@@ -5,8 +5,8 @@ use Rattle.std.specs.Prelude.{◌&&◌, if◌then◌else◌}
 use Rattle.markdown_base.specs.Event.{TagView}
 use Rattle.markdown_document.specs.Document.{Shape, plain, unresolved, is_unresolved}
 use Rattle.markdown_document.specs.Document.{text_over}
-use Rattle.markdown_document.specs.Labels.{GivesFirst, is_plain}
-use Rattle.markdown_delims.specs.declared.marks.Marks.{Marks}
+use Rattle.markdown_document.specs.TreeNodes.{GivesFirst, is_plain}
+use Rattle.markdown_delims.specs.declared.extensions.Extensions.{Extensions}
 use Rattle.markdown_delims.specs.declared.quotes.Kind.{Kind}
 use Rattle.markdown_delims.specs.declared.quotes.Kind.TheVariants as kind
 use Rattle.markdown_delims.specs.declared.run.Delimiter.{Delimiter}
@@ -18,13 +18,13 @@ enclosed_gives : (b : Bool) (t : TagView) (other : Shape) → GivesFirst other �
 enclosed_gives true t other h = tt
 enclosed_gives false t other h = h
 
-pub two-gives : (m : Marks) (d : Delimiter) (source : List ℕ) → GivesFirst (layer_of_two m d source)
+pub two-gives : (m : Extensions) (d : Delimiter) (source : List ℕ) → GivesFirst (layer_of_two m d source)
 two-gives m Star source = tt
 two-gives m Underscore source = tt
 two-gives m Tilde source = enclosed_gives m.strikethrough _ (text_over source) tt
 two-gives m Caret source = enclosed_gives m.superscript _ (text_over source) tt
 
-pub one-gives : (m : Marks) (d : Delimiter) (source : List ℕ) → GivesFirst (layer_of_one m d source)
+pub one-gives : (m : Extensions) (d : Delimiter) (source : List ℕ) → GivesFirst (layer_of_one m d source)
 one-gives m Star source = tt
 one-gives m Underscore source = tt
 one-gives m Tilde source = enclosed_gives m.subscript _ _ (enclosed_gives m.strikethrough _ (text_over source) tt)
@@ -35,10 +35,10 @@ gives_closed : (shape : Shape) → GivesFirst shape → is_unresolved shape ≡ 
 gives_closed (unresolved b) h = absurd h
 gives_closed other h = refl
 
-pub two-closed : (m : Marks) (d : Delimiter) (source : List ℕ) → is_unresolved (layer_of_two m d source) ≡ false
+pub two-closed : (m : Extensions) (d : Delimiter) (source : List ℕ) → is_unresolved (layer_of_two m d source) ≡ false
 two-closed m d source = gives_closed (layer_of_two m d source) (two-gives m d source)
 
-pub one-closed : (m : Marks) (d : Delimiter) (source : List ℕ) → is_unresolved (layer_of_one m d source) ≡ false
+pub one-closed : (m : Extensions) (d : Delimiter) (source : List ℕ) → is_unresolved (layer_of_one m d source) ≡ false
 one-closed m d source = gives_closed (layer_of_one m d source) (one-gives m d source)
 
 -- a shape that is neither open nor plain gives an event first

@@ -6,14 +6,14 @@ use Rattle.std.specs.Prelude.{⊤, ◌⊎◌, IfSome, IfNone, not, ◌&&◌, ◌
 use Rattle.std.specs.List.{AllByRecursion}
 use Rattle.markdown_base.specs.Forest.{Forest, nil, node}
 use Rattle.markdown_base.proofs.ForestLemmas.{relabelled-relabelled}
-use Rattle.markdown_document.specs.Document.{Shape, leaf, backslash_break, unresolved, Label, is_unresolved, shaped}
-use Rattle.markdown_document.specs.Labels.{retag, retagged}
+use Rattle.markdown_document.specs.Document.{Shape, leaf, backslash_break, unresolved, TreeNode, is_unresolved, shaped}
+use Rattle.markdown_document.specs.TreeNodes.{annotate, annotated}
 use Rattle.markdown_document.specs.Setting.{Setting}
 use Rattle.markdown_document.specs.Waiting.{text_if, as_closed}
 use Rattle.markdown_delims.specs.declared.run.Delimiter.{Delimiter}
 use Rattle.markdown_delims.specs.declared.run.Delimiter.TheVariants.{Star, Underscore, Tilde, Caret}
 use Rattle.markdown_delims.specs.declared.run.Run.{Run}
-use Rattle.markdown_delims.specs.Layers.{marks_of, layer_of_one, layer_of_two, run_of_shape, run_of, spanned}
+use Rattle.markdown_delims.specs.Layers.{extensions_of, layer_of_one, layer_of_two, run_of_shape, run_of, spanned}
 use Rattle.markdown_delims.specs.MayPair.{delimiter_of, drops, may_pair}
 use Rattle.markdown_delims.specs.Pairing.{paired, Read, done_read, waiting, texts_before, characters_done, read_trees}
 use Rattle.markdown_delims.specs.Pairing.{FoundOpener, nearest_opener, drop_read, Layers, layers, trees_done}
@@ -25,7 +25,7 @@ use Rattle.markdown_delims.specs.declared.quotes.Kind.TheVariants as kind
 use Rattle.markdown_base.specs.declared.item.ItemBody.TheVariants as body
 use Rattle.markdown_delims.specs.PairingLaws.{is_tilde_or_caret, NonePairs, RunAt, run_at, further, no_run, with_runs}
 use Rattle.markdown_delims.specs.PairingLaws.{run_if_text, kept_run, DoNotPair}
-use Rattle.markdown_delims.specs.PairingLaws.{NonePairsLater, NoneMissed, without_tags, NoneMissedLaw}
+use Rattle.markdown_delims.specs.PairingLaws.{NonePairsLater, NoneMissed, without_notes, NoneMissedLaw}
 use Rattle.markdown_delims.proofs.KeepLemmas.{turned-all}
 use Rattle.markdown_delims.proofs.LawLemmas.{misses-law, tag-law}
 use Rattle.markdown_delims.proofs.LayerLawLemmas.{turn-made}
@@ -36,12 +36,12 @@ abbrev MaybeRun : Type 0
 MaybeRun = Option RunAt
 
 abbrev Character : Type 0
-Character = Label MaybeRun
+Character = TreeNode MaybeRun
 
 -- a chain whose first tree belongs to this run, as do the next `more` trees
-abbrev with_run : {A : Type 0} → Setting → MaybeRun → ℕ → Label A → Forest (Label A) → Forest (Label A)
+abbrev with_run : {A : Type 0} → Setting → MaybeRun → ℕ → TreeNode A → Forest (TreeNode A) → Forest (TreeNode A)
     → Forest Character
-with_run s r more a below after = node (retag (λ _. r) a) (retagged no_run below) (with_runs s more r after)
+with_run s r more a below after = node (annotate (λ _. r) a) (annotated no_run below) (with_runs s more r after)
 
 differ : true ≡ false → ⊥
 differ e = cc
@@ -86,12 +86,12 @@ tilde_shut p e star opens = differ (sym e ∙ star)
 abbrev NoneEarlier : MaybeRun → List (Read MaybeRun) → Type 0
 NoneEarlier k [] = ⊤
 NoneEarlier k (done_read a below ∷ rs) = DoNotPair (kept_run a) k × NoneEarlier k rs
-NoneEarlier k (waiting dropped run xs ∷ rs) = AllByRecursion (λ (x : Character). DoNotPair x.tag k) xs
+NoneEarlier k (waiting dropped run xs ∷ rs) = AllByRecursion (λ (x : Character). DoNotPair x.note k) xs
     × NoneEarlier k rs
 
 -- characters of one run, and that there are some
 abbrev AreOf : RunAt → List Character → Type 0
-AreOf p xs = AllByRecursion (λ (x : Character). x.tag ≡ Some p) xs
+AreOf p xs = AllByRecursion (λ (x : Character). x.note ≡ Some p) xs
 
 abbrev HasSome : List Character → Type 0
 HasSome [] = ⊥
@@ -113,9 +113,9 @@ Fine (waiting dropped run xs ∷ rs) = (dropped ≡ true → is_tilde_or_caret r
     × Fine rs
 
 each_apart : (k : MaybeRun) → ((r : MaybeRun) → DoNotPair r k) → (xs : List Character)
-    → AllByRecursion (λ (x : Character). DoNotPair x.tag k) xs
+    → AllByRecursion (λ (x : Character). DoNotPair x.note k) xs
 each_apart k h [] = tt
-each_apart k h (x ∷ xs) = (h x.tag, each_apart k h xs)
+each_apart k h (x ∷ xs) = (h x.note, each_apart k h xs)
 
 all_earlier : (k : MaybeRun) → ((r : MaybeRun) → DoNotPair r k) → (rs : List (Read MaybeRun)) → NoneEarlier k rs
 all_earlier k h [] = tt
@@ -137,29 +137,29 @@ text_pairs_later (leaf e origins) r f h = h
 text_pairs_later other r f h = no_later f
 
 -- of a character of a run p
-module _ (p : RunAt) (x : Character) (e : x.tag ≡ Some p) where
+module _ (p : RunAt) (x : Character) (e : x.note ≡ Some p) where
   is_shut : Shut (Some p) → Shut (kept_run x)
-  is_shut h = shut_text x.part.shape x.tag (subst Shut (sym e) h)
+  is_shut h = shut_text x.part.shape x.note (subst Shut (sym e) h)
 
   is_earlier : (rs : List (Read MaybeRun)) → NoneEarlier (Some p) rs → NoneEarlier (kept_run x) rs
-  is_earlier rs h = text_earlier x.part.shape x.tag rs (subst (λ r. NoneEarlier r rs) (sym e) h)
+  is_earlier rs h = text_earlier x.part.shape x.note rs (subst (λ r. NoneEarlier r rs) (sym e) h)
 
   is_first : (k : MaybeRun) → DoNotPair (Some p) k → DoNotPair (kept_run x) k
-  is_first k h = text_first x.part.shape x.tag k (subst (λ r. DoNotPair r k) (sym e) h)
+  is_first k h = text_first x.part.shape x.note k (subst (λ r. DoNotPair r k) (sym e) h)
 
   is_later : (k : MaybeRun) → DoNotPair k (Some p) → DoNotPair k (kept_run x)
-  is_later k h = text_later x.part.shape k x.tag (subst (λ r. DoNotPair k r) (sym e) h)
+  is_later k h = text_later x.part.shape k x.note (subst (λ r. DoNotPair k r) (sym e) h)
 
   pairs_later : (f : Forest Character) → NonePairsLater (Some p) f → NonePairsLater (kept_run x) f
-  pairs_later f h = text_pairs_later x.part.shape x.tag f (subst (λ r. NonePairsLater r f) (sym e) h)
+  pairs_later f h = text_pairs_later x.part.shape x.note f (subst (λ r. NonePairsLater r f) (sym e) h)
 
 all_first : (p : RunAt) (k : MaybeRun) (xs : List Character) → AreOf p xs → DoNotPair (Some p) k
-    → AllByRecursion (λ (x : Character). DoNotPair x.tag k) xs
+    → AllByRecursion (λ (x : Character). DoNotPair x.note k) xs
 all_first p k [] a h = tt
 all_first p k (x ∷ xs) a h = (subst (λ r. DoNotPair r k) (sym a.0) h, all_first p k xs a.1 h)
 
 first_of_all : (p : RunAt) (k : MaybeRun) (xs : List Character) → HasSome xs → AreOf p xs
-    → AllByRecursion (λ (x : Character). DoNotPair x.tag k) xs → DoNotPair (Some p) k
+    → AllByRecursion (λ (x : Character). DoNotPair x.note k) xs → DoNotPair (Some p) k
 first_of_all p k [] s a h = absurd s
 first_of_all p k (x ∷ xs) s a h = subst (λ r. DoNotPair r k) a.0 h.0
 
@@ -310,7 +310,7 @@ module _ (p : RunAt) where
       → NoneEarlier (Some p) rs → Fine (left_over run vs rs)
   left_fine run [] rs g a s h e = absurd s
   left_fine run (v ∷ vs) rs g a s h e = opened_fine run.can_open run (last_first (v ∷ vs) []) rs refl g
-      (turned-all (λ (x : Character). x.tag ≡ Some p) (v ∷ vs) [] a tt)
+      (turned-all (λ (x : Character). x.note ≡ Some p) (v ∷ vs) [] a tt)
       (some_turned vs (v ∷ []) tt) h e
 
   still_fine : (run : Run) (xs : List Character) (rs : List (Read MaybeRun)) → p.run ≡ run → AreOf p xs → Fine rs
@@ -323,7 +323,7 @@ module _ (p : RunAt) where
   -- a layer of p
   abbrev IsLayer : Forest Character → Type 0
   IsLayer nil = ⊥
-  IsLayer (node a below nil) = (a.tag ≡ Some p) × Shut (kept_run a) × NoneMissed below
+  IsLayer (node a below nil) = (a.note ≡ Some p) × Shut (kept_run a) × NoneMissed below
   IsLayer (node a below (node b under after)) = ⊥
 
   layer_missed : (f : Forest Character) → IsLayer f → NoneMissed f
@@ -341,7 +341,7 @@ module _ (p : RunAt) where
     made_layer : (shape : Delimiter → List ℕ → Shape)
         → ((source : List ℕ) → Shut (run_if_text (shape Star source) (Some p)))
         → ((source : List ℕ) → Shut (run_if_text (shape Underscore source) (Some p))) → (d : Delimiter)
-        (x v : Character) (inside : Forest Character) → p.run.delimiter ≡ d → x.tag ≡ Some p → NoneMissed inside
+        (x v : Character) (inside : Forest Character) → p.run.delimiter ≡ d → x.note ≡ Some p → NoneMissed inside
         → IsLayer (node (spanned s.text (shape d) x v) inside nil)
     made_layer shape star underscore d x v inside e t m =
         (t, subst (λ r. Shut (run_if_text (shape d source) r)) (sym t) (by_delimiter d e), m)
@@ -355,9 +355,10 @@ module _ (p : RunAt) where
         by_delimiter Tilde e = shut_text (shape Tilde source) (Some p) (tilde_shut p (ap is_tilde_or_caret e))
         by_delimiter Caret e = shut_text (shape Caret source) (Some p) (tilde_shut p (ap is_tilde_or_caret e))
 
-    one_layer : (d : Delimiter) (x v : Character) (inside : Forest Character) → p.run.delimiter ≡ d → x.tag ≡ Some p
-        → NoneMissed inside → IsLayer (node (spanned s.text (layer_of_one (marks_of s.rules.options) d) x v) inside nil)
-    one_layer = made_layer (layer_of_one (marks_of s.rules.options)) (λ _. tt) (λ _. tt)
+    one_layer : (d : Delimiter) (x v : Character) (inside : Forest Character) → p.run.delimiter ≡ d → x.note ≡ Some p
+        → NoneMissed inside → IsLayer (node (spanned s.text (layer_of_one
+        (extensions_of s.rules.options) d) x v) inside nil)
+    one_layer = made_layer (layer_of_one (extensions_of s.rules.options)) (λ _. tt) (λ _. tt)
 
     abbrev AreMade : RunAt → Layers MaybeRun → Type 0
     AreMade q l = IsLayer l.whole × AreOf p l.opening × AreOf q l.closing
@@ -374,7 +375,8 @@ module _ (p : RunAt) where
     layers_made q d (x ∷ y ∷ xs) (v ∷ []) inside e a b m i = (one_layer d x v inside e a.0 m, a.1, tt)
     layers_made q d (x ∷ y ∷ xs) (v ∷ w ∷ vs) inside e a b m i =
         let whole : Forest Character = (layers s d (x ∷ y ∷ []) (v ∷ w ∷ []) inside).whole in
-        let l : IsLayer whole = made_layer (layer_of_two (marks_of s.rules.options)) (λ _. tt) (λ _. tt) d y w inside e
+        let l : IsLayer whole = made_layer (layer_of_two (extensions_of s.rules.options)) (λ _. tt)
+        (λ _. tt) d y w inside e
         a.1.0 m in
         layers_made q d xs vs whole e a.1.1 b.1.1 (layer_missed whole l) (inr l)
 
@@ -442,25 +444,26 @@ module _ (s : Setting) where
   run_fine true p vs rs c a i h = closed_fine (length vs) p.run p vs rs refl a (omega arith) h
   run_fine false p vs rs c a i h = left_fine p p.run vs rs refl a i h (all_earlier (Some p) (cannot_close p c) rs)
 
-  closed_tag : (b : Bool) (a : Character) → (text_if b s.text a).tag ≡ a.tag
+  closed_tag : (b : Bool) (a : Character) → (text_if b s.text a).note ≡ a.note
   closed_tag true a = refl
   closed_tag false a = refl
 
-  of_none : (a : Character) (rs : List (Read MaybeRun)) → a.tag ≡ None → Shut (kept_run a) × NoneEarlier (kept_run a) rs
+  of_none : (a : Character) (rs : List (Read MaybeRun)) → a.note ≡ None → Shut (kept_run a) × NoneEarlier
+      (kept_run a) rs
   of_none a rs e = (
-    shut_text a.part.shape a.tag (subst Shut (sym e) tt),
-    text_earlier a.part.shape a.tag rs (subst (λ r. NoneEarlier r rs) (sym e) (all_earlier None none_later rs)),
+    shut_text a.part.shape a.note (subst Shut (sym e) tt),
+    text_earlier a.part.shape a.note rs (subst (λ r. NoneEarlier r rs) (sym e) (all_earlier None none_later rs)),
   )
 
   -- a chain with its runs told is read
   module _ {A : Type 0} where
-    firsts_of : (p : RunAt) (n : ℕ) (chain : Forest (Label A))
+    firsts_of : (p : RunAt) (n : ℕ) (chain : Forest (TreeNode A))
         → AreOf p (first_texts s.text n (with_runs s n (Some p) chain))
     firsts_of p zero chain = tt
     firsts_of p (suc n) nil = tt
     firsts_of p (suc n) (node a below after) = (refl, firsts_of p n after)
 
-    run_of_length : (p : RunAt) (n : ℕ) (a : Label A) (below after : Forest (Label A)) → 0 < n
+    run_of_length : (p : RunAt) (n : ℕ) (a : TreeNode A) (below after : Forest (TreeNode A)) → 0 < n
         → AreOf p (first_texts s.text n (with_run s (Some p) (n - 1) a below after))
         × HasSome (first_texts s.text n (with_run s (Some p) (n - 1) a below after))
     run_of_length p zero a below after h = absurd (omega arith)
@@ -472,31 +475,31 @@ module _ (s : Setting) where
       tt,
     )
 
-    below_fine : (f : Forest (Label A)) → NoneMissed (retagged no_run f)
+    below_fine : (f : Forest (TreeNode A)) → NoneMissed (annotated no_run f)
     below_fine nil = tt
     below_fine (node a below after)
-        = (pairs_none a.part.shape (retagged no_run after), below_fine below, below_fine after)
+        = (pairs_none a.part.shape (annotated no_run after), below_fine below, below_fine after)
       where
         pairs_none : (shape : Shape) (f : Forest Character) → NonePairsLater (run_if_text shape None) f
         pairs_none shape f = text_pairs_later shape None f (no_later f)
 
-    tree_fine : (go_on : MaybeRun → ℕ → List (Read MaybeRun) → List (Read MaybeRun)) (start : ℕ) (a : Label A)
-        (below after : Forest (Label A)) (rs : List (Read MaybeRun)) (o : Option Run)
+    tree_fine : (go_on : MaybeRun → ℕ → List (Read MaybeRun) → List (Read MaybeRun)) (start : ℕ) (a : TreeNode A)
+        (below after : Forest (TreeNode A)) (rs : List (Read MaybeRun)) (o : Option Run)
         → IfSome o (λ run. 0 < run.length) → ((r : MaybeRun) (others : List (Read MaybeRun)) → Fine others
         → Fine (go_on r (further r) others)) → Fine rs
-        → Fine (after_tree s (go_on (run_at start o)) (retag (λ _. run_at start o) a) (retagged no_run below)
+        → Fine (after_tree s (go_on (run_at start o)) (annotate (λ _. run_at start o) a) (annotated no_run below)
         (with_runs s (further (run_at start o)) (run_at start o) after) rs o)
     tree_fine go_on start a below after rs None n h k =
-        let label : Character = as_closed s.text (retag (λ _. None) a) in
-        let none = of_none label rs (closed_tag (is_unresolved a.part.shape) (retag (λ _. None) a)) in
-        h None (done_read label (retagged no_run below) ∷ rs) (none.0, none.1, below_fine below, k)
+        let label : Character = as_closed s.text (annotate (λ _. None) a) in
+        let none = of_none label rs (closed_tag (is_unresolved a.part.shape) (annotate (λ _. None) a)) in
+        h None (done_read label (annotated no_run below) ∷ rs) (none.0, none.1, below_fine below, k)
     tree_fine go_on start a below after rs (Some run) n h k =
         let p : RunAt = record { start = start; run = run } in
         let vs : List Character = first_texts s.text run.length (with_run s (Some p) (run.length - 1) a below after) in
         let of = run_of_length p run.length a below after n in
         h (Some p) (run_read s run.can_close run vs rs) (run_fine run.can_close p vs rs refl of.0 of.1 k)
 
-    reads_fine : (more : ℕ) (before : MaybeRun) (chain : Forest (Label A)) (rs : List (Read MaybeRun)) → Fine rs
+    reads_fine : (more : ℕ) (before : MaybeRun) (chain : Forest (TreeNode A)) (rs : List (Read MaybeRun)) → Fine rs
         → Fine (reads_from s more (with_runs s more before chain) rs)
     unfolding reads_from
     reads_fine more before nil rs h = h
@@ -509,7 +512,7 @@ module _ (s : Setting) where
         (λ r others k. reads_fine (further r) r after others
         k) h
 
-    pub runs-missed : (chain : Forest (Label A)) → NoneMissed (runs_paired s (with_runs s 0 None chain))
+    pub runs-missed : (chain : Forest (TreeNode A)) → NoneMissed (runs_paired s (with_runs s 0 None chain))
     unfolding runs_paired
     runs-missed chain = trees_fine (reads_from s 0 (with_runs s 0 None chain) []) nil (reads_fine 0 None chain [] tt) tt
         tt
@@ -527,13 +530,13 @@ turned_run (unresolved (body.MaybeSmartQuote quote opens closes)) d single doubl
 turned_run other d single double later last = refl
 
 module _ {A : Type 0} (s : Setting) where
-  told_end : (more : ℕ) (before : MaybeRun) (chain : Forest (Label A)) → is_end (with_runs s more before chain)
+  told_end : (more : ℕ) (before : MaybeRun) (chain : Forest (TreeNode A)) → is_end (with_runs s more before chain)
       ≡ is_end chain
   told_end more before nil = refl
   told_end zero before (node a below after) = refl
   told_end (suc more) before (node a below after) = refl
 
-  told_later : (more : ℕ) (before : MaybeRun) (chain : Forest (Label A))
+  told_later : (more : ℕ) (before : MaybeRun) (chain : Forest (TreeNode A))
       → is_closed_later (with_runs s more before chain)
       ≡ is_closed_later chain
   told_later more before nil = refl
@@ -544,7 +547,7 @@ module _ {A : Type 0} (s : Setting) where
   told_later (suc more) before (node a below after) = ap (closes_later (kind_of_shape a.part.shape))
       (told_later more before after)
 
-  quotes_node : (single double : Bool) (r : MaybeRun) (more : ℕ) (a : Label A) (below after : Forest (Label A))
+  quotes_node : (single double : Bool) (r : MaybeRun) (more : ℕ) (a : TreeNode A) (below after : Forest (TreeNode A))
       → ((i j : Bool) → quotes_after i j (with_runs s more r after) ≡ with_runs s more r (quotes_after i j after))
       → quotes_after single double (with_run s r more a below after)
       ≡ with_run s r more (shaped (first_turn a after single double).made a) below
@@ -557,14 +560,14 @@ module _ {A : Type 0} (s : Setting) where
         h (first_turn a after single double).single (first_turn a after single double).double,
       ) refl
 
-  untagged_node : (r : MaybeRun) (more : ℕ) (a : Label A) (below after : Forest (Label A))
-      → without_tags (with_runs s more r after)
-      ≡ without_tags after
-      → without_tags (with_run s r more a below after) ≡ without_tags (node a below after)
-  untagged_node r more a below after h =
-      rw (relabelled-relabelled (retag no_run) (retag (λ _. tt {0})) below, h) refl
+  unannotated_node : (r : MaybeRun) (more : ℕ) (a : TreeNode A) (below after : Forest (TreeNode A))
+      → without_notes (with_runs s more r after)
+      ≡ without_notes after
+      → without_notes (with_run s r more a below after) ≡ without_notes (node a below after)
+  unannotated_node r more a below after h =
+      rw (relabelled-relabelled (annotate no_run) (annotate (λ _. tt {0})) below, h) refl
 
-  pub quotes_told : (more : ℕ) (before : MaybeRun) (chain : Forest (Label A)) (single double : Bool)
+  pub quotes_told : (more : ℕ) (before : MaybeRun) (chain : Forest (TreeNode A)) (single double : Bool)
       → quotes_after single double (with_runs s more before chain)
       ≡ with_runs s more before (quotes_after single double chain)
   quotes_told more before nil single double = refl
@@ -577,22 +580,22 @@ module _ {A : Type 0} (s : Setting) where
       (is_closed_later after) (is_end after))
       (quotes_node single double here (further here) a below after (λ i j. quotes_told (further here) here after i j))
 
--- runs in the tags change nothing else
-told_untagged : {A : Type 0} (s : Setting) (more : ℕ) (before : MaybeRun) (chain : Forest (Label A))
-    → without_tags (with_runs s more before chain) ≡ without_tags chain
-told_untagged s more before nil = refl
-told_untagged {A} s (suc more) before (node a below after) = untagged_node s before more a below after
-    (told_untagged s more before after)
-told_untagged {A} s zero before (node a below after) =
-    let here : MaybeRun = run_at a.part.range.start (run_of s.text a.part) in untagged_node s here (further here) a
+-- runs in the notes change nothing else
+told_unannotated : {A : Type 0} (s : Setting) (more : ℕ) (before : MaybeRun) (chain : Forest (TreeNode A))
+    → without_notes (with_runs s more before chain) ≡ without_notes chain
+told_unannotated s more before nil = refl
+told_unannotated {A} s (suc more) before (node a below after) = unannotated_node s before more a below after
+    (told_unannotated s more before after)
+told_unannotated {A} s zero before (node a below after) =
+    let here : MaybeRun = run_at a.part.range.start (run_of s.text a.part) in unannotated_node s here (further here) a
     below after
-    (told_untagged s (further here) here after)
+    (told_unannotated s (further here) here after)
 
 pub missed-law : {A : Type 0} → NoneMissedLaw A
 unfolding paired with_quotes
 missed-law {A} s chain =
     let told : Forest Character = with_runs s 0 None chain in (
       rw (quotes_told s 0 None chain false false) (runs-missed s (quotes_after false false chain)),
-      sym (tag-law (λ (r : MaybeRun). tt) s told) ∙ ap (paired s) (told_untagged s 0 None chain)
+      sym (tag-law (λ (r : MaybeRun). tt) s told) ∙ ap (paired s) (told_unannotated s 0 None chain)
           ∙ tag-law (λ (a : A). tt) s chain,
     )

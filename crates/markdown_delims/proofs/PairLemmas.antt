@@ -6,14 +6,14 @@ use Rattle.markdown_base.specs.declared.item.Item.{Item}
 use Rattle.markdown_base.specs.Arena.{Arena, child_of}
 use Rattle.markdown_base.specs.BlockTree.{item_at}
 use Rattle.markdown_base.specs.Forest.{Forest, nil, node}
-use Rattle.markdown_document.specs.Document.{Part, Label, part_of}
-use Rattle.markdown_delims.specs.declared.marks.Marks.{Marks}
+use Rattle.markdown_document.specs.Document.{Part, TreeNode, part_of}
+use Rattle.markdown_delims.specs.declared.extensions.Extensions.{Extensions}
 use Rattle.markdown_delims.specs.declared.run.Characters.{Characters}
 use Rattle.markdown_delims.specs.declared.run.Run.{Run}
 use Rattle.markdown_delims.specs.ChainStanding.{Chain, view, texts, left_texts, flat, AreFirst, AreLast, Reads}
 use Rattle.markdown_delims.specs.ChainStanding.{StandsAt, Finds}
-use Rattle.markdown_delims.specs.Enclosing.{Around, Encloses, EnclosesAll, inner_of}
-use Rattle.markdown_delims.specs.Layers.{marks_of}
+use Rattle.markdown_delims.specs.Enclosing.{ChainParts, Encloses, EnclosesAll, inner_of}
+use Rattle.markdown_delims.specs.Layers.{extensions_of}
 use Rattle.markdown_delims.specs.MayPair.{may_pair}
 use Rattle.markdown_delims.specs.Pairing.{Read, done_read, waiting, texts_before, FoundOpener, found_if, nearest_opener}
 use Rattle.markdown_delims.specs.Pairing.{Layers, layers, trees_done, still_waiting, after_layers}
@@ -22,27 +22,29 @@ use Rattle.markdown_delims.proofs.CutLemmas.{Rises-raise, Holds-write_before, st
 use Rattle.markdown_delims.proofs.WriteLemmas.{parts_written, kept_links, kept_both}
 
 -- the cut goes to the left over characters
-pub record CutSomewhere (own : ℕ → Bool) (k : View Part) (first : Option ℕ) (before after : Forest (Label ℕ)) (hi : ℕ)
+pub record CutSomewhere (own : ℕ → Bool) (k : View Part) (first : Option ℕ) (before after : Forest (TreeNode ℕ))
+    (hi : ℕ)
     : Type 0 where
   pub link : Option ℕ
   pub cut : Cut own k first before link after hi
 
-pub over_texts : (own : ℕ → Bool) (k : View Part) (first : Option ℕ) (xs : List (Label ℕ)) (before : Forest (Label ℕ))
+pub over_texts : (own : ℕ → Bool) (k : View Part) (first : Option ℕ) (xs : List (TreeNode ℕ)) (before : Forest
+    (TreeNode ℕ))
     (l : Option ℕ)
-    (after : Forest (Label ℕ)) (hi : ℕ) → Cut own k first (left_texts xs before) l after hi
+    (after : Forest (TreeNode ℕ)) (hi : ℕ) → Cut own k first (left_texts xs before) l after hi
     → CutSomewhere own k first before (texts_before xs after) hi
 over_texts own k first [] before l after hi c = record { link = l; cut = c }
-over_texts own k first (x ∷ xs) before l after hi c = over_texts own k first xs before (Some x.tag) (node x nil after)
+over_texts own k first (x ∷ xs) before l after hi c = over_texts own k first xs before (Some x.note) (node x nil after)
     hi
     (step_left own k first x nil (left_texts xs before) l after hi c)
 
-pub touched_over : (touched : ℕ → Bool) (xs : List (Label ℕ)) (before after : Forest (Label ℕ))
+pub touched_over : (touched : ℕ → Bool) (xs : List (TreeNode ℕ)) (before after : Forest (TreeNode ℕ))
     → AllTouched touched (left_texts xs before)
     → AllTouched touched after → AllTouched touched (texts_before xs after)
 touched_over touched [] before after h a = a
 touched_over touched (x ∷ xs) before after h a = touched_over touched xs before (node x nil after) h.1 (h.0, a)
 
-touched_before : (touched : ℕ → Bool) (xs : List (Label ℕ)) (before : Forest (Label ℕ))
+touched_before : (touched : ℕ → Bool) (xs : List (TreeNode ℕ)) (before : Forest (TreeNode ℕ))
     → AllTouched touched (left_texts xs before)
     → AllTouched touched before
 touched_before touched [] before h = h
@@ -61,13 +63,13 @@ module _ (touched : ℕ → Bool) (k : View Part) (first : Option ℕ) (closer :
   here_or true g further h rest e = let same : g ≡ f = cc in subst (λ x. FoundAt touched k first x hi) same h
   here_or false g further h rest e = rest e
 
-  pub found_at : (rs : List (Read ℕ)) (l : Option ℕ) (inside : Forest (Label ℕ))
+  pub found_at : (rs : List (Read ℕ)) (l : Option ℕ) (inside : Forest (TreeNode ℕ))
       → Cut touched k first (flat rs) l inside hi
       → AllTouched touched (flat rs) → AllTouched touched inside → nearest_opener closer rs inside ≡ Some f
       → FoundAt touched k first f hi
   found_at [] l inside c h a e = cc
   found_at (done_read b below ∷ rs) l inside c h a e =
-      found_at rs (Some b.tag) (node b below inside) (step_left touched k first b below (flat rs) l inside hi c) h.1
+      found_at rs (Some b.note) (node b below inside) (step_left touched k first b below (flat rs) l inside hi c) h.1
       (h.0, a) e
   found_at (waiting dropped run xs ∷ rs) l inside c h a e =
       here_or (not dropped && may_pair run closer) (record { inside = inside; run = run; characters = xs; before = rs })
@@ -79,46 +81,47 @@ module _ (touched : ℕ → Bool) (k : View Part) (first : Option ℕ) (closer :
       e
 
 -- the last node of a left list leads nowhere now
-parted_top : (own : ℕ → Bool) (k k' : View Part) (first : Option ℕ) (f : Forest (Label ℕ)) (last : ℕ) (l : Option ℕ)
-    (right : Forest (Label ℕ)) (hi : ℕ) → Cut own k first f l right hi → Some last ≡ top f → own last ≡ true
+parted_top : (own : ℕ → Bool) (k k' : View Part) (first : Option ℕ) (f : Forest (TreeNode ℕ)) (last : ℕ) (l : Option ℕ)
+    (right : Forest (TreeNode ℕ)) (hi : ℕ) → Cut own k first f l right hi → Some last ≡ top f → own last ≡ true
     → Writes k k' last (k.item last) (k.child last) None → Parted k' first f None l right
 parted_top own k k' first nil last l right hi c e o w = cc
 parted_top own k k' first (node a below before) last l right hi c e o w =
-    let same : last ≡ a.tag = cc in
+    let same : last ≡ a.note = cc in
     parted own k k' first a below before l None right hi c (subst (λ i. own i ≡ true) same o)
     (subst (λ i. Writes k k' i (k.item i) (k.child i) None) same w)
 
 -- where the last node of a left list is
-top_is : (own : ℕ → Bool) (k : View Part) (first : Option ℕ) (f : Forest (Label ℕ)) (last hi : ℕ) (l : Option ℕ)
+top_is : (own : ℕ → Bool) (k : View Part) (first : Option ℕ) (f : Forest (TreeNode ℕ)) (last hi : ℕ) (l : Option ℕ)
     → LeftHolds k first f l → LeftRises own f hi → AllTouched own f → Some last ≡ top f
     → (last < k.size) × (last < hi) × (own last ≡ true)
 top_is own k first nil last hi l h r t e = cc
 top_is own k first (node a below before) last hi l h r t e =
-    let same : last ≡ a.tag = cc in (omega (arith, h.0, same), omega (arith, r.0.0, same), rw same t.0)
+    let same : last ≡ a.note = cc in (omega (arith, h.0, same), omega (arith, r.0.0, same), rw same t.0)
 
 -- the link after the last of an opener's characters
-pub last_link : (k : View Part) (first : Option ℕ) (o : Characters) (xs : List (Label ℕ)) (before : Forest (Label ℕ))
+pub last_link : (k : View Part) (first : Option ℕ) (o : Characters) (xs : List (TreeNode ℕ)) (before : Forest
+    (TreeNode ℕ))
     (l : Option ℕ)
     → 0 < o.count → AreLast o xs → LeftHolds k first (left_texts xs before) l → l ≡ k.next (o.number + (o.count - 1))
 last_link k first o [] before l some are h = absurd (omega (arith, some, are.count))
 last_link k first o (x ∷ xs) before l some are h =
-    let e : x.tag ≡ o.number + (o.count - 1) = omega (arith, are.from.0, are.count) in
+    let e : x.note ≡ o.number + (o.count - 1) = omega (arith, are.from.0, are.count) in
     sym h.3 ∙ ap k.next e
 
 -- the first number of a closer's characters
-pub texts_next : (c : Characters) (vs : List (Label ℕ)) (after : Forest (Label ℕ)) (hi : ℕ) → 0 < c.count
+pub texts_next : (c : Characters) (vs : List (TreeNode ℕ)) (after : Forest (TreeNode ℕ)) (hi : ℕ) → 0 < c.count
     → AreFirst c vs
     → next_number (texts vs after) hi ≡ c.number
 texts_next c [] after hi some are = absurd (omega (arith, some, are.count))
 texts_next c (v ∷ vs) after hi some are = are.from.0
 
 -- what a pair leaves
-flat_left : (run : Run) (xs : List (Label ℕ)) (rs : List (Read ℕ)) → flat (still_waiting run xs rs)
+flat_left : (run : Run) (xs : List (TreeNode ℕ)) (rs : List (Read ℕ)) → flat (still_waiting run xs rs)
     ≡ left_texts xs (flat rs)
 flat_left run [] rs = refl
 flat_left run (x ∷ xs) rs = refl
 
-flat_pair : (f : FoundOpener ℕ) (made : Layers ℕ) (whole : Label ℕ) (inside : Forest (Label ℕ)) → made.whole
+flat_pair : (f : FoundOpener ℕ) (made : Layers ℕ) (whole : TreeNode ℕ) (inside : Forest (TreeNode ℕ)) → made.whole
     ≡ node whole inside nil
     → flat (after_layers f made) ≡ node whole inside (left_texts made.opening (flat f.before))
 flat_pair f made whole inside e =
@@ -126,7 +129,7 @@ flat_pair f made whole inside e =
     ∙ ap (node whole inside) (flat_left f.run made.opening f.before)
 
 -- a closer after an opener that its search finds
-module _ (h : Chain) (s : Arena Item) (rs : List (Read ℕ)) (vs : List (Label ℕ)) (after : Forest (Label ℕ))
+module _ (h : Chain) (s : Arena Item) (rs : List (Read ℕ)) (vs : List (TreeNode ℕ)) (after : Forest (TreeNode ℕ))
     (found : FoundOpener ℕ)
     (opener closer : Characters) (last : ℕ) (st : StandsAt h s rs (Some last) closer vs after)
     (finds : Finds rs opener closer found)
@@ -138,7 +141,7 @@ module _ (h : Chain) (s : Arena Item) (rs : List (Read ℕ)) (vs : List (Label �
   pub last_within : last < length s.nodes
   last_within = top_last.0
 
-  pub around_opener : Around
+  pub around_opener : ChainParts
   around_opener = record {
     before = flat found.before;
     opening = found.characters;
@@ -191,7 +194,8 @@ module _ (h : Chain) (s : Arena Item) (rs : List (Read ℕ)) (vs : List (Label �
           few = subst (λ n. n ≤ 2 ^ 63) (sym w.nodes.size) st.stands.few;
         }
 
-    pub pair_done : (m : Marks) (u : Arena Item) (root : ℕ) (rest : Option ℕ) → marks_of h.setting.rules.options ≡ m
+    pub pair_done : (m : Extensions) (u : Arena Item) (root : ℕ) (rest : Option ℕ)
+        → extensions_of h.setting.rules.options ≡ m
         → EnclosesAll m opener closer t u root rest
         → Reads h s u (after_layers found (layers h.setting found.run.delimiter found.characters vs found.inside))
         (Some root) rest

@@ -1,4 +1,4 @@
--- A chain that was paired in place reads as its labels paired, and has no node more.
+-- A chain that was paired in place reads as its nodes paired, and has no node more.
 use Rattle.std.proofs.Common.{◌≡◌, ℕ, ◌+◌, ◌≤◌, Bool, true, false, List, [], Some, length, refl, ap, sym, ◌∙◌, subst}
 use Rattle.std.proofs.Common.{arith, inl, inr}
 use Rattle.std.specs.Prelude.{◌==◌, ◌||◌, ◌⊎◌, ◌^◌, slice_range}
@@ -11,8 +11,8 @@ use Rattle.markdown_base.specs.declared.item.Item.{Item}
 use Rattle.markdown_base.specs.declared.item.ItemBody.{ItemBody}
 use Rattle.markdown_base.specs.declared.node.Node.{Node}
 use Rattle.markdown_base.proofs.ForestLemmas.{relabelled-relabelled}
-use Rattle.markdown_document.specs.Document.{Label, is_unresolved, shape_of}
-use Rattle.markdown_document.specs.Labels.{retag, retagged}
+use Rattle.markdown_document.specs.Document.{TreeNode, is_unresolved, shape_of}
+use Rattle.markdown_document.specs.TreeNodes.{annotate, annotated}
 use Rattle.markdown_document.specs.Places.{trees_from}
 use Rattle.markdown_document.specs.Setting.{Setting}
 use Rattle.markdown_document.specs.Tables.{Tables, no_tables}
@@ -112,10 +112,10 @@ module _ (s : Setting) (tables : Tables) (old mid : Arena Item) (first : ℕ) (c
     few = few;
   }
 
--- labels without the numbers of their nodes
-untagged : (s : Setting) (tables : Tables) (nodes : List (Node Item)) (first : ℕ)
-    → retagged (λ n. tt) (labels s tables nodes (trees nodes first)) ≡ trees_from s.text tables nodes (Some first)
-untagged s tables nodes first = relabelled-relabelled _ (retag (λ n. tt)) (trees nodes first)
+-- nodes without the numbers of their nodes
+unannotated : (s : Setting) (tables : Tables) (nodes : List (Node Item)) (first : ℕ)
+    → annotated (λ n. tt) (labels s tables nodes (trees nodes first)) ≡ trees_from s.text tables nodes (Some first)
+unannotated s tables nodes first = relabelled-relabelled _ (annotate (λ n. tt)) (trees nodes first)
 
 -- the chain from `first` on, with its quotes and its runs resolved
 pub record IsResolved (s : Setting) (tables : Tables) (old new : Arena Item) (first : ℕ) (f : Forest ℕ) : Type 0 where
@@ -137,7 +137,7 @@ resolved s tables old mid new first f q p = record {
   kept = kept_both (is_among (roots f)) old mid new q.kept p.kept;
 }
 
--- as many searches find in the labels as in the tree
+-- as many searches find in the nodes as in the tree
 pub finds_are : (s : Setting) (tables : Tables) (old mid : Arena Item) (first : ℕ)
     → IsQuoted s tables old mid first (trees old.nodes first)
     → finds_from s 0 (labels s tables mid.nodes (trees old.nodes first)) []
@@ -146,17 +146,17 @@ unfolding finds_in
 finds_are s tables old mid first q =
     ap (λ g. finds_from s 0 g []) q.quotes
     ∙ sym (tag-finds (λ n. tt) s (labels s tables old.nodes (trees old.nodes first)))
-    ∙ ap (finds_in s) (untagged s tables old.nodes first)
+    ∙ ap (finds_in s) (unannotated s tables old.nodes first)
 
--- sums over numbers are sums over tags
-tag_sum : (count : ℕ → ℕ) (s : Setting) (tables : Tables) (nodes : List (Node Item)) (f : Forest ℕ)
-    → sum_of (λ a. count a.tag) (labels s tables nodes f) ≡ total count f
-tag_sum count s tables nodes nil = refl
-tag_sum count s tables nodes (node ix below after) =
-    omega (arith, tag_sum count s tables nodes below, tag_sum count s tables nodes after)
+-- sums over numbers are sums over notes
+note_sum : (count : ℕ → ℕ) (s : Setting) (tables : Tables) (nodes : List (Node Item)) (f : Forest ℕ)
+    → sum_of (λ a. count a.note) (labels s tables nodes f) ≡ total count f
+note_sum count s tables nodes nil = refl
+note_sum count s tables nodes (node ix below after) =
+    omega (arith, note_sum count s tables nodes below, note_sum count s tables nodes after)
 
-tags_count : (count : ℕ → ℕ) (s : Setting) → CountsNoMore s (λ (a : Label ℕ). count a.tag)
-tags_count count s = record {
+notes_count : (count : ℕ → ℕ) (s : Setting) → CountsNoMore s (λ (a : TreeNode ℕ). count a.note)
+notes_count count s = record {
   text = λ a. omega arith;
   one = λ d x v. omega arith;
   two = λ d x v. omega arith;
@@ -203,27 +203,28 @@ names_less old new n (node ix below after) h =
 -- what pairing makes of the numbers of a chain
 module _ (s : Setting) (old new : Arena Item) (first : ℕ) (c : CanPair s.text old.nodes first) where
   module _ (tables : Tables) (p : IsResolved s tables old new first (trees old.nodes first)) where
-    tag_less : (count : ℕ → ℕ) → total count p.forest ≤ total count (trees old.nodes first)
-    tag_less count = omega (
+    note_less : (count : ℕ → ℕ) → total count p.forest ≤ total count (trees old.nodes first)
+    note_less count = omega (
       arith,
-      tag_sum count s tables new.nodes p.forest,
-      tag_sum count s tables old.nodes (trees old.nodes first),
-      ap (sum_of (λ (a : Label ℕ). count a.tag)) p.resolves,
-      sum-paired s (λ (a : Label ℕ). count a.tag) (tags_count count s)
+      note_sum count s tables new.nodes p.forest,
+      note_sum count s tables old.nodes (trees old.nodes first),
+      ap (sum_of (λ (a : TreeNode ℕ). count a.note)) p.resolves,
+      sum-paired s (λ (a : TreeNode ℕ). count a.note) (notes_count count s)
           (labels s tables old.nodes (trees old.nodes first)),
     )
 
     forest_is : trees new.nodes first ≡ p.forest
     forest_is = found (links_of new.nodes) (Some first) p.forest p.spelled
-        (λ n. omega (arith, tag_less (same n), c.once n))
+        (λ n. omega (arith, note_less (same n), c.once n))
 
     reads_so : trees_from s.text tables new.nodes (Some first)
         ≡ paired s (trees_from s.text tables old.nodes (Some first))
     reads_so =
-        sym (untagged s tables new.nodes first) ∙ ap (λ f. retagged (λ n. tt) (labels s tables new.nodes f)) forest_is
-        ∙ ap (retagged (λ n. tt)) p.resolves
+        sym (unannotated s tables new.nodes first) ∙ ap (λ f. annotated (λ n. tt)
+        (labels s tables new.nodes f)) forest_is
+        ∙ ap (annotated (λ n. tt)) p.resolves
         ∙ sym (tag-law (λ n. tt) s (labels s tables old.nodes (trees old.nodes first)))
-        ∙ ap (paired s) (untagged s tables old.nodes first)
+        ∙ ap (paired s) (unannotated s tables old.nodes first)
 
   -- all that is said of the chain
   pub pairs_chain : ((tables : Tables) → IsResolved s tables old new first (trees old.nodes first))
@@ -236,7 +237,7 @@ module _ (s : Setting) (old new : Arena Item) (first : ℕ) (c : CanPair s.text 
       record {
         pairs = λ tables. reads_so tables (resolves tables);
         spelled = rw is p.spelled;
-        times = λ n. rw is (tag_less no_tables p (same n));
+        times = λ n. rw is (note_less no_tables p (same n));
         rising = rw is p.rising;
         same_size = p.kept.size;
         outside = λ n none.
@@ -251,7 +252,7 @@ module _ (s : Setting) (old new : Arena Item) (first : ℕ) (c : CanPair s.text 
                   (items_placed s tables old.nodes own new.nodes q.kept.others q.kept.items (Some first) (Some first) f
                   q.forest
                   reaches.spelled (apart f c.once) blocks reaches.each q.spelled q.resolves
-                  (λ n. tag_less tables q (same n)));
+                  (λ n. note_less tables q (same n)));
             };
         before = still_before s old.nodes new.nodes first p.forest p.spelled
             (omega (
@@ -263,7 +264,7 @@ module _ (s : Setting) (old new : Arena Item) (first : ℕ) (c : CanPair s.text 
         named = λ n. rw is (omega (
           arith,
           names_less old.nodes new.nodes n p.forest p.kept.items,
-          tag_less no_tables p
+          note_less no_tables p
               (naming old.nodes n),
         ));
         no_heavier = rw is

@@ -5,7 +5,7 @@ use Rattle.std.specs.Prelude.{codes, encode_utf8, slice_range, option_map}
 use Rattle.markdown_base.specs.Event.{TagView, EventView, text, strong, emphasis, strikethrough, superscript, subscript}
 use Rattle.markdown_base.specs.Forest.{Forest, nil, node, preorder}
 use Rattle.markdown_base.specs.declared.item.ItemBody.TheVariants as body
-use Rattle.markdown_document.specs.Document.{Shape, leaf, enclosed, plain, backslash_break, unresolved, Label, Plain}
+use Rattle.markdown_document.specs.Document.{Shape, leaf, enclosed, plain, backslash_break, unresolved, TreeNode, Plain}
 use Rattle.markdown_document.specs.Document.{text_over}
 use Rattle.markdown_document.specs.Setting.{Setting, Rules}
 use Rattle.markdown_delims.specs.Pairing.{closed_by, reads_from, runs_paired, paired}
@@ -13,10 +13,10 @@ use Rattle.markdown_delims.specs.PairingFinds.{closer_finds, finds_from, finds_i
 use Rattle.markdown_delims.specs.PairingLaws.{RunAt, with_runs, kept_run}
 use Rattle.markdown_delims.specs.Quotes.{with_quotes}
 
--- a label over bytes i up to j
+-- a node over bytes i up to j
 abbrev over : ℕ → ℕ → Shape → Plain
 over i j shape = record {
-  tag = tt;
+  note = tt;
   part = record { shape = shape; range = record { start = i; end = j }; block = None };
 }
 
@@ -198,11 +198,11 @@ row_last_break rules = refl
 abbrev start_of : Option RunAt → Option ℕ
 start_of r = option_map (λ (p : RunAt). p.start) r
 
-abbrev starts : Forest (Label (Option RunAt)) → List (Option ℕ)
-starts chain = map (λ (a : Label (Option RunAt)). start_of a.tag) (preorder chain)
+abbrev starts : Forest (TreeNode (Option RunAt)) → List (Option ℕ)
+starts chain = map (λ (a : TreeNode (Option RunAt)). start_of a.note) (preorder chain)
 
-abbrev kept_starts : Forest (Label (Option RunAt)) → List (Option ℕ)
-kept_starts chain = map (λ (a : Label (Option RunAt)). start_of (kept_run a)) (preorder chain)
+abbrev kept_starts : Forest (TreeNode (Option RunAt)) → List (Option ℕ)
+kept_starts chain = map (λ (a : TreeNode (Option RunAt)). start_of (kept_run a)) (preorder chain)
 
 -- each character of a run is told of which it is, and of what the opener keeps it is known
 told_4 : (rules : Rules) → starts (with_runs (under rules (codes "**a*") 0) 0 None

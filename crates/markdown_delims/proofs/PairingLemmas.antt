@@ -1,4 +1,4 @@
--- A chain of an arena whose runs are whole, once its quotes are read: its labels tell of the same runs.
+-- A chain of an arena whose runs are whole, once its quotes are read: its nodes tell of the same runs.
 use Rattle.std.proofs.Common.{◌≡◌, ℕ, zero, suc, ◌<◌, ◌≤◌, Bool, true, false, List, [], ◌∷◌, Option, Some, None, refl}
 use Rattle.std.proofs.Common.{ap, sym, ◌∙◌, subst, arith}
 use Rattle.std.specs.Prelude.{if◌then◌else◌, ◌==◌, ◌||◌, IfSome, IsTrue, slice_index, slice_range, is_some}
@@ -10,7 +10,7 @@ use Rattle.markdown_base.specs.BlockTree.{Numbered, numbered, item_at}
 use Rattle.markdown_base.specs.Forest.{Forest, nil, node, relabelled}
 use Rattle.markdown_base.specs.Item.{is_open}
 use Rattle.markdown_base.specs.WellFormed.{RunCharacter, run_character, is_delimiter, RunGoesOn}
-use Rattle.markdown_document.specs.Document.{Shape, unresolved, Label, shaped}
+use Rattle.markdown_document.specs.Document.{Shape, unresolved, TreeNode, shaped}
 use Rattle.markdown_document.specs.Document.{is_unresolved, shape_of, block_of, part_of}
 use Rattle.markdown_document.specs.Setting.{Setting}
 use Rattle.markdown_document.specs.Tables.{Tables}
@@ -146,8 +146,8 @@ module _ (s : Setting) (tables : Tables) (nodes : List (Node Item)) where
   abbrev numbers : Forest ℕ → Forest Numbered
   numbers f = relabelled (numbered nodes) f
 
-  abbrev label : ℕ → Label ℕ
-  label ix = record { tag = ix; part = part_of s.text tables (item_at nodes ix) }
+  abbrev label : ℕ → TreeNode ℕ
+  label ix = record { note = ix; part = part_of s.text tables (item_at nodes ix) }
 
   abbrev turn : (single double : Bool) → ℕ → Forest ℕ → QuoteTurn
   turn single double ix after = first_turn (label ix) (labels s tables nodes after) single double
@@ -243,7 +243,7 @@ module _ (s : Setting) (tables : Tables) (nodes : List (Node Item)) where
 
 -- without runs, reading a chain changes nothing
 module _ (s : Setting) where
-  no_runs : (chain : Forest (Label ℕ)) (rs : List (Read ℕ)) → AreWhole s.text chain → runs_in s.text chain ≡ 0
+  no_runs : (chain : Forest (TreeNode ℕ)) (rs : List (Read ℕ)) → AreWhole s.text chain → runs_in s.text chain ≡ 0
       → (reads_from s 0 chain rs ≡ trees_done chain rs) × (finds_from s 0 chain rs ≡ 0)
   unfolding reads_from finds_from
   no_runs nil rs w e = (refl, refl)
@@ -260,7 +260,7 @@ module _ (s : Setting) where
           let here = reads_none s a below after rs is closed in (here.0 ∙ rest.0, here.1 ∙ rest.1)
       by_run (Some run) is rest = absurd (omega (arith, e, ap (λ o. one_if (is_some o)) is))
 
-  pub paired_none : (chain : Forest (Label ℕ)) → AreWhole s.text chain → runs_in s.text chain ≡ 0
+  pub paired_none : (chain : Forest (TreeNode ℕ)) → AreWhole s.text chain → runs_in s.text chain ≡ 0
       → (runs_paired s chain ≡ chain) × (finds_from s 0 chain [] ≡ 0)
   unfolding runs_paired
   paired_none chain w e =

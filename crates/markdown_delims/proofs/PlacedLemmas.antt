@@ -13,7 +13,7 @@ use Rattle.markdown_base.specs.Item.{is_block, LiesIn}
 use Rattle.markdown_base.specs.declared.item.Item.{Item}
 use Rattle.markdown_base.specs.declared.item.ItemBody.{ItemBody}
 use Rattle.markdown_base.specs.declared.node.Node.{Node}
-use Rattle.markdown_document.specs.Document.{Label, block_of, part_of}
+use Rattle.markdown_document.specs.Document.{TreeNode, block_of, part_of}
 use Rattle.markdown_document.specs.ItemRules.{ComesBefore, KeepsItemRules}
 use Rattle.markdown_document.specs.Places.{origin_start}
 use Rattle.markdown_document.specs.PlacedNodes.{ComesFromPlace, IsPlaced}
@@ -153,8 +153,8 @@ module _ (s : Setting) (tables : Tables) (old : List (Node Item)) (own : ℕ →
         same_next None h = refl
         same_next (Some n) h = ap (λ (i : Item). Some (record { number = n; item = i })) (sym (others n h).item)
 
-    abbrev label_now : ℕ → Label ℕ
-    label_now ix = record { tag = ix; part = part_of s.text tables (item_at new ix) }
+    abbrev node_now : ℕ → TreeNode ℕ
+    node_now ix = record { note = ix; part = part_of s.text tables (item_at new ix) }
 
     right_placed : (l : Option ℕ) (f : Forest ℕ) → Spells (links_of new) l f
         → AreRight s.text IsDeep (labels s tables new f)
@@ -167,12 +167,12 @@ module _ (s : Setting) (tables : Tables) (old : List (Node Item)) (own : ℕ →
     )
       where
         before : (after : Forest ℕ) (l : Option ℕ) → Spells (links_of new) l after
-            → IfSome (first_root (labels s tables new after)) (Precedes (label_now ix))
+            → IfSome (first_root (labels s tables new after)) (Precedes (node_now ix))
             → ComesBefore (numbered new ix) (option_map (numbered new) l)
         before nil l k h = rw k tt
         before (node j inside rest) l k h = rw k.0 (λ x y. record { ends = h.ends; numbers = h.numbers })
 
-        by_label : IsRight s.text IsDeep (label_now ix) (labels s tables new after) → IsPlaced s.text tables new ix
+        by_label : IsRight s.text IsDeep (node_now ix) (labels s tables new after) → IsPlaced s.text tables new ix
         by_label (inr d) = deep_placed ix d
         by_label (inl r) =
             let names = names_now ix p.0 in
@@ -200,7 +200,7 @@ module _ (s : Setting) (tables : Tables) (old : List (Node Item)) (own : ℕ →
         (subst (λ x. AreRight s.text IsDeep x) (sym is) (paired_right s.text IsDeep s (labels s tables old f)
         (chain_ordered 0 0 l f k a p b (any_first f)))) (each_of (IsPlaced s.text tables old) f g p fewer)
 
--- the number of bytes by which a label starts before the item of its number, and whether the label lost that it is a
+-- the number of bytes by which a node starts before the item of its number, and whether the node lost that it is a
 -- block
 abbrev none_of : Option ItemBody → ℕ
 none_of None = 1
@@ -210,8 +210,8 @@ abbrev if_block : Bool → ℕ → ℕ
 if_block true n = n
 if_block false n = 0
 
-abbrev pub moved : List (Node Item) → Label ℕ → ℕ
-moved nodes a = ((item_at nodes a.tag).start - a.part.range.start) + if_block (is_block (item_at nodes a.tag).body)
+abbrev pub moved : List (Node Item) → TreeNode ℕ → ℕ
+moved nodes a = ((item_at nodes a.note).start - a.part.range.start) + if_block (is_block (item_at nodes a.note).body)
     (none_of a.part.block)
 
 pub moved_count : (s : Setting) (nodes : List (Node Item)) → CountsNoMore s (moved nodes)
@@ -226,7 +226,7 @@ block_stays : (b : Bool) (x : ItemBody) → if_block b (none_of (if b then Some 
 block_stays true x = refl
 block_stays false x = refl
 
--- no label of a chain starts elsewhere than its item
+-- no node of a chain starts elsewhere than its item
 pub none_moved : (s : Setting) (nodes : List (Node Item)) (f : Forest ℕ)
     → sum_of (moved nodes) (labels s no_tables nodes f) ≡ 0
 none_moved s nodes nil = refl

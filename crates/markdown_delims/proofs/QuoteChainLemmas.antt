@@ -11,7 +11,7 @@ use Rattle.markdown_base.specs.ArenaForest.{links_of, Spells}
 use Rattle.markdown_base.specs.BlockTree.{numbered, item_at}
 use Rattle.markdown_base.specs.Forest.{Forest, nil, node, roots, relabelled}
 use Rattle.markdown_base.specs.WellFormed.{run_character}
-use Rattle.markdown_document.specs.Document.{Shape, unresolved, Part, Label, shape_of}
+use Rattle.markdown_document.specs.Document.{Shape, unresolved, Part, TreeNode, shape_of}
 use Rattle.markdown_document.specs.Counts.{counts_shape, delimiters_in}
 use Rattle.markdown_document.specs.Setting.{Setting}
 use Rattle.markdown_document.specs.Tables.{Tables}
@@ -48,30 +48,30 @@ delimiters_are s tables nodes (node ix below after) =
     omega (arith, delimiters_are s tables nodes after, shown)
 
 -- there are no more of them than numbers
-few_in : (own : ℕ → Bool) (lo : ℕ) (f : Forest (Label ℕ)) (hi : ℕ) → Rises own lo f hi → delimiters_in f + lo ≤ hi
+few_in : (own : ℕ → Bool) (lo : ℕ) (f : Forest (TreeNode ℕ)) (hi : ℕ) → Rises own lo f hi → delimiters_in f + lo ≤ hi
 few_in own lo nil hi r = omega (arith, r)
 few_in own lo (node a below after) hi r = omega (
   arith,
   r.0,
   one_at_most a.part.shape,
-  few_in own (suc a.tag) after hi r.2,
+  few_in own (suc a.note) after hi r.2,
 )
 
-numbers_of-quotes : (single double : Bool) (f : Forest (Label ℕ)) → numbers_of (quotes_after single double f)
+numbers_of-quotes : (single double : Bool) (f : Forest (TreeNode ℕ)) → numbers_of (quotes_after single double f)
     ≡ numbers_of f
 numbers_of-quotes single double nil = refl
 numbers_of-quotes single double (node a below after) =
-    ap (node a.tag (numbers_of below))
+    ap (node a.note (numbers_of below))
     (numbers_of-quotes (first_turn a after single double).single (first_turn a after single double).double
     after)
 
-none_at_end : (k : View Part) (l : Option ℕ) (f : Forest (Label ℕ)) → Holds k l f → is_none l ≡ is_end f
+none_at_end : (k : View Part) (l : Option ℕ) (f : Forest (TreeNode ℕ)) → Holds k l f → is_none l ≡ is_end f
 none_at_end k None nil h = refl
 none_at_end k (Some x) nil h = cc
-none_at_end k None (node a below after) h = let no : None ≡ Some a.tag = h.0 in cc
+none_at_end k None (node a below after) h = let no : None ≡ Some a.note = h.0 in cc
 none_at_end k (Some x) (node a below after) h = refl
 
-never_closed : (single : Option ℕ) (read : Forest (Label ℕ)) → remembered_as single false read ≡ read
+never_closed : (single : Option ℕ) (read : Forest (TreeNode ℕ)) → remembered_as single false read ≡ read
 never_closed None read = refl
 never_closed (Some x) read = refl
 
@@ -80,12 +80,12 @@ module _ (s : Setting) (tables : Tables) (old : Arena Item) (first : ℕ) (f : F
     abbrev h : Chain
     h = whole_chain s tables old first f c
 
-    abbrev whole : Forest (Label ℕ)
+    abbrev whole : Forest (TreeNode ℕ)
     whole = labels s tables old.nodes f
 
     -- the chain is read up to a link
     pub record QuotesSoFar (t : Arena Item) (opened : OpenQuotes) (count : ℕ) (l : Option ℕ) : Type 0 where
-      pub rest : Forest (Label ℕ)
+      pub rest : Forest (TreeNode ℕ)
       pub on : QuotesOn h old t nil whole None false opened.single opened.double l rest
       pub counted : count + delimiters_in rest ≡ delimiters_in whole
 
@@ -124,20 +124,20 @@ module _ (s : Setting) (tables : Tables) (old : Arena Item) (first : ℕ) (f : F
           ≡ kind_of_shape (shape_of tables source (item_at t.nodes ix).body))
           (ends : last ≡ is_none (sibling_of t.nodes ix))
           (counts : more ≡ counts_one (run_character (item_at t.nodes ix).body)) where
-        step_if : (rest : Forest (Label ℕ)) → QuotesOn h old t nil whole None false opened.single opened.double
+        step_if : (rest : Forest (TreeNode ℕ)) → QuotesOn h old t nil whole None false opened.single opened.double
             (Some ix) rest
             → count + delimiters_in rest ≡ delimiters_in whole → QuotesTree k ix last t u opened opened'
             → QuotesSoFar u opened' (count + more) (sibling_of t.nodes ix)
         unfolding whole_chain
         step_if nil on e q = let no : Some ix ≡ None = on.stands.cut.right in cc
         step_if (node b below after) on e q =
-            let here : Some ix ≡ Some b.tag = on.stands.cut.right.0 in
-            let is : ix ≡ b.tag = cc in
+            let here : Some ix ≡ Some b.note = on.stands.cut.right.0 in
+            let is : ix ≡ b.note = cc in
             let part = ap (view h t).item is ∙ on.stands.cut.right.2 in
             let kind : k ≡ kind_of_shape b.part.shape =
             kinds tables _ ∙ ap (λ (p : Part). kind_of_shape p.shape) part in
             let end : last ≡ is_end after = ends ∙ ap (λ i. is_none (sibling_of t.nodes i)) is
-            ∙ none_at_end (view h t) (sibling_of t.nodes b.tag) after on.stands.cut.right.4 in
+            ∙ none_at_end (view h t) (sibling_of t.nodes b.note) after on.stands.cut.right.4 in
             let one : more ≡ counts_shape b.part.shape = counts ∙ sym (counts_as tables _ (item_at t.nodes ix).body)
             ∙ ap (λ (p : Part). counts_shape p.shape) part in
             let r = q h on.read b below after on.stands kind end in
@@ -156,14 +156,15 @@ module _ (s : Setting) (tables : Tables) (old : Arena Item) (first : ℕ) (f : F
             → QuotesSoFar u opened' (count + more) (sibling_of t.nodes ix)
         quotes_step q = step_if a.rest a.on a.counted q
 
-      down_if : (rest : Forest (Label ℕ)) → QuotesOn h old t nil whole None false opened.single opened.double (Some ix)
+      down_if : (rest : Forest (TreeNode ℕ)) → QuotesOn h old t nil whole None false opened.single opened.double
+          (Some ix)
           rest
           → numbers_left (length t.nodes) (sibling_of t.nodes ix) < length t.nodes - ix
       down_if nil on = let no : Some ix ≡ None = on.stands.cut.right in cc
       down_if (node b below after) on =
-          let here : Some ix ≡ Some b.tag = on.stands.cut.right.0 in
-          let is : ix ≡ b.tag = cc in
-          rw is (fewer_left h.touched (view h t) (sibling_of t.nodes b.tag) after b.tag h.bound on.stands.cut.right.1
+          let here : Some ix ≡ Some b.note = on.stands.cut.right.0 in
+          let is : ix ≡ b.note = cc in
+          rw is (fewer_left h.touched (view h t) (sibling_of t.nodes b.note) after b.note h.bound on.stands.cut.right.1
           on.stands.cut.right.4
           on.stands.cut.rises_right.2)
 
@@ -193,7 +194,7 @@ module _ (s : Setting) (tables : Tables) (old : Arena Item) (first : ℕ) (f : F
             ∙ numbers_of-labels s tables old.nodes f in
             record {
               spelled = subst (λ g. Spells (links_of t.nodes) (Some first) g) numbers all.0.spelled;
-              quotes = ap (labels s tables t.nodes) (sym numbers) ∙ all.0.labels_are ∙ is;
+              quotes = ap (labels s tables t.nodes) (sym numbers) ∙ all.0.nodes_are ∙ is;
               kept = a.on.kept;
             }
 

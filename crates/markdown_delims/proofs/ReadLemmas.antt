@@ -9,14 +9,14 @@ use Rattle.markdown_base.specs.Arena.{Arena, sibling_of}
 use Rattle.markdown_base.specs.BlockTree.{item_at}
 use Rattle.markdown_base.specs.Forest.{Forest, nil, node}
 use Rattle.markdown_document.specs.Counts.{comparisons_per_delimiter}
-use Rattle.markdown_document.specs.Document.{Part, Label, is_unresolved, shape_of, part_of}
+use Rattle.markdown_document.specs.Document.{Part, TreeNode, is_unresolved, shape_of, part_of}
 use Rattle.markdown_document.specs.Setting.{Setting}
 use Rattle.markdown_document.specs.Tables.{Tables}
 use Rattle.markdown_document.specs.Waiting.{text_if, as_closed}
-use Rattle.markdown_delims.specs.declared.marks.Marks.{Marks}
+use Rattle.markdown_delims.specs.declared.extensions.Extensions.{Extensions}
 use Rattle.markdown_delims.specs.declared.run.Run.{Run}
 use Rattle.markdown_delims.specs.ChainReading.{HasCount, ShowsCount, trees_after, BeginsRun, IsWhole, AreWhole, one_if}
-use Rattle.markdown_delims.specs.ChainReading.{runs_in, Settles, StandsWhole, ReadFurther, CanReadTree}
+use Rattle.markdown_delims.specs.ChainReading.{runs_in, MakesLiteral, StandsWhole, ReadFurther, CanReadTree}
 use Rattle.markdown_delims.specs.ChainStanding.{Chain, view, flat, RunRead}
 use Rattle.markdown_delims.specs.Layers.{run_of}
 use Rattle.markdown_delims.specs.OpenRuns.{Openers}
@@ -42,7 +42,7 @@ shown_run text source tables item i o e f h is =
     ∙ sym (is tables (subst (λ (x : Item). HasCount x.body) (sym f) h))
 
 -- the trees of a run that was read are passed over
-skip_run : (s : Setting) (n : ℕ) (chain : Forest (Label ℕ)) (rs : List (Read ℕ))
+skip_run : (s : Setting) (n : ℕ) (chain : Forest (TreeNode ℕ)) (rs : List (Read ℕ))
     → (reads_from s n chain rs ≡ reads_from s 0 (trees_after n chain) rs)
     × (finds_from s n chain rs ≡ finds_from s 0 (trees_after n chain) rs)
 unfolding reads_from finds_from
@@ -51,55 +51,55 @@ skip_run s (suc n) nil rs = (refl, refl)
 skip_run s (suc n) (node a below after) rs = skip_run s n after rs
 
 -- what is whole, counted or in order remains so without the first trees
-whole_after : (text : List ℕ) (n : ℕ) (chain : Forest (Label ℕ)) → AreWhole text chain
+whole_after : (text : List ℕ) (n : ℕ) (chain : Forest (TreeNode ℕ)) → AreWhole text chain
     → AreWhole text (trees_after n chain)
 whole_after text zero chain w = w
 whole_after text (suc n) nil w = w
 whole_after text (suc n) (node a below after) w = whole_after text n after w.2
 
-fewer_after : (text : List ℕ) (n : ℕ) (chain : Forest (Label ℕ)) → runs_in text (trees_after n chain) ≤ runs_in text
+fewer_after : (text : List ℕ) (n : ℕ) (chain : Forest (TreeNode ℕ)) → runs_in text (trees_after n chain) ≤ runs_in text
     chain
 fewer_after text zero chain = omega arith
 fewer_after text (suc n) nil = omega arith
 fewer_after text (suc n) (node a below after) = omega (arith, fewer_after text n after)
 
-rises_after : (own : ℕ → Bool) (lo n : ℕ) (chain : Forest (Label ℕ)) (hi : ℕ) → Rises own lo chain hi
+rises_after : (own : ℕ → Bool) (lo n : ℕ) (chain : Forest (TreeNode ℕ)) (hi : ℕ) → Rises own lo chain hi
     → Rises own lo (trees_after n chain) hi
 rises_after own lo zero chain hi r = r
 rises_after own lo (suc n) nil hi r = r
 rises_after own lo (suc n) (node a below after) hi r =
-    rises_after own lo n after hi (Rises-lower own (suc a.tag) lo after hi (omega (arith, r.0)) r.2)
+    rises_after own lo n after hi (Rises-lower own (suc a.note) lo after hi (omega (arith, r.0)) r.2)
 
 -- the trees after the first of a run
-after_first : (n : ℕ) (a : Label ℕ) (below after : Forest (Label ℕ)) → 0 < n → trees_after n (node a below after)
+after_first : (n : ℕ) (a : TreeNode ℕ) (below after : Forest (TreeNode ℕ)) → 0 < n → trees_after n (node a below after)
     ≡ trees_after (n - 1) after
 after_first zero a below after some = absurd (omega arith)
 after_first (suc n) a below after some = ap (λ m. trees_after m after) (let e : n ≡ suc n - 1 = omega arith in e)
 
-closed_stays : (source : List ℕ) (a : Label ℕ) → is_unresolved a.part.shape ≡ false → as_closed source a ≡ a
+closed_stays : (source : List ℕ) (a : TreeNode ℕ) → is_unresolved a.part.shape ≡ false → as_closed source a ≡ a
 closed_stays source a e = ap (λ b. text_if b source a) e
 
 -- one tree, by the run that it begins
-module _ (s : Setting) (a : Label ℕ) (below after : Forest (Label ℕ)) (rs : List (Read ℕ)) where
+module _ (s : Setting) (a : TreeNode ℕ) (below after : Forest (TreeNode ℕ)) (rs : List (Read ℕ)) where
   pub reads_none : run_of s.text a.part ≡ None → is_unresolved a.part.shape ≡ false
       → (reads_from s 0 (node a below after) rs ≡ reads_from s 0 after (done_read a below ∷ rs))
       × (finds_from s 0 (node a below after) rs ≡ finds_from s 0 after (done_read a below ∷ rs))
   unfolding reads_from finds_from
   reads_none e c =
       let same = closed_stays s.text a c in (
-        rw e (ap (λ (x : Label ℕ). reads_from s 0 after (done_read x below ∷ rs)) same),
-        rw e (ap (λ (x : Label ℕ). finds_from s 0 after (done_read x below ∷ rs)) same),
+        rw e (ap (λ (x : TreeNode ℕ). reads_from s 0 after (done_read x below ∷ rs)) same),
+        rw e (ap (λ (x : TreeNode ℕ). finds_from s 0 after (done_read x below ∷ rs)) same),
       )
 
   reads_some : (run : Run) → run_of s.text a.part ≡ Some run
-      → (let rest : Forest (Label ℕ) = trees_after run.length (node a below after) in
-      let vs : List (Label ℕ) = first_texts s.text run.length (node a below after) in
+      → (let rest : Forest (TreeNode ℕ) = trees_after run.length (node a below after) in
+      let vs : List (TreeNode ℕ) = first_texts s.text run.length (node a below after) in
       let read : List (Read ℕ) = run_read s run.can_close run vs rs in
       (reads_from s 0 (node a below after) rs ≡ reads_from s 0 rest read)
       × (finds_from s 0 (node a below after) rs ≡ run_finds s run.can_close run vs rs + finds_from s 0 rest read))
   unfolding reads_from finds_from
   reads_some run e =
-      let vs : List (Label ℕ) = first_texts s.text run.length (node a below after) in
+      let vs : List (TreeNode ℕ) = first_texts s.text run.length (node a below after) in
       let read : List (Read ℕ) = run_read s run.can_close run vs rs in
       let skip = skip_run s (run.length - 1) after read in
       let first = sym (after_first run.length a below after (run-long s.text a.part run e)) in (
@@ -112,26 +112,27 @@ module _ (h : Chain) (s : Arena Item) (rs : List (Read ℕ)) (last : Option ℕ)
   abbrev here : Part
   here = part_of h.setting.text h.tables (item_at s.nodes ix)
 
-  pub head_within : (chain : Forest (Label ℕ)) → StandsWhole h s rs last (Some ix) chain o → ix < length s.nodes
+  pub head_within : (chain : Forest (TreeNode ℕ)) → StandsWhole h s rs last (Some ix) chain o → ix < length s.nodes
   head_within nil st = let no : Some ix ≡ None = st.stands.cut.right in cc
   head_within (node a below after) st =
-      let link : Some ix ≡ Some a.tag = st.stands.cut.right.0 in
-      let e : ix ≡ a.tag = cc in omega (arith, st.stands.cut.right.1, e)
+      let link : Some ix ≡ Some a.note = st.stands.cut.right.0 in
+      let e : ix ≡ a.note = cc in omega (arith, st.stands.cut.right.1, e)
 
-  head_part : (a : Label ℕ) (below after : Forest (Label ℕ)) → StandsWhole h s rs last (Some ix) (node a below after) o
-      → (a.tag ≡ ix) × (here ≡ a.part)
+  head_part : (a : TreeNode ℕ) (below after : Forest (TreeNode ℕ)) → StandsWhole h s rs last (Some ix)
+      (node a below after) o
+      → (a.note ≡ ix) × (here ≡ a.part)
   head_part a below after st =
-      let link : Some ix ≡ Some a.tag = st.stands.cut.right.0 in
-      let e : a.tag ≡ ix = cc in (e, ap (view h s).item (sym e) ∙ st.stands.cut.right.2)
+      let link : Some ix ≡ Some a.note = st.stands.cut.right.0 in
+      let e : a.note ≡ ix = cc in (e, ap (view h s).item (sym e) ∙ st.stands.cut.right.2)
 
-  pub head_count : (chain : Forest (Label ℕ)) → StandsWhole h s rs last (Some ix) chain o
+  pub head_count : (chain : Forest (TreeNode ℕ)) → StandsWhole h s rs last (Some ix) chain o
       → HasCount (item_at s.nodes ix).body
   head_count nil st = let no : Some ix ≡ None = st.stands.cut.right in cc
   head_count (node a below after) st =
       has_count h.tables _ (item_at s.nodes ix).body
       (subst (λ (p : Part). ShowsCount p.shape) (sym (head_part a below after st).1) st.whole.0)
 
-  pub read_none : (chain : Forest (Label ℕ)) → StandsWhole h s rs last (Some ix) chain o → run_of h.setting.text here
+  pub read_none : (chain : Forest (TreeNode ℕ)) → StandsWhole h s rs last (Some ix) chain o → run_of h.setting.text here
       ≡ None
       → ReadFurther h s s rs chain o o (Some ix) (sibling_of s.nodes ix) (suc ix)
   read_none nil st e = let no : Some ix ≡ None = st.stands.cut.right in cc
@@ -162,7 +163,7 @@ module _ (h : Chain) (s : Arena Item) (rs : List (Read ℕ)) (last : Option ℕ)
       })
 
   -- a run that begins here
-  pub record RunHere (run : Run) (chain : Forest (Label ℕ)) : Type 0 where
+  pub record RunHere (run : Run) (chain : Forest (TreeNode ℕ)) : Type 0 where
     pub begins : BeginsRun ix run.length chain
     pub some : 0 < run.length
     pub same : reads_from h.setting 0 chain rs ≡ reads_from h.setting 0 (trees_after run.length chain)
@@ -175,7 +176,7 @@ module _ (h : Chain) (s : Arena Item) (rs : List (Read ℕ)) (last : Option ℕ)
     pub fewer : suc (runs_in h.setting.text (trees_after run.length chain)) ≤ runs_in h.setting.text chain
     pub rises : Rises h.touched (suc ix) (trees_after run.length chain) h.bound
 
-  pub run_here : (run : Run) (chain : Forest (Label ℕ)) → StandsWhole h s rs last (Some ix) chain o
+  pub run_here : (run : Run) (chain : Forest (TreeNode ℕ)) → StandsWhole h s rs last (Some ix) chain o
       → run_of h.setting.text here ≡ Some run
       → RunHere run chain
   run_here run nil st e = let no : Some ix ≡ None = st.stands.cut.right in cc
@@ -200,18 +201,18 @@ module _ (h : Chain) (s : Arena Item) (rs : List (Read ℕ)) (last : Option ℕ)
             (suc n) after h.bound) p.0 st.stands.cut.rises_right.2));
       }
 
-  pub read_some : (run : Run) (chain : Forest (Label ℕ)) (new : Openers) (last' l : Option ℕ) (t u : Arena Item)
+  pub read_some : (run : Run) (chain : Forest (TreeNode ℕ)) (new : Openers) (last' l : Option ℕ) (t u : Arena Item)
       → StandsWhole h s rs last (Some ix) chain o → RunHere run chain
-      → Settles (record { run = run; number = ix; count = run.length }) s t
+      → MakesLiteral (record { run = run; number = ix; count = run.length }) s t
       → new.potential ≤ o.potential + comparisons_per_delimiter
       → RunRead h t u run (first_texts h.setting.text run.length chain) rs o new last' l (trees_after run.length chain)
       → ReadFurther h s u rs chain o new last' l (suc ix)
-  read_some run chain new last' l t u st r settles paid on =
+  read_some run chain new last' l t u st r makes_literal paid on =
       record {
         rs = run_read h.setting run.can_close run (first_texts h.setting.text run.length chain) rs;
         rest = trees_after run.length chain;
         stands = record { stands = on.is_read.reads.stands; whole = r.whole; are = on.is_read.are };
-        kept = kept_both h.touched s t u (settles h rs last chain st.stands r.begins).1 on.is_read.reads.kept;
+        kept = kept_both h.touched s t u (makes_literal h rs last chain st.stands r.begins).1 on.is_read.reads.kept;
         same = sym r.same;
         paid = omega (arith, paid, r.fewer);
         found = omega (arith, on.found, r.finds);
@@ -219,7 +220,7 @@ module _ (h : Chain) (s : Arena Item) (rs : List (Read ℕ)) (last : Option ℕ)
       }
 
 -- the run that is met in a chain that can be read
-pub met_here : (m : Marks) (text : List ℕ) (ix : ℕ) (last : Option ℕ) (s : Arena Item) (o : Openers)
+pub met_here : (m : Extensions) (text : List ℕ) (ix : ℕ) (last : Option ℕ) (s : Arena Item) (o : Openers)
     (p : CanReadTree m text ix last s o)
     (item : Item) (run : Run) → item ≡ item_at s.nodes ix
     → ((tables : Tables) → HasCount item.body → Some run ≡ run_of text (part_of text tables item))

@@ -5,7 +5,7 @@ use Rattle.std.specs.Prelude.{⊤, IfSome}
 use Rattle.std.proofs.lemmas.Option.{IfSome_then}
 use Rattle.markdown_base.specs.Forest.{Forest, nil, node}
 use Rattle.markdown_base.specs.declared.item.ItemBody.TheVariants as body
-use Rattle.markdown_document.specs.Document.{Shape, unresolved, Part, Label}
+use Rattle.markdown_document.specs.Document.{Shape, unresolved, Part, TreeNode}
 use Rattle.markdown_document.specs.Setting.{Setting}
 use Rattle.markdown_document.specs.Waiting.{as_closed}
 use Rattle.markdown_delims.specs.declared.run.Delimiter.{Delimiter}
@@ -16,7 +16,7 @@ use Rattle.markdown_delims.specs.Pairing.{left_over, after_layers}
 use Rattle.markdown_delims.specs.Pairing.{after_search, closed_by, run_read, first_texts, after_tree, reads_from}
 
 -- a chain without its first trees
-abbrev pub later : {A : Type 0} → ℕ → Forest (Label A) → Forest (Label A)
+abbrev pub later : {A : Type 0} → ℕ → Forest (TreeNode A) → Forest (TreeNode A)
 later zero chain = chain
 later (suc n) nil = nil
 later (suc n) (node a below after) = later n after
@@ -24,19 +24,21 @@ later (suc n) (node a below after) = later n after
 -- i holds for the characters of a closer, for what was read before them and for the trees that are still to be read:
 -- this stays true when a tree or the characters of a run are read or passed over, when open runs are dropped, when
 -- characters are left open or as text, and when they pair with a run that was found
-pub record StaysTrue {A : Type 0} (s : Setting) (i : List (Label A) → List (Read A) → Forest (Label A) → Type 0) : Type
+pub record StaysTrue {A : Type 0} (s : Setting) (i : List (TreeNode A) → List (Read A) → Forest (TreeNode A)
+    → Type 0) : Type
     0 where
-  pub tree : (a : Label A) (below after : Forest (Label A)) (rs : List (Read A)) → i [] rs (node a below after)
+  pub tree : (a : TreeNode A) (below after : Forest (TreeNode A)) (rs : List (Read A)) → i [] rs (node a below after)
       → i [] (done_read (as_closed s.text a) below ∷ rs) after
-  pub skip : (a : Label A) (below after : Forest (Label A)) (rs : List (Read A)) → i [] rs (node a below after)
+  pub skip : (a : TreeNode A) (below after : Forest (TreeNode A)) (rs : List (Read A)) → i [] rs (node a below after)
       → i [] rs after
-  pub texts : (n : ℕ) (chain : Forest (Label A)) (rs : List (Read A)) → i [] rs chain
+  pub texts : (n : ℕ) (chain : Forest (TreeNode A)) (rs : List (Read A)) → i [] rs chain
       → i (first_texts s.text n chain) rs (later n chain)
-  pub dropped : (d : Delimiter) (vs : List (Label A)) (rs : List (Read A)) (rest : Forest (Label A)) → i vs rs rest
+  pub dropped : (d : Delimiter) (vs : List (TreeNode A)) (rs : List (Read A)) (rest : Forest (TreeNode A))
+      → i vs rs rest
       → i vs (map (drop_read d) rs) rest
-  pub left : (closer : Run) (vs : List (Label A)) (rs : List (Read A)) (rest : Forest (Label A)) → i vs rs rest
+  pub left : (closer : Run) (vs : List (TreeNode A)) (rs : List (Read A)) (rest : Forest (TreeNode A)) → i vs rs rest
       → i [] (left_over closer vs rs) rest
-  pub found : (closer : Run) (vs : List (Label A)) (rs : List (Read A)) (rest : Forest (Label A)) → i vs rs rest
+  pub found : (closer : Run) (vs : List (TreeNode A)) (rs : List (Read A)) (rest : Forest (TreeNode A)) → i vs rs rest
       → IfSome (nearest_opener closer rs nil) (λ f. i (layers s f.run.delimiter f.characters vs f.inside).closing
       (after_layers f (layers s f.run.delimiter f.characters vs f.inside)) rest)
 
@@ -49,21 +51,23 @@ found-if p false f o h k = k
 
 -- the same, where g holds for a run and its characters when it is read, and for those that are left of them while it
 -- closes
-pub record StaysTrueOf {A : Type 0} (s : Setting) (g : Run → List (Label A) → Type 0)
-    (i : List (Label A) → List (Read A) → Forest (Label A) → Type 0) : Type 0 where
-  pub tree : (a : Label A) (below after : Forest (Label A)) (rs : List (Read A)) → run_of s.text a.part ≡ None
+pub record StaysTrueOf {A : Type 0} (s : Setting) (g : Run → List (TreeNode A) → Type 0)
+    (i : List (TreeNode A) → List (Read A) → Forest (TreeNode A) → Type 0) : Type 0 where
+  pub tree : (a : TreeNode A) (below after : Forest (TreeNode A)) (rs : List (Read A)) → run_of s.text a.part ≡ None
       → i [] rs (node a below after) → i [] (done_read (as_closed s.text a) below ∷ rs) after
-  pub run : (run : Run) (a : Label A) (below after : Forest (Label A)) (rs : List (Read A)) → run_of s.text a.part
+  pub run : (run : Run) (a : TreeNode A) (below after : Forest (TreeNode A)) (rs : List (Read A)) → run_of s.text a.part
       ≡ Some run
       → i [] rs (node a below after)
       → g run (first_texts s.text run.length (node a below after))
       × i (first_texts s.text run.length (node a below after)) rs (later (run.length - 1) after)
-  pub dropped : (d : Delimiter) (vs : List (Label A)) (rs : List (Read A)) (rest : Forest (Label A)) → i vs rs rest
+  pub dropped : (d : Delimiter) (vs : List (TreeNode A)) (rs : List (Read A)) (rest : Forest (TreeNode A))
+      → i vs rs rest
       → i vs (map (drop_read d) rs) rest
-  pub left : (closer : Run) (vs : List (Label A)) (rs : List (Read A)) (rest : Forest (Label A)) → g closer vs
+  pub left : (closer : Run) (vs : List (TreeNode A)) (rs : List (Read A)) (rest : Forest (TreeNode A)) → g closer vs
       → i vs rs rest
       → i [] (left_over closer vs rs) rest
-  pub found : (closer : Run) (vs : List (Label A)) (rs : List (Read A)) (rest : Forest (Label A)) → closer.can_close
+  pub found : (closer : Run) (vs : List (TreeNode A)) (rs : List (Read A)) (rest : Forest (TreeNode A))
+      → closer.can_close
       ≡ true
       → g closer vs → i vs rs rest
       → IfSome (nearest_opener closer rs nil) (λ f. g closer (layers s f.run.delimiter f.characters vs f.inside).closing
@@ -86,13 +90,13 @@ some-long other d = tt
 pub run-long : (source : List ℕ) (part : Part) (run : Run) → run_of source part ≡ Some run → 0 < run.length
 run-long source part run e = subst (λ o. IfSome o (λ run. 0 < run.length)) e (some-long part.shape _)
 
-module _ {A : Type 0} (s : Setting) (g : Run → List (Label A) → Type 0)
-    (i : List (Label A) → List (Read A) → Forest (Label A) → Type 0)
+module _ {A : Type 0} (s : Setting) (g : Run → List (TreeNode A) → Type 0)
+    (i : List (TreeNode A) → List (Read A) → Forest (TreeNode A) → Type 0)
     (stays : StaysTrueOf s g i) where
-  searched_stays : (again : List (Label A) → List (Read A) → List (Read A)) (closer : Run) (vs : List (Label A))
+  searched_stays : (again : List (TreeNode A) → List (Read A) → List (Read A)) (closer : Run) (vs : List (TreeNode A))
       (rs : List (Read A))
-      (rest : Forest (Label A)) (o : Option (FoundOpener A))
-      → ((left : List (Label A)) (others : List (Read A)) → g closer left → i left others rest
+      (rest : Forest (TreeNode A)) (o : Option (FoundOpener A))
+      → ((left : List (TreeNode A)) (others : List (Read A)) → g closer left → i left others rest
       → i [] (again left others) rest)
       → g closer vs → i vs rs rest
       → IfSome o (λ f. g closer (layers s f.run.delimiter f.characters vs f.inside).closing
@@ -106,7 +110,7 @@ module _ {A : Type 0} (s : Setting) (g : Run → List (Label A) → Type 0)
       (after_layers f (layers s f.run.delimiter f.characters vs f.inside))
       found.0 found.1
 
-  closed_stays : (turns : ℕ) (closer : Run) (vs : List (Label A)) (rs : List (Read A)) (rest : Forest (Label A))
+  closed_stays : (turns : ℕ) (closer : Run) (vs : List (TreeNode A)) (rs : List (Read A)) (rest : Forest (TreeNode A))
       → closer.can_close ≡ true
       → g closer vs → i vs rs rest → i [] (closed_by s turns closer vs rs) rest
   unfolding closed_by
@@ -119,18 +123,18 @@ module _ {A : Type 0} (s : Setting) (g : Run → List (Label A) → Type 0)
       (λ left others p k. closed_stays turns closer left others rest c p k) q h
       (stays.found closer (v ∷ vs) rs rest c q h)
 
-  read_stays : (closes : Bool) (run : Run) (vs : List (Label A)) (rs : List (Read A)) (rest : Forest (Label A))
+  read_stays : (closes : Bool) (run : Run) (vs : List (TreeNode A)) (rs : List (Read A)) (rest : Forest (TreeNode A))
       → run.can_close ≡ closes
       → g run vs → i vs rs rest → i [] (run_read s closes run vs rs) rest
   read_stays true run vs rs rest c q h = closed_stays (length vs) run vs rs rest c q h
   read_stays false run vs rs rest c q h = stays.left run vs rs rest q h
 
-  pub run-stays-of : (run : Run) (vs : List (Label A)) (rs : List (Read A)) (rest : Forest (Label A)) → g run vs
+  pub run-stays-of : (run : Run) (vs : List (TreeNode A)) (rs : List (Read A)) (rest : Forest (TreeNode A)) → g run vs
       → i vs rs rest
       → i [] (run_read s run.can_close run vs rs) rest
   run-stays-of run vs rs rest q h = read_stays run.can_close run vs rs rest refl q h
 
-  tree_stays : (go_on : ℕ → List (Read A) → List (Read A)) (a : Label A) (below after : Forest (Label A))
+  tree_stays : (go_on : ℕ → List (Read A) → List (Read A)) (a : TreeNode A) (below after : Forest (TreeNode A))
       (rs : List (Read A))
       (o : Option Run) → run_of s.text a.part ≡ o
       → ((skip : ℕ) (others : List (Read A)) → i [] others (later skip after) → i [] (go_on skip others) nil)
@@ -143,7 +147,7 @@ module _ {A : Type 0} (s : Setting) (g : Run → List (Label A) → Type 0)
       h (run.length - 1) (run_read s run.can_close run (first_texts s.text run.length (node a below after)) rs)
       (run-stays-of run (first_texts s.text run.length (node a below after)) rs (later (run.length - 1) after) r.0 r.1)
 
-  pub reads-stay-of : (skip : ℕ) (chain : Forest (Label A)) (rs : List (Read A)) → i [] rs (later skip chain)
+  pub reads-stay-of : (skip : ℕ) (chain : Forest (TreeNode A)) (rs : List (Read A)) → i [] rs (later skip chain)
       → i [] (reads_from s skip chain rs) nil
   unfolding reads_from
   reads-stay-of zero nil rs h = h
@@ -154,13 +158,13 @@ module _ {A : Type 0} (s : Setting) (g : Run → List (Label A) → Type 0)
       (λ skip others k. reads-stay-of skip after others k) h
 
 -- where nothing is known of runs
-abbrev pub Any : {A : Type 0} → Run → List (Label A) → Type 0
+abbrev pub Any : {A : Type 0} → Run → List (TreeNode A) → Type 0
 Any run vs = ⊤
 
-module _ {A : Type 0} (s : Setting) (i : List (Label A) → List (Read A) → Forest (Label A) → Type 0)
+module _ {A : Type 0} (s : Setting) (i : List (TreeNode A) → List (Read A) → Forest (TreeNode A) → Type 0)
     (stays : StaysTrue s i) where
   -- of a run of n the first character is read here
-  texts_stay : (n : ℕ) (a : Label A) (below after : Forest (Label A)) (rs : List (Read A))
+  texts_stay : (n : ℕ) (a : TreeNode A) (below after : Forest (TreeNode A)) (rs : List (Read A))
       → i [] rs (node a below after)
       → i (first_texts s.text n (node a below after)) rs (later (n - 1) after)
   texts_stay zero a below after rs h = stays.skip a below after rs h
@@ -177,10 +181,10 @@ module _ {A : Type 0} (s : Setting) (i : List (Label A) → List (Read A) → Fo
         (λ f k. (tt, k));
   }
 
-  pub run-stays : (run : Run) (vs : List (Label A)) (rs : List (Read A)) (rest : Forest (Label A)) → i vs rs rest
+  pub run-stays : (run : Run) (vs : List (TreeNode A)) (rs : List (Read A)) (rest : Forest (TreeNode A)) → i vs rs rest
       → i [] (run_read s run.can_close run vs rs) rest
   run-stays run vs rs rest h = run-stays-of s Any i of_any run vs rs rest tt h
 
-  pub reads-stay : (skip : ℕ) (chain : Forest (Label A)) (rs : List (Read A)) → i [] rs (later skip chain)
+  pub reads-stay : (skip : ℕ) (chain : Forest (TreeNode A)) (rs : List (Read A)) → i [] rs (later skip chain)
       → i [] (reads_from s skip chain rs) nil
   reads-stay skip chain rs h = reads-stay-of s Any i of_any skip chain rs h

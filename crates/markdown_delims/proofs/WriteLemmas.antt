@@ -9,7 +9,7 @@ use Rattle.markdown_base.specs.Arena.{Arena, child_of, sibling_of}
 use Rattle.markdown_base.specs.ArenaChanges.{changed_at}
 use Rattle.markdown_base.specs.BlockTree.{item_at}
 use Rattle.markdown_base.specs.declared.item.ItemBody.{ItemBody}
-use Rattle.markdown_document.specs.Document.{Shape, Part, Label, shaped, part_of, shape_of, block_of}
+use Rattle.markdown_document.specs.Document.{Shape, Part, TreeNode, shaped, part_of, shape_of, block_of}
 use Rattle.markdown_document.specs.Tables.{Tables}
 use Rattle.markdown_base.proofs.ArenaLemmas.{length-changed_at}
 use Rattle.markdown_delims.specs.Views.{View, view_of, parts_of, SameAt, Writes, Wrote, IsMade, Kept}
@@ -112,8 +112,8 @@ parts_written part nodes new ix i c n w =
           { item = ap part same.item; child = same.child; next = same.next };
     }
 
--- another body with a shape and the same block, in the view of labels
-pub body_part : (source : List ℕ) (tables : Tables) (item : Item) (a : Label ℕ) (b : ItemBody) (shape : Shape)
+-- another body with a shape and the same block, in the view of nodes
+pub body_part : (source : List ℕ) (tables : Tables) (item : Item) (a : TreeNode ℕ) (b : ItemBody) (shape : Shape)
     → part_of source tables item ≡ a.part → shape_of tables (slice_range source item.start item.end) b ≡ shape
     → block_of b ≡ a.part.block
     → part_of source tables (record { start = item.start; end = item.end; body = b }) ≡ (shaped shape a).part

@@ -11,15 +11,15 @@ use Rattle.markdown_base.specs.BlockTree.{item_at}
 use Rattle.markdown_base.specs.Forest.{Forest, nil, node, Each, roots, relabelled}
 use Rattle.markdown_base.specs.WellFormed.{run_character}
 use Rattle.markdown_document.specs.Counts.{comparisons_per_delimiter}
-use Rattle.markdown_document.specs.Document.{Shape, unresolved, Label, part_of, is_unresolved}
+use Rattle.markdown_document.specs.Document.{Shape, unresolved, TreeNode, part_of, is_unresolved}
 use Rattle.markdown_document.specs.Setting.{Setting}
 use Rattle.markdown_document.specs.Tables.{Tables}
-use Rattle.markdown_delims.specs.declared.marks.Marks.{Marks}
+use Rattle.markdown_delims.specs.declared.extensions.Extensions.{Extensions}
 use Rattle.markdown_delims.specs.declared.run.Characters.{Characters}
 use Rattle.markdown_delims.specs.declared.run.Run.{Run}
 use Rattle.markdown_delims.specs.ChainForest.{RisesFrom}
 use Rattle.markdown_delims.specs.ChainStanding.{Chain, AreOpen, Stands, StandsAt}
-use Rattle.markdown_delims.specs.Layers.{marks_of, run_of}
+use Rattle.markdown_delims.specs.Layers.{extensions_of, run_of}
 use Rattle.markdown_delims.specs.OpenRuns.{Openers}
 use Rattle.markdown_delims.specs.Pairing.{Read, first_texts, reads_from, runs_paired}
 use Rattle.markdown_delims.specs.PairingFinds.{finds_from}
@@ -35,25 +35,25 @@ ShowsCount (unresolved b) = HasCount b
 ShowsCount other = Unit {0}
 
 -- a chain without its first n trees
-abbrev pub trees_after : ℕ → Forest (Label ℕ) → Forest (Label ℕ)
+abbrev pub trees_after : ℕ → Forest (TreeNode ℕ) → Forest (TreeNode ℕ)
 trees_after zero chain = chain
 trees_after (suc n) nil = nil
 trees_after (suc n) (node a below after) = trees_after n after
 
 -- a chain begins with n characters, of consecutive numbers and without children
-abbrev pub BeginsRun : ℕ → ℕ → Forest (Label ℕ) → Type 0
+abbrev pub BeginsRun : ℕ → ℕ → Forest (TreeNode ℕ) → Type 0
 BeginsRun number zero chain = Unit {0}
 BeginsRun number (suc n) nil = ⊥
-BeginsRun number (suc n) (node a below after) = (a.tag ≡ number) × (below ≡ nil) × (a.part.block ≡ None)
+BeginsRun number (suc n) (node a below after) = (a.note ≡ number) × (below ≡ nil) × (a.part.block ≡ None)
     × BeginsRun (suc number) n after
 
 -- a tree of a chain: if it begins a run, the chain begins with all of the run; otherwise it is not open
-abbrev pub IsWhole : Option Run → Label ℕ → (below after : Forest (Label ℕ)) → Type 0
+abbrev pub IsWhole : Option Run → TreeNode ℕ → (below after : Forest (TreeNode ℕ)) → Type 0
 IsWhole None a below after = is_unresolved a.part.shape ≡ false
-IsWhole (Some run) a below after = BeginsRun a.tag run.length (node a below after)
+IsWhole (Some run) a below after = BeginsRun a.note run.length (node a below after)
 
 -- each tree of a chain is such a tree
-abbrev pub AreWhole : List ℕ → Forest (Label ℕ) → Type 0
+abbrev pub AreWhole : List ℕ → Forest (TreeNode ℕ) → Type 0
 AreWhole text nil = Unit {0}
 AreWhole text (node a below after) =
     ShowsCount a.part.shape × IsWhole (run_of text a.part) a below after × AreWhole text after
@@ -64,40 +64,41 @@ one_if true = 1
 one_if false = 0
 
 -- the number of trees of a chain that begin a run
-abbrev pub runs_in : List ℕ → Forest (Label ℕ) → ℕ
+abbrev pub runs_in : List ℕ → Forest (TreeNode ℕ) → ℕ
 runs_in text nil = 0
 runs_in text (node a below after) = one_if (is_some (run_of text a.part)) + runs_in text after
 
 -- the next trees became Texts
-abbrev pub Settles : Characters → Arena Item → Arena Item → Type 0
-Settles met s t =
-    (h : Chain) (rs : List (Read ℕ)) (last : Option ℕ) (chain : Forest (Label ℕ))
+abbrev pub MakesLiteral : Characters → Arena Item → Arena Item → Type 0
+MakesLiteral met s t =
+    (h : Chain) (rs : List (Read ℕ)) (last : Option ℕ) (chain : Forest (TreeNode ℕ))
     → Stands h s rs last (Some met.number) chain → BeginsRun met.number met.count chain
     → StandsAt h t rs last met (first_texts h.setting.text met.count chain) (trees_after met.count chain)
     × Kept h.touched s t
 
 -- there are such trees
-pub record CanSettle (met : Characters) (s : Arena Item) : Type 0 where
+pub record CanMakeLiteral (met : Characters) (s : Arena Item) : Type 0 where
   pub chain : Chain
   pub rs : List (Read ℕ)
   pub last : Option ℕ
-  pub rest : Forest (Label ℕ)
+  pub rest : Forest (TreeNode ℕ)
   pub stands : Stands chain s rs last (Some met.number) rest
   pub begins : BeginsRun met.number met.count rest
   pub some : 0 < met.count
 
 -- what was read of a chain whose runs are whole is this, and the open runs are those of it
-pub record StandsWhole (h : Chain) (s : Arena Item) (rs : List (Read ℕ)) (last l : Option ℕ) (rest : Forest (Label ℕ))
+pub record StandsWhole (h : Chain) (s : Arena Item) (rs : List (Read ℕ)) (last l : Option ℕ) (rest : Forest
+    (TreeNode ℕ))
     (openers : Openers) : Type 0 where
   pub stands : Stands h s rs last l rest
   pub whole : AreWhole h.setting.text rest
   pub are : AreOpen openers.runs rs
 
 -- a chain was read somewhat further: the pairing of the whole is the same, and each successful search was counted
-pub record ReadFurther (h : Chain) (s t : Arena Item) (begun : List (Read ℕ)) (chain : Forest (Label ℕ))
+pub record ReadFurther (h : Chain) (s t : Arena Item) (begun : List (Read ℕ)) (chain : Forest (TreeNode ℕ))
     (old new : Openers) (last l : Option ℕ) (from : ℕ) : Type 0 where
   pub rs : List (Read ℕ)
-  pub rest : Forest (Label ℕ)
+  pub rest : Forest (TreeNode ℕ)
   pub stands : StandsWhole h t rs last l rest new
   pub kept : Kept h.touched s t
   pub same : reads_from h.setting 0 rest rs ≡ reads_from h.setting 0 chain begun
@@ -107,29 +108,30 @@ pub record ReadFurther (h : Chain) (s t : Arena Item) (begun : List (Read ℕ)) 
   pub further : Rises h.touched from rest h.bound
 
 -- a tree is read: the first of the rest, or all characters of a run
-abbrev pub ReadsTree : Marks → List ℕ → ℕ → Option ℕ → Arena Item → Arena Item → Openers → Openers → Option ℕ → Option ℕ
+abbrev pub ReadsTree : Extensions → List ℕ → ℕ → Option ℕ → Arena Item → Arena Item → Openers → Openers → Option ℕ
+    → Option ℕ
     → Type 0
 ReadsTree m text ix last s t old new last' l =
-    (h : Chain) (rs : List (Read ℕ)) (chain : Forest (Label ℕ)) → marks_of h.setting.rules.options ≡ m
+    (h : Chain) (rs : List (Read ℕ)) (chain : Forest (TreeNode ℕ)) → extensions_of h.setting.rules.options ≡ m
     → h.setting.text ≡ text → StandsWhole h s rs last (Some ix) chain old
     → ReadFurther h s t rs chain old new last' l (suc ix)
 
 -- memory was refused: no more comparisons were made than the runs of the rest allow
 abbrev pub PaysForTree : List ℕ → ℕ → Option ℕ → Arena Item → Openers → Openers → Type 0
 PaysForTree text ix last s old new =
-    (h : Chain) (rs : List (Read ℕ)) (chain : Forest (Label ℕ)) → h.setting.text ≡ text
+    (h : Chain) (rs : List (Read ℕ)) (chain : Forest (TreeNode ℕ)) → h.setting.text ≡ text
     → StandsWhole h s rs last (Some ix) chain old
     → new.potential ≤ old.potential + comparisons_per_delimiter * runs_in text chain
 
 -- there is such a tree
-pub record CanReadTree (m : Marks) (text : List ℕ) (ix : ℕ) (last : Option ℕ) (s : Arena Item)
+pub record CanReadTree (m : Extensions) (text : List ℕ) (ix : ℕ) (last : Option ℕ) (s : Arena Item)
     (openers : Openers) : Type 0
   where
     pub chain : Chain
-    pub marks_are : marks_of chain.setting.rules.options ≡ m
+    pub extensions_are : extensions_of chain.setting.rules.options ≡ m
     pub text_is : chain.setting.text ≡ text
     pub rs : List (Read ℕ)
-    pub rest : Forest (Label ℕ)
+    pub rest : Forest (TreeNode ℕ)
     pub stands : StandsWhole chain s rs last (Some ix) rest openers
     pub room : openers.potential + comparisons_per_delimiter * runs_in text rest < 2 ^ 128
 
@@ -143,9 +145,9 @@ abbrev pub NoneBelow : (ℕ → Bool) → Forest ℕ → Type 0
 NoneBelow own nil = Unit {0}
 NoneBelow own (node ix below after) = Each (λ n. own n ≡ false) below × NoneBelow own after
 
--- the labels of a chain of an arena, each with the number of its node
-abbrev pub labels : Setting → Tables → List (Node Item) → Forest ℕ → Forest (Label ℕ)
-labels s tables nodes f = relabelled (λ ix. record { tag = ix; part = part_of s.text tables (item_at nodes ix) }) f
+-- the nodes of a chain of an arena, each with the number of its node
+abbrev pub labels : Setting → Tables → List (Node Item) → Forest ℕ → Forest (TreeNode ℕ)
+labels s tables nodes f = relabelled (λ ix. record { note = ix; part = part_of s.text tables (item_at nodes ix) }) f
 
 -- the links from `first` on lead through a chain of these nodes, whose numbers rise
 pub record IsSpelled (nodes : List (Node Item)) (first : ℕ) (f : Forest ℕ) : Type 0 where
@@ -172,23 +174,23 @@ pub record IsPaired (s : Setting) (tables : Tables) (old new : Arena Item) (firs
   pub kept : Kept (is_among (roots f)) old new
 
 -- the runs of any such chain are paired
-abbrev pub PairsRuns : Marks → List ℕ → Arena Item → Arena Item → (first count : ℕ) → Type 0
+abbrev pub PairsRuns : Extensions → List ℕ → Arena Item → Arena Item → (first count : ℕ) → Type 0
 PairsRuns m text old new first count =
-    (s : Setting) (tables : Tables) (f : Forest ℕ) → marks_of s.rules.options ≡ m → s.text ≡ text
+    (s : Setting) (tables : Tables) (f : Forest ℕ) → extensions_of s.rules.options ≡ m → s.text ≡ text
     → IsChainAt s tables old.nodes first count f
     → IsPaired s tables old new first f
 
 -- each search that finds was counted
-abbrev pub CountsFinds : Marks → List ℕ → List (Node Item) → (first count : ℕ) → Openers → Openers → Type 0
+abbrev pub CountsFinds : Extensions → List ℕ → List (Node Item) → (first count : ℕ) → Openers → Openers → Type 0
 CountsFinds m text nodes first count old new =
-    (s : Setting) (tables : Tables) (f : Forest ℕ) → marks_of s.rules.options ≡ m → s.text ≡ text
+    (s : Setting) (tables : Tables) (f : Forest ℕ) → extensions_of s.rules.options ≡ m → s.text ≡ text
     → IsChainAt s tables nodes first count f
     → old.examined + finds_from s 0 (labels s tables nodes f) [] ≤ new.examined
 
 -- no more comparisons were made than the runs of the chain allow
-abbrev pub PaysForRuns : Marks → List ℕ → List (Node Item) → (first count : ℕ) → Openers → Openers → Type 0
+abbrev pub PaysForRuns : Extensions → List ℕ → List (Node Item) → (first count : ℕ) → Openers → Openers → Type 0
 PaysForRuns m text nodes first count old new =
-    (s : Setting) (tables : Tables) (f : Forest ℕ) → marks_of s.rules.options ≡ m → s.text ≡ text
+    (s : Setting) (tables : Tables) (f : Forest ℕ) → extensions_of s.rules.options ≡ m → s.text ≡ text
     → IsChainAt s tables nodes first count f
     → new.potential ≤ old.potential + comparisons_per_delimiter * runs_in text (labels s tables nodes f)
 
@@ -198,11 +200,11 @@ pub record IsEmptied (openers : Openers) : Type 0 where
   pub potential : openers.potential ≡ openers.examined
 
 -- there is such a chain, and its comparisons can be counted
-pub record CanPairAll (m : Marks) (text : List ℕ) (nodes : List (Node Item)) (first count : ℕ)
+pub record CanPairAll (m : Extensions) (text : List ℕ) (nodes : List (Node Item)) (first count : ℕ)
     (openers : Openers) : Type 0
   where
     pub setting : Setting
-    pub marks_are : marks_of setting.rules.options ≡ m
+    pub extensions_are : extensions_of setting.rules.options ≡ m
     pub text_is : setting.text ≡ text
     pub tables : Tables
     pub forest : Forest ℕ

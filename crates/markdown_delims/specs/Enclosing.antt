@@ -4,12 +4,12 @@ use Rattle.markdown_base.specs.declared.item.Item.{Item}
 use Rattle.markdown_base.specs.declared.item.ItemBody.{ItemBody}
 use Rattle.markdown_base.specs.Arena.{Arena, sibling_of}
 use Rattle.markdown_base.specs.Forest.{Forest, nil, node}
-use Rattle.markdown_document.specs.Document.{Shape, Label, shape_of}
+use Rattle.markdown_document.specs.Document.{Shape, TreeNode, shape_of}
 use Rattle.markdown_document.specs.Tables.{Tables}
-use Rattle.markdown_delims.specs.declared.marks.Marks.{Marks}
+use Rattle.markdown_delims.specs.declared.extensions.Extensions.{Extensions}
 use Rattle.markdown_delims.specs.declared.run.Characters.{Characters}
 use Rattle.markdown_delims.specs.ChainStanding.{Chain, view, texts, left_texts, AreFirst, AreLast}
-use Rattle.markdown_delims.specs.Layers.{marks_of}
+use Rattle.markdown_delims.specs.Layers.{extensions_of}
 use Rattle.markdown_delims.specs.Pairing.{Layers, layers}
 use Rattle.markdown_delims.specs.Views.{Holds, Rises, Cut, Kept, AllTouched, IsMade}
 
@@ -20,15 +20,16 @@ pub record IsLayer (b : ItemBody) (shape : List ℕ → Shape) : Type 0 where
 
 -- what precedes an opener, its characters, the last one first, what lies between it and its closer, the closer's
 -- characters, the first one first, and what follows it
-pub record Around : Type 0 where
-  pub before : Forest (Label ℕ)
-  pub opening : List (Label ℕ)
-  pub inside : Forest (Label ℕ)
-  pub closing : List (Label ℕ)
-  pub after : Forest (Label ℕ)
+pub record ChainParts : Type 0 where
+  pub before : Forest (TreeNode ℕ)
+  pub opening : List (TreeNode ℕ)
+  pub inside : Forest (TreeNode ℕ)
+  pub closing : List (TreeNode ℕ)
+  pub after : Forest (TreeNode ℕ)
 
 -- the opener's characters precede the link to what lies inside; the closer is apart
-pub record Encloses (h : Chain) (g : Around) (s : Arena Item) (opener closer : Characters) (inner : Option ℕ) : Type 0
+pub record Encloses (h : Chain) (g : ChainParts) (s : Arena Item) (opener closer : Characters)
+    (inner : Option ℕ) : Type 0
   where
     pub opener_are : AreLast opener g.opening
     pub closer_are : AreFirst closer g.closing
@@ -47,28 +48,29 @@ abbrev pub inner_of : Characters → Arena Item → Option ℕ
 inner_of opener s = sibling_of s.nodes (opener.number + (opener.count - 1))
 
 -- there is such an opener
-pub record CanEnclose (m : Marks) (opener closer : Characters) (s : Arena Item) : Type 0 where
+pub record CanEnclose (m : Extensions) (opener closer : Characters) (s : Arena Item) : Type 0 where
   pub chain : Chain
-  pub marks_are : marks_of chain.setting.rules.options ≡ m
-  pub around : Around
+  pub extensions_are : extensions_of chain.setting.rules.options ≡ m
+  pub around : ChainParts
   pub encloses : Encloses chain around s opener closer (inner_of opener s)
 
 -- the chain, cut after the outermost layer
-pub record IsEnclosed (h : Chain) (g : Around) (s t : Arena Item) (made : Layers ℕ) (root : ℕ) (rest : Option ℕ)
+pub record IsEnclosed (h : Chain) (g : ChainParts) (s t : Arena Item) (made : Layers ℕ) (root : ℕ) (rest : Option ℕ)
     : Type 0
   where
-    pub whole : Label ℕ
-    pub inside : Forest (Label ℕ)
+    pub whole : TreeNode ℕ
+    pub inside : Forest (TreeNode ℕ)
     pub cut : Cut h.touched (view h t) h.first (node whole inside (left_texts made.opening g.before)) rest
         (texts made.closing g.after) h.bound
     pub whole_is : made.whole ≡ node whole inside nil
-    pub last : whole.tag ≡ root
+    pub last : whole.note ≡ root
     pub left_touched : AllTouched h.touched (node whole inside (left_texts made.opening g.before))
     pub right_touched : AllTouched h.touched (texts made.closing g.after)
     pub kept : Kept h.touched s t
 
 -- the characters pair, and enclose what lies inside
-abbrev pub EnclosesAll : Marks → Characters → Characters → Arena Item → Arena Item → ℕ → Option ℕ → Type 0
+abbrev pub EnclosesAll : Extensions → Characters → Characters → Arena Item → Arena Item → ℕ → Option ℕ → Type 0
 EnclosesAll m opener closer s t root rest =
-    (h : Chain) (g : Around) → marks_of h.setting.rules.options ≡ m → Encloses h g s opener closer (inner_of opener s)
+    (h : Chain) (g : ChainParts) → extensions_of h.setting.rules.options ≡ m → Encloses h g s opener closer
+    (inner_of opener s)
     → IsEnclosed h g s t (layers h.setting opener.run.delimiter g.opening g.closing g.inside) root rest

@@ -4,16 +4,16 @@ use Rattle.markdown_base.specs.EnabledOptions.{strikethrough_on, subscript_on, s
 use Rattle.markdown_base.specs.Event.{TagView, emphasis, strong, strikethrough, superscript, subscript}
 use Rattle.markdown_base.specs.declared.item.ItemBody.TheVariants as body
 use Rattle.markdown_base.specs.declared.options.Options.{Options}
-use Rattle.markdown_document.specs.Document.{Shape, enclosed, unresolved, Part, Label, text_over}
-use Rattle.markdown_delims.specs.declared.marks.Marks.{Marks}
+use Rattle.markdown_document.specs.Document.{Shape, enclosed, unresolved, Part, TreeNode, text_over}
+use Rattle.markdown_delims.specs.declared.extensions.Extensions.{Extensions}
 use Rattle.markdown_delims.specs.declared.run.Delimiter.{Delimiter}
 use Rattle.markdown_delims.specs.declared.run.Delimiter.TheVariants.{Star, Underscore, Tilde, Caret}
 use Rattle.markdown_delims.specs.declared.run.Run.{Run}
 use Rattle.markdown_delims.specs.MayPair.{delimiter_of}
 
 -- the marks that a set of options enables
-abbrev pub marks_of : Options → Marks
-marks_of options = record {
+abbrev pub extensions_of : Options → Extensions
+extensions_of options = record {
   strikethrough = strikethrough_on options;
   superscript = superscript_on options;
   subscript = subscript_on options;
@@ -25,24 +25,24 @@ enclosed_if true tag other = enclosed tag
 enclosed_if false tag other = other
 
 -- the shape of a layer of two characters over these bytes; a layer that is not a mark is a Text of all of them
-abbrev pub layer_of_two : Marks → Delimiter → List ℕ → Shape
+abbrev pub layer_of_two : Extensions → Delimiter → List ℕ → Shape
 layer_of_two m Star source = enclosed strong
 layer_of_two m Underscore source = enclosed strong
 layer_of_two m Tilde source = enclosed_if m.strikethrough strikethrough (text_over source)
 layer_of_two m Caret source = enclosed_if m.superscript superscript (text_over source)
 
 -- the shape of a layer of one character over these bytes
-abbrev pub layer_of_one : Marks → Delimiter → List ℕ → Shape
+abbrev pub layer_of_one : Extensions → Delimiter → List ℕ → Shape
 layer_of_one m Star source = enclosed emphasis
 layer_of_one m Underscore source = enclosed emphasis
 layer_of_one m Tilde source =
     enclosed_if m.subscript subscript (enclosed_if m.strikethrough strikethrough (text_over source))
 layer_of_one m Caret source = enclosed_if m.superscript superscript (text_over source)
 
--- the label of an opener's character with another shape, extended to the end of a closer's character
-abbrev pub spanned : {A : Type 0} → List ℕ → (List ℕ → Shape) → Label A → Label A → Label A
+-- the node of an opener's character with another shape, extended to the end of a closer's character
+abbrev pub spanned : {A : Type 0} → List ℕ → (List ℕ → Shape) → TreeNode A → TreeNode A → TreeNode A
 spanned source shape opener closer = record {
-  tag = opener.tag;
+  note = opener.note;
   part = record {
     shape = shape (slice_range source opener.part.range.start closer.part.range.end);
     range = record { start = opener.part.range.start; end = closer.part.range.end };

@@ -13,7 +13,7 @@ use Rattle.markdown_document.specs.ItemRules.{ComesBefore}
 use Rattle.markdown_document.specs.Places.{trees_from}
 use Rattle.markdown_document.specs.PlacedNodes.{IsPlaced, IsSameAt}
 use Rattle.markdown_document.specs.Setting.{Setting}
-use Rattle.markdown_document.specs.Stages.{times_in, named_in, weight_in}
+use Rattle.markdown_document.specs.ResolverStates.{times_in, named_in, weight_in}
 use Rattle.markdown_document.specs.Waiting.{waits_for_pairing}
 use Rattle.markdown_delims.specs.ChainForest.{RisesFrom}
 use Rattle.markdown_delims.specs.Pairing.{paired}

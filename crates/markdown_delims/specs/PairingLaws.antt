@@ -2,8 +2,8 @@
 use Rattle.std.specs.Prelude.{◌≡◌, ◌≢◌, ℕ, zero, suc, ◌-◌, ◌≤◌, ⊤, Bool, true, false, List, [], ◌∷◌, Option, Some, None}
 use Rattle.std.specs.Prelude.{IfSome, IfNone}
 use Rattle.markdown_base.specs.Forest.{Forest, nil, node, Each, Throughout}
-use Rattle.markdown_document.specs.Document.{Shape, leaf, Label, Plain, is_unresolved}
-use Rattle.markdown_document.specs.Labels.{Begins, is_plain, weight, retag, retagged}
+use Rattle.markdown_document.specs.Document.{Shape, leaf, TreeNode, Plain, is_unresolved}
+use Rattle.markdown_document.specs.TreeNodes.{Begins, is_plain, weight, annotate, annotated}
 use Rattle.markdown_document.specs.Setting.{Setting}
 use Rattle.markdown_delims.specs.declared.run.Delimiter.{Delimiter}
 use Rattle.markdown_delims.specs.declared.run.Delimiter.TheVariants.{Star, Underscore, Tilde, Caret}
@@ -13,26 +13,27 @@ use Rattle.markdown_delims.specs.MayPair.{may_pair}
 use Rattle.markdown_delims.specs.Pairing.{Read, done_read, waiting, nearest_opener, paired, NothingOpen}
 
 -- a chain with the forest below each of its trees changed
-abbrev pub below_trees : {A : Type 0} → (Forest (Label A) → Forest (Label A)) → Forest (Label A) → Forest (Label A)
+abbrev pub below_trees : {A : Type 0} → (Forest (TreeNode A) → Forest (TreeNode A)) → Forest (TreeNode A) → Forest
+    (TreeNode A)
 below_trees change nil = nil
 below_trees change (node a below after) = node a (change below) (below_trees change after)
 
 -- pairing leaves nothing of its chain open
 abbrev pub PairingClosedLaw : Type 0 → Type 0
-PairingClosedLaw A = (s : Setting) (chain : Forest (Label A)) → NothingOpen (paired s chain)
+PairingClosedLaw A = (s : Setting) (chain : Forest (TreeNode A)) → NothingOpen (paired s chain)
 
 -- a chain and the chains below it may be resolved in either order, if a change of a chain in which nothing is open
 -- changes only what is below its trees
 abbrev pub PairingOrderLaw : Type 0 → Type 0
 PairingOrderLaw A =
-    (s : Setting) (change : Forest (Label A) → Forest (Label A)) → change nil ≡ nil
-    → ((f : Forest (Label A)) → NothingOpen f → change f ≡ below_trees change f)
-    → (chain : Forest (Label A)) → paired s (below_trees change chain) ≡ below_trees change (paired s chain)
+    (s : Setting) (change : Forest (TreeNode A) → Forest (TreeNode A)) → change nil ≡ nil
+    → ((f : Forest (TreeNode A)) → NothingOpen f → change f ≡ below_trees change f)
+    → (chain : Forest (TreeNode A)) → paired s (below_trees change chain) ≡ below_trees change (paired s chain)
 
 -- a closer pairs only with a run with which it may pair
 abbrev pub JoinsLaw : Type 0 → Type 0
 JoinsLaw A =
-    (closer : Run) (rs : List (Read A)) (inside : Forest (Label A))
+    (closer : Run) (rs : List (Read A)) (inside : Forest (TreeNode A))
     → IfSome (nearest_opener closer rs inside) (λ f. may_pair f.run closer ≡ true)
 
 -- no open run that is not dropped may pair with a closer
@@ -44,7 +45,7 @@ NonePairs closer (waiting dropped run xs ∷ rs) = (dropped ≡ false → may_pa
 -- no open run that is not dropped may pair with a closer whose search finds nothing
 abbrev pub MissesNoneLaw : Type 0 → Type 0
 MissesNoneLaw A =
-    (closer : Run) (rs : List (Read A)) (inside : Forest (Label A))
+    (closer : Run) (rs : List (Read A)) (inside : Forest (TreeNode A))
     → IfNone (nearest_opener closer rs inside) (NonePairs closer rs)
 
 -- a run, and its byte offset
@@ -66,19 +67,20 @@ further (Some r) = r.run.length - 1
 abbrev pub no_run : {A : Type 0} → A → Option RunAt
 no_run a = None
 
--- a chain in which the tag of each character of a run is that run, and no other label, at any depth, has a tag; the
+-- a chain in which the note of each character of a run is that run, and no other node, at any depth, has a note; the
 -- first `more` trees continue the run `before`
-abbrev pub with_runs : {A : Type 0} → Setting → ℕ → Option RunAt → Forest (Label A) → Forest (Label (Option RunAt))
+abbrev pub with_runs : {A : Type 0} → Setting → ℕ → Option RunAt → Forest (TreeNode A) → Forest (TreeNode
+    (Option RunAt))
 with_runs s more before nil = nil
 with_runs s (suc more) before (node a below after) =
-    node (retag (λ _. before) a) (retagged no_run below) (with_runs s more before after)
+    node (annotate (λ _. before) a) (annotated no_run below) (with_runs s more before after)
 with_runs s zero before (node a below after) =
     let here : Option RunAt = run_at a.part.range.start (run_of s.text a.part) in
-    node (retag (λ _. here) a) (retagged no_run below) (with_runs s (further here) here after)
+    node (annotate (λ _. here) a) (annotated no_run below) (with_runs s (further here) here after)
 
--- a chain without its tags
-abbrev pub without_tags : {A : Type 0} → Forest (Label A) → Forest Plain
-without_tags chain = retagged (λ _. tt) chain
+-- a chain without its notes
+abbrev pub without_notes : {A : Type 0} → Forest (TreeNode A) → Forest Plain
+without_notes chain = annotated (λ _. tt) chain
 
 -- the run of a tree that is a character that remained text
 abbrev pub run_if_text : Shape → Option RunAt → Option RunAt
@@ -86,8 +88,8 @@ run_if_text (leaf e origins) r = r
 run_if_text other r = None
 
 -- the run of a character that remained text
-abbrev pub kept_run : Label (Option RunAt) → Option RunAt
-kept_run a = run_if_text a.part.shape a.tag
+abbrev pub kept_run : TreeNode (Option RunAt) → Option RunAt
+kept_run a = run_if_text a.part.shape a.note
 
 -- the delimiters whose runs a failed search can drop
 abbrev pub is_tilde_or_caret : Delimiter → Bool
@@ -104,43 +106,44 @@ DoNotPair (Some p) (Some q) =
 DoNotPair _ _ = ⊤
 
 -- this holds for one run and each run that has a character in a chain
-abbrev pub NonePairsLater : (earlier : Option RunAt) → Forest (Label (Option RunAt)) → Type 0
+abbrev pub NonePairsLater : (earlier : Option RunAt) → Forest (TreeNode (Option RunAt)) → Type 0
 NonePairsLater r nil = ⊤
 NonePairsLater r (node a below after) = DoNotPair r (kept_run a) × NonePairsLater r after
 
 -- this holds for any two runs that have characters in the same chain, at any depth
-abbrev pub NoneMissed : Forest (Label (Option RunAt)) → Type 0
+abbrev pub NoneMissed : Forest (TreeNode (Option RunAt)) → Type 0
 NoneMissed chain = Throughout (λ a below after. NonePairsLater (kept_run a) after) chain
 
 -- pairing misses no pair: of two runs that may pair and both keep characters, some pair encloses those of one and not
 -- those of the other. Having the runs as tags changes nothing else
 abbrev pub NoneMissedLaw : Type 0 → Type 0
 NoneMissedLaw A =
-    (s : Setting) (chain : Forest (Label A))
+    (s : Setting) (chain : Forest (TreeNode A))
     → NoneMissed (paired s (with_runs s 0 None chain))
-    × (without_tags (paired s (with_runs s 0 None chain)) ≡ without_tags (paired s chain))
+    × (without_notes (paired s (with_runs s 0 None chain)) ≡ without_notes (paired s chain))
 
--- each label that is made has the block of a label of the chain, and is not open: so a test that such labels pass holds
--- for each label at every depth, if it held before
+-- each node that is made has the block of a node of the chain, and is not open: so a test that such nodes pass holds
+-- for each node at every depth, if it held before
 abbrev pub KeepsLaw : Type 0 → Type 0
 KeepsLaw A =
-    (passes : Label A → Bool)
-    → ((a b : Label A) → passes a ≡ true → b.part.block ≡ a.part.block → is_unresolved b.part.shape ≡ false
+    (passes : TreeNode A → Bool)
+    → ((a b : TreeNode A) → passes a ≡ true → b.part.block ≡ a.part.block → is_unresolved b.part.shape ≡ false
     → passes b ≡ true)
-    → (s : Setting) (chain : Forest (Label A))
+    → (s : Setting) (chain : Forest (TreeNode A))
     → Each (λ a. passes a ≡ true) chain → Each (λ a. passes a ≡ true) (paired s chain)
 
 -- a chain whose first tree reads as more than what is below it begins with an event once it is paired
 abbrev pub PairingBeginsLaw : Type 0 → Type 0
 PairingBeginsLaw A =
-    (s : Setting) (a : Label A) (below after : Forest (Label A)) → is_plain a.part.shape ≡ false
+    (s : Setting) (a : TreeNode A) (below after : Forest (TreeNode A)) → is_plain a.part.shape ≡ false
     → Begins (paired s (node a below after))
 
 -- pairing does not increase the weight of a chain
 abbrev pub PairingWeightLaw : Type 0 → Type 0
-PairingWeightLaw A = (s : Setting) (chain : Forest (Label A)) → weight (paired s chain) ≤ weight chain
+PairingWeightLaw A = (s : Setting) (chain : Forest (TreeNode A)) → weight (paired s chain) ≤ weight chain
 
--- pairing does not depend on tags
-abbrev pub PairingTagLaw : Type 0 → Type 0 → Type 0
-PairingTagLaw A B =
-    (f : A → B) (s : Setting) (chain : Forest (Label A)) → paired s (retagged f chain) ≡ retagged f (paired s chain)
+-- pairing does not depend on notes
+abbrev pub PairingNoteLaw : Type 0 → Type 0 → Type 0
+PairingNoteLaw A B =
+    (f : A → B) (s : Setting) (chain : Forest (TreeNode A)) → paired s (annotated f chain) ≡ annotated f
+    (paired s chain)

@@ -4,7 +4,7 @@ use Rattle.markdown_base.specs.Bytes.{apostrophe, backslash}
 use Rattle.markdown_base.specs.Event.{text}
 use Rattle.markdown_base.specs.Forest.{Forest, nil, node}
 use Rattle.markdown_base.specs.declared.item.ItemBody.TheVariants as body
-use Rattle.markdown_document.specs.Document.{Shape, leaf, backslash_break, unresolved, Label, shaped, inlined}
+use Rattle.markdown_document.specs.Document.{Shape, leaf, backslash_break, unresolved, TreeNode, shaped, inlined}
 use Rattle.markdown_delims.specs.declared.quotes.Kind.{Kind}
 use Rattle.markdown_delims.specs.declared.quotes.Kind.TheVariants as kind
 
@@ -42,7 +42,7 @@ closes_later (kind.Single opens closes) later = if closes then true else if open
 closes_later _ later = later
 
 -- whether it is closed in the chain after it
-abbrev pub is_closed_later : {A : Type 0} → Forest (Label A) → Bool
+abbrev pub is_closed_later : {A : Type 0} → Forest (TreeNode A) → Bool
 is_closed_later nil = false
 is_closed_later (node a below after) = closes_later (kind_of_shape a.part.shape) (is_closed_later after)
 
@@ -79,17 +79,17 @@ turn_by kind.Break shape single double later last =
 turn_by kind.Other shape single double later last = record { made = shape; single = single; double = double }
 
 -- what a chain's first tree becomes
-abbrev pub first_turn : {A : Type 0} → Label A → Forest (Label A) → (single double : Bool) → QuoteTurn
+abbrev pub first_turn : {A : Type 0} → TreeNode A → Forest (TreeNode A) → (single double : Bool) → QuoteTurn
 first_turn a after single double =
     turn_by (kind_of_shape a.part.shape) a.part.shape single double (is_closed_later after) (is_end after)
 
 -- a chain with its quotes replaced, after a remembered `'` or an open `"` or neither
-abbrev pub quotes_after : {A : Type 0} → (single double : Bool) → Forest (Label A) → Forest (Label A)
+abbrev pub quotes_after : {A : Type 0} → (single double : Bool) → Forest (TreeNode A) → Forest (TreeNode A)
 quotes_after single double nil = nil
 quotes_after single double (node a below after) =
     node (shaped (first_turn a after single double).made a) below
     (quotes_after (first_turn a after single double).single (first_turn a after single double).double after)
 
 -- a chain with its quotes and its last break replaced
-unfoldable pub with_quotes : {A : Type 0} → Forest (Label A) → Forest (Label A)
+unfoldable pub with_quotes : {A : Type 0} → Forest (TreeNode A) → Forest (TreeNode A)
 with_quotes chain = quotes_after false false chain

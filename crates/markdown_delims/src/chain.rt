@@ -11,7 +11,7 @@ ghost use Rattle.markdown_delims.specs.ChainReading.{PaysForRuns};
 ghost use Rattle.markdown_delims.specs.PairedChain.{CanPair, PairsChain};
 ghost use Rattle.markdown_document.specs.Counts.{RisesAtLeast, RisesAtMost, comparisons_per_delimiter, risen};
 
-use crate::marks::{Marks, Source};
+use crate::extensions::{Extensions, Source};
 use crate::open_runs::OpenRuns;
 use crate::quotes::quote_chain;
 use crate::read::read_tree;
@@ -22,7 +22,7 @@ use markdown_document::work::Work;
 use std::alloc::AllocError;
 
 /// Pairs the delimiter runs of the chain from `first` on, before which no run is open; `count` is the number of their
-/// characters. The error is a refused allocation, after which the chain may be in any state.
+/// characters.
 fn pair_runs(
     tree: &mut Tree<Item>,
     openers: &mut OpenRuns,
@@ -31,15 +31,15 @@ fn pair_runs(
     count: u64,
 ) -> Result<(), AllocError>
     requires emptied { IsEmptied openers.old }
-    requires chain { CanPairAll source.marks source.text.now tree.old.nodes first count
+    requires chain { CanPairAll source.extensions source.text.now tree.old.nodes first count
         openers.old }
-    ensures pairs { OnOk result (PairsRuns source.entry.marks source.entry.text.now
+    ensures pairs { OnOk result (PairsRuns source.entry.extensions source.entry.text.now
         tree.old tree.new first count) }
-    ensures found { OnOk result (CountsFinds source.entry.marks source.entry.text.now
+    ensures found { OnOk result (CountsFinds source.entry.extensions source.entry.text.now
         tree.old.nodes first count openers.old openers.new) }
 
     // whatever comes
-    ensures paid { PaysForRuns source.entry.marks source.entry.text.now tree.old.nodes first
+    ensures paid { PaysForRuns source.entry.extensions source.entry.text.now tree.old.nodes first
         count openers.old openers.new }
 {
     if count == 0 {
@@ -101,7 +101,7 @@ pub fn pair_chain(
     open_runs.clear();
     let marked = Source {
         text: source.text.as_bytes(),
-        marks: Marks::of_options(source.options),
+        extensions: Extensions::of_options(source.options),
     };
     let delimiters = quote_chain(tree, first);
     let done = pair_runs(tree, open_runs, marked, first, delimiters);

@@ -1,10 +1,10 @@
 //! Closers: a closer pairs as long as it has characters left and finds an opener.
 ghost use Rattle.std.specs.Prelude.{◌≡◌, ◌+◌, ◌^◌, ◌<◌, ◌≤◌, ℕ, Option, IfOk};
 ghost use Rattle.markdown_document.specs.Counts.{comparisons_per_delimiter};
-ghost use Rattle.markdown_delims.specs.declared.marks.Marks.{Marks as MarksValue};
+ghost use Rattle.markdown_delims.specs.declared.extensions.Extensions.{Extensions as MarksValue};
 ghost use Rattle.markdown_delims.specs.ChainStanding.{CanRead, Keeps, ReadsRun};
 
-use crate::marks::Marks;
+use crate::extensions::Extensions;
 use crate::open_runs::OpenRuns;
 use crate::pair::pair;
 use crate::run::Characters;
@@ -13,7 +13,7 @@ use markdown_base::tree::Tree;
 use std::alloc::AllocError;
 
 /// Opens what is left of a run, if the run can open. Returns the number of the run's last node, and the link to what
-/// follows that. The error is a refused allocation.
+/// follows that.
 fn keep(
     tree: &Tree<Item>,
     openers: &mut OpenRuns,
@@ -42,15 +42,15 @@ fn keep(
 pub fn read_run(
     tree: &mut Tree<Item>,
     openers: &mut OpenRuns,
-    marks: Marks,
+    extensions: Extensions,
     met: Characters,
     last: Option<usize>,
 ) -> Result<(Option<usize>, Option<usize>), AllocError>
     requires some { 0 < met.count }
     requires room { openers.old.potential + comparisons_per_delimiter < 2 ^ 128 }
-    requires stands { CanRead marks met last tree.old openers.old.runs }
+    requires stands { CanRead extensions met last tree.old openers.old.runs }
     ensures ok { IfOk result (λ r.
-        ReadsRun marks met last tree.old tree.new openers.old openers.new r.0 r.1) }
+        ReadsRun extensions met last tree.old tree.new openers.old openers.new r.0 r.1) }
     ensures paid { openers.new.potential ≤ openers.old.potential + comparisons_per_delimiter }
 {
     if !met.run.can_close {
@@ -59,7 +59,7 @@ pub fn read_run(
     let mut closer = met;
     let mut before = last;
     'turns: while let Some(opener) = openers.take_nearest(&closer.run) {
-        let (root, rest) = pair(tree, marks, opener, closer, before.unwrap());
+        let (root, rest) = pair(tree, extensions, opener, closer, before.unwrap());
         if closer.count < opener.count {
             let left = Characters {
                 count: opener.count - closer.count,

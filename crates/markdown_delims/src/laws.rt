@@ -3,7 +3,7 @@ ghost use Rattle.std.specs.Prelude.{ℕ, ⊤};
 ghost use Rattle.markdown_delims.specs.JoinedRuns.{JoinedLaw};
 ghost use Rattle.markdown_delims.specs.NestedPairs.{NestLaw};
 ghost use Rattle.markdown_delims.specs.PairingLaws.{PairingClosedLaw, PairingOrderLaw, JoinsLaw, MissesNoneLaw, NoneMissedLaw};
-ghost use Rattle.markdown_delims.specs.PairingLaws.{KeepsLaw, PairingBeginsLaw, PairingWeightLaw, PairingTagLaw};
+ghost use Rattle.markdown_delims.specs.PairingLaws.{KeepsLaw, PairingBeginsLaw, PairingWeightLaw, PairingNoteLaw};
 
 /// States that pairing leaves nothing of its chain open.
 pub fn pairing_leaves_nothing_open()
@@ -41,7 +41,7 @@ pub fn none_is_missed()
     ensures { NoneMissedLaw ℕ × NoneMissedLaw ⊤ }
 {}
 
-/// States that each label that is made has the block of a label of the chain, and is not open.
+/// States that each node that is made has the block of a node of the chain, and is not open.
 pub fn pairing_keeps_blocks()
     ensures { KeepsLaw ℕ × KeepsLaw ⊤ }
 {}
@@ -57,6 +57,6 @@ pub fn paired_chain_is_no_heavier()
 {}
 
 /// States that pairing does not depend on the numbers of nodes.
-pub fn tags_say_nothing()
-    ensures { PairingTagLaw ℕ ⊤ }
+pub fn notes_say_nothing()
+    ensures { PairingNoteLaw ℕ ⊤ }
 {}

@@ -3,7 +3,7 @@ ghost use Rattle.std.specs.Prelude.{◌≡◌, ◌+◌, ◌<◌, length};
 ghost use Rattle.markdown_base.specs.BlockTree.{item_at};
 ghost use Rattle.markdown_delims.specs.Enclosing.{CanEnclose, EnclosesAll};
 
-use crate::marks::Marks;
+use crate::extensions::Extensions;
 use crate::nodes::put_node;
 use crate::run::Characters;
 use markdown_base::item::{Item, ItemBody};
@@ -30,14 +30,14 @@ fn spanned(tree: &Tree<Item>, opener: usize, closer: usize, body: ItemBody) -> I
 /// outermost node. Returns that node's number, and the link to what follows it.
 pub fn enclose(
     tree: &mut Tree<Item>,
-    marks: Marks,
+    extensions: Extensions,
     opener: Characters,
     closer: Characters,
 ) -> (usize, Option<usize>)
     requires some_open { 0 < opener.count }
     requires some_close { 0 < closer.count }
-    requires stands { CanEnclose marks opener closer tree.old }
-    ensures { EnclosesAll marks opener closer tree.old tree.new result.0 result.1 }
+    requires stands { CanEnclose extensions opener closer tree.old }
+    ensures { EnclosesAll extensions opener closer tree.old tree.new result.0 result.1 }
 {
     let delimiter = opener.run.delimiter;
     let mut opener = opener;
@@ -46,7 +46,12 @@ pub fn enclose(
     let mut inner = tree.next(opener.number + (opener.count - 1));
     'layers: while left > 2 {
         let root = opener.number + (opener.count - 2);
-        let item = spanned(tree, root, closer.number + 1, marks.layer_of_two(delimiter));
+        let item = spanned(
+            tree,
+            root,
+            closer.number + 1,
+            extensions.layer_of_two(delimiter),
+        );
         put_node(tree, root, item, inner, None);
         inner = Some(root);
         opener.count -= 2;
@@ -57,13 +62,18 @@ pub fn enclose(
     if left == 2 {
         let root = opener.number + (opener.count - 2);
         let end = closer.number + 1;
-        let item = spanned(tree, root, end, marks.layer_of_two(delimiter));
+        let item = spanned(tree, root, end, extensions.layer_of_two(delimiter));
         let rest = tree.next(end);
         put_node(tree, root, item, inner, rest);
         (root, rest)
     } else {
         let root = opener.number + (opener.count - 1);
-        let item = spanned(tree, root, closer.number, marks.layer_of_one(delimiter));
+        let item = spanned(
+            tree,
+            root,
+            closer.number,
+            extensions.layer_of_one(delimiter),
+        );
         let rest = tree.next(closer.number);
         put_node(tree, root, item, inner, rest);
         (root, rest)

@@ -5,9 +5,9 @@
 mod bounds;
 pub mod chain;
 mod close;
+mod extensions;
 pub mod laws;
 mod layers;
-mod marks;
 mod nodes;
 pub mod open_runs;
 mod pair;

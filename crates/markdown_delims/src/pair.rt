@@ -2,8 +2,8 @@
 ghost use Rattle.std.specs.Prelude.{◌<◌};
 ghost use Rattle.markdown_delims.specs.ChainStanding.{CanPair, Pairs};
 
+use crate::extensions::Extensions;
 use crate::layers::enclose;
-use crate::marks::Marks;
 use crate::nodes::lead_on;
 use crate::run::Characters;
 use markdown_base::item::Item;
@@ -14,16 +14,16 @@ use markdown_base::tree::Tree;
 /// node before the closer. Returns the number of the outermost of these nodes, and the link to what follows it.
 pub fn pair(
     tree: &mut Tree<Item>,
-    marks: Marks,
+    extensions: Extensions,
     opener: Characters,
     closer: Characters,
     last: usize,
 ) -> (usize, Option<usize>)
     requires some_open { 0 < opener.count }
     requires some_close { 0 < closer.count }
-    requires stands { CanPair marks opener closer last tree.old }
-    ensures { Pairs marks opener closer last tree.old tree.new result.0 result.1 }
+    requires stands { CanPair extensions opener closer last tree.old }
+    ensures { Pairs extensions opener closer last tree.old tree.new result.0 result.1 }
 {
     lead_on(tree, last, None);
-    enclose(tree, marks, opener, closer)
+    enclose(tree, extensions, opener, closer)
 }

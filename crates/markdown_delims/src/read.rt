@@ -1,10 +1,10 @@
 //! Reading a chain, tree by tree.
 ghost use Rattle.std.specs.Prelude.{◌<◌, IfErr, IfOk};
-ghost use Rattle.markdown_delims.specs.ChainReading.{CanSettle, Settles, CanReadTree, PaysForTree};
+ghost use Rattle.markdown_delims.specs.ChainReading.{CanMakeLiteral, MakesLiteral, CanReadTree, PaysForTree};
 ghost use Rattle.markdown_delims.specs.ChainReading.{ReadsTree};
 
 use crate::close::read_run;
-use crate::marks::{Source, run_of};
+use crate::extensions::{Source, run_of};
 use crate::nodes::put_body;
 use crate::open_runs::OpenRuns;
 use crate::run::Characters;
@@ -13,11 +13,11 @@ use markdown_base::tree::Tree;
 use std::alloc::AllocError;
 
 /// Turns the characters of a run into Texts.
-fn settle_run(tree: &mut Tree<Item>, met: Characters)
-    requires stands { CanSettle met tree.old }
-    ensures { Settles met tree.old tree.new }
+fn make_run_literal(tree: &mut Tree<Item>, met: Characters)
+    requires stands { CanMakeLiteral met tree.old }
+    ensures { MakesLiteral met tree.old tree.new }
 {
-    'settle: for i in 0..met.count {
+    'make_literal: for i in 0..met.count {
         put_body(
             tree,
             met.number + i,
@@ -37,9 +37,9 @@ pub fn read_tree(
     ix: usize,
     last: Option<usize>,
 ) -> Result<(Option<usize>, Option<usize>), AllocError>
-    requires stands { CanReadTree source.marks source.text.now ix last tree.old openers.old }
+    requires stands { CanReadTree source.extensions source.text.now ix last tree.old openers.old }
     ensures ok { IfOk result (λ r.
-        ReadsTree source.entry.marks source.entry.text.now ix last tree.old tree.new
+        ReadsTree source.entry.extensions source.entry.text.now ix last tree.old tree.new
         openers.old openers.new r.0 r.1) }
     ensures paid { IfErr result (λ _.
         PaysForTree source.entry.text.now ix last tree.old openers.old openers.new) }
@@ -53,8 +53,8 @@ pub fn read_tree(
                 number: ix,
                 count: run.length,
             };
-            settle_run(tree, met);
-            read_run(tree, openers, source.marks, met, last)
+            make_run_literal(tree, met);
+            read_run(tree, openers, source.extensions, met, last)
         }
     }
 }

@@ -13,7 +13,7 @@ use Rattle.markdown_base.specs.declared.item.Item.{Item}
 use Rattle.markdown_base.specs.declared.item.ItemBody.{ItemBody}
 use Rattle.markdown_base.specs.declared.node.Node.{Node}
 use Rattle.markdown_base.proofs.ArenaForestLemmas.{height, height-followed, forest_at-fits}
-use Rattle.markdown_document.specs.Places.{label_at, trees_from, origin_start}
+use Rattle.markdown_document.specs.Places.{tree_node_at, trees_from, origin_start}
 use Rattle.markdown_document.specs.PlacedNodes.{IsSameAt, HasSlices, IsPlaced}
 use Rattle.markdown_document.specs.Totals.{total, same, weight_at}
 use Rattle.markdown_document.specs.NamedEntries.{naming, times_named, Named, some_text, some_link, some_alignments}
@@ -74,10 +74,10 @@ slices-same source tables tables' start end other h p = tt
 
 pub label-same : (source : List ℕ) (tables tables' : Tables) (nodes nodes' : List (Node Item)) (n : ℕ)
     → Stays tables tables' nodes nodes' n
-    → label_at source tables' nodes' n ≡ label_at source tables nodes n
+    → tree_node_at source tables' nodes' n ≡ tree_node_at source tables nodes n
 label-same source tables tables' nodes nodes' n h =
     rw h.at.item (ap (λ shape. let a : Plain = record {
-      tag = tt;
+      note = tt;
       part = record {
         shape = shape;
         range = range_of (item_at nodes n);
@@ -156,7 +156,7 @@ placed_same source tables tables' nodes nodes' l (node ix below after) s z h p =
 
 relabelled_same : (source : List ℕ) (tables tables' : Tables) (nodes nodes' : List (Node Item)) (f : Forest ℕ)
     → Each (Stays tables tables' nodes nodes') f
-    → relabelled (label_at source tables' nodes') f ≡ relabelled (label_at source tables nodes) f
+    → relabelled (tree_node_at source tables' nodes') f ≡ relabelled (tree_node_at source tables nodes) f
 relabelled_same source tables tables' nodes nodes' nil h = refl
 relabelled_same source tables tables' nodes nodes' (node ix below after) h =
     rw (

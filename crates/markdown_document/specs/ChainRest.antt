@@ -1,4 +1,4 @@
--- A chain of labels as the rules read it: each label as an item, and what is left of a chain past a byte offset where
+-- A chain of nodes as the rules read it: each node as an item, and what is left of a chain past a byte offset where
 -- something that was found ends.
 use Rattle.std.specs.Prelude.{ℕ, ◌-◌, Bool, false, ◌==◌, max, List, ◌∷◌, drop, Option, Some, None}
 use Rattle.std.specs.Prelude.{if◌then◌else◌, nat_le}
@@ -8,14 +8,14 @@ use Rattle.markdown_base.specs.Forest.{Forest, nil, node}
 use Rattle.markdown_base.specs.declared.item.Item.{Item}
 use Rattle.markdown_base.specs.declared.item.ItemBody.{ItemBody}
 use Rattle.markdown_base.specs.declared.item.ItemBody.TheVariants as body
-use Rattle.markdown_document.specs.Document.{Origin, sliced, Shape, leaf, unresolved, Label}
+use Rattle.markdown_document.specs.Document.{Origin, sliced, Shape, leaf, unresolved, TreeNode}
 
--- where a label's range starts
-abbrev pub start_of : {A : Type 0} → Label A → ℕ
+-- where a node's range starts
+abbrev pub start_of : {A : Type 0} → TreeNode A → ℕ
 start_of a = a.part.range.start
 
--- where a label's range ends
-abbrev pub end_of : {A : Type 0} → Label A → ℕ
+-- where a node's range ends
+abbrev pub end_of : {A : Type 0} → TreeNode A → ℕ
 end_of a = a.part.range.end
 
 -- one chain after another
@@ -28,12 +28,12 @@ abbrev pub open_body : Shape → ItemBody
 open_body (unresolved b) = b
 open_body other = body.Text false
 
--- a label as an item
-abbrev pub as_item : {A : Type 0} → Label A → Item
+-- a node as an item
+abbrev pub as_item : {A : Type 0} → TreeNode A → Item
 as_item a = record { start = start_of a; end = end_of a; body = open_body a.part.shape }
 
 -- there is a next item, and it starts at byte offset i
-abbrev pub next_starts_at : {A : Type 0} → ℕ → Forest (Label A) → Bool
+abbrev pub next_starts_at : {A : Type 0} → ℕ → Forest (TreeNode A) → Bool
 next_starts_at i nil = false
 next_starts_at i (node a below after) = start_of a == i
 
@@ -63,10 +63,10 @@ abbrev pub cut_shape : ℕ → Shape → Shape
 cut_shape n (leaf e origins) = leaf (cut_event n e origins) origins
 cut_shape n other = other
 
--- a label without its bytes before byte offset i
-abbrev pub begun_at : {A : Type 0} → ℕ → Label A → Label A
+-- a node without its bytes before byte offset i
+abbrev pub begun_at : {A : Type 0} → ℕ → TreeNode A → TreeNode A
 begun_at i a = record {
-  tag = a.tag;
+  note = a.note;
   part = record {
     shape = cut_shape (i - start_of a) a.part.shape;
     range = record { start = max (start_of a) i; end = end_of a };
@@ -74,13 +74,13 @@ begun_at i a = record {
   };
 }
 
--- what is left of a chain past byte offset i: labels that end there or before are left out, and the first that is left
+-- what is left of a chain past byte offset i: nodes that end there or before are left out, and the first that is left
 -- loses its bytes before it
-abbrev pub past_byte : {A : Type 0} → ℕ → Forest (Label A) → Forest (Label A)
+abbrev pub past_byte : {A : Type 0} → ℕ → Forest (TreeNode A) → Forest (TreeNode A)
 past_byte i nil = nil
 past_byte i (node a below after) = if nat_le (end_of a) i then past_byte i after else node (begun_at i a) below after
 
 -- what is left of a chain past the offset where what was found ends; where nothing was found, the whole chain
-abbrev pub past : {A : Type 0} → Option ℕ → Forest (Label A) → Forest (Label A)
+abbrev pub past : {A : Type 0} → Option ℕ → Forest (TreeNode A) → Forest (TreeNode A)
 past None chain = chain
 past (Some i) chain = past_byte i chain

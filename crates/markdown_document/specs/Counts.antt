@@ -4,7 +4,7 @@ use Rattle.markdown_document.specs.declared.work.Work.{Work}
 use Rattle.markdown_base.specs.declared.item.ItemBody.TheVariants as body
 use Rattle.markdown_base.specs.Forest.{Forest, nil, node}
 use Rattle.markdown_base.specs.declared.item.ItemBody.{ItemBody}
-use Rattle.markdown_document.specs.Document.{Shape, unresolved, Label}
+use Rattle.markdown_document.specs.Document.{Shape, unresolved, TreeNode}
 
 -- the numbers of items of a chain from its first open item on, of delimiter characters that are left in it when pairing
 -- begins, and of searches for an opener that find one then
@@ -58,6 +58,6 @@ counts_shape (unresolved b) = counts_delimiter b
 counts_shape other = 0
 
 -- the number of delimiter characters of a chain
-abbrev pub delimiters_in : {A : Type 0} → Forest (Label A) → ℕ
+abbrev pub delimiters_in : {A : Type 0} → Forest (TreeNode A) → ℕ
 delimiters_in nil = 0
 delimiters_in (node a below after) = counts_shape a.part.shape + delimiters_in after

@@ -36,21 +36,21 @@ pub record Part : Type 0 where
   pub range : Range ℕ
   pub block : Option ItemBody
 
--- a label of a document's tree: a part, with a tag that no rule reads
-pub record Label (A : Type 0) : Type 0 where
-  pub tag : A
+-- a node of a document's tree: a part, with a note that no rule reads, such as the number of the node in an arena
+pub record TreeNode (A : Type 0) : Type 0 where
+  pub note : A
   pub part : Part
 
--- a label with another shape
-abbrev pub shaped : {A : Type 0} → Shape → Label A → Label A
-shaped shape a = record { tag = a.tag; part = record { shape = shape; range = a.part.range; block = a.part.block } }
+-- a node with another shape
+abbrev pub shaped : {A : Type 0} → Shape → TreeNode A → TreeNode A
+shaped shape a = record { note = a.note; part = record { shape = shape; range = a.part.range; block = a.part.block } }
 
 -- a Text of these bytes of the source
 abbrev pub text_over : List ℕ → Shape
 text_over source = leaf (event.text source) (sliced ∷ [])
 
--- a Text over the label's range
-abbrev pub as_text : {A : Type 0} → List ℕ → Label A → Label A
+-- a Text over the node's range
+abbrev pub as_text : {A : Type 0} → List ℕ → TreeNode A → TreeNode A
 as_text source a = shaped (text_over (slice_range source a.part.range.start a.part.range.end)) a
 
 -- the marker is that of an ordered list: it ends with `.` or `)` (CommonMark 5.2)
@@ -134,22 +134,22 @@ part_of source tables item = record {
   block = block_of item.body;
 }
 
--- a label without a tag
+-- a node without a note
 abbrev pub Plain : Type 0
-Plain = Label (Unit {0})
+Plain = TreeNode (Unit {0})
 
--- the label of an item, without a tag
-abbrev pub label_of : List ℕ → Tables → Item → Plain
-label_of source tables item = record { tag = tt; part = part_of source tables item }
+-- the node of an item, without a note
+abbrev pub tree_node_of : List ℕ → Tables → Item → Plain
+tree_node_of source tables item = record { note = tt; part = part_of source tables item }
 
--- the tags of the nodes that are made: of the first, the second, and so on
-pub record Tags (A : Type 0) : Type 0 where
-  pub fresh : ℕ → A
+-- the notes of the nodes that resolving makes without an item: of the first, the second, and so on
+pub record Notes (A : Type 0) : Type 0 where
+  pub of_made : ℕ → A
 
--- no tags
-abbrev pub plain_tags : Tags (Unit {0})
-plain_tags = record { fresh = λ n. tt }
+-- no notes
+abbrev pub no_notes : Notes (Unit {0})
+no_notes = record { of_made = λ n. tt }
 
 -- the tree of a document: its blocks, and in them its chains, which may be open
 abbrev pub document : List ℕ → Tables → List (Node Item) → Forest Plain
-document source tables nodes = relabelled (λ n. label_of source tables n.item) (tree_of nodes)
+document source tables nodes = relabelled (λ n. tree_node_of source tables n.item) (tree_of nodes)

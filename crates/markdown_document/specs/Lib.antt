@@ -5,11 +5,11 @@ pub mod LinkTitle
 pub mod LinkOrigins
 pub mod Tables
 pub mod Document
-pub mod Above
+pub mod EnclosingBlocks
 pub mod Waiting
 pub mod Counts
--- the terms of laws on labels
-pub mod Labels
+-- the terms of laws on nodes
+pub mod TreeNodes
 pub mod ChainRest
 -- the representation: the items of an arena, by the numbers of its nodes
 pub mod Totals
@@ -18,4 +18,4 @@ pub mod ItemRules
 pub mod Places
 pub mod PlacedNodes
 pub mod PlacedOneWay
-pub mod Stages
+pub mod ResolverStates

@@ -5,17 +5,17 @@ use Rattle.markdown_base.specs.Bytes.{pipe}
 use Rattle.markdown_base.specs.Forest.{Forest, relabelled}
 use Rattle.markdown_base.specs.declared.item.Item.{Item}
 use Rattle.markdown_base.specs.declared.node.Node.{Node}
-use Rattle.markdown_document.specs.Document.{Plain, label_of}
+use Rattle.markdown_document.specs.Document.{Plain, tree_node_of}
 use Rattle.markdown_document.specs.Tables.{Tables}
 use Rattle.std.specs.Prelude.{ℕ, zero, suc, Bool, false, List, Option, ◌==◌, if◌then◌else◌, slice_index}
 
--- the label of the node with this number
-abbrev pub label_at : List ℕ → Tables → List (Node Item) → ℕ → Plain
-label_at source tables nodes ix = label_of source tables (item_at nodes ix)
+-- the node of the node with this number
+abbrev pub tree_node_at : List ℕ → Tables → List (Node Item) → ℕ → Plain
+tree_node_at source tables nodes ix = tree_node_of source tables (item_at nodes ix)
 
 -- the trees from a link on
 abbrev pub trees_from : List ℕ → Tables → List (Node Item) → Option ℕ → Forest Plain
-trees_from source tables nodes link = relabelled (label_at source tables nodes) (forest_at (links_of nodes) link)
+trees_from source tables nodes link = relabelled (tree_node_at source tables nodes) (forest_at (links_of nodes) link)
 
 -- a pipe precedes this byte offset
 abbrev pub follows_pipe : List ℕ → ℕ → Bool

@@ -44,9 +44,9 @@ use_count (Some footnote) = footnote.use_count
 abbrev pub uses_of : FootnoteDefs → List ℕ → ℕ
 uses_of footnotes name = use_count (footnote_at footnotes name)
 
--- what is known when a chain is reached: how many bytes references may still expand to, the answers of the callback
+-- the state of references when a chain is reached: how many bytes they may still expand to, the answers of the callback
 -- that are still to come, and how often each footnote was used, by its name
-pub record Known : Type 0 where
+pub record ReferenceState : Type 0 where
   pub limit : ℕ
   pub answers : Answers
   pub uses : List ℕ → ℕ

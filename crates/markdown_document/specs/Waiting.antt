@@ -2,7 +2,7 @@
 use Rattle.std.specs.Prelude.{ℕ, Bool, true, false, List}
 use Rattle.markdown_base.specs.Item.{body_kind, is_delimiter_kind}
 use Rattle.markdown_base.specs.declared.item.ItemBody.{ItemBody}
-use Rattle.markdown_document.specs.Document.{Shape, unresolved, Label, is_unresolved, as_text}
+use Rattle.markdown_document.specs.Document.{Shape, unresolved, TreeNode, is_unresolved, as_text}
 
 -- pairing decides about the item: it is a character of a delimiter run, or a quotation mark
 abbrev pub waits_for_pairing : ItemBody → Bool
@@ -13,11 +13,11 @@ abbrev pub is_quiet : Shape → Bool
 is_quiet (unresolved b) = waits_for_pairing b
 is_quiet other = true
 
--- a Text over the label's range where the condition is true, and otherwise the label as it was
-abbrev pub text_if : {A : Type 0} → Bool → List ℕ → Label A → Label A
+-- a Text over the node's range where the condition is true, and otherwise the node as it was
+abbrev pub text_if : {A : Type 0} → Bool → List ℕ → TreeNode A → TreeNode A
 text_if true source a = as_text source a
 text_if false source a = a
 
--- a label that is not open: an open one becomes a Text
-abbrev pub as_closed : {A : Type 0} → List ℕ → Label A → Label A
+-- a node that is not open: an open one becomes a Text
+abbrev pub as_closed : {A : Type 0} → List ℕ → TreeNode A → TreeNode A
 as_closed source a = text_if (is_unresolved a.part.shape) source a

@@ -3,7 +3,7 @@ use Rattle.std.proofs.Common.{◌≡◌, ℕ, List, [], ◌∷◌, ◌++◌, ref
 use Rattle.std.specs.declared.ops.Range.{Range}
 use Rattle.markdown_base.specs.Event.{EventView, start, end, tag_end}
 use Rattle.markdown_base.specs.Forest.{Forest, nil, node}
-use Rattle.markdown_document.specs.Document.{Shape, leaf, enclosed, plain, backslash_break, unresolved, Label}
+use Rattle.markdown_document.specs.Document.{Shape, leaf, enclosed, plain, backslash_break, unresolved, TreeNode}
 use Rattle.markdown_delims.proofs.SumLemmas.{sum_of}
 use Rattle.markdown_inline.specs.Balanced.{Ranged, Awaited, EndsInTurn, AreBalanced, AreBalancedFrom, BalancedLaw}
 use Rattle.markdown_inline.specs.ResolvedDocument.{resolved_blocks}
@@ -41,7 +41,7 @@ goes_on backslash_break range es fs lone inside after awaited rest h = after awa
 goes_on (unresolved b) range es fs lone inside after awaited rest h = after awaited rest h
 
 -- the events of a forest do so
-balanced_in : {A : Type 0} (f : Forest (Label A)) → sum_of alone f ≡ 0 → Goes (ranged_in f)
+balanced_in : {A : Type 0} (f : Forest (TreeNode A)) → sum_of alone f ≡ 0 → Goes (ranged_in f)
 balanced_in nil lone awaited rest h = h
 balanced_in (node a below later) lone awaited rest h =
     goes_on a.part.shape a.part.range (ranged_in below) (ranged_in later) (omega (arith, lone))

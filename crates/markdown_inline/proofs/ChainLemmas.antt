@@ -11,8 +11,8 @@ use Rattle.markdown_base.specs.ArenaForest.{Links, links_of, forest_at}
 use Rattle.markdown_base.specs.ArenaWalk.{AllReach}
 use Rattle.markdown_base.specs.BlockTree.{item_at}
 use Rattle.markdown_base.specs.Questions.{Question, Answer, Answers}
-use Rattle.markdown_document.specs.Above.{Above, above_at, no_blocks}
-use Rattle.markdown_document.specs.Setting.{Known, Setting}
+use Rattle.markdown_document.specs.EnclosingBlocks.{EnclosingBlocks, above_at, no_blocks}
+use Rattle.markdown_document.specs.Setting.{ReferenceState, Setting}
 use Rattle.markdown_inline.specs.Elements.{Element, question, Reading, Passage, nothing_read, then_reads}
 use Rattle.markdown_base.specs.Event.{start, end, tag_end, hard_break}
 use Rattle.markdown_base.specs.Forest.{Forest, nil, node}
@@ -21,21 +21,21 @@ use Rattle.markdown_base.specs.declared.item.Item.{Item}
 use Rattle.markdown_base.specs.declared.item.ItemBody.{ItemBody}
 use Rattle.markdown_base.specs.declared.node.Node.{Node}
 use Rattle.markdown_base.proofs.ArenaForestLemmas.{opens}
-use Rattle.markdown_document.specs.Stages.{Stage, known_at, chain_at, times_in}
+use Rattle.markdown_document.specs.ResolverStates.{ResolverState, state_at, chain_at, times_in}
 use Rattle.markdown_resolver.specs.Chains.{AreAbove, ResolvesFrom, CanResolve, StopsIn}
 use Rattle.markdown_inline.specs.Moves.{BeginsWithEvent}
-use Rattle.markdown_inline.specs.Reading.{reading_opened, settled_reading, then_resolved, chain_reading, reading}
+use Rattle.markdown_inline.specs.Reading.{reading_opened, closed_reading, then_resolved, chain_reading, reading}
 use Rattle.markdown_inline.specs.Walk.{after_chain, left_of}
-use Rattle.markdown_document.specs.Places.{label_at, trees_from}
+use Rattle.markdown_document.specs.Places.{tree_node_at, trees_from}
 use Rattle.markdown_document.specs.PlacedNodes.{IsPlaced}
 use Rattle.markdown_resolver.specs.PassOne.{Outcome}
 use Rattle.markdown_resolver.specs.Resolved.{resolved, all_paired}
-use Rattle.markdown_document.specs.Document.{plain_tags, Plain, Shape, leaf, enclosed, plain, backslash_break}
+use Rattle.markdown_document.specs.Document.{no_notes, Plain, Shape, leaf, enclosed, plain, backslash_break}
 use Rattle.markdown_document.specs.Document.{unresolved, is_unresolved}
 use Rattle.markdown_document.specs.Document.{shape_of}
-use Rattle.markdown_document.specs.Labels.{GivesFirst, Begins}
+use Rattle.markdown_document.specs.TreeNodes.{GivesFirst, Begins}
 use Rattle.markdown_resolver.specs.Unread.{IsUnread}
-use Rattle.markdown_resolver.specs.KeptChains.{IsSettled}
+use Rattle.markdown_resolver.specs.KeptChains.{IsClosedChain}
 use Rattle.markdown_document.specs.Totals.{same}
 use Rattle.markdown_document.specs.NamedEntries.{naming, Named, number_of, size_for}
 use Rattle.markdown_document.specs.Tables.{Tables}
@@ -45,9 +45,9 @@ use Rattle.markdown_document.proofs.PlaceLemmas.{times-past, named-past, shape-o
 use Rattle.markdown_inline.specs.WalkTotals.{climbed, left_total, steps_of}
 use Rattle.markdown_inline.specs.Standing.{SpineLies, Stands}
 use Rattle.markdown_inline.proofs.LeftFrameLemmas.{AboveFramed, above_framed}
-use Rattle.markdown_inline.proofs.ReadingLemmas.{SameElements, reading-settled, opened-open}
+use Rattle.markdown_inline.proofs.ReadingLemmas.{SameElements, reading-literal, opened-open}
 use Rattle.markdown_document.proofs.TablesLemmas.{same-refl}
-use Rattle.markdown_resolver.proofs.ResolvingLemmas.{resolved-settled, resolved-begins, IsKept-from_IsSettled}
+use Rattle.markdown_resolver.proofs.ResolvingLemmas.{resolved-literal, resolved-begins, IsKept-from_IsClosedChain}
 
 pub times_above-past : (k : Links) (p : ℕ → Type 0) (spine : List ℕ) (n : ℕ) → AllReach k p spine → k.size ≤ n
     → climbed (same n) (same n) k spine ≡ 0
@@ -79,35 +79,37 @@ gives-closed : (tables : Tables) (source : List ℕ) (b : ItemBody) (is : Bool) 
 gives-closed tables source b true e g = absurd (rw (shape-open tables source b e) at g)
 gives-closed tables source b false e g = refl
 
-opened-begins : (shape : Shape) (range : Range ℕ) (inside : Reading → Reading) (after whole : Reading) (known : Known)
+opened-begins : (shape : Shape) (range : Range ℕ) (inside : Reading → Reading) (after whole : Reading)
+    (state : ReferenceState)
     → GivesFirst shape
-    → BeginsWithEvent (reading_opened shape range inside after whole known)
-opened-begins (leaf e origins) range inside after whole known h = record
-    { first = (e, range, origins); rest = after known; is = refl }
-opened-begins (enclosed tag) range inside after whole known h = record {
+    → BeginsWithEvent (reading_opened shape range inside after whole state)
+opened-begins (leaf e origins) range inside after whole state h = record
+    { first = (e, range, origins); rest = after state; is = refl }
+opened-begins (enclosed tag) range inside after whole state h = record {
   first = (start tag, range, []);
   rest =
-      inside (then_reads (end (tag_end tag), range, []) after) known;
+      inside (then_reads (end (tag_end tag), range, []) after) state;
   is = refl;
 }
-opened-begins plain range inside after whole known h = absurd h
-opened-begins backslash_break range inside after whole known h = record
-    { first = (hard_break, range, []); rest = after known; is = refl }
-opened-begins (unresolved b) range inside after whole known h = absurd h
+opened-begins plain range inside after whole state h = absurd h
+opened-begins backslash_break range inside after whole state h = record
+    { first = (hard_break, range, []); rest = after state; is = refl }
+opened-begins (unresolved b) range inside after whole state h = absurd h
 
-reading-begins : (f : Forest Plain) (s : Setting) (above : Above) (after : Reading) (known : Known) → Begins f
-    → BeginsWithEvent (reading s plain_tags above f after known)
-reading-begins nil s above after known h = absurd h
-reading-begins (node a below later) s above after known h = opened-begins a.part.shape a.part.range _ _ _ known h
+reading-begins : (f : Forest Plain) (s : Setting) (above : EnclosingBlocks) (after : Reading)
+    (state : ReferenceState) → Begins f
+    → BeginsWithEvent (reading s no_notes above f after state)
+reading-begins nil s above after state h = absurd h
+reading-begins (node a below later) s above after state h = opened-begins a.part.shape a.part.range _ _ _ state h
 
 -- from one state to another a chain was resolved
 pub record ChainMoves (s : Setting) (tables tables' : Tables) (nodes nodes' : List (Node Item)) (first : ℕ)
     (spine : List ℕ)
-    (before now : Answers → Known) (questions : List Question) (answers : Answers) : Type 0 where
+    (before now : Answers → ReferenceState) (questions : List Question) (answers : Answers) : Type 0 where
   pub stands : Stands s.text tables' nodes' (Some first) spine
   pub left : (later : Answers) → (left_of s tables nodes (Some first) spine (before (answers ++ later))).elements
       ≡ map question questions ++ (left_of s tables' nodes' (Some first) spine (now later)).elements
-  pub begins : (known : Known) → BeginsWithEvent (left_of s tables' nodes' (Some first) spine known)
+  pub begins : (state : ReferenceState) → BeginsWithEvent (left_of s tables' nodes' (Some first) spine state)
   pub falls : steps_of nodes' (Some first) spine < steps_of nodes (Some first) spine
 
 -- numbers above are those of nodes, and entries that are referred to there are in the tables
@@ -126,9 +128,9 @@ above_named source tables nodes spine n r l = ⊎_elim (λ h. h)
 
 -- what is above a chain stays when the chain is resolved
 above_chain : {C : Type 0} (step : C → Question → Option Answer → C → Type 0) (s : Setting) (first : ℕ) (spine : List ℕ)
-    (old new : Stage C)
+    (old new : ResolverState C)
     → Stands s.text old.tables old.nodes (Some first) spine
-    → ResolvesFrom step s.text (resolved s plain_tags (above_at s.text old.nodes spine)) (Some first) old new
+    → ResolvesFrom step s.text (resolved s no_notes (above_at s.text old.nodes spine)) (Some first) old new
     → AboveFramed s old.tables new.tables old.nodes new.nodes spine
 unfolding left_total
 above_chain step s first spine old new w r =
@@ -188,30 +190,31 @@ are_above source tables nodes first spine w = nodes_above source (links_of nodes
     refl w.walk.above w.spine_lies w.once
 
 -- what is left before a chain, where its first item is open
-pub chain_left : (s : Setting) (tables : Tables) (nodes : List (Node Item)) (first : ℕ) (spine : List ℕ) (known : Known)
+pub chain_left : (s : Setting) (tables : Tables) (nodes : List (Node Item)) (first : ℕ) (spine : List ℕ)
+    (state : ReferenceState)
     → Stands s.text tables nodes (Some first) spine → is_open (item_at nodes first).body ≡ true
-    → left_of s tables nodes (Some first) spine known ≡ chain_reading s plain_tags (above_at s.text nodes spine)
+    → left_of s tables nodes (Some first) spine state ≡ chain_reading s no_notes (above_at s.text nodes spine)
     (trees_from s.text tables nodes (Some first)) (after_chain s (no_blocks s.text) tables nodes spine nothing_read)
-    known
+    state
 unfolding left_of
-chain_left s tables nodes first spine known w e =
+chain_left s tables nodes first spine state w e =
     let o = opens (links_of nodes) (IsPlaced s.text tables nodes) first w.walk.here in
     let open_shape = shape-open tables (slice_range s.text (item_at nodes first).start (item_at nodes first).end)
     (item_at nodes first).body
     e in
     let blocks = above_at s.text nodes spine in
     let after = after_chain s (no_blocks s.text) tables nodes spine nothing_read in
-    let whole : reading s plain_tags blocks (trees_from s.text tables nodes (Some first)) after
-    ≡ chain_reading s plain_tags blocks (trees_from s.text tables nodes (Some first)) after =
-    rw o.here (opened-open (label_at s.text tables nodes first).part.shape _ _ _ _ (ap is_unresolved open_shape)) in
-    ap (λ (x : Reading). x known) whole
+    let whole : reading s no_notes blocks (trees_from s.text tables nodes (Some first)) after
+    ≡ chain_reading s no_notes blocks (trees_from s.text tables nodes (Some first)) after =
+    rw o.here (opened-open (tree_node_at s.text tables nodes first).part.shape _ _ _ _ (ap is_unresolved open_shape)) in
+    ap (λ (x : Reading). x state) whole
 
 pub moves_chain : {C : Type 0} (step : C → Question → Option Answer → C → Type 0) (s : Setting) (first : ℕ)
     (spine : List ℕ)
-    (old new : Stage C)
+    (old new : ResolverState C)
     → Stands s.text old.tables old.nodes (Some first) spine → is_open (item_at old.nodes first).body ≡ true
-    → (r : ResolvesFrom step s.text (resolved s plain_tags (above_at s.text old.nodes spine)) (Some first) old new)
-    → ChainMoves s old.tables new.tables old.nodes new.nodes first spine (known_at old) (known_at new) r.questions
+    → (r : ResolvesFrom step s.text (resolved s no_notes (above_at s.text old.nodes spine)) (Some first) old new)
+    → ChainMoves s old.tables new.tables old.nodes new.nodes first spine (state_at old) (state_at new) r.questions
     r.answers
 unfolding left_of left_total
 moves_chain step s first spine old new w e r =
@@ -225,20 +228,20 @@ moves_chain step s first spine old new w e r =
     let chain = trees_from s.text old.tables old.nodes (Some first) in
     let blocks = above_at s.text old.nodes spine in
     let after = after_chain s (no_blocks s.text) old.tables old.nodes spine nothing_read in
-    let settled : IsSettled made = rw (r.resolves []) at
-    (resolved-settled s plain_tags blocks chain (known_at old (r.answers ++ []))
+    let literal : IsClosedChain made = rw (r.resolves []) at
+    (resolved-literal s no_notes blocks chain (state_at old (r.answers ++ []))
     ready.quiet_below) in
     let begins : Begins made =
     rw (rw o.here at (r.resolves [])) at
-    (resolved-begins s plain_tags blocks (label_at s.text old.tables old.nodes first)
+    (resolved-begins s no_notes blocks (tree_node_at s.text old.tables old.nodes first)
     (trees_from s.text old.tables old.nodes (child_of old.nodes first))
-    (trees_from s.text old.tables old.nodes (sibling_of old.nodes first)) (known_at old (r.answers ++ []))
+    (trees_from s.text old.tables old.nodes (sibling_of old.nodes first)) (state_at old (r.answers ++ []))
     (ap is_unresolved open_shape)) in
     let after' = after_chain s (no_blocks s.text) new.tables new.nodes spine nothing_read in
-    let now : SameElements (reading s plain_tags (above_at s.text new.nodes spine) made after')
-    (settled_reading (all_paired s made) after) =
+    let now : SameElements (reading s no_notes (above_at s.text new.nodes spine) made after')
+    (closed_reading (all_paired s made) after) =
     rw (above.blocks (no_blocks s.text), above.around (no_blocks s.text) nothing_read)
-    (reading-settled s blocks made after settled) in
+    (reading-literal s blocks made after literal) in
     let n = opens (links_of new.nodes) (IsPlaced s.text new.tables new.nodes) first r.changes.reaches in
     let item = item_at new.nodes first in
     let closed : is_open item.body ≡ false = gives-closed new.tables (slice_range s.text item.start item.end) item.body
@@ -259,16 +262,16 @@ moves_chain step s first spine old new w e r =
             = r.changes.named_once n
             in omega arith)
             (cases_lt (number_of n) (size_for old.tables n)));
-        here_kept = IsKept-from_IsSettled made settled;
+        here_kept = IsKept-from_IsClosedChain made literal;
         above_kept = above.kept;
         spine_lies = above.lies;
       };
       left = λ later.
-          let known = known_at old (r.answers ++ later) in
-          ap (λ (x : Passage). x.elements) (chain_left s old.tables old.nodes first spine known w e)
+          let state = state_at old (r.answers ++ later) in
+          ap (λ (x : Passage). x.elements) (chain_left s old.tables old.nodes first spine state w e)
           ∙ rw (r.resolves later)
-          (ap (λ (es : List Element). map question r.questions ++ es) (sym (now (known_at new later))));
-      begins = λ known. reading-begins made s (above_at s.text new.nodes spine) after' known begins;
+          (ap (λ (es : List Element). map question r.questions ++ es) (sym (now (state_at new later))));
+      begins = λ state. reading-begins made s (above_at s.text new.nodes spine) after' state begins;
       falls = rw (above.steps, closed, e) (let x = r.changes.no_heavier in omega arith);
     }
 
@@ -276,23 +279,23 @@ more_questions : (s : Setting) (r : Outcome (Unit {0})) (after : Reading) (quest
     → r.questions ≡ questions ++ others
     → (es : List Element) × (then_resolved s r after ≡ map question questions ++ es)
 more_questions s r after questions others e = (
-  map question others ++ (settled_reading (all_paired s r.forest) after r.known).elements,
+  map question others ++ (closed_reading (all_paired s r.forest) after r.state).elements,
   rw e
       (simp (map-append, append_assoc)),
 )
 
 -- where memory is refused on the way, what was left begins with the questions asked
 pub stops_chain : {C : Type 0} (step : C → Question → Option Answer → C → Type 0) (s : Setting) (first : ℕ)
-    (spine : List ℕ) (old : Stage C)
+    (spine : List ℕ) (old : ResolverState C)
     (d : Option C) (work work' : Work)
     → Stands s.text old.tables old.nodes (Some first) spine → is_open (item_at old.nodes first).body ≡ true
     → (r : StopsIn step s (above_at s.text old.nodes spine) first old d work work')
     → (later : Answers) → (others : List Element)
-    × ((left_of s old.tables old.nodes (Some first) spine (known_at old (r.answers ++ later))).elements
+    × ((left_of s old.tables old.nodes (Some first) spine (state_at old (r.answers ++ later))).elements
     ≡ map question r.questions ++ others)
 stops_chain step s first spine old d work work' w e r later =
     let b = r.begins later in
-    let known = known_at old (r.answers ++ later) in
-    rw (chain_left s old.tables old.nodes first spine known w e)
-    (more_questions s (resolved s plain_tags (above_at s.text old.nodes spine) (chain_at s.text old (Some first)) known)
+    let state = state_at old (r.answers ++ later) in
+    rw (chain_left s old.tables old.nodes first spine state w e)
+    (more_questions s (resolved s no_notes (above_at s.text old.nodes spine) (chain_at s.text old (Some first)) state)
     (after_chain s (no_blocks s.text) old.tables old.nodes spine nothing_read) r.questions b.0 b.1)

@@ -17,15 +17,16 @@ use Rattle.markdown_base.specs.declared.item.ItemBody.{ItemBody}
 use Rattle.markdown_base.specs.declared.item.ItemBody.TheVariants as body
 use Rattle.markdown_base.specs.declared.node.Node.{Node}
 use Rattle.markdown_base.specs.declared.tag.TagEnd.{TagEnd}
-use Rattle.markdown_document.specs.Above.{Above, above_at, inside_item, inside_label, no_blocks}
+use Rattle.markdown_document.specs.EnclosingBlocks.{EnclosingBlocks, above_at, inside_item, inside_node, no_blocks}
 use Rattle.markdown_document.specs.Counts.{ChainCounts, RisesAtMost, WorkRises, comparisons_per_delimiter, no_counts}
 use Rattle.markdown_document.specs.Counts.{risen, counts_delimiter, counts_shape, delimiters_in}
-use Rattle.markdown_document.specs.Document.{Label, Plain, Shape, Tags, backslash_break, enclosed, is_unresolved, leaf}
-use Rattle.markdown_document.specs.Document.{plain, plain_tags}
+use Rattle.markdown_document.specs.Document.{TreeNode, Plain, Shape, Notes, backslash_break, enclosed, is_unresolved}
+use Rattle.markdown_document.specs.Document.{leaf}
+use Rattle.markdown_document.specs.Document.{plain, no_notes}
 use Rattle.markdown_document.specs.Document.{shape_of, unresolved}
-use Rattle.markdown_document.specs.Labels.{weight}
-use Rattle.markdown_document.specs.Places.{label_at, trees_from}
-use Rattle.markdown_document.specs.Setting.{Known, Setting}
+use Rattle.markdown_document.specs.TreeNodes.{weight}
+use Rattle.markdown_document.specs.Places.{tree_node_at, trees_from}
+use Rattle.markdown_document.specs.Setting.{ReferenceState, Setting}
 use Rattle.markdown_document.specs.Tables.{Tables, tables_of}
 use Rattle.markdown_document.specs.Totals.{total, weight_at, weight_if}
 use Rattle.markdown_document.specs.declared.work.Work.{Work}
@@ -36,7 +37,7 @@ use Rattle.markdown_resolver.proofs.PassOneLemmas.{pass_one-weight}
 use Rattle.markdown_inline.specs.CountsLaw.{AreBelowGreatest, Calls, CountsLaw, RisesPlainly}
 use Rattle.markdown_inline.specs.Elements.{Placed, Passage, Reading, nothing_read}
 use Rattle.markdown_inline.specs.NextGives.{NextGives, IsEventOf, IsPlacedOf}
-use Rattle.markdown_inline.specs.ParserLeft.{no_work, parser_counts, parser_known, parser_setting, parser_steps}
+use Rattle.markdown_inline.specs.ParserLeft.{no_work, parser_counts, parser_state, parser_setting, parser_steps}
 use Rattle.markdown_inline.specs.ParserLeft.{parser_work}
 use Rattle.markdown_inline.specs.Reading.{chain_reading, reading, reading_opened}
 use Rattle.markdown_inline.specs.Walk.{after_chain, end_of_body, ended, left_of}
@@ -55,7 +56,7 @@ few-more : (n : ChainCounts) (most more : ℕ) → most ≤ more → AreFew n mo
 few-more n most more l h = record { items = omega (arith, l, h.items); delimiters = omega (arith, l, h.delimiters) }
 
 -- a chain weighs at least as much as it has items
-roots-few : {A : Type 0} (f : Forest (Label A)) → length (roots f) ≤ weight f
+roots-few : {A : Type 0} (f : Forest (TreeNode A)) → length (roots f) ≤ weight f
 roots-few nil = omega arith
 roots-few (node a below after) = omega (arith, roots-few after, some_weight (is_unresolved a.part.shape))
 
@@ -71,47 +72,50 @@ shape-few plain = omega arith
 shape-few backslash_break = omega arith
 shape-few (unresolved b) = omega (arith, counted-once b)
 
-delimiters-few : {A : Type 0} (f : Forest (Label A)) → delimiters_in f ≤ weight f
+delimiters-few : {A : Type 0} (f : Forest (TreeNode A)) → delimiters_in f ≤ weight f
 delimiters-few nil = omega arith
 delimiters-few (node a below after) = omega (arith, shape-few a.part.shape, delimiters-few after)
 
 -- so the counts of a chain are few
-chain-few : {A : Type 0} (s : Setting) (tags : Tags A) (above : Above) (chain : Forest (Label A)) (known : Known)
-    → AreFew (chain_counts s tags above chain known) (weight chain)
-chain-few s tags above chain known = record {
+chain-few : {A : Type 0} (s : Setting) (notes : Notes A) (above : EnclosingBlocks) (chain : Forest (TreeNode A))
+    (state : ReferenceState)
+    → AreFew (chain_counts s notes above chain state) (weight chain)
+chain-few s notes above chain state = record {
   items = roots-few chain;
   delimiters = omega (
     arith,
-    delimiters-few (pass_one s tags above chain known).forest,
-    pass_one-weight s tags above chain known,
+    delimiters-few (pass_one s notes above chain state).forest,
+    pass_one-weight s notes above chain state,
   );
 }
 
 -- and so are those before the first event of a forest
-opened-few : (shape : Shape) (range : Range ℕ) (inside : Reading → Reading) (after whole : Reading) (known : Known)
+opened-few : (shape : Shape) (range : Range ℕ) (inside : Reading → Reading) (after whole : Reading)
+    (state : ReferenceState)
     (most : ℕ)
-    → AreFew (inside after known).counts most → AreFew (whole known).counts most
-    → AreFew (reading_opened shape range inside after whole known).counts most
-opened-few (leaf e origins) range inside after whole known most i c = few-none most
-opened-few (enclosed tag) range inside after whole known most i c = few-none most
-opened-few plain range inside after whole known most i c = i
-opened-few backslash_break range inside after whole known most i c = few-none most
-opened-few (unresolved b) range inside after whole known most i c = c
+    → AreFew (inside after state).counts most → AreFew (whole state).counts most
+    → AreFew (reading_opened shape range inside after whole state).counts most
+opened-few (leaf e origins) range inside after whole state most i c = few-none most
+opened-few (enclosed tag) range inside after whole state most i c = few-none most
+opened-few plain range inside after whole state most i c = i
+opened-few backslash_break range inside after whole state most i c = few-none most
+opened-few (unresolved b) range inside after whole state most i c = c
 
-reading-few : (s : Setting) (above : Above) (f : Forest Plain) (after : Reading) (known : Known) (most : ℕ)
-    → AreFew (after known).counts most → AreFew (reading s plain_tags above f after known).counts (weight f + most)
-reading-few s above nil after known most h = few-more (after known).counts most (0 + most) (omega arith) h
-reading-few s above (node a below later) after known most h =
-    let rest : Reading = reading s plain_tags above later after in
-    let inside : Reading → Reading = λ inner. reading s plain_tags (inside_label a above) below inner in
-    let chain : Reading = chain_reading s plain_tags above (node a below later) after in
+reading-few : (s : Setting) (above : EnclosingBlocks) (f : Forest Plain) (after : Reading) (state : ReferenceState)
+    (most : ℕ)
+    → AreFew (after state).counts most → AreFew (reading s no_notes above f after state).counts (weight f + most)
+reading-few s above nil after state most h = few-more (after state).counts most (0 + most) (omega arith) h
+reading-few s above (node a below later) after state most h =
+    let rest : Reading = reading s no_notes above later after in
+    let inside : Reading → Reading = λ inner. reading s no_notes (inside_node a above) below inner in
+    let chain : Reading = chain_reading s no_notes above (node a below later) after in
     let all = weight (node a below later) + most in
-    opened-few a.part.shape a.part.range inside rest chain known all
-    (few-more (inside rest known).counts (weight below + (weight later + most)) all (omega arith)
-    (reading-few s (inside_label a above) below rest known (weight later + most)
-    (reading-few s above later after known most h)))
-    (few-more (chain known).counts (weight (node a below later)) all (omega arith)
-    (chain-few s plain_tags above (node a below later) known))
+    opened-few a.part.shape a.part.range inside rest chain state all
+    (few-more (inside rest state).counts (weight below + (weight later + most)) all (omega arith)
+    (reading-few s (inside_node a above) below rest state (weight later + most)
+    (reading-few s above later after state most h)))
+    (few-more (chain state).counts (weight (node a below later)) all (omega arith)
+    (chain-few s no_notes above (node a below later) state))
 
 -- an item waits where it is open
 open-same : (tables : Tables) (source : List ℕ) (b : ItemBody) → is_unresolved (shape_of tables source b) ≡ is_open b
@@ -128,7 +132,7 @@ open-same tables source b = by (is_open b) refl
 
 -- the weight of a forest is that of its nodes
 weight-placed : (source : List ℕ) (tables : Tables) (nodes : List (Node Item)) (f : Forest ℕ)
-    → weight (relabelled (label_at source tables nodes) f) ≡ total (weight_at nodes) f
+    → weight (relabelled (tree_node_at source tables nodes) f) ≡ total (weight_at nodes) f
 weight-placed source tables nodes nil = refl
 weight-placed source tables nodes (node ix below after) =
     let item = item_at nodes ix in
@@ -139,54 +143,55 @@ weight-placed source tables nodes (node ix below after) =
       weight-placed source tables nodes after,
     )
 
-ended-few : (e : Option TagEnd) (range : Range ℕ) (after : Reading) (known : Known) (most : ℕ)
-    → AreFew (after known).counts most
-    → AreFew (ended e range after known).counts most
-ended-few None range after known most h = h
-ended-few (Some e) range after known most h = few-none most
+ended-few : (e : Option TagEnd) (range : Range ℕ) (after : Reading) (state : ReferenceState) (most : ℕ)
+    → AreFew (after state).counts most
+    → AreFew (ended e range after state).counts most
+ended-few None range after state most h = h
+ended-few (Some e) range after state most h = few-none most
 
-after-few : (s : Setting) (above : Above) (tables : Tables) (nodes : List (Node Item)) (spine : List ℕ)
+after-few : (s : Setting) (above : EnclosingBlocks) (tables : Tables) (nodes : List (Node Item)) (spine : List ℕ)
     (after : Reading)
-    (known : Known) (most : ℕ) → AreFew (after known).counts most
-    → AreFew (after_chain s above tables nodes spine after known).counts
+    (state : ReferenceState) (most : ℕ) → AreFew (after state).counts most
+    → AreFew (after_chain s above tables nodes spine after state).counts
     (climbed (λ ix. 1) (weight_at nodes) (links_of nodes) spine + most)
-after-few s above tables nodes [] after known most h = few-more (after known).counts most (0 + most) (omega arith) h
-after-few s above tables nodes (ix ∷ deeper) after known most h =
+after-few s above tables nodes [] after state most h = few-more (after state).counts most (0 + most) (omega arith) h
+after-few s above tables nodes (ix ∷ deeper) after state most h =
     let trees = trees_from s.text tables nodes (sibling_of nodes ix) in
-    let here : Reading = reading s plain_tags above trees after in
+    let here : Reading = reading s no_notes above trees after in
     let item = item_at nodes ix in
-    let behind : Reading = ended (end_of_body item.body) (range_of item) here in
+    let later : Reading = ended (end_of_body item.body) (range_of item) here in
     let same = weight-placed s.text tables nodes (forest_at (links_of nodes) (sibling_of nodes ix)) in
-    let whole : Passage = after_chain s (inside_item item above) tables nodes deeper behind known in
+    let whole : Passage = after_chain s (inside_item item above) tables nodes deeper later state in
     few-more whole.counts (climbed (λ ix. 1) (weight_at nodes) (links_of nodes) deeper + (weight trees + most))
     (climbed (λ ix. 1) (weight_at nodes) (links_of nodes) (ix ∷ deeper) + most) (omega (arith, same))
-    (after-few s (inside_item item above) tables nodes deeper behind known (weight trees + most)
-    (ended-few (end_of_body item.body) (range_of item) here known (weight trees + most)
-    (reading-few s above trees after known most h)))
+    (after-few s (inside_item item above) tables nodes deeper later state (weight trees + most)
+    (ended-few (end_of_body item.body) (range_of item) here state (weight trees + most)
+    (reading-few s above trees after state most h)))
 
 -- the counts of a walk are few, by the weight of what is left of it
-left-few : (s : Setting) (tables : Tables) (nodes : List (Node Item)) (l : Option ℕ) (spine : List ℕ) (known : Known)
-    → AreFew (left_of s tables nodes l spine known).counts (weight_to_come nodes l spine)
+left-few : (s : Setting) (tables : Tables) (nodes : List (Node Item)) (l : Option ℕ) (spine : List ℕ)
+    (state : ReferenceState)
+    → AreFew (left_of s tables nodes l spine state).counts (weight_to_come nodes l spine)
 unfolding left_of left_total
-left-few s tables nodes l spine known =
+left-few s tables nodes l spine state =
     let trees = trees_from s.text tables nodes l in
     let after : Reading = after_chain s (no_blocks s.text) tables nodes spine nothing_read in
     let blocks = above_at s.text nodes spine in
-    let whole : Passage = reading s plain_tags blocks trees after known in
-    let behind = climbed (λ ix. 1) (weight_at nodes) (links_of nodes) spine in
+    let whole : Passage = reading s no_notes blocks trees after state in
+    let later = climbed (λ ix. 1) (weight_at nodes) (links_of nodes) spine in
     let same = weight-placed s.text tables nodes (forest_at (links_of nodes) l) in
-    few-more whole.counts (weight trees + (behind + 0))
-    (total (weight_at nodes) (forest_at (links_of nodes) l) + behind)
+    few-more whole.counts (weight trees + (later + 0))
+    (total (weight_at nodes) (forest_at (links_of nodes) l) + later)
     (omega (arith, same))
-    (reading-few s blocks trees after known (behind + 0)
-    (after-few s (no_blocks s.text) tables nodes spine nothing_read known 0 (few-none 0)))
+    (reading-few s blocks trees after state (later + 0)
+    (after-few s (no_blocks s.text) tables nodes spine nothing_read state 0 (few-none 0)))
 
 parser-few : {F : Type 0} (p : Parser F) (answers : Answers) → AreFew (parser_counts p answers) (parser_steps p)
 parser-few p answers =
     few-more (parser_counts p answers) (weight_to_come p.tree.nodes p.tree.cursor p.tree.spine) (parser_steps p)
     (omega arith)
     (left-few (parser_setting p) (tables_of p.resolver.lookup.tables) p.tree.nodes p.tree.cursor p.tree.spine
-    (parser_known p answers))
+    (parser_state p answers))
 
 -- counts, with what the steps to come may still add to them, are small
 record Fits (work : Work) (left : ℕ) : Type 0 where

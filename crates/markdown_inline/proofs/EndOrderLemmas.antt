@@ -1,10 +1,10 @@
--- Lists of numbers that a forest's labels have, in the order in which its trees end: what is dropped from such a list,
+-- Lists of numbers that a forest's nodes have, in the order in which its trees end: what is dropped from such a list,
 -- and sums of what stands before each number.
 use Rattle.std.proofs.Common.{◌≡◌, ℕ, ◌+◌, ◌-◌, ◌<◌, ◌≤◌, Bool, true, false, List, [], ◌∷◌, ◌++◌, refl, sym, ap, ◌∙◌}
 use Rattle.std.proofs.Common.{append_assoc, arith}
 use Rattle.std.specs.Prelude.{⊤, if◌then◌else◌}
 use Rattle.markdown_base.specs.Forest.{Forest, nil, node}
-use Rattle.markdown_document.specs.Document.{Shape, Label}
+use Rattle.markdown_document.specs.Document.{Shape, TreeNode}
 use Rattle.markdown_delims.proofs.SumLemmas.{sum_of}
 
 -- the sum of a list
@@ -121,35 +121,35 @@ spent_both a b c ns ms s t = record {
   fits = fits_append a 0 ns ms s.fits (fits_later a b (total ns) 0 (0 + total ns) ms s.left (omega arith) t.fits);
 }
 
--- the numbers of a forest's labels, each when its tree ends, and then others
-abbrev pub ends_onto : {A : Type 0} → (Shape → List ℕ) → Forest (Label A) → List ℕ → List ℕ
+-- the numbers of a forest's nodes, each when its tree ends, and then others
+abbrev pub ends_onto : {A : Type 0} → (Shape → List ℕ) → Forest (TreeNode A) → List ℕ → List ℕ
 ends_onto own nil rest = rest
 ends_onto own (node a below after) rest = ends_onto own below (own a.part.shape ++ ends_onto own after rest)
 
 module _ {A : Type 0} (own : Shape → List ℕ) where
   -- where a list is within another, so it is with the numbers of a forest before both; all of a forest's may be
   -- dropped; what follows stays in order
-  pub ends_mono : (f : Forest (Label A)) (ns ms : List ℕ) → IsWithin ns ms
+  pub ends_mono : (f : Forest (TreeNode A)) (ns ms : List ℕ) → IsWithin ns ms
       → IsWithin (ends_onto own f ns) (ends_onto own f ms)
   ends_mono nil ns ms w = w
   ends_mono (node a below after) ns ms w =
       ends_mono below (own a.part.shape ++ ends_onto own after ns) (own a.part.shape ++ ends_onto own after ms)
       (keep_list (own a.part.shape) (ends_onto own after ns) (ends_onto own after ms) (ends_mono after ns ms w))
 
-  pub ends_drop : (f : Forest (Label A)) (ns ms : List ℕ) → IsWithin ns ms → IsWithin ns (ends_onto own f ms)
+  pub ends_drop : (f : Forest (TreeNode A)) (ns ms : List ℕ) → IsWithin ns ms → IsWithin ns (ends_onto own f ms)
   ends_drop nil ns ms w = w
   ends_drop (node a below after) ns ms w = ends_drop below ns (own a.part.shape ++ ends_onto own after ms)
       (drop_list (own a.part.shape) ns (ends_onto own after ms) (ends_drop after ns ms w))
 
-  pub ends_append : (f : Forest (Label A)) (ns ms : List ℕ) → ends_onto own f (ns ++ ms) ≡ ends_onto own f ns ++ ms
+  pub ends_append : (f : Forest (TreeNode A)) (ns ms : List ℕ) → ends_onto own f (ns ++ ms) ≡ ends_onto own f ns ++ ms
   ends_append nil ns ms = refl
   ends_append (node a below after) ns ms =
       ap (λ (r : List ℕ). ends_onto own below (own a.part.shape ++ r)) (ends_append after ns ms)
       ∙ ap (λ (r : List ℕ). ends_onto own below r) (sym (append_assoc (own a.part.shape) (ends_onto own after ns) ms))
       ∙ ends_append below (own a.part.shape ++ ends_onto own after ns) ms
 
-  -- a sum over the labels, in whichever order
-  pub total_ends : (f : Forest (Label A)) (ns : List ℕ) → total (ends_onto own f ns)
+  -- a sum over the nodes, in whichever order
+  pub total_ends : (f : Forest (TreeNode A)) (ns : List ℕ) → total (ends_onto own f ns)
       ≡ sum_of (λ a. total (own a.part.shape)) f + total ns
   total_ends nil ns = omega arith
   total_ends (node a below after) ns =

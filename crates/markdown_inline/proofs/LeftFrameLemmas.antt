@@ -8,7 +8,7 @@ use Rattle.markdown_base.specs.declared.item.Item.{Item}
 use Rattle.markdown_base.specs.declared.node.Node.{Node}
 use Rattle.markdown_document.specs.PlacedNodes.{IsSameAt, IsPlaced}
 use Rattle.markdown_inline.specs.Walk.{after_chain, left_of}
-use Rattle.markdown_document.specs.Above.{Above, no_blocks, inside_all}
+use Rattle.markdown_document.specs.EnclosingBlocks.{EnclosingBlocks, no_blocks, inside_all}
 use Rattle.markdown_document.specs.Setting.{Setting}
 use Rattle.markdown_document.specs.Totals.{same, weight_at}
 use Rattle.markdown_document.specs.NamedEntries.{naming, Named, IsSameEntry, IsNoShorter}
@@ -30,9 +30,9 @@ pub record AboveFramed (s : Setting) (tables tables' : Tables) (nodes nodes' : L
       ≡ climbed (λ ix. 0) (naming nodes n) (links_of nodes) spine
   pub steps : climbed (λ ix. 1) (weight_at nodes') (links_of nodes') spine
       ≡ climbed (λ ix. 1) (weight_at nodes) (links_of nodes) spine
-  pub around : (above : Above) (after : Reading) → after_chain s above tables' nodes' spine after
+  pub around : (above : EnclosingBlocks) (after : Reading) → after_chain s above tables' nodes' spine after
       ≡ after_chain s above tables nodes spine after
-  pub blocks : (above : Above) → inside_all nodes' spine above ≡ inside_all nodes spine above
+  pub blocks : (above : EnclosingBlocks) → inside_all nodes' spine above ≡ inside_all nodes spine above
 
 pub above_framed : (s : Setting) (tables tables' : Tables) (nodes nodes' : List (Node Item)) (spine : List ℕ)
     → length nodes ≤ length nodes'
@@ -103,5 +103,10 @@ left_framed s tables tables' nodes nodes' l spine z y w h t =
         above_kept = above.kept;
         spine_lies = above.lies;
       };
-      left = rw (here.trees, above.blocks (no_blocks s.text), above.around (no_blocks s.text) nothing_read) refl;
+      left = rw (
+        here.trees,
+        above.blocks (no_blocks s.text),
+        above.around
+            (no_blocks s.text) nothing_read,
+      ) refl;
     }

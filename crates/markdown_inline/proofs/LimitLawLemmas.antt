@@ -1,4 +1,4 @@
--- What the events of a forest list at their Ends are the numbers of its labels, in the order in which its trees end;
+-- What the events of a forest list at their Ends are the numbers of its nodes, in the order in which its trees end;
 -- and where the sums before each are below a limit, all but the last sum to less than the limit.
 use Rattle.std.proofs.Common.{◌≡◌, ℕ, ◌+◌, ◌<◌, ◌≤◌, List, [], ◌∷◌, ◌++◌, refl, sym, subst, append_assoc, append-nil}
 use Rattle.std.proofs.Common.{arith, map}
@@ -6,7 +6,7 @@ use Rattle.std.specs.declared.ops.Range.{Range}
 use Rattle.markdown_base.specs.Event.{EventView, start, end, tag_end}
 use Rattle.markdown_base.specs.Forest.{Forest, nil, node}
 use Rattle.markdown_blocks.specs.Blocks.{text_of_blocks}
-use Rattle.markdown_document.specs.Document.{Shape, leaf, enclosed, plain, backslash_break, unresolved, Label}
+use Rattle.markdown_document.specs.Document.{Shape, leaf, enclosed, plain, backslash_break, unresolved, TreeNode}
 use Rattle.markdown_delims.proofs.SumLemmas.{sum_of}
 use Rattle.markdown_brackets.specs.Lookup.{size_of}
 use Rattle.markdown_inline.specs.Balanced.{Ranged}
@@ -34,11 +34,11 @@ Lists es onto = (opened : List (List ℕ)) (rest : List Ranged)
     → IsWithin (expansions_from opened (es ++ rest)) (onto (expansions_from opened rest))
 
 module _ {A : Type 0} where
-  abbrev ends : Forest (Label A) → List ℕ → List ℕ
+  abbrev ends : Forest (TreeNode A) → List ℕ → List ℕ
   ends f ns = ends_onto expansion_at f ns
 
   -- a tree before others, and a forest
-  tree_lists : (shape : Shape) (range : Range ℕ) (below later : Forest (Label A)) (es fs : List Ranged)
+  tree_lists : (shape : Shape) (range : Range ℕ) (below later : Forest (TreeNode A)) (es fs : List Ranged)
       → total (alone_at shape) ≡ 0
       → Lists es (ends below) → Lists fs (ends later)
       → Lists (opened_events shape range es fs) (λ ns. ends below (expansion_at shape ++ ends later ns))
@@ -72,7 +72,7 @@ module _ {A : Type 0} where
       ends_drop expansion_at below (expansions_from opened (fs ++ rest)) (ends later (expansions_from opened rest))
       (h opened rest)
 
-  lists_in : (f : Forest (Label A)) → sum_of alone f ≡ 0 → Lists (ranged_in f) (ends f)
+  lists_in : (f : Forest (TreeNode A)) → sum_of alone f ≡ 0 → Lists (ranged_in f) (ends f)
   lists_in nil lone opened rest = within_same (expansions_from opened rest)
   lists_in (node a below later) lone opened rest =
       tree_lists a.part.shape a.part.range below later (ranged_in below) (ranged_in later) (omega (arith, lone))

@@ -5,21 +5,21 @@ use Rattle.std.proofs.Common.{arith}
 use Rattle.std.specs.Prelude.{⊤, slice_range}
 use Rattle.markdown_base.specs.Event.{TagView, link}
 use Rattle.markdown_base.specs.Forest.{Forest, nil, node}
-use Rattle.markdown_document.specs.Above.{Above}
-use Rattle.markdown_document.specs.Document.{Tags, Shape, leaf, enclosed, plain, backslash_break, unresolved, Label}
+use Rattle.markdown_document.specs.EnclosingBlocks.{EnclosingBlocks}
+use Rattle.markdown_document.specs.Document.{Notes, Shape, leaf, enclosed, plain, backslash_break, unresolved, TreeNode}
 use Rattle.markdown_document.specs.Document.{shaped, is_unresolved}
 use Rattle.markdown_document.specs.Document.{text_over}
 use Rattle.markdown_document.specs.ChainRest.{open_body}
-use Rattle.markdown_document.specs.Setting.{Setting, Known}
+use Rattle.markdown_document.specs.Setting.{Setting, ReferenceState}
 use Rattle.markdown_document.specs.Waiting.{text_if, is_quiet}
 use Rattle.markdown_spans.specs.AfterLess.{Markup, autolink, html_markup}
 use Rattle.markdown_spans.specs.Finds.{Find, SpanText, code_span, code_trees, find, is_escaped, markup, markup_trees}
 use Rattle.markdown_spans.specs.Finds.{math_span, nothing}
 use Rattle.markdown_spans.specs.Finds.{read_tree, read_unless, trees_for}
-use Rattle.markdown_delims.specs.Layers.{enclosed_if, layer_of_one, layer_of_two, marks_of}
+use Rattle.markdown_delims.specs.Layers.{enclosed_if, layer_of_one, layer_of_two, extensions_of}
 use Rattle.markdown_delims.specs.Pairing.{paired}
 use Rattle.markdown_delims.specs.Quotes.{first_turn, is_closed_later, is_end, kind_of_shape, quotes_after, with_quotes}
-use Rattle.markdown_delims.specs.declared.marks.Marks.{Marks}
+use Rattle.markdown_delims.specs.declared.extensions.Extensions.{Extensions}
 use Rattle.markdown_delims.specs.declared.run.Delimiter.{Delimiter}
 use Rattle.markdown_delims.specs.declared.run.Delimiter.TheVariants.{Star, Underscore, Tilde, Caret}
 use Rattle.markdown_delims.proofs.KeepLemmas.{EachTree, IsReadable, MakesTrees, runs-keep}
@@ -31,7 +31,7 @@ use Rattle.markdown_brackets.specs.NoLinkInLink.{AreFreeTrees, ClosesOverNone, H
 use Rattle.markdown_brackets.specs.NoLinkInLink.{HasNoneBelow, IsFreeOfLinks}
 use Rattle.markdown_brackets.specs.NoLinkInLink.{IsNoLink, OpensNoLink, is_autolink}
 use Rattle.markdown_brackets.proofs.NoLinkLemmas.{no_link_in_link}
-use Rattle.markdown_resolver.specs.PassOne.{around, pass_one, read_other}
+use Rattle.markdown_resolver.specs.PassOne.{bracket_context, pass_one, read_other}
 use Rattle.markdown_resolver.specs.Resolved.{all_paired, paired_from, paired_if_open, resolved}
 use Rattle.markdown_inline.specs.ResolvedShapes.{IsMark}
 use Rattle.markdown_inline.proofs.EndOrderLemmas.{total, total_ends}
@@ -59,12 +59,12 @@ none_if : (b : Bool) → b ≡ true → total (not_autolink b) ≡ 0
 none_if true e = refl
 none_if false e = cc e
 
-free_tag : (tag : TagView) → total (link_of tag) ≡ 0 → OpensNoLink tag
-free_tag (link v) e = free_if (is_autolink v.kind) e
-free_tag other e = tt
+free_note : (tag : TagView) → total (link_of tag) ≡ 0 → OpensNoLink tag
+free_note (link v) e = free_if (is_autolink v.kind) e
+free_note other e = tt
 
 free_shape : (shape : Shape) → total (links_at shape) ≡ 0 → IsNoLink shape
-free_shape (enclosed tag) e = free_tag tag e
+free_shape (enclosed tag) e = free_note tag e
 free_shape other e = tt
 
 none_tag : (tag : TagView) → OpensNoLink tag → total (link_of tag) ≡ 0
@@ -96,10 +96,10 @@ links_numbered = record {
     mark_no_link other h = refl
 
 module _ {A : Type 0} where
-  abbrev links : Forest (Label A) → ℕ
-  links f = sum_of (λ (a : Label A). total (links_at a.part.shape)) f
+  abbrev links : Forest (TreeNode A) → ℕ
+  links f = sum_of (λ (a : TreeNode A). total (links_at a.part.shape)) f
 
-  free_from_count : (f : Forest (Label A)) → links f ≡ 0 → IsFreeOfLinks f
+  free_from_count : (f : Forest (TreeNode A)) → links f ≡ 0 → IsFreeOfLinks f
   free_from_count nil e = tt
   free_from_count (node a below after) e = (
     free_shape a.part.shape (omega (arith, e)),
@@ -108,16 +108,16 @@ module _ {A : Type 0} where
         (omega (arith, e)),
   )
 
-  count_of_free : (f : Forest (Label A)) → IsFreeOfLinks f → links f ≡ 0
+  count_of_free : (f : Forest (TreeNode A)) → IsFreeOfLinks f → links f ≡ 0
   count_of_free nil h = refl
   count_of_free (node a below after) h = omega
       (arith, none_shape a.part.shape h.0, count_of_free below h.1, count_of_free after h.2)
 
   -- so pairing the chains of children leaves it free
-  free_below : (s : Setting) (f : Forest (Label A)) → IsFreeOfLinks f
+  free_below : (s : Setting) (f : Forest (TreeNode A)) → IsFreeOfLinks f
       → IsFreeOfLinks (paired_if_open s (all_paired s f))
   free_below s f h =
-      let paired_below : Forest (Label A) = paired_if_open s (all_paired s f) in
+      let paired_below : Forest (TreeNode A) = paired_if_open s (all_paired s f) in
       let within = below_within links_at links_numbered s f [] in
       free_from_count paired_below (omega (
         arith,
@@ -129,15 +129,15 @@ module _ {A : Type 0} where
       ))
 
   -- a tree: what a link has below it is free, and so on below
-  abbrev IsApart : Label A → Forest (Label A) → Type 0
+  abbrev IsApart : TreeNode A → Forest (TreeNode A) → Type 0
   IsApart a below = HasNoneBelow a.part.shape below × HasNoLinkInLink below
 
-  from_each : (f : Forest (Label A)) → EachTree IsApart f → HasNoLinkInLink f
+  from_each : (f : Forest (TreeNode A)) → EachTree IsApart f → HasNoLinkInLink f
   from_each nil h = tt
   from_each (node a below after) h = (h.0.0, h.0.1, from_each after h.1)
 
   -- a layer is no link
-  enclosed_apart : (b : Bool) (tag : TagView) (other : Shape) (below : Forest (Label A)) → IsNoBracket tag
+  enclosed_apart : (b : Bool) (tag : TagView) (other : Shape) (below : Forest (TreeNode A)) → IsNoBracket tag
       → HasNoneBelow other below
       → HasNoneBelow (enclosed_if b tag other) below
   enclosed_apart true tag other below h k = no_link tag h
@@ -147,14 +147,14 @@ module _ {A : Type 0} where
       no_link other h = tt
   enclosed_apart false tag other below h k = k
 
-  two_apart : (m : Marks) (d : Delimiter) (source : List ℕ) (below : Forest (Label A))
+  two_apart : (m : Extensions) (d : Delimiter) (source : List ℕ) (below : Forest (TreeNode A))
       → HasNoneBelow (layer_of_two m d source) below
   two_apart m Star source below = tt
   two_apart m Underscore source below = tt
   two_apart m Tilde source below = enclosed_apart m.strikethrough _ (text_over source) below tt tt
   two_apart m Caret source below = enclosed_apart m.superscript _ (text_over source) below tt tt
 
-  one_apart : (m : Marks) (d : Delimiter) (source : List ℕ) (below : Forest (Label A))
+  one_apart : (m : Extensions) (d : Delimiter) (source : List ℕ) (below : Forest (TreeNode A))
       → HasNoneBelow (layer_of_one m d source) below
   one_apart m Star source below = tt
   one_apart m Underscore source below = tt
@@ -162,29 +162,30 @@ module _ {A : Type 0} where
       (enclosed_apart m.strikethrough _ (text_over source) below tt tt)
   one_apart m Caret source below = enclosed_apart m.superscript _ (text_over source) below tt tt
 
-  makes_apart : (s : Setting) → MakesTrees s (λ (a : Label A). ⊤) IsApart
+  makes_apart : (s : Setting) → MakesTrees s (λ (a : TreeNode A). ⊤) IsApart
   makes_apart s = record {
     text = λ x h. (nothing_below A x.part.shape, tt);
     one = λ d x v inside h i. (
-      one_apart (marks_of s.rules.options) d (slice_range s.text x.part.range.start v.part.range.end) inside,
+      one_apart (extensions_of s.rules.options) d (slice_range s.text x.part.range.start v.part.range.end) inside,
       from_each inside i,
     );
     two = λ d x v inside h i. (
-      two_apart (marks_of s.rules.options) d (slice_range s.text x.part.range.start v.part.range.end) inside,
+      two_apart (extensions_of s.rules.options) d (slice_range s.text x.part.range.start v.part.range.end) inside,
       from_each inside i,
     );
   }
 
-  closed_apart : (source : List ℕ) (b : Bool) (a : Label A) (below : Forest (Label A)) → HasNoneBelow a.part.shape below
+  closed_apart : (source : List ℕ) (b : Bool) (a : TreeNode A) (below : Forest (TreeNode A))
+      → HasNoneBelow a.part.shape below
       → HasNoneBelow (text_if b source a).part.shape below
   closed_apart source true a below h = tt
   closed_apart source false a below h = h
 
-  quoted_apart : (s : Setting) (single double : Bool) (chain : Forest (Label A)) → HasNoLinkInLink chain
-      → EachTree (IsReadable (λ (a : Label A). ⊤) IsApart s) (quotes_after single double chain)
+  quoted_apart : (s : Setting) (single double : Bool) (chain : Forest (TreeNode A)) → HasNoLinkInLink chain
+      → EachTree (IsReadable (λ (a : TreeNode A). ⊤) IsApart s) (quotes_after single double chain)
   quoted_apart s single double nil h = tt
   quoted_apart s single double (node a below after) h =
-      let quoted : Label A = shaped (first_turn a after single double).made a in
+      let quoted : TreeNode A = shaped (first_turn a after single double).made a in
       let made_apart : HasNoneBelow quoted.part.shape below =
       turn-made (λ shape. HasNoneBelow shape below) (λ c. tt) (kind_of_shape a.part.shape) a.part.shape single double
       (is_closed_later after) (is_end after) h.0 in (
@@ -194,14 +195,14 @@ module _ {A : Type 0} where
       )
 
   -- so pairing puts no link into a link
-  paired_apart : (s : Setting) (chain : Forest (Label A)) → HasNoLinkInLink chain → HasNoLinkInLink (paired s chain)
+  paired_apart : (s : Setting) (chain : Forest (TreeNode A)) → HasNoLinkInLink chain → HasNoLinkInLink (paired s chain)
   unfolding paired with_quotes
   paired_apart s chain h = from_each (paired s chain)
-      (runs-keep (λ (a : Label A). ⊤) IsApart s (makes_apart s) (with_quotes chain)
+      (runs-keep (λ (a : TreeNode A). ⊤) IsApart s (makes_apart s) (with_quotes chain)
       (quoted_apart s false false chain h))
 
   -- chains of children
-  shape_apart : (shape : Shape) (below later : Forest (Label A)) → (IsFreeOfLinks below → IsFreeOfLinks later)
+  shape_apart : (shape : Shape) (below later : Forest (TreeNode A)) → (IsFreeOfLinks below → IsFreeOfLinks later)
       → HasNoneBelow shape below
       → HasNoneBelow shape later
   shape_apart (enclosed (link v)) below later k h = k h
@@ -211,20 +212,20 @@ module _ {A : Type 0} where
   shape_apart backslash_break below later k h = tt
   shape_apart (unresolved b) below later k h = tt
 
-  from_apart : (s : Setting) (is_open : Bool) (a : Label A) (below after later : Forest (Label A))
+  from_apart : (s : Setting) (is_open : Bool) (a : TreeNode A) (below after later : Forest (TreeNode A))
       → HasNoLinkInLink (node a below after)
       → HasNoLinkInLink later → HasNoLinkInLink (paired_from s is_open a below after later)
   from_apart s true a below after later h k = paired_apart s (node a below after) h
   from_apart s false a below after later h k = (h.0, h.1, k)
 
-  if_open_apart : (s : Setting) (f : Forest (Label A)) → HasNoLinkInLink f → HasNoLinkInLink (paired_if_open s f)
+  if_open_apart : (s : Setting) (f : Forest (TreeNode A)) → HasNoLinkInLink f → HasNoLinkInLink (paired_if_open s f)
   if_open_apart s nil h = tt
   if_open_apart s (node a below after) h = from_apart s (is_unresolved a.part.shape) a below after
       (paired_if_open s after) h
       (if_open_apart s after h.2)
 
   -- nor does pairing the chains of children
-  all_apart : (s : Setting) (f : Forest (Label A)) → HasNoLinkInLink f → HasNoLinkInLink (all_paired s f)
+  all_apart : (s : Setting) (f : Forest (TreeNode A)) → HasNoLinkInLink f → HasNoLinkInLink (all_paired s f)
   all_apart s nil h = tt
   all_apart s (node a below after) h = (
     shape_apart a.part.shape below (paired_if_open s (all_paired s below)) (free_below s below) h.0,
@@ -234,38 +235,38 @@ module _ {A : Type 0} where
   )
 
   -- what stands for an item is free of links
-  free_code : (s : Setting) (escaped : Bool) (a : Label A) (t : SpanText) (closer : Label A)
+  free_code : (s : Setting) (escaped : Bool) (a : TreeNode A) (t : SpanText) (closer : TreeNode A)
       → IsFreeOfLinks (code_trees s escaped a t closer)
   free_code s false a t closer = (tt, tt, tt)
   free_code s true a t closer = (tt, tt, (tt, tt, tt))
 
-  free_markup : (s : Setting) (new : A) (a : Label A) (m : Markup) → IsFreeOfLinks (markup_trees s new a m)
+  free_markup : (s : Setting) (new : A) (a : TreeNode A) (m : Markup) → IsFreeOfLinks (markup_trees s new a m)
   free_markup s new a (autolink end uri) = (refl, (tt, tt, tt), tt)
   free_markup s new a (html_markup end None) = (tt, tt, tt)
   free_markup s new a (html_markup end (Some bytes)) = (tt, tt, tt)
 
-  free_find : (s : Setting) (new : A) (a : Label A) (found : Find A) → IsFreeOfLinks (trees_for s new a found)
+  free_find : (s : Setting) (new : A) (a : TreeNode A) (found : Find A) → IsFreeOfLinks (trees_for s new a found)
   free_find s new a (code_span t closer) = free_code s (is_escaped (open_body a.part.shape)) a t closer
   free_find s new a (math_span display t end) = (tt, tt, tt)
   free_find s new a (markup m) = free_markup s new a m
   free_find s new a nothing = (tt, tt, tt)
 
-  free_unless : (quiet : Bool) (s : Setting) (tags : Tags A) (above : Above) (n : ℕ) (a : Label A)
-      (below rest : Forest (Label A))
+  free_unless : (quiet : Bool) (s : Setting) (notes : Notes A) (above : EnclosingBlocks) (n : ℕ) (a : TreeNode A)
+      (below rest : Forest (TreeNode A))
       → IsNoLink a.part.shape → IsFreeOfLinks below
-      → IsFreeOfLinks (read_unless quiet s tags above n a below rest).trees
-  free_unless true s tags above n a below rest h i = (h, i, tt)
-  free_unless false s tags above n a below rest h i = free_find s (tags.fresh n) a (find s above a rest)
+      → IsFreeOfLinks (read_unless quiet s notes above n a below rest).trees
+  free_unless true s notes above n a below rest h i = (h, i, tt)
+  free_unless false s notes above n a below rest h i = free_find s (notes.of_made n) a (find s above a rest)
 
   -- put onto a left list they stand at its right
-  free_more : (a : Label A) (below : Forest (Label A)) (more : List (Entry A)) → AreFreeTrees more
+  free_more : (a : TreeNode A) (below : Forest (TreeNode A)) (more : List (Entry A)) → AreFreeTrees more
       → IsNoLink a.part.shape
       → IsFreeOfLinks below → AreFreeTrees (more ++ done a below ∷ [])
   free_more a below [] f h i = (h, i, tt)
   free_more a below (done b inner ∷ more) f h i = (f.0, f.1, free_more a below more f.2 h i)
   free_more a below (waits m b ∷ more) f h i = absurd f
 
-  put_more : (trees : Forest (Label A)) (left : List (Entry A)) → IsFreeOfLinks trees
+  put_more : (trees : Forest (TreeNode A)) (left : List (Entry A)) → IsFreeOfLinks trees
       → HasMoreTrees left (all_done trees left)
   put_more nil left h = record { more = []; free = tt; grown = refl }
   put_more (node a below after) left h =
@@ -277,29 +278,32 @@ module _ {A : Type 0} where
             ∙ sym (append_assoc r.more (done a below ∷ []) left);
       }
 
-  other_free : (s : Setting) (tags : Tags A) (above : Above) (a : Label A) (below rest : Forest (Label A))
+  other_free : (s : Setting) (notes : Notes A) (above : EnclosingBlocks) (a : TreeNode A) (below rest : Forest
+      (TreeNode A))
       (p : Progress A)
       → IsNoLink a.part.shape → IsFreeOfLinks below
-      → HasMoreTrees p.left (read_other s tags above a below rest p).left
+      → HasMoreTrees p.left (read_other s notes above a below rest p).left
   unfolding read_tree
-  other_free s tags above a below rest p h i =
-      put_more (read_tree s tags above p.made a below rest).trees p.left
-      (free_unless (is_quiet a.part.shape) s tags above p.made a below
+  other_free s notes above a below rest p h i =
+      put_more (read_tree s notes above p.made a below rest).trees p.left
+      (free_unless (is_quiet a.part.shape) s notes above p.made a below
       rest h i)
 
   -- pass one puts no link into a link either, by the law of brackets; nor does the whole
-  pass_one_apart : (s : Setting) (tags : Tags A) (above : Above) (chain : Forest (Label A)) (known : Known)
+  pass_one_apart : (s : Setting) (notes : Notes A) (above : EnclosingBlocks) (chain : Forest (TreeNode A))
+      (state : ReferenceState)
       → IsFreeOfLinks chain
-      → HasNoLinkInLink (pass_one s tags above chain known).forest
+      → HasNoLinkInLink (pass_one s notes above chain state).forest
   unfolding pass_one
-  pass_one_apart s tags above chain known h = no_link_in_link (around s above) (read_other s tags above)
-      (other_free s tags above) chain
-      known h
+  pass_one_apart s notes above chain state h = no_link_in_link (bracket_context s above) (read_other s notes above)
+      (other_free s notes above) chain
+      state h
 
-  pub resolved_apart : (s : Setting) (tags : Tags A) (above : Above) (chain : Forest (Label A)) (known : Known)
+  pub resolved_apart : (s : Setting) (notes : Notes A) (above : EnclosingBlocks) (chain : Forest (TreeNode A))
+      (state : ReferenceState)
       → IsFreeOfLinks chain
-      → HasNoLinkInLink (all_paired s (resolved s tags above chain known).forest)
+      → HasNoLinkInLink (all_paired s (resolved s notes above chain state).forest)
   unfolding resolved
-  resolved_apart s tags above chain known h =
-      let f : Forest (Label A) = (pass_one s tags above chain known).forest in
-      all_apart s (paired s f) (paired_apart s f (pass_one_apart s tags above chain known h))
+  resolved_apart s notes above chain state h =
+      let f : Forest (TreeNode A) = (pass_one s notes above chain state).forest in
+      all_apart s (paired s f) (paired_apart s f (pass_one_apart s notes above chain state h))

@@ -7,7 +7,7 @@ use Rattle.markdown_base.specs.Event.{EventView, TagView, start, end, tag_end, l
 use Rattle.markdown_base.specs.Forest.{Forest, nil, node}
 use Rattle.markdown_base.specs.declared.tag.LinkType.{LinkType}
 use Rattle.markdown_base.specs.declared.tag.LinkType.TheVariants as kind
-use Rattle.markdown_document.specs.Document.{Shape, leaf, enclosed, plain, backslash_break, unresolved, Label}
+use Rattle.markdown_document.specs.Document.{Shape, leaf, enclosed, plain, backslash_break, unresolved, TreeNode}
 use Rattle.markdown_delims.proofs.SumLemmas.{sum_of}
 use Rattle.markdown_brackets.specs.NoLinkInLink.{ClosesOverNone, HasNoLinkInLink, HasNoneBelow, IsFreeOfLinks, IsNoLink}
 use Rattle.markdown_brackets.specs.NoLinkInLink.{OpensNoLink}
@@ -37,7 +37,8 @@ Goes es free = (within : ℕ) (rest : List Ranged) → (1 ≤ within → free) �
     → NoLinkInLinkFrom within (es ++ rest)
 
 -- what a tag encloses
-tag_goes : {A : Type 0} (tag : TagView) (range : Range ℕ) (below : Forest (Label A)) (es fs : List Ranged) (within : ℕ)
+tag_goes : {A : Type 0} (tag : TagView) (range : Range ℕ) (below : Forest (TreeNode A)) (es fs : List Ranged)
+    (within : ℕ)
     → ClosesOverNone tag below → (1 ≤ within → OpensNoLink tag × IsFreeOfLinks below)
     → Goes es (IsFreeOfLinks below) → NoLinkInLinkFrom within fs
     → NoLinkInLinkFrom within ((start tag, range) ∷ (es ++ (end (tag_end tag), range) ∷ fs))
@@ -50,7 +51,7 @@ tag_goes other range below es fs within over free inside h = inside within ((end
     (λ some. (free some).1) h
 
 -- a tree before others
-goes_on : {A : Type 0} (shape : Shape) (range : Range ℕ) (below : Forest (Label A)) (es fs : List Ranged)
+goes_on : {A : Type 0} (shape : Shape) (range : Range ℕ) (below : Forest (TreeNode A)) (es fs : List Ranged)
     (free : Type 0)
     → total (alone_at shape) ≡ 0 → HasNoneBelow shape below
     → Goes es (IsFreeOfLinks below) → Goes fs free
@@ -73,7 +74,7 @@ goes_on (unresolved b) range below es fs free lone apart inside after within res
     (λ some. (freed some).2) h
 
 -- a forest before others that keep the law
-apart_in : {A : Type 0} (f : Forest (Label A)) → sum_of alone f ≡ 0 → HasNoLinkInLink f
+apart_in : {A : Type 0} (f : Forest (TreeNode A)) → sum_of alone f ≡ 0 → HasNoLinkInLink f
     → Goes (ranged_in f) (IsFreeOfLinks f)
 apart_in nil lone apart within rest freed h = h
 apart_in (node a below later) lone apart within rest freed h =

@@ -16,6 +16,6 @@ pub one_forest : (source : List ℕ) (tables : Tables) (tree : Arena Item) → T
     → IsOneForest tree
 one_forest source tables tree w = record {
   here = w.walk.here.spelled;
-  behind = all_spell (links_of tree.nodes) _ tree.spine w.walk.above;
+  after = all_spell (links_of tree.nodes) _ tree.spine w.walk.above;
   once = w.once;
 }

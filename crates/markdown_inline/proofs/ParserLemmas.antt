@@ -18,17 +18,17 @@ use Rattle.markdown_defs.specs.Allocations.{Allocated}
 use Rattle.markdown_defs.specs.Footnotes.{footnote_at}
 use Rattle.std.proofs.Math.Path.{fun_ext}
 use Rattle.markdown_document.specs.Counts.{no_counts}
-use Rattle.markdown_document.specs.Document.{plain_tags}
+use Rattle.markdown_document.specs.Document.{no_notes}
 use Rattle.markdown_document.specs.declared.work.Work.{Work}
 use Rattle.markdown_document.specs.Places.{trees_from}
-use Rattle.markdown_document.specs.Stages.{stage, known_at, above_cursor}
+use Rattle.markdown_document.specs.ResolverStates.{resolver_state, state_at, above_cursor}
 use Rattle.markdown_resolver.specs.ChainCounts.{chain_counts}
 use Rattle.markdown_resolver.specs.Chains.{AreAbove, ResolvesChain, CanResolve, StopsIn}
 use Rattle.markdown_inline.specs.Elements.{Placed, Element, Passage, event, question}
 use Rattle.markdown_inline.specs.Moves.{Leads, Keeps, Gave, GaveEvent, WentOn, Ended, Failed, BeginsWithEvent, HasGone}
 use Rattle.markdown_inline.specs.Moves.{Began, RefusedAt, Took, WentPast, shape_in}
 use Rattle.markdown_inline.specs.NextGives.{NextGives, IsEventOf, IsPlacedOf, GivesItem}
-use Rattle.markdown_inline.specs.ParserLeft.{parser_known, parser_counts, parser_work, parser_callback, parser_steps}
+use Rattle.markdown_inline.specs.ParserLeft.{parser_state, parser_counts, parser_work, parser_callback, parser_steps}
 use Rattle.markdown_inline.specs.ParserLeft.{parser_setting}
 use Rattle.markdown_inline.specs.ParserLeft.{elements, parser_left, parser_text, IsOver}
 use Rattle.markdown_document.specs.Setting.{Setting, rules_from, setting_of}
@@ -36,8 +36,8 @@ use Rattle.markdown_document.specs.Tables.{tables_of}
 use Rattle.markdown_inline.specs.Walk.{left_of}
 use Rattle.markdown_inline.specs.WalkSteps.{HasEnded, TreeStands, Went, Gives, PassedBeginning, OpensWith, IsRefused}
 use Rattle.markdown_inline.specs.WalkSteps.{events_first}
-use Rattle.markdown_inline.specs.WalkSteps.{IsBeforeChain, way_at}
-use Rattle.markdown_inline.specs.declared.bodies.Way.{Way}
+use Rattle.markdown_inline.specs.WalkSteps.{IsBeforeChain, visit_at}
+use Rattle.markdown_inline.specs.declared.bodies.Visit.{Visit}
 use Rattle.markdown_inline.specs.declared.walk.Parser.{Parser}
 use Rattle.markdown_document.proofs.CallbackLemmas.{Asks-append, Asks-some}
 use Rattle.markdown_inline.proofs.ChainLemmas.{ChainMoves, are_above, chain_left, moves_chain, can_resolve, stops_chain}
@@ -82,7 +82,7 @@ gave_step s t given k w = record {
       rw (k.text, k.options, k.callback, k.limit, w.tables)
       (rw w.tables at (w.left
       (rules_from s.resolver.options s.resolver.lookup.tables (is_some s.resolver.lookup.callback))
-      (parser_known s later)));
+      (parser_state s later)));
 }
 
 pub moved_give : {F : Type 0} (s t : Parser F) (e : Event) (range : Range ℕ) → SameBut s t
@@ -129,9 +129,9 @@ same_gives : (x y : List ℕ) (s t : Arena Item) (a b held : Allocated) (e : Eve
 same_gives x y s t a b held e range p q g = rw (← p, ← q) g
 
 -- past the beginning of an item
-pub moved_past : {F : Type 0} (s t : Parser F) (item : Item) (w : Way) → SameBut s t → t.resolver.lookup.tables
+pub moved_past : {F : Type 0} (s t : Parser F) (item : Item) (w : Visit) → SameBut s t → t.resolver.lookup.tables
     ≡ s.resolver.lookup.tables
-    → PassedBeginning t.resolver.text.now s.tree t.tree t.resolver.lookup.tables item × (way_at item.body ≡ w)
+    → PassedBeginning t.resolver.text.now s.tree t.tree t.resolver.lookup.tables item × (visit_at item.body ≡ w)
     → WentPast s t item w
 moved_past s t item w k same p = record {
   ready = record { can = p.0.can; stands = p.0.stands; goes = p.1 };
@@ -203,10 +203,12 @@ chain_moves : {C : Type 0} (step : C → Question → Option Answer → C → Ty
     (first limit limit' : ℕ) (c d : Option C) (work work' : Work)
     → TreeStands g.text (tables_of held) s → IsBeforeChain s first
     → (r : ResolvesChain step g first s t held held' limit limit' c d work work')
-    → ChainMoves g (tables_of held) (tables_of held') s.nodes t.nodes first s.spine (known_at (stage s held limit c))
-    (known_at (stage t held' limit' d)) r.chain.questions r.chain.answers
+    → ChainMoves g (tables_of held) (tables_of held') s.nodes t.nodes first s.spine (state_at
+    (resolver_state s held limit c))
+    (state_at (resolver_state t held' limit' d)) r.chain.questions r.chain.answers
 chain_moves step g s t held held' first limit limit' c d work work' w b r =
-    moves_chain step g first s.spine (stage s held limit c) (stage t held' limit' d) (rw b.cursor at w) b.is_open
+    moves_chain step g first s.spine (resolver_state s held limit c) (resolver_state t held' limit' d)
+    (rw b.cursor at w) b.is_open
     r.chain
 
 pub stands_chain : {C : Type 0} (step : C → Question → Option Answer → C → Type 0) (g : Setting) (s t : Arena Item)
@@ -250,22 +252,22 @@ setting_kept s t x o some tables names =
 left_before : {F : Type 0} (s : Parser F) (first : ℕ) → IsBeforeChain s.tree first → (answers : Answers)
     → parser_left s answers ≡ left_of (parser_setting s) (tables_of s.resolver.lookup.tables) s.tree.nodes (Some first)
     s.tree.spine
-    (parser_known s answers)
+    (parser_state s answers)
 left_before s first b answers =
     ap (λ (l : Option ℕ). left_of (parser_setting s) (tables_of s.resolver.lookup.tables) s.tree.nodes l s.tree.spine
-    (parser_known s answers)) b.cursor
+    (parser_state s answers)) b.cursor
 
 -- the counts then are those of the chain
 counts_before : {F : Type 0} (s : Parser F) (first : ℕ)
     → TreeStands s.resolver.text.now (tables_of s.resolver.lookup.tables) s.tree → IsBeforeChain s.tree first
     → (answers : Answers)
-    → parser_counts s answers ≡ chain_counts (parser_setting s) plain_tags (above_cursor s.resolver.text.now s.tree)
+    → parser_counts s answers ≡ chain_counts (parser_setting s) no_notes (above_cursor s.resolver.text.now s.tree)
     (trees_from s.resolver.text.now (tables_of s.resolver.lookup.tables) s.tree.nodes (Some first))
-    (parser_known s answers)
+    (parser_state s answers)
 counts_before s first w b answers =
     ap (λ (x : Passage). x.counts) (left_before s first b answers
     ∙ chain_left (parser_setting s) (tables_of s.resolver.lookup.tables) s.tree.nodes first s.tree.spine
-    (parser_known s answers)
+    (parser_state s answers)
     (rw b.cursor at w) b.is_open)
 
 -- a chain that is resolved: its questions, and then an event
@@ -287,11 +289,11 @@ moved_chain step s t first x o w b q =
     q.chain.questions q.chain.answers q.chain.asked in
     let now : (later : Answers) → parser_left t later ≡ left_of (parser_setting s) (tables_of t.resolver.lookup.tables)
     t.tree.nodes
-    (Some first) s.tree.spine (parser_known t later) =
+    (Some first) s.tree.spine (parser_state t later) =
     λ later. rw (setting_kept s t x o some q.tables q.footnotes, q.tree, b.cursor) refl in
     let before = λ (later : Answers). counts_before s first w b (q.chain.answers ++ later) in
     let after : (later : Answers) → parser_counts t later ≡ no_counts =
-    λ later. ap (λ (x : Passage). x.counts) (now later ∙ (m.begins (parser_known t later)).is) in (
+    λ later. ap (λ (x : Passage). x.counts) (now later ∙ (m.begins (parser_state t later)).is) in (
       record {
         leads = record {
           answers = q.chain.answers;
@@ -301,7 +303,7 @@ moved_chain step s t first x o w b q =
               ap (λ (x : Passage). x.elements) (left_before s first b (q.chain.answers ++ later)) ∙ m.left later
               ∙ ap (λ (x : Passage). map question q.chain.questions ++ x.elements) (sym (now later));
         };
-        asked = inr (λ answers. subst BeginsWithEvent (sym (now answers)) (m.begins (parser_known t answers)));
+        asked = inr (λ answers. subst BeginsWithEvent (sym (now answers)) (m.begins (parser_state t answers)));
         counts = λ later work r.
             rw (before later) (rises-chain _ (parser_work s) (parser_work t) work (q.counted later)
             (rw (after later) at r));
@@ -316,7 +318,7 @@ moved_chain step s t first x o w b q =
 pub over_ended : {F : Type 0} (t : Parser F) → HasEnded t.tree → IsOver t
 over_ended t e = record {
   left = λ answers. elements-left t answers ∙ ap (λ (x : Passage). x.elements)
-      (left_of_ended (parser_setting t) (tables_of t.resolver.lookup.tables) t.tree e (parser_known t answers));
+      (left_of_ended (parser_setting t) (tables_of t.resolver.lookup.tables) t.tree e (parser_state t answers));
   steps = steps_ended t.tree e;
 }
 
@@ -328,7 +330,7 @@ moved_done s t e same c d = record {
   is = over_ended t (rw same e);
   callback = sym c;
   ahead = λ answers. ap (λ (x : Passage). x.counts)
-      (left_of_ended (parser_setting s) (tables_of s.resolver.lookup.tables) s.tree e (parser_known s answers));
+      (left_of_ended (parser_setting s) (tables_of s.resolver.lookup.tables) s.tree e (parser_state s answers));
   work = d;
 }
 
@@ -353,7 +355,7 @@ moved_refused step s t after c k r e = record {
 pub moved_stopped : {F : Type 0} (step : F → Question → Option Answer → F → Type 0) (s t : Parser F) (first : ℕ)
     → TreeStands s.resolver.text.now (tables_of s.resolver.lookup.tables) s.tree → IsBeforeChain s.tree first
     → StopsIn step (parser_setting s) (above_cursor s.resolver.text.now s.tree) first
-    (stage s.tree s.resolver.lookup.tables s.resolver.lookup.limit
+    (resolver_state s.tree s.resolver.lookup.tables s.resolver.lookup.limit
     s.resolver.lookup.callback) t.resolver.lookup.callback s.resolver.work t.resolver.work → HasEnded t.tree
     → Failed step s t
 moved_stopped step s t first w b r e = record {
@@ -364,7 +366,7 @@ moved_stopped step s t first w b r e = record {
   asked = r.asked;
   begins = λ later. rw (elements-left s (r.answers ++ later), b.cursor)
       (stops_chain step (parser_setting s) first s.tree.spine
-      (stage s.tree s.resolver.lookup.tables s.resolver.lookup.limit s.resolver.lookup.callback)
+      (resolver_state s.tree s.resolver.lookup.tables s.resolver.lookup.limit s.resolver.lookup.callback)
       t.resolver.lookup.callback s.resolver.work t.resolver.work (rw b.cursor at w) b.is_open r later);
   counts = λ later. rw (counts_before s first w b (r.answers ++ later)) (r.counts later);
 }
@@ -552,7 +554,7 @@ took_falls s t u item took l = rw took.tree l
 
 -- the event of an item is given once it is made
 pub begun_event : {F : Type 0} (step : F → Question → Option Answer → F → Type 0) (s r t u : Parser F) (item : Item)
-    (w : Way) (e : Event)
+    (w : Visit) (e : Event)
     → HasGone step s r → Keeps r t → WentPast r t item w → Began t u item e
     → Advances step s (Some (Ok (e, range_of item))) u
 begun_event step s r t u item w e g k past b =
@@ -562,7 +564,7 @@ begun_event step s r t u item w e g k past b =
 
 -- it may be refused memory
 pub failed_past : {F : Type 0} (step : F → Question → Option Answer → F → Type 0) (s t u : Parser F) (item : Item)
-    (w : Way) (fault : Fault)
+    (w : Visit) (fault : Fault)
     → WentPast s t item w → RefusedAt t u fault → Failed step s u
 failed_past step s t u item w fault past r = record {
   is = r.is;
@@ -577,7 +579,7 @@ failed_past step s t u item w fault past r = record {
 
 pub begun_fault : {F I : Type 0} (step : F → Question → Option Answer → F → Type 0)
     (is_of : List ℕ → I → Placed → Type 0)
-    (s r t u : Parser F) (item : Item) (w : Way) (fault : Fault)
+    (s r t u : Parser F) (item : Item) (w : Visit) (fault : Fault)
     → HasGone step s r → Keeps r t → WentPast r t item w → RefusedAt t u fault
     → NextGives step is_of s (Some (Err fault)) u
 begun_fault step is_of s r t u item w fault g k past refused =
@@ -597,7 +599,7 @@ next_event step s t e range n = record {
 
 -- what comes of a Start
 pub begun_start : {F : Type 0} (step : F → Question → Option Answer → F → Type 0) (s r t u : Parser F) (item : Item)
-    (w : Way)
+    (w : Visit)
     (made : Result Event Fault) → HasGone step s r → Keeps r t → WentPast r t item w
     → MatchResult made (Began t u item) (RefusedAt t u)
     → NextGives step IsEventOf s (Some made) u
@@ -607,7 +609,7 @@ begun_start step s r t u item w (Err fault) g k past b = begun_fault step IsEven
 
 -- after a Start there are fewer steps to come
 pub start_falls : {F : Type 0} (step : F → Question → Option Answer → F → Type 0) (s r t u : Parser F) (item : Item)
-    (w : Way)
+    (w : Visit)
     (made : Result Event Fault) → HasGone step s r → WentPast r t item w
     → MatchResult made (Began t u item) (RefusedAt t u)
     → parser_steps u < parser_steps s

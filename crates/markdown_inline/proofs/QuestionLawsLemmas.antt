@@ -14,16 +14,17 @@ use Rattle.markdown_base.specs.declared.item.ItemBody.TheVariants as body
 use Rattle.markdown_base.specs.declared.node.Node.{Node}
 use Rattle.markdown_brackets.specs.QuestionEnds.{StandInLine}
 use Rattle.markdown_brackets.specs.QuestionsAsked.{AsksAtMost, closers_among, closes_bracket}
-use Rattle.markdown_brackets.specs.Reference.{is_closer}
-use Rattle.markdown_document.specs.Above.{Above, inside_label, no_blocks}
+use Rattle.markdown_brackets.specs.Reference.{is_closing_bracket}
+use Rattle.markdown_document.specs.EnclosingBlocks.{EnclosingBlocks, inside_node, no_blocks}
 use Rattle.markdown_document.specs.ChainRest.{open_body}
-use Rattle.markdown_document.specs.Document.{Label, Plain, Shape, backslash_break, document, enclosed, label_of, leaf}
-use Rattle.markdown_document.specs.Document.{plain, plain_tags, shape_of, unresolved}
-use Rattle.markdown_document.specs.Setting.{Known, Rules, Setting, setting_of}
+use Rattle.markdown_document.specs.Document.{TreeNode, Plain, Shape, backslash_break, document, enclosed, tree_node_of}
+use Rattle.markdown_document.specs.Document.{leaf}
+use Rattle.markdown_document.specs.Document.{plain, no_notes, shape_of, unresolved}
+use Rattle.markdown_document.specs.Setting.{ReferenceState, Rules, Setting, setting_of}
 use Rattle.markdown_document.specs.Tables.{Tables}
 use Rattle.markdown_inline.specs.Elements.{Element, Reading, nothing_read, questions_of, then_reads}
 use Rattle.markdown_inline.specs.QuestionLaws.{AsksApart, closers_of, document_reading}
-use Rattle.markdown_inline.specs.Reading.{chain_reading, reading_opened, reading, settled_reading}
+use Rattle.markdown_inline.specs.Reading.{chain_reading, reading_opened, reading, closed_reading}
 use Rattle.markdown_inline.proofs.RunLemmas.{questions_of-questions}
 use Rattle.markdown_resolver.specs.Kept.{EachChain}
 use Rattle.markdown_resolver.specs.PassOne.{Outcome}
@@ -33,15 +34,15 @@ use Rattle.markdown_resolver.proofs.ChainQuestionsLemmas.{resolved_stays_zero}
 
 -- a reading asks at most this many questions, and none at a limit of 0
 record Few (most : ℕ) (r : Reading) : Type 0 where
-  once : (known : Known) → length (questions_of (r known).elements) ≤ most
-  silent : (known : Known) → known.limit ≡ 0 → questions_of (r known).elements ≡ []
+  once : (state : ReferenceState) → length (questions_of (r state).elements) ≤ most
+  silent : (state : ReferenceState) → state.limit ≡ 0 → questions_of (r state).elements ≡ []
 
 more_few : (n m : ℕ) (r : Reading) → n ≤ m → Few n r → Few m r
-more_few n m r l h = record { once = λ known. omega (arith, h.once known, l); silent = h.silent }
+more_few n m r l h = record { once = λ state. omega (arith, h.once state, l); silent = h.silent }
 
--- a settled forest asks nothing
+-- a closed forest asks nothing
 module _ {A : Type 0} where
-  settled_tree : (a : Label A) (most : ℕ) (inside : Reading → Reading) (after : Reading)
+  settled_tree : (a : TreeNode A) (most : ℕ) (inside : Reading → Reading) (after : Reading)
       → ((inner : Reading) → Few most inner → Few most (inside inner)) → Few most after
       → (shape : Shape) → Few most (reading_opened shape a.part.range inside after after)
   settled_tree a most inside after within h (leaf e origins) = record { once = h.once; silent = h.silent }
@@ -53,20 +54,20 @@ module _ {A : Type 0} where
   settled_tree a most inside after within h backslash_break = record { once = h.once; silent = h.silent }
   settled_tree a most inside after within h (unresolved b) = h
 
-  settled_few : (f : Forest (Label A)) (most : ℕ) (after : Reading) → Few most after
-      → Few most (settled_reading f after)
+  settled_few : (f : Forest (TreeNode A)) (most : ℕ) (after : Reading) → Few most after
+      → Few most (closed_reading f after)
   settled_few nil most after h = h
   settled_few (node a below later) most after h =
-      settled_tree a most (λ inner. settled_reading below inner) (settled_reading later after)
+      settled_tree a most (λ inner. closed_reading below inner) (closed_reading later after)
       (λ inner k. settled_few below most inner k)
       (settled_few later most after h) a.part.shape
 
 -- 1 for a `]`
-abbrev one_closer : {A : Type 0} → Label A → ℕ
+abbrev one_closer : {A : Type 0} → TreeNode A → ℕ
 one_closer a = cond (closes_bracket a) 1 0
 
 -- the `]` of a chain are in its document
-roots_few : {A : Type 0} (f : Forest (Label A)) → closers_among (roots f) ≤ closers_among (preorder f)
+roots_few : {A : Type 0} (f : Forest (TreeNode A)) → closers_among (roots f) ≤ closers_among (preorder f)
 roots_few nil = omega arith
 roots_few (node a below after) =
     let all = sum_by-cons one_closer a (preorder below ++ preorder after) in
@@ -100,81 +101,84 @@ closers_sum a below after =
 
 module _ (s : Setting) where
   -- a chain, and then what follows
-  chain_few : (above : Above) (chain : Forest Plain) (most : ℕ) (after : Reading) → Few most after
-      → Few (closers_among (preorder chain) + most) (chain_reading s plain_tags above chain after)
+  chain_few : (above : EnclosingBlocks) (chain : Forest Plain) (most : ℕ) (after : Reading) → Few most after
+      → Few (closers_among (preorder chain) + most) (chain_reading s no_notes above chain after)
   chain_few above chain most after h = record {
-    once = λ known.
-        let r : Outcome (Unit {0}) = resolved s plain_tags above chain known in
-        let here = (resolved_asks s plain_tags above chain known).once in
-        let later = (settled_few (all_paired s r.forest) most after h).once r.known in
-        let others : List Element = (settled_reading (all_paired s r.forest) after r.known).elements in
+    once = λ state.
+        let r : Outcome (Unit {0}) = resolved s no_notes above chain state in
+        let here = (resolved_asks s no_notes above chain state).once in
+        let later = (settled_few (all_paired s r.forest) most after h).once r.state in
+        let others : List Element = (closed_reading (all_paired s r.forest) after r.state).elements in
         let all = ap length (questions_of-questions r.questions others) in
         let sum = length-append r.questions (questions_of others) in
         omega (arith, here, later, all, sum, roots_few chain);
-    silent = λ known z.
-        let r : Outcome (Unit {0}) = resolved s plain_tags above chain known in
-        let here = (resolved_asks s plain_tags above chain known).silent z in
-        let zero = resolved_stays_zero s plain_tags above chain known z in
-        let later = (settled_few (all_paired s r.forest) most after h).silent r.known zero in
-        questions_of-questions r.questions (settled_reading (all_paired s r.forest) after r.known).elements
+    silent = λ state z.
+        let r : Outcome (Unit {0}) = resolved s no_notes above chain state in
+        let here = (resolved_asks s no_notes above chain state).silent z in
+        let zero = resolved_stays_zero s no_notes above chain state z in
+        let later = (settled_few (all_paired s r.forest) most after h).silent r.state zero in
+        questions_of-questions r.questions (closed_reading (all_paired s r.forest) after r.state).elements
         ∙ rw (here, later) refl;
   }
 
-  reading_few : (f : Forest Plain) (above : Above) (most : ℕ) (after : Reading) → Few most after
-      → Few (closers_among (preorder f) + most) (reading s plain_tags above f after)
+  reading_few : (f : Forest Plain) (above : EnclosingBlocks) (most : ℕ) (after : Reading) → Few most after
+      → Few (closers_among (preorder f) + most) (reading s no_notes above f after)
   reading_few nil above most after h = more_few most (0 + most) after (omega arith) h
   reading_few (node a below later) above most after h =
       let sum = closers_sum a below later in
       let all : ℕ = closers_among (preorder (node a below later)) + most in
       let few : ℕ = closers_among (preorder later) + most in
-      let inside : Reading → Reading = λ inner. reading s plain_tags (inside_label a above) below inner in
+      let inside : Reading → Reading = λ inner. reading s no_notes (inside_node a above) below inner in
       let within = λ (inner : Reading) (k : Few few inner). more_few (closers_among (preorder below) + few) all
       (inside inner)
-      (omega (arith, sum)) (reading_few below (inside_label a above) few inner k) in
-      opened_few a all few inside (reading s plain_tags above later after)
-      (chain_reading s plain_tags above (node a below later) after)
+      (omega (arith, sum)) (reading_few below (inside_node a above) few inner k) in
+      opened_few a all few inside (reading s no_notes above later after)
+      (chain_reading s no_notes above (node a below later) after)
       within (reading_few later above most after h) (omega (arith, sum))
       (chain_few above (node a below later) most after h) a.part.shape
 
--- an item is a `]` where its label is
-closer_seen : (tables : Tables) (source : List ℕ) (b : ItemBody) → is_closer (open_body (shape_of tables source b))
-    ≡ is_closer b
+-- an item is a `]` where its node is
+closer_seen : (tables : Tables) (source : List ℕ) (b : ItemBody) → is_closing_bracket (open_body
+    (shape_of tables source b))
+    ≡ is_closing_bracket b
 closer_seen tables source (body.HardBreak true) = refl
 closer_seen tables source (body.HardBreak false) = refl
 closer_seen tables source other = refl
 
 module _ (source : List ℕ) (tables : Tables) where
   abbrev seen : Numbered → Plain
-  seen n = label_of source tables n.item
+  seen n = tree_node_of source tables n.item
 
   closers_seen : (f : Forest Numbered)
-      → closers_among (preorder (relabelled seen f)) ≡ count_by (λ (n : Numbered). is_closer n.item.body) (preorder f)
+      → closers_among (preorder (relabelled seen f)) ≡ count_by (λ (n : Numbered). is_closing_bracket n.item.body)
+      (preorder f)
   closers_seen nil = refl
   closers_seen (node a below after) =
       let here = ap {B = ℕ} (λ (b : Bool). cond b 1 0)
       (closer_seen tables (slice_range source a.item.start a.item.end) a.item.body) in
-      let one : Numbered → ℕ = λ n. cond (is_closer n.item.body) 1 0 in
+      let one : Numbered → ℕ = λ n. cond (is_closing_bracket n.item.body) 1 0 in
       let labels = closers_sum (seen a) (relabelled seen below) (relabelled seen after) in
       let items = sum_by-cons one a (preorder below ++ preorder after) in
       let sum = sum_by-append one (preorder below) (preorder after) in
       let inside = closers_seen below in
-      let behind = closers_seen after in
-      omega (arith, here, labels, items, sum, inside, behind)
+      let later = closers_seen after in
+      omega (arith, here, labels, items, sum, inside, later)
 
-pub document_asks : (source : List ℕ) (nodes : List (Node Item)) (tables : Tables) (rules : Rules) (known : Known)
-    → AsksAtMost (closers_of nodes) known.limit (questions_of (document_reading source nodes tables rules known))
-document_asks source nodes tables rules known =
+pub document_asks : (source : List ℕ) (nodes : List (Node Item)) (tables : Tables) (rules : Rules)
+    (state : ReferenceState)
+    → AsksAtMost (closers_of nodes) state.limit (questions_of (document_reading source nodes tables rules state))
+document_asks source nodes tables rules state =
     let s = setting_of source rules in
-    let none : Few 0 nothing_read = record { once = λ known. omega arith; silent = λ known z. refl } in
+    let none : Few 0 nothing_read = record { once = λ state. omega arith; silent = λ state z. refl } in
     let few = reading_few s (document source tables nodes) (no_blocks source) 0 nothing_read none in
     record {
-      once = omega (arith, few.once known, closers_seen source tables (tree_of nodes));
-      silent = few.silent known;
+      once = omega (arith, few.once state, closers_seen source tables (tree_of nodes));
+      silent = few.silent state;
     }
 
 -- what holds of each chain, where one thing follows from another
-pub each_also : {A : Type 0} (P Q : Forest (Label A) → Type 0) → ((chain : Forest (Label A)) → P chain → Q chain)
-    → (f : Forest (Label A))
+pub each_also : {A : Type 0} (P Q : Forest (TreeNode A) → Type 0) → ((chain : Forest (TreeNode A)) → P chain → Q chain)
+    → (f : Forest (TreeNode A))
     → EachChain P f → EachChain Q f
 each_also P Q also nil h = tt
 each_also P Q also (node a below after) h =
@@ -186,5 +190,5 @@ pub document_ends : (source : List ℕ) (nodes : List (Node Item)) (parts : Bloc
 document_ends source nodes parts tables rules formed =
     let s = setting_of source rules in
     each_also (StandInLine source) (AsksApart s)
-    (λ chain stand above known. resolved_ends s plain_tags above chain known stand)
+    (λ chain stand above state. resolved_ends s no_notes above chain state stand)
     (document source tables nodes) (document_in_line source nodes parts tables formed)

@@ -16,25 +16,26 @@ use Rattle.markdown_base.specs.declared.item.ItemBody.{ItemBody}
 use Rattle.markdown_base.specs.declared.item.ItemBody.TheVariants as body
 use Rattle.markdown_defs.specs.Definitions as definitions
 use Rattle.markdown_defs.specs.Definitions.{Labelled}
-use Rattle.markdown_document.specs.Above.{Above}
+use Rattle.markdown_document.specs.EnclosingBlocks.{EnclosingBlocks}
 use Rattle.markdown_document.specs.ChainRest.{begun_at, cut_shape, end_of, open_body, past_byte, start_of}
-use Rattle.markdown_document.specs.Document.{made, sliced, Tags, Shape, leaf, enclosed, Label, math}
-use Rattle.markdown_document.specs.Setting.{Setting, Known}
+use Rattle.markdown_document.specs.Document.{made, sliced, Notes, Shape, leaf, enclosed, TreeNode, math}
+use Rattle.markdown_document.specs.Setting.{Setting, ReferenceState}
 use Rattle.markdown_document.specs.Waiting.{is_quiet}
 use Rattle.markdown_spans.specs.AfterLess.{Markup, autolink, html_markup}
 use Rattle.markdown_spans.specs.Finds.{Find, SpanText, address, code_span, code_trees, find, is_escaped, markup}
 use Rattle.markdown_spans.specs.Finds.{markup_trees, math_span}
 use Rattle.markdown_spans.specs.Finds.{nothing, read_tree, read_unless, trees_for}
 use Rattle.markdown_delims.specs.Pairing.{paired}
-use Rattle.markdown_brackets.specs.BracketDecision.{Around, Closing, Written, LinkReference, Progress, Wikilink}
+use Rattle.markdown_brackets.specs.BracketDecision.{BracketContext, Closing, Written, LinkReference, Progress, Wikilink}
 use Rattle.markdown_brackets.specs.BracketDecision.{a_footnote, a_link, a_text}
 use Rattle.markdown_brackets.specs.BracketDecision.{a_wikilink, carried_out, decided, found, inline_target}
 use Rattle.markdown_brackets.specs.BracketDecision.{left_for_one, looked_up, past_second}
 use Rattle.markdown_brackets.specs.BracketDecision.{question_at, second_end, wikilink_in}
 use Rattle.markdown_brackets.specs.ClosingBracket.{closed, footnote_onto, put, put_decided, wikilink_target}
-use Rattle.markdown_brackets.specs.LeftList.{Entry, Mark, Split, before_footnote, before_link, before_wikilink, behind}
+use Rattle.markdown_brackets.specs.LeftList.{Entry, OpenerState, Split, before_footnote, before_link, before_wikilink}
+use Rattle.markdown_brackets.specs.LeftList.{with_entry}
 use Rattle.markdown_brackets.specs.LeftList.{bracket_taken}
-use Rattle.markdown_brackets.specs.LeftList.{change_nearest, disabled_mark, done, inside, nearest, on_marks}
+use Rattle.markdown_brackets.specs.LeftList.{change_nearest, disabled_state, done, inside, nearest, on_states}
 use Rattle.markdown_brackets.specs.LeftList.{opens_bracket}
 use Rattle.markdown_brackets.specs.LeftList.{opens_wikilink, second_folded, trees_onto, waits, without_bracket}
 use Rattle.markdown_brackets.specs.LeftList.{without_wikilink, all_done}
@@ -44,7 +45,7 @@ use Rattle.markdown_brackets.proofs.ClosingBracketLemmas.{Stays, all_stays, eith
 use Rattle.markdown_brackets.proofs.NoLinkLemmas.{wikilink_keeps}
 use Rattle.markdown_inline.specs.LookUps.{is_looked_up}
 use Rattle.markdown_inline.specs.ResolvedShapes.{IsMadeEvent}
-use Rattle.markdown_resolver.specs.PassOne.{around, pass_one, read_on, read_other}
+use Rattle.markdown_resolver.specs.PassOne.{bracket_context, pass_one, read_on, read_other}
 use Rattle.markdown_resolver.specs.Resolved.{all_paired, resolved}
 use Rattle.markdown_inline.proofs.EndOrderLemmas.{IsWithin, drop_list, ends_append, ends_drop, ends_mono, ends_onto}
 use Rattle.markdown_inline.proofs.EndOrderLemmas.{keep_list}
@@ -101,15 +102,15 @@ lone_math true bytes = tt
 lone_math false bytes = tt
 
 module _ {A : Type 0} (own : Shape → List ℕ) (holds : List ℕ → (limit : ℕ) → Type 0) (keeps : Keeps own holds) where
-  abbrev ends : Forest (Label A) → List ℕ → List ℕ
+  abbrev ends : Forest (TreeNode A) → List ℕ → List ℕ
   ends f rest = ends_onto own f rest
 
-  abbrev of : Label A → List ℕ
+  abbrev of : TreeNode A → List ℕ
   of a = own a.part.shape
 
-  -- no label of a forest has a number
-  abbrev pub HasNone : Forest (Label A) → Type 0
-  HasNone f = Each (λ (a : Label A). own a.part.shape ≡ []) f
+  -- no node of a forest has a number
+  abbrev pub HasNone : Forest (TreeNode A) → Type 0
+  HasNone f = Each (λ (a : TreeNode A). own a.part.shape ≡ []) f
 
   abbrev ends_left : List (Entry A) → List ℕ → List ℕ
   ends_left [] rest = rest
@@ -117,10 +118,10 @@ module _ {A : Type 0} (own : Shape → List ℕ) (holds : List ℕ → (limit : 
   ends_left (waits m a ∷ left) rest = ends_left left (of a ++ rest)
 
   abbrev Holds : Progress A → Type 0
-  Holds p = holds (ends_left p.left []) p.known.limit
+  Holds p = holds (ends_left p.left []) p.state.limit
 
   -- a forest without numbers adds none
-  none_onto : (f : Forest (Label A)) (t : List ℕ) → HasNone f → IsWithin (ends f t) t
+  none_onto : (f : Forest (TreeNode A)) (t : List ℕ) → HasNone f → IsWithin (ends f t) t
   none_onto nil t h = within_same t
   none_onto (node a below after) t h =
       within_trans (ends below (of a ++ ends after t)) (of a ++ ends after t) t
@@ -128,13 +129,13 @@ module _ {A : Type 0} (own : Shape → List ℕ) (holds : List ℕ → (limit : 
       (none_before (of a) (ends after t) t h.0 (none_onto after t h.2))
 
   -- the trees of a left list, and trees that are put onto one
-  onto : (left : List (Entry A)) (later : Forest (Label A)) (t : List ℕ) → ends (trees_onto left later) t
+  onto : (left : List (Entry A)) (later : Forest (TreeNode A)) (t : List ℕ) → ends (trees_onto left later) t
       ≡ ends_left left (ends later t)
   onto [] later t = refl
   onto (done a below ∷ left) later t = onto left (node a below later) t
   onto (waits m a ∷ left) later t = onto left (node a nil later) t
 
-  put_on : (trees : Forest (Label A)) (left : List (Entry A)) (t : List ℕ) → ends_left (all_done trees left) t
+  put_on : (trees : Forest (TreeNode A)) (left : List (Entry A)) (t : List ℕ) → ends_left (all_done trees left) t
       ≡ ends_left left (ends trees t)
   put_on nil left t = refl
   put_on (node a below after) left t = put_on after (done a below ∷ left) t
@@ -164,7 +165,8 @@ module _ {A : Type 0} (own : Shape → List ℕ) (holds : List ℕ → (limit : 
       ∙ append_left left (of a ++ ns) ms
 
   -- flags have no numbers
-  marks : (f : Mark → Mark) (left : List (Entry A)) (t : List ℕ) → ends_left (on_marks f left) t ≡ ends_left left t
+  marks : (f : OpenerState → OpenerState) (left : List (Entry A)) (t : List ℕ) → ends_left
+      (on_states f left) t ≡ ends_left left t
   marks f [] t = refl
   marks f (done a below ∷ left) t = marks f left (ends below (of a ++ t))
   marks f (waits m a ∷ left) t = marks f left (of a ++ t)
@@ -174,7 +176,7 @@ module _ {A : Type 0} (own : Shape → List ℕ) (holds : List ℕ → (limit : 
   second (done a below ∷ left) t = refl
   second (waits m a ∷ left) t = refl
 
-  change : (test : Mark → Bool) (f : Mark → Mark) (left : List (Entry A)) (t : List ℕ)
+  change : (test : OpenerState → Bool) (f : OpenerState → OpenerState) (left : List (Entry A)) (t : List ℕ)
       → ends_left (change_nearest test f left) t
       ≡ ends_left left t
   change test f [] t = refl
@@ -190,10 +192,10 @@ module _ {A : Type 0} (own : Shape → List ℕ) (holds : List ℕ → (limit : 
   of_link : (is_image : Bool) (left : List (Entry A)) (t : List ℕ) → ends_left (before_link is_image left) t
       ≡ ends_left left t
   of_link true left t = second left t
-  of_link false left t = marks disabled_mark (second_folded left) t ∙ second left t
+  of_link false left t = marks disabled_state (second_folded left) t ∙ second left t
 
   of_wikilink : (left : List (Entry A)) (t : List ℕ) → ends_left (before_wikilink left) t ≡ ends_left left t
-  of_wikilink left t = marks without_wikilink (on_marks disabled_mark left) t ∙ marks disabled_mark left t
+  of_wikilink left t = marks without_wikilink (on_states disabled_state left) t ∙ marks disabled_state left t
 
   of_footnote : (left : List (Entry A)) (t : List ℕ) → ends_left (before_footnote left) t ≡ ends_left left t
   of_footnote left t = marks without_bracket (second_folded left) t ∙ second left t
@@ -202,25 +204,26 @@ module _ {A : Type 0} (own : Shape → List ℕ) (holds : List ℕ → (limit : 
   abbrev IsPart : List (Entry A) → Split A → Type 0
   IsPart left o = (t : List ℕ) → IsWithin (ends_left o.before (ends_left o.after t)) (ends_left left t)
 
-  part_done : (a : Label A) (below : Forest (Label A)) (left : List (Entry A)) (o : Option (Split A))
+  part_done : (a : TreeNode A) (below : Forest (TreeNode A)) (left : List (Entry A)) (o : Option (Split A))
       → IfSome o (IsPart left)
-      → IfSome (option_map (behind (done a below)) o) (IsPart (done a below ∷ left))
+      → IfSome (option_map (with_entry (done a below)) o) (IsPart (done a below ∷ left))
   part_done a below left None h = tt
   part_done a below left (Some o) h = λ t. h (ends below (of a ++ t))
 
-  part_waits : (m : Mark) (a : Label A) (left : List (Entry A)) (o : Option (Split A)) → IfSome o (IsPart left)
-      → IfSome (option_map (behind (waits m a)) o) (IsPart (waits m a ∷ left))
+  part_waits : (m : OpenerState) (a : TreeNode A) (left : List (Entry A)) (o : Option (Split A)) → IfSome o
+      (IsPart left)
+      → IfSome (option_map (with_entry (waits m a)) o) (IsPart (waits m a ∷ left))
   part_waits m a left None h = tt
   part_waits m a left (Some o) h = λ t. h (of a ++ t)
 
-  part_nearest : (test : Mark → Bool) (left : List (Entry A)) → IfSome (nearest test left) (IsPart left)
+  part_nearest : (test : OpenerState → Bool) (left : List (Entry A)) → IfSome (nearest test left) (IsPart left)
   part_nearest test [] = tt
   part_nearest test (done a below ∷ left) = part_done a below left (nearest test left) (part_nearest test left)
   part_nearest test (waits m a ∷ left) = by (test m) (part_nearest test left)
     where
       by : (b : Bool) → IfSome (nearest test left) (IsPart left)
-          → IfSome (if b then Some (record { mark = m; opener = a; after = []; before = left })
-          else option_map (behind (waits m a)) (nearest test left)) (IsPart (waits m a ∷ left))
+          → IfSome (if b then Some (record { state = m; opener = a; after = []; before = left })
+          else option_map (with_entry (waits m a)) (nearest test left)) (IsPart (waits m a ∷ left))
       by true h = λ t. mono_left left t (of a ++ t) (drop_list (of a) t t (within_same t))
       by false h = part_waits m a left (nearest test left) h
 
@@ -232,7 +235,7 @@ module _ {A : Type 0} (own : Shape → List ℕ) (holds : List ℕ → (limit : 
       (sym (e t)) (h t)
 
   -- trees from a byte on, and those of a wikilink
-  from_byte : (i : ℕ) (f : Forest (Label A)) (t : List ℕ) → IsWithin (ends (past_byte i f) t) (ends f t)
+  from_byte : (i : ℕ) (f : Forest (TreeNode A)) (t : List ℕ) → IsWithin (ends (past_byte i f) t) (ends f t)
   from_byte i nil t = within_same t
   from_byte i (node a below after) t = by (nat_le (end_of a) i) (from_byte i after t)
     where
@@ -246,43 +249,43 @@ module _ {A : Type 0} (own : Shape → List ℕ) (holds : List ℕ → (limit : 
           (sym (keeps.cut (i - start_of a) a.part.shape)) (within_same (ends below (of a ++ ends after t)))
 
   -- those from the second tree on
-  of_second : (f : Forest (Label A)) (t : List ℕ) → IsWithin (ends (past_second f) t) (ends f t)
+  of_second : (f : Forest (TreeNode A)) (t : List ℕ) → IsWithin (ends (past_second f) t) (ends f t)
   of_second nil t = within_same t
   of_second (node a below after) t = ends_drop own below (ends after t) (of a ++ ends after t)
       (drop_list (of a) (ends after t) (ends after t) (within_same (ends after t)))
 
-  module _ (w : Around) (c : Closing A) where
+  module _ (w : BracketContext) (c : Closing A) where
     -- a Text
     as_text_holds : (p : Progress A) → Holds p → Holds (put w c a_text p)
     as_text_holds p h =
-        let bytes : List ℕ = slice_range w.setting.text (start_of c.label) (end_of c.label) in
+        let bytes : List ℕ = slice_range w.setting.text (start_of c.node) (end_of c.node) in
         let shown : List ℕ = own (leaf (text bytes) (sliced ∷ [])) in
-        keeps.less (ends_left p.left []) (ends_left p.left (shown ++ [])) p.known.limit
+        keeps.less (ends_left p.left []) (ends_left p.left (shown ++ [])) p.state.limit
         (mono_left p.left (shown ++ []) []
         (none_before shown [] [] (text_none own keeps.numbers bytes) (within_same []))) h
 
     -- a link or an image that was not looked up, and one that was
-    abbrev of_tag : (is_image : Bool) → LinkView → List ℕ
-    of_tag is_image v = own (enclosed (if is_image then image v else link v))
+    abbrev of_note : (is_image : Bool) → LinkView → List ℕ
+    of_note is_image v = own (enclosed (if is_image then image v else link v))
 
-    tag_none : (is_image : Bool) (v : LinkView) → is_looked_up v.kind ≡ false → of_tag is_image v ≡ []
+    tag_none : (is_image : Bool) (v : LinkView) → is_looked_up v.kind ≡ false → of_note is_image v ≡ []
     tag_none true v e = keeps.other_image v e
     tag_none false v e = keeps.other_link v e
 
     tag_holds : (is_image : Bool) (v : LinkView) (ns : List ℕ) (limit : ℕ) → is_looked_up v.kind ≡ false
         → holds ns limit
-        → holds (ns ++ of_tag is_image v) limit
+        → holds (ns ++ of_note is_image v) limit
     tag_holds is_image v ns limit e h = subst (λ (l : List ℕ). holds l limit)
         (sym (ap (λ (l : List ℕ). ns ++ l) (tag_none is_image v e)
         ∙ append-nil ns)) h
 
     tag_found : (is_image : Bool) (v : LinkView) (ns : List ℕ) (limit : ℕ) → 1 ≤ limit → holds ns limit
-        → holds (ns ++ of_tag is_image v) (limit - size_of v)
+        → holds (ns ++ of_note is_image v) (limit - size_of v)
     tag_found true v ns limit e h = keeps.image_found ns limit v e h
     tag_found false v ns limit e h = keeps.link_found ns limit v e h
 
     -- with what is inside it and before it
-    enclosing : (left : List (Entry A)) (o : Split A) (children : Forest (Label A)) (before : List (Entry A))
+    enclosing : (left : List (Entry A)) (o : Split A) (children : Forest (TreeNode A)) (before : List (Entry A))
         (x : List ℕ) (limit later : ℕ)
         → IsWithin (ends children []) (ends_left o.after [])
         → ((t : List ℕ) → ends_left before t ≡ ends_left o.before t) → IsPart left o
@@ -309,33 +312,33 @@ module _ {A : Type 0} (own : Shape → List ℕ) (holds : List ℕ → (limit : 
         → IsPart p.left o → Holds p
         → Holds (put w c (a_link o v end next) p)
     link_holds o v end next p e part h =
-        enclosing p.left o (inside o) (before_link o.mark.is_image o.before) (of_tag o.mark.is_image v) p.known.limit
-        p.known.limit
-        (inside_within o []) (of_link o.mark.is_image o.before) part
-        (λ ns k. tag_holds o.mark.is_image v ns p.known.limit e k) h
+        enclosing p.left o (inside o) (before_link o.state.is_image o.before) (of_note o.state.is_image v) p.state.limit
+        p.state.limit
+        (inside_within o []) (of_link o.state.is_image o.before) part
+        (λ ns k. tag_holds o.state.is_image v ns p.state.limit e k) h
 
-    link_found : (o : Split A) (v : LinkView) (end next limit : ℕ) (p : Progress A) → 1 ≤ limit → p.known.limit
+    link_found : (o : Split A) (v : LinkView) (end next limit : ℕ) (p : Progress A) → 1 ≤ limit → p.state.limit
         ≡ limit - size_of v
         → IsPart p.left o → holds (ends_left p.left []) limit
         → Holds (put w c (a_link o v end next) p)
     link_found o v end next limit p some e part h =
         subst (λ l. holds (ends_left (put w c (a_link o v end next) p).left []) l) (sym e)
-        (enclosing p.left o (inside o) (before_link o.mark.is_image o.before) (of_tag o.mark.is_image v) limit
+        (enclosing p.left o (inside o) (before_link o.state.is_image o.before) (of_note o.state.is_image v) limit
         (limit - size_of v)
-        (inside_within o []) (of_link o.mark.is_image o.before) part
-        (λ ns k. tag_found o.mark.is_image v ns limit some k) h)
+        (inside_within o []) (of_link o.state.is_image o.before) part
+        (λ ns k. tag_found o.state.is_image v ns limit some k) h)
 
     wikilink_holds : (o : Split A) (v : Wikilink A) (end : ℕ) (p : Progress A)
         → IsWithin (ends v.children []) (ends_left o.after [])
         → IsPart p.left o → Holds p → Holds (put w c (a_wikilink o v end) p)
     wikilink_holds o v end p i part h =
-        enclosing p.left o v.children (before_wikilink o.before) (of_tag o.mark.is_image (wikilink_target v))
-        p.known.limit p.known.limit i
+        enclosing p.left o v.children (before_wikilink o.before) (of_note o.state.is_image (wikilink_target v))
+        p.state.limit p.state.limit i
         (of_wikilink o.before) part
-        (λ ns k. tag_holds o.mark.is_image (wikilink_target v) ns p.known.limit refl k) h
+        (λ ns k. tag_holds o.state.is_image (wikilink_target v) ns p.state.limit refl k) h
 
     -- a footnote reference
-    footnote_within : (is_image : Bool) (a : Label A) (name : List ℕ) (before : List (Entry A))
+    footnote_within : (is_image : Bool) (a : TreeNode A) (name : List ℕ) (before : List (Entry A))
         → IsWithin (ends_left (footnote_onto w c is_image a name before) []) (ends_left before [])
     footnote_within true a name before =
         let bytes : List ℕ = slice_range w.setting.text (start_of a) (start_of a + 1) in
@@ -358,17 +361,17 @@ module _ {A : Type 0} (own : Shape → List ℕ) (holds : List ℕ → (limit : 
         subst (λ (l : List ℕ). IsWithin l (ends_left p.left [])) (sym (of_footnote o.before []))
         (within_trans (ends_left o.before []) (ends_left o.before (ends_left o.after [])) (ends_left p.left [])
         (mono_left o.before [] (ends_left o.after []) (within_nothing (ends_left o.after []))) (part [])) in
-        keeps.less (ends_left p.left []) (ends_left (footnote_onto w c o.mark.is_image o.opener name left) [])
-        p.known.limit
-        (within_trans (ends_left (footnote_onto w c o.mark.is_image o.opener name left) []) (ends_left left [])
+        keeps.less (ends_left p.left []) (ends_left (footnote_onto w c o.state.is_image o.opener name left) [])
+        p.state.limit
+        (within_trans (ends_left (footnote_onto w c o.state.is_image o.opener name left) []) (ends_left left [])
         (ends_left p.left [])
-        (footnote_within o.mark.is_image o.opener name left) before) h
+        (footnote_within o.state.is_image o.opener name left) before) h
 
     -- a left list without some flags
     unmarked : (p : Progress A) (left : List (Entry A)) → ((t : List ℕ) → ends_left left t ≡ ends_left p.left t)
         → Holds p
         → Holds (record p { left = left })
-    unmarked p left e h = subst (λ (l : List ℕ). holds l p.known.limit) (sym (e [])) h
+    unmarked p left e h = subst (λ (l : List ℕ). holds l p.state.limit) (sym (e [])) h
 
     -- a left list with the same numbers
     abbrev Same : List (Entry A) → List (Entry A) → Type 0
@@ -381,7 +384,8 @@ module _ {A : Type 0} (own : Shape → List ℕ) (holds : List ℕ → (limit : 
     }
 
     -- its nearest opener is one of the left list
-    part_same : (test : Mark → Bool) (left other : List (Entry A)) (o : Split A) → Same left other → nearest test other
+    part_same : (test : OpenerState → Bool) (left other : List (Entry A)) (o : Split A) → Same left other
+        → nearest test other
         ≡ Some o
         → IsPart left o
     part_same test left other o same e =
@@ -389,26 +393,26 @@ module _ {A : Type 0} (own : Shape → List ℕ) (holds : List ℕ → (limit : 
         (some_of (nearest test other) o (IsPart other) e (part_nearest test other))
 
     -- what a wikilink shows is a part of what is inside its brackets
-    wikilink_within : (o : Split A) (v : Wikilink A) → wikilink_in w (past_second (inside o)) (start_of c.label)
+    wikilink_within : (o : Split A) (v : Wikilink A) → wikilink_in w (past_second (inside o)) (start_of c.node)
         ≡ Some v
         → IsWithin (ends v.children []) (ends_left o.after [])
     wikilink_within o v is =
-        some_of (wikilink_in w (past_second (inside o)) (start_of c.label)) v (λ v. IsPartOf v.children) is
+        some_of (wikilink_in w (past_second (inside o)) (start_of c.node)) v (λ v. IsPartOf v.children) is
         (wikilink_keeps w IsPartOf
         (λ a x y t. none_before _ t (ends_left o.after t) (text_none own keeps.numbers (slice_range w.setting.text x y))
         (drop_left o.after t t (within_same t)))
         (λ i f k t. within_trans (ends (past_byte i f) t) (ends f t) (ends_left o.after t) (from_byte i f t) (k t))
-        (past_second (inside o)) (start_of c.label)
+        (past_second (inside o)) (start_of c.node)
         (λ t. within_trans (ends (past_second (inside o)) t) (ends (inside o) t) (ends_left o.after t)
         (of_second (inside o) t)
         (inside_within o t))) []
       where
-        IsPartOf : Forest (Label A) → Type 0
+        IsPartOf : Forest (TreeNode A) → Type 0
         IsPartOf f = (t : List ℕ) → IsWithin (ends f t) (ends_left o.after t)
 
     -- what is looked up
     target_try : (o : Split A) (r : LinkReference) (limit : ℕ) (target : Option LinkView) (p : Progress A)
-        → MatchOption target (p.known.limit ≡ limit) (λ v. (1 ≤ limit) × (p.known.limit ≡ limit - size_of v))
+        → MatchOption target (p.state.limit ≡ limit) (λ v. (1 ≤ limit) × (p.state.limit ≡ limit - size_of v))
         → IsPart p.left o → holds (ends_left p.left []) limit
         → Holds (put w c (unwrap_or (option_map (λ t. a_link o t r.end r.next) target) a_text) p)
     target_try o r limit None p e part h = as_text_holds p (subst (λ l. holds (ends_left p.left []) l) (sym e) h)
@@ -430,10 +434,10 @@ module _ {A : Type 0} (own : Shape → List ℕ) (holds : List ℕ → (limit : 
         (λ other o s e live.
         let part = there o (part_same opens_bracket p.left other o s e) in record {
           inline = λ t is. link_holds o (inline_target w t) t.ends t.ends now refl part h';
-          refers = λ r way.
-              let result = look_up rules.definitions rules.asks p.known.limit p.known.answers (question_at o r) in
-              target_try o r p.known.limit result.target (looked_up o r result now).progress
-              (takes_from rules.definitions rules.asks p.known.limit p.known.answers (question_at o r)) part h';
+          refers = λ r visit.
+              let result = look_up rules.definitions rules.asks p.state.limit p.state.answers (question_at o r) in
+              target_try o r p.state.limit result.target (looked_up o r result now).progress
+              (takes_from rules.definitions rules.asks p.state.limit p.state.answers (question_at o r)) part h';
           footnote = λ name. footnote_holds o name now part h';
         })
         (λ other o v end s e live is k.
@@ -441,7 +445,7 @@ module _ {A : Type 0} (own : Shape → List ℕ) (holds : List ℕ → (limit : 
         p.left (λ t. refl))
 
   -- the trees that replace a find have no numbers
-  code_none : (s : Setting) (escaped : Bool) (a : Label A) (t : SpanText) (closer : Label A)
+  code_none : (s : Setting) (escaped : Bool) (a : TreeNode A) (t : SpanText) (closer : TreeNode A)
       → HasNone (code_trees s escaped a t closer)
   code_none s false a t closer = (keeps.numbers.lone (code t.bytes) (t.origin ∷ []) tt, tt, tt)
   code_none s true a t closer = (
@@ -450,7 +454,7 @@ module _ {A : Type 0} (own : Shape → List ℕ) (holds : List ℕ → (limit : 
     (keeps.numbers.lone (code t.bytes) (t.origin ∷ []) tt, tt, tt),
   )
 
-  markup_none : (s : Setting) (new : A) (a : Label A) (m : Markup) → HasNone (markup_trees s new a m)
+  markup_none : (s : Setting) (new : A) (a : TreeNode A) (m : Markup) → HasNone (markup_trees s new a m)
   markup_none s new a (autolink end uri) = (
     keeps.other_link (address uri) refl,
     (text_none own keeps.numbers (slice_range s.text (end_of a) (end - 1)), tt, tt),
@@ -460,7 +464,7 @@ module _ {A : Type 0} (own : Shape → List ℕ) (holds : List ℕ → (limit : 
       = (keeps.numbers.lone (inline_html (slice_range s.text (start_of a) end)) (sliced ∷ []) tt, tt, tt)
   markup_none s new a (html_markup end (Some bytes)) = (keeps.numbers.lone (inline_html bytes) (made ∷ []) tt, tt, tt)
 
-  find_none : (s : Setting) (new : A) (a : Label A) (found : Find A) → HasNone (trees_for s new a found)
+  find_none : (s : Setting) (new : A) (a : TreeNode A) (found : Find A) → HasNone (trees_for s new a found)
   find_none s new a (code_span t closer) = code_none s (is_escaped (open_body a.part.shape)) a t closer
   find_none s new a (math_span display t end) = (
     keeps.numbers.lone (math display t.bytes) (t.origin ∷ []) (lone_math display t.bytes),
@@ -470,26 +474,27 @@ module _ {A : Type 0} (own : Shape → List ℕ) (holds : List ℕ → (limit : 
   find_none s new a (markup m) = markup_none s new a m
   find_none s new a nothing = (text_none own keeps.numbers (slice_range s.text (start_of a) (end_of a)), tt, tt)
 
-  module _ (s : Setting) (tags : Tags A) (above : Above) where
+  module _ (s : Setting) (notes : Notes A) (above : EnclosingBlocks) where
     -- what is read of an item that is no bracket
-    unless_none : (quiet : Bool) (n : ℕ) (a : Label A) (below rest : Forest (Label A)) → own a.part.shape ≡ []
+    unless_none : (quiet : Bool) (n : ℕ) (a : TreeNode A) (below rest : Forest (TreeNode A)) → own a.part.shape ≡ []
         → HasNone below
-        → HasNone (read_unless quiet s tags above n a below rest).trees
+        → HasNone (read_unless quiet s notes above n a below rest).trees
     unless_none true n a below rest e i = (e, i, tt)
-    unless_none false n a below rest e i = find_none s (tags.fresh n) a (find s above a rest)
+    unless_none false n a below rest e i = find_none s (notes.of_made n) a (find s above a rest)
 
-    other_holds : (a : Label A) (below rest : Forest (Label A)) (p : Progress A) → own a.part.shape ≡ [] → HasNone below
+    other_holds : (a : TreeNode A) (below rest : Forest (TreeNode A)) (p : Progress A) → own a.part.shape ≡ []
+        → HasNone below
         → Holds p
-        → Holds (read_other s tags above a below rest p)
+        → Holds (read_other s notes above a below rest p)
     unfolding read_tree
     other_holds a below rest p e i h =
-        let trees : Forest (Label A) = (read_tree s tags above p.made a below rest).trees in
+        let trees : Forest (TreeNode A) = (read_tree s notes above p.made a below rest).trees in
         let none : HasNone trees = unless_none (is_quiet a.part.shape) p.made a below rest e i in
-        keeps.less (ends_left p.left []) (ends_left (all_done trees p.left) []) p.known.limit
+        keeps.less (ends_left p.left []) (ends_left (all_done trees p.left) []) p.state.limit
         (subst (λ (l : List ℕ). IsWithin l (ends_left p.left [])) (sym (put_on trees p.left []))
         (mono_left p.left (ends trees []) [] (none_onto trees [] none))) h
 
-    opener_holds : (a : Label A) (left : List (Entry A)) (limit : ℕ) → holds (ends_left left []) limit
+    opener_holds : (a : TreeNode A) (left : List (Entry A)) (limit : ℕ) → holds (ends_left left []) limit
         → holds (ends_left left (own (leaf (text (slice_range s.text (start_of a) (end_of a))) (sliced ∷ [])) ++ []))
         limit
     opener_holds a left limit h =
@@ -500,24 +505,27 @@ module _ {A : Type 0} (own : Shape → List ℕ) (holds : List ℕ → (limit : 
         h
 
     -- an item, a chain, and pass one
-    as_holds : (b : ItemBody) (a : Label A) (below rest : Forest (Label A)) (p : Progress A) → own a.part.shape ≡ []
+    as_holds : (b : ItemBody) (a : TreeNode A) (below rest : Forest (TreeNode A)) (p : Progress A)
+        → own a.part.shape ≡ []
         → HasNone below
         → Holds p
-        → Holds (read_as (around s above) (read_other s tags above) b a below rest p)
-    as_holds body.MaybeLinkOpen a below rest p e i h = opener_holds a p.left p.known.limit h
-    as_holds body.MaybeImage a below rest p e i h = opener_holds a p.left p.known.limit h
-    as_holds (body.MaybeLinkClose could) a below rest p e i h = closed_holds (around s above)
+        → Holds (read_as (bracket_context s above) (read_other s notes above) b a below rest p)
+    as_holds body.MaybeLinkOpen a below rest p e i h = opener_holds a p.left p.state.limit h
+    as_holds body.MaybeImage a below rest p e i h = opener_holds a p.left p.state.limit h
+    as_holds (body.MaybeLinkClose could) a below rest p e i h = closed_holds (bracket_context s above)
         (closing_of could a rest p) p h
     as_holds other a below rest p e i h = other_holds a below rest p e i h
 
-    past_holds : (goes_on : Option ℕ) (a : Label A) (below rest : Forest (Label A)) (p : Progress A) → own a.part.shape
+    past_holds : (goes_on : Option ℕ) (a : TreeNode A) (below rest : Forest (TreeNode A)) (p : Progress A)
+        → own a.part.shape
         ≡ [] → HasNone below
         → Holds p
-        → Holds (read_past (around s above) (read_other s tags above) goes_on a below rest p)
+        → Holds (read_past (bracket_context s above) (read_other s notes above) goes_on a below rest p)
     past_holds None a below rest p e i h = as_holds (open_body a.part.shape) a below rest p e i h
     past_holds (Some n) a below rest p e i h = by (nat_le (end_of a) n)
       where
-        by : (b : Bool) → Holds (if b then p else read (around s above) (read_other s tags above) (begun_at n a) below
+        by : (b : Bool) → Holds (if b then p else read (bracket_context s above) (read_other s notes above)
+            (begun_at n a) below
             rest
             (record p { goes_on = None }))
         by true = h
@@ -525,32 +533,33 @@ module _ {A : Type 0} (own : Shape → List ℕ) (holds : List ℕ → (limit : 
             (record p { goes_on = None })
             (keeps.cut (n - start_of a) a.part.shape ∙ e) i h
 
-    chain_holds : (chain : Forest (Label A)) (p : Progress A) → HasNone chain → Holds p
-        → Holds (read_on s tags above chain p)
+    chain_holds : (chain : Forest (TreeNode A)) (p : Progress A) → HasNone chain → Holds p
+        → Holds (read_on s notes above chain p)
     unfolding read_chain
     chain_holds nil p e h = h
     chain_holds (node a below rest) p e h =
-        chain_holds rest (read_past (around s above) (read_other s tags above) p.goes_on a below rest p) e.2
+        chain_holds rest (read_past (bracket_context s above) (read_other s notes above) p.goes_on a below rest p) e.2
         (past_holds p.goes_on a below rest p e.0 e.1 h)
 
-    pass_one_holds : (chain : Forest (Label A)) (known : Known) → HasNone chain → holds [] known.limit
-        → holds (ends (pass_one s tags above chain known).forest []) (pass_one s tags above chain known).known.limit
+    pass_one_holds : (chain : Forest (TreeNode A)) (state : ReferenceState) → HasNone chain → holds [] state.limit
+        → holds (ends (pass_one s notes above chain state).forest []) (pass_one s notes above chain state).state.limit
     unfolding pass_one
-    pass_one_holds chain known e h =
-        let p : Progress A = read_on s tags above chain (begun known) in
-        subst (λ (l : List ℕ). holds l p.known.limit) (sym (onto p.left nil [])) (chain_holds chain (begun known) e h)
+    pass_one_holds chain state e h =
+        let p : Progress A = read_on s notes above chain (begun state) in
+        subst (λ (l : List ℕ). holds l p.state.limit) (sym (onto p.left nil [])) (chain_holds chain (begun state) e h)
 
   -- a resolved chain, with its chains of children paired
-  pub resolved_holds : (s : Setting) (tags : Tags A) (above : Above) (chain : Forest (Label A)) (known : Known)
+  pub resolved_holds : (s : Setting) (notes : Notes A) (above : EnclosingBlocks) (chain : Forest (TreeNode A))
+      (state : ReferenceState)
       → HasNone chain
-      → holds [] known.limit
-      → holds (ends (all_paired s (resolved s tags above chain known).forest) [])
-      (resolved s tags above chain known).known.limit
+      → holds [] state.limit
+      → holds (ends (all_paired s (resolved s notes above chain state).forest) [])
+      (resolved s notes above chain state).state.limit
   unfolding resolved
-  resolved_holds s tags above chain known e h =
-      let f : Forest (Label A) = (pass_one s tags above chain known).forest in
-      keeps.less (ends f []) (ends (all_paired s (paired s f)) []) (pass_one s tags above chain known).known.limit
+  resolved_holds s notes above chain state e h =
+      let f : Forest (TreeNode A) = (pass_one s notes above chain state).forest in
+      keeps.less (ends f []) (ends (all_paired s (paired s f)) []) (pass_one s notes above chain state).state.limit
       (within_trans (ends (all_paired s (paired s f)) []) (ends (paired s f) []) (ends f [])
       (all_within own keeps.numbers s (paired s f)
       []) (paired_within own keeps.numbers s f []))
-      (pass_one_holds s tags above chain known e h)
+      (pass_one_holds s notes above chain state e h)

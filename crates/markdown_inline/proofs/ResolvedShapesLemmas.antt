@@ -5,7 +5,7 @@ use Rattle.std.specs.Prelude.{if◌then◌else◌}
 use Rattle.markdown_base.specs.Event.{TagView, link, image}
 use Rattle.markdown_base.specs.Forest.{Forest, nil, node, Each}
 use Rattle.markdown_document.specs.ChainRest.{cut_shape}
-use Rattle.markdown_document.specs.Document.{Shape, leaf, enclosed, Label}
+use Rattle.markdown_document.specs.Document.{Shape, leaf, enclosed, TreeNode}
 use Rattle.markdown_delims.proofs.SumLemmas.{sum_of}
 use Rattle.markdown_inline.specs.ResolvedDocument.{resolved_chain}
 use Rattle.markdown_inline.specs.ResolvedShapes.{IsMadeShape, IsMadeTag, IsMark, ShapesLaw}
@@ -58,13 +58,13 @@ module _ (passes : Shape → Bool) (made : (shape : Shape) → IsMadeShape shape
   }
 
   module _ {A : Type 0} where
-    none_in : (f : Forest (Label A)) → Each (λ (a : Label A). passes a.part.shape ≡ true) f
-        → Each (λ (a : Label A). own a.part.shape ≡ []) f
+    none_in : (f : Forest (TreeNode A)) → Each (λ (a : TreeNode A). passes a.part.shape ≡ true) f
+        → Each (λ (a : TreeNode A). own a.part.shape ≡ []) f
     none_in nil h = tt
     none_in (node a below after) h = (passed_none (passes a.part.shape) h.0, none_in below h.1, none_in after h.2)
 
-    all_pass : (f : Forest (Label A)) → sum_of (λ (a : Label A). total (own a.part.shape)) f ≡ 0
-        → Each (λ (a : Label A). passes a.part.shape ≡ true) f
+    all_pass : (f : Forest (TreeNode A)) → sum_of (λ (a : TreeNode A). total (own a.part.shape)) f ≡ 0
+        → Each (λ (a : TreeNode A). passes a.part.shape ≡ true) f
     all_pass nil e = tt
     all_pass (node a below after) e = (
       none_passed (passes a.part.shape) (omega (arith, e)),
@@ -74,9 +74,9 @@ module _ (passes : Shape → Bool) (made : (shape : Shape) → IsMadeShape shape
     )
 
 pub shapes-law : {A : Type 0} → ShapesLaw A
-shapes-law passes made cuts s tags above chain known h =
-    let trees = (resolved_chain s tags above chain known).trees in
-    let none = resolved_holds (own passes made cuts) (λ ns limit. total ns ≡ 0) (passes_keep passes made cuts) s tags
-    above chain known
+shapes-law passes made cuts s notes above chain state h =
+    let trees = (resolved_chain s notes above chain state).trees in
+    let none = resolved_holds (own passes made cuts) (λ ns limit. total ns ≡ 0) (passes_keep passes made cuts) s notes
+    above chain state
     (none_in passes made cuts chain h) refl in
     all_pass passes made cuts trees (omega (arith, none, total_ends (own passes made cuts) trees []))

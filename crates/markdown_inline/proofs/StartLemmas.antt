@@ -39,9 +39,9 @@ use Rattle.markdown_blocks.specs.declared.blocks.Blocks.{Blocks}
 use Rattle.markdown_inline.specs.ParserLeft.{elements, rules_of, reading_of, expansion_limit, ReadsBlocks, ReadsText}
 use Rattle.markdown_inline.specs.ParserLeft.{block_definitions, parser_definitions}
 use Rattle.markdown_inline.specs.Walk.{left_of}
-use Rattle.markdown_document.specs.Places.{label_at, trees_from, origin_start}
+use Rattle.markdown_document.specs.Places.{tree_node_at, trees_from, origin_start}
 use Rattle.markdown_document.specs.PlacedNodes.{IsPlaced, HasSlices}
-use Rattle.markdown_document.specs.Document.{block_of, label_of, document, shape_of}
+use Rattle.markdown_document.specs.Document.{block_of, tree_node_of, document, shape_of}
 use Rattle.markdown_document.specs.Setting.{Rules, rules_from, use_count, uses_of}
 use Rattle.markdown_resolver.specs.Kept.{IsQuiet, IsQuietBelow}
 use Rattle.markdown_resolver.specs.Unread.{IsUnmade, IsUnread, is_made}
@@ -193,7 +193,7 @@ childless-inline other h = h
 
 nothing_below : (source : List ℕ) (tables : Tables) (nodes : List (Node Item)) (f : Forest ℕ)
     → relabelled (numbered nodes) f ≡ nil
-    → IsQuiet (relabelled (label_at source tables nodes) f)
+    → IsQuiet (relabelled (tree_node_at source tables nodes) f)
 nothing_below source tables nodes nil h = tt
 nothing_below source tables nodes (node ix below after) h = cc h
 
@@ -216,7 +216,7 @@ Childless f = Throughout (λ a below after. IsTrue (is_childless a.item.body) �
 quiet_inline : (source : List ℕ) (tables : Tables) (nodes : List (Node Item)) (f : Forest ℕ)
     → Childless (relabelled (numbered nodes) f)
     → all_inline (relabelled (numbered nodes) f) ≡ true
-    → IsQuietBelow (relabelled (label_at source tables nodes) f)
+    → IsQuietBelow (relabelled (tree_node_at source tables nodes) f)
 quiet_inline source tables nodes nil c h = tt
 quiet_inline source tables nodes (node ix below after) c h =
     let here = and_left (is_inline (item_at nodes ix).body) (all_inline (relabelled (numbered nodes) after)) h in (
@@ -238,7 +238,7 @@ inline_unmade tables bytes (body.Image ix) h = cc h
 inline_unmade tables bytes other h = refl
 
 unmade_inline : (source : List ℕ) (tables : Tables) (nodes : List (Node Item)) (f : Forest ℕ)
-    → all_inline (relabelled (numbered nodes) f) ≡ true → IsUnmade (relabelled (label_at source tables nodes) f)
+    → all_inline (relabelled (numbered nodes) f) ≡ true → IsUnmade (relabelled (tree_node_at source tables nodes) f)
 unmade_inline source tables nodes nil h = tt
 unmade_inline source tables nodes (node ix below after) h =
     let item = item_at nodes ix in
@@ -248,7 +248,7 @@ unmade_inline source tables nodes (node ix below after) h =
     )
 
 unread_inline : (source : List ℕ) (tables : Tables) (nodes : List (Node Item)) (f : Forest ℕ)
-    → all_inline (relabelled (numbered nodes) f) ≡ true → IsUnread (relabelled (label_at source tables nodes) f)
+    → all_inline (relabelled (numbered nodes) f) ≡ true → IsUnread (relabelled (tree_node_at source tables nodes) f)
 unread_inline source tables nodes nil h = tt
 unread_inline source tables nodes (node ix below after) h =
     let item = item_at nodes ix in
@@ -266,7 +266,7 @@ kept_from : (source : List ℕ) (tables : Tables) (nodes : List (Node Item)) (f 
     → Childless (relabelled (numbered nodes) f)
     → InlineOnly (relabelled (numbered nodes) f)
     → (IsTrue (has_open (relabelled (numbered nodes) f)) → IsTrue (all_inline (relabelled (numbered nodes) f)))
-    → IsKept (relabelled (label_at source tables nodes) f)
+    → IsKept (relabelled (tree_node_at source tables nodes) f)
 kept_from source tables nodes nil c i h = tt
 kept_from source tables nodes (node ix below after) c i h =
     let item = item_at nodes ix in (
@@ -321,7 +321,7 @@ some_if a false = refl
 -- the document's tree is that of the trees from the first block on
 document-trees : (source : List ℕ) (tables : Tables) (nodes : List (Node Item))
     → document source tables nodes ≡ trees_from source tables nodes (child_of nodes 0)
-document-trees source tables nodes = relabelled-relabelled (numbered nodes) (λ n. label_of source tables n.item)
+document-trees source tables nodes = relabelled-relabelled (numbered nodes) (λ n. tree_node_of source tables n.item)
     (numbers_below nodes)
 
 -- the tables are those of the block result

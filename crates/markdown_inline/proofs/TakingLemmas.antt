@@ -1,6 +1,6 @@
 -- What an item begins with, by what it refers to, and what is left in the tables.
 use Rattle.markdown_base.specs.declared.item.ItemBody.TheVariants as body
-use Rattle.markdown_inline.specs.declared.bodies.Way.TheVariants as way
+use Rattle.markdown_inline.specs.declared.bodies.Visit.TheVariants as visit
 use Rattle.std.proofs.Common.{◌≡◌, ℕ, zero, suc, ◌-◌, ◌<◌, ◌≤◌, List, [], ◌∷◌, Option, Some, None, length, refl, sym}
 use Rattle.std.proofs.Common.{ap, subst, arith, ◌∙◌}
 use Rattle.std.proofs.Common.{get_or, set, true, false}
@@ -41,7 +41,7 @@ use Rattle.markdown_document.specs.NamedEntries.{link_named, size_for, NamesEntr
 use Rattle.markdown_document.specs.Totals.{same}
 use Rattle.markdown_document.proofs.TablesLemmas.{same_entry-refl}
 use Rattle.markdown_inline.specs.Slices.{slice_start, texts_of, IsFrom, TagIsFrom, StartIsFrom}
-use Rattle.markdown_inline.specs.WalkSteps.{OpensWith, TakesOnly, beginning, way_at_shape, way_at, event_of_shape}
+use Rattle.markdown_inline.specs.WalkSteps.{OpensWith, TakesOnly, beginning, visit_at_shape, visit_at, event_of_shape}
 use Rattle.markdown_inline.specs.WalkSteps.{container_of}
 
 -- an entry that is read
@@ -293,7 +293,7 @@ opens_span source range cows n view e c within read slice viewed texts from = re
 }
 
 -- where a walk goes over an item, its event is that of the shape
-pub leaf_shape : (shape : Shape) (e : EventView) (origins : List Origin) → way_at_shape shape ≡ way.Leaf
+pub leaf_shape : (shape : Shape) (e : EventView) (origins : List Origin) → visit_at_shape shape ≡ visit.Leaf
     → beginning shape ≡ Some (e, origins) → event_of_shape shape ≡ Some (e, origins)
 leaf_shape (leaf d others) e origins h b = b
 leaf_shape (enclosed tag) e origins h b = cc h
@@ -307,7 +307,7 @@ pub record IsLeafShape (shape : Shape) : Type 0 where
   pub origins : List Origin
   pub begins : beginning shape ≡ Some (event, origins)
 
-pub some_leaf : (shape : Shape) → way_at_shape shape ≡ way.Leaf → IsLeafShape shape
+pub some_leaf : (shape : Shape) → visit_at_shape shape ≡ visit.Leaf → IsLeafShape shape
 some_leaf (leaf e origins) h = record { event = e; origins = origins; begins = refl }
 some_leaf (enclosed tag) h = absurd (cc h)
 some_leaf plain h = absurd (cc h)
@@ -319,7 +319,7 @@ pub record IsEnclosed (shape : Shape) : Type 0 where
   pub tag : TagView
   pub is : shape ≡ enclosed tag
 
-pub some_tag : (shape : Shape) → way_at_shape shape ≡ way.Start → IsEnclosed shape
+pub some_tag : (shape : Shape) → visit_at_shape shape ≡ visit.Start → IsEnclosed shape
 some_tag (leaf e origins) h = absurd (cc h)
 some_tag (enclosed tag) h = record { tag = tag; is = refl }
 some_tag plain h = absurd (cc h)
@@ -327,7 +327,7 @@ some_tag backslash_break h = absurd (cc h)
 some_tag (unresolved other) h = absurd (cc h)
 
 -- where it goes in without one, only what is below is read
-pub plain_shape : (shape : Shape) → way_at_shape shape ≡ way.Plain → shape ≡ plain
+pub plain_shape : (shape : Shape) → visit_at_shape shape ≡ visit.Plain → shape ≡ plain
 plain_shape (leaf e origins) h = cc h
 plain_shape (enclosed tag) h = cc h
 plain_shape plain h = refl
@@ -335,19 +335,20 @@ plain_shape backslash_break h = cc h
 plain_shape (unresolved other) h = cc h
 
 -- how a walk moves at an item depends on its body alone
-pub way-shape : (tables : Tables) (over : List ℕ) (b : ItemBody) → way_at b ≡ way_at_shape (shape_of tables over b)
-way-shape tables over (body.HardBreak true) = refl
-way-shape tables over (body.HardBreak false) = refl
-way-shape tables over other = refl
+pub visit-shape : (tables : Tables) (over : List ℕ) (b : ItemBody) → visit_at b ≡ visit_at_shape
+    (shape_of tables over b)
+visit-shape tables over (body.HardBreak true) = refl
+visit-shape tables over (body.HardBreak false) = refl
+visit-shape tables over other = refl
 
 -- a chain is resolved only at an open item
-pub open-way : (b : ItemBody) → way_at b ≡ way.Open → is_open b ≡ true
-open-way (body.HardBreak true) h = cc h
-open-way (body.HardBreak false) h = cc h
-open-way other h = cc h
+pub open-visit : (b : ItemBody) → visit_at b ≡ visit.Open → is_open b ≡ true
+open-visit (body.HardBreak true) h = cc h
+open-visit (body.HardBreak false) h = cc h
+open-visit other h = cc h
 
 -- the Start of a body that refers to nothing is that of a container
-pub some_container : (b : ItemBody) → way_at b ≡ way.Start
+pub some_container : (b : ItemBody) → visit_at b ≡ visit.Start
     → ((level : HeadingLevel) (named : Option HeadingIndex) → b ≡ body.Heading level named → ⊥)
     → ((ix : CowIndex) → b ≡ body.FencedCodeBlock ix → ⊥) → ((ix : CowIndex) → b ≡ body.FootnoteDefinition ix → ⊥)
     → ((ix : AlignmentIndex) → b ≡ body.Table ix → ⊥) → ((ix : LinkIndex) → b ≡ body.Link ix → ⊥)

@@ -9,8 +9,8 @@ use Rattle.markdown_base.specs.ArenaWalk.{Reaches, AllReach}
 use Rattle.markdown_base.specs.BlockTree.{item_at}
 use Rattle.markdown_inline.specs.Elements.{Placed, Reading, nothing_read, then_reads}
 use Rattle.markdown_inline.specs.WalkSteps.{events_first, event_of_shape}
-use Rattle.markdown_document.specs.Above.{Above, no_blocks, inside_item, inside_all, above_at}
-use Rattle.markdown_document.specs.Setting.{Known, Setting}
+use Rattle.markdown_document.specs.EnclosingBlocks.{EnclosingBlocks, no_blocks, inside_item, inside_all, above_at}
+use Rattle.markdown_document.specs.Setting.{ReferenceState, Setting}
 use Rattle.std.specs.declared.ops.Range.{Range}
 use Rattle.markdown_base.specs.Event.{EventView, TagView, start, tag_end, hard_break}
 use Rattle.markdown_base.specs.Item.{LiesIn, range_of, is_open}
@@ -26,14 +26,14 @@ use Rattle.markdown_base.proofs.ArenaLemmas.{All-front}
 use Rattle.markdown_base.proofs.ForestLemmas.{All-append}
 use Rattle.markdown_inline.specs.Reading.{reading_opened, reading}
 use Rattle.markdown_inline.specs.Walk.{ended, after_chain, left_of, end_of_body, end_of_shape}
-use Rattle.markdown_document.specs.Places.{label_at, trees_from}
+use Rattle.markdown_document.specs.Places.{tree_node_at, trees_from}
 use Rattle.markdown_document.specs.PlacedNodes.{IsPlaced}
 use Rattle.markdown_document.specs.Totals.{total, same, weight_at}
 use Rattle.markdown_document.specs.NamedEntries.{naming, Named}
 use Rattle.markdown_document.specs.Tables.{Tables, heading_at, heading_for}
 use Rattle.markdown_inline.specs.WalkTotals.{climbed, left_total, one_if, waits_at, steps_of}
 use Rattle.markdown_inline.specs.Standing.{AboveKept, Stands, named_left}
-use Rattle.markdown_document.specs.Document.{plain_tags, Origin, Shape, leaf, enclosed, plain, backslash_break}
+use Rattle.markdown_document.specs.Document.{no_notes, Origin, Shape, leaf, enclosed, plain, backslash_break}
 use Rattle.markdown_document.specs.Document.{unresolved, shape_of}
 use Rattle.markdown_document.proofs.PlaceLemmas.{some_weight}
 
@@ -42,8 +42,8 @@ pub record Moves (s : Setting) (tables : Tables) (nodes : List (Node Item)) (l :
     (m : Option ℕ) (deeper : List ℕ)
     (given : List Placed) : Type 0 where
   pub stands : Stands s.text tables nodes m deeper
-  pub left : (known : Known) → left_of s tables nodes l spine known
-      ≡ events_first given (left_of s tables nodes m deeper known)
+  pub left : (state : ReferenceState) → left_of s tables nodes l spine state
+      ≡ events_first given (left_of s tables nodes m deeper state)
   pub falls : steps_of nodes m deeper < steps_of nodes l spine
 
 one_once : (waits : Bool) → one_if waits ≤ 1
@@ -93,18 +93,20 @@ AboveKept-last source tables nodes [] ix a = a
 AboveKept-last source tables nodes (j ∷ js) ix a = AboveKept-last source tables nodes js ix a.1
 
 -- the node that was entered last ends first
-around-snoc : (s : Setting) (above : Above) (tables : Tables) (nodes : List (Node Item)) (spine : List ℕ) (ix : ℕ)
+around-snoc : (s : Setting) (above : EnclosingBlocks) (tables : Tables) (nodes : List (Node Item))
+    (spine : List ℕ) (ix : ℕ)
     (after : Reading)
     → after_chain s above tables nodes (spine ++ ix ∷ []) after
     ≡ ended (end_of_body (item_at nodes ix).body) (range_of (item_at nodes ix))
-    (reading s plain_tags (inside_all nodes spine above) (trees_from s.text tables nodes (sibling_of nodes ix))
+    (reading s no_notes (inside_all nodes spine above) (trees_from s.text tables nodes (sibling_of nodes ix))
     (after_chain s above tables nodes spine after))
 around-snoc s above tables nodes [] ix after = refl
-around-snoc s above tables nodes (j ∷ js) ix after = around-snoc s (inside_item (item_at nodes j) above) tables nodes js
+around-snoc s above tables nodes (j ∷ js) ix after = around-snoc s (inside_item
+    (item_at nodes j) above) tables nodes js
     ix _
 
 -- what is below it is inside it
-inside_all-snoc : (nodes : List (Node Item)) (spine : List ℕ) (ix : ℕ) (above : Above)
+inside_all-snoc : (nodes : List (Node Item)) (spine : List ℕ) (ix : ℕ) (above : EnclosingBlocks)
     → inside_all nodes (spine ++ ix ∷ []) above
     ≡ inside_item (item_at nodes ix) (inside_all nodes spine above)
 inside_all-snoc nodes [] ix above = refl
@@ -167,7 +169,7 @@ reads-event (unresolved b) range inside after whole e origins h = cc h
 -- over a node that reads as one event
 pub moves_on : (s : Setting) (tables : Tables) (nodes : List (Node Item)) (ix : ℕ) (spine : List ℕ) (e : EventView)
     (origins : List Origin)
-    → Stands s.text tables nodes (Some ix) spine → event_of_shape (label_at s.text tables nodes ix).part.shape
+    → Stands s.text tables nodes (Some ix) spine → event_of_shape (tree_node_at s.text tables nodes ix).part.shape
     ≡ Some (e, origins)
     → Moves s tables nodes (Some ix) spine (sibling_of nodes ix) spine ((e, range_of (item_at nodes ix), origins) ∷ [])
 unfolding left_of left_total
@@ -183,8 +185,8 @@ moves_on s tables nodes ix spine e origins w h =
         above_kept = w.above_kept;
         spine_lies = w.spine_lies;
       };
-      left = λ known. rw o.here
-          (ap (λ (r : Reading). r known) (reads-event (label_at s.text tables nodes ix).part.shape _ _ _ _ e origins
+      left = λ state. rw o.here
+          (ap (λ (r : Reading). r state) (reads-event (tree_node_at s.text tables nodes ix).part.shape _ _ _ _ e origins
           h));
       falls = let waits = waits_once nodes (sibling_of nodes ix) in rw o.here (omega arith);
     }
@@ -210,7 +212,7 @@ moves_past_in source tables nodes ix spine n w =
 
 -- into a node that reads as a Start, its children and an End
 pub moves_in : (s : Setting) (tables : Tables) (nodes : List (Node Item)) (ix : ℕ) (spine : List ℕ) (tag : TagView)
-    → Stands s.text tables nodes (Some ix) spine → (label_at s.text tables nodes ix).part.shape ≡ enclosed tag
+    → Stands s.text tables nodes (Some ix) spine → (tree_node_at s.text tables nodes ix).part.shape ≡ enclosed tag
     → Moves s tables nodes (Some ix) spine (child_of nodes ix) (spine ++ ix ∷ [])
     ((start tag, range_of (item_at nodes ix), []) ∷ [])
 unfolding left_of left_total
@@ -236,7 +238,7 @@ moves_in s tables nodes ix spine tag w h =
         above_kept = AboveKept-snoc s.text tables nodes spine ix w.above_kept (kept.2, tt);
         spine_lies = All-append (λ n. LiesIn s.text (item_at nodes n)) spine (ix ∷ []) w.spine_lies (o.holds.lies, tt);
       };
-      left = λ known. rw (
+      left = λ state. rw (
         o.here,
         around-snoc s (no_blocks s.text) tables nodes spine ix nothing_read,
         inside_all-snoc nodes spine ix
@@ -250,7 +252,7 @@ moves_in s tables nodes ix spine tag w h =
 
 -- into a node that reads as its children alone
 pub moves_in_plain : (s : Setting) (tables : Tables) (nodes : List (Node Item)) (ix : ℕ) (spine : List ℕ)
-    → Stands s.text tables nodes (Some ix) spine → (label_at s.text tables nodes ix).part.shape ≡ plain
+    → Stands s.text tables nodes (Some ix) spine → (tree_node_at s.text tables nodes ix).part.shape ≡ plain
     → Moves s tables nodes (Some ix) spine (child_of nodes ix) (spine ++ ix ∷ []) []
 unfolding left_of left_total
 moves_in_plain s tables nodes ix spine w h =
@@ -275,7 +277,7 @@ moves_in_plain s tables nodes ix spine w h =
         above_kept = AboveKept-snoc s.text tables nodes spine ix w.above_kept (kept.2, tt);
         spine_lies = All-append (λ n. LiesIn s.text (item_at nodes n)) spine (ix ∷ []) w.spine_lies (o.holds.lies, tt);
       };
-      left = λ known. rw (
+      left = λ state. rw (
         o.here,
         around-snoc s (no_blocks s.text) tables nodes spine ix nothing_read,
         inside_all-snoc nodes spine ix
@@ -291,9 +293,10 @@ moves_in_plain s tables nodes ix spine w h =
 pub moves_out : (s : Setting) (tables : Tables) (nodes : List (Node Item)) (ix : ℕ) (spine : List ℕ)
     (given : List Placed)
     → Stands s.text tables nodes None (spine ++ ix ∷ [])
-    → ((after : Reading) (known : Known) → ended (end_of_body (item_at nodes ix).body) (range_of (item_at nodes ix))
-    after known
-    ≡ events_first given (after known))
+    → ((after : Reading) (state : ReferenceState) → ended (end_of_body (item_at nodes ix).body) (range_of
+    (item_at nodes ix))
+    after state
+    ≡ events_first given (after state))
     → Moves s tables nodes None (spine ++ ix ∷ []) (sibling_of nodes ix) spine given
 unfolding left_of left_total
 moves_out s tables nodes ix spine given w h =
@@ -311,23 +314,23 @@ moves_out s tables nodes ix spine given w h =
         above_kept = AboveKept-front s.text tables nodes spine ix w.above_kept;
         spine_lies = All-front (λ n. LiesIn s.text (item_at nodes n)) spine ix w.spine_lies;
       };
-      left = λ known. rw (
+      left = λ state. rw (
         forest_at-none (links_of nodes),
         around-snoc s (no_blocks s.text) tables nodes spine ix
             nothing_read,
       )
-          (h (reading s plain_tags (above_at s.text nodes spine) (trees_from s.text tables nodes (sibling_of nodes ix))
-          (after_chain s (no_blocks s.text) tables nodes spine nothing_read)) known);
+          (h (reading s no_notes (above_at s.text nodes spine) (trees_from s.text tables nodes (sibling_of nodes ix))
+          (after_chain s (no_blocks s.text) tables nodes spine nothing_read)) state);
       falls = let waits = waits_once nodes (sibling_of nodes ix)
           in rw (forest_at-none (links_of nodes), climbed-snoc (λ ix. 1) (weight_at nodes) (links_of nodes) spine ix)
           (omega arith);
     }
 
 -- at the end nothing is left
-pub left_of-end : (s : Setting) (tables : Tables) (nodes : List (Node Item)) (known : Known)
-    → left_of s tables nodes None [] known ≡ nothing_read known
+pub left_of-end : (s : Setting) (tables : Tables) (nodes : List (Node Item)) (state : ReferenceState)
+    → left_of s tables nodes None [] state ≡ nothing_read state
 unfolding left_of
-left_of-end s tables nodes known = rw (forest_at-none (links_of nodes)) refl
+left_of-end s tables nodes state = rw (forest_at-none (links_of nodes)) refl
 
 -- with a node at the cursor there are steps to come
 pub steps-some : (source : List ℕ) (tables : Tables) (nodes : List (Node Item)) (ix : ℕ) (spine : List ℕ)

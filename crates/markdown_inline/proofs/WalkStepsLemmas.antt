@@ -3,12 +3,12 @@ use Rattle.std.proofs.Common.{◌≡◌, ℕ, ◌+◌, ◌<◌, ◌≤◌, false
 use Rattle.std.proofs.Common.{arith}
 use Rattle.std.specs.Prelude.{slice_range}
 use Rattle.std.proofs.Common.{sym, subst, ◌∙◌}
-use Rattle.markdown_inline.specs.declared.bodies.Way.TheVariants as way
+use Rattle.markdown_inline.specs.declared.bodies.Visit.TheVariants as visit
 use Rattle.markdown_base.specs.Arena.{Arena, child_of, sibling_of}
 use Rattle.markdown_base.specs.ArenaForest.{links_of}
 use Rattle.markdown_base.specs.BlockTree.{item_at}
 use Rattle.markdown_inline.specs.Elements.{Placed, Reading, nothing_read}
-use Rattle.markdown_document.specs.Setting.{Rules, Setting, Known, setting_of}
+use Rattle.markdown_document.specs.Setting.{Rules, Setting, ReferenceState, setting_of}
 use Rattle.markdown_base.specs.Event.{EventView, TagView, start, end}
 use Rattle.markdown_base.specs.Item.{range_of}
 use Rattle.markdown_base.specs.declared.item.Item.{Item}
@@ -26,8 +26,9 @@ use Rattle.markdown_document.specs.Document.{Origin, Shape, leaf, enclosed, plai
 use Rattle.markdown_document.specs.Document.{shape_of}
 use Rattle.markdown_document.specs.Tables.{Tables, tables_of}
 use Rattle.markdown_inline.specs.WalkSteps.{TreeStands, HasEnded, Went, PassedBeginning, CanBegin, IsRefused, TakesOnly}
-use Rattle.markdown_inline.specs.WalkSteps.{beginning, way_at, way_at_shape, events_first, event_of_shape}
-use Rattle.markdown_inline.proofs.TakingLemmas.{leaf_shape, some_leaf, some_tag, plain_shape, way-shape, takes_nothing}
+use Rattle.markdown_inline.specs.WalkSteps.{beginning, visit_at, visit_at_shape, events_first, event_of_shape}
+use Rattle.markdown_inline.proofs.TakingLemmas.{leaf_shape, some_leaf, some_tag, plain_shape, visit-shape}
+use Rattle.markdown_inline.proofs.TakingLemmas.{takes_nothing}
 use Rattle.markdown_inline.proofs.LeftFrameLemmas.{left_framed}
 use Rattle.markdown_inline.proofs.WalkLemmas.{Moves, moves_on, moves_past, moves_in, moves_past_in, moves_in_plain}
 use Rattle.markdown_inline.proofs.WalkLemmas.{moves_out, left_of-end}
@@ -67,8 +68,8 @@ went source s t held held' ix m deeper given a c k past mv =
     rw (c, a) (record {
       stands = (taken_after source s.nodes ix held held' m deeper any_rules k past (mv any_rules).stands).0;
       tables = k.tables;
-      left = λ rules known. rw (taken_after source s.nodes ix held held' m deeper rules k past (mv rules).stands).1
-          ((mv rules).left known);
+      left = λ rules state. rw (taken_after source s.nodes ix held held' m deeper rules k past (mv rules).stands).1
+          ((mv rules).left state);
       falls = (mv any_rules).falls;
     })
 
@@ -148,12 +149,13 @@ can_begin source s held ix item w a h =
 -- past an item that is one event
 pub passed_over : (source : List ℕ) (s t : Arena Item) (held : Allocated) (ix : ℕ) (item : Item)
     → TreeStands source (tables_of held) s
-    → s.cursor ≡ Some ix → item ≡ item_at s.nodes ix → way_at item.body ≡ way.Leaf → t
+    → s.cursor ≡ Some ix → item ≡ item_at s.nodes ix → visit_at item.body ≡ visit.Leaf → t
     ≡ record s { cursor = sibling_of s.nodes ix }
     → PassedBeginning source s t held item
 passed_over source s t held ix item w a h goes c =
     let shape = shape_of (tables_of held) (over source item) item.body in
-    let is : way_at_shape shape ≡ way.Leaf = sym (way-shape (tables_of held) (over source item) item.body) ∙ goes in
+    let is : visit_at_shape shape ≡ visit.Leaf = sym (visit-shape (tables_of held) (over source item) item.body)
+    ∙ goes in
     let some = some_leaf shape is in
     let is_event = leaf_shape shape some.event some.origins is some.begins in
     record {
@@ -179,11 +181,12 @@ start_begins (unresolved other) tag e origins h b = cc h
 -- into an item by a Start
 pub passed_in : (source : List ℕ) (s t : Arena Item) (held : Allocated) (ix : ℕ) (item : Item)
     → TreeStands source (tables_of held) s
-    → s.cursor ≡ Some ix → item ≡ item_at s.nodes ix → way_at item.body ≡ way.Start
+    → s.cursor ≡ Some ix → item ≡ item_at s.nodes ix → visit_at item.body ≡ visit.Start
     → t ≡ record s { spine = s.spine ++ ix ∷ []; cursor = child_of s.nodes ix } → PassedBeginning source s t held item
 passed_in source s t held ix item w a h goes c =
     let shape = shape_of (tables_of held) (over source item) item.body in
-    let is : way_at_shape shape ≡ way.Start = sym (way-shape (tables_of held) (over source item) item.body) ∙ goes in
+    let is : visit_at_shape shape ≡ visit.Start = sym (visit-shape (tables_of held) (over source item) item.body)
+    ∙ goes in
     let some = some_tag shape is in
     record {
       can = can_begin source s held ix item w a h;
@@ -199,18 +202,19 @@ passed_in source s t held ix item w a h goes c =
 -- into an item without a Start
 pub passed_plain : (source : List ℕ) (s t : Arena Item) (held : Allocated) (ix : ℕ) (item : Item)
     → TreeStands source (tables_of held) s
-    → s.cursor ≡ Some ix → item ≡ item_at s.nodes ix → way_at item.body ≡ way.Plain
+    → s.cursor ≡ Some ix → item ≡ item_at s.nodes ix → visit_at item.body ≡ visit.Plain
     → t ≡ record s { spine = s.spine ++ ix ∷ []; cursor = child_of s.nodes ix } → Went source s t held held []
 passed_plain source s t held ix item w a h goes c =
     went_in_plain source s t held held ix item w a h
-    (plain_shape _ (sym (way-shape (tables_of held) (over source item) item.body) ∙ goes))
+    (plain_shape _ (sym (visit-shape (tables_of held) (over source item) item.body) ∙ goes))
     (takes_nothing item.body held) c
 
 went_out : (source : List ℕ) (s t : Arena Item) (held : Allocated) (ix : ℕ) (up : List ℕ) (given : List Placed)
     → TreeStands source (tables_of held) s → s.cursor ≡ None → s.spine ≡ up ++ ix ∷ []
-    → ((after : Reading) (known : Known) → ended (end_of_body (item_at s.nodes ix).body) (range_of (item_at s.nodes ix))
-    after known
-    ≡ events_first given (after known))
+    → ((after : Reading) (state : ReferenceState) → ended (end_of_body (item_at s.nodes ix).body) (range_of
+    (item_at s.nodes ix))
+    after state
+    ≡ events_first given (after state))
     → t ≡ record s { spine = up; cursor = sibling_of s.nodes ix } → Went source s t held held given
 went_out source s t held ix up given w a sp cl c =
     let st = stands_at source (tables_of held) s None (up ++ ix ∷ []) a sp w in
@@ -218,7 +222,7 @@ went_out source s t held ix up given w a sp cl c =
     rw (c, a, sp) (record {
       stands = (mv any_rules).stands;
       tables = refl;
-      left = λ rules known. (mv rules).left known;
+      left = λ rules state. (mv rules).left state;
       falls = (mv any_rules).falls;
     })
 
@@ -231,7 +235,7 @@ pub went_out_end : (source : List ℕ) (s t : Arena Item) (held : Allocated) (ix
     → Went source s t held held ((end e, range_of item, []) ∷ [])
 went_out_end source s t held ix item up e w a sp h cl c =
     rw h (went_out source s t held ix up ((end e, range_of (item_at s.nodes ix), []) ∷ []) w a sp
-    (λ after known. rw (rw h at cl) refl) c)
+    (λ after state. rw (rw h at cl) refl) c)
 
 -- out of a node that gives no End
 pub went_out_plain : (source : List ℕ) (s t : Arena Item) (held : Allocated) (ix : ℕ) (item : Item) (up : List ℕ)
@@ -240,12 +244,12 @@ pub went_out_plain : (source : List ℕ) (s t : Arena Item) (held : Allocated) (
     ≡ record s { spine = up; cursor = sibling_of s.nodes ix }
     → Went source s t held held []
 went_out_plain source s t held ix item up w a sp h cl c =
-    went_out source s t held ix up [] w a sp (λ after known. rw (rw h at cl) refl) c
+    went_out source s t held ix up [] w a sp (λ after state. rw (rw h at cl) refl) c
 
 -- a walk that is over has nothing left, and stays over
-pub left_of_ended : (s : Setting) (tables : Tables) (t : Arena Item) → HasEnded t → (known : Known)
-    → tree_left s tables t known ≡ nothing_read known
-left_of_ended s tables t e known = rw (e.cursor, e.spine) (left_of-end s tables t.nodes known)
+pub left_of_ended : (s : Setting) (tables : Tables) (t : Arena Item) → HasEnded t → (state : ReferenceState)
+    → tree_left s tables t state ≡ nothing_read state
+left_of_ended s tables t e state = rw (e.cursor, e.spine) (left_of-end s tables t.nodes state)
 
 pub stands_ended : (source : List ℕ) (tables : Tables) (t : Arena Item) → HasEnded t → TreeStands source tables t
 stands_ended source tables t e = rw (e.cursor, e.spine) (stands-end source tables t.nodes)

@@ -15,12 +15,12 @@ use Rattle.markdown_base.specs.declared.item.ItemBody.{ItemBody}
 use Rattle.markdown_base.specs.declared.item.ItemBody.TheVariants as body
 use Rattle.markdown_blocks.specs.Blocks.{block_parts, text_of_blocks, block_tree}
 use Rattle.markdown_blocks.specs.declared.blocks.Blocks.{Blocks}
-use Rattle.markdown_document.specs.Above.{Above, inside_label, no_blocks}
+use Rattle.markdown_document.specs.EnclosingBlocks.{EnclosingBlocks, inside_node, no_blocks}
 use Rattle.markdown_document.specs.ChainRest.{cut_event, cut_shape, without_first}
 use Rattle.markdown_document.specs.Document.{Origin, sliced, inlined, made, Shape, leaf, enclosed, plain}
-use Rattle.markdown_document.specs.Document.{backslash_break, unresolved, Label, Plain}
-use Rattle.markdown_document.specs.Document.{plain_tags, document, label_of, shape_of}
-use Rattle.markdown_document.specs.Setting.{Setting, Known, setting_of}
+use Rattle.markdown_document.specs.Document.{backslash_break, unresolved, TreeNode, Plain}
+use Rattle.markdown_document.specs.Document.{no_notes, document, tree_node_of, shape_of}
+use Rattle.markdown_document.specs.Setting.{Setting, ReferenceState, setting_of}
 use Rattle.markdown_document.specs.Tables.{Tables, tables_at_start}
 use Rattle.markdown_delims.proofs.SumLemmas.{sum_of}
 use Rattle.markdown_brackets.specs.Lookup.{size_of}
@@ -30,7 +30,7 @@ use Rattle.markdown_inline.specs.Balanced.{Ranged, ranged}
 use Rattle.markdown_inline.specs.Elements.{Placed, events_of}
 use Rattle.markdown_inline.specs.LimitLaw.{tag_expansion}
 use Rattle.markdown_inline.specs.LookUps.{is_looked_up}
-use Rattle.markdown_inline.specs.ParserLeft.{known_at_start, reading_of, rules_of}
+use Rattle.markdown_inline.specs.ParserLeft.{state_at_start, reading_of, rules_of}
 use Rattle.markdown_inline.specs.ResolvedDocument.{Resolution, Resolving, no_trees, resolved_blocks, resolved_chain}
 use Rattle.markdown_inline.specs.ResolvedDocument.{resolved_document}
 use Rattle.markdown_inline.specs.ResolvedDocument.{resolved_tree, tree_then}
@@ -52,7 +52,7 @@ opened_events plain range inside after = inside ++ after
 opened_events backslash_break range inside after = (hard_break, range) ∷ after
 opened_events (unresolved b) range inside after = after
 
-abbrev pub ranged_in : {A : Type 0} → Forest (Label A) → List Ranged
+abbrev pub ranged_in : {A : Type 0} → Forest (TreeNode A) → List Ranged
 ranged_in nil = []
 ranged_in (node a below after) = opened_events a.part.shape a.part.range (ranged_in below) (ranged_in after)
 
@@ -67,7 +67,7 @@ ranged_tree plain range es fs = map-append (λ (e : Placed). (e.0, e.1)) es fs
 ranged_tree backslash_break range es fs = refl
 ranged_tree (unresolved b) range es fs = refl
 
-ranged_same : {A : Type 0} (f : Forest (Label A)) → ranged (events_in f) ≡ ranged_in f
+ranged_same : {A : Type 0} (f : Forest (TreeNode A)) → ranged (events_in f) ≡ ranged_in f
 ranged_same nil = refl
 ranged_same (node a below after) =
     ranged_tree a.part.shape a.part.range (events_in below) (events_in after)
@@ -84,7 +84,7 @@ abbrev pub alone_at : Shape → List ℕ
 alone_at (leaf e origins) = alone_event e
 alone_at other = []
 
-abbrev pub alone : {A : Type 0} → Label A → ℕ
+abbrev pub alone : {A : Type 0} → TreeNode A → ℕ
 alone a = total (alone_at a.part.shape)
 
 lone_none : (e : EventView) → IsLone e → alone_event e ≡ []
@@ -158,14 +158,14 @@ expansions_keep limit = record {
 
 -- what a part of a document is resolved to: no leaf is a Start or an End, no link is in a link, and what look-ups
 -- found, as the events show it and in all, fits in the limit
-pub record IsSuch (known : Known) (r : Resolution (Unit {0})) : Type 0 where
+pub record IsSuch (state : ReferenceState) (r : Resolution (Unit {0})) : Type 0 where
   pub lone : sum_of alone r.trees ≡ 0
   pub apart : HasNoLinkInLink r.trees
-  pub spent : Spent known.limit (ends_onto expansion_at r.trees []) r.known.limit
-  pub found : Spent known.limit (map size_of r.found) r.known.limit
+  pub spent : Spent state.limit (ends_onto expansion_at r.trees []) r.state.limit
+  pub found : Spent state.limit (map size_of r.found) r.state.limit
 
-none_such : (known : Known) → IsSuch known (no_trees known)
-none_such known = record { lone = refl; apart = tt; spent = spent_none known.limit; found = spent_none known.limit }
+none_such : (state : ReferenceState) → IsSuch state (no_trees state)
+none_such state = record { lone = refl; apart = tt; spent = spent_none state.limit; found = spent_none state.limit }
 
 -- a shape of a block result: not a link or an image, and not a leaf that is a Start or an End
 abbrev pub IsBlockShape : Shape → Type 0
@@ -173,7 +173,7 @@ IsBlockShape (leaf e origins) = IsLone e
 IsBlockShape (enclosed tag) = IsNoBracket tag
 IsBlockShape other = ⊤
 
-abbrev pub AreBlockShapes : {A : Type 0} → Forest (Label A) → Type 0
+abbrev pub AreBlockShapes : {A : Type 0} → Forest (TreeNode A) → Type 0
 AreBlockShapes f = Each (λ a. IsBlockShape a.part.shape) f
 
 -- so a block result has none of these
@@ -193,50 +193,51 @@ block_link (enclosed tag) h = tag_link tag h
     tag_link other h = tt
 block_link other h = tt
 
-block_apart : {A : Type 0} (shape : Shape) (below : Forest (Label A)) → IsBlockShape shape → HasNoneBelow shape below
-block_apart (enclosed tag) below h = tag_apart tag h
+block_apart : {A : Type 0} (shape : Shape) (below : Forest (TreeNode A)) → IsBlockShape shape → HasNoneBelow shape below
+block_apart (enclosed tag) below h = note_apart tag h
   where
-    tag_apart : (tag : TagView) → IsNoBracket tag → ClosesOverNone tag below
-    tag_apart (link v) h = absurd h
-    tag_apart other h = tt
+    note_apart : (tag : TagView) → IsNoBracket tag → ClosesOverNone tag below
+    note_apart (link v) h = absurd h
+    note_apart other h = tt
 block_apart other below h = tt
 
 module _ {A : Type 0} where
-  none_at : (own : Shape → List ℕ) → ((shape : Shape) → IsBlockShape shape → own shape ≡ []) → (f : Forest (Label A))
+  none_at : (own : Shape → List ℕ) → ((shape : Shape) → IsBlockShape shape → own shape ≡ []) → (f : Forest (TreeNode A))
       → AreBlockShapes f
-      → Each (λ (a : Label A). own a.part.shape ≡ []) f
+      → Each (λ (a : TreeNode A). own a.part.shape ≡ []) f
   none_at own none nil h = tt
   none_at own none (node a below after) h
       = (none a.part.shape h.0, none_at own none below h.1, none_at own none after h.2)
 
-  free_blocks : (f : Forest (Label A)) → AreBlockShapes f → IsFreeOfLinks f
+  free_blocks : (f : Forest (TreeNode A)) → AreBlockShapes f → IsFreeOfLinks f
   free_blocks nil h = tt
   free_blocks (node a below after) h = (block_link a.part.shape h.0, free_blocks below h.1, free_blocks after h.2)
 
 -- a chain
-chain_such : (s : Setting) (above : Above) (chain : Forest Plain) (known : Known) → AreBlockShapes chain
-    → IsSuch known (resolved_chain s plain_tags above chain known)
-chain_such s above chain known h =
-    let trees : Forest Plain = (resolved_chain s plain_tags above chain known).trees in
+chain_such : (s : Setting) (above : EnclosingBlocks) (chain : Forest Plain) (state : ReferenceState)
+    → AreBlockShapes chain
+    → IsSuch state (resolved_chain s no_notes above chain state)
+chain_such s above chain state h =
+    let trees : Forest Plain = (resolved_chain s no_notes above chain state).trees in
     record {
       lone =
-          let none = resolved_holds alone_at (λ ns limit. total ns ≡ 0) alone_keeps s plain_tags above chain known
+          let none = resolved_holds alone_at (λ ns limit. total ns ≡ 0) alone_keeps s no_notes above chain state
           (none_at alone_at block_alone chain h) refl in
           omega (arith, none, total_ends alone_at trees []);
-      apart = resolved_apart s plain_tags above chain known (free_blocks chain h);
-      spent = resolved_holds expansion_at (Spent known.limit) (expansions_keep known.limit) s plain_tags above chain
-          known
-          (none_at expansion_at block_expansion chain h) (spent_none known.limit);
-      found = resolved_spent s plain_tags above chain known;
+      apart = resolved_apart s no_notes above chain state (free_blocks chain h);
+      spent = resolved_holds expansion_at (Spent state.limit) (expansions_keep state.limit) s no_notes above chain
+          state
+          (none_at expansion_at block_expansion chain h) (spent_none state.limit);
+      found = resolved_spent s no_notes above chain state;
     }
 
 -- a tree over what is below it, before what comes after it
-then_such : (a : Plain) (below after : Resolving (Unit {0})) (known : Known) → IsBlockShape a.part.shape
-    → IsSuch known (below known)
-    → IsSuch (below known).known (after (below known).known) → IsSuch known (tree_then a below after known)
-then_such a below after known h i r =
-    let inside : Resolution (Unit {0}) = below known in
-    let later : Resolution (Unit {0}) = after inside.known in
+then_such : (a : Plain) (below after : Resolving (Unit {0})) (state : ReferenceState) → IsBlockShape a.part.shape
+    → IsSuch state (below state)
+    → IsSuch (below state).state (after (below state).state) → IsSuch state (tree_then a below after state)
+then_such a below after state h i r =
+    let inside : Resolution (Unit {0}) = below state in
+    let later : Resolution (Unit {0}) = after inside.state in
     let rest : List ℕ = ends_onto expansion_at later.trees [] in
     let listed : ends_onto expansion_at inside.trees (expansion_at a.part.shape ++ rest)
     ≡ ends_onto expansion_at inside.trees [] ++ rest =
@@ -245,38 +246,38 @@ then_such a below after known h i r =
     record {
       lone = omega (arith, ap total (block_alone a.part.shape h), i.lone, r.lone);
       apart = (block_apart a.part.shape inside.trees h, i.apart, r.apart);
-      spent = subst (λ (l : List ℕ). Spent known.limit l later.known.limit) (sym listed)
-          (spent_both known.limit inside.known.limit
-          later.known.limit (ends_onto expansion_at inside.trees []) rest i.spent r.spent);
-      found = subst (λ (l : List ℕ). Spent known.limit l later.known.limit)
+      spent = subst (λ (l : List ℕ). Spent state.limit l later.state.limit) (sym listed)
+          (spent_both state.limit inside.state.limit
+          later.state.limit (ends_onto expansion_at inside.trees []) rest i.spent r.spent);
+      found = subst (λ (l : List ℕ). Spent state.limit l later.state.limit)
           (sym (map-append size_of inside.found later.found))
-          (spent_both known.limit inside.known.limit later.known.limit (map size_of inside.found)
+          (spent_both state.limit inside.state.limit later.state.limit (map size_of inside.found)
           (map size_of later.found) i.found r.found);
     }
 
 tree_such : (shape : Shape) (a : Plain) (below after chain : Resolving (Unit {0})) → IsBlockShape a.part.shape
-    → ((known : Known) → IsSuch known (below known)) → ((known : Known) → IsSuch known (after known))
-    → ((known : Known) → IsSuch known (chain known)) → (known : Known)
-    → IsSuch known (resolved_tree shape a below after chain known)
-tree_such (leaf e origins) a below after chain h i l w known = then_such a no_trees after known h (none_such known)
-    (l known)
-tree_such (enclosed tag) a below after chain h i l w known = then_such a below after known h (i known)
-    (l (below known).known)
-tree_such plain a below after chain h i l w known = then_such a below after known h (i known) (l (below known).known)
-tree_such backslash_break a below after chain h i l w known = then_such a no_trees after known h (none_such known)
-    (l known)
-tree_such (unresolved b) a below after chain h i l w known = w known
+    → ((state : ReferenceState) → IsSuch state (below state)) → ((state : ReferenceState) → IsSuch state (after state))
+    → ((state : ReferenceState) → IsSuch state (chain state)) → (state : ReferenceState)
+    → IsSuch state (resolved_tree shape a below after chain state)
+tree_such (leaf e origins) a below after chain h i l w state = then_such a no_trees after state h (none_such state)
+    (l state)
+tree_such (enclosed tag) a below after chain h i l w state = then_such a below after state h (i state)
+    (l (below state).state)
+tree_such plain a below after chain h i l w state = then_such a below after state h (i state) (l (below state).state)
+tree_such backslash_break a below after chain h i l w state = then_such a no_trees after state h (none_such state)
+    (l state)
+tree_such (unresolved b) a below after chain h i l w state = w state
 
 -- a document
-document_such : (s : Setting) (above : Above) (f : Forest Plain) (known : Known) → AreBlockShapes f
-    → IsSuch known (resolved_document s plain_tags above f known)
-document_such s above nil known h = none_such known
-document_such s above (node a below later) known h =
-    tree_such a.part.shape a (λ k. resolved_document s plain_tags (inside_label a above) below k)
-    (λ k. resolved_document s plain_tags above later k) (λ k. resolved_chain s plain_tags above (node a below later) k)
+document_such : (s : Setting) (above : EnclosingBlocks) (f : Forest Plain) (state : ReferenceState) → AreBlockShapes f
+    → IsSuch state (resolved_document s no_notes above f state)
+document_such s above nil state h = none_such state
+document_such s above (node a below later) state h =
+    tree_such a.part.shape a (λ k. resolved_document s no_notes (inside_node a above) below k)
+    (λ k. resolved_document s no_notes above later k) (λ k. resolved_chain s no_notes above (node a below later) k)
     h.0
-    (λ k. document_such s (inside_label a above) below k h.1) (λ k. document_such s above later k h.2)
-    (λ k. chain_such s above (node a below later) k h) known
+    (λ k. document_such s (inside_node a above) below k h.1) (λ k. document_such s above later k h.2)
+    (λ k. chain_such s above (node a below later) k h) state
 
 -- the shapes of a well-formed block result
 block_shape : (tables : Tables) (source : List ℕ) (b : ItemBody) → is_resolved b ≡ false
@@ -290,7 +291,7 @@ block_shape tables source other h = tt
 
 block_shapes : (source : List ℕ) (tables : Tables) (counts : PartCounts) (tree : Forest Numbered)
     → AllKeepRules source counts tree
-    → AreBlockShapes (relabelled (λ (n : Numbered). label_of source tables n.item) tree)
+    → AreBlockShapes (relabelled (λ (n : Numbered). tree_node_of source tables n.item) tree)
 block_shapes source tables counts nil h = tt
 block_shapes source tables counts (node a below after) h = (
   block_shape tables _ a.item.body h.0.nothing_resolved,
@@ -301,11 +302,11 @@ block_shapes source tables counts (node a below after) h = (
 
 -- the whole
 pub whole_such : (blocks : Blocks) (asks : Bool) (answers : Answers)
-    → IsSuch (known_at_start (text_of_blocks blocks) answers) (resolved_blocks blocks asks answers)
+    → IsSuch (state_at_start (text_of_blocks blocks) answers) (resolved_blocks blocks asks answers)
 whole_such blocks asks answers =
     document_such (setting_of (text_of_blocks blocks) (rules_of blocks asks)) (no_blocks (text_of_blocks blocks))
     (document (text_of_blocks blocks) (tables_at_start (block_parts blocks)) (block_tree blocks).nodes)
-    (known_at_start (text_of_blocks blocks) answers)
+    (state_at_start (text_of_blocks blocks) answers)
     (block_shapes (text_of_blocks blocks) (tables_at_start (block_parts blocks)) (counts_of (block_parts blocks))
     (tree_of (block_tree blocks).nodes) blocks.well_formed.rules)
 
@@ -326,7 +327,8 @@ gives_both (leaf e origins) h = lone e h
     lone other h = tt
 gives_both other h = tt
 
-all_give : {A : Type 0} (f : Forest (Label A)) → sum_of alone f ≡ 0 → Each (λ (a : Label A). GivesBoth a.part.shape) f
+all_give : {A : Type 0} (f : Forest (TreeNode A)) → sum_of alone f ≡ 0 → Each (λ
+    (a : TreeNode A). GivesBoth a.part.shape) f
 all_give nil h = tt
 all_give (node a below after) h =
     (gives_both a.part.shape (omega (arith, h)), all_give below (omega (arith, h)), all_give after (omega (arith, h)))

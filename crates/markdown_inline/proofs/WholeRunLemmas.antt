@@ -7,15 +7,15 @@ use Rattle.markdown_base.specs.Questions.{Question, Answer, Answers}
 use Rattle.markdown_base.specs.declared.event.Event.{Event}
 use Rattle.markdown_blocks.specs.Blocks.{text_of_blocks, block_tree, block_parts}
 use Rattle.markdown_blocks.specs.declared.blocks.Blocks.{Blocks}
-use Rattle.markdown_document.specs.Above.{Above}
-use Rattle.markdown_document.specs.Document.{document, plain_tags}
-use Rattle.markdown_document.specs.Setting.{Known, setting_of}
+use Rattle.markdown_document.specs.EnclosingBlocks.{EnclosingBlocks}
+use Rattle.markdown_document.specs.Document.{document, no_notes}
+use Rattle.markdown_document.specs.Setting.{ReferenceState, setting_of}
 use Rattle.markdown_document.specs.Tables.{tables_at_start}
 use Rattle.markdown_resolver.proofs.ChainQuestionsLemmas.{resolved_asks}
 use Rattle.markdown_inline.specs.Balanced.{ranged}
 use Rattle.markdown_inline.specs.Elements.{Element, Placed, events_of, questions_of}
 use Rattle.markdown_inline.specs.NextGives.{IsPlacedOf}
-use Rattle.markdown_inline.specs.ParserLeft.{elements, known_at_start, parser_callback, reading_of, rules_of}
+use Rattle.markdown_inline.specs.ParserLeft.{elements, state_at_start, parser_callback, reading_of, rules_of}
 use Rattle.markdown_inline.specs.QuestionLaws.{AsksApart}
 use Rattle.markdown_inline.specs.Runs.{AreOf, GaveRest}
 use Rattle.markdown_inline.specs.WholeRun.{AsksApartAndOnce, AsksOnce, IsWhole, IsWholeFromStart, viewed}
@@ -57,11 +57,11 @@ asks_once blocks asks answers =
     let rules = rules_of blocks asks in
     let s = setting_of source rules in
     record {
-      at_most = document_asks source nodes tables rules (known_at_start source answers);
-      in_chains = each_also (AsksApart s) (λ chain. (above : Above) (known : Known)
-          → AsksApartAndOnce s above known chain)
-          (λ chain apart above known. record
-          { at_most = resolved_asks s plain_tags above chain known; apart = apart above known })
+      at_most = document_asks source nodes tables rules (state_at_start source answers);
+      in_chains = each_also (AsksApart s) (λ chain. (above : EnclosingBlocks) (state : ReferenceState)
+          → AsksApartAndOnce s above state chain)
+          (λ chain apart above state. record
+          { at_most = resolved_asks s no_notes above chain state; apart = apart above state })
           (document source tables nodes)
           (document_ends source nodes (block_parts blocks) tables rules blocks.well_formed);
     }

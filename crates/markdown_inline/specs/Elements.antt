@@ -6,7 +6,7 @@ use Rattle.markdown_base.specs.Event.{EventView}
 use Rattle.markdown_base.specs.Questions.{Question}
 use Rattle.markdown_document.specs.Counts.{ChainCounts, no_counts}
 use Rattle.markdown_document.specs.Document.{Origin}
-use Rattle.markdown_document.specs.Setting.{Known}
+use Rattle.markdown_document.specs.Setting.{ReferenceState}
 
 -- an event with its range, and with the origin of each of its texts
 abbrev pub Placed : Type 0
@@ -28,15 +28,15 @@ event_first e rest = record { elements = event e ∷ rest.elements; counts = no_
 
 -- a reading, from what is known before it
 abbrev pub Reading : Type 0
-Reading = Known → Passage
+Reading = ReferenceState → Passage
 
 -- the empty reading
 abbrev pub nothing_read : Reading
-nothing_read known = record { elements = []; counts = no_counts }
+nothing_read state = record { elements = []; counts = no_counts }
 
 -- one event, and then another reading
 abbrev pub then_reads : Placed → Reading → Reading
-then_reads e after known = event_first e (after known)
+then_reads e after state = event_first e (after state)
 
 -- the events of a reading
 abbrev pub events_of : List Element → List Placed

@@ -6,13 +6,13 @@ use Rattle.markdown_base.specs.declared.item.ItemBody.{ItemBody}
 use Rattle.markdown_base.specs.declared.item.ItemBody.TheVariants as body
 use Rattle.markdown_base.specs.declared.tag.LinkType.{LinkType}
 use Rattle.markdown_base.specs.declared.tag.LinkType.TheVariants as kind
-use Rattle.markdown_brackets.specs.BracketDecision.{Around, Becomes, Progress, a_link, decided}
+use Rattle.markdown_brackets.specs.BracketDecision.{BracketContext, Becomes, Progress, a_link, decided}
 use Rattle.markdown_brackets.specs.ReadChain.{closing_of, read_past}
-use Rattle.markdown_document.specs.Above.{Above}
+use Rattle.markdown_document.specs.EnclosingBlocks.{EnclosingBlocks}
 use Rattle.markdown_document.specs.ChainRest.{begun_at, end_of, open_body}
-use Rattle.markdown_document.specs.Document.{Tags, Label}
+use Rattle.markdown_document.specs.Document.{Notes, TreeNode}
 use Rattle.markdown_document.specs.Setting.{Setting}
-use Rattle.markdown_resolver.specs.PassOne.{around, read_other}
+use Rattle.markdown_resolver.specs.PassOne.{bracket_context, read_other}
 
 -- the type is that of a link or an image whose label was looked up
 abbrev pub is_looked_up : LinkType → Bool
@@ -33,14 +33,15 @@ found_by (a_link o target end next) = if is_looked_up target.kind then target �
 found_by other = []
 
 -- what a look-up found at an item, by the item's body: a label is looked up only at a `]`
-abbrev pub found_as : {A : Type 0} → Around → ItemBody → Label A → (rest : Forest (Label A)) → Progress A
+abbrev pub found_as : {A : Type 0} → BracketContext → ItemBody → TreeNode A → (rest : Forest (TreeNode A)) → Progress A
     → List LinkView
 found_as w (body.MaybeLinkClose could_be_reference) a rest p =
     found_by (decided w (closing_of could_be_reference a rest p) p).becomes
 found_as w other a rest p = []
 
 -- the same where pass one has read up to a byte offset: nothing is found at an item that ends there or before
-abbrev pub found_past : {A : Type 0} → Around → Option ℕ → Label A → (rest : Forest (Label A)) → Progress A
+abbrev pub found_past : {A : Type 0} → BracketContext → Option ℕ → TreeNode A → (rest : Forest (TreeNode A))
+    → Progress A
     → List LinkView
 found_past w None a rest p = found_as w (open_body a.part.shape) a rest p
 found_past w (Some i) a rest p =
@@ -48,9 +49,10 @@ found_past w (Some i) a rest p =
     else found_as w (open_body (begun_at i a).part.shape) (begun_at i a) rest (record p { goes_on = None })
 
 -- what look-ups found in a chain as pass one reads it, from this progress on
-abbrev pub look_ups_from : {A : Type 0} → Setting → Tags A → Above → Forest (Label A) → Progress A → List LinkView
-look_ups_from s tags above nil p = []
-look_ups_from s tags above (node a below rest) p =
-    found_past (around s above) p.goes_on a rest p
-    ++ look_ups_from s tags above rest
-    (read_past (around s above) (read_other s tags above) p.goes_on a below rest p)
+abbrev pub look_ups_from : {A : Type 0} → Setting → Notes A → EnclosingBlocks → Forest (TreeNode A) → Progress A
+    → List LinkView
+look_ups_from s notes above nil p = []
+look_ups_from s notes above (node a below rest) p =
+    found_past (bracket_context s above) p.goes_on a rest p
+    ++ look_ups_from s notes above rest
+    (read_past (bracket_context s above) (read_other s notes above) p.goes_on a below rest p)

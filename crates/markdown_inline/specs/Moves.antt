@@ -1,6 +1,6 @@
 -- What a step of a parser does.
 use Rattle.markdown_base.specs.declared.event.Event.TheVariants as events
-use Rattle.markdown_inline.specs.declared.bodies.Way.TheVariants as way
+use Rattle.markdown_inline.specs.declared.bodies.Visit.TheVariants as visit
 use Rattle.markdown_inline.specs.declared.walk.Stop.TheVariants as stop
 use Rattle.std.specs.Prelude.{◌≡◌, ℕ, ◌<◌, ◌≤◌, List, [], ◌∷◌, ◌++◌, map, Option, Some, None, ◌⊎◌}
 use Rattle.std.specs.Prelude.{slice_range}
@@ -23,8 +23,8 @@ use Rattle.markdown_base.specs.declared.item.Item.{Item}
 use Rattle.markdown_defs.specs.Allocations.{Allocated}
 use Rattle.markdown_document.specs.Document.{Shape, shape_of}
 use Rattle.markdown_document.specs.Tables.{tables_of}
-use Rattle.markdown_inline.specs.WalkSteps.{CanBegin, OpensWith, TakesOnly, TreeStands, way_at, events_first}
-use Rattle.markdown_inline.specs.declared.bodies.Way.{Way}
+use Rattle.markdown_inline.specs.WalkSteps.{CanBegin, OpensWith, TakesOnly, TreeStands, visit_at, events_first}
+use Rattle.markdown_inline.specs.declared.bodies.Visit.{Visit}
 use Rattle.markdown_inline.specs.declared.walk.Stop.{Stop}
 
 -- an event is read first
@@ -102,11 +102,11 @@ shape_in p item = shape_of (tables_of p.resolver.lookup.tables) (slice_range (pa
     item.body
 
 -- the event of an item can be made, and the walk keeps its invariant when what the item refers to is taken
-pub record IsToBegin {F : Type 0} (s : Parser F) (item : Item) (w : Way) : Type 0 where
+pub record IsToBegin {F : Type 0} (s : Parser F) (item : Item) (w : Visit) : Type 0 where
   pub can : CanBegin (parser_text s) (tables_of s.resolver.lookup.tables) item
   pub stands : (held : Allocated) → TakesOnly item.body s.resolver.lookup.tables held
       → TreeStands (parser_text s) (tables_of held) s.tree
-  pub goes : way_at item.body ≡ w
+  pub goes : visit_at item.body ≡ w
 
 -- what an item refers to was taken, and nothing else was done
 pub record Took {F : Type 0} (s t : Parser F) (item : Item) : Type 0 where
@@ -132,7 +132,7 @@ pub record RefusedAt {F : Type 0} (s t : Parser F) (fault : Fault) : Type 0 wher
   pub keeps : Keeps s t
 
 -- the walk went past the beginning of an item, whose event is given once it is made
-pub record WentPast {F : Type 0} (s t : Parser F) (item : Item) (w : Way) : Type 0 where
+pub record WentPast {F : Type 0} (s t : Parser F) (item : Item) (w : Visit) : Type 0 where
   pub ready : IsToBegin t item w
   pub gave : (u : Parser F) (e : Event) → Took t u item → OpensWith (parser_text t) (range_of item) (shape_in t item) e
       → GaveEvent s u e (range_of item)
@@ -145,8 +145,8 @@ abbrev pub Moved : {F : Type 0} → (F → Question → Option Answer → F → 
     → Type 0
 Moved step s t None = WentOn step s t × (parser_steps t < parser_steps s)
 Moved step s t (Some stop.Over) = Ended s t
-Moved step s t (Some (stop.Leaf item)) = WentPast s t item way.Leaf
-Moved step s t (Some (stop.Start item)) = WentPast s t item way.Start
+Moved step s t (Some (stop.Leaf item)) = WentPast s t item visit.Leaf
+Moved step s t (Some (stop.Start item)) = WentPast s t item visit.Start
 Moved step s t (Some (stop.End e item)) = GaveEvent s t (events.End e) (range_of item)
     × (parser_steps t < parser_steps s)
 Moved step s t (Some stop.Refused) = Failed step s t

@@ -16,7 +16,7 @@ AllSpell k (ix ∷ deeper) = Spells k (k.next ix) (forest_at k (k.next ix)) × A
 -- lead through a forest; and no node occurs twice in these forests and among the nodes that were entered
 pub record IsOneForest (arena : Arena Item) : Type 0 where
   pub here : Spells (links_of arena.nodes) arena.cursor (forest_at (links_of arena.nodes) arena.cursor)
-  pub behind : AllSpell (links_of arena.nodes) arena.spine
+  pub after : AllSpell (links_of arena.nodes) arena.spine
   pub once : (n : ℕ) → times_left (links_of arena.nodes) arena.cursor arena.spine n ≤ 1
 
 -- what is left of a parser is one forest

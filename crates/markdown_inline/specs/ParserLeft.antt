@@ -11,12 +11,12 @@ use Rattle.markdown_blocks.specs.Blocks.{text_of_blocks, block_options, block_tr
 use Rattle.markdown_defs.specs.Definitions.{Labelled, firsts}
 use Rattle.markdown_defs.specs.Folding.{is_match}
 use Rattle.markdown_blocks.specs.declared.blocks.Blocks.{Blocks}
-use Rattle.markdown_document.specs.Above.{no_blocks}
-use Rattle.markdown_document.specs.Document.{plain_tags, document}
+use Rattle.markdown_document.specs.EnclosingBlocks.{no_blocks}
+use Rattle.markdown_document.specs.Document.{no_notes, document}
 use Rattle.markdown_document.specs.Counts.{ChainCounts}
 use Rattle.markdown_inline.specs.Elements.{Element, Passage, nothing_read}
 use Rattle.markdown_inline.specs.Reading.{reading}
-use Rattle.markdown_document.specs.Setting.{Rules, Setting, Known, rules_from, setting_of, uses_of}
+use Rattle.markdown_document.specs.Setting.{Rules, Setting, ReferenceState, rules_from, setting_of, uses_of}
 use Rattle.markdown_document.specs.Tables.{tables_of, tables_at_start}
 use Rattle.markdown_inline.specs.Walk.{tree_left}
 use Rattle.markdown_inline.specs.WalkTotals.{tree_steps}
@@ -29,8 +29,8 @@ abbrev pub expansion_limit : List ℕ → ℕ
 expansion_limit source = max (length source) 100000
 
 -- what is known before any chain is resolved
-abbrev pub known_at_start : List ℕ → Answers → Known
-known_at_start source answers = record { limit = expansion_limit source; answers = answers; uses = λ name. 0 }
+abbrev pub state_at_start : List ℕ → Answers → ReferenceState
+state_at_start source answers = record { limit = expansion_limit source; answers = answers; uses = λ name. 0 }
 
 -- the reference definitions of a block result that can be found: of those whose labels match, the first
 abbrev pub block_definitions : Blocks → List Labelled
@@ -48,9 +48,9 @@ rules_of blocks asks = record {
 -- the reading of a block result, for these answers, with or without a callback
 abbrev pub reading_of : Blocks → Bool → Answers → List Element
 reading_of blocks asks answers =
-    (reading (setting_of (text_of_blocks blocks) (rules_of blocks asks)) plain_tags (no_blocks (text_of_blocks blocks))
+    (reading (setting_of (text_of_blocks blocks) (rules_of blocks asks)) no_notes (no_blocks (text_of_blocks blocks))
     (document (text_of_blocks blocks) (tables_at_start (block_parts blocks)) (block_tree blocks).nodes) nothing_read
-    (known_at_start (text_of_blocks blocks) answers)).elements
+    (state_at_start (text_of_blocks blocks) answers)).elements
 
 -- the text that a parser reads
 abbrev pub parser_text : {F : Type 0} → Parser F → List ℕ
@@ -82,8 +82,8 @@ parser_setting p = setting_of p.resolver.text.now (rules_from p.resolver.options
     (is_some p.resolver.lookup.callback))
 
 -- what is known when the next chain is reached, where these answers are still to come
-abbrev pub parser_known : {F : Type 0} → Parser F → Answers → Known
-parser_known p answers = record {
+abbrev pub parser_state : {F : Type 0} → Parser F → Answers → ReferenceState
+parser_state p answers = record {
   limit = p.resolver.lookup.limit;
   answers = answers;
   uses = uses_of p.resolver.lookup.tables.footdefs;
@@ -92,7 +92,7 @@ parser_known p answers = record {
 -- what is left of it, for these answers
 abbrev pub parser_left : {F : Type 0} → Parser F → Answers → Passage
 parser_left p answers = tree_left (parser_setting p) (tables_of p.resolver.lookup.tables) p.tree
-    (parser_known p answers)
+    (parser_state p answers)
 
 -- the elements that are left of it
 unfoldable pub elements : {F : Type 0} → Parser F → Answers → List Element

@@ -5,10 +5,10 @@ use Rattle.markdown_base.specs.Event.{EventView, text, code, inline_math, displa
 use Rattle.markdown_base.specs.Event.{footnote_reference}
 use Rattle.markdown_base.specs.Event.{TagView, emphasis, strong, strikethrough, superscript, subscript, link, image}
 use Rattle.markdown_base.specs.Forest.{Forest, Each}
-use Rattle.markdown_document.specs.Above.{Above}
+use Rattle.markdown_document.specs.EnclosingBlocks.{EnclosingBlocks}
 use Rattle.markdown_document.specs.ChainRest.{cut_shape}
-use Rattle.markdown_document.specs.Document.{Tags, Shape, leaf, enclosed, Label}
-use Rattle.markdown_document.specs.Setting.{Known, Setting}
+use Rattle.markdown_document.specs.Document.{Notes, Shape, leaf, enclosed, TreeNode}
+use Rattle.markdown_document.specs.Setting.{ReferenceState, Setting}
 use Rattle.markdown_inline.specs.ResolvedDocument.{resolved_chain}
 
 -- the event can be made of open items
@@ -49,6 +49,6 @@ abbrev pub ShapesLaw : Type 0 → Type 0
 ShapesLaw A =
     (passes : Shape → Bool) → ((shape : Shape) → IsMadeShape shape → passes shape ≡ true)
     → ((n : ℕ) (shape : Shape) → passes (cut_shape n shape) ≡ passes shape)
-    → (s : Setting) (tags : Tags A) (above : Above) (chain : Forest (Label A)) (known : Known)
-    → Each (λ (a : Label A). passes a.part.shape ≡ true) chain
-    → Each (λ (a : Label A). passes a.part.shape ≡ true) (resolved_chain s tags above chain known).trees
+    → (s : Setting) (notes : Notes A) (above : EnclosingBlocks) (chain : Forest (TreeNode A)) (state : ReferenceState)
+    → Each (λ (a : TreeNode A). passes a.part.shape ≡ true) chain
+    → Each (λ (a : TreeNode A). passes a.part.shape ≡ true) (resolved_chain s notes above chain state).trees

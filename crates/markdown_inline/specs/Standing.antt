@@ -12,7 +12,7 @@ use Rattle.markdown_base.specs.Item.{LiesIn}
 use Rattle.markdown_base.specs.OneWay.{LiesIn-prop}
 use Rattle.markdown_base.specs.declared.item.Item.{Item}
 use Rattle.markdown_base.specs.declared.node.Node.{Node}
-use Rattle.markdown_document.specs.Document.{Label}
+use Rattle.markdown_document.specs.Document.{TreeNode}
 use Rattle.markdown_resolver.specs.KeptChains.{IsKept}
 use Rattle.markdown_resolver.specs.Kept.{IsQuiet, IsQuietBelow}
 use Rattle.markdown_resolver.specs.Unread.{IsUnmade, IsUnread}
@@ -50,40 +50,40 @@ pub record Stands (source : List ℕ) (tables : Tables) (nodes : List (Node Item
   pub spine_lies : SpineLies source nodes spine
 
 -- `IsQuiet` has at most one proof
-IsQuiet-prop : {A : Type 0} (f : Forest (Label A)) → IsProp (IsQuiet f)
+IsQuiet-prop : {A : Type 0} (f : Forest (TreeNode A)) → IsProp (IsQuiet f)
 IsQuiet-prop nil = Unit-prop
 IsQuiet-prop (node a below after) =
     let inside = IsQuiet-prop below in
-    let behind = IsQuiet-prop after in
+    let later = IsQuiet-prop after in
     hlevel props
 
 -- `IsQuietBelow` has at most one proof
-IsQuietBelow-prop : {A : Type 0} (f : Forest (Label A)) → IsProp (IsQuietBelow f)
+IsQuietBelow-prop : {A : Type 0} (f : Forest (TreeNode A)) → IsProp (IsQuietBelow f)
 IsQuietBelow-prop nil = Unit-prop
-IsQuietBelow-prop (node a below after) = let inside = IsQuiet-prop below in let behind = IsQuietBelow-prop after
+IsQuietBelow-prop (node a below after) = let inside = IsQuiet-prop below in let later = IsQuietBelow-prop after
     in hlevel props
 
 -- `IsUnmade` has at most one proof
-IsUnmade-prop : {A : Type 0} (f : Forest (Label A)) → IsProp (IsUnmade f)
+IsUnmade-prop : {A : Type 0} (f : Forest (TreeNode A)) → IsProp (IsUnmade f)
 IsUnmade-prop nil = Unit-prop
-IsUnmade-prop (node a below after) = let behind = IsUnmade-prop after in hlevel props
+IsUnmade-prop (node a below after) = let later = IsUnmade-prop after in hlevel props
 
 -- `IsUnread` has at most one proof
-IsUnread-prop : {A : Type 0} (f : Forest (Label A)) → IsProp (IsUnread f)
+IsUnread-prop : {A : Type 0} (f : Forest (TreeNode A)) → IsProp (IsUnread f)
 IsUnread-prop nil = Unit-prop
 IsUnread-prop (node a below after) =
     let unmade = IsUnmade-prop after in
-    let behind = IsUnread-prop after in
+    let later = IsUnread-prop after in
     hlevel
 
 -- `IsKept` has at most one proof
-IsKept-prop : {A : Type 0} (f : Forest (Label A)) → IsProp (IsKept f)
+IsKept-prop : {A : Type 0} (f : Forest (TreeNode A)) → IsProp (IsKept f)
 IsKept-prop nil = Unit-prop
 IsKept-prop (node a below after) =
     let here = IsQuietBelow-prop (node a below after) in
     let unread = IsUnread-prop (node a below after) in
     let inside = IsKept-prop below in
-    let behind = IsKept-prop after in
+    let later = IsKept-prop after in
     hlevel
 
 -- `AboveKept` has at most one proof

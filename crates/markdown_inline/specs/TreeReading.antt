@@ -6,11 +6,11 @@ use Rattle.markdown_base.specs.Forest.{Forest, nil, node, Each}
 use Rattle.markdown_base.specs.Questions.{Answers}
 use Rattle.markdown_blocks.specs.declared.blocks.Blocks.{Blocks}
 use Rattle.markdown_delims.specs.Pairing.{NothingOpen}
-use Rattle.markdown_document.specs.Above.{Above}
+use Rattle.markdown_document.specs.EnclosingBlocks.{EnclosingBlocks}
 use Rattle.markdown_document.specs.ChainRest.{joined_chains}
-use Rattle.markdown_document.specs.Document.{Shape, leaf, enclosed, plain, backslash_break, unresolved, Label, Plain}
-use Rattle.markdown_document.specs.Document.{plain_tags}
-use Rattle.markdown_document.specs.Setting.{Known, Setting}
+use Rattle.markdown_document.specs.Document.{Shape, leaf, enclosed, plain, backslash_break, unresolved, TreeNode, Plain}
+use Rattle.markdown_document.specs.Document.{no_notes}
+use Rattle.markdown_document.specs.Setting.{ReferenceState, Setting}
 use Rattle.markdown_inline.specs.Elements.{Placed, Reading, events_of, nothing_read, questions_of}
 use Rattle.markdown_inline.specs.ParserLeft.{reading_of}
 use Rattle.markdown_inline.specs.Reading.{reading}
@@ -26,36 +26,38 @@ tree_events backslash_break range inside after = (hard_break, range, []) ∷ aft
 tree_events (unresolved b) range inside after = after
 
 -- the events of trees of which none is open, in preorder
-abbrev pub events_in : {A : Type 0} → Forest (Label A) → List Placed
+abbrev pub events_in : {A : Type 0} → Forest (TreeNode A) → List Placed
 events_in nil = []
 events_in (node a below after) = tree_events a.part.shape a.part.range (events_in below) (events_in after)
 
 -- the events of a document are those of its resolved tree, and its questions are those of resolving the tree; then what
 -- comes after it is read, with what is known then
-pub record ReadsTree (s : Setting) (above : Above) (f : Forest Plain) (known : Known) (after : Reading) : Type 0 where
-  pub events : events_of (reading s plain_tags above f after known).elements
-      ≡ events_in (resolved_document s plain_tags above f known).trees
-      ++ events_of (after (resolved_document s plain_tags above f known).known).elements
-  pub questions : questions_of (reading s plain_tags above f after known).elements
-      ≡ (resolved_document s plain_tags above f known).questions
-      ++ questions_of (after (resolved_document s plain_tags above f known).known).elements
-  pub goes_on : (reading s plain_tags above f after known).elements
-      ≡ (reading s plain_tags above f nothing_read known).elements
-      ++ (after (resolved_document s plain_tags above f known).known).elements
+pub record ReadsTree (s : Setting) (above : EnclosingBlocks) (f : Forest Plain) (state : ReferenceState)
+    (after : Reading) : Type 0 where
+  pub events : events_of (reading s no_notes above f after state).elements
+      ≡ events_in (resolved_document s no_notes above f state).trees
+      ++ events_of (after (resolved_document s no_notes above f state).state).elements
+  pub questions : questions_of (reading s no_notes above f after state).elements
+      ≡ (resolved_document s no_notes above f state).questions
+      ++ questions_of (after (resolved_document s no_notes above f state).state).elements
+  pub goes_on : (reading s no_notes above f after state).elements
+      ≡ (reading s no_notes above f nothing_read state).elements
+      ++ (after (resolved_document s no_notes above f state).state).elements
 
 -- this is true of each document
 abbrev pub TreeLaw : Type 0
-TreeLaw = (s : Setting) (above : Above) (f : Forest Plain) (known : Known) (after : Reading)
-    → ReadsTree s above f known after
+TreeLaw = (s : Setting) (above : EnclosingBlocks) (f : Forest Plain) (state : ReferenceState) (after : Reading)
+    → ReadsTree s above f state after
 
 -- a document can be read in parts: its first trees, where none of them is open, and then the others, with the limit and
 -- the answers that the first trees left
 abbrev pub SplitLaw : Type 0
-SplitLaw = (s : Setting) (above : Above) (first others : Forest Plain) (known : Known) (after : Reading)
+SplitLaw = (s : Setting) (above : EnclosingBlocks) (first others : Forest Plain) (state : ReferenceState)
+    (after : Reading)
     → NothingOpen first
-    → (reading s plain_tags above (joined_chains first others) after known).elements
-    ≡ (reading s plain_tags above first nothing_read known).elements
-    ++ (reading s plain_tags above others after (resolved_document s plain_tags above first known).known).elements
+    → (reading s no_notes above (joined_chains first others) after state).elements
+    ≡ (reading s no_notes above first nothing_read state).elements
+    ++ (reading s no_notes above others after (resolved_document s no_notes above first state).state).elements
 
 -- the event is neither a Start nor an End
 abbrev pub IsLone : EventView → Type 0

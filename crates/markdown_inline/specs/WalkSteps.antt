@@ -1,6 +1,6 @@
 -- What one step of a walk over a tree gives.
 use Rattle.markdown_base.specs.declared.event.Event.TheVariants as events
-use Rattle.markdown_inline.specs.declared.bodies.Way.TheVariants as way
+use Rattle.markdown_inline.specs.declared.bodies.Visit.TheVariants as visit
 use Rattle.markdown_inline.specs.declared.step.Step.TheVariants as step
 use Rattle.std.specs.Prelude.{◌≡◌, ℕ, ◌<◌, true, if◌then◌else◌, List, [], ◌∷◌, Option, Some, None, slice_range}
 use Rattle.std.specs.declared.ops.Range.{Range}
@@ -17,13 +17,13 @@ use Rattle.markdown_document.specs.Document.{Origin, Shape, leaf, enclosed, plai
 use Rattle.markdown_document.specs.Document.{shape_of}
 use Rattle.markdown_document.specs.PlacedNodes.{ComesFromPlace}
 use Rattle.markdown_inline.specs.Elements.{Placed, Passage, event_first}
-use Rattle.markdown_document.specs.Setting.{Rules, Known, setting_of}
+use Rattle.markdown_document.specs.Setting.{Rules, ReferenceState, setting_of}
 use Rattle.markdown_inline.specs.Slices.{slice_start, texts_of, AreFrom, StartIsFrom}
 use Rattle.markdown_inline.specs.Standing.{Stands}
 use Rattle.markdown_document.specs.NamedEntries.{times_named, Named, NamesEntries, IsSameEntry, IsNoShorter}
 use Rattle.markdown_document.specs.Tables.{Tables, tables_of, no_tables}
 use Rattle.markdown_inline.specs.Walk.{end_of_body, tree_left}
-use Rattle.markdown_inline.specs.declared.bodies.Way.{Way}
+use Rattle.markdown_inline.specs.declared.bodies.Visit.{Visit}
 use Rattle.markdown_inline.specs.declared.step.Step.{Step}
 use Rattle.markdown_inline.specs.WalkTotals.{tree_steps}
 
@@ -43,16 +43,16 @@ pub record OpensWith (source : List ℕ) (range : Range ℕ) (shape : Shape) (e 
   pub start : StartIsFrom source range.start range.end e
 
 -- how a walk moves at a tree of this shape
-abbrev pub way_at_shape : Shape → Way
-way_at_shape (leaf e origins) = way.Leaf
-way_at_shape (enclosed tag) = way.Start
-way_at_shape plain = way.Plain
-way_at_shape backslash_break = way.Leaf
-way_at_shape (unresolved b) = way.Open
+abbrev pub visit_at_shape : Shape → Visit
+visit_at_shape (leaf e origins) = visit.Leaf
+visit_at_shape (enclosed tag) = visit.Start
+visit_at_shape plain = visit.Plain
+visit_at_shape backslash_break = visit.Leaf
+visit_at_shape (unresolved b) = visit.Open
 
 -- the way depends on the body alone
-abbrev pub way_at : ItemBody → Way
-way_at b = way_at_shape (shape_of no_tables [] b)
+abbrev pub visit_at : ItemBody → Visit
+visit_at b = visit_at_shape (shape_of no_tables [] b)
 
 -- the tag of a tree of this shape, where it reads as a Start and an End
 abbrev pub enclosing_tag : Shape → Option TagView
@@ -100,8 +100,8 @@ events_first (e ∷ given) rest = event_first e (events_first given rest)
 pub record Went (source : List ℕ) (s t : Arena Item) (held held' : Allocated) (given : List Placed) : Type 0 where
   pub stands : TreeStands source (tables_of held') t
   pub tables : held' ≡ record held { cows = held'.cows; links = held'.links; alignments = held'.alignments }
-  pub left : (rules : Rules) (known : Known) → tree_left (setting_of source rules) (tables_of held) s known
-      ≡ events_first given (tree_left (setting_of source rules) (tables_of held') t known)
+  pub left : (rules : Rules) (state : ReferenceState) → tree_left (setting_of source rules) (tables_of held) s state
+      ≡ events_first given (tree_left (setting_of source rules) (tables_of held') t state)
   pub falls : tree_steps t < tree_steps s
 
 -- a step gave this event with this range
@@ -137,8 +137,8 @@ pub record IsBeforeChain (s : Arena Item) (first : ℕ) : Type 0 where
 abbrev pub StepGives : List ℕ → Arena Item → Arena Item → Allocated → Step → Type 0
 StepGives source s t held step.Done = HasEnded s × (t ≡ s)
 StepGives source s t held step.Skip = Went source s t held held []
-StepGives source s t held (step.Leaf item) = PassedBeginning source s t held item × (way_at item.body ≡ way.Leaf)
-StepGives source s t held (step.Start item) = PassedBeginning source s t held item × (way_at item.body ≡ way.Start)
+StepGives source s t held (step.Leaf item) = PassedBeginning source s t held item × (visit_at item.body ≡ visit.Leaf)
+StepGives source s t held (step.Start item) = PassedBeginning source s t held item × (visit_at item.body ≡ visit.Start)
 StepGives source s t held (step.End e item) = Gives source s t held held (events.End e) (range_of item)
 StepGives source s t held (step.Chain first) = IsBeforeChain s first × (t ≡ s)
 

@@ -9,9 +9,9 @@ use Rattle.markdown_blocks.specs.Blocks.{text_of_blocks, block_tree, block_parts
 use Rattle.markdown_blocks.specs.declared.blocks.Blocks.{Blocks}
 use Rattle.markdown_brackets.specs.QuestionsAsked.{AsksAtMost, EndApart, closers_among}
 use Rattle.markdown_defs.specs.Callback.{Asks}
-use Rattle.markdown_document.specs.Above.{Above}
-use Rattle.markdown_document.specs.Document.{Plain, document, plain_tags}
-use Rattle.markdown_document.specs.Setting.{Known, Setting, setting_of}
+use Rattle.markdown_document.specs.EnclosingBlocks.{EnclosingBlocks}
+use Rattle.markdown_document.specs.Document.{Plain, document, no_notes}
+use Rattle.markdown_document.specs.Setting.{ReferenceState, Setting, setting_of}
 use Rattle.markdown_document.specs.Tables.{tables_at_start}
 use Rattle.markdown_inline.specs.Balanced.{Ranged, AreBalanced}
 use Rattle.markdown_inline.specs.LimitLaw.{ExpandsBelow}
@@ -34,15 +34,16 @@ pub record IsWhole (source : List ℕ) (events : List Ranged) : Type 0 where
 
 -- a chain asks at most one question for each of its `]`, none where the limit is 0 when it is reached, and no two that
 -- end at the same byte offset
-pub record AsksApartAndOnce (s : Setting) (above : Above) (known : Known) (chain : Forest Plain) : Type 0 where
-  pub at_most : AsksAtMost (closers_among (roots chain)) known.limit (resolved s plain_tags above chain known).questions
-  pub apart : EndApart (resolved s plain_tags above chain known).questions
+pub record AsksApartAndOnce (s : Setting) (above : EnclosingBlocks) (state : ReferenceState)
+    (chain : Forest Plain) : Type 0 where
+  pub at_most : AsksAtMost (closers_among (roots chain)) state.limit (resolved s no_notes above chain state).questions
+  pub apart : EndApart (resolved s no_notes above chain state).questions
 
 -- this is true of each chain of a block result, and in all no more questions are asked than it has `]`
 pub record AsksOnce (blocks : Blocks) (asks : Bool) (questions : List Question) : Type 0 where
   pub at_most : AsksAtMost (closers_of (block_tree blocks).nodes) (expansion_limit (text_of_blocks blocks)) questions
-  pub in_chains : EachChain (λ (chain : Forest Plain). (above : Above) (known : Known)
-      → AsksApartAndOnce (setting_of (text_of_blocks blocks) (rules_of blocks asks)) above known chain)
+  pub in_chains : EachChain (λ (chain : Forest Plain). (above : EnclosingBlocks) (state : ReferenceState)
+      → AsksApartAndOnce (setting_of (text_of_blocks blocks) (rules_of blocks asks)) above state chain)
       (document (text_of_blocks blocks) (tables_at_start (block_parts blocks)) (block_tree blocks).nodes)
 
 -- these events keep the laws of the whole document of a block result, and the callback was asked questions that do

@@ -10,7 +10,7 @@ ghost use Rattle.markdown_document.specs.PlacedNodes.{HasSliceLink, HasSlices};
 ghost use Rattle.markdown_document.specs.Tables.{link_at, tables_of};
 ghost use Rattle.markdown_document.specs.NamedEntries.{NamesEntries};
 ghost use Rattle.markdown_inline.specs.Slices.{TagIsFrom, slice_start, texts_of};
-ghost use Rattle.markdown_inline.specs.WalkSteps.{CanBegin, ClosesTo, OpensWith, TakesOnly, container_of, way_at};
+ghost use Rattle.markdown_inline.specs.WalkSteps.{CanBegin, ClosesTo, OpensWith, TakesOnly, container_of, visit_at};
 
 use crate::heading::heading_start;
 use markdown_base::cow_str::CowStr;
@@ -23,7 +23,7 @@ use std::alloc::{AllocError, Global};
 
 /// How a walk moves at an item, by its body.
 #[derive(Clone, Copy, Drop)]
-pub enum Way {
+pub enum Visit {
     /// The item is open: its chain has to be resolved first.
     Open,
     /// Over the item, which is one event.
@@ -35,8 +35,8 @@ pub enum Way {
 }
 
 /// Returns how a walk moves at an item with this body.
-pub fn way_of(body: ItemBody) -> Way
-    ensures { way_at body ≡ result }
+pub fn visit_of(body: ItemBody) -> Visit
+    ensures { visit_at body ≡ result }
 {
     match body {
         ItemBody::MaybeEmphasis(_, _, _)
@@ -46,7 +46,7 @@ pub fn way_of(body: ItemBody) -> Way
         | ItemBody::MaybeHtml
         | ItemBody::MaybeLinkOpen
         | ItemBody::MaybeLinkClose(_)
-        | ItemBody::MaybeImage => Way::Open,
+        | ItemBody::MaybeImage => Visit::Open,
         ItemBody::Text { .. }
         | ItemBody::SynthesizeText(_)
         | ItemBody::SynthesizeChar(_)
@@ -59,9 +59,9 @@ pub fn way_of(body: ItemBody) -> Way
         | ItemBody::SoftBreak
         | ItemBody::HardBreak(_)
         | ItemBody::Rule
-        | ItemBody::TaskListMarker(_) => Way::Leaf,
+        | ItemBody::TaskListMarker(_) => Visit::Leaf,
         ItemBody::Root | ItemBody::TightParagraph | ItemBody::MaybeDefinitionListTitle =>
-            Way::Plain,
+            Visit::Plain,
         ItemBody::Emphasis
         | ItemBody::Strong
         | ItemBody::Strikethrough
@@ -85,14 +85,14 @@ pub fn way_of(body: ItemBody) -> Way
         | ItemBody::Table(_)
         | ItemBody::TableHead
         | ItemBody::TableRow
-        | ItemBody::TableCell => Way::Start,
+        | ItemBody::TableCell => Visit::Start,
     }
 }
 
 /// Returns the event of an item that is one event. The text that the item refers to, if any, is taken out of its table.
 pub fn leaf_event<'a>(text: &'a str, tables: &mut Allocations<'a>, item: Item) -> Event<'a>
     requires can { CanBegin text.now (tables_of tables.old) item }
-    requires leaf { way_at item.body ≡ Way.Leaf }
+    requires leaf { visit_at item.body ≡ Visit.Leaf }
     ensures opens { OpensWith text.entry.now (range_of item)
         (shape_of (tables_of tables.old) (slice_range text.entry.now item.start item.end) item.body)
         result }
@@ -124,7 +124,7 @@ pub fn start_tag<'a>(
     tables: &mut Allocations<'a>,
     body: ItemBody,
 ) -> Result<Tag<'a>, AllocError>
-    requires start { way_at body ≡ Way.Start }
+    requires start { visit_at body ≡ Visit.Start }
     requires named { NamesEntries (tables_of tables.old) body }
     ensures tag { (over : List ℕ) → IfOk result (λ tag. shape_of (tables_of tables.old) over body
         ≡ enclosed (tag_view tag)) }

@@ -4,7 +4,7 @@ ghost use Rattle.markdown_defs.specs.Allocations.{Allocated};
 ghost use Rattle.markdown_document.specs.Tables.{tables_of};
 ghost use Rattle.markdown_inline.specs.WalkSteps.{StepGives, TreeStands, IsRefused};
 
-use crate::bodies::{Way, close_item, way_of};
+use crate::bodies::{Visit, close_item, visit_of};
 use markdown_base::item::Item;
 use markdown_base::tag::TagEnd;
 use markdown_base::tree::Tree;
@@ -55,17 +55,17 @@ pub fn step_at(tree: &mut Tree<Item>, ix: usize) -> Result<Step, AllocError>
         IsRefused tree.old tree.new) }
 {
     let item = *tree.item(ix);
-    match way_of(item.body) {
-        Way::Open => Ok(Step::Chain(ix)),
-        Way::Leaf => {
+    match visit_of(item.body) {
+        Visit::Open => Ok(Step::Chain(ix)),
+        Visit::Leaf => {
             tree.next_sibling(ix);
             Ok(Step::Leaf(item))
         }
-        Way::Start => {
+        Visit::Start => {
             tree.push()?;
             Ok(Step::Start(item))
         }
-        Way::Plain => {
+        Visit::Plain => {
             tree.push()?;
             Ok(Step::Skip)
         }

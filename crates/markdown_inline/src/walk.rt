@@ -79,7 +79,7 @@ impl<'input, F: BrokenLinkCallback<'input>> Parser<'input, F> {
     ghost use Rattle.markdown_inline.specs.NextGives.{NextGives, IsPlacedOf};
     ghost use Rattle.markdown_inline.specs.ParserLeft.{parser_callback, parser_steps};
     ghost use Rattle.markdown_inline.specs.Runs.{GaveRest};
-    ghost use Rattle.markdown_inline.specs.declared.bodies.Way.TheVariants as way;
+    ghost use Rattle.markdown_inline.specs.declared.bodies.Visit.TheVariants as visit;
 
     /// Takes one step of the walk. Returns None where the walk goes on without an event.
     fn advance_once(&mut self) -> Option<Stop>
@@ -124,7 +124,7 @@ impl<'input, F: BrokenLinkCallback<'input>> Parser<'input, F> {
     /// Returns the Start of an item that the walk has entered. Returns an error where memory is refused; the walk is
     /// then over.
     fn start(&mut self, item: Item) -> Result<Event<'input>, Fault>
-        requires begins { IsToBegin self.old item way.Start }
+        requires begins { IsToBegin self.old item visit.Start }
         ensures callback { parser_callback self.new ≡ parser_callback self.old }
         ensures begun { MatchResult result (Began self.old self.new item)
             (RefusedAt self.old self.new) }
@@ -161,7 +161,7 @@ impl<'input, F: BrokenLinkCallback<'input>> Parser<'input, F> {
         }
     }
 
-    /// Returns all events that are left, with their ranges. The only error is `Fault::Memory`.
+    /// Returns all events that are left, with their ranges.
     fn take_rest(&mut self) -> Result<Vec<(Event<'input>, Range<usize>)>, Fault>
         requires { IfSome (parser_callback self.old) F.can_ask }
         ensures all { IfOk result (λ given.

@@ -41,8 +41,7 @@ fn append_text(builder: &mut Builder<'_>, line: Line, to: usize) -> Result<(), A
 }
 
 /// Appends the text before `at`, and the delimiter run from there up to `stop`. A run that directly continues the one
-/// appended last becomes text, which happens where a caller ends a line within a run. The error is a refused
-/// allocation.
+/// appended last becomes text, which happens where a caller ends a line within a run.
 fn append_run(
     builder: &mut Builder<'_>,
     line: Line,
@@ -65,7 +64,7 @@ fn append_run(
     Ok(())
 }
 
-/// Appends the text before `at`, and the item that was found there, if any. The error is a refused allocation.
+/// Appends the text before `at`, and the item that was found there, if any.
 fn append_found(
     builder: &mut Builder<'_>,
     line: Line,

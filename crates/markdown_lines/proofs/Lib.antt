@@ -1,6 +1,6 @@
 pub mod LinesLemmas
 pub mod LineBytesLemmas
-pub mod PlacesLemmas
+pub mod PositionsLemmas
 pub mod AtxHeadingsLemmas
 pub mod CodeFencesLemmas
 pub mod ListMarkersLemmas

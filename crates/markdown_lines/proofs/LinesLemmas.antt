@@ -44,25 +44,25 @@ pub past_ascii : (text : List ℕ) (at : ℕ) → IsUtf8 text → at < length te
 past_ascii text at u l a = IsCharBoundary-after_ascii text at u l a
 
 -- a byte is greater than the carriage return
-abbrev pub is_behind_endings : ℕ → Bool
-is_behind_endings byte = nat_lt 13 byte
+abbrev pub is_after_endings : ℕ → Bool
+is_after_endings byte = nat_lt 13 byte
 
 both_pass : (x y : Bool) → (x && y) ≡ true → (x ≡ true) × (y ≡ true)
 both_pass true y h = (refl, h)
 both_pass false y h = cc
 
-behind_is_none : (byte : ℕ) → is_behind_endings byte ≡ true → is_line_ending byte ≡ false
-behind_is_none byte h = grind (arith, nat_tests)
+after_is_none : (byte : ℕ) → is_after_endings byte ≡ true → is_line_ending byte ≡ false
+after_is_none byte h = grind (arith, nat_tests)
 
 none_of_two : (x y : Bool) → x ≡ false → y ≡ false → (x || y) ≡ false
 none_of_two x y p q = rw (p, q) refl
 
 -- among bytes that are all greater than the carriage return none begins a line ending
-pub none_ends : (bytes : List ℕ) → list_all is_behind_endings bytes ≡ true → list_any is_line_ending bytes ≡ false
+pub none_ends : (bytes : List ℕ) → list_all is_after_endings bytes ≡ true → list_any is_line_ending bytes ≡ false
 none_ends [] h = refl
 none_ends (byte ∷ bytes) h =
-    let both = both_pass (is_behind_endings byte) (list_all is_behind_endings bytes) h in
-    none_of_two (is_line_ending byte) (list_any is_line_ending bytes) (behind_is_none byte both.0)
+    let both = both_pass (is_after_endings byte) (list_all is_after_endings bytes) h in
+    none_of_two (is_line_ending byte) (list_any is_line_ending bytes) (after_is_none byte both.0)
     (none_ends bytes both.1)
 
 -- where no byte ends the line up to a part, and none of the first bytes of the part does, none does up to there
@@ -76,8 +76,8 @@ content_through bytes from start stop before order within earlier end at low hig
     let few = end.high in
     let inside : at - start < stop - start = omega (arith, h, high, few, part_length bytes start stop within) in
     let here = end.content (at - start) (omega arith) (omega (arith, h, high)) in
-    let place : start + (at - start) ≡ at = omega (arith, h) in
-    let same = byte_of_part bytes start stop (at - start) inside ∙ ap (λ k. get_or bytes k 0) place in
+    let position : start + (at - start) ≡ at = omega (arith, h) in
+    let same = byte_of_part bytes start stop (at - start) inside ∙ ap (λ k. get_or bytes k 0) position in
     ap is_line_ending (sym same) ∙ here)
     (cases_lt at start)
 

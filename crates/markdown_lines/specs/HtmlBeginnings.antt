@@ -53,17 +53,17 @@ is_after_name [] = true
 is_after_name (byte ∷ bytes) = is_space_or_tab byte || (byte == greater_than)
 
 -- the bytes after a slash at their beginning, or all bytes where there is none
-abbrev pub behind_slash : List ℕ → List ℕ
-behind_slash [] = []
-behind_slash (byte ∷ bytes) = if byte == slash then bytes else byte ∷ bytes
+abbrev pub after_slash : List ℕ → List ℕ
+after_slash [] = []
+after_slash (byte ∷ bytes) = if byte == slash then bytes else byte ∷ bytes
 
 -- what follows the name that bytes begin with
-abbrev pub behind_name : List ℕ → List ℕ
-behind_name bytes = drop (length (name_at_start bytes)) bytes
+abbrev pub after_name : List ℕ → List ℕ
+after_name bytes = drop (length (name_at_start bytes)) bytes
 
 -- the first start condition, from what follows the `<`: an opening tag with such a name
 abbrev pub begins_verbatim : List ℕ → Bool
-begins_verbatim rest = is_one_of (name_at_start rest) verbatim_tags && is_after_name (behind_name rest)
+begins_verbatim rest = is_one_of (name_at_start rest) verbatim_tags && is_after_name (after_name rest)
 
 -- what may follow the name of a tag of the sixth start condition: also `/>`
 abbrev pub is_after_block_name : List ℕ → Bool
@@ -72,7 +72,7 @@ is_after_block_name bytes = is_after_name bytes || begins_with (codes "/>") byte
 -- the sixth start condition, from what follows the `<`: an opening or closing tag with such a name
 abbrev pub begins_block_tag : List ℕ → Bool
 begins_block_tag rest =
-    is_one_of (name_at_start (behind_slash rest)) block_tags && is_after_block_name (behind_name (behind_slash rest))
+    is_one_of (name_at_start (after_slash rest)) block_tags && is_after_block_name (after_name (after_slash rest))
 
 -- the first and the sixth start condition, which depend on the name of the tag
 abbrev pub named_kind : List ℕ → Option HtmlKind
@@ -102,7 +102,7 @@ in_one_line rest = None
 -- the seventh start condition: a tag whose name is not one of the first, and only white space after it
 abbrev pub is_lone_tag : List ℕ → Bool
 is_lone_tag line =
-    option_map_or (λ tag. not (is_one_of (name_at_start (behind_slash (drop 1 line))) verbatim_tags)
+    option_map_or (λ tag. not (is_one_of (name_at_start (after_slash (drop 1 line))) verbatim_tags)
     && list_all is_space_or_tab (drop tag.0 line)) (tag_at in_one_line line 0) false
 
 -- the kind of the HTML block that begins with a line's content; one of the seventh cannot interrupt a paragraph

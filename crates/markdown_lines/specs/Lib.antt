@@ -2,7 +2,7 @@
 pub mod Lines
 pub mod LineBytes
 pub mod LineBreaks
-pub mod Places
+pub mod Positions
 -- which block a line's content begins
 pub mod AtxHeadings
 pub mod CodeFences

@@ -45,8 +45,8 @@ may_interrupt marker = not (ends_number marker.character) || (marker.first == 1)
 -- white space or nothing follows the marker, and where it interrupts a paragraph, it may do so, and its item is not
 -- blank
 abbrev pub stands_before : ListMarker → List ℕ → Bool → Bool
-stands_before marker behind interrupts =
-    is_parted behind && (not interrupts || (may_interrupt marker && not (list_all is_space_or_tab behind)))
+stands_before marker after interrupts =
+    is_parted after && (not interrupts || (may_interrupt marker && not (list_all is_space_or_tab after)))
 
 -- the marker, where what follows it in a line's content allows it
 abbrev pub if_it_stands : Option ListMarker → List ℕ → Bool → Option ListMarker

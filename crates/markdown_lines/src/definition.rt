@@ -167,7 +167,7 @@ fn any_label<'a>(
 }
 
 /// Returns the spot `length` bytes after the `[` of a label at `at`, not counting the prefixes of lines.
-fn spot_behind(lines: &[HeldLine], at: usize, length: usize) -> Option<Spot> {
+fn spot_after(lines: &[HeldLine], at: usize, length: usize) -> Option<Spot> {
     let mut left = length;
     for (number, line) in lines.iter().enumerate() {
         let start = part_start(number, *line, at);
@@ -185,7 +185,7 @@ fn spot_behind(lines: &[HeldLine], at: usize, length: usize) -> Option<Spot> {
 
 /// Returns the spot after the colon that follows a label, if one does.
 fn past_colon(text: &str, lines: &[HeldLine], at: usize, length: usize) -> Option<Spot> {
-    let colon = spot_behind(lines, at, length)?;
+    let colon = spot_after(lines, at, length)?;
     if byte_at(text, colon.at) != Some(b':') {
         return None;
     }
@@ -207,7 +207,7 @@ fn closing_mark(open: u8) -> Option<u8> {
 
 /// What a line of a title says about the title's end.
 #[derive(Clone, Copy, Drop)]
-enum Mark {
+enum TitleLine {
     /// the closing mark is at this offset in the line
     Closes(usize),
     /// there is a `(` in a title between parentheses, so it is not a title
@@ -217,21 +217,21 @@ enum Mark {
 }
 
 /// Returns whether the title that is closed by `close` ends in these bytes of a line, and where.
-fn title_mark(content: &[u8], close: u8) -> Mark {
+fn title_line(content: &[u8], close: u8) -> TitleLine {
     let mut escaped = false;
     for (at, found) in content.iter().enumerate() {
         let byte = *found;
         if escaped {
             escaped = false;
         } else if byte == close {
-            return Mark::Closes(at);
+            return TitleLine::Closes(at);
         } else if byte == b'(' && close == b')' {
-            return Mark::Breaks;
+            return TitleLine::Breaks;
         } else {
             escaped = byte == b'\\';
         }
     }
-    Mark::None
+    TitleLine::None
 }
 
 /// Returns the spot after the title whose opening mark is at a spot.
@@ -245,24 +245,24 @@ fn title_end(text: &str, lines: &[HeldLine], spot: Spot) -> Option<Spot> {
         if number > spot.line {
             from = line.start;
         }
-        match title_mark(bytes_of(text, from, line.stop), close) {
-            Mark::Closes(before) => {
+        match title_line(bytes_of(text, from, line.stop), close) {
+            TitleLine::Closes(before) => {
                 return Some(Spot {
                     line: number,
                     at: from.saturating_add(before).saturating_add(1),
                 });
             }
-            Mark::Breaks => return None,
-            Mark::None => {}
+            TitleLine::Breaks => return None,
+            TitleLine::None => {}
         }
     }
     None
 }
 
 /// Returns what follows a destination that ends before a spot, where it is a title and the line then ends.
-fn title_tail(text: &str, lines: &[HeldLine], behind: Spot) -> Option<Tail> {
-    let title = past_space(text, lines, behind)?;
-    if title.at == behind.at {
+fn title_tail(text: &str, lines: &[HeldLine], after: Spot) -> Option<Tail> {
+    let title = past_space(text, lines, after)?;
+    if title.at == after.at {
         return None;
     }
     let end = title_end(text, lines, title)?;
@@ -276,11 +276,11 @@ fn title_tail(text: &str, lines: &[HeldLine], behind: Spot) -> Option<Tail> {
 }
 
 /// Returns what follows a destination that ends before a spot: a title, or nothing in its line.
-fn tail_behind(text: &str, lines: &[HeldLine], behind: Spot) -> Option<Tail> {
-    match title_tail(text, lines, behind) {
+fn tail_after(text: &str, lines: &[HeldLine], after: Spot) -> Option<Tail> {
+    match title_tail(text, lines, after) {
         Some(found) => Some(found),
-        None if is_at_end(text, lines, behind) => Some(Tail {
-            end: behind,
+        None if is_at_end(text, lines, after) => Some(Tail {
+            end: after,
             title: None,
         }),
         None => None,
@@ -348,11 +348,11 @@ fn destination_at<'a>(text: &'a str, start: Spot) -> Option<(&'a str, Spot)> {
     if length == 0 {
         return None;
     }
-    let behind = Spot {
+    let after = Spot {
         line: start.line,
         at: start.at.saturating_add(length),
     };
-    Some((destination, behind))
+    Some((destination, after))
 }
 
 /// Returns what follows a label at `at` of this length, and its colon: the destination, and what follows that.
@@ -362,10 +362,10 @@ fn after_label<'a>(
     at: usize,
     length: usize,
 ) -> Option<(&'a str, Tail)> {
-    let behind = past_colon(text, lines, at, length)?;
-    let start = past_space(text, lines, behind)?;
-    let (destination, behind) = destination_at(text, start)?;
-    let tail = tail_behind(text, lines, behind)?;
+    let after = past_colon(text, lines, at, length)?;
+    let start = past_space(text, lines, after)?;
+    let (destination, after) = destination_at(text, start)?;
+    let tail = tail_after(text, lines, after)?;
     Some((destination, tail))
 }
 

@@ -247,7 +247,7 @@ fn begins_verbatim(rest: &[u8]) -> bool
 fn begins_block_tag(rest: &[u8]) -> bool
     ensures { result ≡ spec.begins_block_tag rest.now }
 {
-    let named = behind_slash(rest);
+    let named = after_slash(rest);
     let name = tag_name(named);
     is_block_tag(name) && is_after_block_name(bytes_from(named, name.len()))
 }
@@ -266,8 +266,8 @@ fn named_kind(rest: &[u8]) -> Option<HtmlKind>
 }
 
 /// Returns the bytes after a slash at their beginning, or all bytes where there is none.
-fn behind_slash(bytes: &[u8]) -> &[u8]
-    ensures { result.now ≡ spec.behind_slash bytes.now }
+fn after_slash(bytes: &[u8]) -> &[u8]
+    ensures { result.now ≡ spec.after_slash bytes.now }
 {
     match bytes.split_first() {
         Some((b'/', rest)) => rest,
@@ -295,7 +295,7 @@ fn is_lone_tag(alloc: Global, line: &str) -> Result<bool, AllocError>
     let Some(tag) = scan_html_tag(alloc, line, 0, &OneLine)? else {
         return Ok(false);
     };
-    let name = tag_name(behind_slash(bytes_from(bytes, 1)));
+    let name = tag_name(after_slash(bytes_from(bytes, 1)));
     Ok(!is_verbatim_tag(name) && is_white(bytes_from(bytes, tag.end)))
 }
 

@@ -11,6 +11,6 @@ pub mod html_kind;
 pub mod line;
 pub mod line_break;
 pub mod list_marker;
-pub mod place;
+pub mod position;
 pub mod space;
 pub mod thematic_break;

@@ -44,14 +44,14 @@ fn begins_line_ending(byte: u8) -> bool
 /// Returns whether all bytes are greater than the carriage return, as they are in most lines: then none of them begins
 /// a line ending. This is one comparison for each byte.
 #[inline(always)]
-fn are_behind_endings(bytes: &[u8]) -> bool
+fn are_after_endings(bytes: &[u8]) -> bool
     ensures { result ≡ true → list_any is_line_ending bytes.now ≡ false }
 {
-    let mut behind = true;
+    let mut after = true;
     for byte in bytes {
-        behind &= *byte > b'\r';
+        after &= *byte > b'\r';
     }
-    behind
+    after
 }
 
 /// Returns the number of bytes before the first one that begins a line ending, or of all bytes where none does.
@@ -76,7 +76,7 @@ fn first_line_ending(bytes: &[u8], from: usize) -> usize
     let mut start = from;
     'content: while bytes.len() - start >= TOGETHER {
         let together = &bytes[start..start + TOGETHER];
-        if !are_behind_endings(together) {
+        if !are_after_endings(together) {
             let before = length_before_ending(together);
             if before < TOGETHER {
                 return start + before;

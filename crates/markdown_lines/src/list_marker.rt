@@ -109,11 +109,11 @@ pub fn list_marker(text: &str, at: usize, stop: usize, interrupts: bool) -> Opti
 {
     let content = bytes_of(text, at, stop);
     let marker = any_marker(content)?;
-    let behind = &content[marker.width..];
-    if !is_parted(behind) {
+    let after = &content[marker.width..];
+    if !is_parted(after) {
         return None;
     }
-    if interrupts && (!marker.may_interrupt() || is_white(behind)) {
+    if interrupts && (!marker.may_interrupt() || is_white(after)) {
         return None;
     }
     Some(marker)

@@ -123,23 +123,23 @@ fresh_after_bytes-append before [] ys = refl
 fresh_after_bytes-append before (x ∷ xs) ys = fresh_after_bytes-append (x == 10) xs ys
 
 -- from a place on there are bytes
-pub fresh_behind-some : (bytes : List ℕ) (start : ℕ) (before : Bool) → start < length bytes
+pub is_fresh_after-some : (bytes : List ℕ) (start : ℕ) (before : Bool) → start < length bytes
     → (get_or bytes (length bytes - 1) 0 == 10) ≡ fresh_after_bytes before (drop start bytes)
-fresh_behind-some bytes start before h =
+is_fresh_after-some bytes start before h =
     let l : 0 < length (drop start bytes) = omega (arith, length-drop start bytes) in
     sym (fresh_after_bytes-last before (take start bytes) (drop start bytes) l
     ∙ ap (λ x. get_or x (length x - 1) 0 == 10) (take-append-drop start bytes))
 
 -- from a place on there are none
-pub fresh_behind-none : (bytes : List ℕ) (start : ℕ) (before : Bool) → length bytes ≤ start
+pub is_fresh_after-none : (bytes : List ℕ) (start : ℕ) (before : Bool) → length bytes ≤ start
     → before ≡ fresh_after_bytes before (drop start bytes)
-fresh_behind-none bytes start before h = sym (ap (fresh_after_bytes before) (drop_of_length-le bytes h))
+is_fresh_after-none bytes start before h = sym (ap (fresh_after_bytes before) (drop_of_length-le bytes h))
 
 -- what follows the old text is what was appended
-pub fresh_behind-appended : (fresh before : Bool) (first last old out bytes : List ℕ) → first ≡ old → last ≡ out
+pub is_fresh_after-appended : (fresh before : Bool) (first last old out bytes : List ℕ) → first ≡ old → last ≡ out
     → out ≡ old ++ bytes → fresh ≡ fresh_after_bytes before (drop (length first) last) → fresh
     ≡ fresh_after_bytes before bytes
-fresh_behind-appended fresh before first last old out bytes f l e h =
+is_fresh_after-appended fresh before first last old out bytes f l e h =
     h ∙ (ap (λ x. fresh_after_bytes before (drop (length x) last)) f
     ∙ (ap (λ x. fresh_after_bytes before (drop (length old) x)) (l ∙ e)
     ∙ ap (fresh_after_bytes before) (drop-append_seam old bytes)))

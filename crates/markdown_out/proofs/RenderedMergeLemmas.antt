@@ -118,9 +118,9 @@ no_error-unless : (bytes : List ℕ) (p : U) (xs : List (Item U)) → HasNoError
 no_error-unless [] p xs h = h
 no_error-unless (b ∷ bytes) p xs h = h
 
-no_error-behind : (us : List (PlacedText U)) (xs : List (Item U)) → HasNoError (map text_item us ++ xs) → HasNoError xs
-no_error-behind [] xs h = h
-no_error-behind (u ∷ us) xs h = no_error-behind us xs h
+no_error-after : (us : List (PlacedText U)) (xs : List (Item U)) → HasNoError (map text_item us ++ xs) → HasNoError xs
+no_error-after [] xs h = h
+no_error-after (u ∷ us) xs h = no_error-after us xs h
 
 no_error-given : (rs : List (Run U)) → HasNoError (flat_map run_source rs)
     → HasNoError (flat_map (run_items nowhere) rs)
@@ -131,7 +131,7 @@ no_error-given (texts t [] ∷ rs) h = no_error-given rs h
 no_error-given (texts t (u ∷ us) ∷ rs) h =
     no_error-unless (flat_map (λ x. x.bytes) (t ∷ u ∷ us)) (nowhere t.place (last_text u us).place)
     (flat_map (run_items nowhere) rs)
-    (no_error-given rs (no_error-behind us (flat_map run_source rs) h))
+    (no_error-given rs (no_error-after us (flat_map run_source rs) h))
 
 -- a merge of no error has none
 no_error-merged : (xs : List (Item U)) → HasNoError xs → HasNoError (merged nowhere xs)

@@ -13,15 +13,15 @@ use Rattle.markdown_base.specs.declared.item.ItemBody.TheVariants as body
 use Rattle.markdown_blocks.specs.Blocks.{block_parts, text_of_blocks, block_tree, IsOfText}
 use Rattle.markdown_blocks.specs.declared.blocks.Blocks.{Blocks}
 use Rattle.markdown_builder.specs.HeadingsHoldInline.{is_heading_block, HeadingsHoldInline}
-use Rattle.markdown_document.specs.Above.{Above, inside_label, no_blocks}
+use Rattle.markdown_document.specs.EnclosingBlocks.{EnclosingBlocks, inside_node, no_blocks}
 use Rattle.markdown_document.specs.ChainRest.{cut_shape}
-use Rattle.markdown_document.specs.Document.{Shape, leaf, enclosed, plain, backslash_break, unresolved, Label, Plain}
+use Rattle.markdown_document.specs.Document.{Shape, leaf, enclosed, plain, backslash_break, unresolved, TreeNode, Plain}
 use Rattle.markdown_document.specs.Document.{document}
-use Rattle.markdown_document.specs.Document.{is_unresolved, label_of, plain_tags, shape_of}
-use Rattle.markdown_document.specs.Setting.{Known, Setting, setting_of}
+use Rattle.markdown_document.specs.Document.{is_unresolved, tree_node_of, no_notes, shape_of}
+use Rattle.markdown_document.specs.Setting.{ReferenceState, Setting, setting_of}
 use Rattle.markdown_document.specs.Tables.{Tables, tables_at_start}
 use Rattle.markdown_document.proofs.PlaceLemmas.{open-unresolved}
-use Rattle.markdown_inline.specs.ParserLeft.{known_at_start, rules_of}
+use Rattle.markdown_inline.specs.ParserLeft.{state_at_start, rules_of}
 use Rattle.markdown_inline.specs.ResolvedDocument.{Resolving, no_trees, resolved_blocks, resolved_chain}
 use Rattle.markdown_inline.specs.ResolvedDocument.{resolved_document, resolved_tree}
 use Rattle.markdown_inline.specs.ResolvedShapes.{IsMadeShape, IsMadeTag}
@@ -47,32 +47,32 @@ cuts n (leaf e origins) = refl
 cuts n other = refl
 
 -- a chain without headings is resolved to none
-chain_none : (s : Setting) (above : Above) (chain : Forest Plain) (known : Known) → NoHeading chain
-    → NoHeading (resolved_chain s plain_tags above chain known).trees
-chain_none s above chain known n = shapes-law not_heading made cuts s plain_tags above chain known n
+chain_none : (s : Setting) (above : EnclosingBlocks) (chain : Forest Plain) (state : ReferenceState) → NoHeading chain
+    → NoHeading (resolved_chain s no_notes above chain state).trees
+chain_none s above chain state n = shapes-law not_heading made cuts s no_notes above chain state n
 
 -- ---- trees without headings
 
 abbrev GivesNone : Resolving (Unit {0}) → Type 0
-GivesNone r = (known : Known) → NoHeading (r known).trees
+GivesNone r = (state : ReferenceState) → NoHeading (r state).trees
 
 tree_none : (shape : Shape) (a : Plain) (below after chain : Resolving (Unit {0})) → not_heading a.part.shape ≡ true
     → GivesNone below → GivesNone after → GivesNone chain → GivesNone (resolved_tree shape a below after chain)
-tree_none (leaf e origins) a below after chain n i l w known = (n, tt, l known)
-tree_none (enclosed tag) a below after chain n i l w known = (n, i known, l (below known).known)
-tree_none plain a below after chain n i l w known = (n, i known, l (below known).known)
-tree_none backslash_break a below after chain n i l w known = (n, tt, l known)
-tree_none (unresolved b) a below after chain n i l w known = w known
+tree_none (leaf e origins) a below after chain n i l w state = (n, tt, l state)
+tree_none (enclosed tag) a below after chain n i l w state = (n, i state, l (below state).state)
+tree_none plain a below after chain n i l w state = (n, i state, l (below state).state)
+tree_none backslash_break a below after chain n i l w state = (n, tt, l state)
+tree_none (unresolved b) a below after chain n i l w state = w state
 
-document_none : (s : Setting) (above : Above) (f : Forest Plain) → NoHeading f
-    → (known : Known) → NoHeading (resolved_document s plain_tags above f known).trees
-document_none s above nil n known = tt
-document_none s above (node a below after) n known =
-    tree_none a.part.shape a (λ k. resolved_document s plain_tags (inside_label a above) below k)
-    (λ k. resolved_document s plain_tags above after k) (λ k. resolved_chain s plain_tags above (node a below after) k)
+document_none : (s : Setting) (above : EnclosingBlocks) (f : Forest Plain) → NoHeading f
+    → (state : ReferenceState) → NoHeading (resolved_document s no_notes above f state).trees
+document_none s above nil n state = tt
+document_none s above (node a below after) n state =
+    tree_none a.part.shape a (λ k. resolved_document s no_notes (inside_node a above) below k)
+    (λ k. resolved_document s no_notes above after k) (λ k. resolved_chain s no_notes above (node a below after) k)
     n.0
-    (λ k. document_none s (inside_label a above) below n.1 k) (λ k. document_none s above after n.2 k)
-    (λ k. chain_none s above (node a below after) k n) known
+    (λ k. document_none s (inside_node a above) below n.1 k) (λ k. document_none s above after n.2 k)
+    (λ k. chain_none s above (node a below after) k n) state
 
 -- ---- headings apart
 
@@ -91,7 +91,7 @@ abbrev AllKept : Forest Plain → Type 0
 AllKept f = Throughout KeptApart f
 
 abbrev GivesApart : Resolving (Unit {0}) → Type 0
-GivesApart r = (known : Known) → AllApart (r known).trees
+GivesApart r = (state : ReferenceState) → AllApart (r state).trees
 
 not_both : true ≡ false → ⊥
 not_both e = cc e
@@ -99,33 +99,33 @@ not_both e = cc e
 tree_apart : (shape : Shape) (a : Plain) (below after chain : Resolving (Unit {0})) → a.part.shape ≡ shape
     → (not_heading a.part.shape ≡ false → GivesNone below) → GivesApart below → GivesApart after
     → (is_unresolved a.part.shape ≡ true → GivesNone chain) → GivesApart (resolved_tree shape a below after chain)
-tree_apart (leaf e origins) a below after chain is n i l w known =
-    (record { in_heading = λ h. tt; unread = λ h. tt }, tt, l known)
-tree_apart (enclosed tag) a below after chain is n i l w known = (
-  record { in_heading = λ h. n h known; unread = λ h. absurd (not_both (sym (ap reads_below is) ∙ h)) },
-  i known,
-  l (below known).known,
+tree_apart (leaf e origins) a below after chain is n i l w state =
+    (record { in_heading = λ h. tt; unread = λ h. tt }, tt, l state)
+tree_apart (enclosed tag) a below after chain is n i l w state = (
+  record { in_heading = λ h. n h state; unread = λ h. absurd (not_both (sym (ap reads_below is) ∙ h)) },
+  i state,
+  l (below state).state,
 )
-tree_apart plain a below after chain is n i l w known = (
-  record { in_heading = λ h. n h known; unread = λ h. absurd (not_both (sym (ap reads_below is) ∙ h)) },
-  i known,
-  l (below known).known,
+tree_apart plain a below after chain is n i l w state = (
+  record { in_heading = λ h. n h state; unread = λ h. absurd (not_both (sym (ap reads_below is) ∙ h)) },
+  i state,
+  l (below state).state,
 )
-tree_apart backslash_break a below after chain is n i l w known =
-    (record { in_heading = λ h. tt; unread = λ h. tt }, tt, l known)
-tree_apart (unresolved b) a below after chain is n i l w known = none_apart (chain known).trees
-    (w (ap is_unresolved is) known)
+tree_apart backslash_break a below after chain is n i l w state =
+    (record { in_heading = λ h. tt; unread = λ h. tt }, tt, l state)
+tree_apart (unresolved b) a below after chain is n i l w state = none_apart (chain state).trees
+    (w (ap is_unresolved is) state)
 
-document_apart : (s : Setting) (above : Above) (f : Forest Plain) → AllKept f
-    → (known : Known) → AllApart (resolved_document s plain_tags above f known).trees
-document_apart s above nil p known = tt
-document_apart s above (node a below after) p known =
-    tree_apart a.part.shape a (λ k. resolved_document s plain_tags (inside_label a above) below k)
-    (λ k. resolved_document s plain_tags above after k) (λ k. resolved_chain s plain_tags above (node a below after) k)
+document_apart : (s : Setting) (above : EnclosingBlocks) (f : Forest Plain) → AllKept f
+    → (state : ReferenceState) → AllApart (resolved_document s no_notes above f state).trees
+document_apart s above nil p state = tt
+document_apart s above (node a below after) p state =
+    tree_apart a.part.shape a (λ k. resolved_document s no_notes (inside_node a above) below k)
+    (λ k. resolved_document s no_notes above after k) (λ k. resolved_chain s no_notes above (node a below after) k)
     refl
-    (λ h k. document_none s (inside_label a above) below (p.0.in_heading h) k)
-    (λ k. document_apart s (inside_label a above) below p.1 k) (λ k. document_apart s above after p.2 k)
-    (λ h k. chain_none s above (node a below after) k (p.0.in_chain h)) known
+    (λ h k. document_none s (inside_node a above) below (p.0.in_heading h) k)
+    (λ k. document_apart s (inside_node a above) below p.1 k) (λ k. document_apart s above after p.2 k)
+    (λ h k. chain_none s above (node a below after) k (p.0.in_chain h)) state
 
 -- ---- the tree of a block result
 
@@ -171,7 +171,7 @@ or_right false b h = h
 
 module _ (source : List ℕ) (tables : Tables) (counts : PartCounts) where
   abbrev labelled : Forest Numbered → Forest Plain
-  labelled f = relabelled (λ (n : Numbered). label_of source tables n.item) f
+  labelled f = relabelled (λ (n : Numbered). tree_node_of source tables n.item) f
 
   labels_none : (f : Forest Numbered) → NoHeadingBlock f → NoHeading (labelled f)
   labels_none nil n = tt
@@ -215,7 +215,7 @@ blocks_apart blocks asks answers p =
     document_apart (setting_of source (rules_of blocks asks)) (no_blocks source)
     (document source (tables_at_start parts) (block_tree blocks).nodes)
     (kept_apart source (tables_at_start parts) (counts_of parts) tree blocks.well_formed.rules
-    (λ o. cc (o, blocks.well_formed.top_is_closed)) p) (known_at_start source answers)
+    (λ o. cc (o, blocks.well_formed.top_is_closed)) p) (state_at_start source answers)
 
 -- ---- the block result of a text
 

@@ -7,7 +7,7 @@ use Rattle.std.specs.declared.ops.Range.{Range}
 use Rattle.std.proofs.lemmas.List.{map-append}
 use Rattle.markdown_base.specs.Event.{EventView, start, end, tag_end, TagView, heading}
 use Rattle.markdown_base.specs.Forest.{Forest, nil, node, Throughout, Each}
-use Rattle.markdown_document.specs.Document.{Shape, leaf, enclosed, plain, backslash_break, unresolved, Label}
+use Rattle.markdown_document.specs.Document.{Shape, leaf, enclosed, plain, backslash_break, unresolved, TreeNode}
 use Rattle.markdown_inline.specs.Balanced.{ranged}
 use Rattle.markdown_inline.specs.Elements.{Placed}
 use Rattle.markdown_inline.specs.TreeReading.{GivesBoth, IsLone, events_in, tree_events}
@@ -21,8 +21,8 @@ abbrev pub not_heading : Shape → Bool
 not_heading shape = not (is_some (tree_level shape))
 
 -- none of these trees is a heading, at any depth
-abbrev pub NoHeading : {A : Type 0} → Forest (Label A) → Type 0
-NoHeading {A} f = Each (λ (a : Label A). not_heading a.part.shape ≡ true) f
+abbrev pub NoHeading : {A : Type 0} → Forest (TreeNode A) → Type 0
+NoHeading {A} f = Each (λ (a : TreeNode A). not_heading a.part.shape ≡ true) f
 
 -- what is below a tree is read
 abbrev pub reads_below : Shape → Bool
@@ -31,16 +31,16 @@ reads_below plain = true
 reads_below other = false
 
 -- a heading contains no other, nor is there one where it is not read
-pub record Apart {A : Type 0} (a : Label A) (below : Forest (Label A)) : Type 0 where
+pub record Apart {A : Type 0} (a : TreeNode A) (below : Forest (TreeNode A)) : Type 0 where
   pub in_heading : not_heading a.part.shape ≡ false → NoHeading below
   pub unread : reads_below a.part.shape ≡ false → NoHeading below
 
-abbrev pub AllApart : {A : Type 0} → Forest (Label A) → Type 0
-AllApart {A} f = Throughout (λ (a : Label A) (below after : Forest (Label A)). Apart a below) f
+abbrev pub AllApart : {A : Type 0} → Forest (TreeNode A) → Type 0
+AllApart {A} f = Throughout (λ (a : TreeNode A) (below after : Forest (TreeNode A)). Apart a below) f
 
 -- each Start and its End are of one tree
-abbrev pub AllGiveBoth : {A : Type 0} → Forest (Label A) → Type 0
-AllGiveBoth {A} f = Each (λ (a : Label A). GivesBoth a.part.shape) f
+abbrev pub AllGiveBoth : {A : Type 0} → Forest (TreeNode A) → Type 0
+AllGiveBoth {A} f = Each (λ (a : TreeNode A). GivesBoth a.part.shape) f
 
 -- a tag without a level is not a heading
 no_level : (o : Option ℕ) → not (is_some o) ≡ true → o ≡ None
@@ -117,21 +117,21 @@ tree_silent backslash_break range inside after n g i l rest = l rest
 tree_silent (unresolved b) range inside after n g i l rest = l rest
 
 -- so it is of trees among which no heading is
-trees_stay : {A : Type 0} (f : Forest (Label A)) → NoHeading f → AllGiveBoth f → Stays (events_in f)
+trees_stay : {A : Type 0} (f : Forest (TreeNode A)) → NoHeading f → AllGiveBoth f → Stays (events_in f)
 trees_stay nil n g rest = refl
 trees_stay (node a below after) n g rest =
     tree_stays a.part.shape a.part.range (events_in below) (events_in after) n.0 g.0 (trees_stay below n.1 g.1)
     (trees_stay after n.2 g.2)
     rest
 
-trees_silent : {A : Type 0} (f : Forest (Label A)) → NoHeading f → AllGiveBoth f → Silent (events_in f)
+trees_silent : {A : Type 0} (f : Forest (TreeNode A)) → NoHeading f → AllGiveBoth f → Silent (events_in f)
 trees_silent nil n g rest = refl
 trees_silent (node a below after) n g rest =
     tree_silent a.part.shape a.part.range (events_in below) (events_in after) n.0 g.0 (trees_silent below n.1 g.1)
     (trees_silent after n.2 g.2) rest
 
 -- and they have no entries
-no_entries : {A : Type 0} (f : Forest (Label A)) → NoHeading f → tree_entries f ≡ []
+no_entries : {A : Type 0} (f : Forest (TreeNode A)) → NoHeading f → tree_entries f ≡ []
 no_entries nil n = refl
 no_entries (node a below after) n =
     rw (no_level (tree_level a.part.shape) n.0, no_entries below n.1, no_entries after n.2) refl
@@ -142,13 +142,13 @@ Have events entries = (rest : List Ranged) → entries_from false (ranged events
     ≡ entries ++ entries_from false rest
 
 -- what is below a tree has its entries, and where no heading is below it its events are within one
-record BelowHas {A : Type 0} (below : Forest (Label A)) : Type 0 where
+record BelowHas {A : Type 0} (below : Forest (TreeNode A)) : Type 0 where
   entries : Have (events_in below) (tree_entries below)
   stays : NoHeading below → Stays (events_in below)
   silent : NoHeading below → Silent (events_in below)
 
 -- a Start and an End with what is between them, by the level of the heading that they are, if they are one
-enclosed_has : {A : Type 0} (tag : TagView) (o : Option ℕ) (range : Range ℕ) (below : Forest (Label A))
+enclosed_has : {A : Type 0} (tag : TagView) (o : Option ℕ) (range : Range ℕ) (below : Forest (TreeNode A))
     (after : List Placed)
     (others : List EntryView) → tag_level tag ≡ o → (is_some o ≡ true → NoHeading below) → BelowHas below
     → Have after others
@@ -173,15 +173,15 @@ enclosed_has tag (Some level) range below after others t n b l rest =
     let within : up_to_end (ranged (events_in below ++ close ∷ after) ++ rest) ≡ ranged (events_in below) =
     ap up_to_end (parted (events_in below) (close ∷ after) rest) ∙ b.stays (n refl) ((end (tag_end tag), range) ∷ later)
     ∙ ap (λ (es : List Ranged). ranged (events_in below) ++ es) stops ∙ append-nil (ranged (events_in below)) in
-    let behind : entries_from true (ranged (events_in below ++ close ∷ after) ++ rest)
+    let beyond : entries_from true (ranged (events_in below ++ close ∷ after) ++ rest)
     ≡ others ++ entries_from false rest =
     ap (entries_from true) (parted (events_in below) (close ∷ after) rest)
     ∙ b.silent (n refl) ((end (tag_end tag), range) ∷ later)
     ∙ leaves ∙ l rest in
-    rw (t, within, behind, no_entries below (n refl)) refl
+    rw (t, within, beyond, no_entries below (n refl)) refl
 
 -- a tree of whatever shape
-tree_has : {A : Type 0} (shape : Shape) (range : Range ℕ) (below : Forest (Label A)) (after : List Placed)
+tree_has : {A : Type 0} (shape : Shape) (range : Range ℕ) (below : Forest (TreeNode A)) (after : List Placed)
     (others : List EntryView)
     → GivesBoth shape → (not_heading shape ≡ false → NoHeading below) → (reads_below shape ≡ false → NoHeading below)
     → BelowHas below
@@ -200,7 +200,7 @@ tree_has backslash_break range below after others g n u b l rest = rw (no_entrie
 tree_has (unresolved b') range below after others g n u b l rest = rw (no_entries below (u refl)) (l rest)
 
 -- trees whose headings are apart
-trees_have : {A : Type 0} (f : Forest (Label A)) → AllApart f → AllGiveBoth f → Have (events_in f) (tree_entries f)
+trees_have : {A : Type 0} (f : Forest (TreeNode A)) → AllApart f → AllGiveBoth f → Have (events_in f) (tree_entries f)
 trees_have nil p g rest = refl
 trees_have (node a below after) p g rest =
     tree_has a.part.shape a.part.range below (events_in after) (tree_entries after) g.0 p.0.in_heading p.0.unread
@@ -211,7 +211,7 @@ trees_have (node a below after) p g rest =
     }) (trees_have after p.2 g.2) rest
 
 -- all of their events
-pub outline_of_trees : {A : Type 0} (f : Forest (Label A)) → AllApart f → AllGiveBoth f
+pub outline_of_trees : {A : Type 0} (f : Forest (TreeNode A)) → AllApart f → AllGiveBoth f
     → entries_of (ranged (events_in f)) ≡ tree_entries f
 outline_of_trees f p g =
     ap (entries_from false) (sym (append-nil (ranged (events_in f))))

@@ -9,7 +9,7 @@ use Rattle.markdown_base.specs.declared.options.Options.{Options}
 use Rattle.markdown_blocks.specs.Blocks.{block_tree, IsOfText}
 use Rattle.markdown_blocks.specs.declared.blocks.Blocks.{Blocks}
 use Rattle.markdown_builder.specs.HeadingsHoldInline.{is_heading_block}
-use Rattle.markdown_document.specs.Document.{Shape, enclosed, Label}
+use Rattle.markdown_document.specs.Document.{Shape, enclosed, TreeNode}
 use Rattle.markdown_inline.specs.Balanced.{ranged}
 use Rattle.markdown_inline.specs.ResolvedDocument.{resolved_blocks}
 use Rattle.markdown_inline.specs.TreeReading.{events_in}
@@ -21,13 +21,13 @@ tree_level (enclosed tag) = tag_level tag
 tree_level other = None
 
 -- the entry of a tree with this range, if it is a heading
-abbrev pub own_entry : {A : Type 0} → Option ℕ → Range ℕ → (below : Forest (Label A)) → List EntryView
+abbrev pub own_entry : {A : Type 0} → Option ℕ → Range ℕ → (below : Forest (TreeNode A)) → List EntryView
 own_entry None range below = []
 own_entry (Some l) range below =
     record { level = l; text = joined_text (ranged (events_in below)); range = range } ∷ []
 
 -- the entries of trees, one for each heading at any depth, in preorder
-abbrev pub tree_entries : {A : Type 0} → Forest (Label A) → List EntryView
+abbrev pub tree_entries : {A : Type 0} → Forest (TreeNode A) → List EntryView
 tree_entries nil = []
 tree_entries (node a below after) =
     own_entry (tree_level a.part.shape) a.part.range below ++ (tree_entries below ++ tree_entries after)

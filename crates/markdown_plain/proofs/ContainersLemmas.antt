@@ -8,13 +8,13 @@ use Rattle.std.proofs.lemmas.List.{drop_all, drop-drop, drop-take}
 use Rattle.markdown_scan.specs.Beginnings.{begins_with}
 use Rattle.markdown_scan.specs.LineStart.{LineLeft, next_column, past_one_byte, past_marker, leading_space}
 use Rattle.markdown_scan.specs.LineStart as scan
-use Rattle.markdown_lines.specs.declared.place.Place.{Place}
+use Rattle.markdown_lines.specs.declared.position.Position.{Position}
 use Rattle.markdown_lines.specs.declared.space.Space.{Space}
-use Rattle.markdown_lines.specs.Places.{left_from, IsSpaceAt}
+use Rattle.markdown_lines.specs.Positions.{left_from, IsSpaceAt}
 use Rattle.markdown_builder.specs.declared.open_block.OpenBlock.{OpenBlock}
 use Rattle.markdown_plain.specs.NewContainers.{item_space, past_bytes}
-use Rattle.markdown_plain.specs.Containers.{Reach, is_container, is_innermost, marker_behind, past_container}
-use Rattle.markdown_plain.specs.Containers.{reach_behind, reach_from}
+use Rattle.markdown_plain.specs.Containers.{Reach, is_container, is_innermost, marker_after, past_container}
+use Rattle.markdown_plain.specs.Containers.{reach_after, reach_from}
 
 -- a part of a text without its first bytes
 rest_of_part : (text : List ℕ) (at stop count : ℕ) → at + count ≤ stop
@@ -29,56 +29,58 @@ column_is : (column : ℕ) → column < 4 → (column + 1) % 4 ≡ next_column c
 column_is column low = grind (arith, nat_tests)
 
 -- the rest after bytes of one column each, from a place on
-pub past_bytes_is : (text : List ℕ) (place behind : Place) (stop count : ℕ) → place.at + count ≤ stop
-    → behind.at ≡ place.at + count → behind.column ≡ (place.column + count) % 4 → behind.owed ≡ 0
-    → left_from text behind stop ≡ past_bytes count (left_from text place stop)
-past_bytes_is text place behind stop count within at column owed =
-    let bytes = ap (λ n. slice_range text n stop) at ∙ sym (rest_of_part text place.at stop count within) in
+pub past_bytes_is : (text : List ℕ) (position after : Position) (stop count : ℕ) → position.at + count ≤ stop
+    → after.at ≡ position.at + count → after.column ≡ (position.column + count) % 4 → after.owed ≡ 0
+    → left_from text after stop ≡ past_bytes count (left_from text position stop)
+past_bytes_is text position after stop count within at column owed =
+    let bytes = ap (λ n. slice_range text n stop) at ∙ sym (rest_of_part text position.at stop count within) in
     cc
 
 -- the rest after one byte
-pub past_byte_is : (text : List ℕ) (place behind : Place) (stop : ℕ) → place.at < stop → behind.at ≡ place.at + 1
-    → behind.column ≡ (place.column + 1) % 4 → behind.owed ≡ 0
-    → left_from text behind stop ≡ past_one_byte (left_from text place stop)
-past_byte_is text place behind stop more at column owed =
-    let bytes = ap (λ n. slice_range text n stop) at ∙ sym (rest_of_part text place.at stop 1 (omega (arith, more))) in
-    let columns = column ∙ column_is place.column place.before_stop in
+pub past_byte_is : (text : List ℕ) (position after : Position) (stop : ℕ) → position.at < stop
+    → after.at ≡ position.at + 1
+    → after.column ≡ (position.column + 1) % 4 → after.owed ≡ 0
+    → left_from text after stop ≡ past_one_byte (left_from text position stop)
+past_byte_is text position after stop more at column owed =
+    let bytes = ap (λ n. slice_range text n stop) at ∙ sym (rest_of_part text position.at stop 1 (omega
+    (arith, more))) in
+    let columns = column ∙ column_is position.column position.before_stop in
     cc
 
 -- the rest after that and a column of space
-pub past_marker_is : (text read_in : List ℕ) (here after : Place) (stop : ℕ) (read : Space) → read_in ≡ text
+pub past_marker_is : (text read_in : List ℕ) (here after : Position) (stop : ℕ) (read : Space) → read_in ≡ text
     → left_from text after stop ≡ past_one_byte (left_from text here stop) → IsSpaceAt read_in after stop 1 read
-    → left_from text read.behind stop ≡ past_marker (left_from text here stop)
+    → left_from text read.after stop ≡ past_marker (left_from text here stop)
 past_marker_is text read_in here after stop read same past leading_space =
-    ap (λ (t : List ℕ). left_from t read.behind stop) (sym same)
-    ∙ (leading_space.behind
+    ap (λ (t : List ℕ). left_from t read.after stop) (sym same)
+    ∙ (leading_space.after
     ∙ (ap (λ (t : List ℕ). (scan.leading_space 1 (left_from t after stop)).after) same
     ∙ ap (λ (l : LineLeft). (scan.leading_space 1 l).after) past))
 
 -- the rest after the space that follows a marker of a list
-pub past_item_is : (text read_in : List ℕ) (place behind inside : Place) (stop count : ℕ) → read_in ≡ text
-    → left_from text behind stop ≡ past_bytes count (left_from text place stop)
-    → left_from read_in inside stop ≡ (item_space stop (left_from read_in behind stop)).after
-    → left_from text inside stop ≡ (item_space stop (past_bytes count (left_from text place stop))).after
-past_item_is text read_in place behind inside stop count same past content =
+pub past_item_is : (text read_in : List ℕ) (position after inside : Position) (stop count : ℕ) → read_in ≡ text
+    → left_from text after stop ≡ past_bytes count (left_from text position stop)
+    → left_from read_in inside stop ≡ (item_space stop (left_from read_in after stop)).after
+    → left_from text inside stop ≡ (item_space stop (past_bytes count (left_from text position stop))).after
+past_item_is text read_in position after inside stop count same past content =
     ap (λ (t : List ℕ). left_from t inside stop) (sym same)
     ∙ (content
-    ∙ (ap (λ (t : List ℕ). (item_space stop (left_from t behind stop)).after) same
+    ∙ (ap (λ (t : List ℕ). (item_space stop (left_from t after stop)).after) same
     ∙ ap (λ (l : LineLeft). (item_space stop l).after) past))
 
 -- the rest after the marker of a block quote and the space that is a part of it
-pub marker_behind_is : (text : List ℕ) (before : scan.Space) (columns : ℕ) (place after : Place) (stop : ℕ)
+pub marker_after_is : (text : List ℕ) (before : scan.Space) (columns : ℕ) (position after : Position) (stop : ℕ)
     (read : Space)
-    → columns ≡ before.columns → left_from text place stop ≡ before.after → columns < 4
-    → begins_with (codes ">") (slice_range text place.at stop) ≡ true → left_from text after stop
-    ≡ past_one_byte (left_from text place stop)
-    → IsSpaceAt text after stop 1 read → marker_behind before ≡ Some (left_from text read.behind stop)
-marker_behind_is text before columns place after stop read c left few marker past leading_space =
+    → columns ≡ before.columns → left_from text position stop ≡ before.after → columns < 4
+    → begins_with (codes ">") (slice_range text position.at stop) ≡ true → left_from text after stop
+    ≡ past_one_byte (left_from text position stop)
+    → IsSpaceAt text after stop 1 read → marker_after before ≡ Some (left_from text read.after stop)
+marker_after_is text before columns position after stop read c left few marker past leading_space =
     let test : nat_lt before.columns 4 ≡ true = grind (arith, nat_tests) in
     let begins = ap (λ (l : LineLeft). begins_with (codes ">") l.bytes) (sym left) ∙ marker in
-    let behind : past_marker before.after ≡ left_from text read.behind stop = ap (λ (l : LineLeft). past_marker l)
-    (sym left) ∙ (ap (λ (l : LineLeft). (scan.leading_space 1 l).after) (sym past) ∙ sym leading_space.behind) in
-    rw (test, begins) (ap (λ (l : LineLeft). Some l) behind)
+    let later : past_marker before.after ≡ left_from text read.after stop = ap (λ (l : LineLeft). past_marker l)
+    (sym left) ∙ (ap (λ (l : LineLeft). (scan.leading_space 1 l).after) (sym past) ∙ sym leading_space.after) in
+    rw (test, begins) (ap (λ (l : LineLeft). Some l) later)
 
 -- open blocks from a number on are the block with it, and those inside that
 pub inside_of : (blocks : List OpenBlock) (number : ℕ) (or : OpenBlock) → number < length blocks
@@ -148,7 +150,7 @@ pub container_goes_on : (old empty last : Bool) (stop : ℕ) (block : OpenBlock)
     (left : LineLeft) → is_container block.body ≡ true → is_innermost blocks ≡ last
     → past_container old (last && empty) (nat_le stop reach.content) block.body reach.left ≡ Some left
     → reach_from old empty stop (block ∷ blocks) reach
-    ≡ reach_from old empty stop blocks (reach_behind block.body left reach)
+    ≡ reach_from old empty stop blocks (reach_after block.body left reach)
 unfolding reach_from
 container_goes_on old empty last stop block blocks reach left container is some = rw (container, is, some) refl
 
@@ -158,7 +160,7 @@ pub next_goes_on : (old empty : Bool) (stop : ℕ) (blocks : List OpenBlock) (nu
     (get_or blocks number or).body
     reach.left ≡ Some left
     → reach_from old empty stop (drop number blocks) reach
-    ≡ reach_from old empty stop (drop (number + 1) blocks) (reach_behind (get_or blocks number or).body left reach)
+    ≡ reach_from old empty stop (drop (number + 1) blocks) (reach_after (get_or blocks number or).body left reach)
 next_goes_on old empty stop blocks number or reach left more container some =
     ap (λ (b : List OpenBlock). reach_from old empty stop b reach) (inside_of blocks number or more)
     ∙ container_goes_on old empty (number + 1 == length blocks) stop (get_or blocks number or)

@@ -13,9 +13,9 @@ use Rattle.markdown_plain.specs.declared.stretches.Stretches.{Stretches}
 use Rattle.markdown_plain.specs.declared.stretches.Taking.{Taking}
 use Rattle.markdown_plain.specs.declared.stretches.Taking.TheVariants as takes
 use Rattle.markdown_plain.specs.OpenBlocks.{outer_of}
-use Rattle.markdown_plain.specs.Containers.{Reach, is_container, past_container, past_indent, reach_behind, reach_from}
+use Rattle.markdown_plain.specs.Containers.{Reach, is_container, past_container, past_indent, reach_after, reach_from}
 use Rattle.markdown_plain.specs.Stretches.{IsOf, TakesNothing, are_alike, begins_stretch, deep_starts, few, is_same}
-use Rattle.markdown_plain.specs.Stretches.{next_of, starts, starts_behind, taken_by}
+use Rattle.markdown_plain.specs.Stretches.{next_of, starts, starts_after, taken_by}
 use Rattle.markdown_plain.proofs.ContainersLemmas.{container_goes_on, inside_of}
 use Rattle.markdown_plain.proofs.OpenBlocksLemmas.{outer_of_these}
 
@@ -204,15 +204,15 @@ stretches_inside before now given blocks new block same entered known opened =
     subst (λ (outer : List OpenBlock). IsOf now outer) (same ∙ sym (outer_of_these new blocks block opened))
     (entered (subst (λ (b : List OpenBlock). IsOf before (outer_of b)) (sym same) known))
 
-one_later : (alike : Bool) (here number : ℕ) (numbers : List ℕ) → starts_behind here numbers ≡ numbers
+one_later : (alike : Bool) (here number : ℕ) (numbers : List ℕ) → starts_after here numbers ≡ numbers
     → (number == here) ≡ false
-    → starts_behind here (if alike then numbers else number ∷ numbers) ≡ (if alike then numbers else number ∷ numbers)
+    → starts_after here (if alike then numbers else number ∷ numbers) ≡ (if alike then numbers else number ∷ numbers)
 one_later true here number numbers inside unlike = inside
 one_later false here number numbers inside unlike = rw unlike refl
 
 -- a stretch that begins later begins not here
 begins_later : (old : Bool) (here number : ℕ) (blocks : List OpenBlock) → here ≤ number
-    → starts_behind here (starts old number blocks) ≡ starts old number blocks
+    → starts_after here (starts old number blocks) ≡ starts old number blocks
 unfolding starts
 begins_later old here number [] later = refl
 begins_later old here number (block ∷ []) later = refl
@@ -225,14 +225,14 @@ begins_later old here number (outside ∷ block ∷ blocks) later =
 here_is : (number : ℕ) → (number == number) ≡ true
 here_is number = grind (arith, nat_tests)
 
-past_one : (alike : Bool) (here : ℕ) (numbers : List ℕ) → starts_behind here numbers ≡ numbers
-    → starts_behind here (if alike then numbers else here ∷ numbers) ≡ numbers
+past_one : (alike : Bool) (here : ℕ) (numbers : List ℕ) → starts_after here numbers ≡ numbers
+    → starts_after here (if alike then numbers else here ∷ numbers) ≡ numbers
 past_one true here numbers later = later
 past_one false here numbers later = rw (here_is here) refl
 
 -- past a block are the stretches of the blocks inside it
 pub starts_past : (old : Bool) (number : ℕ) (block : OpenBlock) (blocks : List OpenBlock)
-    → starts_behind (number + 1) (starts old number (outer_of (block ∷ blocks)))
+    → starts_after (number + 1) (starts old number (outer_of (block ∷ blocks)))
     ≡ starts old (number + 1) (outer_of blocks)
 unfolding starts outer_of
 starts_past old number block [] = refl
@@ -285,13 +285,13 @@ nothing_is_container old blank (body.FootnoteDefinition ix) left takes = refl
 nothing_is_container old blank other left takes = absurd takes
 
 -- and with it only the depth is another
-behind_nothing : (old blank : Bool) (block : ItemBody) (left : LineLeft) (reach : Reach)
+after_nothing : (old blank : Bool) (block : ItemBody) (left : LineLeft) (reach : Reach)
     → TakesNothing blank left (taken_by old block) → reach.all ≡ true
-    → reach_behind block reach.left reach ≡ record reach { depth = reach.depth + 1 }
-behind_nothing old blank (body.List tight character first) left reach takes all = rw all refl
-behind_nothing old blank (body.ListItem indent) left reach takes all = rw all refl
-behind_nothing old blank (body.FootnoteDefinition ix) left reach takes all = rw all refl
-behind_nothing old blank other left reach takes all = absurd takes
+    → reach_after block reach.left reach ≡ record reach { depth = reach.depth + 1 }
+after_nothing old blank (body.List tight character first) left reach takes all = rw all refl
+after_nothing old blank (body.ListItem indent) left reach takes all = rw all refl
+after_nothing old blank (body.FootnoteDefinition ix) left reach takes all = rw all refl
+after_nothing old blank other left reach takes all = absurd takes
 
 past_one_block : (old empty : Bool) (stop : ℕ) (block inner : OpenBlock) (blocks : List OpenBlock) (reach : Reach)
     → TakesNothing (nat_le stop reach.content) reach.left (taken_by old block.body) → reach.all ≡ true
@@ -303,7 +303,7 @@ past_one_block old empty stop block inner blocks reach takes all =
     (nothing_is_container old blank block.body reach.left takes) refl
     (past_nothing old blank block.body reach.left takes)
     ∙ ap (λ (r : Reach). reach_from old empty stop (inner ∷ blocks) r)
-    (behind_nothing old blank block.body reach.left reach takes all)
+    (after_nothing old blank block.body reach.left reach takes all)
 
 -- What is reached past a stretch, before the block with the number `next`, of blocks of which the outermost has the
 -- number `number`.
@@ -313,7 +313,7 @@ pub record PastStretch (old empty : Bool) (stop number : ℕ) (blocks : List Ope
   pub some : 0 < skipped
   pub fewer : skipped < length blocks
   pub is : next ≡ number + skipped
-  pub ahead : starts_behind next (starts old number (outer_of blocks))
+  pub ahead : starts_after next (starts old number (outer_of blocks))
       ≡ starts old next (outer_of (drop skipped blocks))
   pub reached : reach_from old empty stop blocks reach
       ≡ reach_from old empty stop (drop skipped blocks) (record reach { depth = reach.depth + skipped })
@@ -330,7 +330,7 @@ past_more old empty stop number next block inner blocks reach same takes all ins
   some = omega arith;
   fewer = let fewer = inside.fewer in omega (arith, fewer);
   is = let is = inside.is in omega (arith, is);
-  ahead = ap (λ (n : List ℕ). starts_behind next n) same ∙ inside.ahead;
+  ahead = ap (λ (n : List ℕ). starts_after next n) same ∙ inside.ahead;
   reached =
       let depth : (reach.depth + 1) + inside.skipped ≡ reach.depth + suc inside.skipped = omega arith in
       past_one_block old empty stop block inner blocks reach takes all
@@ -413,7 +413,7 @@ pub record AtNextStretch (old empty : Bool) (stop number : ℕ) (blocks : List O
     (next : ℕ) : Type 0 where
   pub more : number < next
   pub within : next < length blocks
-  pub ahead : starts_behind next numbers ≡ starts old next (outer_of (drop next blocks))
+  pub ahead : starts_after next numbers ≡ starts old next (outer_of (drop next blocks))
   pub reached : reach_from old empty stop (drop number blocks) reach
       ≡ reach_from old empty stop (drop next blocks) (record reach { depth = next })
 
@@ -433,7 +433,7 @@ at_next old empty stop number next blocks inside reach numbers are n ahead depth
     record {
       more = omega (arith, is, some);
       within = omega (arith, is, fewer, n);
-      ahead = ap (λ (l : List ℕ). starts_behind next l) ahead
+      ahead = ap (λ (l : List ℕ). starts_after next l) ahead
           ∙ (past.ahead ∙ ap (λ (b : List OpenBlock). starts old next (outer_of b)) there);
       reached = ap (λ (b : List OpenBlock). reach_from old empty stop b reach) are
           ∙ (past.reached
@@ -471,11 +471,11 @@ past_stretch_at old empty stop number last blocks or reach numbers more n takes 
 -- past a block with a number are the stretches of those inside it
 starts_past_at : (old : Bool) (number : ℕ) (blocks : List OpenBlock) (numbers : List ℕ)
     → number < length blocks → numbers ≡ starts old number (outer_of (drop number blocks))
-    → starts_behind (number + 1) numbers ≡ starts old (number + 1) (outer_of (drop (number + 1) blocks))
+    → starts_after (number + 1) numbers ≡ starts old (number + 1) (outer_of (drop (number + 1) blocks))
 starts_past_at old number blocks numbers more ahead =
     let none : OpenBlock = record { start = 0; body = body.Root } in
     let inside = inside_of blocks number none more in
-    ap (λ (l : List ℕ). starts_behind (number + 1) l)
+    ap (λ (l : List ℕ). starts_after (number + 1) l)
     (ahead ∙ ap (λ (b : List OpenBlock). starts old number (outer_of b)) inside)
     ∙ starts_past old number (get_or blocks number none) (drop (number + 1) blocks)
 
@@ -499,7 +499,7 @@ ahead_deep old number blocks deep =
 past_few : (old : Bool) (number : ℕ) (blocks : List OpenBlock) (numbers : List ℕ) (deep : Bool) → nat_le few number
     ≡ deep
     → number < length blocks → numbers ≡ starts_ahead old number blocks
-    → starts_behind (number + 1) numbers ≡ starts_ahead old (number + 1) blocks
+    → starts_after (number + 1) numbers ≡ starts_ahead old (number + 1) blocks
 past_few old number blocks numbers true deep more ahead =
     let inside : few ≤ number = grind (arith, nat_tests) in
     starts_past_at old number blocks numbers more (ahead ∙ ahead_deep old number blocks inside)
@@ -507,14 +507,14 @@ past_few old number blocks numbers true deep more ahead =
 past_few old number blocks numbers false deep more ahead =
     let outside : number < few = grind (arith, nat_tests) in
     let at : max few number ≡ max few (number + 1) = omega (arith, outside) in
-    ap (λ (l : List ℕ). starts_behind (number + 1) l) ahead
+    ap (λ (l : List ℕ). starts_after (number + 1) l) ahead
     ∙ (begins_later old (number + 1) (max few number) (outer_of (drop (max few number) blocks)) (omega (arith, outside))
     ∙ ap (λ k. starts old k (outer_of (drop k blocks))) at)
 
 -- past a block are those of the blocks inside it
 pub starts_past_any : (old : Bool) (number : ℕ) (blocks : List OpenBlock) (numbers : List ℕ) → number < length blocks
     → numbers ≡ starts_ahead old number blocks
-    → starts_behind (number + 1) numbers ≡ starts_ahead old (number + 1) blocks
+    → starts_after (number + 1) numbers ≡ starts_ahead old (number + 1) blocks
 starts_past_any old number blocks numbers more ahead =
     past_few old number blocks numbers (nat_le few number) refl more ahead
 

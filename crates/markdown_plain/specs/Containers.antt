@@ -9,9 +9,9 @@ use Rattle.markdown_builder.specs.declared.open_block.OpenBlock.{OpenBlock}
 use Rattle.markdown_scan.specs.Beginnings.{begins_with}
 use Rattle.markdown_scan.specs.LineStart.{LineLeft, Space, leading_space, past_marker}
 use Rattle.markdown_lines.specs.declared.line.Line.{Line}
-use Rattle.markdown_lines.specs.declared.place.Place.{Place}
+use Rattle.markdown_lines.specs.declared.position.Position.{Position}
 use Rattle.markdown_lines.specs.Lines.{is_space_or_tab}
-use Rattle.markdown_lines.specs.Places.{left_from}
+use Rattle.markdown_lines.specs.Positions.{left_from}
 use Rattle.markdown_plain.specs.declared.containers.Reached.{Reached}
 use Rattle.markdown_plain.specs.declared.pass.Pass.{Pass}
 use Rattle.markdown_plain.specs.OpenBlocks.{innermost_is, is_quote}
@@ -23,19 +23,19 @@ closing_place pass =
     if innermost_is is_quote pass.placing.builder.blocks then pass.placed else pass.placing.builder.at
 
 -- the rest of a line begins at a place of a text, where there is a rest
-abbrev pub LeftAt : List ℕ → ℕ → Option LineLeft → Option Place → Type 0
+abbrev pub LeftAt : List ℕ → ℕ → Option LineLeft → Option Position → Type 0
 LeftAt text stop left None = left ≡ None
-LeftAt text stop left (Some place) = left ≡ Some (left_from text place stop)
+LeftAt text stop left (Some position) = left ≡ Some (left_from text position stop)
 
 -- the rest after the marker of a block quote, from the space before it, which has at most three columns
-abbrev pub marker_behind : Space → Option LineLeft
-marker_behind before =
+abbrev pub marker_after : Space → Option LineLeft
+marker_after before =
     if nat_lt before.columns 4 && begins_with (codes ">") before.after.bytes then Some (past_marker before.after)
     else None
 
 -- the rest after such a marker, with at most one column of space after it
 abbrev pub past_quote : LineLeft → Option LineLeft
-past_quote left = marker_behind (leading_space 4 left)
+past_quote left = marker_after (leading_space 4 left)
 
 -- the rest after `indent` columns of space, or after at most as many in a blank line
 abbrev pub past_indent : ℕ → Bool → LineLeft → Option LineLeft
@@ -83,8 +83,8 @@ abbrev pub content_of : LineLeft → ℕ
 content_of left = left.scanned + prefix_len is_space_or_tab left.bytes
 
 -- what is reached with one more container, after which this is the rest
-abbrev pub reach_behind : ItemBody → LineLeft → Reach → Reach
-reach_behind block left reach = record {
+abbrev pub reach_after : ItemBody → LineLeft → Reach → Reach
+reach_after block left reach = record {
   depth = reach.depth + 1;
   all = true;
   left = left;
@@ -95,7 +95,7 @@ reach_behind block left reach = record {
 -- what is reached where the next container does not continue, or where it does and those inside it are examined
 abbrev pub reach_past : (Reach → Reach) → ItemBody → Option LineLeft → Reach → Reach
 reach_past inside block None reach = record reach { all = false }
-reach_past inside block (Some left) reach = inside (reach_behind block left reach)
+reach_past inside block (Some left) reach = inside (reach_after block left reach)
 
 -- there is no block inside
 abbrev pub is_innermost : List OpenBlock → Bool
@@ -125,7 +125,7 @@ abbrev pub reach_of : List ℕ → ℕ → Reached → Reach
 reach_of text stop reached = record {
   depth = reached.depth;
   all = reached.all;
-  left = left_from text reached.place stop;
+  left = left_from text reached.position stop;
   content = reached.content;
   quoted = reached.quoted;
 }

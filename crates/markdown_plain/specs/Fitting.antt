@@ -8,7 +8,7 @@ use Rattle.markdown_builder.specs.Bodies.{is_leaf}
 use Rattle.markdown_builder.specs.BuilderView.{BuilderView}
 use Rattle.markdown_lines.specs.Lines.{AllPass, is_in_blank_line, IsNextContent}
 use Rattle.markdown_plain.specs.declared.placing.Placing.{Placing}
-use Rattle.markdown_plain.specs.CodeLines.{behind_line}
+use Rattle.markdown_plain.specs.CodeLines.{after_line}
 use Rattle.markdown_plain.specs.OpenBlocks.{outer_of, InnermostBecomes}
 
 -- a byte offset is not before the current one, and lies between characters
@@ -73,7 +73,7 @@ pub record OpensHtml (old new : BuilderView) (from next : ℕ) : Type 0 where
   pub start : ℕ
   pub content : IsNextContent old.text from (Some start)
   pub opens : new ≡ record (opened old start body.HtmlBlock) {
-    at = behind_line from next;
+    at = after_line from next;
     run = new.run;
     texts = new.texts;
   }

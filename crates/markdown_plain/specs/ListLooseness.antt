@@ -50,9 +50,9 @@ is_item other = false
 
 -- The innermost of the open blocks had a blank line after the last line that was not blank: the open blocks from this
 -- number on had one.
-abbrev pub is_behind_blank : Option ℕ → List OpenBlock → Bool
-is_behind_blank None blocks = false
-is_behind_blank (Some from) blocks = nat_lt from (length blocks)
+abbrev pub is_after_blank : Option ℕ → List OpenBlock → Bool
+is_after_blank None blocks = false
+is_after_blank (Some from) blocks = nat_lt from (length blocks)
 
 -- the number from which on the open blocks had a blank line, after one more line that was blank from a number on
 abbrev pub blank_from : Option ℕ → ℕ → ℕ

@@ -10,8 +10,8 @@ use Rattle.markdown_scan.specs.Beginnings.{begins_with}
 use Rattle.markdown_scan.specs.LineStart.{LineLeft, Space, leading_space}
 use Rattle.markdown_scan.specs.Label.{link_label}
 use Rattle.markdown_lines.specs.declared.list_marker.ListMarker.{ListMarker}
-use Rattle.markdown_lines.specs.declared.place.Place.{Place}
-use Rattle.markdown_lines.specs.Places.{left_from}
+use Rattle.markdown_lines.specs.declared.position.Position.{Position}
+use Rattle.markdown_lines.specs.Positions.{left_from}
 use Rattle.markdown_lines.specs.HtmlBeginnings.{in_one_line}
 use Rattle.markdown_plain.specs.OpenBlocks.{innermost_is, without_list}
 
@@ -65,7 +65,7 @@ note_of content =
     else None
 
 -- a footnote definition begins at a place in a line, and `inside` is the place after its marker
-pub record InsideNote (text : List ℕ) (here : Place) (stop : ℕ) (content : List ℕ) (inside : Place) : Type 0 where
+pub record InsideNote (text : List ℕ) (here : Position) (stop : ℕ) (content : List ℕ) (inside : Position) : Type 0 where
   pub label : List ℕ
   pub width : ℕ
   pub marker : note_of content ≡ Some (label, width)

@@ -53,9 +53,9 @@ next_of last [] = last
 next_of last (number ∷ numbers) = number
 
 -- some numbers without the first, where that is this one
-abbrev pub starts_behind : ℕ → List ℕ → List ℕ
-starts_behind number [] = []
-starts_behind number (first ∷ numbers) = if first == number then numbers else first ∷ numbers
+abbrev pub starts_after : ℕ → List ℕ → List ℕ
+starts_after number [] = []
+starts_after number (first ∷ numbers) = if first == number then numbers else first ∷ numbers
 
 -- the number of the outermost blocks in which no stretch is kept: each line examines them one by one
 abbrev pub few : ℕ

@@ -21,17 +21,17 @@ use markdown_lines::fence::opening_fence;
 use markdown_lines::html_kind::html_kind;
 use markdown_lines::line::{Line, is_space_or_tab, line_from};
 use markdown_lines::list_marker::list_marker;
-use markdown_lines::place::Place;
+use markdown_lines::position::Position;
 use markdown_lines::space::{Space, read_space};
 use markdown_lines::thematic_break::{setext_underline, thematic_break};
 use std::alloc::{AllocError, Global};
 
 /// The rest of a line.
 #[derive(Clone, Copy, Drop)]
-struct Rest {
+struct LineRest {
     line: Line,
     /// where it begins
-    place: Place,
+    position: Position,
     /// the number of open blocks that continue, or were opened in this line
     depth: usize,
     /// no thematic break begins in this line before this byte offset
@@ -96,9 +96,9 @@ impl<'a> Pass<'a> {
         if reached.content >= line.stop {
             return self.read_blank(line, reached);
         }
-        self.read_rest(Rest {
+        self.read_rest(LineRest {
             line,
-            place: reached.place,
+            position: reached.position,
             depth: reached.depth,
             unbroken: 0,
             in_paragraph: reached.all && self.has_paragraph(),
@@ -113,19 +113,19 @@ impl<'a> Pass<'a> {
     {
         let blank = reached.content >= line.stop;
         match self.leaf {
-            LeafKind::Fenced(fence) => self.add_fenced(fence, line, reached.place)?,
+            LeafKind::Fenced(fence) => self.add_fenced(fence, line, reached.position)?,
             LeafKind::Html(kind) => {
                 if blank && kind.ends_at_blank() {
                     return Ok(false);
                 }
-                self.add_html(kind, line, reached.place)?;
+                self.add_html(kind, line, reached.position)?;
             }
             LeafKind::Indented => {
-                let before = read_space(self.placing.text(), reached.place, line.stop, 4);
+                let before = read_space(self.placing.text(), reached.position, line.stop, 4);
                 if blank || before.columns < 4 {
                     return Ok(false);
                 }
-                self.add_indented(line, before.behind)?;
+                self.add_indented(line, before.after)?;
             }
         }
         Ok(true)
@@ -140,7 +140,7 @@ impl<'a> Pass<'a> {
             _ => false,
         };
         if in_code && reached.all {
-            self.hold_blank(line, reached.place)?;
+            self.hold_blank(line, reached.position)?;
         } else {
             self.close_down(reached.depth)?;
         }
@@ -152,16 +152,16 @@ impl<'a> Pass<'a> {
     }
 
     /// Reads what the open containers left of a line: opens blocks as long as some begin.
-    fn read_rest(&mut self, rest: Rest) -> Result<(), AllocError>
+    fn read_rest(&mut self, rest: LineRest) -> Result<(), AllocError>
         ensures { IfOk result (λ _. self.new.placing.builder.text ≡ self.old.placing.builder.text) }
     {
         let mut here = rest;
         // each container takes at least one byte of the line, and what is left after the last one is read too
         'blocks: for _ in rest.line.start..rest.line.next.saturating_add(1) {
-            if here.place.owed == 0
-                && begins_text(self.placing.text(), here.place.at, here.line.stop)
+            if here.position.owed == 0
+                && begins_text(self.placing.text(), here.position.at, here.line.stop)
             {
-                return self.add_text(here.line, here.place.at, here.depth);
+                return self.add_text(here.line, here.position.at, here.depth);
             }
             if !self.read_block(&mut here)? {
                 break;
@@ -172,13 +172,13 @@ impl<'a> Pass<'a> {
 
     /// Reads the block that begins here. Returns whether it is a container, inside which the rest of the line is still
     /// to be read.
-    fn read_block(&mut self, rest: &mut Rest) -> Result<bool, AllocError>
+    fn read_block(&mut self, rest: &mut LineRest) -> Result<bool, AllocError>
         ensures { IfOk result (λ _. self.new.placing.builder.text ≡ self.old.placing.builder.text) }
     {
         let text = self.placing.text();
         let stop = rest.line.stop;
-        let before = read_space(text, rest.place, stop, 4);
-        let at = before.behind.at;
+        let before = read_space(text, rest.position, stop, 4);
+        let at = before.after.at;
         if content_start(text, at, stop) == stop {
             self.placing.step_to(rest.line.next);
             return Ok(false);
@@ -200,7 +200,7 @@ impl<'a> Pass<'a> {
     }
 
     /// Reads a line that begins no other block. Returns false, as for all blocks that are not containers.
-    fn read_text(&mut self, rest: Rest, at: usize) -> Result<bool, AllocError>
+    fn read_text(&mut self, rest: LineRest, at: usize) -> Result<bool, AllocError>
         ensures { IfOk result (λ _. self.new.placing.builder.text ≡ self.old.placing.builder.text) }
     {
         self.add_text(rest.line, at, rest.depth)?;
@@ -208,36 +208,36 @@ impl<'a> Pass<'a> {
     }
 
     /// Reads an indented line: as code, or as text where a paragraph is open.
-    fn read_indented(&mut self, rest: Rest, before: Space) -> Result<(), AllocError>
+    fn read_indented(&mut self, rest: LineRest, before: Space) -> Result<(), AllocError>
         ensures { IfOk result (λ _. self.new.placing.builder.text ≡ self.old.placing.builder.text) }
     {
         if self.has_paragraph() {
-            let content = content_start(self.placing.text(), before.behind.at, rest.line.stop);
+            let content = content_start(self.placing.text(), before.after.at, rest.line.stop);
             return self.add_text(rest.line, content, rest.depth);
         }
         self.make_room(rest.depth)?;
-        self.open_indented(rest.line, before.behind)
+        self.open_indented(rest.line, before.after)
     }
 
     /// Moves to a place inside the container that was opened last.
-    fn go_inside(&self, rest: &mut Rest, place: Place) {
-        rest.place = place;
+    fn go_inside(&self, rest: &mut LineRest, position: Position) {
+        rest.position = position;
         rest.depth = self.depth();
         rest.in_paragraph = false;
     }
 
     /// Reads the marker of a block quote, and returns true.
-    fn read_quote(&mut self, rest: &mut Rest, before: Space) -> Result<bool, AllocError>
+    fn read_quote(&mut self, rest: &mut LineRest, before: Space) -> Result<bool, AllocError>
         ensures { IfOk result (λ _. self.new.placing.builder.text ≡ self.old.placing.builder.text) }
     {
         self.make_room(rest.depth)?;
-        let place = self.open_quote(rest.line, before.behind)?;
-        self.go_inside(rest, place);
+        let position = self.open_quote(rest.line, before.after)?;
+        self.go_inside(rest, position);
         Ok(true)
     }
 
     /// Reads a line that begins with a `#`: an ATX heading or text. Returns false.
-    fn read_atx(&mut self, rest: Rest, at: usize) -> Result<bool, AllocError>
+    fn read_atx(&mut self, rest: LineRest, at: usize) -> Result<bool, AllocError>
         ensures { IfOk result (λ _. self.new.placing.builder.text ≡ self.old.placing.builder.text) }
     {
         let Some(heading) = atx_heading(self.placing.text(), at, rest.line.stop) else {
@@ -250,11 +250,11 @@ impl<'a> Pass<'a> {
     }
 
     /// Reads a line that begins with a backtick or a tilde: an opening code fence or text. Returns false.
-    fn read_fence(&mut self, rest: Rest, before: Space) -> Result<bool, AllocError>
+    fn read_fence(&mut self, rest: LineRest, before: Space) -> Result<bool, AllocError>
         ensures { IfOk result (λ _. self.new.placing.builder.text ≡ self.old.placing.builder.text) }
     {
         let text = self.placing.text();
-        let at = before.behind.at;
+        let at = before.after.at;
         let byte = byte_at(text, at).unwrap_or(0);
         let found = opening_fence(text, at, rest.line.stop, byte, before.columns);
         let Some(opening) = found else {
@@ -266,10 +266,10 @@ impl<'a> Pass<'a> {
     }
 
     /// Reads a line that begins with a `<`: the first line of an HTML block, or text. Returns false.
-    fn read_html(&mut self, rest: Rest, before: Space) -> Result<bool, AllocError>
+    fn read_html(&mut self, rest: LineRest, before: Space) -> Result<bool, AllocError>
         ensures { IfOk result (λ _. self.new.placing.builder.text ≡ self.old.placing.builder.text) }
     {
-        let at = before.behind.at;
+        let at = before.after.at;
         let content = part_of(self.placing.text(), at, rest.line.stop);
         // also where the line would be a lazy continuation line of the paragraph
         let in_paragraph = self.has_paragraph();
@@ -277,18 +277,18 @@ impl<'a> Pass<'a> {
             return self.read_text(rest, at);
         };
         self.make_room(rest.depth)?;
-        self.open_html(rest.line, rest.place, kind)?;
+        self.open_html(rest.line, rest.position, kind)?;
         Ok(false)
     }
 
     /// Reads a line that begins with a `[`: text, unless it begins a footnote definition. Returns whether it does.
-    fn read_bracket(&mut self, rest: &mut Rest, before: Space) -> Result<bool, AllocError>
+    fn read_bracket(&mut self, rest: &mut LineRest, before: Space) -> Result<bool, AllocError>
         ensures { IfOk result (λ _. self.new.placing.builder.text ≡ self.old.placing.builder.text) }
     {
-        let here = before.behind;
+        let here = before.after;
         match self.open_footnote(rest.line, here, rest.depth)? {
-            Some(place) => {
-                self.go_inside(rest, place);
+            Some(position) => {
+                self.go_inside(rest, position);
                 Ok(true)
             }
             None => self.read_text(*rest, here.at),
@@ -297,11 +297,11 @@ impl<'a> Pass<'a> {
 
     /// Reads a line that begins with a character of setext heading underlines, thematic breaks or bullet list markers.
     /// Returns whether a list item begins.
-    fn read_line_of_marks(&mut self, rest: &mut Rest, before: Space) -> Result<bool, AllocError>
+    fn read_line_of_marks(&mut self, rest: &mut LineRest, before: Space) -> Result<bool, AllocError>
         ensures { IfOk result (λ _. self.new.placing.builder.text ≡ self.old.placing.builder.text) }
     {
         if rest.in_paragraph {
-            let content = bytes_of(self.placing.text(), before.behind.at, rest.line.stop);
+            let content = bytes_of(self.placing.text(), before.after.at, rest.line.stop);
             if let Some(level) = setext_underline(content) {
                 if self.end_paragraph(Some((level, rest.line)))? {
                     return Ok(false);
@@ -313,10 +313,10 @@ impl<'a> Pass<'a> {
     }
 
     /// Reads a line that may be a thematic break, or begin with a list marker. Returns whether a list item begins.
-    fn read_break(&mut self, rest: &mut Rest, before: Space) -> Result<bool, AllocError>
+    fn read_break(&mut self, rest: &mut LineRest, before: Space) -> Result<bool, AllocError>
         ensures { IfOk result (λ _. self.new.placing.builder.text ≡ self.old.placing.builder.text) }
     {
-        let at = before.behind.at;
+        let at = before.after.at;
         if at >= rest.unbroken {
             match thematic_break(bytes_of(self.placing.text(), at, rest.line.stop)) {
                 Ok(()) => {
@@ -332,16 +332,16 @@ impl<'a> Pass<'a> {
     }
 
     /// Reads a line that may begin with a list marker, and is text otherwise. Returns whether a list item begins.
-    fn read_item(&mut self, rest: &mut Rest, before: Space) -> Result<bool, AllocError>
+    fn read_item(&mut self, rest: &mut LineRest, before: Space) -> Result<bool, AllocError>
         ensures { IfOk result (λ _. self.new.placing.builder.text ≡ self.old.placing.builder.text) }
     {
-        let at = before.behind.at;
+        let at = before.after.at;
         let found = list_marker(self.placing.text(), at, rest.line.stop, rest.in_paragraph);
         let Some(marker) = found else {
             return self.read_text(*rest, at);
         };
-        let place = self.open_item(rest.line, before, marker, rest.depth)?;
-        self.go_inside(rest, place);
+        let position = self.open_item(rest.line, before, marker, rest.depth)?;
+        self.go_inside(rest, position);
         Ok(true)
     }
 

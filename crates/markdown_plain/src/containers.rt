@@ -6,7 +6,7 @@ ghost use Rattle.std.specs.Option.{option_map};
 ghost use Rattle.markdown_base.specs.CowText.{text_of};
 ghost use Rattle.markdown_base.specs.EnabledOptions.{footnotes_on, old_footnotes_on};
 ghost use Rattle.markdown_lines.specs.LineBytes.{IsPartOf};
-ghost use Rattle.markdown_lines.specs.Places.{left_from};
+ghost use Rattle.markdown_lines.specs.Positions.{left_from};
 ghost use Rattle.markdown_scan.specs.LineStart.{past_marker};
 ghost use Rattle.markdown_plain.specs.Containers as spec;
 ghost use Rattle.markdown_plain.specs.NewContainers as opening;
@@ -16,7 +16,7 @@ ghost use Rattle.markdown_plain.specs.Stretches.{TakesNothing, deep_starts, take
 ghost use Rattle.markdown_base.specs.declared.item.ItemBody.TheVariants as body;
 
 use crate::pass::{Pass, innermost};
-use crate::stretches::{Ahead, FEW, Taking, next_start, starts_behind, taken_by};
+use crate::stretches::{Ahead, FEW, Taking, next_start, starts_after, taken_by};
 use markdown_base::cow_str::CowStr;
 use markdown_base::item::ItemBody;
 use markdown_base::options::Options;
@@ -24,7 +24,7 @@ use markdown_builder::open_block::OpenBlock;
 use markdown_lines::bytes::{byte_at, bytes_of, content_start, part_of};
 use markdown_lines::line::Line;
 use markdown_lines::list_marker::ListMarker;
-use markdown_lines::place::Place;
+use markdown_lines::position::Position;
 use markdown_lines::space::{Space, read_space};
 use markdown_scan::label::scan_link_label;
 use markdown_scan::line_rule::OneLine;
@@ -38,7 +38,7 @@ pub struct Reached {
     /// whether all open containers are among them
     pub all: bool,
     /// where the rest of the line begins
-    pub place: Place,
+    pub position: Position,
     /// the byte offset of the first byte of the rest that is not a space or tab
     pub content: usize,
     /// the number of open blocks down to the innermost block quote that continues, with that included; 0 where there is
@@ -59,12 +59,13 @@ fn is_container(body: ItemBody) -> bool
 
 /// Returns the place after the marker of a block quote, with at most one column of space after it; `None` where there
 /// is no marker.
-fn past_quote(text: &str, place: Place, stop: usize) -> Option<Place>
-    ensures { spec.LeftAt text.now stop (spec.past_quote (left_from text.now place stop)) result }
+fn past_quote(text: &str, position: Position, stop: usize) -> Option<Position>
+    ensures { spec.LeftAt text.now stop
+        (spec.past_quote (left_from text.now position stop)) result }
 {
-    let before = read_space(text, place, stop, 4);
-    if before.columns < 4 && bytes_of(text, before.behind.at, stop).starts_with(b">") {
-        Some(read_space(text, before.behind.past(1), stop, 1).behind)
+    let before = read_space(text, position, stop, 4);
+    if before.columns < 4 && bytes_of(text, before.after.at, stop).starts_with(b">") {
+        Some(read_space(text, before.after.past(1), stop, 1).after)
     } else {
         None
     }
@@ -72,13 +73,19 @@ fn past_quote(text: &str, place: Place, stop: usize) -> Option<Place>
 
 /// Returns the place after `indent` columns of space, or, where the line is blank from here on, after at most as many;
 /// `None` where there are fewer.
-fn past_indent(text: &str, place: Place, stop: usize, indent: usize, blank: bool) -> Option<Place>
+fn past_indent(
+    text: &str,
+    position: Position,
+    stop: usize,
+    indent: usize,
+    blank: bool,
+) -> Option<Position>
     ensures { spec.LeftAt text.now stop
-        (spec.past_indent indent blank (left_from text.now place stop)) result }
+        (spec.past_indent indent blank (left_from text.now position stop)) result }
 {
-    let found = read_space(text, place, stop, indent);
+    let found = read_space(text, position, stop, indent);
     if blank || found.columns == indent {
-        Some(found.behind)
+        Some(found.after)
     } else {
         None
     }
@@ -86,16 +93,22 @@ fn past_indent(text: &str, place: Place, stop: usize, indent: usize, blank: bool
 
 /// Returns the place after what a footnote definition takes of a line: in GitHub's style four columns of space, in the
 /// old style nothing; `None` where the definition does not continue, in the old style at a blank line.
-fn past_footnote(text: &str, place: Place, stop: usize, old: bool, blank: bool) -> Option<Place>
+fn past_footnote(
+    text: &str,
+    position: Position,
+    stop: usize,
+    old: bool,
+    blank: bool,
+) -> Option<Position>
     ensures { spec.LeftAt text.now stop
-        (spec.past_footnote old blank (left_from text.now place stop)) result }
+        (spec.past_footnote old blank (left_from text.now position stop)) result }
 {
     if !old {
-        past_indent(text, place, stop, 4, blank)
+        past_indent(text, position, stop, 4, blank)
     } else if blank {
         None
     } else {
-        Some(place)
+        Some(position)
     }
 }
 
@@ -109,34 +122,34 @@ fn past_container(
     empty: bool,
     line: Line,
     reached: Reached,
-) -> Option<Place>
+) -> Option<Position>
     ensures { spec.LeftAt text.now line.stop
         (spec.past_container old empty (nat_le line.stop reached.content) body
-        (left_from text.now reached.place line.stop)) result }
+        (left_from text.now reached.position line.stop)) result }
 {
     let blank = reached.content >= line.stop;
     match body {
-        ItemBody::BlockQuote(_) => past_quote(text, reached.place, line.stop),
+        ItemBody::BlockQuote(_) => past_quote(text, reached.position, line.stop),
         ItemBody::ListItem(_) if blank && empty => None,
-        ItemBody::ListItem(indent) => past_indent(text, reached.place, line.stop, indent, blank),
+        ItemBody::ListItem(indent) => past_indent(text, reached.position, line.stop, indent, blank),
         ItemBody::FootnoteDefinition(_) => {
-            past_footnote(text, reached.place, line.stop, old, blank)
+            past_footnote(text, reached.position, line.stop, old, blank)
         }
-        _ => Some(reached.place),
+        _ => Some(reached.position),
     }
 }
 
 /// Returns what is reached with one more container, which continues up to a place.
-fn behind_container(
+fn after_container(
     text: &str,
     body: ItemBody,
-    place: Place,
+    position: Position,
     line: Line,
     reached: Reached,
 ) -> Reached
     requires { reached.depth + 1 < 2 ^ 64 }
     ensures { spec.reach_of text.now line.stop result
-        ≡ spec.reach_behind body (left_from text.now place line.stop)
+        ≡ spec.reach_after body (left_from text.now position line.stop)
         (spec.reach_of text.now line.stop reached) }
 {
     let depth = reached.depth + 1;
@@ -144,14 +157,14 @@ fn behind_container(
         ItemBody::BlockQuote(_) => Reached {
             depth,
             all: true,
-            place,
-            content: content_start(text, place.at, line.stop),
+            position,
+            content: content_start(text, position.at, line.stop),
             quoted: depth,
         },
         _ => Reached {
             depth,
             all: true,
-            place,
+            position,
             content: reached.content,
             quoted: reached.quoted,
         },
@@ -162,7 +175,7 @@ fn behind_container(
 /// continues in it.
 fn is_skipped(body: ItemBody, old: bool, line: Line, reached: Reached) -> bool
     ensures { result ≡ true → (text : List ℕ) → TakesNothing (nat_le line.stop reached.content)
-        (left_from text reached.place line.stop) (taken_by old body) }
+        (left_from text reached.position line.stop) (taken_by old body) }
 {
     let blank = reached.content >= line.stop;
     if !blank && !old {
@@ -170,7 +183,7 @@ fn is_skipped(body: ItemBody, old: bool, line: Line, reached: Reached) -> bool
     }
     match taken_by(body, old) {
         Taking::NothingOfBlank => {
-            blank && reached.place.owed == 0 && reached.place.at >= line.stop
+            blank && reached.position.owed == 0 && reached.position.at >= line.stop
         }
         Taking::NothingOfFilled => !blank,
         Taking::Something => false,
@@ -196,7 +209,7 @@ fn reach_blocks(
     let mut reached = Reached {
         depth: 0,
         all: true,
-        place: Place::new(line.start),
+        position: Position::new(line.start),
         content: content_start(text, line.start, line.stop),
         quoted: 0,
     };
@@ -212,14 +225,14 @@ fn reach_blocks(
             && is_skipped(body, stretches.old_notes, line, reached)
         {
             reached.depth = next_start(starts, last);
-            starts = starts_behind(starts, reached.depth);
+            starts = starts_after(starts, reached.depth);
             continue;
         }
         let empty = (reached.depth + 1 == blocks.len()) & item_is_empty;
         match past_container(text, body, stretches.old_notes, empty, line, reached) {
-            Some(place) => {
-                reached = behind_container(text, body, place, line, reached);
-                starts = starts_behind(starts, reached.depth);
+            Some(position) => {
+                reached = after_container(text, body, position, line, reached);
+                starts = starts_after(starts, reached.depth);
             }
             None => {
                 reached.all = false;
@@ -248,22 +261,22 @@ pub fn reach(pass: &Pass<'_>, line: Line) -> Reached
     )
 }
 
-/// Returns the space between an item's marker, which ends at the place `behind`, and its content: one to four columns,
+/// Returns the space between an item's marker, which ends at the place `after`, and its content: one to four columns,
 /// or one column where the item begins with a blank line or with indented code.
-fn item_content(text: &str, behind: Place, stop: usize) -> Space
+fn item_content(text: &str, after: Position, stop: usize) -> Space
     ensures columns { result.columns
-        ≡ (opening.item_space stop (left_from text.now behind stop)).columns }
-    ensures behind { left_from text.now result.behind stop
-        ≡ (opening.item_space stop (left_from text.now behind stop)).after }
+        ≡ (opening.item_space stop (left_from text.now after stop)).columns }
+    ensures after { left_from text.now result.after stop
+        ≡ (opening.item_space stop (left_from text.now after stop)).after }
     ensures few { result.columns ≤ 5 }
 {
-    let padding = read_space(text, behind, stop, 5);
-    if padding.behind.at < stop && 0 < padding.columns && padding.columns < 5 {
+    let padding = read_space(text, after, stop, 5);
+    if padding.after.at < stop && 0 < padding.columns && padding.columns < 5 {
         return padding;
     }
     Space {
         columns: 1,
-        behind: read_space(text, behind, stop, 1).behind,
+        after: read_space(text, after, stop, 1).after,
     }
 }
 
@@ -292,7 +305,7 @@ fn footnote_label<'a>(
 
 impl<'a> Pass<'a> {
     /// Opens a block quote whose marker is at the place `here`, and returns the place after the marker.
-    pub fn open_quote(&mut self, line: Line, here: Place) -> Result<Place, AllocError>
+    pub fn open_quote(&mut self, line: Line, here: Position) -> Result<Position, AllocError>
         ensures text { IfOk result (λ _. self.new.placing.builder.text
             ≡ self.old.placing.builder.text) }
         ensures opens { IfOk result (λ _.
@@ -305,7 +318,7 @@ impl<'a> Pass<'a> {
     {
         self.placing.step_to(here.at);
         self.placing.open_block(ItemBody::BlockQuote(None))?;
-        Ok(read_space(self.placing.text(), here.past(1), line.stop, 1).behind)
+        Ok(read_space(self.placing.text(), here.past(1), line.stop, 1).after)
     }
 
     /// Opens an item whose marker follows the space `before`, and a list unless one continues. Returns the place where
@@ -316,19 +329,19 @@ impl<'a> Pass<'a> {
         before: Space,
         marker: ListMarker,
         depth: usize,
-    ) -> Result<Place, AllocError>
+    ) -> Result<Position, AllocError>
         ensures text { IfOk result (λ _. self.new.placing.builder.text
             ≡ self.old.placing.builder.text) }
         ensures around { IfOk result (λ _. IfFitted self.old.placing self.new.placing ((indent : ℕ)
-            × (self.new.placing.builder.blocks ≡ opening.around_item before.behind.at marker
+            × (self.new.placing.builder.blocks ≡ opening.around_item before.after.at marker
             (take depth (without_leaf self.old.placing.builder))
-            ++ record { start = before.behind.at; body = body.ListItem indent } ∷ []))) }
+            ++ record { start = before.after.at; body = body.ListItem indent } ∷ []))) }
         ensures here { IfOk result (λ _. IfFitted self.old.placing self.new.placing
-            (self.new.placing.builder.at ≡ before.behind.at)) }
-        ensures inside { IfOk result (λ inside. before.behind.at + marker.width ≤ line.stop
+            (self.new.placing.builder.at ≡ before.after.at)) }
+        ensures inside { IfOk result (λ inside. before.after.at + marker.width ≤ line.stop
             → left_from self.old.placing.builder.text inside line.stop
             ≡ (opening.item_space line.stop (opening.past_bytes marker.width
-            (left_from self.old.placing.builder.text before.behind line.stop))).after) }
+            (left_from self.old.placing.builder.text before.after line.stop))).after) }
         ensures ended { IfOk result (λ _. self.new.lines.items ≡ []) }
         ensures empty { IfOk result (λ _. self.new.looseness.item_is_empty ≡ true) }
         ensures same { self.new ≡ record self.old {
@@ -338,16 +351,16 @@ impl<'a> Pass<'a> {
         } }
     {
         self.close_down(depth)?;
-        self.open_list(marker, before.behind.at)?;
-        let behind = before.behind.past(marker.width);
-        let content = item_content(self.placing.text(), behind, line.stop);
+        self.open_list(marker, before.after.at)?;
+        let after = before.after.past(marker.width);
+        let content = item_content(self.placing.text(), after, line.stop);
         let indent = before
             .columns
             .saturating_add(marker.width)
             .saturating_add(content.columns);
-        self.placing.step_to(before.behind.at);
+        self.placing.step_to(before.after.at);
         self.placing.open_block(ItemBody::ListItem(indent))?;
-        Ok(content.behind)
+        Ok(content.after)
     }
 
     /// Adds an item to the innermost open block, if that is a list with this character, and otherwise opens a list. The
@@ -382,9 +395,9 @@ impl<'a> Pass<'a> {
     pub fn open_footnote(
         &mut self,
         line: Line,
-        here: Place,
+        here: Position,
         depth: usize,
-    ) -> Result<Option<Place>, AllocError>
+    ) -> Result<Option<Position>, AllocError>
         ensures text { IfOk result (λ _. self.new.placing.builder.text
             ≡ self.old.placing.builder.text) }
         ensures off { IfOk result (λ found. footnotes_on self.old.options ≡ false → found ≡ None) }

@@ -5,7 +5,7 @@ ghost use Rattle.markdown_base.specs.declared.item.ItemBody.TheVariants as body;
 ghost use Rattle.markdown_scan.specs.Unescape.{unescaped};
 ghost use Rattle.markdown_lines.specs.LineBytes.{IsPartOf};
 ghost use Rattle.markdown_plain.specs.declared.pass.LeafKind.TheVariants as leaf_kind;
-ghost use Rattle.markdown_plain.specs.CodeLines.{behind_line, code_behind, ends_html_at, held, is_closed_at};
+ghost use Rattle.markdown_plain.specs.CodeLines.{after_line, code_after, ends_html_at, held, is_closed_at};
 ghost use Rattle.markdown_plain.specs.Fitting.{IfFitted, GoesOn, OpensFenced, OpensHtml, closed, extended, opened};
 ghost use Rattle.markdown_plain.specs.Paragraphs.{IsPlacedTo};
 
@@ -18,7 +18,7 @@ use markdown_lines::fence::{Fence, OpeningFence, is_closing_fence};
 use markdown_lines::held_line::HeldLine;
 use markdown_lines::html_kind::HtmlKind;
 use markdown_lines::line::Line;
-use markdown_lines::place::Place;
+use markdown_lines::position::Position;
 use markdown_lines::space::read_space;
 use markdown_scan::unescape::unescape;
 use std::alloc::AllocError;
@@ -27,7 +27,7 @@ use std::alloc::AllocError;
 fn add_code(placing: &mut Placing<'_>, line: HeldLine) -> Result<(), AllocError>
     ensures text { IfOk result (λ _. placing.new.builder.text ≡ placing.old.builder.text) }
     ensures goes_on { IfOk result (λ _. IfFitted placing.old placing.new
-        (GoesOn placing.old.builder placing.new.builder (behind_line line.start line.next))) }
+        (GoesOn placing.old.builder placing.new.builder (after_line line.start line.next))) }
 {
     placing.step_to(line.start);
     placing.add_owed(line.owed)?;
@@ -53,15 +53,15 @@ fn add_codes(placing: &mut Placing<'_>, lines: &[HeldLine]) -> Result<(), AllocE
 }
 
 /// Returns the rest of a line from a place on.
-fn rest_of(line: Line, place: Place) -> HeldLine
+fn rest_of(line: Line, position: Position) -> HeldLine
     ensures { result
-        ≡ record { start = place.at; stop = line.stop; next = line.next; owed = place.owed } }
+        ≡ record { start = position.at; stop = line.stop; next = line.next; owed = position.owed } }
 {
     HeldLine {
-        start: place.at,
+        start: position.at,
         stop: line.stop,
         next: line.next,
-        owed: place.owed,
+        owed: position.owed,
     }
 }
 
@@ -123,123 +123,143 @@ impl<'a> Pass<'a> {
     }
 
     /// Adds a line to the open fenced code block, or closes the block where the line is a closing fence.
-    pub fn add_fenced(&mut self, fence: Fence, line: Line, place: Place) -> Result<(), AllocError>
+    pub fn add_fenced(
+        &mut self,
+        fence: Fence,
+        line: Line,
+        position: Position,
+    ) -> Result<(), AllocError>
         ensures text { IfOk result (λ _. self.new.placing.builder.text
             ≡ self.old.placing.builder.text) }
         ensures closes { IfOk result (λ _.
-            is_closed_at self.old.placing.builder.text place line fence ≡ true →
+            is_closed_at self.old.placing.builder.text position line fence ≡ true →
             IfFitted self.old.placing self.new.placing (self.new.placing.builder
             ≡ record (closed self.old.placing.builder) { at = line.next })) }
-        ensures code { IfOk result (λ _. is_closed_at self.old.placing.builder.text place line fence
+        ensures code { IfOk result (λ _. is_closed_at self.old.placing.builder.text
+            position line fence
             ≡ false →
             IfFitted self.old.placing self.new.placing
             (GoesOn self.old.placing.builder self.new.placing.builder
-            (behind_line (code_behind self.old.placing.builder.text place line fence.indent).scanned
+            (after_line (code_after self.old.placing.builder.text position
+            line fence.indent).scanned
             line.next))) }
         ensures same { self.new ≡ record self.old { placing = self.new.placing } }
     {
         let text = self.placing.text();
-        let before = read_space(text, place, line.stop, 4);
-        if before.columns < 4 && is_closing_fence(text, before.behind.at, line.stop, fence) {
+        let before = read_space(text, position, line.stop, 4);
+        if before.columns < 4 && is_closing_fence(text, before.after.at, line.stop, fence) {
             self.placing.step_to(line.next);
             self.placing.close();
             return Ok(());
         }
-        let code = read_space(text, place, line.stop, fence.indent).behind;
+        let code = read_space(text, position, line.stop, fence.indent).after;
         add_code(&mut self.placing, rest_of(line, code))
     }
 
     /// Opens an HTML block with a line whose rest begins at a place. The block starts at the line's first content byte;
     /// its first Html includes the spaces before that.
     #[tactic(auto, using(crate::proofs::OpenBlocksLemmas::outer_of_opened))]
-    pub fn open_html(&mut self, line: Line, place: Place, kind: HtmlKind) -> Result<(), AllocError>
+    pub fn open_html(
+        &mut self,
+        line: Line,
+        position: Position,
+        kind: HtmlKind,
+    ) -> Result<(), AllocError>
         ensures text { IfOk result (λ _. self.new.placing.builder.text
             ≡ self.old.placing.builder.text) }
-        ensures ends { IfOk result (λ _. ends_html_at self.old.placing.builder.text place line kind
+        ensures ends { IfOk result (λ _. ends_html_at self.old.placing.builder.text position line
+            kind
             ≡ true →
             IfFitted self.old.placing self.new.placing
             (IsPlacedTo self.old.placing.builder self.new.placing.builder
-            (behind_line place.at line.next))) }
-        ensures opens { IfOk result (λ _. ends_html_at self.old.placing.builder.text place line kind
+            (after_line position.at line.next))) }
+        ensures opens { IfOk result (λ _. ends_html_at self.old.placing.builder.text position line
+            kind
             ≡ false →
             IfFitted self.old.placing self.new.placing
-            (OpensHtml self.old.placing.builder self.new.placing.builder place.at line.next)) }
+            (OpensHtml self.old.placing.builder self.new.placing.builder position.at line.next)) }
         ensures kind { IfOk result (λ _. self.new.leaf ≡ leaf_kind.Html kind) }
         ensures same { self.new
             ≡ record self.old { placing = self.new.placing; leaf = self.new.leaf } }
     {
-        self.placing.step_to(place.at);
+        self.placing.step_to(position.at);
         self.placing.open_block(ItemBody::HtmlBlock)?;
         self.leaf = LeafKind::Html(kind);
-        self.add_html_line(line, place)?;
+        self.add_html_line(line, position)?;
         self.placing.begin_at_content();
-        self.end_html(kind, line, place);
+        self.end_html(kind, line, position);
         Ok(())
     }
 
     /// Adds a line to the open HTML block, and closes the block if the line ends it.
-    pub fn add_html(&mut self, kind: HtmlKind, line: Line, place: Place) -> Result<(), AllocError>
+    pub fn add_html(
+        &mut self,
+        kind: HtmlKind,
+        line: Line,
+        position: Position,
+    ) -> Result<(), AllocError>
         ensures text { IfOk result (λ _. self.new.placing.builder.text
             ≡ self.old.placing.builder.text) }
-        ensures ends { IfOk result (λ _. ends_html_at self.old.placing.builder.text place line kind
+        ensures ends { IfOk result (λ _. ends_html_at self.old.placing.builder.text position line
+            kind
             ≡ true →
             IfFitted self.old.placing self.new.placing (self.new.placing.builder
             ≡ record (closed self.old.placing.builder) {
-              at = behind_line place.at line.next;
+              at = after_line position.at line.next;
               texts = self.new.placing.builder.texts;
             })) }
         ensures goes_on { IfOk result (λ _.
-            ends_html_at self.old.placing.builder.text place line kind ≡ false →
+            ends_html_at self.old.placing.builder.text position line kind ≡ false →
             IfFitted self.old.placing self.new.placing
             (GoesOn self.old.placing.builder self.new.placing.builder
-            (behind_line place.at line.next))) }
+            (after_line position.at line.next))) }
         ensures same { self.new ≡ record self.old { placing = self.new.placing } }
     {
-        self.add_html_line(line, place)?;
-        self.end_html(kind, line, place);
+        self.add_html_line(line, position)?;
+        self.end_html(kind, line, position);
         Ok(())
     }
 
     /// Appends the rest of a line from a place on: an Html, after the columns that a partly read tab owes.
-    fn add_html_line(&mut self, line: Line, place: Place) -> Result<(), AllocError>
+    fn add_html_line(&mut self, line: Line, position: Position) -> Result<(), AllocError>
         ensures text { IfOk result (λ _. self.new.placing.builder.text
             ≡ self.old.placing.builder.text) }
         ensures goes_on { IfOk result (λ _. IfFitted self.old.placing self.new.placing
             (GoesOn self.old.placing.builder self.new.placing.builder
-            (behind_line place.at line.next))) }
+            (after_line position.at line.next))) }
         ensures same { self.new ≡ record self.old { placing = self.new.placing } }
     {
-        self.placing.step_to(place.at);
-        self.placing.add_owed(place.owed)?;
-        if place.at < line.next {
+        self.placing.step_to(position.at);
+        self.placing.add_owed(position.owed)?;
+        if position.at < line.next {
             self.placing.add_inline(ItemBody::Html, line.next)?;
         }
         Ok(())
     }
 
     /// Closes the open HTML block, if a block of its kind ends with the rest of a line from a place on.
-    fn end_html(&mut self, kind: HtmlKind, line: Line, place: Place)
+    fn end_html(&mut self, kind: HtmlKind, line: Line, position: Position)
         ensures text { self.new.placing.builder.text ≡ self.old.placing.builder.text }
-        ensures ends { ends_html_at self.old.placing.builder.text place line kind ≡ true
+        ensures ends { ends_html_at self.old.placing.builder.text position line kind ≡ true
             → IfFitted self.old.placing self.new.placing
             (self.new.placing.builder ≡ closed self.old.placing.builder) }
-        ensures goes_on { ends_html_at self.old.placing.builder.text place line kind ≡ false
+        ensures goes_on { ends_html_at self.old.placing.builder.text position line kind ≡ false
             → self.new ≡ self.old }
         ensures same { self.new ≡ record self.old { placing = self.new.placing } }
     {
-        if kind.ends_in(bytes_of(self.placing.text(), place.at, line.stop)) {
+        if kind.ends_in(bytes_of(self.placing.text(), position.at, line.stop)) {
             self.placing.close();
         }
     }
 
     /// Opens an indented code block with a line whose code begins at a place.
-    pub fn open_indented(&mut self, line: Line, place: Place) -> Result<(), AllocError>
+    pub fn open_indented(&mut self, line: Line, position: Position) -> Result<(), AllocError>
         ensures text { IfOk result (λ _. self.new.placing.builder.text
             ≡ self.old.placing.builder.text) }
         ensures opens { IfOk result (λ _. IfFitted self.old.placing self.new.placing
             (self.new.placing.builder
-            ≡ record (opened self.old.placing.builder place.at body.IndentCodeBlock) {
-              at = behind_line place.at line.next;
+            ≡ record (opened self.old.placing.builder position.at body.IndentCodeBlock) {
+              at = after_line position.at line.next;
               run = self.new.placing.builder.run;
               texts = self.new.placing.builder.texts;
             })) }
@@ -247,35 +267,35 @@ impl<'a> Pass<'a> {
         ensures same { self.new
             ≡ record self.old { placing = self.new.placing; leaf = self.new.leaf } }
     {
-        self.placing.step_to(place.at);
+        self.placing.step_to(position.at);
         self.placing.open_block(ItemBody::IndentCodeBlock)?;
         self.leaf = LeafKind::Indented;
-        add_code(&mut self.placing, rest_of(line, place))
+        add_code(&mut self.placing, rest_of(line, position))
     }
 
     /// Adds a line to the open indented code block, after the blank lines that were held back.
-    pub fn add_indented(&mut self, line: Line, place: Place) -> Result<(), AllocError>
+    pub fn add_indented(&mut self, line: Line, position: Position) -> Result<(), AllocError>
         ensures text { IfOk result (λ _. self.new.placing.builder.text
             ≡ self.old.placing.builder.text) }
         ensures goes_on { IfOk result (λ _. IfFitted self.old.placing self.new.placing
             (GoesOn self.old.placing.builder self.new.placing.builder
-            (behind_line place.at line.next))) }
+            (after_line position.at line.next))) }
         ensures emptied { IfOk result (λ _. self.new.lines.items ≡ []) }
         ensures same { self.new
             ≡ record self.old { placing = self.new.placing; lines = self.new.lines } }
     {
         add_codes(&mut self.placing, &self.lines)?;
         self.lines.clear();
-        add_code(&mut self.placing, rest_of(line, place))
+        add_code(&mut self.placing, rest_of(line, position))
     }
 
     /// Holds back a blank line of the open indented code block.
-    pub fn hold_blank(&mut self, line: Line, place: Place) -> Result<(), AllocError>
+    pub fn hold_blank(&mut self, line: Line, position: Position) -> Result<(), AllocError>
         ensures held { IfOk result (λ _. self.new.lines.items ≡ self.old.lines.items
-            ++ held line (code_behind self.old.placing.builder.text place line 4) ∷ []) }
+            ++ held line (code_after self.old.placing.builder.text position line 4) ∷ []) }
         ensures same { self.new ≡ record self.old { lines = self.new.lines } }
     {
-        let code = read_space(self.placing.text(), place, line.stop, 4).behind;
+        let code = read_space(self.placing.text(), position, line.stop, 4).after;
         self.lines.push(rest_of(line, code))?;
         Ok(())
     }

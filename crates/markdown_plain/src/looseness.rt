@@ -1,7 +1,7 @@
 //! What makes lists loose (CommonMark 5.3): blank lines between the items of a list, or between two blocks directly in
 //! an item.
 ghost use Rattle.std.specs.Prelude.{◌≡◌, ◌++◌, ◌∷◌, [], true, false, List, Bool, Some, None, IfOk};
-ghost use Rattle.markdown_plain.specs.ListLooseness.{ItemRead, IsRead, blank_from, is_behind_blank, is_empty};
+ghost use Rattle.markdown_plain.specs.ListLooseness.{ItemRead, IsRead, blank_from, is_after_blank, is_empty};
 ghost use Rattle.markdown_plain.specs.ListLooseness.{is_item, is_loose, new_item, with_block};
 ghost use Rattle.markdown_plain.specs.OpenBlocks.{innermost_is};
 
@@ -60,10 +60,10 @@ impl Looseness {
         ensures read { (outer : List Bool) (items : List ItemRead) (last : ItemRead)
             → IsRead outer items last self.old
             → IsRead outer (items ++ last ∷ [])
-            (new_item (is_behind_blank self.old.blank_from blocks.now)) self.new }
+            (new_item (is_after_blank self.old.blank_from blocks.now)) self.new }
         ensures same { self.new ≡ record self.old { lists = self.new.lists; item_is_empty = true } }
     {
-        if self.is_behind_blank(blocks) {
+        if self.is_after_blank(blocks) {
             self.loosen();
         }
         self.item_is_empty = true;
@@ -76,14 +76,14 @@ impl Looseness {
         ensures inside { innermost_is is_item blocks.now ≡ true
             → (outer : List Bool) (items : List ItemRead) (last : ItemRead)
             → IsRead outer items last self.old
-            → IsRead outer items (with_block last (is_behind_blank self.old.blank_from blocks.now))
+            → IsRead outer items (with_block last (is_after_blank self.old.blank_from blocks.now))
             self.new }
         ensures elsewhere { innermost_is is_item blocks.now ≡ false
             → self.new.lists ≡ self.old.lists }
         ensures same { self.new
             ≡ record self.old { lists = self.new.lists; item_is_empty = false } }
     {
-        if is_in_item(blocks) && !self.item_is_empty && self.is_behind_blank(blocks) {
+        if is_in_item(blocks) && !self.item_is_empty && self.is_after_blank(blocks) {
             self.loosen();
         }
         self.item_is_empty = false;
@@ -142,8 +142,8 @@ impl Looseness {
     }
 
     /// Returns whether the innermost of the open blocks had a blank line after the last line that was not blank.
-    fn is_behind_blank(&self, blocks: &[OpenBlock]) -> bool
-        ensures { result ≡ is_behind_blank self.now.blank_from blocks.now }
+    fn is_after_blank(&self, blocks: &[OpenBlock]) -> bool
+        ensures { result ≡ is_after_blank self.now.blank_from blocks.now }
     {
         match self.blank_from {
             Some(from) => from < blocks.len(),

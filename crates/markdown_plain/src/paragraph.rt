@@ -33,7 +33,7 @@ fn take_definition<'a>(
         (placing.new.builder ≡ stepped placing.old.builder placing.new.builder.at)) }
     ensures within { IfOk result (λ taken. taken ≤ length lines.now) }
     ensures none { IfOk result (λ taken. taken ≡ 0 → placing.new ≡ placing.old) }
-    ensures behind { IfOk result (λ taken. 0 < taken → IfFitted placing.old placing.new
+    ensures after { IfOk result (λ taken. 0 < taken → IfFitted placing.old placing.new
         (placing.new.builder.at ≡ end_of lines.now taken)) }
 {
     let text = placing.text();
@@ -64,7 +64,7 @@ fn take_definitions<'a>(
     ensures steps { IfOk result (λ _. IfFitted placing.old placing.new
         (placing.new.builder ≡ stepped placing.old.builder placing.new.builder.at)) }
     ensures within { IfOk result (λ taken. taken ≤ length lines.now) }
-    ensures behind { IfOk result (λ taken. 0 < taken → IfFitted placing.old placing.new
+    ensures after { IfOk result (λ taken. 0 < taken → IfFitted placing.old placing.new
         (placing.new.builder.at ≡ end_of lines.now taken)) }
 {
     let mut taken = 0;
@@ -154,7 +154,7 @@ fn body_of(heading: Option<(HeadingLevel, Line)>) -> ItemBody
     }
 }
 
-/// Places the lines from the number `from` on as a paragraph, or as a heading that ends with the line of its underline.
+/// Positions the lines from the number `from` on as a paragraph, or as a heading that ends with the line of its underline.
 #[tactic(auto, using(crate::proofs::OpenBlocksLemmas::outer_of_opened))]
 fn place_paragraph(
     placing: &mut Placing<'_>,
@@ -226,7 +226,7 @@ impl<'a> Pass<'a> {
             → IfFitted self.old.placing self.new.placing
             (self.new.placing.builder
             ≡ stepped self.old.placing.builder self.new.placing.builder.at)) }
-        ensures behind { IfOk result (λ left. left ≡ false → 0 < length self.old.lines.items
+        ensures after { IfOk result (λ left. left ≡ false → 0 < length self.old.lines.items
             → IfFitted self.old.placing self.new.placing
             (self.new.placing.builder.at ≡ lines_end self.old.lines.items)) }
         ensures emptied { IfOk result (λ _. self.new.lines.items ≡ []) }

@@ -96,7 +96,7 @@ impl<'a> Placing<'a> {
     fn is_ahead(&self, to: usize) -> bool
         ensures low { result ≡ true → self.now.builder.at ≤ to }
         ensures boundary { result ≡ true → IsCharBoundary self.now.builder.text to }
-        ensures behind { result ≡ false → IsAhead self.now.builder to → ⊥ }
+        ensures after { result ≡ false → IsAhead self.now.builder to → ⊥ }
     {
         self.builder.at() <= to && self.builder.text().is_char_boundary(to)
     }

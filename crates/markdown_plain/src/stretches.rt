@@ -3,7 +3,7 @@
 ghost use Rattle.std.specs.Prelude.{◌≡◌, ◌≤◌, ◌+◌, ◌++◌, ◌∷◌, true, List, [], drop, length, IfOk, IfErr};
 ghost use Rattle.markdown_builder.specs.declared.open_block.OpenBlock.{OpenBlock};
 ghost use Rattle.markdown_plain.specs.OpenBlocks.{outer_of};
-ghost use Rattle.markdown_plain.specs.Stretches.{IsOf, are_alike, begins_stretch, deep_starts, few, next_of, starts_behind, taken_by};
+ghost use Rattle.markdown_plain.specs.Stretches.{IsOf, are_alike, begins_stretch, deep_starts, few, next_of, starts_after, taken_by};
 
 use markdown_base::item::ItemBody;
 use markdown_builder::open_block::OpenBlock;
@@ -169,8 +169,8 @@ pub fn next_start(starts: &[usize], last: usize) -> usize
 }
 
 /// Returns where stretches begin that are ahead of the block with a number: not the one that begins with it.
-pub fn starts_behind(starts: &[usize], number: usize) -> &[usize]
-    ensures { result.now ≡ starts_behind number starts.now }
+pub fn starts_after(starts: &[usize], number: usize) -> &[usize]
+    ensures { result.now ≡ starts_after number starts.now }
 {
     match starts.first() {
         Some(first) if *first == number => starts.split_at(1).1,

@@ -48,7 +48,7 @@ fn read_tag<R: LineRule>(rule: &R, source: &[u8]) -> Option<(usize, usize)>
     Some((source.len() - rest.len(), count_tag(rule, source, rest)))
 }
 
-/// Returns the first `count` bytes of the text, without prefixes. The error is a refused allocation.
+/// Returns the first `count` bytes of the text, without prefixes.
 fn copy_text<R: LineRule>(
     alloc: Global,
     rule: &R,

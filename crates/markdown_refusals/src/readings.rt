@@ -297,7 +297,7 @@ fn outlines_blocks(alloc: Global, source: Source) -> bool {
 
 /// A way to read a text.
 #[derive(Clone, Copy, Drop)]
-enum Way {
+enum Reading {
     Fitting,
     Making,
     Walking,
@@ -311,41 +311,41 @@ enum Way {
     OutliningBlocks,
 }
 
-static WAYS: [(&str, Way); 11] = [
-    ("the calls of the block pass", Way::Fitting),
-    ("making a parser", Way::Making),
-    ("next", Way::Walking),
-    ("next with ranges", Way::WalkingWithRanges),
-    ("next of a merge", Way::Merging),
-    ("next of a merge with ranges", Way::MergingWithRanges),
-    ("into_events", Way::Collecting),
-    ("render", Way::Rendering),
-    ("push_html", Way::Pushing),
-    ("outline", Way::Outlining),
-    ("outline_of", Way::OutliningBlocks),
+static READINGS: [(&str, Reading); 11] = [
+    ("the calls of the block pass", Reading::Fitting),
+    ("making a parser", Reading::Making),
+    ("next", Reading::Walking),
+    ("next with ranges", Reading::WalkingWithRanges),
+    ("next of a merge", Reading::Merging),
+    ("next of a merge with ranges", Reading::MergingWithRanges),
+    ("into_events", Reading::Collecting),
+    ("render", Reading::Rendering),
+    ("push_html", Reading::Pushing),
+    ("outline", Reading::Outlining),
+    ("outline_of", Reading::OutliningBlocks),
 ];
 
 /// Returns whether what is promised for a way to read a text holds.
-fn stands(alloc: Global, way: Way, source: Source) -> bool {
-    match way {
-        Way::Fitting => fits(alloc, source),
-        Way::Making => makes(alloc, source),
-        Way::Walking => walks(alloc, source),
-        Way::WalkingWithRanges => walks_with_ranges(alloc, source),
-        Way::Merging => merges(alloc, source),
-        Way::MergingWithRanges => merges_with_ranges(alloc, source),
-        Way::Collecting => collects(alloc, source),
-        Way::Rendering => renders(alloc, source),
-        Way::Pushing => pushes(alloc, source),
-        Way::Outlining => outlines(alloc, source),
-        Way::OutliningBlocks => outlines_blocks(alloc, source),
+fn stands(alloc: Global, reading: Reading, source: Source) -> bool {
+    match reading {
+        Reading::Fitting => fits(alloc, source),
+        Reading::Making => makes(alloc, source),
+        Reading::Walking => walks(alloc, source),
+        Reading::WalkingWithRanges => walks_with_ranges(alloc, source),
+        Reading::Merging => merges(alloc, source),
+        Reading::MergingWithRanges => merges_with_ranges(alloc, source),
+        Reading::Collecting => collects(alloc, source),
+        Reading::Rendering => renders(alloc, source),
+        Reading::Pushing => pushes(alloc, source),
+        Reading::Outlining => outlines(alloc, source),
+        Reading::OutliningBlocks => outlines_blocks(alloc, source),
     }
 }
 
 /// Returns the first way for which what is promised does not hold.
-fn broken_way(alloc: Global, source: Source) -> Option<&'static str> {
-    for (name, way) in &WAYS {
-        if !stands(alloc, *way, source) {
+fn broken_reading(alloc: Global, source: Source) -> Option<&'static str> {
+    for (name, reading) in &READINGS {
+        if !stands(alloc, *reading, source) {
             return Some(*name);
         }
     }
@@ -355,7 +355,7 @@ fn broken_way(alloc: Global, source: Source) -> Option<&'static str> {
 /// Returns the first text for which it does not hold, and the way.
 pub fn broken(alloc: Global) -> Option<(&'static str, &'static str)> {
     for source in &SOURCES {
-        if let Some(name) = broken_way(alloc, *source) {
+        if let Some(name) = broken_reading(alloc, *source) {
             return Some((name, source.text));
         }
     }

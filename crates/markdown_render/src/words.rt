@@ -35,7 +35,7 @@ fn option_of(word: &str) -> Option<Options>
 ///
 /// The first word that is unknown.
 pub fn options_of(words: &[String]) -> Result<Options, &String>
-    ensures known { IfOk result (λ options. turned_on (map string_bytes words.now) no_options
+    ensures state { IfOk result (λ options. turned_on (map string_bytes words.now) no_options
         ≡ Some options) }
     ensures unknown { IfErr result (λ word. turned_on (map string_bytes words.now) no_options
         ≡ None) }

@@ -12,7 +12,7 @@ use Rattle.markdown_base.specs.declared.item.ItemBody.{ItemBody}
 use Rattle.markdown_base.specs.declared.node.Node.{Node}
 use Rattle.markdown_document.specs.Document.{block_of}
 use Rattle.markdown_document.specs.ItemRules.{ComesBefore}
-use Rattle.markdown_document.specs.Places.{label_at}
+use Rattle.markdown_document.specs.Places.{tree_node_at}
 use Rattle.markdown_document.specs.PlacedNodes.{IsPlaced}
 use Rattle.markdown_document.specs.Tables.{Tables}
 use Rattle.markdown_spans.specs.ChainInArena.{LeadsThrough, HasChain}
@@ -40,7 +40,7 @@ no_block b h = by_block (is_block b) h
 -- the numbers of a chain rise, since each item precedes the next one
 pub next_above : (source : List ℕ) (tables : Tables) (nodes : List (Node Item)) (ix : ℕ) (l : Option ℕ) (f : Forest ℕ)
     → Spells (links_of nodes) l f → is_block (item_at nodes ix).body ≡ false
-    → IsQuietBelow (relabelled (label_at source tables nodes) f)
+    → IsQuietBelow (relabelled (tree_node_at source tables nodes) f)
     → ComesBefore (numbered nodes ix) (option_map (numbered nodes) l) → IfSome l (λ n. suc ix ≤ n)
 next_above source tables nodes ix l nil s b q stands = rw s tt
 next_above source tables nodes ix l (node j below after) s b q stands =
@@ -48,7 +48,7 @@ next_above source tables nodes ix l (node j below after) s b q stands =
 
 pub leads_along : (source : List ℕ) (tables : Tables) (nodes : List (Node Item)) (low : ℕ) (l : Option ℕ) (f : Forest ℕ)
     → Spells (links_of nodes) l f → Each (IsPlaced source tables nodes) f
-    → IsQuietBelow (relabelled (label_at source tables nodes) f) → IfSome l (λ n. low ≤ n)
+    → IsQuietBelow (relabelled (tree_node_at source tables nodes) f) → IfSome l (λ n. low ≤ n)
     → LeadsThrough nodes low l (items_along nodes f)
 leads_along source tables nodes low l nil s p q from = s
 leads_along source tables nodes low l (node ix below after) s p q from =

@@ -14,7 +14,7 @@ use Rattle.markdown_base.specs.declared.item.Item.{Item}
 use Rattle.markdown_base.specs.declared.node.Node.{Node}
 use Rattle.markdown_base.proofs.ArenaForestLemmas.{opens}
 use Rattle.markdown_document.specs.ItemRules.{ComesBefore}
-use Rattle.markdown_document.specs.Places.{label_at}
+use Rattle.markdown_document.specs.Places.{tree_node_at}
 use Rattle.markdown_document.specs.PlacedNodes.{IsSameAt, IsPlaced}
 use Rattle.markdown_document.specs.Tables.{Tables}
 use Rattle.markdown_document.specs.Totals.{total, same}
@@ -36,7 +36,7 @@ AllPast nodes low byte (n ∷ ns) = StandsPast nodes low byte n × AllPast nodes
 -- the item after one is past it
 next_past : (source : List ℕ) (tables : Tables) (nodes : List (Node Item)) (ix : ℕ) (l : Option ℕ) (f : Forest ℕ)
     → is_block (item_at nodes ix).body ≡ false → Spells (links_of nodes) l f
-    → IsQuietBelow (relabelled (label_at source tables nodes) f)
+    → IsQuietBelow (relabelled (tree_node_at source tables nodes) f)
     → ComesBefore (numbered nodes ix) (option_map (numbered nodes) l)
     → IfSome l (λ n. StandsPast nodes ix (item_at nodes ix).end n)
 next_past source tables nodes ix l nil here s quiet h = rw s tt
@@ -52,7 +52,7 @@ past_more nodes low low' byte byte' (Some n) a b h = record
 
 all_past : (source : List ℕ) (tables : Tables) (nodes : List (Node Item)) (low byte : ℕ) (l : Option ℕ) (f : Forest ℕ)
     → Spells (links_of nodes) l f → Each (IsPlaced source tables nodes) f
-    → IsQuietBelow (relabelled (label_at source tables nodes) f) → IfSome l (λ n. StandsPast nodes low byte n)
+    → IsQuietBelow (relabelled (tree_node_at source tables nodes) f) → IfSome l (λ n. StandsPast nodes low byte n)
     → AllPast nodes low byte (roots f)
 all_past source tables nodes low byte l nil s placed quiet first = tt
 all_past source tables nodes low byte l (node ix below after) s placed quiet first =

@@ -14,8 +14,8 @@ use Rattle.markdown_base.specs.declared.item.Item.{Item}
 use Rattle.markdown_base.specs.declared.item.ItemBody.{ItemBody}
 use Rattle.markdown_base.specs.declared.item.ItemBody.TheVariants as body
 use Rattle.markdown_base.specs.declared.node.Node.{Node}
-use Rattle.markdown_document.specs.Above.{Above, inside_block, inside_all, inside_item, no_blocks}
-use Rattle.markdown_document.specs.Stages.{above_cursor}
+use Rattle.markdown_document.specs.EnclosingBlocks.{EnclosingBlocks, inside_block, inside_all, inside_item, no_blocks}
+use Rattle.markdown_document.specs.ResolverStates.{above_cursor}
 use Rattle.markdown_document.specs.Document.{block_of}
 use Rattle.markdown_document.specs.Setting.{Setting}
 use Rattle.markdown_spans.specs.BlocksAbove.{HasBlocks}
@@ -39,7 +39,8 @@ blocks_in nodes [] = []
 blocks_in nodes (ix ∷ deeper) = with_block (block_of (item_at nodes ix).body) (blocks_in nodes deeper)
 
 -- these are what the nodes of a spine add
-bodies_inside : (nodes : List (Node Item)) (spine : List ℕ) (above : Above) → (inside_all nodes spine above).bodies
+bodies_inside : (nodes : List (Node Item)) (spine : List ℕ) (above : EnclosingBlocks) →
+    (inside_all nodes spine above).bodies
     ≡ above.bodies ++ blocks_in nodes spine
 unfolding blocks_in with_block
 bodies_inside nodes [] above = sym (append-nil above.bodies)
@@ -137,7 +138,7 @@ lies_above source nodes l (ix ∷ deeper) zero above h = above.0.lies
 lies_above source nodes l (ix ∷ deeper) (suc i) above h = lies_above source nodes l deeper i above.1 (omega (arith, h))
 
 -- what is inside one more node
-read_next : (nodes : List (Node Item)) (spine : List ℕ) (i : ℕ) (above : Above) (block : Option ItemBody)
+read_next : (nodes : List (Node Item)) (spine : List ℕ) (i : ℕ) (above : EnclosingBlocks) (block : Option ItemBody)
     → i < length spine → block_of (item_at nodes (get_or spine i 0)).body ≡ block
     → inside_all nodes (drop i spine) above ≡ inside_all nodes (drop (i + 1) spine)
     (inside_block block (range_of (item_at nodes (get_or spine i 0))) above)
@@ -156,7 +157,8 @@ block_read source place place' nodes l spine i item above within same is text en
     let here = item_at nodes (get_or spine i 0) in
     let block : block_of here.body ≡ Some here.body = ap (λ (x : Bool). if x then Some here.body else None)
     (ap (λ (t : Item). is_block t.body) (sym same) ∙ is) in
-    let below : Above = record { block_end = place.block_end; in_table = place.in_table; bodies = r.bodies } in
+    let below : EnclosingBlocks = record { block_end = place.block_end; in_table = place.in_table; bodies = r.bodies }
+    in
     record {
       bodies = r.bodies ++ here.body ∷ [];
       reads = rw (ends, table, same) (sym (read_next nodes spine i below (Some here.body) within block) ∙ r.reads);
@@ -173,7 +175,8 @@ other_read source place nodes spine i item within same is r =
     let here = item_at nodes (get_or spine i 0) in
     let block : block_of here.body ≡ None = ap (λ (x : Bool). if x then Some here.body else None)
     (ap (λ (t : Item). is_block t.body) (sym same) ∙ is) in
-    let below : Above = record { block_end = place.block_end; in_table = place.in_table; bodies = r.bodies } in
+    let below : EnclosingBlocks = record { block_end = place.block_end; in_table = place.in_table; bodies = r.bodies }
+    in
     record {
       bodies = r.bodies;
       reads = sym (read_next nodes spine i below None within block) ∙ r.reads;
@@ -191,8 +194,8 @@ all_above_read source place tree i past utf8 r =
       bodies = r.bodies;
     })) (sym (drop_all i tree.spine past)) ∙ r.reads in
     record {
-      block_end = rw r.text (ap (λ (a : Above). a.block_end) e);
-      in_table = rw r.text (ap (λ (a : Above). a.in_table) e);
+      block_end = rw r.text (ap (λ (a : EnclosingBlocks). a.block_end) e);
+      in_table = rw r.text (ap (λ (a : EnclosingBlocks). a.in_table) e);
       boundary = rw r.text r.boundary;
       utf8 = rw r.text utf8;
     }

@@ -16,44 +16,47 @@ use Rattle.markdown_base.specs.declared.node.Node.{Node}
 use Rattle.markdown_brackets.specs.QuestionEnds.{AsksNothing, HoldsNoOpener, StandInLine}
 use Rattle.markdown_brackets.specs.QuestionsAsked.{AsksAtMost, EndApart, closers_among}
 use Rattle.markdown_brackets.proofs.QuestionEndsLemmas.{asks_at_most, end_apart, stays_zero}
-use Rattle.markdown_document.specs.Above.{Above}
+use Rattle.markdown_document.specs.EnclosingBlocks.{EnclosingBlocks}
 use Rattle.markdown_document.specs.ChainRest.{end_of, open_body, start_of}
-use Rattle.markdown_document.specs.Document.{Label, Plain, Tags, document, is_unresolved, label_of, shape_of}
-use Rattle.markdown_document.specs.Setting.{Known, Setting}
+use Rattle.markdown_document.specs.Document.{TreeNode, Plain, Notes, document, is_unresolved, tree_node_of, shape_of}
+use Rattle.markdown_document.specs.Setting.{ReferenceState, Setting}
 use Rattle.markdown_document.specs.Tables.{Tables}
 use Rattle.markdown_document.proofs.PlaceLemmas.{open-unresolved}
 use Rattle.markdown_base.specs.EnabledOptions.{gfm_footnotes_on}
 use Rattle.markdown_spans.proofs.ContainerPrefixLemmas.{prefix_opens_none}
 use Rattle.markdown_resolver.specs.Kept.{EachChain}
-use Rattle.markdown_resolver.specs.PassOne.{around, pass_one, read_other}
+use Rattle.markdown_resolver.specs.PassOne.{bracket_context, pass_one, read_other}
 use Rattle.markdown_resolver.specs.Resolved.{resolved}
 
-module _ {A : Type 0} (s : Setting) (tags : Tags A) (above : Above) where
+module _ {A : Type 0} (s : Setting) (notes : Notes A) (above : EnclosingBlocks) where
   -- an item that is not a bracket asks nothing
-  other_asks_nothing : AsksNothing (read_other s tags above)
+  other_asks_nothing : AsksNothing (read_other s notes above)
   other_asks_nothing a below rest p = refl
 
   -- the prefix of a line contains no `[`
-  prefix_holds_none : HoldsNoOpener (around s above).skipped
+  prefix_holds_none : HoldsNoOpener (bracket_context s above).skipped
   prefix_holds_none bytes = prefix_opens_none (gfm_footnotes_on s.rules.options) above.bodies bytes
 
-  pub resolved_asks : (chain : Forest (Label A)) (known : Known)
-      → AsksAtMost (closers_among (roots chain)) known.limit (resolved s tags above chain known).questions
+  pub resolved_asks : (chain : Forest (TreeNode A)) (state : ReferenceState)
+      → AsksAtMost (closers_among (roots chain)) state.limit (resolved s notes above chain state).questions
   unfolding resolved pass_one
-  resolved_asks chain known = asks_at_most (around s above) (read_other s tags above) other_asks_nothing chain known
+  resolved_asks chain state = asks_at_most (bracket_context s above)
+      (read_other s notes above) other_asks_nothing chain state
 
   -- a limit of 0 stays
-  pub resolved_stays_zero : (chain : Forest (Label A)) (known : Known) → known.limit ≡ 0
-      → (resolved s tags above chain known).known.limit ≡ 0
+  pub resolved_stays_zero : (chain : Forest (TreeNode A)) (state : ReferenceState) → state.limit ≡ 0
+      → (resolved s notes above chain state).state.limit ≡ 0
   unfolding resolved pass_one
-  resolved_stays_zero chain known z = stays_zero (around s above) (read_other s tags above) other_asks_nothing chain
-      known z
+  resolved_stays_zero chain state z = stays_zero (bracket_context s above)
+      (read_other s notes above) other_asks_nothing chain
+      state z
 
-  pub resolved_ends : (chain : Forest (Label A)) (known : Known) → StandInLine s.text chain
-      → EndApart (resolved s tags above chain known).questions
+  pub resolved_ends : (chain : Forest (TreeNode A)) (state : ReferenceState) → StandInLine s.text chain
+      → EndApart (resolved s notes above chain state).questions
   unfolding resolved pass_one
-  resolved_ends chain known stand =
-      end_apart (around s above) (read_other s tags above) other_asks_nothing prefix_holds_none chain known stand
+  resolved_ends chain state stand =
+      end_apart (bracket_context s above)
+      (read_other s notes above) other_asks_nothing prefix_holds_none chain state stand
 
 both : (a b : Bool) → IsTrue (a && b) → IsTrue a × IsTrue b
 both true b h = (refl, h)
@@ -63,7 +66,7 @@ or_true : (a b : Bool) → IsTrue b → IsTrue (a || b)
 or_true true b h = refl
 or_true false b h = h
 
--- the markup of an item is that of its label
+-- the markup of an item is that of its node
 markup_seen : (tables : Tables) (source bytes : List ℕ) (b : ItemBody) → StandsOverMarkup bytes b
     → StandsOverMarkup bytes (open_body (shape_of tables source b))
 markup_seen tables source bytes (body.HardBreak true) h = h
@@ -71,9 +74,9 @@ markup_seen tables source bytes (body.HardBreak false) h = h
 markup_seen tables source bytes other h = h
 
 module _ (source : List ℕ) (tables : Tables) (counts : PartCounts) where
-  -- the label of an item
+  -- the node of an item
   abbrev seen : Numbered → Plain
-  seen a = label_of source tables a.item
+  seen a = tree_node_of source tables a.item
 
   before_next : (a : Numbered) (after : Forest Numbered) → InlineInOrder a (first_root after)
       → IsTrue (is_inline a.item.body) → IsTrue (all_inline after)

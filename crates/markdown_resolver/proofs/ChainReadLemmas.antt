@@ -12,10 +12,10 @@ use Rattle.markdown_base.specs.declared.options.Options.{Options}
 use Rattle.markdown_brackets.specs.LeftList.{Entry}
 use Rattle.markdown_brackets.specs.Openers.{Waiting}
 use Rattle.markdown_brackets.specs.declared.spent_ends.SpentEnds.{SpentEnds}
-use Rattle.markdown_document.specs.Above.{Above, above_at, inside_all, inside_item, no_blocks}
-use Rattle.markdown_document.specs.Document.{plain_tags}
+use Rattle.markdown_document.specs.EnclosingBlocks.{EnclosingBlocks, above_at, inside_all, inside_item, no_blocks}
+use Rattle.markdown_document.specs.Document.{no_notes}
 use Rattle.markdown_document.specs.Setting.{Setting, rules_from, setting_of}
-use Rattle.markdown_document.specs.Stages.{stage, above_cursor}
+use Rattle.markdown_document.specs.ResolverStates.{resolver_state, above_cursor}
 use Rattle.markdown_document.specs.Tables.{Tables, tables_of}
 use Rattle.markdown_document.proofs.CallbackLemmas.{Asks-some}
 use Rattle.markdown_resolver.specs.ChainPlace.{CanReadItem, CanReadOn, IsPlaceOf}
@@ -49,7 +49,7 @@ same_setting text text' options options' held held' asks asks' of_text of_option
 
 -- the blocks above a chain stay where it is changed
 inside_changed : (source : List ℕ) (l : Option ℕ) (old new : List (Node Item)) (tables tables' : Tables)
-    (spine : List ℕ) (outer : Above)
+    (spine : List ℕ) (outer : EnclosingBlocks)
     → ChangesChain source l old new tables tables' → AreAbove source old l spine → inside_all new spine outer
     ≡ inside_all old spine outer
 inside_changed source l old new tables tables' [] outer c above = refl
@@ -76,8 +76,8 @@ pub record ReadsUpTo {C : Type 0} (step : C → Question → Option Answer → C
   pub tree : now ≡ record old { nodes = now.nodes }
   pub begun : SpentEnds
   pub none : AreSpent begun []
-  pub reads : ReadsOn step s (above_cursor s.text old) first (Some first) at [] (stage old held limit callback)
-      (stage now held' limit' callback') begun spent brackets wikilinks
+  pub reads : ReadsOn step s (above_cursor s.text old) first (Some first) at [] (resolver_state old held limit callback)
+      (resolver_state now held' limit' callback') begun spent brackets wikilinks
   pub unread : IsUnread (trees_from s.text (tables_of held') now.nodes at)
 
 -- none of it was read yet
@@ -88,7 +88,7 @@ pub up_to_none : {C : Type 0} (step : C → Question → Option Answer → C →
     → wikilinks ≡ []
     → ReadsUpTo step s first (Some first) old old held held limit limit callback callback spent brackets wikilinks
 up_to_none step s first old held limit callback spent brackets wikilinks ready unread none no_brackets no_wikilinks =
-    let at = stage old held limit callback in
+    let at = resolver_state old held limit callback in
     let above = above_cursor s.text old in
     record {
       tree = refl;
@@ -128,8 +128,8 @@ module _ {C : Type 0} {step : C → Question → Option Answer → C → Type 0}
       let above : above_cursor place.text.now now ≡ above_cursor place.text.now old = rw text same_above in
       record {
         stands = record {
-          block_end = stands.block_end ∙ ap (λ (a : Above). a.block_end) (sym above);
-          in_table = stands.in_table ∙ ap (λ (a : Above). a.in_table) (sym above);
+          block_end = stands.block_end ∙ ap (λ (a : EnclosingBlocks). a.block_end) (sym above);
+          in_table = stands.in_table ∙ ap (λ (a : EnclosingBlocks). a.in_table) (sym above);
           boundary = stands.boundary;
           utf8 = stands.utf8;
         };
@@ -144,14 +144,15 @@ module _ {C : Type 0} {step : C → Question → Option Answer → C → Type 0}
       (callback'' : Option C) (spent'' : SpentEnds) (brackets'' wikilinks'' : List Waiting) → s' ≡ s → at ≡ Some ix
       → new ≡ record now { nodes = new.nodes }
       → ReadsOn step s' (above_cursor s'.text now) first (Some ix) next r.reads.left_then
-      (stage now held' limit' callback') (stage new held'' limit'' callback'') spent spent'' brackets'' wikilinks''
+      (resolver_state now held' limit' callback')
+      (resolver_state new held'' limit'' callback'') spent spent'' brackets'' wikilinks''
       → (IsUnread (trees_from s'.text (tables_of held') now.nodes (Some ix))
       → IsUnread (trees_from s'.text (tables_of held'') new.nodes next))
       → ReadsUpTo step s first next old new held held'' limit limit'' callback callback'' spent'' brackets'' wikilinks''
   up_to_more s' ix next new held'' limit'' callback'' spent'' brackets'' wikilinks'' same is e reads unread =
-      let before = stage old held limit callback in
-      let between = stage now held' limit' callback' in
-      let after = stage new held'' limit'' callback'' in
+      let before = resolver_state old held limit callback in
+      let between = resolver_state now held' limit' callback' in
+      let after = resolver_state new held'' limit'' callback'' in
       let from : ReadsOn step s' (above_cursor s'.text now) first at next r.reads.left_then between after spent spent''
       brackets'' wikilinks'' =
       subst (λ (l : Option ℕ). ReadsOn step s' (above_cursor s'.text now) first l next r.reads.left_then between after
@@ -160,7 +161,8 @@ module _ {C : Type 0} {step : C → Question → Option Answer → C → Type 0}
       brackets'' wikilinks'' =
       subst (λ (x : Setting). ReadsOn step x (above_cursor x.text now) first at next r.reads.left_then between after
       spent spent'' brackets'' wikilinks'') same from in
-      let there = subst (λ (a : Above). ReadsOn step s a first at next r.reads.left_then between after spent spent''
+      let there = subst (λ (a : EnclosingBlocks). ReadsOn step s a first at next r.reads.left_then between after spent
+      spent''
       brackets'' wikilinks'') same_above here in
       record {
         tree = e ∙ ap (λ (t : Arena Item). let u : Arena Item = record t { nodes = new.nodes } in u) r.tree;
@@ -173,29 +175,32 @@ module _ {C : Type 0} {step : C → Question → Option Answer → C → Type 0}
       }
 
   -- it was read to its end
-  pub up_to_all : at ≡ None → ResolvesFrom step s.text (pass_one s plain_tags (above_cursor s.text old)) (Some first)
-      (stage old held limit callback) (stage now held' limit' callback')
+  pub up_to_all : at ≡ None → ResolvesFrom step s.text (pass_one s no_notes (above_cursor s.text old)) (Some first)
+      (resolver_state old held limit callback) (resolver_state now held' limit' callback')
   up_to_all none =
-      let before = stage old held limit callback in
-      let after = stage now held' limit' callback' in
+      let before = resolver_state old held limit callback in
+      let after = resolver_state now held' limit' callback' in
       reads_on_all step s (above_cursor s.text old) first before after r.begun spent brackets wikilinks r.none
       (subst (λ (l : Option ℕ). ReadsOn step s (above_cursor s.text old) first (Some first) l [] before after r.begun
       spent brackets wikilinks) none r.reads)
 
   -- memory was refused to what follows
   pub up_to_stops : (s' : Setting) (ix : ℕ) (callback'' : Option C) → s' ≡ s → at ≡ Some ix
-      → StopsOn step s' (above_cursor s'.text now) (Some ix) r.reads.left_then (stage now held' limit' callback') spent
-      callback'' → StopsInPassOne step s (above_cursor s.text old) first (stage old held limit callback) callback''
+      → StopsOn step s' (above_cursor s'.text now) (Some ix) r.reads.left_then
+      (resolver_state now held' limit' callback') spent
+      callback'' → StopsInPassOne step s (above_cursor s.text old) first
+      (resolver_state old held limit callback) callback''
   up_to_stops s' ix callback'' same is stops =
-      let before = stage old held limit callback in
-      let between = stage now held' limit' callback' in
+      let before = resolver_state old held limit callback in
+      let between = resolver_state now held' limit' callback' in
       let from : StopsOn step s' (above_cursor s'.text now) at r.reads.left_then between spent callback'' =
       subst (λ (l : Option ℕ). StopsOn step s' (above_cursor s'.text now) l r.reads.left_then between spent callback'')
       (sym is) stops in
       let here : StopsOn step s (above_cursor s.text now) at r.reads.left_then between spent callback'' =
       subst (λ (x : Setting). StopsOn step x (above_cursor x.text now) at r.reads.left_then between spent callback'')
       same from in
-      let there = subst (λ (a : Above). StopsOn step s a at r.reads.left_then between spent callback'') same_above here
+      let there = subst (λ (a : EnclosingBlocks). StopsOn step s a at r.reads.left_then between spent callback'')
+      same_above here
       in
       stops_pass_one step s (above_cursor s.text old) first before r.begun callback'' r.none
       (stops_later step s (above_cursor s.text old) first (Some first) at [] before between r.begun spent brackets

@@ -15,10 +15,10 @@ use Rattle.markdown_base.specs.declared.item.Item.{Item}
 use Rattle.markdown_base.specs.declared.item.ItemBody.{ItemBody}
 use Rattle.markdown_base.specs.declared.node.Node.{Node}
 use Rattle.markdown_base.specs.declared.options.Options.{Options}
-use Rattle.markdown_brackets.specs.BracketDecision.{Around, Becomes, Closing, Progress, decided}
+use Rattle.markdown_brackets.specs.BracketDecision.{BracketContext, Becomes, Closing, Progress, decided}
 use Rattle.markdown_brackets.specs.Decides.{Decides, EachOpener, StandsBefore, CanTry}
 use Rattle.markdown_brackets.specs.ClosingBracket.{put}
-use Rattle.markdown_brackets.specs.DecisionView.{GoesOnBehind, IsBecome, around_at}
+use Rattle.markdown_brackets.specs.DecisionView.{GoesOnAfter, IsBecome, bracket_context_at}
 use Rattle.markdown_brackets.specs.Finish.{LeftRises, SplitsAs}
 use Rattle.markdown_brackets.specs.LeftList.{Entry}
 use Rattle.markdown_brackets.specs.HeldOpeners.{brackets_of, wikilinks_of}
@@ -29,8 +29,8 @@ use Rattle.markdown_brackets.specs.declared.chain_openers.ChainOpeners.{ChainOpe
 use Rattle.markdown_brackets.specs.declared.closing_bracket.ClosedBracket.{ClosedBracket}
 use Rattle.markdown_brackets.specs.declared.spent_ends.SpentEnds.{SpentEnds}
 use Rattle.markdown_document.specs.declared.chain_place.ChainPlace.{ChainPlace}
-use Rattle.markdown_document.specs.Above.{Above}
-use Rattle.markdown_document.specs.Stages.{above_cursor}
+use Rattle.markdown_document.specs.EnclosingBlocks.{EnclosingBlocks}
+use Rattle.markdown_document.specs.ResolverStates.{above_cursor}
 use Rattle.markdown_document.specs.ChainRest.{end_of}
 use Rattle.markdown_document.specs.Setting.{Rules, rules_from, setting_of, uses_of}
 use Rattle.markdown_document.specs.Tables.{Tables, tables_of}
@@ -38,14 +38,14 @@ use Rattle.markdown_base.specs.EnabledOptions.{gfm_footnotes_on}
 use Rattle.markdown_spans.specs.Finds.{prefix_below}
 use Rattle.markdown_spans.specs.PrefixView.{length_by}
 use Rattle.markdown_spans.specs.declared.prefixes.ContainerPrefix.{ContainerPrefix}
-use Rattle.markdown_resolver.specs.declared.rest.Rest.{Rest}
+use Rattle.markdown_resolver.specs.declared.continuation.Continuation.{Continuation}
 use Rattle.markdown_resolver.specs.ChainPlace.{CanReadOn, IsPlaceOf}
 use Rattle.markdown_resolver.specs.Chains.{CanResolve}
 use Rattle.markdown_resolver.specs.Closes.{ClosesAt, PutsClosed, closing_at}
-use Rattle.markdown_resolver.specs.PassOne.{around}
+use Rattle.markdown_resolver.specs.PassOne.{bracket_context}
 use Rattle.markdown_resolver.specs.ReadOn.{IsOpener, ReadsOn, StandsTo}
 use Rattle.markdown_resolver.specs.ReadsBracket.{CanReadNode, DecidesClosing, ReadsBracket, StopsAtNode, WasReadTo}
-use Rattle.markdown_resolver.specs.ReadsBracket.{setting_by, stage_by, ChangesForDecision}
+use Rattle.markdown_resolver.specs.ReadsBracket.{setting_by, resolver_state_by, ChangesForDecision}
 use Rattle.markdown_resolver.specs.declared.resolver.Resolver.{Resolver}
 use Rattle.markdown_resolver.proofs.ChainPlaceLemmas.{prefix_is}
 use Rattle.markdown_resolver.proofs.CloserOnLemmas.{reads_on_closer, stops_at_closer}
@@ -63,7 +63,7 @@ use Rattle.markdown_resolver.specs.Unread.{IsUnread}
 use Rattle.markdown_document.specs.Places.{trees_from}
 use Rattle.markdown_document.specs.Waiting.{waits_for_pairing}
 use Rattle.markdown_base.specs.Item.{is_open}
-use Rattle.markdown_brackets.specs.Reference.{could_be_reference, is_closer}
+use Rattle.markdown_brackets.specs.Reference.{could_be_reference, is_closing_bracket}
 use Rattle.markdown_resolver.proofs.OpenerReadLemmas.{closer_body}
 
 -- a prefix is that of the lines of a chain at a place
@@ -72,12 +72,12 @@ pub record IsPrefixOf (place : ChainPlace) (prefix : ContainerPrefix) (tree : Ar
   pub gfm : prefix.gfm_footnotes ≡ gfm_footnotes_on place.options
 
 -- brackets are decided by the rules of pass one
-pub around_is : (place : ChainPlace) (prefix : ContainerPrefix) (tree : Arena Item) (source : List ℕ)
+pub context_is : (place : ChainPlace) (prefix : ContainerPrefix) (tree : Arena Item) (source : List ℕ)
     (options : Options) (held : Allocated) (asks : Bool)
     → place.text.now ≡ source → place.options ≡ options → IsPlaceOf place tree → IsPrefixOf place prefix tree
-    → around_at place (length_by prefix) (above_cursor source tree).bodies held.refdefs held.footdefs asks
-    ≡ around (setting_of source (rules_from options held asks)) (above_cursor source tree)
-around_is place prefix tree source options held asks text options_are stands is =
+    → bracket_context_at place (length_by prefix) (above_cursor source tree).bodies held.refdefs held.footdefs asks
+    ≡ bracket_context (setting_of source (rules_from options held asks)) (above_cursor source tree)
+context_is place prefix tree source options held asks text options_are stands is =
     let s = setting_of source (rules_from options held asks) in
     let above = above_cursor source tree in
     let by : (bytes : List ℕ) → length_by prefix bytes ≡ prefix_below s above bytes = λ bytes.
@@ -89,7 +89,8 @@ around_is place prefix tree source options held asks text options_are stands is 
     let in_table : place.in_table ≡ above.in_table = stands.in_table
     ∙ ap (λ (t : List ℕ). (above_cursor t tree).in_table) text in
     rw (text, block_end, in_table, options_are)
-    (ap (λ (skipped : List ℕ → ℕ). let w : Around = record { setting = s; above = above; skipped = skipped } in w) rule)
+    (ap (λ (skipped : List ℕ
+    → ℕ). let w : BracketContext = record { setting = s; above = above; skipped = skipped } in w) rule)
 
 -- a `]` has a byte
 some_byte : (source : List ℕ) (tables : Tables) (nodes : List (Node Item)) (ix : ℕ) (could_be : Bool)
@@ -132,7 +133,7 @@ module _ {place : ChainPlace} {tree : Arena Item} {held : Allocated} {brackets w
 
 -- it was decided what becomes of a `]`: the left list that is left is where the first was, its numbers rise, and the
 -- result can be put in place
-pub record MayClose (source : List ℕ) (tables : Tables) (nodes : List (Node Item)) (first ix : ℕ) (w : Around)
+pub record MayClose (source : List ℕ) (tables : Tables) (nodes : List (Node Item)) (first ix : ℕ) (w : BracketContext)
     (c : Closing ℕ) (left_then : List (Entry ℕ)) (becomes : Becomes ℕ) : Type 0 where
   pub stands : StandsTo source tables nodes first (Some ix) left_then
   pub before : StandsBefore nodes ix left_then c
@@ -140,25 +141,26 @@ pub record MayClose (source : List ℕ) (tables : Tables) (nodes : List (Node It
   pub closes : ClosesAt source tables nodes first ix left_then w c becomes
 
 pub may_close : {C : Type 0} (step : C → Question → Option Answer → C → Type 0) (source : List ℕ) (rules : Rules)
-    (above : Above) (tables : Tables) (nodes : List (Node Item)) (first ix : ℕ) (left : List (Entry ℕ))
+    (above : EnclosingBlocks) (tables : Tables) (nodes : List (Node Item)) (first ix : ℕ) (left : List (Entry ℕ))
     (could_be : Bool) (limit limit' : ℕ) (uses uses' : List ℕ → ℕ) (spent spent' : SpentEnds)
     (callback callback' : Option C) (brackets wikilinks : List Waiting) (found : ClosedBracket)
     → IsUtf8 source → StandsTo source tables nodes first (Some ix) left
     → IsUnread (trees_from source tables nodes (Some ix)) → (item_at nodes ix).body ≡ body.MaybeLinkClose could_be
-    → (d : Decides step (around (setting_of source rules) above) (closing_at source tables nodes spent could_be ix)
+    → (d : Decides step (bracket_context (setting_of source rules) above)
+    (closing_at source tables nodes spent could_be ix)
     left limit limit' uses uses' spent spent' callback callback' brackets wikilinks found)
-    → MayClose source tables nodes first ix (around (setting_of source rules) above)
+    → MayClose source tables nodes first ix (bracket_context (setting_of source rules) above)
     (closing_at source tables nodes spent could_be ix) d.left_then d.becomes
 may_close step source rules above tables nodes first ix left could_be limit limit' uses uses' spent spent' callback
     callback' brackets wikilinks found utf8 h unread is d =
-    let w = around (setting_of source rules) above in
+    let w = bracket_context (setting_of source rules) above in
     let c = closing_at source tables nodes spent could_be ix in
     let p : Progress ℕ = record {
       left = left;
       goes_on = None;
       spent = [];
       asked = [];
-      known = record {
+      state = record {
         limit = limit;
         answers = d.answers ++ [];
         uses = uses;
@@ -170,7 +172,7 @@ may_close step source rules above tables nodes first ix left could_be limit limi
       goes_on = None;
       spent = d.more ++ [];
       asked = [] ++ d.questions;
-      known = record { limit = limit'; answers = []; uses = uses' };
+      state = record { limit = limit'; answers = []; uses = uses' };
       made = 0;
     } in
     let decides : decided w c p ≡ record { becomes = d.becomes; progress = q } = d.decides p [] in
@@ -183,7 +185,7 @@ may_close step source rules above tables nodes first ix left could_be limit limi
       closes = record {
         stands = stands;
         closes = (could_be, is);
-        label_is = refl;
+        node_is = refl;
         rest_is = refl;
         text_is = refl;
         unmade = unmade_after (stands_rest h) (ap is_open is) (ap waits_for_pairing is) unread;
@@ -196,13 +198,13 @@ may_close step source rules above tables nodes first ix left could_be limit limi
 pub decides_here : {C E : Type 0} (step : C → Question → Option Answer → C → Type 0) (place : ChainPlace)
     (prefix : ContainerPrefix) (tree : Arena Item) (old new : Resolver C) (ix : ℕ) (r : Result ClosedBracket E)
     → place.text.now ≡ old.text.now → place.options ≡ old.options → IsPrefixOf place prefix tree
-    → is_closer (item_at tree.nodes ix).body ≡ true
+    → is_closing_bracket (item_at tree.nodes ix).body ≡ true
     → IfOk r (λ found. (bodies : List ItemBody) (skipped : List ℕ → ℕ) (left : List (Entry ℕ)) (c : Closing ℕ)
-    → GoesOnBehind (λ rest. Some (length_by prefix rest)) skipped → StandsBefore tree.nodes ix left c
+    → GoesOnAfter (λ rest. Some (length_by prefix rest)) skipped → StandsBefore tree.nodes ix left c
     → c.could_be_reference
-    ≡ (could_be_reference (item_at tree.nodes ix).body && not (is_spent old.waiting.spent (end_of c.label)))
+    ≡ (could_be_reference (item_at tree.nodes ix).body && not (is_spent old.waiting.spent (end_of c.node)))
     → old.waiting.openers.brackets ≡ brackets_of left → old.waiting.openers.wikilinks ≡ wikilinks_of left
-    → Decides step (around_at place skipped bodies old.lookup.tables.refdefs old.lookup.tables.footdefs
+    → Decides step (bracket_context_at place skipped bodies old.lookup.tables.refdefs old.lookup.tables.footdefs
     (is_some old.lookup.callback)) c
     left old.lookup.limit new.lookup.limit (uses_of old.lookup.tables.footdefs) (uses_of new.lookup.tables.footdefs)
     old.waiting.spent
@@ -216,14 +218,15 @@ decides_here step place prefix tree old new ix (Ok found) text options_are prefi
       let before = stands_before can.so_far refl refl (closer_body (item_at tree.nodes ix).body closes) in
       let d = decides (above_cursor place.text.now tree).bodies (length_by prefix) left c (λ rest. refl) before refl
       can.openers.brackets_are can.openers.wikilinks_are in
-      let here = subst (λ (w : Around). Decides step w c left old.lookup.limit new.lookup.limit (uses_of held.footdefs)
+      let here = subst (λ (w : BracketContext). Decides step w c left old.lookup.limit new.lookup.limit
+      (uses_of held.footdefs)
       (uses_of new.lookup.tables.footdefs) old.waiting.spent new.waiting.spent old.lookup.callback new.lookup.callback
       new.waiting.openers.brackets new.waiting.openers.wikilinks found)
-      (around_is place prefix tree place.text.now old.options held (is_some old.lookup.callback) refl options_are
+      (context_is place prefix tree place.text.now old.options held (is_some old.lookup.callback) refl options_are
       can.stands prefix_is_its) d
       in
       subst (λ (t : List ℕ). Decides step
-      (around (setting_of t (rules_from old.options held (is_some old.lookup.callback)))
+      (bracket_context (setting_of t (rules_from old.options held (is_some old.lookup.callback)))
       (above_cursor t tree)) (closing_at t (tables_of held) tree.nodes old.waiting.spent could_be ix) left
       old.lookup.limit
       new.lookup.limit (uses_of held.footdefs) (uses_of new.lookup.tables.footdefs) old.waiting.spent new.waiting.spent
@@ -234,7 +237,7 @@ decides_here step place prefix tree old new ix (Err fault) text options_are pref
 
 -- what is left after a `]` was not read
 unread_closed : (source : List ℕ) (tables tables' : Tables) (old new : List (Node Item)) (first closer : ℕ)
-    (rest : Rest) (left : List (Entry ℕ)) (w : Around) (c : Closing ℕ) (becomes : Becomes ℕ)
+    (rest : Continuation) (left : List (Entry ℕ)) (w : BracketContext) (c : Closing ℕ) (becomes : Becomes ℕ)
     → CanResolve source tables old (Some closer)
     → PutsClosed source first closer rest left w c becomes old new tables tables'
     → IsUnread (trees_from source tables old (Some closer)) → IsUnread (trees_from source tables' new rest.next)
@@ -244,7 +247,7 @@ unread_closed source tables tables' old new first closer rest left w c becomes r
       goes_on = None;
       spent = [];
       asked = [];
-      known = record { limit = 0; answers = []; uses = λ n. 0 };
+      state = record { limit = 0; answers = []; uses = λ n. 0 };
       made = 0;
     } in
     rw (puts.rest_is p refl)
@@ -255,7 +258,7 @@ unread_closed source tables tables' old new first closer rest left w c becomes r
 module _ {C : Type 0} (step : C → Question → Option Answer → C → Type 0) (place : ChainPlace) (tree : Arena Item)
     (old mid : Resolver C)
     (found : ClosedBracket) (ix : ℕ) (can : CanReadNode place tree old ix) (text_is : IsUtf8 place.text.now)
-    (is_close : is_closer (item_at tree.nodes ix).body ≡ true) (changes : ChangesForDecision old mid)
+    (is_close : is_closing_bracket (item_at tree.nodes ix).body ≡ true) (changes : ChangesForDecision old mid)
     (decision : DecidesClosing step place tree ix old mid found) where
   utf8 : IsUtf8 old.text.now
   utf8 = subst IsUtf8 can.text text_is
@@ -269,8 +272,8 @@ module _ {C : Type 0} (step : C → Question → Option Answer → C → Type 0)
   tables : tables_of mid.lookup.tables ≡ tables_of old.lookup.tables
   tables = ap (λ (r : Resolver C). tables_of r.lookup.tables) changes.kept
 
-  abbrev around_here : Around
-  around_here = around (setting_by old) (above_cursor old.text.now tree)
+  abbrev context_here : BracketContext
+  context_here = bracket_context (setting_by old) (above_cursor old.text.now tree)
 
   abbrev closing_here : Closing ℕ
   closing_here = closing_at old.text.now (tables_of old.lookup.tables) tree.nodes old.waiting.spent could_be ix
@@ -281,7 +284,7 @@ module _ {C : Type 0} (step : C → Question → Option Answer → C → Type 0)
 
   closes_here : (first : ℕ) (left : List (Entry ℕ)) (was_read : WasReadTo place tree old first ix left)
       → (let d = decision.decides first left was_read in
-      MayClose old.text.now (tables_of old.lookup.tables) tree.nodes first ix around_here closing_here d.left_then
+      MayClose old.text.now (tables_of old.lookup.tables) tree.nodes first ix context_here closing_here d.left_then
       d.becomes)
   closes_here first left was_read =
       may_close step old.text.now (rules_from old.options old.lookup.tables (is_some old.lookup.callback))
@@ -294,11 +297,12 @@ module _ {C : Type 0} (step : C → Question → Option Answer → C → Type 0)
 
   closes_there : (first : ℕ) (left : List (Entry ℕ)) (was_read : WasReadTo place tree old first ix left)
       → (let d = decision.decides first left was_read in
-      ClosesAt old.text.now (tables_of mid.lookup.tables) tree.nodes first ix d.left_then around_here closing_here
+      ClosesAt old.text.now (tables_of mid.lookup.tables) tree.nodes first ix d.left_then context_here closing_here
       d.becomes)
   closes_there first left was_read =
       let d = decision.decides first left was_read in
-      subst (λ (t : Tables). ClosesAt old.text.now t tree.nodes first ix d.left_then around_here closing_here d.becomes)
+      subst (λ (t : Tables). ClosesAt old.text.now t tree.nodes first ix d.left_then context_here closing_here
+      d.becomes)
       (sym tables) (closes_here first left was_read).closes
 
   -- it can be put in place: the openers that are left are nodes
@@ -306,9 +310,9 @@ module _ {C : Type 0} (step : C → Question → Option Answer → C → Type 0)
     pub within : EachOpener (λ n. n < length tree.nodes) mid.waiting.openers.wikilinks
     pub left_then : List (Entry ℕ)
     pub becomes : Becomes ℕ
-    pub closes : ClosesAt old.text.now (tables_of mid.lookup.tables) tree.nodes can.first ix left_then around_here
+    pub closes : ClosesAt old.text.now (tables_of mid.lookup.tables) tree.nodes can.first ix left_then context_here
         closing_here becomes
-    pub is_become : IsBecome around_here becomes found
+    pub is_become : IsBecome context_here becomes found
 
   pub may_put : MayPut
   may_put =
@@ -327,8 +331,8 @@ module _ {C : Type 0} (step : C → Question → Option Answer → C → Type 0)
   -- it was put in place, or memory was refused
   module _ (tree' : Arena Item) (held : Allocated) (openers : ChainOpeners) where
     -- what is put in place, whatever was decided
-    abbrev pub PutsEach : Rest → Type 0
-    PutsEach rest = (source : List ℕ) (first : ℕ) (left : List (Entry ℕ)) (w : Around) (c : Closing ℕ)
+    abbrev pub PutsEach : Continuation → Type 0
+    PutsEach rest = (source : List ℕ) (first : ℕ) (left : List (Entry ℕ)) (w : BracketContext) (c : Closing ℕ)
         (becomes : Becomes ℕ)
         → ClosesAt source (tables_of mid.lookup.tables) tree.nodes first ix left w c becomes → IsBecome w becomes found
         → PutsClosed source first ix rest left w c becomes tree.nodes tree'.nodes (tables_of mid.lookup.tables)
@@ -336,7 +340,7 @@ module _ {C : Type 0} (step : C → Question → Option Answer → C → Type 0)
 
     -- and what the stacks hold then
     abbrev pub FinishesEach : Type 0
-    FinishesEach = (w : Around) (c : Closing ℕ) (closer : ℕ) (left : List (Entry ℕ)) (becomes : Becomes ℕ)
+    FinishesEach = (w : BracketContext) (c : Closing ℕ) (closer : ℕ) (left : List (Entry ℕ)) (becomes : Becomes ℕ)
         (p : Progress ℕ)
         → StandsBefore tree.nodes closer left c → LeftRises left → SplitsAs left becomes → IsBecome w becomes found
         → mid.waiting.openers.brackets ≡ brackets_of left → mid.waiting.openers.wikilinks ≡ wikilinks_of left → p.left
@@ -349,17 +353,20 @@ module _ {C : Type 0} (step : C → Question → Option Answer → C → Type 0)
       waiting = record mid.waiting { openers = openers };
     }
 
-    puts_here : (rest : Rest) (first : ℕ) (left : List (Entry ℕ)) (was_read : WasReadTo place tree old first ix left)
+    puts_here : (rest : Continuation) (first : ℕ) (left : List (Entry ℕ))
+        (was_read : WasReadTo place tree old first ix left)
         → PutsEach rest → (let d = decision.decides first left was_read in
-        PutsClosed old.text.now first ix rest d.left_then around_here closing_here d.becomes tree.nodes tree'.nodes
+        PutsClosed old.text.now first ix rest d.left_then context_here closing_here d.becomes tree.nodes tree'.nodes
         (tables_of old.lookup.tables) (tables_of held))
     puts_here rest first left was_read puts =
         let d = decision.decides first left was_read in
-        subst (λ (t : Tables). PutsClosed old.text.now first ix rest d.left_then around_here closing_here d.becomes
+        subst (λ (t : Tables). PutsClosed old.text.now first ix rest d.left_then context_here closing_here d.becomes
         tree.nodes tree'.nodes t (tables_of held)) tables
-        (puts old.text.now first d.left_then around_here closing_here d.becomes (closes_there first left was_read) d.is)
+        (puts old.text.now first d.left_then context_here closing_here d.becomes
+        (closes_there first left was_read) d.is)
 
-    pub reads_closed : {E : Type 0} (r : Result Rest E) → held.footdefs ≡ mid.lookup.tables.footdefs → FinishesEach
+    pub reads_closed : {E : Type 0} (r : Result Continuation E) → held.footdefs ≡ mid.lookup.tables.footdefs
+        → FinishesEach
         → IfOk r PutsEach → IfOk r (λ rest. tree' ≡ record tree { nodes = tree'.nodes })
         → IfOk r (λ rest. ReadsBracket step place ix rest tree tree' old put_then)
     reads_closed (Ok rest) footdefs finishes puts place_is =
@@ -371,21 +378,23 @@ module _ {C : Type 0} (step : C → Question → Option Answer → C → Type 0)
                 let m = closes_here first left was_read in
                 subst (λ (f : FootnoteDefs). ReadsOn step (setting_by old) (above_cursor old.text.now tree) first
                 (Some ix) rest.next left
-                (stage_by tree old) (record (stage_by tree' put_then) { uses = uses_of f }) old.waiting.spent
+                (resolver_state_by tree old) (record
+                (resolver_state_by tree' put_then) { uses = uses_of f }) old.waiting.spent
                 mid.waiting.spent openers.brackets openers.wikilinks) (sym footdefs)
                 (reads_on_closer step (setting_by old) (above_cursor old.text.now tree) first ix left could_be
-                (stage_by tree old)
-                (record (stage_by tree' put_then) { uses = uses_of mid.lookup.tables.footdefs }) old.waiting.spent
+                (resolver_state_by tree old)
+                (record (resolver_state_by tree' put_then) { uses = uses_of mid.lookup.tables.footdefs })
+                old.waiting.spent
                 mid.waiting.spent mid.waiting.openers.brackets
                 mid.waiting.openers.wikilinks found rest openers.brackets openers.wikilinks d
                 (here_stands first left was_read) is (puts_here rest first left was_read puts) (record {
-                  holds = λ q e. finishes around_here closing_here ix d.left_then d.becomes q m.before m.rises d.splits
+                  holds = λ q e. finishes context_here closing_here ix d.left_then d.becomes q m.before m.rises d.splits
                       d.is d.brackets_are d.wikilinks_are e;
                 }));
             passes = here.passes;
             unread = λ h. unread_closed old.text.now (tables_of old.lookup.tables) (tables_of held) tree.nodes
                 tree'.nodes can.first ix rest
-                (decision.decides can.first can.left can.was_read).left_then around_here closing_here
+                (decision.decides can.first can.left can.was_read).left_then context_here closing_here
                 (decision.decides can.first can.left can.was_read).becomes
                 (stands_rest (here_stands can.first can.left can.was_read)) here h;
             place_is = place_is;
@@ -394,10 +403,12 @@ module _ {C : Type 0} (step : C → Question → Option Answer → C → Type 0)
         }
     reads_closed (Err fault) footdefs finishes puts place_is = tt
 
-  pub stops_decided : {E : Type 0} (r : Result Rest E)
+  pub stops_decided : {E : Type 0} (r : Result Continuation E)
       → IfErr r (λ fault. StopsAtNode step place ix tree old mid.lookup.callback)
   stops_decided (Ok rest) = tt
   stops_decided (Err fault) = λ first left was_read.
-      stops_at_closer step (setting_by old) (above_cursor old.text.now tree) first ix left could_be (stage_by tree old)
-      (stage_by tree mid) old.waiting.spent mid.waiting.spent mid.waiting.openers.brackets mid.waiting.openers.wikilinks
+      stops_at_closer step (setting_by old) (above_cursor old.text.now tree) first ix left could_be
+      (resolver_state_by tree old)
+      (resolver_state_by tree mid) old.waiting.spent mid.waiting.spent mid.waiting.openers.brackets
+      mid.waiting.openers.wikilinks
       found (decision.decides first left was_read) (here_stands first left was_read) is

@@ -10,7 +10,7 @@ use Rattle.markdown_base.specs.declared.item.Item.{Item}
 use Rattle.markdown_base.specs.declared.item.ItemBody.{ItemBody}
 use Rattle.markdown_base.specs.declared.item.ItemBody.TheVariants as body
 use Rattle.markdown_base.specs.declared.node.Node.{Node}
-use Rattle.markdown_brackets.specs.BracketDecision.{Around, Becomes, Closing, a_link}
+use Rattle.markdown_brackets.specs.BracketDecision.{BracketContext, Becomes, Closing, a_link}
 use Rattle.markdown_brackets.specs.ClosingBracket.{linked}
 use Rattle.markdown_brackets.specs.DecisionView.{IsBecome, opener_of}
 use Rattle.markdown_brackets.specs.LeftList.{Entry, Split, inside}
@@ -20,14 +20,14 @@ use Rattle.markdown_brackets.specs.declared.closing_bracket.ClosedBracket.TheVar
 use Rattle.markdown_brackets.specs.declared.look_up.Target.{Target}
 use Rattle.markdown_brackets.specs.declared.openers.Opener.{Opener}
 use Rattle.markdown_document.specs.ChainRest.{start_of, end_of}
-use Rattle.markdown_document.specs.Document.{Label, Plain, enclosed, label_of}
+use Rattle.markdown_document.specs.Document.{TreeNode, Plain, enclosed, tree_node_of}
 use Rattle.markdown_document.specs.LinkOrigins.{IsLinkFrom, IsTitleFrom, LinkOrigins, destination_origin}
 use Rattle.markdown_document.specs.Origins.{made, origin_of}
 use Rattle.markdown_document.specs.Tables.{Tables, link_at, link_origins, tables_of}
-use Rattle.markdown_resolver.specs.declared.rest.Rest.{Rest}
+use Rattle.markdown_resolver.specs.declared.continuation.Continuation.{Continuation}
 use Rattle.markdown_resolver.specs.ClosedOver.{CanClose, CanPutOver, PutsOver, over_inside}
 use Rattle.markdown_resolver.specs.Closes.{ClosesAt, PutsClosed}
-use Rattle.markdown_resolver.specs.PutsTrees.{numbered_label, without_numbers}
+use Rattle.markdown_resolver.specs.PutsTrees.{numbered_node, without_numbers}
 use Rattle.markdown_resolver.proofs.MarkupItemLemmas.{can_put_link, link_over, PutsLink, link_put}
 use Rattle.markdown_resolver.proofs.CloseLemmas.{OpenerAt, can_close, opener_at, opener_before, puts_closed}
 use Rattle.markdown_resolver.proofs.CloseLemmas.{quiet_inside}
@@ -44,7 +44,7 @@ pub record BecomesLink (text : List ℕ) (becomes : Becomes ℕ) (opener : Opene
     pub opener_is : opener ≡ opener_of split
     pub from : IsTargetFrom text (start_of split.opener) end found
 
-pub becomes_link : (w : Around) (becomes : Becomes ℕ) (opener : Opener) (found : Target) (end next : ℕ)
+pub becomes_link : (w : BracketContext) (becomes : Becomes ℕ) (opener : Opener) (found : Target) (end next : ℕ)
     → IsBecome w becomes (Link opener found end next) → BecomesLink w.setting.text becomes opener found end next
 becomes_link w (a_link o target e n) opener found end next h = record {
   split = o;
@@ -70,8 +70,8 @@ made_link source start end origins view other title = record { leads = λ slice.
 -- a link reads as its entry
 link_label : (source : List ℕ) (tables : Tables) (tag : ℕ) (is_image : Bool) (number : LinkIndex) (view : LinkView)
     (start start' end : ℕ) → start ≡ start' → link_at tables.links number.0 ≡ view
-    → label_of source tables (link_over is_image number start end) ≡ record {
-      tag = tt;
+    → tree_node_of source tables (link_over is_image number start end) ≡ record {
+      note = tt;
       part = record {
         shape = enclosed (if is_image then image view else link view);
         range = record { start = start'; end = end };
@@ -81,29 +81,29 @@ link_label : (source : List ℕ) (tables : Tables) (tag : ℕ) (is_image : Bool)
 link_label source tables tag true number view start start' end e found = rw (e, found) refl
 link_label source tables tag false number view start start' end e found = rw (e, found) refl
 
-pub linked_label : (source : List ℕ) (tables tables' : Tables) (nodes : List (Node Item)) (o : Split ℕ)
-    (number : LinkIndex) (view : LinkView) (end : ℕ) → o.opener ≡ numbered_label source tables nodes o.opener.tag
-    → PutsLink source (item_at nodes o.opener.tag).start end tables tables' number view
-    → label_of source tables' (link_from nodes (opener_of o) number end)
-    ≡ record { tag = tt; part = (linked o view end).part }
-linked_label source tables tables' nodes o number view end is put =
-    link_label source tables' o.opener.tag o.mark.is_image number view (item_at nodes o.opener.tag).start
-    (start_of o.opener) end (sym (ap (λ (a : Label ℕ). start_of a) is)) put.found
+pub linked_node : (source : List ℕ) (tables tables' : Tables) (nodes : List (Node Item)) (o : Split ℕ)
+    (number : LinkIndex) (view : LinkView) (end : ℕ) → o.opener ≡ numbered_node source tables nodes o.opener.note
+    → PutsLink source (item_at nodes o.opener.note).start end tables tables' number view
+    → tree_node_of source tables' (link_from nodes (opener_of o) number end)
+    ≡ record { note = tt; part = (linked o view end).part }
+linked_node source tables tables' nodes o number view end is put =
+    link_label source tables' o.opener.note o.state.is_image number view (item_at nodes o.opener.note).start
+    (start_of o.opener) end (sym (ap (λ (a : TreeNode ℕ). start_of a) is)) put.found
 
 -- a link that ends between characters, at the `]` or later
 pub link_over_opener : (source : List ℕ) (tables tables' : Tables) (nodes : List (Node Item)) (first closer : ℕ)
     (o : Split ℕ) (number : LinkIndex) (view : LinkView) (end byte : ℕ) → OpenerAt source tables nodes first closer o
-    → PutsLink source (item_at nodes o.opener.tag).start end tables tables' number view → IsCharBoundary source end
+    → PutsLink source (item_at nodes o.opener.note).start end tables tables' number view → IsCharBoundary source end
     → (item_at nodes closer).end ≤ end → end ≤ byte
-    → CanPutOver source tables tables' nodes o.opener.tag (link_from nodes (opener_of o) number end) byte
-link_over_opener source tables tables' nodes first closer o number view end byte at put between behind le =
+    → CanPutOver source tables tables' nodes o.opener.note (link_from nodes (opener_of o) number end) byte
+link_over_opener source tables tables' nodes first closer o number view end byte at put between after le =
     let here = (opens_numbered at.ready).placed.lies in
     let last = (opens_numbered at.ready_closer).placed.lies in
     let before = opener_before at in
     let ordered = here.ordered in
     let ordered' = last.ordered in
     record {
-      puts = can_put_link source tables tables' o.mark.is_image number view (item_at nodes o.opener.tag).start end put
+      puts = can_put_link source tables tables' o.state.is_image number view (item_at nodes o.opener.note).start end put
           (omega arith) here.start between;
       starts = refl;
       ends = le;
@@ -112,12 +112,13 @@ link_over_opener source tables tables' nodes first closer o number view end byte
 -- it can be put in place of an opener, up to a byte offset, once its entry is in its table
 pub record MayLink (source : List ℕ) (tables tables' : Tables) (nodes : List (Node Item)) (closer : ℕ) (o : Split ℕ)
     (opener : Opener) (number : LinkIndex) (view : LinkView) (end byte : ℕ) (item : Item) : Type 0 where
-  pub put : PutsLink source (item_at nodes o.opener.tag).start end tables tables' number view
+  pub put : PutsLink source (item_at nodes o.opener.note).start end tables tables' number view
   pub is : item ≡ link_from nodes opener number end
   pub close : CanClose source tables nodes opener.node closer (inside_numbers o) byte
   pub over : CanPutOver source tables tables' nodes opener.node item byte
 
-pub may_link : {source : List ℕ} {nodes : List (Node Item)} {first closer : ℕ} {left : List (Entry ℕ)} {w : Around}
+pub may_link : {source : List ℕ} {nodes : List (Node Item)} {first closer : ℕ} {left : List
+    (Entry ℕ)} {w : BracketContext}
     {c : Closing ℕ} {o : Split ℕ} {opener : Opener} {view : LinkView} {end byte : ℕ} (held held' : Allocated)
     (parts : LinkParts) (number : LinkIndex) (begin : Item) (b : ItemBody)
     → ClosesAt source (tables_of held) nodes first closer left w c (a_link o view end byte)
@@ -130,25 +131,25 @@ may_link {source} {nodes} {first} {closer} {left} {w} {c} {o} {opener} {view} {e
     b closes is title put last same begins body_is =
     let tables = tables_of held in
     let at = opener_at closes.stands closes.splits in
-    let start = (item_at nodes o.opener.tag).start in
-    let begins_there : start_of o.opener ≡ start = ap (λ (a : Label ℕ). start_of a) at.around.label_is in
+    let start = (item_at nodes o.opener.note).start in
+    let begins_there : start_of o.opener ≡ start = ap (λ (a : TreeNode ℕ). start_of a) at.around.node_is in
     let there = link_put source start end held held' parts number view put last (made_link source start end
     (link_origins parts) view closes.ends.4
     (subst (λ (start : ℕ). IsTitleFrom source start end view.kind (origin_of parts.2) view.title) begins_there title))
     same in
-    let behind : (item_at nodes closer).end ≤ end = subst (λ (a : Label ℕ). end_of a ≤ end) closes.label_is
+    let after : (item_at nodes closer).end ≤ end = subst (λ (a : TreeNode ℕ). end_of a ≤ end) closes.node_is
     closes.ends.2 in
     rw (begins, body_is, is) (record {
       put = there;
       is = refl;
       close = can_close closes at closes.ends.0;
       over = link_over_opener source tables (tables_of held') nodes first closer o number view end byte at there
-          closes.ends.1 behind closes.ends.3;
+          closes.ends.1 after closes.ends.3;
     })
 
 -- so it is in the left list
 pub link_closed : {source : List ℕ} {tables tables' : Tables} {old new : List (Node Item)} {first closer : ℕ}
-    {rest : Rest} {left : List (Entry ℕ)} {w : Around} {c : Closing ℕ} {o : Split ℕ} {opener : Opener}
+    {rest : Continuation} {left : List (Entry ℕ)} {w : BracketContext} {c : Closing ℕ} {o : Split ℕ} {opener : Opener}
     {number : LinkIndex} {view : LinkView} {end byte : ℕ} {item : Item}
     → ClosesAt source tables old first closer left w c (a_link o view end byte) → opener ≡ opener_of o
     → MayLink source tables tables' old closer o opener number view end byte item
@@ -159,7 +160,7 @@ link_closed {source} {tables} {tables'} {old} {new} {first} {closer} {rest} {lef
     {end} {byte} {item} closes is r over =
     let at = opener_at closes.stands closes.splits in
     puts_closed (node (linked o view end) (inside o) nil) closes at (rw (r.is, is) at over)
-    (link_stands source tables old first (Some o.opener.tag) o.before at.stands o.mark.is_image)
+    (link_stands source tables old first (Some o.opener.note) o.before at.stands o.state.is_image)
     (record { left_is = λ p e. refl; goes = λ p. refl }) (ap (λ (a : Plain). node a (without_numbers (inside o)) nil)
-    (linked_label source tables tables' old o number view end at.around.label_is r.put))
+    (linked_node source tables tables' old o number view end at.around.node_is r.put))
     (refl, refl, quiet_inside left o closes.splits closes.stands.quiet, tt) (λ a i. refl)

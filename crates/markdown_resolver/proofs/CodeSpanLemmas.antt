@@ -22,9 +22,9 @@ use Rattle.markdown_base.specs.declared.item.ItemBody.TheVariants as body
 use Rattle.markdown_base.specs.declared.node.Node.{Node}
 use Rattle.markdown_document.specs.Origins.{Origin, origin_at, origin_of}
 use Rattle.markdown_document.specs.PlacedNodes.{IsSlicedOf, IsPlaced}
-use Rattle.markdown_document.specs.Above.{Above}
+use Rattle.markdown_document.specs.EnclosingBlocks.{EnclosingBlocks}
 use Rattle.markdown_document.specs.ChainRest.{as_item}
-use Rattle.markdown_document.specs.Places.{label_at, trees_from}
+use Rattle.markdown_document.specs.Places.{tree_node_at, trees_from}
 use Rattle.markdown_document.specs.Setting.{Rules, Setting}
 use Rattle.markdown_document.specs.Tables.{Tables, text_at, tables_of}
 use Rattle.markdown_document.specs.NamedEntries.{Named, some_text, HasGrown, number_of, size_for, times_named}
@@ -36,16 +36,16 @@ use Rattle.markdown_spans.specs.declared.span_text.SpanKind.TheVariants.{Code}
 use Rattle.markdown_defs.specs.Allocations.{Allocated, LinkParts}
 use Rattle.markdown_defs.specs.AllocationCalls.{with_cow}
 use Rattle.markdown_spans.proofs.SliceLemmas.{sliced_wider}
-use Rattle.markdown_resolver.specs.Rewritten.{CanPut, IsFoundAt, first_past, settled}
+use Rattle.markdown_resolver.specs.Rewritten.{CanPut, IsFoundAt, first_past, literal}
 use Rattle.markdown_resolver.specs.Chains.{CanResolve}
 use Rattle.markdown_resolver.specs.PutCode.{CanPutCode, CanPutSpan, code_standing}
 use Rattle.markdown_resolver.specs.StoredText.{CanCut, StoresText, text_between, origin_between}
-use Rattle.markdown_resolver.proofs.SettlingLemmas.{names_nothing}
+use Rattle.markdown_resolver.proofs.LiteralTextLemmas.{names_nothing}
 use Rattle.markdown_resolver.proofs.PutFoundLemmas.{same_before}
 use Rattle.markdown_resolver.proofs.FollowersLemmas.{InOrder, each_root, followers, nothing_around, opens_chain}
 use Rattle.markdown_resolver.proofs.FollowersLemmas.{order_around}
 use Rattle.markdown_resolver.proofs.ReadsItemLemmas.{ReadsAs, opener_shape, opener_unquiet, read_opener}
-use Rattle.markdown_resolver.proofs.SpanFindLemmas.{StandsAmong, code_close_among, code_close_shown, label_alike}
+use Rattle.markdown_resolver.proofs.SpanFindLemmas.{StandsAmong, code_close_among, code_close_shown, node_alike}
 use Rattle.markdown_resolver.proofs.SpanFindLemmas.{number_alike}
 
 -- the number of a numbered item that was found by its number
@@ -69,27 +69,28 @@ closes_by_number {source} {tables} {nodes} {ix} {count} {escaped} {found} ready 
     (sym is) ∙ closes (suc ix) (map (numbered nodes) xs) o.leads
 
 -- and so what pass one finds there
-code_read : (s : Setting) (above : Above) (tables : Tables) (nodes : List (Node Item)) (ix count : ℕ) (escaped : Bool)
+code_read : (s : Setting) (above : EnclosingBlocks) (tables : Tables) (nodes : List (Node Item)) (ix count : ℕ)
+    (escaped : Bool)
     (found : Option ℕ)
     → CanResolve s.text tables nodes (Some ix) → (item_at nodes ix).body ≡ body.MaybeCode count escaped
-    → ClosesCode nodes ix found → find_by s above (body.MaybeCode count escaped) (label_at s.text tables nodes ix)
+    → ClosesCode nodes ix found → find_by s above (body.MaybeCode count escaped) (tree_node_at s.text tables nodes ix)
     (trees_from s.text tables nodes (sibling_of nodes ix))
-    ≡ code_found s above (label_at s.text tables nodes ix) (option_map (label_at s.text tables nodes) found)
+    ≡ code_found s above (tree_node_at s.text tables nodes ix) (option_map (tree_node_at s.text tables nodes) found)
 code_read s above tables nodes ix count escaped found ready is closes =
     let o = opens_chain ready in
-    let show = label_at s.text tables nodes in
+    let show = tree_node_at s.text tables nodes in
     let xs = followers nodes ix in
     ap (code_found s above (show ix)) (ap (code_close as_item (body.MaybeCode count escaped)) o.labels
-    ∙ code_close_shown as_item show nodes (label_alike s.text tables nodes) count escaped xs
+    ∙ code_close_shown as_item show nodes (node_alike s.text tables nodes) count escaped xs
     ∙ ap (option_map show) (closes_by_number ready is closes))
 
 -- where nothing closes it, a Text is read
-pub nothing_reads : (s : Setting) (above : Above) (tables : Tables) (nodes : List (Node Item)) (ix count : ℕ)
+pub nothing_reads : (s : Setting) (above : EnclosingBlocks) (tables : Tables) (nodes : List (Node Item)) (ix count : ℕ)
     (escaped : Bool) → CanResolve s.text tables nodes (Some ix) → (item_at nodes ix).body ≡ body.MaybeCode count escaped
-    → ClosesCode nodes ix None → ReadsAs s above tables nodes ix (settled s.text) None
+    → ClosesCode nodes ix None → ReadsAs s above tables nodes ix (literal s.text) None
 nothing_reads s above tables nodes ix count escaped ready is closes =
     let b = body.MaybeCode count escaped in
-    let a = label_at s.text tables nodes ix in
+    let a = tree_node_at s.text tables nodes ix in
     let e = read_opener s above tables nodes ix b is refl refl in
     let none = code_read s above tables nodes ix count escaped None ready is closes in
     let quiet = opener_unquiet s tables nodes ix b is refl refl in
@@ -99,7 +100,8 @@ nothing_reads s above tables nodes ix count escaped ready is closes =
     }
 
 -- where something does, a code span, with the text between them
-pub code_reads : (s : Setting) (above : Above) (tables tables' : Tables) (nodes : List (Node Item)) (ix x count : ℕ)
+pub code_reads : (s : Setting) (above : EnclosingBlocks) (tables tables' : Tables) (nodes : List (Node Item))
+    (ix x count : ℕ)
     (escaped : Bool) (cow : CowIndex)
     → CanResolve s.text tables nodes (Some ix) → (item_at nodes ix).body ≡ body.MaybeCode count escaped
     → ClosesCode nodes ix (Some x)
@@ -160,7 +162,7 @@ pub record ClosedCode (source : List ℕ) (tables : Tables) (nodes : List (Node 
   pub closer_open : is_open (item_at nodes x).body ≡ true
   pub closer_no_run : run_character (item_at nodes x).body ≡ None
   pub lies : LiesIn source (item_at nodes x)
-  pub behind : (item_at nodes ix).end ≤ (item_at nodes x).start
+  pub after : (item_at nodes ix).end ≤ (item_at nodes x).start
   pub found : IsFoundAt source tables nodes ix (item_at nodes x).end
 
 code_open : (n : ℕ) (b : ItemBody) → is_code_of n b ≡ true → (is_open b ≡ true) × (run_character b ≡ None)
@@ -184,7 +186,7 @@ closed_code {source} {tables} {nodes} {ix} {x} {count} {escaped} ready is closes
         closer_no_run = kind.1;
         lies = (each_root (IsPlaced source tables nodes) (forest_at (links_of nodes) (sibling_of nodes ix)) among.before
             x among.after o.all_placed among.parts).lies;
-        behind = around.from;
+        after = around.from;
         found = found_at source tables nodes ix x ready (ap is_open is) (ap run_character is) among;
       },
     )
@@ -316,7 +318,7 @@ can_put_code source tables tables' nodes ix x count escaped cow origin ready is 
           closed = refl;
           no_block = refl;
           lies = record {
-            ordered = omega (arith, o.placed.lies.ordered, there.behind, there.lies.ordered);
+            ordered = omega (arith, o.placed.lies.ordered, there.after, there.lies.ordered);
             start = o.placed.lies.start;
             end = there.lies.end;
           };
@@ -342,7 +344,7 @@ can_put_code source tables tables' nodes ix x count escaped cow origin ready is 
             closed = refl;
             no_block = refl;
             lies = record {
-              ordered = omega (arith, byte.0, there.behind, there.lies.ordered);
+              ordered = omega (arith, byte.0, there.after, there.lies.ordered);
               start = byte.1;
               end = there.lies.end;
             };
@@ -373,7 +375,7 @@ code_cut {source} {tables} {nodes} {ix} {x} {count} {escaped} {opener} {closer} 
     =
     let o = opens_chain ready in
     let there = (closed_code ready is (subst (ClosesCode nodes ix) here closes)).1 in
-    rw (opens, ends) (record { ordered = there.behind; from = o.placed.lies.end; to = there.lies.start })
+    rw (opens, ends) (record { ordered = there.after; from = o.placed.lies.end; to = there.lies.start })
 
 -- all of it, once the text is in its table
 pub record FoundCode (source : List ℕ) (tables tables' : Tables) (nodes : List (Node Item)) (ix x : ℕ) (cow : CowIndex)

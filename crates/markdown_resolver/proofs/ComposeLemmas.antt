@@ -15,11 +15,11 @@ use Rattle.markdown_base.specs.declared.item.Item.{Item}
 use Rattle.markdown_base.specs.declared.item.ItemBody.{ItemBody}
 use Rattle.markdown_base.specs.declared.node.Node.{Node}
 use Rattle.markdown_base.proofs.ArenaForestLemmas.{opens}
-use Rattle.markdown_document.specs.Document.{label_of}
+use Rattle.markdown_document.specs.Document.{tree_node_of}
 use Rattle.markdown_document.specs.ItemRules.{ComesBefore}
-use Rattle.markdown_document.specs.Places.{label_at, trees_from, origin_start}
+use Rattle.markdown_document.specs.Places.{tree_node_at, trees_from, origin_start}
 use Rattle.markdown_document.specs.PlacedNodes.{IsSameAt, IsPlaced, ComesFromPlace}
-use Rattle.markdown_document.specs.Stages.{times_in, named_in, weight_in}
+use Rattle.markdown_document.specs.ResolverStates.{times_in, named_in, weight_in}
 use Rattle.markdown_document.specs.Tables.{Tables}
 use Rattle.markdown_document.specs.NamedEntries.{Named, number_of, size_for, NamesEntries, IsNoShorter, HasGrown}
 use Rattle.markdown_document.specs.NamedEntries.{naming, times_named}
@@ -225,7 +225,7 @@ pub record HeadMoved (source : List ℕ) (ix : ℕ) (old mid new : List (Node It
   pub moves : Moves source (Some ix) (Some ix) old new tables later
   pub item : item_at new ix ≡ item_at mid ix
   pub trees : trees_from source later new (Some ix)
-      ≡ node (label_of source tables' (item_at mid ix)) (trees_from source later new (child_of mid ix))
+      ≡ node (tree_node_of source tables' (item_at mid ix)) (trees_from source later new (child_of mid ix))
       (trees_from source later new (sibling_of mid ix))
 
 named_within : (tables : Tables) (b : ItemBody) (n : Named) → NamesEntries tables b → 0 < times_named n b
@@ -321,8 +321,8 @@ module _ (source : List ℕ) (ix : ℕ) (old mid new : List (Node Item)) (tables
     };
   }
 
-  head_label : label_at source later new ix ≡ label_of source tables' (item_at mid ix)
-  head_label = label-same source tables' later mid new ix (record {
+  head_node : tree_node_at source later new ix ≡ tree_node_of source tables' (item_at mid ix)
+  head_node = label-same source tables' later mid new ix (record {
     at = head_stays;
     entries = λ n l. grown-same tables' later n m.grown (named_within tables' (item_at mid ix).body n h.entries l);
     headings = (grown-longer tables' later m.grown).headings;
@@ -377,7 +377,7 @@ module _ (source : List ℕ) (ix : ℕ) (old mid new : List (Node Item)) (tables
           no_heavier = rw (now_here, a.here, item) (omega arith);
         };
         item = item;
-        trees = rw (now_here, head_label) refl;
+        trees = rw (now_here, head_node) refl;
       }
 
 -- what was below the item stays below it

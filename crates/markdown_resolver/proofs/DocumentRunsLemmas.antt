@@ -1,4 +1,4 @@
--- The runs of a well-formed block result are whole in the tree of its labels: a label is a run's character just where
+-- The runs of a well-formed block result are whole in the tree of its nodes: a node is a run's character just where
 -- its item is one, and begins and ends where that does.
 use Rattle.std.proofs.Common.{◌≡◌, ℕ, zero, suc, Bool, true, false, List, Option, Some, None, refl, sym, subst, ◌∙◌}
 use Rattle.std.proofs.Common.{◌==◌}
@@ -14,11 +14,11 @@ use Rattle.markdown_base.specs.declared.item.ItemBody.{ItemBody}
 use Rattle.markdown_base.specs.declared.item.ItemBody.TheVariants as body
 use Rattle.markdown_base.specs.declared.node.Node.{Node}
 use Rattle.markdown_document.specs.ChainRest.{open_body}
-use Rattle.markdown_document.specs.Document.{Plain, document, label_of, shape_of}
+use Rattle.markdown_document.specs.Document.{Plain, document, tree_node_of, shape_of}
 use Rattle.markdown_document.specs.Tables.{Tables}
 use Rattle.markdown_resolver.specs.Laws.{RunsStandWhole, by_place}
 
--- a label is a run's character where its item is one
+-- a node is a run's character where its item is one
 run_seen : (tables : Tables) (source : List ℕ) (b : ItemBody) → run_character (open_body (shape_of tables source b))
     ≡ run_character b
 run_seen tables source (body.HardBreak true) = refl
@@ -26,9 +26,9 @@ run_seen tables source (body.HardBreak false) = refl
 run_seen tables source other = refl
 
 module _ (source : List ℕ) (tables : Tables) where
-  -- the label of an item, by its place
+  -- the node of an item, by its place
   abbrev seen : Numbered → Plain
-  seen a = label_of source tables a.item
+  seen a = tree_node_of source tables a.item
 
   abbrev placed : Numbered → Numbered
   placed a = by_place (seen a)
@@ -69,7 +69,7 @@ module _ (source : List ℕ) (tables : Tables) where
   whole_placed a next h = subst (λ o. IfSome o (StandsInRun source (placed a) (option_map placed next)))
       (sym (run_placed a)) (run_if a next (run_character a.item.body) h)
 
-  -- what follows a label is the label of what follows
+  -- what follows a node is the node of what follows
   first_placed : (f : Forest Numbered) → option_map placed (first_root f)
       ≡ option_map by_place (first_root (relabelled seen f))
   first_placed nil = refl

@@ -16,8 +16,8 @@ use Rattle.markdown_base.specs.declared.item.Item.{Item}
 use Rattle.markdown_base.specs.declared.node.Node.{Node}
 use Rattle.markdown_base.proofs.ArenaForestLemmas.{opens, Opened, forest_at-none}
 use Rattle.markdown_base.proofs.ArenaLemmas.{length-changed_at}
-use Rattle.markdown_document.specs.Document.{label_of}
-use Rattle.markdown_document.specs.Places.{label_at, trees_from}
+use Rattle.markdown_document.specs.Document.{tree_node_of}
+use Rattle.markdown_document.specs.Places.{tree_node_at, trees_from}
 use Rattle.markdown_document.specs.PlacedNodes.{IsSameAt, IsPlaced}
 use Rattle.markdown_document.specs.Tables.{Tables}
 use Rattle.markdown_document.specs.NamedEntries.{Named, naming, times_named}
@@ -126,19 +126,19 @@ spelled_past nodes (x ∷ inside) after closer l (node n below rest) e s = spell
     (sibling_of nodes n) rest (cc e) s.3
 
 -- a chain is cut after a node: the links lead through the trees up to there, and the next is the closer
-record CutBehind (old new : List (Node Item)) (l : Option ℕ) (last closer k : ℕ) (f : Forest ℕ) : Type 0 where
+record CutAfter (old new : List (Node Item)) (l : Option ℕ) (last closer k : ℕ) (f : Forest ℕ) : Type 0 where
   spelled : Spells (links_of new) l (first_trees k f)
   there : 0 < total (same last) (first_trees k f)
   next : sibling_of old last ≡ Some closer
 
-cut_behind : (old new : List (Node Item)) (last closer x : ℕ) (inside after : List ℕ) (l : Option ℕ) (f : Forest ℕ)
+cut_after : (old new : List (Node Item)) (last closer x : ℕ) (inside after : List ℕ) (l : Option ℕ) (f : Forest ℕ)
     → length old ≤ length new
     → child_of new last ≡ child_of old last → sibling_of new last ≡ None → last_inside x inside ≡ last
     → roots f ≡ x ∷ (inside ++ closer ∷ after)
     → ((n : ℕ) → total (same n) f ≤ 1) → ((n : ℕ) → 0 < total (same n) f → (n ≡ last → ⊥) → IsSameAt old new n)
-    → Spells (links_of old) l f → CutBehind old new l last closer (suc (length inside)) f
-cut_behind old new last closer x [] after l nil more child next is e once kept s = cc e
-cut_behind old new last closer x [] after l (node n below rest) more child next is e once kept s =
+    → Spells (links_of old) l f → CutAfter old new l last closer (suc (length inside)) f
+cut_after old new last closer x [] after l nil more child next is e once kept s = cc e
+cut_after old new last closer x [] after l (node n below rest) more child next is e once kept s =
     let here : n ≡ last = cc (e, is) in
     let one = once n in
     let self = same-refl n in
@@ -162,9 +162,9 @@ cut_behind old new last closer x [] after l (node n below rest) more child next 
         ≡ Some closer
     leads nil q t = cc q
     leads (node m b a) q t = let is' : m ≡ closer = cc q in t.0 ∙ ap (λ i. Some i) is'
-cut_behind old new last closer x (y ∷ inside) after l nil more child next is e once kept s = cc e
-cut_behind old new last closer x (y ∷ inside) after l (node n below rest) more child next is e once kept s =
-    let r = cut_behind old new last closer y inside after (sibling_of old n) rest more child next is (cc e)
+cut_after old new last closer x (y ∷ inside) after l nil more child next is e once kept s = cc e
+cut_after old new last closer x (y ∷ inside) after l (node n below rest) more child next is e once kept s =
+    let r = cut_after old new last closer y inside after (sibling_of old n) rest more child next is (cc e)
     (λ m. let z = once m
     in omega arith) (λ m l d. kept m (omega (arith, l)) d) s.3 in
     let in_rest = total_parts (same last) (suc (length inside)) rest in
@@ -225,7 +225,7 @@ cuts_at old new opener last closer (x ∷ inside) after f v is e s once =
     let other : (n : ℕ) → 0 < total (same n) f → n ≡ opener → ⊥ = λ n l q. let one : same n opener
     ≡ 1 = subst (λ (m : ℕ). same n m ≡ 1) q (same-refl n) in absurd (let z = once n in omega (arith, one, l)) in
     let size = v.size in
-    let r = cut_behind old new last closer x inside after (sibling_of old opener) f (omega (arith, size))
+    let r = cut_after old new last closer x inside after (sibling_of old opener) f (omega (arith, size))
     (v.last_child d) (v.last_next d) is e (λ n. let z = once n in omega arith) (λ n l q. v.others n (other n l) q) s in
     let held = r.there in
     record {
@@ -317,15 +317,15 @@ module _ {source : List ℕ} {tables : Tables} {old new : List (Node Item)} {ope
       in let parts = total_parts (same n) k f in omega arith)
 
   -- it reads so
-  labels : (n : ℕ) → label_at source tables new n ≡ label_at source tables old n
-  labels n = ap (λ x. label_of source tables x) (v.items n)
+  labels : (n : ℕ) → tree_node_at source tables new n ≡ tree_node_at source tables old n
+  labels n = ap (λ x. tree_node_of source tables x) (v.items n)
 
   pub inside_reads : trees_from source tables new (child_of new opener)
       ≡ first_trees k (trees_from source tables old (sibling_of old opener))
   inside_reads =
-      ap (λ (g : Forest ℕ). relabelled (label_at source tables new) g) inside_forest
-      ∙ read_equal (label_at source tables old) (label_at source tables new) (first_trees k f) labels
-      ∙ read_first (label_at source tables old) k f
+      ap (λ (g : Forest ℕ). relabelled (tree_node_at source tables new) g) inside_forest
+      ∙ read_equal (tree_node_at source tables old) (tree_node_at source tables new) (first_trees k f) labels
+      ∙ read_first (tree_node_at source tables old) k f
 
   -- its items are placed
   closer_past : StandsPast old opener (item_at old opener).end closer

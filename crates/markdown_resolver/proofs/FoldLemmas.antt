@@ -13,9 +13,9 @@ use Rattle.markdown_base.specs.Item.{is_open}
 use Rattle.markdown_base.specs.declared.item.Item.{Item}
 use Rattle.markdown_base.specs.declared.node.Node.{Node}
 use Rattle.markdown_base.proofs.ArenaForestLemmas.{opens, Opened, forest_at-none}
-use Rattle.markdown_document.specs.Places.{label_at, trees_from}
+use Rattle.markdown_document.specs.Places.{tree_node_at, trees_from}
 use Rattle.markdown_document.specs.PlacedNodes.{IsSameAt, IsPlaced}
-use Rattle.markdown_document.specs.Stages.{times_in, named_in, weight_in}
+use Rattle.markdown_document.specs.ResolverStates.{times_in, named_in, weight_in}
 use Rattle.markdown_document.specs.Tables.{Tables}
 use Rattle.markdown_document.specs.NamedEntries.{Named, naming, times_named}
 use Rattle.markdown_document.specs.Totals.{total, same, weight_at, weight_if}
@@ -46,7 +46,7 @@ pub record IsFolded (source : List ℕ) (tables : Tables) (old new : List (Node 
     pub below_weight : weight_in new (child_of new opener) ≤ total (weight_at old)
         (first_trees k (forest_at (links_of old) (sibling_of old opener)))
     -- from the closer on all is unchanged, and so is what is not of the chain
-    pub behind : (n : ℕ) → 0 < total (same n) (trees_past k (forest_at (links_of old) (sibling_of old opener)))
+    pub after : (n : ℕ) → 0 < total (same n) (trees_past k (forest_at (links_of old) (sibling_of old opener)))
         → IsSameAt old new n
     pub outside : (n : ℕ) → n < length old → times_in old (Some opener) n ≡ 0 → IsSameAt old new n
 
@@ -76,10 +76,10 @@ counted_among count n (x ∷ before) after (node m below rest) e = omega
     (arith, counted_among count n before after rest (cc e))
 
 -- of numbers past a number, those after others; and those whose items stay
-past_behind : (nodes : List (Node Item)) (low byte : ℕ) (before after : List ℕ)
+past_after : (nodes : List (Node Item)) (low byte : ℕ) (before after : List ℕ)
     → AllPast nodes low byte (before ++ after) → AllPast nodes low byte after
-past_behind nodes low byte [] after h = h
-past_behind nodes low byte (n ∷ before) after h = past_behind nodes low byte before after h.1
+past_after nodes low byte [] after h = h
+past_after nodes low byte (n ∷ before) after h = past_after nodes low byte before after h.1
 
 past_kept : (old new : List (Node Item)) (low byte : ℕ) (f : Forest ℕ)
     → ((n : ℕ) → 0 < total (same n) f → item_at new n ≡ item_at old n) → AllPast old low byte (roots f)
@@ -141,68 +141,69 @@ module _ {source : List ℕ} {tables : Tables} {old : List (Node Item)} {opener 
   closer_roots = ap (λ (g : Forest ℕ). roots g) closer_opens.is ∙ ap (λ (ns : List ℕ). closer ∷ ns) closer_opens.follow
 
   -- the chain after the closer
-  behind_opened : Opened (links_of old) (IsPlaced source tables old) closer
-  behind_opened = opens (links_of old) (IsPlaced source tables old) closer closer_reaches
+  after_opened : Opened (links_of old) (IsPlaced source tables old) closer
+  after_opened = opens (links_of old) (IsPlaced source tables old) closer closer_reaches
 
-  pub behind_spelled : Spells (links_of old) (sibling_of old closer) (forest_at (links_of old) (sibling_of old closer))
-  behind_spelled = behind_opened.after.spelled
+  pub after_spelled : Spells (links_of old) (sibling_of old closer) (forest_at (links_of old) (sibling_of old closer))
+  after_spelled = after_opened.after.spelled
 
-  pub behind_is : forest_at (links_of old) (sibling_of old closer) ≡ trees_past (suc k) f
-  behind_is = let both = sym behind_opened.here ∙ closer_forest ∙ closer_opens.is in cc both
+  pub after_is : forest_at (links_of old) (sibling_of old closer) ≡ trees_past (suc k) f
+  after_is = let both = sym after_opened.here ∙ closer_forest ∙ closer_opens.is in cc both
 
-  pub next_behind : first_past old byte can.after
+  pub next_after : first_past old byte can.after
       ≡ first_past old byte (roots (forest_at (links_of old) (sibling_of old closer)))
-  next_behind = ap (λ (ns : List ℕ). first_past old byte ns)
-      (sym closer_opens.follow ∙ ap (λ (g : Forest ℕ). roots g) (sym behind_is))
+  next_after = ap (λ (ns : List ℕ). first_past old byte ns)
+      (sym closer_opens.follow ∙ ap (λ (g : Forest ℕ). roots g) (sym after_is))
 
   -- where all from the closer on stays, it reads as it did
   module _ (new : List (Node Item)) (size : length new ≡ length old)
-      (behind : (n : ℕ) → 0 < total (same n) (trees_past k f) → IsSameAt old new n) where
-    pub behind_framed : Framed source tables tables old new (Some closer)
-    behind_framed =
+      (after : (n : ℕ) → 0 < total (same n) (trees_past k f) → IsSameAt old new n) where
+    pub after_framed : Framed source tables tables old new (Some closer)
+    after_framed =
         framed source tables tables old new (Some closer) (omega (arith, size))
         (grown-longer tables tables (grown-nothing tables))
-        closer_reaches (rw closer_forest (stay_throughout tables tables old new (trees_past k f) refl behind
+        closer_reaches (rw closer_forest (stay_throughout tables tables old new (trees_past k f) refl after
         (λ n l. same_entry-refl tables n)))
 
-    pub behind_forest : forest_at (links_of new) (Some closer) ≡ trees_past k f
-    behind_forest = behind_framed.forest ∙ closer_forest
+    pub after_forest : forest_at (links_of new) (Some closer) ≡ trees_past k f
+    after_forest = after_framed.forest ∙ closer_forest
 
-    pub behind_reads : trees_from source tables new (Some closer)
+    pub after_reads : trees_from source tables new (Some closer)
         ≡ trees_past k (trees_from source tables old (sibling_of old opener))
-    behind_reads = behind_framed.trees ∙ ap (λ (g : Forest ℕ). relabelled (label_at source tables old) g) closer_forest
-        ∙ read_past (label_at source tables old) k f
+    after_reads = after_framed.trees ∙ ap (λ (g : Forest ℕ). relabelled
+        (tree_node_at source tables old) g) closer_forest
+        ∙ read_past (tree_node_at source tables old) k f
 
     -- the first past a byte offset after the closer is the same
-    pub first_behind : first_past new byte (roots (forest_at (links_of new) (Some closer)))
+    pub first_after : first_past new byte (roots (forest_at (links_of new) (Some closer)))
         ≡ first_past old byte can.after
-    first_behind =
+    first_after =
         let ends = can.closer_ends in
         let test : nat_le (item_at old closer).end byte ≡ true = grind (arith, nat_tests, ends) in
         let skip : first_past old byte (closer ∷ can.after) ≡ first_past old byte can.after = rw test refl in
-        ap (λ (g : Forest ℕ). first_past new byte (roots g)) behind_forest ∙ first_kept old new byte (trees_past k f)
-        (λ n l. (behind n l).item) ∙ ap (λ (ns : List ℕ). first_past old byte ns) closer_roots ∙ skip
+        ap (λ (g : Forest ℕ). first_past new byte (roots g)) after_forest ∙ first_kept old new byte (trees_past k f)
+        (λ n l. (after n l).item) ∙ ap (λ (ns : List ℕ). first_past old byte ns) closer_roots ∙ skip
 
     -- it is past the opener
-    pub behind_past : AllPast new opener (item_at old opener).end (roots (forest_at (links_of new) (Some closer)))
-    behind_past =
+    pub after_past : AllPast new opener (item_at old opener).end (roots (forest_at (links_of new) (Some closer)))
+    after_past =
         let all : AllPast old opener (item_at old opener).end (inside ++ closer ∷ can.after) = rw can.follows at
         (rest_past can.ready) in
         let some : AllPast old opener (item_at old opener).end (roots (trees_past k f)) = rw closer_roots
-        (past_behind old opener (item_at old opener).end inside (closer ∷ can.after) all) in
-        rw behind_forest (past_kept old new opener (item_at old opener).end (trees_past k f) (λ n l. (behind n l).item)
+        (past_after old opener (item_at old opener).end inside (closer ∷ can.after) all) in
+        rw after_forest (past_kept old new opener (item_at old opener).end (trees_past k f) (λ n l. (after n l).item)
         some)
 
-    pub item_behind : (n : ℕ) → first_past old byte can.after ≡ Some n → item_at new n ≡ item_at old n
-    item_behind n e =
+    pub item_after : (n : ℕ) → first_past old byte can.after ≡ Some n → item_at new n ≡ item_at old n
+    item_after n e =
         let there : first_past new byte (roots (trees_past k f))
-        ≡ Some n = ap (λ (g : Forest ℕ). first_past new byte (roots g)) (sym behind_forest) ∙ first_behind ∙ e in
-        (behind n (first_there new byte n (trees_past k f) there)).item
+        ≡ Some n = ap (λ (g : Forest ℕ). first_past new byte (roots g)) (sym after_forest) ∙ first_after ∙ e in
+        (after n (first_there new byte n (trees_past k f) there)).item
 
   -- folded, it is changed in place
   module _ (new : List (Node Item)) (v : IsFolded source tables old new opener closer k) where
     rest : Framed source tables tables old new (Some closer)
-    rest = behind_framed new v.size v.behind
+    rest = after_framed new v.size v.after
 
     abbrev now : Forest ℕ
     now = node opener (forest_at (links_of new) (child_of new opener)) (forest_at (links_of new) (Some closer))
@@ -215,10 +216,10 @@ module _ {source : List ℕ} {tables : Tables} {old : List (Node Item)} {opener 
     now_times n =
         let below = v.below_of n in
         let parts = total_parts (same n) k f in
-        let behind : times_in new (Some closer) n
+        let after : times_in new (Some closer) n
         ≡ total (same n) (trees_past k f) = ap (λ (g : Forest ℕ). total (same n) g)
-        (behind_forest new v.size v.behind) in
-        omega (arith, below, parts, behind)
+        (after_forest new v.size v.after) in
+        omega (arith, below, parts, after)
 
     now_here : forest_at (links_of new) (Some opener) ≡ now
     now_here = found (links_of new) (Some opener) now now_spelled
@@ -228,22 +229,22 @@ module _ {source : List ℕ} {tables : Tables} {old : List (Node Item)} {opener 
     now_named n =
         let below = v.below_named n in
         let parts = total_parts (naming old n) k f in
-        let behind : named_in new (Some closer) n ≡ total (naming old n) (trees_past k f) = rest.naming n
+        let after : named_in new (Some closer) n ≡ total (naming old n) (trees_past k f) = rest.naming n
         ∙ ap (λ (g : Forest ℕ). total (naming old n) g) closer_forest in
-        rw v.item_is (omega (arith, below, parts, behind))
+        rw v.item_is (omega (arith, below, parts, after))
 
     now_weight : total (weight_at new) now ≤ total (weight_at old) (node opener nil f)
     now_weight =
         let below = v.below_weight in
         let parts = total_parts (weight_at old) k f in
-        let behind : weight_in new (Some closer) ≡ total (weight_at old) (trees_past k f) = rest.weight
+        let after : weight_in new (Some closer) ≡ total (weight_at old) (trees_past k f) = rest.weight
         ∙ ap (λ (g : Forest ℕ). total (weight_at old) g) closer_forest in
-        rw v.item_is (omega (arith, below, parts, behind))
+        rw v.item_is (omega (arith, below, parts, after))
 
     opener_placed : IsPlaced source tables new opener
     opener_placed =
         let p = opened.holds in
-        let at = v.behind closer closer_stands_there in
+        let at = v.after closer closer_stands_there in
         record {
           lies = rw v.item_is p.lies;
           named = rw v.item_is p.named;
@@ -305,6 +306,6 @@ enclosed_folds {source} {tables} {old} {new} {opener} {last} {closer} {inside} {
       below_weight = rw here
           (let e = total_equal (weight_at old) (weight_at new) g (λ m. ap (λ (x : Item). weight_if (is_open x.body))
           (v.items m)) in omega (arith, e));
-      behind = rest_kept can is v;
+      after = rest_kept can is v;
       outside = m.outside;
     }

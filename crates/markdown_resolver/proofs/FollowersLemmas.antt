@@ -14,9 +14,9 @@ use Rattle.markdown_base.specs.declared.item.Item.{Item}
 use Rattle.markdown_base.specs.declared.node.Node.{Node}
 use Rattle.markdown_base.proofs.ArenaForestLemmas.{opens}
 use Rattle.markdown_document.specs.ItemRules.{ComesBefore}
-use Rattle.markdown_document.specs.Places.{label_at, trees_from}
+use Rattle.markdown_document.specs.Places.{tree_node_at, trees_from}
 use Rattle.markdown_document.specs.PlacedNodes.{IsPlaced}
-use Rattle.markdown_document.specs.Stages.{items_from}
+use Rattle.markdown_document.specs.ResolverStates.{items_from}
 use Rattle.markdown_document.specs.Tables.{Tables}
 use Rattle.markdown_spans.specs.ChainInArena.{LeadsThrough}
 use Rattle.markdown_spans.proofs.LearnedElsewhereLemmas.{one_chain}
@@ -38,7 +38,7 @@ followers nodes ix = roots (forest_at (links_of nodes) (sibling_of nodes ix))
 
 next_after : (source : List ℕ) (tables : Tables) (nodes : List (Node Item)) (ix : ℕ) (l : Option ℕ) (f : Forest ℕ)
     → Spells (links_of nodes) l f → is_block (item_at nodes ix).body ≡ false
-    → IsQuietBelow (relabelled (label_at source tables nodes) f)
+    → IsQuietBelow (relabelled (tree_node_at source tables nodes) f)
     → ComesBefore (numbered nodes ix) (option_map (numbered nodes) l)
     → IfSome l (λ n. (item_at nodes ix).end ≤ (item_at nodes n).start)
 next_after source tables nodes ix l nil s b q stands = rw s tt
@@ -47,7 +47,7 @@ next_after source tables nodes ix l (node j below after) s b q stands =
 
 order_along : (source : List ℕ) (tables : Tables) (nodes : List (Node Item)) (i : ℕ) (l : Option ℕ) (f : Forest ℕ)
     → Spells (links_of nodes) l f → Each (IsPlaced source tables nodes) f
-    → IsQuietBelow (relabelled (label_at source tables nodes) f) → IfSome l (λ n. i ≤ (item_at nodes n).start)
+    → IsQuietBelow (relabelled (tree_node_at source tables nodes) f) → IfSome l (λ n. i ≤ (item_at nodes n).start)
     → InOrder nodes i (roots f)
 order_along source tables nodes i l nil s p q from = tt
 order_along source tables nodes i l (node ix below after) s p q from =
@@ -59,7 +59,7 @@ order_along source tables nodes i l (node ix below after) s p q from =
           p.0.keeps.in_order),
     )
 
--- the items along a forest, and its labels, by its numbers
+-- the items along a forest, and its nodes, by its numbers
 along_roots : (nodes : List (Node Item)) (f : Forest ℕ) → items_along nodes f ≡ map (numbered nodes) (roots f)
 along_roots nodes nil = refl
 along_roots nodes (node ix below after) = ap (λ l. numbered nodes ix ∷ l) (along_roots nodes after)
@@ -82,10 +82,10 @@ pub record OpenedChain (source : List ℕ) (tables : Tables) (nodes : List (Node
   pub within : ix < length nodes
   pub placed : IsPlaced source tables nodes ix
   pub trees : trees_from source tables nodes (Some ix)
-      ≡ node (label_at source tables nodes ix) (trees_from source tables nodes (child_of nodes ix))
+      ≡ node (tree_node_at source tables nodes ix) (trees_from source tables nodes (child_of nodes ix))
       (trees_from source tables nodes (sibling_of nodes ix))
   pub labels : roots (trees_from source tables nodes (sibling_of nodes ix))
-      ≡ map (label_at source tables nodes) (followers nodes ix)
+      ≡ map (tree_node_at source tables nodes) (followers nodes ix)
   pub ordered : InOrder nodes (item_at nodes ix).end (followers nodes ix)
   pub leads : LeadsThrough nodes (suc ix) (sibling_of nodes ix) (map (numbered nodes) (followers nodes ix))
   pub items : items_from nodes (Some ix) ≡ suc (length (followers nodes ix))
@@ -97,15 +97,15 @@ opens_chain {source} {tables} {nodes} {ix} ready =
     let o = opens (links_of nodes) (IsPlaced source tables nodes) ix ready.reaches in
     let rest = forest_at (links_of nodes) (sibling_of nodes ix) in
     let quiet : IsQuietBelow
-    (node (label_at source tables nodes ix) (trees_from source tables nodes (child_of nodes ix))
+    (node (tree_node_at source tables nodes ix) (trees_from source tables nodes (child_of nodes ix))
     (trees_from source tables nodes (sibling_of nodes ix))) =
-    subst (λ (f : Forest ℕ). IsQuietBelow (relabelled (label_at source tables nodes) f)) o.here ready.quiet_below in
+    subst (λ (f : Forest ℕ). IsQuietBelow (relabelled (tree_node_at source tables nodes) f)) o.here ready.quiet_below in
     let no = no_block (item_at nodes ix).body quiet.0 in
     record {
       within = o.within;
       placed = o.holds;
-      trees = ap (relabelled (label_at source tables nodes)) o.here;
-      labels = roots_shown (label_at source tables nodes) rest;
+      trees = ap (relabelled (tree_node_at source tables nodes)) o.here;
+      labels = roots_shown (tree_node_at source tables nodes) rest;
       ordered = order_along source tables nodes (item_at nodes ix).end (sibling_of nodes ix) rest o.after.spelled
           o.after.each quiet.2 (next_after source tables nodes ix (sibling_of nodes ix) rest o.after.spelled no quiet.2
           o.holds.keeps.in_order);

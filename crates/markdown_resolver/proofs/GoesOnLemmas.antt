@@ -20,7 +20,7 @@ use Rattle.markdown_base.specs.declared.item.ItemBody.{ItemBody}
 use Rattle.markdown_base.specs.declared.item.ItemBody.TheVariants as body
 use Rattle.markdown_base.specs.declared.node.Node.{Node}
 use Rattle.markdown_brackets.specs.BracketDecision.{Closing, closer_ends_at, past_second}
-use Rattle.markdown_brackets.specs.Reference.{is_closer, stands_at}
+use Rattle.markdown_brackets.specs.Reference.{is_closing_bracket, stands_at}
 use Rattle.markdown_document.specs.ChainRest.{as_item, end_of, open_body}
 use Rattle.markdown_document.specs.Document.{shape_of}
 use Rattle.markdown_document.specs.PlacedNodes.{IsPlaced}
@@ -28,7 +28,7 @@ use Rattle.markdown_document.specs.Tables.{Tables}
 use Rattle.markdown_base.proofs.ByteListLemmas.{part_length}
 use Rattle.markdown_delims.proofs.PairingLemmas.{closed_shape}
 use Rattle.markdown_resolver.specs.Closes.{CanGoOn, IsNotCut, NoneOpenAround}
-use Rattle.markdown_resolver.specs.PutsTrees.{numbered_label}
+use Rattle.markdown_resolver.specs.PutsTrees.{numbered_node}
 use Rattle.markdown_resolver.specs.Rewritten.{first_past}
 use Rattle.markdown_resolver.proofs.FollowersLemmas.{InOrder, each_root, nothing_around, order_around, starts_past}
 
@@ -101,26 +101,27 @@ first_placed source tables nodes i n (node ix below after) p e = by (nat_le (ite
         let past : i < (item_at nodes ix).end = grind (arith, nat_tests) in
         (subst (IsPlaced source tables nodes) same p.0, subst (λ (m : ℕ). i < (item_at nodes m).end) same past)
 
--- what a label shows as a `]` is one
+-- what a node shows as a `]` is one
 shows_closer : (tables : Tables) (bytes : List ℕ) (b : ItemBody)
-    → is_closer (open_body (shape_of tables bytes b)) ≡ is_closer b
+    → is_closing_bracket (open_body (shape_of tables bytes b)) ≡ is_closing_bracket b
 shows_closer tables bytes body.Paragraph = refl
 shows_closer tables bytes (body.HardBreak true) = refl
 shows_closer tables bytes (body.HardBreak false) = refl
 shows_closer tables bytes other = refl
 
 -- and has one byte
-closer_long : (bytes : List ℕ) (b : ItemBody) → is_closer b ≡ true → StandsOverMarkup bytes b → length bytes ≡ 1
+closer_long : (bytes : List ℕ) (b : ItemBody) → is_closing_bracket b ≡ true → StandsOverMarkup bytes b
+    → length bytes ≡ 1
 closer_long bytes (body.MaybeLinkClose could_be) h markup = ap length markup
 closer_long bytes other h markup = absurd (cc h)
 
 -- the chain after a `]`: its items follow it, one after the other
-pub record StandsBehind (source : List ℕ) (tables : Tables) (nodes : List (Node Item)) (c : Closing ℕ) (f : Forest ℕ)
+pub record StandsAfter (source : List ℕ) (tables : Tables) (nodes : List (Node Item)) (c : Closing ℕ) (f : Forest ℕ)
     : Type 0 where
-  pub rest_is : c.rest ≡ relabelled (numbered_label source tables nodes) f
+  pub rest_is : c.rest ≡ relabelled (numbered_node source tables nodes) f
   pub placed : Each (IsPlaced source tables nodes) f
-  pub ordered : InOrder nodes (end_of c.label) (roots f)
-  pub between : IsCharBoundary source (end_of c.label)
+  pub ordered : InOrder nodes (end_of c.node) (roots f)
+  pub between : IsCharBoundary source (end_of c.node)
 
 -- an item of a chain that ends at a byte
 pub record EndsThere (nodes : List (Node Item)) (i : ℕ) (f : Forest ℕ) : Type 0 where
@@ -131,10 +132,10 @@ pub record EndsThere (nodes : List (Node Item)) (i : ℕ) (f : Forest ℕ) : Typ
   pub ends : (item_at nodes item).end ≡ i
 
 module _ (source : List ℕ) (tables : Tables) (nodes : List (Node Item)) where
-  -- what is required of labels, by numbers
+  -- what is required of nodes, by numbers
   pub none_open_around : (i : ℕ) (f : Forest ℕ)
       → ((n : ℕ) → first_past nodes i (roots f) ≡ Some n → (item_at nodes n).start < i
-      → is_open (item_at nodes n).body ≡ false) → NoneOpenAround i (relabelled (numbered_label source tables nodes) f)
+      → is_open (item_at nodes n).body ≡ false) → NoneOpenAround i (relabelled (numbered_node source tables nodes) f)
   none_open_around i nil h = tt
   none_open_around i (node ix below after) h = by (nat_le (item_at nodes ix).end i) h (none_open_around i after)
     where
@@ -142,26 +143,27 @@ module _ (source : List ℕ) (tables : Tables) (nodes : List (Node Item)) where
           → (item_at nodes n).start < i → is_open (item_at nodes n).body ≡ false)
           → (((n : ℕ) → first_past nodes i (roots after) ≡ Some n → (item_at nodes n).start < i
           → is_open (item_at nodes n).body ≡ false)
-          → NoneOpenAround i (relabelled (numbered_label source tables nodes) after))
-          → IsNotCut ended i (numbered_label source tables nodes ix)
-          (NoneOpenAround i (relabelled (numbered_label source tables nodes) after))
+          → NoneOpenAround i (relabelled (numbered_node source tables nodes) after))
+          → IsNotCut ended i (numbered_node source tables nodes ix)
+          (NoneOpenAround i (relabelled (numbered_node source tables nodes) after))
       by true h later = later h
       by false h later = λ starts. closed_shape tables
           (slice_range source (item_at nodes ix).start (item_at nodes ix).end)
           (item_at nodes ix).body (h ix refl starts)
 
-  -- a `]` that ends there, by labels
-  pub ends_there : (i : ℕ) (f : Forest ℕ) → closer_ends_at i (relabelled (numbered_label source tables nodes) f) ≡ true
+  -- a `]` that ends there, by nodes
+  pub ends_there : (i : ℕ) (f : Forest ℕ) → closer_ends_at i (relabelled (numbered_node source tables nodes) f) ≡ true
       → EndsThere nodes i f
   ends_there i nil h = cc h
   ends_there i (node ix below after) h =
-      by (nat_lt (item_at nodes ix).end i) (is_closer (open_body (numbered_label source tables nodes ix).part.shape))
+      by (nat_lt (item_at nodes ix).end i) (is_closing_bracket (open_body
+      (numbered_node source tables nodes ix).part.shape))
       ((item_at nodes ix).end == i) refl h (ends_there i after)
     where
       by : (before closes here : Bool) → ((item_at nodes ix).end == i) ≡ here
-          → (if before then closer_ends_at i (relabelled (numbered_label source tables nodes) after) else closes &&
+          → (if before then closer_ends_at i (relabelled (numbered_node source tables nodes) after) else closes &&
           here) ≡ true
-          → (closer_ends_at i (relabelled (numbered_label source tables nodes) after) ≡ true → EndsThere nodes i after)
+          → (closer_ends_at i (relabelled (numbered_node source tables nodes) after) ≡ true → EndsThere nodes i after)
           → EndsThere nodes i (node ix below after)
       by true closes here same h later =
           let r = later h in
@@ -183,17 +185,19 @@ module _ (source : List ℕ) (tables : Tables) (nodes : List (Node Item)) where
       by false false here same h later = cc h
 
   -- the second item, where it is a `]` that starts at a byte
-  pub second_ends : (p : ℕ) (f : Forest ℕ) → stands_at p is_closer
-      (option_map as_item (first_root (past_second (relabelled (numbered_label source tables nodes) f)))) ≡ true
+  pub second_ends : (p : ℕ) (f : Forest ℕ) → stands_at p is_closing_bracket
+      (option_map as_item (first_root (past_second (relabelled (numbered_node source tables nodes) f)))) ≡ true
       → Each (IsPlaced source tables nodes) f → EndsThere nodes (p + 1) f
   second_ends p nil h placed = cc h
   second_ends p (node ix below nil) h placed = cc h
   second_ends p (node ix below (node n inner after)) h placed =
-      by ((item_at nodes n).start == p) (is_closer (open_body (numbered_label source tables nodes n).part.shape)) refl
+      by ((item_at nodes n).start == p) (is_closing_bracket (open_body
+      (numbered_node source tables nodes n).part.shape)) refl
       refl h
     where
       by : (starts closes : Bool) → ((item_at nodes n).start == p) ≡ starts
-          → is_closer (open_body (numbered_label source tables nodes n).part.shape) ≡ closes → (starts && closes) ≡ true
+          → is_closing_bracket (open_body (numbered_node source tables nodes n).part.shape) ≡ closes →
+          (starts && closes) ≡ true
           → EndsThere nodes (p + 1) (node ix below (node n inner after))
       by true true s t h =
           let item = item_at nodes n in
@@ -213,51 +217,51 @@ module _ (source : List ℕ) (tables : Tables) (nodes : List (Node Item)) where
       by true false s t h = cc h
       by false closes s t h = cc h
 
-  module _ (c : Closing ℕ) (f : Forest ℕ) (k : StandsBehind source tables nodes c f) where
-    -- what is true of the numbers is true of the labels
+  module _ (c : Closing ℕ) (f : Forest ℕ) (k : StandsAfter source tables nodes c f) where
+    -- what is true of the numbers is true of the nodes
     around_here : (i : ℕ) → ((n : ℕ) → first_past nodes i (roots f) ≡ Some n → (item_at nodes n).start < i
         → is_open (item_at nodes n).body ≡ false) → NoneOpenAround i c.rest
     around_here i h = subst (NoneOpenAround i) (sym k.rest_is) (none_open_around i f h)
 
     -- after the `]`
-    pub goes_on_here : CanGoOn source c (end_of c.label)
+    pub goes_on_here : CanGoOn source c (end_of c.node)
     goes_on_here = record {
-      behind = omega arith;
+      after = omega arith;
       between = k.between;
-      none_around = around_here (end_of c.label) (λ n first starts.
-          let from = starts_past nodes (end_of c.label) (end_of c.label) n (roots f) (omega arith) k.ordered first in
+      none_around = around_here (end_of c.node) (λ n first starts.
+          let from = starts_past nodes (end_of c.node) (end_of c.node) n (roots f) (omega arith) k.ordered first in
           absurd (omega (arith, from, starts)));
     }
 
     -- where a later item ends
     pub goes_on_there : (i : ℕ) → EndsThere nodes i f → CanGoOn source c i
     goes_on_there i there =
-        let order : InOrder nodes (end_of c.label) (there.before ++ there.item ∷ there.after) = subst
-        (InOrder nodes (end_of c.label)) there.follows k.ordered in
-        let o = order_around nodes (end_of c.label) there.before there.item there.after order in
+        let order : InOrder nodes (end_of c.node) (there.before ++ there.item ∷ there.after) = subst
+        (InOrder nodes (end_of c.node)) there.follows k.ordered in
+        let o = order_around nodes (end_of c.node) there.before there.item there.after order in
         let placed = each_root (IsPlaced source tables nodes) f there.before there.item there.after k.placed
         there.follows in
         record {
-          behind = omega (arith, o.from, o.ordered, there.ends);
+          after = omega (arith, o.from, o.ordered, there.ends);
           between = subst (IsCharBoundary source) there.ends placed.lies.end;
           none_around = around_here i (λ n first starts.
               let e : first_past nodes (item_at nodes there.item).end (there.before ++ there.item ∷ there.after)
               ≡ Some n =
               ap (λ (j : ℕ). first_past nodes j (there.before ++ there.item ∷ there.after)) there.ends
               ∙ ap (first_past nodes i) (sym there.follows) ∙ first in
-              let from = nothing_around nodes (end_of c.label) there.before there.item there.after n order e in
+              let from = nothing_around nodes (end_of c.node) there.before there.item there.after n order e in
               absurd (omega (arith, from, starts, there.ends)));
         }
 
     -- after a `)`
-    pub goes_on_closed : (i : ℕ) → IsUtf8 source → end_of c.label < i → i ≤ length source → get_or source (i - 1) 0 ≡ 41
+    pub goes_on_closed : (i : ℕ) → IsUtf8 source → end_of c.node < i → i ≤ length source → get_or source (i - 1) 0 ≡ 41
         → CanGoOn source c i
     goes_on_closed i utf8 after within closed =
         let place : i - 1 + 1 ≡ i = omega (arith, after) in
         let inside_text : i - 1 < length source = omega (arith, after, within) in
         let low : get_or source (i - 1) 0 < 128 = omega (arith, closed) in
         record {
-          behind = omega (arith, after);
+          after = omega (arith, after);
           between = subst (IsCharBoundary source) place
               (IsCharBoundary-after_ascii source (i - 1) utf8 inside_text low);
           none_around = around_here i (λ n first starts.

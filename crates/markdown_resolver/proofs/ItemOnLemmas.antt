@@ -11,22 +11,22 @@ use Rattle.markdown_base.specs.declared.item.ItemBody.{ItemBody}
 use Rattle.markdown_brackets.specs.LeftList.{Entry, all_done}
 use Rattle.markdown_brackets.specs.Openers.{Waiting}
 use Rattle.markdown_brackets.specs.declared.spent_ends.SpentEnds.{SpentEnds}
-use Rattle.markdown_document.specs.Above.{Above}
+use Rattle.markdown_document.specs.EnclosingBlocks.{EnclosingBlocks}
 use Rattle.markdown_document.specs.ChainRest.{open_body, past}
-use Rattle.markdown_document.specs.Document.{Label, Plain, shape_of}
-use Rattle.markdown_document.specs.Places.{label_at, trees_from}
-use Rattle.markdown_document.specs.Setting.{Known, Setting}
-use Rattle.markdown_document.specs.Stages.{Stage, chain_at, known_at}
+use Rattle.markdown_document.specs.Document.{TreeNode, Plain, shape_of}
+use Rattle.markdown_document.specs.Places.{tree_node_at, trees_from}
+use Rattle.markdown_document.specs.Setting.{ReferenceState, Setting}
+use Rattle.markdown_document.specs.ResolverStates.{ResolverState, chain_at, state_at}
 use Rattle.markdown_document.specs.Tables.{Tables}
 use Rattle.markdown_document.proofs.PlaceLemmas.{shape-open}
 use Rattle.markdown_spans.specs.Finds.{Passed}
 use Rattle.markdown_delims.proofs.PairingLemmas.{closed_shape}
-use Rattle.markdown_resolver.specs.declared.rest.Rest.{Rest}
-use Rattle.markdown_resolver.specs.ReadOn.{AreHeld, PutsBehind, ReadsOn, StandsTo, all_read, at_left}
+use Rattle.markdown_resolver.specs.declared.continuation.Continuation.{Continuation}
+use Rattle.markdown_resolver.specs.ReadOn.{AreHeld, PutsAfter, ReadsOn, StandsTo, all_read, at_left}
 use Rattle.markdown_resolver.specs.ReadOn.{left_without_numbers}
 use Rattle.markdown_resolver.specs.ReadsItem.{ReadsItem, read_at}
 use Rattle.markdown_resolver.proofs.CloseLemmas.{brackets_done, wikilinks_done, without_done}
-use Rattle.markdown_resolver.proofs.BehindLemmas.{puts_behind}
+use Rattle.markdown_resolver.proofs.FollowsLemmas.{puts_after}
 use Rattle.markdown_resolver.proofs.FollowersLemmas.{opens_chain}
 use Rattle.markdown_resolver.proofs.PassOneLemmas.{NoBracket, closed_no_bracket, reads_other}
 use Rattle.markdown_resolver.proofs.StandsToLemmas.{stands_rest}
@@ -41,7 +41,7 @@ shape_no_bracket tables source b h = by_open (is_open b) refl
     by_open false e = closed_no_bracket (shape_of tables source b) (closed_shape tables source b e)
 
 -- trees that are done hold no openers
-pub held_done : (trees : Forest (Label ℕ)) (left : List (Entry ℕ)) (brackets wikilinks : List Waiting)
+pub held_done : (trees : Forest (TreeNode ℕ)) (left : List (Entry ℕ)) (brackets wikilinks : List Waiting)
     → AreHeld brackets wikilinks left → AreHeld brackets wikilinks (all_done trees left)
 held_done trees left brackets wikilinks held = record {
   brackets_are = held.brackets_are ∙ sym (brackets_done trees left);
@@ -49,8 +49,9 @@ held_done trees left brackets wikilinks held = record {
 }
 
 -- an item that is not a bracket was read
-pub reads_on_item : {C : Type 0} (step : C → Question → Option Answer → C → Type 0) (s : Setting) (above : Above)
-    (first ix : ℕ) (rest : Rest) (left : List (Entry ℕ)) (old new : Stage C)
+pub reads_on_item : {C : Type 0} (step : C → Question → Option Answer → C → Type 0) (s : Setting)
+    (above : EnclosingBlocks)
+    (first ix : ℕ) (rest : Continuation) (left : List (Entry ℕ)) (old new : ResolverState C)
     (spent : SpentEnds) (brackets wikilinks : List Waiting) → new
     ≡ record old { nodes = new.nodes; tables = new.tables }
     → StandsTo s.text old.tables old.nodes first (Some ix) left → AreHeld brackets wikilinks left
@@ -59,13 +60,13 @@ pub reads_on_item : {C : Type 0} (step : C → Question → Option Answer → C 
 reads_on_item {C} step s above first ix rest left old new spent brackets wikilinks same stands held other reads =
     let ready = stands_rest stands in
     let o = opens_chain ready in
-    let a = label_at s.text old.tables old.nodes ix in
+    let a = tree_node_at s.text old.tables old.nodes ix in
     let below = trees_from s.text old.tables old.nodes (child_of old.nodes ix) in
     let next = rest.next in
-    let behind = trees_from s.text old.tables old.nodes (sibling_of old.nodes ix) in
+    let after = trees_from s.text old.tables old.nodes (sibling_of old.nodes ix) in
     let r : Passed (Unit {0}) = read_at s above old.tables old.nodes ix in
-    let b : PutsBehind s.text first next left r.trees (past r.goes_on behind) old.nodes new.nodes old.tables new.tables
-    = puts_behind stands reads.puts in
+    let b : PutsAfter s.text first next left r.trees (past r.goes_on after) old.nodes new.nodes old.tables new.tables
+    = puts_after stands reads.puts in
     let then = all_done b.standing left in
     let lefts : all_done r.trees (left_without_numbers left) ≡ left_without_numbers then =
     ap (λ (f : Forest Plain). all_done f (left_without_numbers left)) (sym b.reads)
@@ -77,24 +78,24 @@ reads_on_item {C} step s above first ix rest left old new spent brackets wikilin
       held = held_done b.standing left brackets wikilinks held;
       answers = [];
       questions = [];
-      asked = ap (λ (t : Stage C). t.callback) (sym same);
+      asked = ap (λ (t : ResolverState C). t.callback) (sym same);
       ends = [];
       spends = λ end. refl;
       made = r.made;
       reads = λ p later are.
-          let k : known_at old later ≡ known_at new later = ap (λ (t : Stage C). known_at t later) (sym same) in
+          let k : state_at old later ≡ state_at new later = ap (λ (t : ResolverState C). state_at t later) (sym same) in
           ap (λ (f : Forest Plain). all_read s above f (at_left left old later p)) o.trees
-          ∙ reads_other s above a below behind (at_left left old later p) refl
+          ∙ reads_other s above a below after (at_left left old later p) refl
           (shape_no_bracket old.tables _ (item_at old.nodes ix).body
           other) ∙ ap (λ (f : Forest Plain). all_read s above f (record p {
             left = all_done r.trees (left_without_numbers left);
             goes_on = None;
-            known = known_at old later;
+            state = state_at old later;
             made = p.made + r.made;
           })) (sym b.rest_is) ∙ ap (λ (l : List (Entry (Unit {0}))). all_read s above (chain_at s.text new next)
-          (record p { left = l; goes_on = None; known = known_at old later; made = p.made + r.made })) lefts
-          ∙ ap (λ (known : Known). all_read s above (chain_at s.text new next)
-          (record p { left = left_without_numbers then; goes_on = None; known = known; made = p.made + r.made })) k
+          (record p { left = l; goes_on = None; state = state_at old later; made = p.made + r.made })) lefts
+          ∙ ap (λ (state : ReferenceState). all_read s above (chain_at s.text new next)
+          (record p { left = left_without_numbers then; goes_on = None; state = state; made = p.made + r.made })) k
           ∙ ap (λ (asked : List Question). all_read s above (chain_at s.text new next) (at_left
           then new later (record p { asked = asked; made = p.made + r.made }))) (sym (append-nil p.asked));
     }

@@ -14,38 +14,38 @@ use Rattle.markdown_base.proofs.ArenaForestLemmas.{opens}
 use Rattle.markdown_brackets.specs.BracketDecision.{Closing}
 use Rattle.markdown_brackets.specs.ChainHeld.{Holds, numbers_of}
 use Rattle.markdown_brackets.specs.Decides.{StandsBefore}
-use Rattle.markdown_brackets.specs.Finish.{AreBehind, AreRising, LeftRises}
+use Rattle.markdown_brackets.specs.Finish.{AreNumbersAfter, AreRising, LeftRises}
 use Rattle.markdown_brackets.specs.LeftList.{Entry, trees_onto}
 use Rattle.markdown_document.specs.ChainRest.{joined_chains}
-use Rattle.markdown_document.specs.Document.{Label}
-use Rattle.markdown_document.specs.Places.{label_at}
+use Rattle.markdown_document.specs.Document.{TreeNode}
+use Rattle.markdown_document.specs.Places.{tree_node_at}
 use Rattle.markdown_document.specs.PlacedNodes.{IsPlaced}
 use Rattle.markdown_document.specs.Tables.{Tables}
 use Rattle.markdown_document.specs.Totals.{same, total}
 use Rattle.markdown_resolver.specs.Kept.{IsQuietBelow}
-use Rattle.markdown_resolver.specs.PutsTrees.{numbered_from, numbered_label}
+use Rattle.markdown_resolver.specs.PutsTrees.{numbered_from, numbered_node}
 use Rattle.markdown_resolver.specs.ReadOn.{StandsTo}
 use Rattle.markdown_resolver.proofs.ChainLeadsLemmas.{next_above, no_block}
 use Rattle.markdown_resolver.proofs.ComposeLemmas.{stands_ready}
-use Rattle.markdown_resolver.proofs.LeftTreesLemmas.{relabelled_joined, behind_all, rising_first}
+use Rattle.markdown_resolver.proofs.LeftTreesLemmas.{relabelled_joined, all_after, rising_first}
 use Rattle.markdown_resolver.proofs.StandsToLemmas.{numbers_are, numbered_opens, numbered_none, rest_of, stands_rest}
 
 -- numbers that rise after a link whose node comes later than another one
-behind_link : (nodes : List (Node Item)) (n : ℕ) (l : Option ℕ) (f : Forest ℕ) → Spells (links_of nodes) l f
-    → IfSome l (λ m. suc n ≤ m) → AreRising (roots f) → AreBehind n (roots f)
-behind_link nodes n l nil s above rising = tt
-behind_link nodes n l (node m below after) s above rising =
+after_link : (nodes : List (Node Item)) (n : ℕ) (l : Option ℕ) (f : Forest ℕ) → Spells (links_of nodes) l f
+    → IfSome l (λ m. suc n ≤ m) → AreRising (roots f) → AreNumbersAfter n (roots f)
+after_link nodes n l nil s above rising = tt
+after_link nodes n l (node m below after) s above rising =
     let first : n < m = rw s.0 at above in
-    (first, behind_all n m (roots after) first rising.0)
+    (first, all_after n m (roots after) first rising.0)
 
 -- the numbers of a chain that can be read rise
 rising_along : (source : List ℕ) (tables : Tables) (nodes : List (Node Item)) (l : Option ℕ) (f : Forest ℕ)
     → Spells (links_of nodes) l f → Each (IsPlaced source tables nodes) f
-    → IsQuietBelow (relabelled (label_at source tables nodes) f) → AreRising (roots f)
+    → IsQuietBelow (relabelled (tree_node_at source tables nodes) f) → AreRising (roots f)
 rising_along source tables nodes l nil s p q = tt
 rising_along source tables nodes l (node ix below after) s p q =
     let later = rising_along source tables nodes (sibling_of nodes ix) after s.3 p.2 q.2 in (
-      behind_link nodes ix (sibling_of nodes ix) after s.3
+      after_link nodes ix (sibling_of nodes ix) after s.3
           (next_above source tables nodes ix (sibling_of nodes ix) after s.3 (no_block (item_at nodes ix).body q.0) q.2
           p.0.keeps.in_order) later,
       later,
@@ -59,15 +59,15 @@ left_rises source tables nodes first at left h =
     let head = trees_onto left nil in
     let later = numbered_from source tables nodes at in
     let whole : f ≡ joined_chains (numbers_of head) (numbers_of later) =
-    sym (numbers_are source tables nodes f) ∙ ap (λ (g : Forest (Label ℕ)). numbers_of g)
-    (rest_of source tables nodes first at left h).whole ∙ relabelled_joined (λ a. a.tag) head later in
+    sym (numbers_are source tables nodes f) ∙ ap (λ (g : Forest (TreeNode ℕ)). numbers_of g)
+    (rest_of source tables nodes first at left h).whole ∙ relabelled_joined (λ a. a.note) head later in
     let rising = rising_along source tables nodes (Some first) f h.ready.reaches.spelled h.ready.reaches.each
     h.ready.quiet_below in
     rising_first (numbers_of head) (numbers_of later) (subst (λ (g : Forest ℕ). AreRising (roots g)) whole rising)
 
 -- the trees of a chain hold by their numbers
 pub holds_numbered : (source : List ℕ) (tables : Tables) (nodes : List (Node Item)) (l : Option ℕ) (f : Forest ℕ)
-    → Spells (links_of nodes) l f → Holds source tables nodes l (relabelled (numbered_label source tables nodes) f)
+    → Spells (links_of nodes) l f → Holds source tables nodes l (relabelled (numbered_node source tables nodes) f)
 holds_numbered source tables nodes l nil s = s
 holds_numbered source tables nodes l (node ix below after) s = (
   s.0,
@@ -80,7 +80,7 @@ holds_numbered source tables nodes l (node ix below after) s = (
 -- after a left list there is a `]`, and then what follows it
 pub stands_before : {source : List ℕ} {tables : Tables} {nodes : List (Node Item)} {first closer : ℕ}
     {left : List (Entry ℕ)} {c : Closing ℕ} {could_be : Bool}
-    → StandsTo source tables nodes first (Some closer) left → c.label ≡ numbered_label source tables nodes closer
+    → StandsTo source tables nodes first (Some closer) left → c.node ≡ numbered_node source tables nodes closer
     → c.rest ≡ numbered_from source tables nodes (sibling_of nodes closer)
     → (item_at nodes closer).body ≡ body.MaybeLinkClose could_be → StandsBefore nodes closer left c
 stands_before {source} {tables} {nodes} {first} {closer} {left} {c} {could_be} h label rest closes =
@@ -90,22 +90,22 @@ stands_before {source} {tables} {nodes} {first} {closer} {left} {c} {could_be} h
     let childless = o.holds.keeps.childless is_open_here in
     let below : numbered_from source tables nodes (child_of nodes closer)
     ≡ nil = rw childless (numbered_none source tables nodes) in
-    let here : numbered_from source tables nodes (Some closer) ≡ node c.label nil c.rest =
+    let here : numbered_from source tables nodes (Some closer) ≡ node c.node nil c.rest =
     numbered_opens source tables nodes closer (stands_ready ready) ∙ rw (label, rest, below) refl in
     let f = forest_at (links_of nodes) (Some first) in
-    let trees = trees_onto left (node c.label nil c.rest) in
+    let trees = trees_onto left (node c.node nil c.rest) in
     let whole : numbered_from source tables nodes (Some first) ≡ trees = h.stands
-    ∙ ap (λ (g : Forest (Label ℕ)). trees_onto left g) here in
+    ∙ ap (λ (g : Forest (TreeNode ℕ)). trees_onto left g) here in
     let found : f ≡ numbers_of trees = sym (numbers_are source tables nodes f)
-    ∙ ap (λ (g : Forest (Label ℕ)). numbers_of g) whole in
+    ∙ ap (λ (g : Forest (TreeNode ℕ)). numbers_of g) whole in
     record {
       source = source;
       tables = tables;
       first = Some first;
-      holds = subst (λ (g : Forest (Label ℕ)). Holds source tables nodes (Some first) g) whole
+      holds = subst (λ (g : Forest (TreeNode ℕ)). Holds source tables nodes (Some first) g) whole
           (holds_numbered source tables nodes (Some first) f h.ready.reaches.spelled);
       found = found;
       once = λ n. subst (λ (g : Forest ℕ). total (same n) g ≤ 1) found (h.ready.once n);
-      number = ap (λ (a : Label ℕ). a.tag) label;
+      number = ap (λ (a : TreeNode ℕ). a.note) label;
       order = rw label o.holds.lies.ordered;
     }

@@ -12,7 +12,7 @@ pub mod ChainReadLemmas
 pub mod NodeReadLemmas
 pub mod LeftTreesLemmas
 pub mod StandsToLemmas
-pub mod BehindLemmas
+pub mod FollowsLemmas
 pub mod LeftRisesLemmas
 pub mod ReadingLemmas
 pub mod PassOneLemmas
@@ -40,7 +40,7 @@ pub mod PutShownLemmas
 pub mod PutNameLemmas
 pub mod OverTreesLemmas
 pub mod LastInsideLemmas
-pub mod SettlingLemmas
+pub mod LiteralTextLemmas
 pub mod PairedLemmas
 pub mod WorkLemmas
 pub mod ChainPlaceLemmas

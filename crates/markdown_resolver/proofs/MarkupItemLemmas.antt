@@ -24,7 +24,7 @@ use Rattle.markdown_document.specs.ChainRest.{joined_chains, past}
 use Rattle.markdown_document.specs.Document.{Plain}
 use Rattle.markdown_document.specs.LinkOrigins.{IsLinkFrom}
 use Rattle.markdown_document.specs.Origins.{IsSliceWithin, Origin, sliced}
-use Rattle.markdown_document.specs.Places.{label_at, trees_from}
+use Rattle.markdown_document.specs.Places.{tree_node_at, trees_from}
 use Rattle.markdown_document.specs.PlacedNodes.{HasSliceLink, IsPlaced}
 use Rattle.markdown_document.specs.Setting.{Rules, setting_of}
 use Rattle.markdown_document.specs.Tables.{Tables, link_at, link_origins, tables_of}
@@ -38,17 +38,17 @@ use Rattle.markdown_raw_html.proofs.RawHtmlLemmas.{EndsWith}
 use Rattle.markdown_raw_html.proofs.TagSourceLemmas.{Closes-html_tag}
 use Rattle.markdown_defs.specs.Allocations.{Allocated, LinkParts}
 use Rattle.markdown_defs.specs.AllocationCalls.{with_link}
-use Rattle.markdown_resolver.specs.declared.rest.Rest.{Rest}
+use Rattle.markdown_resolver.specs.declared.continuation.Continuation.{Continuation}
 use Rattle.markdown_resolver.specs.Chains.{CanResolve}
 use Rattle.markdown_resolver.specs.MarkupItems.{IsAddress, address_to, item_to, standing_for}
 use Rattle.markdown_resolver.specs.Rewritten.{CanPut, CanPutParent, Puts, Standing, one_item, parent, replaced}
 use Rattle.markdown_resolver.proofs.CodeSpanLemmas.{can_put_text, PutsText}
-use Rattle.markdown_resolver.proofs.SettlingLemmas.{names_nothing}
+use Rattle.markdown_resolver.proofs.LiteralTextLemmas.{names_nothing}
 use Rattle.markdown_resolver.proofs.PutFoundLemmas.{same_before}
 use Rattle.markdown_resolver.proofs.FollowersLemmas.{opens_chain}
 use Rattle.markdown_resolver.proofs.MarkupEndLemmas.{EndsClosed}
 
--- a boundary of a text is one of the text's beginning up to some byte behind it
+-- a boundary of a text is one of the text's beginning up to some byte after it
 pub boundary_before : (text : List ℕ) (end i : ℕ) → IsCharBoundary text i → i ≤ end → IsCharBoundary (take end text) i
 boundary_before text end i at before = (
   omega (arith, length-take end text, at.0, before),
@@ -252,8 +252,9 @@ can_put_autolink source tables tables' number uri nodes ix end put lies there = 
 -- they read as the trees that replace what was found
 abbrev pub ReadsFor : List ℕ → Rules → Tables → List (Node Item) → ℕ → Standing → Markup → Type 0
 ReadsFor source rules tables nodes ix trees m =
-    trees (label_at source tables nodes ix) (trees_from source tables nodes (child_of nodes ix))
-    ≡ standing_for source rules m (label_at source tables nodes ix) (trees_from source tables nodes (child_of nodes ix))
+    trees (tree_node_at source tables nodes ix) (trees_from source tables nodes (child_of nodes ix))
+    ≡ standing_for source rules m (tree_node_at source tables nodes ix) (trees_from source tables nodes
+    (child_of nodes ix))
 
 pub html_trees : (source : List ℕ) (rules : Rules) (tables tables' : Tables) (nodes : List (Node Item)) (ix end : ℕ)
     → ReadsFor source rules tables nodes ix (one_item source tables' (item_to nodes ix end body.InlineHtml))
@@ -265,7 +266,7 @@ pub owned_trees : (source : List ℕ) (rules : Rules) (tables tables' : Tables) 
     → ReadsFor source rules tables nodes ix
     (one_item source tables' (item_to nodes ix end (body.OwnedInlineHtml number))) (html_markup end (Some bytes))
 owned_trees source rules tables tables' number bytes nodes ix end put =
-    ap (λ (xs : List ℕ). markup_trees (setting_of source rules) tt (label_at source tables nodes ix)
+    ap (λ (xs : List ℕ). markup_trees (setting_of source rules) tt (tree_node_at source tables nodes ix)
     (html_markup end (Some xs))) put.found
 
 pub autolink_trees : (source : List ℕ) (rules : Rules) (tables tables' : Tables) (number : LinkIndex) (uri : List ℕ)
@@ -283,7 +284,7 @@ one_markup source rules (html_markup end (Some bytes)) a below = refl
 
 -- so what was put in place replaces it
 pub puts_standing : (source : List ℕ) (rules : Rules) (m : Markup) (ix : ℕ) (trees : Standing) (goes_on : Option ℕ)
-    (rest : Rest) (old new : List (Node Item)) (tables tables' : Tables)
+    (rest : Continuation) (old new : List (Node Item)) (tables tables' : Tables)
     → CanResolve source tables old (Some ix) → ReadsFor source rules tables old ix trees m
     → Puts source ix trees goes_on rest old new tables tables'
     → Puts source ix (standing_for source rules m) goes_on rest old new tables tables'
@@ -297,9 +298,9 @@ puts_standing source rules m ix trees goes_on rest old new tables tables' ready 
   standing = p.standing;
   numbers = p.numbers;
   as_many = λ a below.
-      one_markup source rules m a below ∙ sym (one_markup source rules m (label_at source tables old ix)
+      one_markup source rules m a below ∙ sym (one_markup source rules m (tree_node_at source tables old ix)
       (trees_from source tables old (child_of old ix)))
-      ∙ ap (λ (f : Forest Plain). length (roots f)) (sym same) ∙ p.as_many (label_at source tables old ix)
+      ∙ ap (λ (f : Forest Plain). length (roots f)) (sym same) ∙ p.as_many (tree_node_at source tables old ix)
       (trees_from source tables old (child_of old ix));
 }
   where

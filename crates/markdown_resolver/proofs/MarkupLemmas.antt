@@ -15,12 +15,12 @@ use Rattle.markdown_base.specs.declared.item.Item.{Item}
 use Rattle.markdown_base.specs.declared.item.ItemBody.TheVariants as body
 use Rattle.markdown_base.specs.declared.node.Node.{Node}
 use Rattle.markdown_base.proofs.ArenaForestLemmas.{opens}
-use Rattle.markdown_document.specs.Above.{Above}
-use Rattle.markdown_document.specs.Stages.{above_cursor}
+use Rattle.markdown_document.specs.EnclosingBlocks.{EnclosingBlocks}
+use Rattle.markdown_document.specs.ResolverStates.{above_cursor}
 use Rattle.markdown_document.specs.ChainRest.{next_starts_at, past}
-use Rattle.markdown_document.specs.Document.{plain_tags}
+use Rattle.markdown_document.specs.Document.{no_notes}
 use Rattle.markdown_document.specs.Origins.{IsSliceWithin}
-use Rattle.markdown_document.specs.Places.{label_at, trees_from}
+use Rattle.markdown_document.specs.Places.{tree_node_at, trees_from}
 use Rattle.markdown_document.specs.PlacedNodes.{IsPlaced}
 use Rattle.markdown_document.specs.Setting.{Rules, Setting, setting_of}
 use Rattle.markdown_document.specs.Tables.{Tables, tables_of}
@@ -34,11 +34,11 @@ use Rattle.markdown_spans.proofs.SliceLemmas.{slice_of_slice}
 use Rattle.markdown_document.proofs.OriginLemmas.{slice_wider}
 use Rattle.markdown_defs.specs.Allocations.{Allocated}
 use Rattle.markdown_brackets.proofs.WrittenLemmas.{whole_range}
-use Rattle.markdown_resolver.specs.declared.rest.Rest.{Rest}
+use Rattle.markdown_resolver.specs.declared.continuation.Continuation.{Continuation}
 use Rattle.markdown_resolver.specs.ChainPlace.{CanReadItem, IsPlaceOf}
 use Rattle.markdown_resolver.specs.Chains.{CanResolve}
 use Rattle.markdown_resolver.specs.MarkupItems.{HasAddress, IsMarkupAt, standing_for}
-use Rattle.markdown_resolver.specs.Rewritten.{Puts, settled, text_unless}
+use Rattle.markdown_resolver.specs.Rewritten.{Puts, literal, text_unless}
 use Rattle.markdown_resolver.specs.ReadsItem.{ReadsItem}
 use Rattle.markdown_document.specs.declared.chain_place.ChainPlace.{ChainPlace}
 use Rattle.markdown_resolver.proofs.ChainPlaceLemmas.{prefix_is}
@@ -49,13 +49,13 @@ use Rattle.markdown_resolver.proofs.ReadsItemLemmas.{ReadsAs, opener_unquiet, re
 use Rattle.markdown_resolver.proofs.FollowersLemmas.{opens_chain}
 
 -- where nothing is found, a `<` is a Text
-settled_reads : (s : Setting) (above : Above) (tables : Tables) (nodes : List (Node Item)) (ix : ℕ)
-    → (item_at nodes ix).body ≡ body.MaybeHtml → markup_found s above (label_at s.text tables nodes ix)
+literal_reads : (s : Setting) (above : EnclosingBlocks) (tables : Tables) (nodes : List (Node Item)) (ix : ℕ)
+    → (item_at nodes ix).body ≡ body.MaybeHtml → markup_found s above (tree_node_at s.text tables nodes ix)
     (next_starts_at (item_at nodes ix).end (trees_from s.text tables nodes (sibling_of nodes ix))) ≡ nothing
-    → ReadsAs s above tables nodes ix (settled s.text) None
-settled_reads s above tables nodes ix is none =
-    let a = label_at s.text tables nodes ix in
-    let r = read_opener s above tables nodes ix body.MaybeHtml is refl refl ∙ ap (passed s plain_tags 0 a) none in
+    → ReadsAs s above tables nodes ix (literal s.text) None
+literal_reads s above tables nodes ix is none =
+    let a = tree_node_at s.text tables nodes ix in
+    let r = read_opener s above tables nodes ix body.MaybeHtml is refl refl ∙ ap (passed s no_notes 0 a) none in
     let waits = opener_unquiet s tables nodes ix body.MaybeHtml is refl refl in
     record {
       standing = ap (λ (p : Passed (Unit {0})). p.trees) r
@@ -65,19 +65,19 @@ settled_reads s above tables nodes ix is none =
     }
 
 -- otherwise it becomes the trees of the markup
-found_reads : (s : Setting) (above : Above) (tables : Tables) (nodes : List (Node Item)) (ix : ℕ) (m : Markup)
-    → (item_at nodes ix).body ≡ body.MaybeHtml → markup_found s above (label_at s.text tables nodes ix)
+found_reads : (s : Setting) (above : EnclosingBlocks) (tables : Tables) (nodes : List (Node Item)) (ix : ℕ) (m : Markup)
+    → (item_at nodes ix).body ≡ body.MaybeHtml → markup_found s above (tree_node_at s.text tables nodes ix)
     (next_starts_at (item_at nodes ix).end (trees_from s.text tables nodes (sibling_of nodes ix))) ≡ markup m
     → ReadsAs s above tables nodes ix (standing_for s.text s.rules m) (Some (end_of_markup m))
 found_reads s above tables nodes ix m is found =
     let r = read_opener s above tables nodes ix body.MaybeHtml is refl refl
-    ∙ ap (passed s plain_tags 0 (label_at s.text tables nodes ix)) found in
+    ∙ ap (passed s no_notes 0 (tree_node_at s.text tables nodes ix)) found in
     record { standing = ap (λ (p : Passed (Unit {0})). p.trees) r; ends = ap (λ (p : Passed (Unit {0})). p.goes_on) r }
 
 -- whether the next item starts at a byte
 starts_in : (source : List ℕ) (tables : Tables) (nodes : List (Node Item)) (i : ℕ) (l : Option ℕ) (f : Forest ℕ)
     → Spells (links_of nodes) l f → option_map_or (λ ix. (item_at nodes ix).start == i) l false
-    ≡ next_starts_at i (relabelled (label_at source tables nodes) f)
+    ≡ next_starts_at i (relabelled (tree_node_at source tables nodes) f)
 starts_in source tables nodes i l nil s = rw s refl
 starts_in source tables nodes i l (node ix below after) s = rw s.0 refl
 
@@ -165,7 +165,7 @@ markup_or_nothing found = option_map_or markup found nothing
 abbrev pub found_by : ChainPlace → Arena Item → Allocated → ℕ → Rules → Find (Unit {0})
 found_by place tree held ix rules =
     markup_found (setting_of place.text.now rules) (above_cursor place.text.now tree)
-    (label_at place.text.now (tables_of held) tree.nodes ix) (next_starts_at (item_at tree.nodes ix).end
+    (tree_node_at place.text.now (tables_of held) tree.nodes ix) (next_starts_at (item_at tree.nodes ix).end
     (trees_from place.text.now (tables_of held) tree.nodes (sibling_of tree.nodes ix)))
 
 -- it is what was scanned
@@ -177,7 +177,7 @@ scan_finds place tree held ix prefix found rules is gfm =
     let s = setting_of place.text.now rules in
     let item = item_at tree.nodes ix in
     let after = sym (next_starts place.text.now (tables_of held) tree.nodes item.end ix is.can.ready) ∙ is.follows in
-    ap (markup_found s (above_cursor place.text.now tree) (label_at place.text.now (tables_of held) tree.nodes ix))
+    ap (markup_found s (above_cursor place.text.now tree) (tree_node_at place.text.now (tables_of held) tree.nodes ix))
     after ∙ ap markup_or_nothing
     (scanned_is place prefix tree rules item.start item.end found is.here is.gfm gfm is.can.stands is.value)
 
@@ -194,7 +194,7 @@ none_follows place tree held ix rules item next can same after none =
     ∙ (ap (λ (i : Item). option_map_or (λ n. (item_at tree.nodes n).start == i.end) next false) (sym same) ∙ sym none))
     in
     ap (markup_found (setting_of place.text.now rules) (above_cursor place.text.now tree)
-    (label_at place.text.now (tables_of held) tree.nodes ix)) follows
+    (tree_node_at place.text.now (tables_of held) tree.nodes ix)) follows
 
 -- nor where the `<` is not before the block's end
 pub none_past_block : (place : ChainPlace) (tree : Arena Item) (held : Allocated) (ix : ℕ) (rules : Rules) (item : Item)
@@ -223,7 +223,7 @@ none_past_block place tree held ix rules item can opener same past =
         (omega (arith, long))
 
     by_next : (follows : Bool) → markup_found (setting_of place.text.now rules) (above_cursor place.text.now tree)
-        (label_at place.text.now (tables_of held) tree.nodes ix) follows ≡ nothing
+        (tree_node_at place.text.now (tables_of held) tree.nodes ix) follows ≡ nothing
     by_next false = refl
     by_next true = ap markup_or_nothing none
 
@@ -274,21 +274,22 @@ markup_stands {place} {tree} {held} {ix} {prefix} {m} is =
       address = has_address place tree held ix m is.can at;
     }
 
--- where nothing is found the item is read as it is settled
-pub reads_text : {place : ChainPlace} {tree : Arena Item} {held : Allocated} {ix : ℕ} {rules : Rules} {rest : Rest}
+-- where nothing is found the item is read as it becomes literal text
+pub reads_text : {place : ChainPlace} {tree : Arena Item} {held : Allocated} {ix : ℕ} {rules : Rules} {rest :
+    Continuation}
     {new : List (Node Item)} → CanReadItem place tree held ix
     → (item_at tree.nodes ix).body ≡ body.MaybeHtml → found_by place tree held ix rules ≡ nothing
-    → Puts place.text.now ix (settled place.text.now) None rest tree.nodes new (tables_of held) (tables_of held)
+    → Puts place.text.now ix (literal place.text.now) None rest tree.nodes new (tables_of held) (tables_of held)
     → ReadsItem (setting_of place.text.now rules) (above_cursor place.text.now tree) ix rest tree.nodes new
     (tables_of held) (tables_of held)
 reads_text {place} {tree} {held} {ix} {rules} {rest} {new} can opener none p =
     let s = setting_of place.text.now rules in
     let above = above_cursor place.text.now tree in
-    reads_item can.ready (settled_reads s above (tables_of held) tree.nodes ix opener none) p
+    reads_item can.ready (literal_reads s above (tables_of held) tree.nodes ix opener none) p
 
 -- where markup is found, the item is read as the trees that replace it
 pub reads_found : (place : ChainPlace) (tree : Arena Item) (held : Allocated) (ix : ℕ) (prefix : ContainerPrefix)
-    (m : Markup) (rules : Rules) (rest : Rest) (new : List (Node Item)) (tables' : Tables)
+    (m : Markup) (rules : Rules) (rest : Continuation) (new : List (Node Item)) (tables' : Tables)
     → IsScanned place tree held ix prefix (Some m) → gfm_footnotes_on rules.options ≡ gfm_footnotes_on place.options
     → Puts place.text.now ix (standing_for place.text.now rules m) (Some (end_of_markup m)) rest tree.nodes new
     (tables_of held) tables'

@@ -16,10 +16,10 @@ use Rattle.markdown_base.specs.declared.item.ItemBody.{ItemBody}
 use Rattle.markdown_base.specs.declared.item.ItemBody.TheVariants as body
 use Rattle.markdown_base.specs.declared.node.Node.{Node}
 use Rattle.markdown_document.specs.Origins.{Origin, origin_at}
-use Rattle.markdown_document.specs.Above.{Above}
+use Rattle.markdown_document.specs.EnclosingBlocks.{EnclosingBlocks}
 use Rattle.markdown_document.specs.ChainRest.{as_item, end_of, open_body}
 use Rattle.markdown_document.specs.Document.{Plain}
-use Rattle.markdown_document.specs.Places.{label_at, trees_from}
+use Rattle.markdown_document.specs.Places.{tree_node_at, trees_from}
 use Rattle.markdown_document.specs.PlacedNodes.{IsPlaced}
 use Rattle.markdown_document.specs.Setting.{Setting}
 use Rattle.markdown_document.specs.Tables.{Tables, text_at}
@@ -36,14 +36,14 @@ use Rattle.markdown_spans.specs.declared.span_closers.FoundMath.{FoundMath}
 use Rattle.markdown_spans.specs.declared.span_text.SpanKind.TheVariants.{Math}
 use Rattle.markdown_spans.proofs.SliceLemmas.{sliced_wider}
 use Rattle.markdown_resolver.specs.Chains.{CanResolve}
-use Rattle.markdown_resolver.specs.Rewritten.{CanPut, IsFoundAt, one_item, settled}
+use Rattle.markdown_resolver.specs.Rewritten.{CanPut, IsFoundAt, one_item, literal}
 use Rattle.markdown_resolver.specs.StoredText.{CanCut, StoresText, text_between, origin_between}
 use Rattle.markdown_resolver.proofs.PutFoundLemmas.{same_before}
 use Rattle.markdown_resolver.proofs.FollowersLemmas.{InOrder, OpenedChain, each_root, followers, opens_chain}
 use Rattle.markdown_resolver.proofs.FollowersLemmas.{order_around}
 use Rattle.markdown_resolver.proofs.CodeSpanLemmas.{found_at}
 use Rattle.markdown_resolver.proofs.ReadsItemLemmas.{ReadsAs, opener_shape, opener_unquiet, read_opener}
-use Rattle.markdown_resolver.proofs.SpanFindLemmas.{StandsAmong, dollar_next_shown, label_alike, math_from_shown}
+use Rattle.markdown_resolver.proofs.SpanFindLemmas.{StandsAmong, dollar_next_shown, node_alike, math_from_shown}
 use Rattle.markdown_resolver.proofs.SpanFindLemmas.{number_alike, shown_close}
 
 -- a `$` is an item of this kind
@@ -85,14 +85,14 @@ text_start nodes ix = option_map_or (λ second. (item_at nodes second).end)
     (dollar_next (item_at nodes) (followers nodes ix)) (item_at nodes ix).end
 
 start_shown : (source : List ℕ) (tables : Tables) (nodes : List (Node Item)) (ix : ℕ) (xs : List ℕ)
-    → math_text_start (label_at source tables nodes ix) (map (label_at source tables nodes) xs)
+    → math_text_start (tree_node_at source tables nodes ix) (map (tree_node_at source tables nodes) xs)
     ≡ option_map_or (λ second. (item_at nodes second).end) (dollar_next (item_at nodes) xs) (item_at nodes ix).end
 start_shown source tables nodes ix xs =
-    let show = label_at source tables nodes in
+    let show = tree_node_at source tables nodes in
     ap (λ (o : Option Plain). option_map_or end_of o (end_of (show ix)))
-    (dollar_next_shown as_item show nodes (label_alike source tables nodes) xs) ∙ by (dollar_next (item_at nodes) xs)
+    (dollar_next_shown as_item show nodes (node_alike source tables nodes) xs) ∙ by (dollar_next (item_at nodes) xs)
   where
-    by : (o : Option ℕ) → option_map_or end_of (option_map (label_at source tables nodes) o) (item_at nodes ix).end
+    by : (o : Option ℕ) → option_map_or end_of (option_map (tree_node_at source tables nodes) o) (item_at nodes ix).end
         ≡ option_map_or (λ second. (item_at nodes second).end) o (item_at nodes ix).end
     by None = refl
     by (Some second) = refl
@@ -105,35 +105,37 @@ start_linked nodes low l (x ∷ xs) h = rw h.0 refl
 
 -- so this is what pass one finds there
 opener_item : (s : Setting) (tables : Tables) (nodes : List (Node Item)) (ix : ℕ) (b : ItemBody)
-    → (item_at nodes ix).body ≡ b → is_open b ≡ true → as_item (label_at s.text tables nodes ix) ≡ item_at nodes ix
+    → (item_at nodes ix).body ≡ b → is_open b ≡ true → as_item (tree_node_at s.text tables nodes ix) ≡ item_at nodes ix
 opener_item s tables nodes ix b is opens =
     let item = item_at nodes ix in
     ap (λ (b : ItemBody). let i : Item = record { start = item.start; end = item.end; body = b } in i)
     (ap open_body (opener_shape s tables nodes ix b is opens) ∙ sym is)
 
-math_read : (s : Setting) (above : Above) (tables : Tables) (nodes : List (Node Item)) (ix : ℕ) (opens closes : Bool)
+math_read : (s : Setting) (above : EnclosingBlocks) (tables : Tables) (nodes : List (Node Item)) (ix : ℕ)
+    (opens closes : Bool)
     (context : ℕ) (found : Option FoundMath)
     → CanResolve s.text tables nodes (Some ix) → (item_at nodes ix).body ≡ body.MaybeMath opens closes context
     → ClosesMath nodes ix found
-    → find_by s above (body.MaybeMath opens closes context) (label_at s.text tables nodes ix)
+    → find_by s above (body.MaybeMath opens closes context) (tree_node_at s.text tables nodes ix)
     (trees_from s.text tables nodes (sibling_of nodes ix))
-    ≡ math_found s above (label_at s.text tables nodes ix) (map (label_at s.text tables nodes) (followers nodes ix))
-    (option_map (shown_close (label_at s.text tables nodes)) (option_map close_of found))
+    ≡ math_found s above (tree_node_at s.text tables nodes ix) (map (tree_node_at s.text tables nodes)
+    (followers nodes ix))
+    (option_map (shown_close (tree_node_at s.text tables nodes)) (option_map close_of found))
 math_read s above tables nodes ix opens closes context found ready is closed =
     let o = opens_chain ready in
-    let show = label_at s.text tables nodes in
+    let show = tree_node_at s.text tables nodes in
     let xs = followers nodes ix in
     ap (λ (l : List Plain). math_found s above (show ix) l (math_close_from as_item (as_item (show ix)) l)) o.labels
     ∙ ap (math_found s above (show ix) (map show xs)) (ap (λ (i : Item). math_close_from as_item i (map show xs))
     (opener_item s tables nodes ix (body.MaybeMath opens closes context) is
-    refl) ∙ math_from_shown as_item show nodes (label_alike s.text tables nodes) (item_at nodes ix) xs
+    refl) ∙ math_from_shown as_item show nodes (node_alike s.text tables nodes) (item_at nodes ix) xs
     ∙ ap (option_map (shown_close show)) (math_by_number ready closed))
 
 -- where nothing closes it, a Text is read
-pub no_math_reads : (s : Setting) (above : Above) (tables : Tables) (nodes : List (Node Item)) (ix : ℕ)
+pub no_math_reads : (s : Setting) (above : EnclosingBlocks) (tables : Tables) (nodes : List (Node Item)) (ix : ℕ)
     (opens closes : Bool) (context : ℕ)
     → CanResolve s.text tables nodes (Some ix) → (item_at nodes ix).body ≡ body.MaybeMath opens closes context
-    → ClosesMath nodes ix None → ReadsAs s above tables nodes ix (settled s.text) None
+    → ClosesMath nodes ix None → ReadsAs s above tables nodes ix (literal s.text) None
 no_math_reads s above tables nodes ix opens closes context ready is closed =
     let b = body.MaybeMath opens closes context in
     let e = read_opener s above tables nodes ix b is refl refl in
@@ -149,7 +151,7 @@ math_item nodes ix m cow = record {
   body = body.Math cow m.display;
 }
 
-pub math_reads : (s : Setting) (above : Above) (tables tables' : Tables) (nodes : List (Node Item)) (ix : ℕ)
+pub math_reads : (s : Setting) (above : EnclosingBlocks) (tables tables' : Tables) (nodes : List (Node Item)) (ix : ℕ)
     (m : FoundMath) (opens closes : Bool) (context : ℕ) (cow : CowIndex)
     → CanResolve s.text tables nodes (Some ix) → (item_at nodes ix).body ≡ body.MaybeMath opens closes context
     → ClosesMath nodes ix (Some m)
@@ -209,7 +211,8 @@ inline_stands nodes i context xs m ordered none closes = by (first_dollar (item_
     here d first closer last =
         let f = first_dollar_among nodes context xs d first in
         let parts : xs ≡ f.before ++ m.closer ∷ d.after = f.parts ∙ ap (λ x. f.before ++ x ∷ d.after) closer in
-        let around = order_around nodes i f.before m.closer d.after (subst (InOrder nodes i) parts ordered) in
+        let around = order_around nodes i f.before m.closer d.after (subst
+        (InOrder nodes i) parts ordered) in
         let same : m.closer ≡ m.last = sym closer ∙ last in
         record {
           before = f.before;
@@ -255,7 +258,8 @@ display_last nodes second context i ys m d ordered next first closer zs after =
     let parts : ys ≡ f.before ++ m.closer ∷ d.after = f.parts ∙ ap (λ x. f.before ++ x ∷ d.after) closer in
     let all : ys ≡ f.before ++ m.closer ∷ m.last ∷ zs = parts ∙ ap (λ later. f.before ++ m.closer ∷ later) after in
     let end = (item_at nodes second).end in
-    let around = order_around nodes end f.before m.closer d.after (subst (InOrder nodes end) parts ordered.2) in
+    let around = order_around nodes end f.before m.closer d.after (subst
+    (InOrder nodes end) parts ordered.2) in
     let later : InOrder nodes (item_at nodes m.closer).end (m.last ∷ zs) = subst
     (InOrder nodes (item_at nodes m.closer).end) after around.later in
     record {

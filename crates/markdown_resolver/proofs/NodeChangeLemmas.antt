@@ -7,7 +7,7 @@ use Rattle.markdown_base.specs.declared.item.Item.{Item}
 use Rattle.markdown_base.specs.declared.node.Node.{Node}
 use Rattle.markdown_base.proofs.ArenaLemmas.{length-changed_at}
 use Rattle.markdown_document.specs.PlacedNodes.{IsSameAt}
-use Rattle.markdown_resolver.specs.Settling.{IsWritten}
+use Rattle.markdown_resolver.specs.LiteralText.{IsWritten}
 
 -- the others stay
 pub changed_other : (nodes : List (Node Item)) (ix : ℕ) (change : Node Item → Node Item) (n : ℕ) → (n ≡ ix → ⊥)

@@ -6,19 +6,19 @@ use Rattle.markdown_base.specs.BlockTree.{item_at}
 use Rattle.markdown_base.specs.Questions.{Question, Answer}
 use Rattle.markdown_base.specs.declared.item.Item.{Item}
 use Rattle.markdown_brackets.specs.LeftList.{Entry}
-use Rattle.markdown_document.specs.Above.{Above}
+use Rattle.markdown_document.specs.EnclosingBlocks.{EnclosingBlocks}
 use Rattle.markdown_document.specs.Setting.{Setting, Rules, rules_from, setting_of}
-use Rattle.markdown_document.specs.Stages.{items_from, above_cursor}
+use Rattle.markdown_document.specs.ResolverStates.{items_from, above_cursor}
 use Rattle.markdown_document.specs.Tables.{tables_of, Tables}
 use Rattle.markdown_spans.specs.SpanClosers.{HoldsFrom, Learned, has_failed}
 use Rattle.markdown_spans.specs.declared.span_text.SpanKind.{SpanKind}
 use Rattle.markdown_resolver.specs.BracketKinds.{kind_of}
 use Rattle.markdown_resolver.specs.ReadOn.{ReadsOn, StandsTo}
 use Rattle.markdown_resolver.specs.ReadsBracket.{CanReadNode, ChangesForBracket, ChangesForNode, ReadsBracket}
-use Rattle.markdown_resolver.specs.ReadsBracket.{ReadsNode, StopsLooking, WasReadTo, setting_by, stage_by}
+use Rattle.markdown_resolver.specs.ReadsBracket.{ReadsNode, StopsLooking, WasReadTo, setting_by, resolver_state_by}
 use Rattle.markdown_resolver.specs.ReadsBracket.{ChangesForOther, HasLearned, Looked, ReadsOther, CanReadOther}
 use Rattle.markdown_resolver.specs.ReadsItem.{ReadsItem, read_at}
-use Rattle.markdown_resolver.specs.declared.rest.Rest.{Rest}
+use Rattle.markdown_resolver.specs.declared.continuation.Continuation.{Continuation}
 use Rattle.markdown_document.specs.declared.chain_place.ChainPlace.{ChainPlace}
 use Rattle.markdown_resolver.specs.declared.resolver.Resolver.{Resolver}
 use Rattle.markdown_resolver.proofs.ChainLeadsLemmas.{chain_leads, holds_next}
@@ -34,7 +34,8 @@ use Rattle.markdown_base.specs.declared.node.Node.{Node}
 use Rattle.markdown_base.specs.EnabledOptions.{gfm_footnotes_on}
 use Rattle.markdown_base.specs.declared.fault.Fault.{Fault}
 
-module _ {C : Type 0} {step : C → Question → Option Answer → C → Type 0} {place : ChainPlace} {ix : ℕ} {rest : Rest}
+module _ {C : Type 0} {step : C → Question → Option Answer → C
+    → Type 0} {place : ChainPlace} {ix : ℕ} {rest : Continuation}
     {tree tree' : Arena Item} {old new : Resolver C} (can : CanReadNode place tree old ix) where
   -- a bracket leaves searches as they are
   pub bracket_read : ChangesForBracket old new → ReadsBracket step place ix rest tree tree' old new
@@ -71,23 +72,28 @@ bracket_stops {C} ix tree old new changes =
 
 -- another item was read, after any left list
 pub other_on : {C : Type 0} (step : C → Question → Option Answer → C → Type 0) (place : ChainPlace) (ix : ℕ)
-    (rest : Rest) (tree tree' : Arena Item) (old new : Resolver C) → CanReadNode place tree old ix
+    (rest : Continuation) (tree tree' : Arena Item) (old new : Resolver C) → CanReadNode place tree old ix
     → kind_of (item_at tree.nodes ix).body ≡ None → ChangesForOther old new
     → ReadsItem (setting_by old) (above_cursor old.text.now tree) ix rest tree.nodes tree'.nodes
     (tables_of old.lookup.tables) (tables_of new.lookup.tables)
     → (first : ℕ) (left : List (Entry ℕ)) → WasReadTo place tree old first ix left
-    → ReadsOn step (setting_by old) (above_cursor old.text.now tree) first (Some ix) rest.next left (stage_by tree old)
-    (stage_by tree' new) old.waiting.spent new.waiting.spent new.waiting.openers.brackets new.waiting.openers.wikilinks
+    → ReadsOn step (setting_by old) (above_cursor old.text.now tree) first (Some ix) rest.next left
+    (resolver_state_by tree old)
+    (resolver_state_by tree' new) old.waiting.spent new.waiting.spent new.waiting.openers.brackets
+    new.waiting.openers.wikilinks
 other_on {C} step place ix rest tree tree' old new can kind kept r first left was_read =
     let so_far : StandsTo old.text.now (tables_of old.lookup.tables) tree.nodes first (Some ix) left = rw (← can.text)
     was_read.so_far in
-    let same : stage_by tree' new
-    ≡ record (stage_by tree old) { nodes = tree'.nodes; tables = tables_of new.lookup.tables } = rw kept refl in
+    let same : resolver_state_by tree' new
+    ≡ record (resolver_state_by tree old) { nodes = tree'.nodes; tables = tables_of new.lookup.tables } = rw kept refl
+    in
     subst (λ (x : Resolver C). ReadsOn step (setting_by old) (above_cursor old.text.now tree) first (Some ix) rest.next
-    left (stage_by tree old) (stage_by tree' new) old.waiting.spent x.waiting.spent x.waiting.openers.brackets
+    left (resolver_state_by tree old)
+    (resolver_state_by tree' new) old.waiting.spent x.waiting.spent x.waiting.openers.brackets
     x.waiting.openers.wikilinks) (sym kept)
-    (reads_on_item step (setting_by old) (above_cursor old.text.now tree) first ix rest left (stage_by tree old)
-    (stage_by tree' new)
+    (reads_on_item step (setting_by old) (above_cursor old.text.now tree) first ix rest left
+    (resolver_state_by tree old)
+    (resolver_state_by tree' new)
     old.waiting.spent old.waiting.openers.brackets old.waiting.openers.wikilinks same so_far was_read.openers
     (other_kind (item_at tree.nodes ix).body kind) r)
 
@@ -103,7 +109,7 @@ other_changes {C} {old} {new} kept = record {
 }
 
 -- what is left after it was not read
-unread_read : (s : Setting) (above : Above) (ix : ℕ) (rest : Rest) (old new : List (Node Item))
+unread_read : (s : Setting) (above : EnclosingBlocks) (ix : ℕ) (rest : Continuation) (old new : List (Node Item))
     (tables tables' : Tables)
     → CanResolve s.text tables old (Some ix) → ReadsItem s above ix rest old new tables tables'
     → IsUnread (trees_from s.text tables old (Some ix)) → IsUnread (trees_from s.text tables' new rest.next)
@@ -119,7 +125,7 @@ ready_before {C} {place} {tree} {old} {ix} can = subst
     (ready_here can.was_read)
 
 -- an item that is not a bracket was read, unless memory was refused
-pub other_read : {C E : Type 0} (r : Result Rest E) (step : C → Question → Option Answer → C → Type 0)
+pub other_read : {C E : Type 0} (r : Result Continuation E) (step : C → Question → Option Answer → C → Type 0)
     (place : ChainPlace) (ix : ℕ) (tree tree' : Arena Item) (old new : Resolver C) → CanReadNode place tree old ix
     → kind_of (item_at tree.nodes ix).body ≡ None → ChangesForOther old new
     → IfOk r (λ rest. ReadsOther ix rest tree tree' old new)
@@ -138,7 +144,8 @@ other_read (Ok rest) step place ix tree tree' old new can kind kept reads = reco
 other_read (Err fault) step place ix tree tree' old new can kind kept reads = tt
 
 -- an item was read without a search, by any rules with the footnotes of its place
-pub only_reads : {C E : Type 0} (r : Result Rest E) (place : ChainPlace) (tree : Arena Item) (old new : Resolver C)
+pub only_reads : {C E : Type 0} (r : Result Continuation E) (place : ChainPlace) (tree : Arena Item)
+    (old new : Resolver C)
     (ix : ℕ)
     (tree' : Arena Item) → CanReadOther place tree old ix → IfOk r (λ rest. tree' ≡ record tree { nodes = tree'.nodes })
     → IfOk r (λ rest. (rules : Rules) → gfm_footnotes_on rules.options ≡ gfm_footnotes_on place.options
@@ -147,7 +154,7 @@ pub only_reads : {C E : Type 0} (r : Result Rest E) (place : ChainPlace) (tree :
     → new.code_closers ≡ old.code_closers → new.math_closers ≡ old.math_closers → new.work ≡ old.work
     → IfOk r (λ rest. ReadsOther ix rest tree tree' old new)
 only_reads (Ok rest) place tree old new ix tree' can place_is reads code math work =
-    let result : Result Rest Fault = Ok rest in
+    let result : Result Continuation Fault = Ok rest in
     let read = reads_by_rules result place old.text.now
     (rules_from old.options old.lookup.tables (is_some old.lookup.callback)) tree ix
     tree'.nodes (tables_of old.lookup.tables) (tables_of new.lookup.tables) can.chain.ready can.text

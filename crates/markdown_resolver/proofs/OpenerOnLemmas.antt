@@ -19,34 +19,34 @@ use Rattle.markdown_base.specs.declared.item.ItemBody.{ItemBody}
 use Rattle.markdown_base.specs.declared.node.Node.{Node}
 use Rattle.markdown_base.specs.EnabledOptions.{wikilinks_on}
 use Rattle.markdown_brackets.specs.ReadChain.{is_next}
-use Rattle.markdown_brackets.specs.LeftList.{Entry, Mark, gone, live, trees_onto, waits, all_done}
+use Rattle.markdown_brackets.specs.LeftList.{Entry, OpenerState, gone, live, trees_onto, waits, all_done}
 use Rattle.markdown_brackets.specs.HeldOpeners.{held_as, wikilinks_of}
 use Rattle.markdown_brackets.specs.Openers as waiting
 use Rattle.markdown_brackets.specs.Openers.{Waiting}
 use Rattle.markdown_brackets.specs.Reference.{is_opener}
 use Rattle.markdown_brackets.specs.declared.spent_ends.SpentEnds.{SpentEnds}
 use Rattle.markdown_base.proofs.ArenaForestLemmas.{forest_at-none}
-use Rattle.markdown_document.specs.Above.{Above}
+use Rattle.markdown_document.specs.EnclosingBlocks.{EnclosingBlocks}
 use Rattle.markdown_document.specs.ChainRest.{joined_chains, open_body}
-use Rattle.markdown_document.specs.Document.{Label, Part, Plain, Shape, as_text, plain_tags, shape_of, text_over}
+use Rattle.markdown_document.specs.Document.{TreeNode, Part, Plain, Shape, as_text, no_notes, shape_of, text_over}
 use Rattle.markdown_document.specs.Document.{unresolved}
-use Rattle.markdown_document.specs.Labels.{retag}
-use Rattle.markdown_document.specs.Places.{label_at, trees_from}
-use Rattle.markdown_document.specs.Setting.{Known, Setting}
-use Rattle.markdown_document.specs.Stages.{Stage, chain_at, known_at}
+use Rattle.markdown_document.specs.TreeNodes.{annotate}
+use Rattle.markdown_document.specs.Places.{tree_node_at, trees_from}
+use Rattle.markdown_document.specs.Setting.{ReferenceState, Setting}
+use Rattle.markdown_document.specs.ResolverStates.{ResolverState, chain_at, state_at}
 use Rattle.markdown_document.specs.Tables.{Tables}
 use Rattle.markdown_document.specs.Waiting.{is_quiet}
 use Rattle.markdown_document.proofs.PlaceLemmas.{shape-open}
 use Rattle.markdown_base.proofs.ByteListLemmas.{byte_of_part, part_length}
-use Rattle.markdown_resolver.specs.declared.rest.Rest.{Rest}
+use Rattle.markdown_resolver.specs.declared.continuation.Continuation.{Continuation}
 use Rattle.markdown_resolver.specs.Chains.{CanResolve, ChangesChain}
 use Rattle.markdown_resolver.specs.Kept.{IsQuiet, IsQuietBelow}
-use Rattle.markdown_resolver.specs.PutsTrees.{PutsTrees, numbered_from, numbered_label, without_numbers}
-use Rattle.markdown_resolver.specs.ReadOn.{AreHeld, EachWaits, IsOpener, PutsBehind, ReadsOn, StandsTo, all_read}
+use Rattle.markdown_resolver.specs.PutsTrees.{PutsTrees, numbered_from, numbered_node, without_numbers}
+use Rattle.markdown_resolver.specs.ReadOn.{AreHeld, EachWaits, IsOpener, PutsAfter, ReadsOn, StandsTo, all_read}
 use Rattle.markdown_resolver.specs.ReadOn.{at_left, left_without_numbers}
-use Rattle.markdown_resolver.specs.Rewritten.{Puts, settled, text_unless}
+use Rattle.markdown_resolver.specs.Rewritten.{Puts, literal, text_unless}
 use Rattle.markdown_resolver.proofs.SpanFindLemmas.{body_open}
-use Rattle.markdown_resolver.proofs.BehindLemmas.{behind, puts_behind}
+use Rattle.markdown_resolver.proofs.FollowsLemmas.{follows_so, puts_after}
 use Rattle.markdown_resolver.proofs.ComposeLemmas.{Stands}
 use Rattle.markdown_resolver.proofs.FollowersLemmas.{opens_chain}
 use Rattle.markdown_resolver.proofs.LeftTreesLemmas.{onto_split, quiet_joined}
@@ -107,20 +107,20 @@ ends_with_bracket source item false lies markup is =
     (ap (λ (bytes : List ℕ). get_or bytes 0 0) over)
 
 -- there is one tree
-record OneTree (f : Forest (Label ℕ)) (t : Plain) : Type 0 where
-  label : Label ℕ
+record OneTree (f : Forest (TreeNode ℕ)) (t : Plain) : Type 0 where
+  label : TreeNode ℕ
   is : f ≡ node label nil nil
-  reads : retag (λ n. tt) label ≡ t
+  reads : annotate (λ n. tt) label ≡ t
 
-one_tree : (f : Forest (Label ℕ)) (t : Plain) → without_numbers f ≡ node t nil nil → OneTree f t
+one_tree : (f : Forest (TreeNode ℕ)) (t : Plain) → without_numbers f ≡ node t nil nil → OneTree f t
 one_tree nil t e = cc e
 one_tree (node b nil nil) t e = record { label = b; is = refl; reads = cc e }
-one_tree (node b (node c below after) rest) t e = let no : node (retag (λ n. tt) c) (without_numbers below)
+one_tree (node b (node c below after) rest) t e = let no : node (annotate (λ n. tt) c) (without_numbers below)
     (without_numbers after) ≡ nil = cc e in cc no
-one_tree (node b nil (node c below after)) t e = let no : node (retag (λ n. tt) c) (without_numbers below)
+one_tree (node b nil (node c below after)) t e = let no : node (annotate (λ n. tt) c) (without_numbers below)
     (without_numbers after) ≡ nil = cc e in cc no
 
--- a label shows an opener as it is
+-- a node shows an opener as it is
 opener_shape : (tables : Tables) (source : List ℕ) (b : ItemBody) → is_opener (open_body (shape_of tables source b))
     ≡ is_opener b
 opener_shape tables source body.Paragraph = refl
@@ -152,7 +152,7 @@ held_if false ix is_image held = refl
 
 -- an opener is open, and does not wait for pairing
 opener_settled : (source : List ℕ) (a : Plain) (below : Forest Plain) (is_image : Bool) → a.part.shape
-    ≡ unresolved (opener_body is_image) → settled source a below ≡ node (as_text source a) nil nil
+    ≡ unresolved (opener_body is_image) → literal source a below ≡ node (as_text source a) nil nil
 opener_settled source a below true e = ap (λ (shape : Shape). text_unless (is_quiet shape) source a below) e
 opener_settled source a below false e = ap (λ (shape : Shape). text_unless (is_quiet shape) source a below) e
 
@@ -169,44 +169,44 @@ text_closed tables source bytes b e = by_open (is_open b) refl
     by_open true o = let no : unresolved b ≡ text_over bytes = sym (shape-open tables source b o) ∙ e in cc no
     by_open false o = o
 
--- the node of an opener after it was settled
-pub record IsSettledAt (source : List ℕ) (tables : Tables) (old new : List (Node Item)) (first ix : ℕ) (next : Option ℕ)
+-- the node of an opener after it became literal text
+pub record IsLiteralAt (source : List ℕ) (tables : Tables) (old new : List (Node Item)) (first ix : ℕ) (next : Option ℕ)
     (left : List (Entry ℕ))
     : Type 0 where
-  reads : retag (λ n. tt) (numbered_label source tables new ix) ≡ as_text source (label_at source tables old ix)
-  pub behind_is : PutsBehind source first next left (node (as_text source (label_at source tables old ix)) nil nil)
+  reads : annotate (λ n. tt) (numbered_node source tables new ix) ≡ as_text source (tree_node_at source tables old ix)
+  pub after_is : PutsAfter source first next left (node (as_text source (tree_node_at source tables old ix)) nil nil)
       (trees_from source tables old (sibling_of old ix)) old new tables tables
   stands : numbered_from source tables new (Some first)
-      ≡ trees_onto left (node (numbered_label source tables new ix) nil (numbered_from source tables new next))
+      ≡ trees_onto left (node (numbered_node source tables new ix) nil (numbered_from source tables new next))
   childless : child_of new ix ≡ None
   within : ix < length new
 
-pub settled_at : (source : List ℕ) (tables : Tables) (old new : List (Node Item)) (first ix : ℕ) (rest : Rest)
+pub literal_at : (source : List ℕ) (tables : Tables) (old new : List (Node Item)) (first ix : ℕ) (rest : Continuation)
     (left : List (Entry ℕ)) (is_image : Bool)
     → StandsTo source tables old first (Some ix) left → (item_at old ix).body ≡ opener_body is_image
-    → Puts source ix (settled source) None rest old new tables tables → IsSettledAt source tables old new first ix
+    → Puts source ix (literal source) None rest old new tables tables → IsLiteralAt source tables old new first ix
     rest.next left
-settled_at source tables old new first ix rest left is_image h is puts =
+literal_at source tables old new first ix rest left is_image h is puts =
     let ready = stands_rest h in
-    let a = label_at source tables old ix in
+    let a = tree_node_at source tables old ix in
     let below = trees_from source tables old (child_of old ix) in
     let next = rest.next in
-    let behind_it = trees_from source tables old (sibling_of old ix) in
+    let after_it = trees_from source tables old (sibling_of old ix) in
     let t = as_text source a in
     let item = item_at old ix in
     let was_open : is_open item.body ≡ true = ap is_open is ∙ opener_open is_image in
     let shape : a.part.shape ≡ unresolved (opener_body is_image) = shape-open tables
     (slice_range source item.start item.end) item.body was_open ∙ ap unresolved is in
-    let text : settled source a below ≡ node t nil nil = opener_settled source a below is_image shape in
+    let text : literal source a below ≡ node t nil nil = opener_settled source a below is_image shape in
     let o = opens_chain ready in
     let block : is_some a.part.block
     ≡ false = (subst (λ (f : Forest Plain). IsQuietBelow f) o.trees ready.quiet_below).0 in
     let quiet : IsQuiet (node t nil nil) = (refl, block, tt, tt) in
     let p0 = put_trees ready puts (subst (λ (f : Forest Plain). IsQuiet f) (sym text) quiet) in
-    let p : PutsTrees source ix next (node t nil nil) behind_it old new tables tables = subst
-    (λ (f : Forest Plain). PutsTrees source ix next f behind_it old new tables tables) text p0 in
+    let p : PutsTrees source ix next (node t nil nil) after_it old new tables tables = subst
+    (λ (f : Forest Plain). PutsTrees source ix next f after_it old new tables tables) text p0 in
     let some = some_nodes source tables old first (Some ix) left h in
-    let b = behind source old new tables tables ix (trees_onto left nil) (Some first) some p.changes p.runs
+    let b = follows_so source old new tables tables ix (trees_onto left nil) (Some first) some p.changes p.runs
     (stands_from source tables old first (Some ix) left h) (rest_of source tables old first (Some ix) left h).whole in
     let one = one_tree p.standing t p.reads in
     let s : Stands source tables new (Some ix) = record {
@@ -216,32 +216,33 @@ settled_at source tables old new first ix rest left is_image h is puts =
     } in
     let next_trees = numbered_from source tables new next in
     let here : numbered_from source tables new (Some ix) ≡ node one.label nil next_trees = p.stands
-    ∙ ap (λ (f : Forest (Label ℕ)). joined_chains f next_trees) one.is in
-    let opened : node (numbered_label source tables new ix) (numbered_from source tables new (child_of new ix))
+    ∙ ap (λ (f : Forest (TreeNode ℕ)). joined_chains f next_trees) one.is in
+    let opened : node (numbered_node source tables new ix) (numbered_from source tables new (child_of new ix))
     (numbered_from source tables new (sibling_of new ix)) ≡ node one.label nil next_trees =
     sym (numbered_opens source tables new ix s) ∙ here in
-    let label : one.label ≡ numbered_label source tables new ix = cc opened in
+    let label : one.label ≡ numbered_node source tables new ix = cc opened in
     let child : numbered_from source tables new (child_of new ix) ≡ nil = cc opened in
     record {
-      reads = ap (λ (c : Label ℕ). retag (λ n. tt) c) (sym label) ∙ one.reads;
-      behind_is = puts_behind h p;
+      reads = ap (λ (c : TreeNode ℕ). annotate (λ n. tt) c) (sym label) ∙ one.reads;
+      after_is = puts_after h p;
       stands =
-          b.trees ∙ ap (λ (f : Forest (Label ℕ)). joined_chains (trees_onto left nil) f)
-          (here ∙ ap (λ (c : Label ℕ). node c nil next_trees) label)
-          ∙ sym (onto_split left (node (numbered_label source tables new ix) nil next_trees));
+          b.trees ∙ ap (λ (f : Forest (TreeNode ℕ)). joined_chains (trees_onto left nil) f)
+          (here ∙ ap (λ (c : TreeNode ℕ). node c nil next_trees) label)
+          ∙ sym (onto_split left (node (numbered_node source tables new ix) nil next_trees));
       childless = same_link source tables new (child_of new ix) None (omega (arith, some, p.changes.more_nodes)) (child
           ∙ sym (numbered_none source tables new));
       within = omega (arith, o.within, p.changes.more_nodes);
     }
 
 -- an opener was read
-pub reads_on_opener : {C : Type 0} (step : C → Question → Option Answer → C → Type 0) (s : Setting) (above : Above)
-    (first ix : ℕ) (rest : Rest) (left : List (Entry ℕ)) (is_image : Bool) (old new : Stage C)
+pub reads_on_opener : {C : Type 0} (step : C → Question → Option Answer → C → Type 0) (s : Setting)
+    (above : EnclosingBlocks)
+    (first ix : ℕ) (rest : Continuation) (left : List (Entry ℕ)) (is_image : Bool) (old new : ResolverState C)
     (spent : SpentEnds) (brackets wikilinks brackets' wikilinks' : List Waiting) → new
     ≡ record old { nodes = new.nodes }
     → StandsTo s.text old.tables old.nodes first (Some ix) left → AreHeld brackets wikilinks left
     → (item_at old.nodes ix).body ≡ opener_body is_image
-    → Puts s.text ix (settled s.text) None rest old.nodes new.nodes old.tables old.tables
+    → Puts s.text ix (literal s.text) None rest old.nodes new.nodes old.tables old.tables
     → brackets' ≡ waiting.live_opener (record { node = ix; is_image = is_image }) ∷ brackets
     → wikilinks' ≡ (if wikilinks_on s.rules.options && option_map_or (λ n. is_opener (item_at old.nodes n).body)
     (sibling_of old.nodes ix) false
@@ -252,23 +253,24 @@ reads_on_opener {C} step s above first ix rest left is_image old new spent brack
     let ready = stands_rest stands in
     let o = opens_chain ready in
     let item = item_at old.nodes ix in
-    let a = label_at s.text old.tables old.nodes ix in
+    let a = tree_node_at s.text old.tables old.nodes ix in
     let below = trees_from s.text old.tables old.nodes (child_of old.nodes ix) in
     let next = rest.next in
-    let behind_it = trees_from s.text old.tables old.nodes (sibling_of old.nodes ix) in
-    let tables : new.tables ≡ old.tables = ap (λ (t : Stage C). t.tables) same in
-    let at : IsSettledAt s.text old.tables old.nodes new.nodes first ix rest.next left = settled_at s.text old.tables
+    let after_it = trees_from s.text old.tables old.nodes (sibling_of old.nodes ix) in
+    let tables : new.tables ≡ old.tables = ap (λ (t : ResolverState C). t.tables) same in
+    let at : IsLiteralAt s.text old.tables old.nodes new.nodes first ix rest.next left = literal_at s.text old.tables
     old.nodes new.nodes first ix rest left is_image stands is puts in
     let text = as_text s.text a in
-    let b = numbered_label s.text old.tables new.nodes ix in
-    let follows = wikilinks_on s.rules.options && is_next is_opener behind_it in
-    let mark : Mark = record { is_image = is_image; bracket = live; wikilink = if follows then live else gone } in
+    let b = numbered_node s.text old.tables new.nodes ix in
+    let follows = wikilinks_on s.rules.options && is_next is_opener after_it in
+    let mark : OpenerState = record { is_image = is_image; bracket = live; wikilink = if follows then live else gone }
+    in
     let left_then : List (Entry ℕ) = waits mark b ∷ left in
-    let behind_is = at.behind_is in
-    let one = one_tree behind_is.standing text behind_is.reads in
+    let after_is = at.after_is in
+    let one = one_tree after_is.standing text after_is.reads in
     let waiting_then : EachWaits (IsOpener s.text new.nodes) left =
-    subst (λ (f : Forest (Label ℕ)). EachWaits (IsOpener s.text new.nodes) (all_done f left)) one.is
-    behind_is.stands.waiting in
+    subst (λ (f : Forest (TreeNode ℕ)). EachWaits (IsOpener s.text new.nodes) (all_done f left)) one.is
+    after_is.stands.waiting in
     let ends = ends_with_bracket s.text item is_image o.placed.lies o.placed.keeps.markup_is_there is in
     let part : b.part ≡ text.part = ap (λ (c : Plain). c.part) at.reads in
     let new_end : (item_at new.nodes ix).end ≡ item.end = ap (λ (c : Part). c.range.end) part in
@@ -289,24 +291,24 @@ reads_on_opener {C} step s above first ix rest left is_image old new spent brack
       tt,
       tt,
     ) in
-    let label_quiet : IsQuiet (node b nil nil) = (
+    let node_is_quiet : IsQuiet (node b nil nil) = (
       ap (λ (c : Part). is_quiet c.shape) part ∙ node_quiet.0,
       ap (λ (c : Part). is_some c.block) part ∙ node_quiet.1,
       tt,
       tt,
     ) in
     let stands_then : StandsTo s.text old.tables new.nodes first next left_then = record {
-      ready = behind_is.stands.ready;
+      ready = after_is.stands.ready;
       stands = at.stands;
-      quiet = subst (λ (f : Forest (Label ℕ)). IsQuiet f) (sym (onto_split left (node b nil nil)))
-          (quiet_joined (trees_onto left nil) (node b nil nil) stands.quiet label_quiet);
+      quiet = subst (λ (f : Forest (TreeNode ℕ)). IsQuiet f) (sym (onto_split left (node b nil nil)))
+          (quiet_joined (trees_onto left nil) (node b nil nil) stands.quiet node_is_quiet);
       waiting = (opener, waiting_then);
     } in
     let is_next_opener = opener_next s.text old.tables old.nodes (sibling_of old.nodes ix)
     (ready_next s.text old.tables old.nodes ix ready) in
     record {
       changes = subst (λ (t : Tables). ChangesChain s.text (Some first) old.nodes new.nodes old.tables t) (sym tables)
-          behind_is.changes;
+          after_is.changes;
       left_then = left_then;
       stands = subst (λ (t : Tables). StandsTo s.text t new.nodes first next left_then) (sym tables) stands_then;
       held = record {
@@ -322,28 +324,28 @@ reads_on_opener {C} step s above first ix rest left is_image old new spent brack
       };
       answers = [];
       questions = [];
-      asked = ap (λ (t : Stage C). t.callback) (sym same);
+      asked = ap (λ (t : ResolverState C). t.callback) (sym same);
       ends = [];
       spends = λ end. refl;
       made = 0;
       reads = λ p later are.
-          let k : known_at old later ≡ known_at new later = ap (λ (t : Stage C). known_at t later) (sym same) in
+          let k : state_at old later ≡ state_at new later = ap (λ (t : ResolverState C). state_at t later) (sym same) in
           let left_is : waits mark text ∷ left_without_numbers left ≡ left_without_numbers left_then =
           ap (λ (c : Plain). waits mark c ∷ left_without_numbers left) (sym at.reads) in
-          let rest_is : behind_it ≡ chain_at s.text new next = sym behind_is.rest_is
+          let rest_is : after_it ≡ chain_at s.text new next = sym after_is.rest_is
           ∙ ap (λ (t : Tables). trees_from s.text t new.nodes next) (sym tables) in
           let made : p.made ≡ p.made + 0 = omega arith in
           ap (λ (f : Forest Plain). all_read s above f (at_left left old later p)) o.trees
-          ∙ reads_opener s plain_tags above is_image a below behind_it (at_left left old later p) refl
+          ∙ reads_opener s no_notes above is_image a below after_it (at_left left old later p) refl
           (body_open old.tables (slice_range s.text item.start item.end) item.body (ap is_open is
           ∙ opener_open is_image) ∙ is) ∙ ap (λ (f : Forest Plain). all_read s above f (record p {
             left = waits mark text ∷ left_without_numbers left;
             goes_on = None;
-            known = known_at old later;
+            state = state_at old later;
           })) rest_is ∙ ap (λ (l : List (Entry (Unit {0}))). all_read s above (chain_at s.text new next)
-          (record p { left = l; goes_on = None; known = known_at old later })) left_is
-          ∙ ap (λ (known : Known). all_read s above (chain_at s.text new next)
-          (record p { left = left_without_numbers left_then; goes_on = None; known = known })) k
+          (record p { left = l; goes_on = None; state = state_at old later })) left_is
+          ∙ ap (λ (state : ReferenceState). all_read s above (chain_at s.text new next)
+          (record p { left = left_without_numbers left_then; goes_on = None; state = state })) k
           ∙ ap (λ (asked : List Question). all_read s above (chain_at s.text new next)
           (at_left left_then new later (record p { asked = asked }))) (sym (append-nil p.asked))
           ∙ ap (λ (made : ℕ). all_read s above (chain_at s.text new next)

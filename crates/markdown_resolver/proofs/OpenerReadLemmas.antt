@@ -12,22 +12,22 @@ use Rattle.markdown_base.specs.EnabledOptions.{wikilinks_on}
 use Rattle.markdown_brackets.specs.LeftList.{Entry}
 use Rattle.markdown_brackets.specs.Openers as waiting
 use Rattle.markdown_brackets.specs.Openers.{Waiting}
-use Rattle.markdown_brackets.specs.Reference.{is_opener, could_be_reference, is_closer}
+use Rattle.markdown_brackets.specs.Reference.{is_opener, could_be_reference, is_closing_bracket}
 use Rattle.markdown_brackets.specs.declared.chain_openers.ChainOpeners.{ChainOpeners}
-use Rattle.markdown_document.specs.Stages.{above_cursor}
+use Rattle.markdown_document.specs.ResolverStates.{above_cursor}
 use Rattle.markdown_document.specs.Tables.{Tables, tables_of}
 use Rattle.markdown_resolver.specs.BracketKinds.{kind_of}
 use Rattle.markdown_resolver.specs.ChainPlace.{CanReadOn}
 use Rattle.markdown_resolver.specs.Chains.{CanResolve}
 use Rattle.markdown_resolver.specs.ReadOn.{StandsTo}
-use Rattle.markdown_resolver.specs.ReadsBracket.{CanReadNode, ReadsBracket, setting_by, stage_by}
-use Rattle.markdown_resolver.specs.declared.rest.Rest.{Rest}
-use Rattle.markdown_resolver.specs.Rewritten.{Puts, settled}
+use Rattle.markdown_resolver.specs.ReadsBracket.{CanReadNode, ReadsBracket, setting_by, resolver_state_by}
+use Rattle.markdown_resolver.specs.declared.continuation.Continuation.{Continuation}
+use Rattle.markdown_resolver.specs.Rewritten.{Puts, literal}
 use Rattle.markdown_resolver.specs.declared.bracket_kind.BracketKind.{BracketKind}
-use Rattle.markdown_resolver.specs.declared.bracket_kind.BracketKind.TheVariants.{Opener, Closer}
+use Rattle.markdown_resolver.specs.declared.bracket_kind.BracketKind.TheVariants.{Opener, BracketReader}
 use Rattle.markdown_document.specs.declared.chain_place.ChainPlace.{ChainPlace}
 use Rattle.markdown_resolver.specs.declared.resolver.Resolver.{Resolver}
-use Rattle.markdown_resolver.proofs.OpenerOnLemmas.{reads_on_opener, settled_at}
+use Rattle.markdown_resolver.proofs.OpenerOnLemmas.{reads_on_opener, literal_at}
 use Rattle.markdown_resolver.proofs.PassOneLemmas.{NoBracket, opener_body}
 use Rattle.markdown_resolver.proofs.ReadsItemLemmas.{holds_put}
 use Rattle.markdown_resolver.proofs.StandsToLemmas.{stands_rest}
@@ -42,19 +42,20 @@ pub opener_kind : (is_image : Bool) (b : ItemBody) → kind_of b ≡ Some (Opene
 opener_kind is_image body.MaybeLinkOpen e = let same : false ≡ is_image = opener_same false is_image e in rw (← same)
     refl
 opener_kind is_image body.MaybeImage e = let same : true ≡ is_image = opener_same true is_image e in rw (← same) refl
-opener_kind is_image (body.MaybeLinkClose could_be) e = let no : ◌≡◌ {A = Option BracketKind} (Some Closer)
+opener_kind is_image (body.MaybeLinkClose could_be) e = let no : ◌≡◌ {A = Option BracketKind} (Some BracketReader)
     (Some (Opener is_image)) = e
     in cc no
 opener_kind is_image other e = let no : ◌≡◌ {A = Option BracketKind} None (Some (Opener is_image)) = e in cc no
 
-pub closer_body : (b : ItemBody) → is_closer b ≡ true → b ≡ body.MaybeLinkClose (could_be_reference b)
+pub closer_body : (b : ItemBody) → is_closing_bracket b ≡ true → b ≡ body.MaybeLinkClose (could_be_reference b)
 closer_body (body.MaybeLinkClose could_be) e = refl
 closer_body other e = cc e
 
 pub other_kind : (b : ItemBody) → kind_of b ≡ None → NoBracket b
 other_kind body.MaybeLinkOpen e = let no : ◌≡◌ {A = Option BracketKind} (Some (Opener false)) None = e in cc no
 other_kind body.MaybeImage e = let no : ◌≡◌ {A = Option BracketKind} (Some (Opener true)) None = e in cc no
-other_kind (body.MaybeLinkClose could_be) e = let no : ◌≡◌ {A = Option BracketKind} (Some Closer) None = e in cc no
+other_kind (body.MaybeLinkClose could_be) e = let no : ◌≡◌ {A = Option BracketKind}
+    (Some BracketReader) None = e in cc no
 other_kind other e = refl
 
 -- what is true of an error where memory was refused
@@ -75,13 +76,13 @@ if_err_both (Ok x) P Q p q = tt
 if_err_both (Err fault) P Q p q = (p, q)
 
 -- what was put in place for an opener, whatever the text and its tables are
-abbrev pub IsOpened : Arena Item → Arena Item → ℕ → Rest → Type 0
+abbrev pub IsOpened : Arena Item → Arena Item → ℕ → Continuation → Type 0
 IsOpened old new ix rest = (source : List ℕ) (tables : Tables) → CanResolve source tables old.nodes (Some ix)
-    → Puts source ix (settled source) None rest old.nodes new.nodes tables tables
+    → Puts source ix (literal source) None rest old.nodes new.nodes tables tables
 
 -- a resolver has read an opener, once that waits
 pub reads_opener : {C E : Type 0} (step : C → Question → Option Answer → C → Type 0) (place : ChainPlace) (ix : ℕ)
-    (is_image : Bool) (tree tree' : Arena Item) (old : Resolver C) (openers : ChainOpeners) (r : Result Rest E)
+    (is_image : Bool) (tree tree' : Arena Item) (old : Resolver C) (openers : ChainOpeners) (r : Result Continuation E)
     → CanReadNode place tree old ix → kind_of (item_at tree.nodes ix).body ≡ Some (Opener is_image)
     → IfOk r (λ rest. IsOpened tree tree' ix rest) → IfOk r (λ rest. tree' ≡ record tree { nodes = tree'.nodes })
     → OnOk r (openers.brackets ≡ waiting.live_opener (record { node = ix; is_image = is_image }) ∷
@@ -101,8 +102,8 @@ reads_opener step place ix is_image tree tree' old openers (Ok rest) can kind pu
             (← can.text) was_read.so_far in
             let here = stands_rest so_far in
             reads_on_opener step (setting_by old) (above_cursor old.text.now tree) first ix rest left is_image
-            (stage_by tree old)
-            (stage_by tree' old) old.waiting.spent old.waiting.openers.brackets old.waiting.openers.wikilinks
+            (resolver_state_by tree old)
+            (resolver_state_by tree' old) old.waiting.spent old.waiting.openers.brackets old.waiting.openers.wikilinks
             openers.brackets openers.wikilinks refl so_far
             was_read.openers (opener_kind is_image (item_at tree.nodes ix).body kind)
             (puts old.text.now (tables_of old.lookup.tables) here) brackets_are wikilinks_are;
@@ -113,9 +114,9 @@ reads_opener step place ix is_image tree tree' old openers (Ok rest) can kind pu
             let so_far : StandsTo source tables tree.nodes can.first (Some ix) can.left = rw (← can.text)
             can.was_read.so_far in
             let here = stands_rest so_far in
-            let settled_there = settled_at source tables tree.nodes tree'.nodes can.first ix rest can.left is_image
+            let settled_there = literal_at source tables tree.nodes tree'.nodes can.first ix rest can.left is_image
             so_far (opener_kind is_image (item_at tree.nodes ix).body kind) (puts source tables here) in
-            rw settled_there.behind_is.rest_is (unread_after source tables tree.nodes ix here h);
+            rw settled_there.after_is.rest_is (unread_after source tables tree.nodes ix here h);
         place_is = place_is;
       };
       holds = λ kind learned. holds_put kind learned ready put;

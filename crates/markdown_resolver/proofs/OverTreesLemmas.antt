@@ -12,14 +12,14 @@ use Rattle.markdown_resolver.specs.Chains.{CanResolve}
 use Rattle.markdown_resolver.specs.ClosedOver.{Enclosing, PutsOver, closed_over, first_trees, trees_past}
 use Rattle.markdown_resolver.specs.Kept.{IsQuiet}
 use Rattle.markdown_resolver.specs.PutsTrees.{PutsTrees}
-use Rattle.markdown_resolver.specs.declared.rest.Rest.{Rest}
+use Rattle.markdown_resolver.specs.declared.continuation.Continuation.{Continuation}
 use Rattle.markdown_resolver.proofs.ComposeLemmas.{stands_ready}
 use Rattle.markdown_resolver.proofs.PutLemmas.{rewrites_none}
 use Rattle.markdown_resolver.proofs.PutsTreesLemmas.{puts_trees}
 
 -- the first tree becomes what is put, with the trees inside, and what follows the closer is left past a byte
 pub over_trees : {source : List ℕ} {opener closer : ℕ} {inside : List ℕ} {trees : Enclosing} {goes_on : ℕ}
-    {standing : List ℕ} {rest : Rest} {old new : List (Node Item)} {tables tables' : Tables}
+    {standing : List ℕ} {rest : Continuation} {old new : List (Node Item)} {tables tables' : Tables}
     {a : Plain} {below after : Forest Plain} → CanResolve source tables old (Some opener)
     → trees_from source tables old (Some opener) ≡ node a below after
     → IsQuiet (trees a (first_trees (length inside) after))

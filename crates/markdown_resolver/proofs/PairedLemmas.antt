@@ -14,14 +14,14 @@ use Rattle.markdown_base.specs.declared.item.Item.{Item}
 use Rattle.markdown_base.specs.declared.item.ItemBody.{ItemBody}
 use Rattle.markdown_base.specs.declared.item.ItemBody.TheVariants as body
 use Rattle.markdown_base.specs.declared.node.Node.{Node}
-use Rattle.markdown_document.specs.Above.{Above}
-use Rattle.markdown_document.specs.Document.{plain_tags, Plain, Shape, unresolved, is_unresolved, shape_of}
+use Rattle.markdown_document.specs.EnclosingBlocks.{EnclosingBlocks}
+use Rattle.markdown_document.specs.Document.{no_notes, Plain, Shape, unresolved, is_unresolved, shape_of}
 use Rattle.markdown_document.specs.ItemRules.{ComesBefore}
 use Rattle.markdown_document.specs.Counts.{counts_delimiter, counts_shape, delimiters_in}
-use Rattle.markdown_document.specs.Places.{label_at, trees_from}
+use Rattle.markdown_document.specs.Places.{tree_node_at, trees_from}
 use Rattle.markdown_document.specs.PlacedNodes.{IsPlaced}
 use Rattle.markdown_document.specs.Setting.{Setting}
-use Rattle.markdown_document.specs.Stages.{Stage, chain_at, known_at}
+use Rattle.markdown_document.specs.ResolverStates.{ResolverState, chain_at, state_at}
 use Rattle.markdown_document.specs.Tables.{Tables}
 use Rattle.markdown_document.specs.declared.work.Work.{Work}
 use Rattle.markdown_document.specs.Waiting.{waits_for_pairing, is_quiet}
@@ -42,7 +42,7 @@ use Rattle.markdown_resolver.proofs.PassOneQuietLemmas.{pass_one-quiet}
 
 -- the items of a chain in which nothing is open except what waits for pairing, and which has no block
 blocks_none : (source : List ℕ) (tables : Tables) (nodes : List (Node Item)) (f : Forest ℕ)
-    → IsQuiet (relabelled (label_at source tables nodes) f) → HasNoBlock (relabelled (numbered nodes) f)
+    → IsQuiet (relabelled (tree_node_at source tables nodes) f) → HasNoBlock (relabelled (numbered nodes) f)
 blocks_none source tables nodes nil q = tt
 blocks_none source tables nodes (node ix below after) q
     = (no_block (item_at nodes ix).body q.1, blocks_none source tables nodes after q.3)
@@ -52,7 +52,7 @@ waits_open : (tables : Tables) (source : List ℕ) (b : ItemBody) → is_quiet (
 waits_open tables source b q e = rw (shape-open tables source b e) at q
 
 all_wait : (source : List ℕ) (tables : Tables) (nodes : List (Node Item)) (f : Forest ℕ)
-    → IsQuiet (relabelled (label_at source tables nodes) f) → WaitsForPairing (relabelled (numbered nodes) f)
+    → IsQuiet (relabelled (tree_node_at source tables nodes) f) → WaitsForPairing (relabelled (numbered nodes) f)
 all_wait source tables nodes nil q = tt
 all_wait source tables nodes (node ix below after) q = (
   waits_open tables (slice_range source (item_at nodes ix).start (item_at nodes ix).end) (item_at nodes ix).body q.0,
@@ -114,21 +114,23 @@ all_whole source tables nodes l (node ix below after) s p =
     )
 
 -- what pass one leaves of a chain is quiet
-pub read_quiet : {C : Type 0} (step : C → Question → Option Answer → C → Type 0) (s : Setting) (above : Above)
-    (first : ℕ) (old mid : Stage C) → IsQuietBelow (chain_at s.text old (Some first))
-    → ResolvesFrom step s.text (pass_one s plain_tags above) (Some first) old mid
+pub read_quiet : {C : Type 0} (step : C → Question → Option Answer → C → Type 0) (s : Setting) (above : EnclosingBlocks)
+    (first : ℕ) (old mid : ResolverState C) → IsQuietBelow (chain_at s.text old (Some first))
+    → ResolvesFrom step s.text (pass_one s no_notes above) (Some first) old mid
     → IsQuiet (chain_at s.text mid (Some first))
 read_quiet step s above first old mid quiet r =
     subst IsQuiet (ap (λ (o : Outcome (Unit {0})). o.forest) (r.resolves []))
-    (pass_one-quiet s plain_tags above (chain_at s.text old (Some first)) (known_at old (r.answers ++ [])) quiet)
+    (pass_one-quiet s no_notes above (chain_at s.text old (Some first)) (state_at old (r.answers ++ [])) quiet)
 
 -- so it can be paired
-pub read_can_pair : {C : Type 0} (step : C → Question → Option Answer → C → Type 0) (s : Setting) (above : Above)
-    (first : ℕ) (old mid : Stage C) → IsQuietBelow (chain_at s.text old (Some first))
-    → ResolvesFrom step s.text (pass_one s plain_tags above) (Some first) old mid → CanPair s.text mid.nodes first
+pub read_can_pair : {C : Type 0} (step : C → Question → Option Answer → C → Type 0) (s : Setting)
+    (above : EnclosingBlocks)
+    (first : ℕ) (old mid : ResolverState C) → IsQuietBelow (chain_at s.text old (Some first))
+    → ResolvesFrom step s.text (pass_one s no_notes above) (Some first) old mid → CanPair s.text mid.nodes first
 read_can_pair step s above first old mid quiet r =
     let f = forest_at (links_of mid.nodes) (Some first) in
-    let q : IsQuiet (relabelled (label_at s.text mid.tables mid.nodes) f) = read_quiet step s above first old mid quiet
+    let q : IsQuiet (relabelled
+    (tree_node_at s.text mid.tables mid.nodes) f) = read_quiet step s above first old mid quiet
     r in
     record {
       spelled = r.changes.reaches.spelled;
@@ -140,13 +142,15 @@ read_can_pair step s above first old mid quiet r =
     }
 
 -- what was changed by reading, and then by pairing, was changed
-pub pair_changes : {C : Type 0} (step : C → Question → Option Answer → C → Type 0) (s : Setting) (above : Above)
-    (first : ℕ) (old mid : Stage C) (nodes : List (Node Item)) → IsQuietBelow (chain_at s.text old (Some first))
-    → ResolvesFrom step s.text (pass_one s plain_tags above) (Some first) old mid → PairsChain s first mid.nodes nodes
+pub pair_changes : {C : Type 0} (step : C → Question → Option Answer → C → Type 0) (s : Setting)
+    (above : EnclosingBlocks)
+    (first : ℕ) (old mid : ResolverState C) (nodes : List (Node Item)) → IsQuietBelow (chain_at s.text old (Some first))
+    → ResolvesFrom step s.text (pass_one s no_notes above) (Some first) old mid → PairsChain s first mid.nodes nodes
     → ChangesChain s.text (Some first) old.nodes nodes old.tables mid.tables
 pair_changes step s above first old mid nodes quiet r p =
     let f = forest_at (links_of mid.nodes) (Some first) in
-    let q : IsQuiet (relabelled (label_at s.text mid.tables mid.nodes) f) = read_quiet step s above first old mid quiet
+    let q : IsQuiet (relabelled
+    (tree_node_at s.text mid.tables mid.nodes) f) = read_quiet step s above first old mid quiet
     r in
     let c = r.changes in
     record {
@@ -163,26 +167,28 @@ pair_changes step s above first old mid nodes quiet r p =
     }
 
 -- a chain that was read and then paired is resolved
-pub pair_resolves : {C : Type 0} (step : C → Question → Option Answer → C → Type 0) (s : Setting) (above : Above)
-    (first : ℕ) (old mid : Stage C) (nodes : List (Node Item))
-    → (r : ResolvesFrom step s.text (pass_one s plain_tags above) (Some first) old mid)
+pub pair_resolves : {C : Type 0} (step : C → Question → Option Answer → C → Type 0) (s : Setting)
+    (above : EnclosingBlocks)
+    (first : ℕ) (old mid : ResolverState C) (nodes : List (Node Item))
+    → (r : ResolvesFrom step s.text (pass_one s no_notes above) (Some first) old mid)
     → PairsChain s first mid.nodes nodes
-    → (later : Answers) → resolved s plain_tags above (chain_at s.text old (Some first))
-    (known_at old (r.answers ++ later)) ≡ record {
+    → (later : Answers) → resolved s no_notes above (chain_at s.text old (Some first))
+    (state_at old (r.answers ++ later)) ≡ record {
       questions = r.questions;
       forest = trees_from s.text mid.tables nodes (Some first);
-      known = known_at mid later;
+      state = state_at mid later;
     }
 unfolding resolved
 pair_resolves step s above first old mid nodes r p later =
     ap (then_paired s) (r.resolves later) ∙ ap (λ (g : Forest Plain). let o : Outcome (Unit {0}) = record
-    { questions = r.questions; forest = g; known = known_at mid later }
+    { questions = r.questions; forest = g; state = state_at mid later }
     in o) (sym (p.pairs mid.tables))
 
-abbrev pub then_pairs : {C : Type 0} (step : C → Question → Option Answer → C → Type 0) (s : Setting) (above : Above)
-    (first : ℕ) (old mid : Stage C) (nodes : List (Node Item)) → IsQuietBelow (chain_at s.text old (Some first))
-    → ResolvesFrom step s.text (pass_one s plain_tags above) (Some first) old mid → PairsChain s first mid.nodes nodes
-    → ResolvesFrom step s.text (resolved s plain_tags above) (Some first) old
+abbrev pub then_pairs : {C : Type 0} (step : C → Question → Option Answer → C → Type 0) (s : Setting)
+    (above : EnclosingBlocks)
+    (first : ℕ) (old mid : ResolverState C) (nodes : List (Node Item)) → IsQuietBelow (chain_at s.text old (Some first))
+    → ResolvesFrom step s.text (pass_one s no_notes above) (Some first) old mid → PairsChain s first mid.nodes nodes
+    → ResolvesFrom step s.text (resolved s no_notes above) (Some first) old
     (record { nodes = nodes; tables = mid.tables; limit = mid.limit; uses = mid.uses; callback = mid.callback })
 then_pairs step s above first old mid nodes quiet r p = record {
   changes = pair_changes step s above first old mid nodes quiet r p;
@@ -193,11 +199,13 @@ then_pairs step s above first old mid nodes quiet r p = record {
 }
 
 -- where memory is refused to pass one, the questions asked are the first of the chain
-pub stops_resolving : {C : Type 0} (step : C → Question → Option Answer → C → Type 0) (s : Setting) (above : Above)
+pub stops_resolving : {C : Type 0} (step : C → Question → Option Answer → C → Type 0) (s : Setting)
+    (above : EnclosingBlocks)
     (first : ℕ)
-    (old : Stage C) (callback : Option C) (work work' : Work) (p : StopsInPassOne step s above first old callback)
+    (old : ResolverState C) (callback : Option C) (work work' : Work)
+    (p : StopsInPassOne step s above first old callback)
     → ((later : Answers) → RisesInPart
-    (chain_counts s plain_tags above (chain_at s.text old (Some first)) (known_at old (p.answers ++ later))) work work')
+    (chain_counts s no_notes above (chain_at s.text old (Some first)) (state_at old (p.answers ++ later))) work work')
     → StopsIn step s above first old callback work work'
 unfolding resolved
 stops_resolving step s above first old callback work work' p counts = record {
@@ -209,11 +217,12 @@ stops_resolving step s above first old callback work work' p counts = record {
 }
 
 -- where memory is refused to pairing, the chain's questions were all asked
-pub stops_in : {C : Type 0} (step : C → Question → Option Answer → C → Type 0) (s : Setting) (above : Above) (first : ℕ)
-    (old mid : Stage C)
-    (work work' : Work) (r : ResolvesFrom step s.text (pass_one s plain_tags above) (Some first) old mid)
+pub stops_in : {C : Type 0} (step : C → Question → Option Answer → C → Type 0) (s : Setting) (above : EnclosingBlocks)
+    (first : ℕ)
+    (old mid : ResolverState C)
+    (work work' : Work) (r : ResolvesFrom step s.text (pass_one s no_notes above) (Some first) old mid)
     → ((later : Answers) → RisesInPart
-    (chain_counts s plain_tags above (chain_at s.text old (Some first)) (known_at old (r.answers ++ later))) work work')
+    (chain_counts s no_notes above (chain_at s.text old (Some first)) (state_at old (r.answers ++ later))) work work')
     → StopsIn step s above first old mid.callback work work'
 unfolding resolved
 stops_in step s above first old mid work work' r counts = record {
@@ -249,7 +258,7 @@ counts_open tables source b = by_open (is_open b) refl
     by_open false e = closed_none b e ∙ sym (shape_none (shape_of tables source b) (closed_shape tables source b e))
 
 delimiters_seen : (source : List ℕ) (tables : Tables) (nodes : List (Node Item)) (f : Forest ℕ)
-    → delimiters_of (relabelled (numbered nodes) f) ≡ delimiters_in (relabelled (label_at source tables nodes) f)
+    → delimiters_of (relabelled (numbered nodes) f) ≡ delimiters_in (relabelled (tree_node_at source tables nodes) f)
 delimiters_seen source tables nodes nil = refl
 delimiters_seen source tables nodes (node ix below after) =
     rw (
@@ -258,12 +267,13 @@ delimiters_seen source tables nodes (node ix below after) =
     ) refl
 
 -- those of a chain that are counted are the ones that pass one leaves
-pub delimiters_left : {C : Type 0} (step : C → Question → Option Answer → C → Type 0) (s : Setting) (above : Above)
-    (first : ℕ) (old mid : Stage C)
-    → (r : ResolvesFrom step s.text (pass_one s plain_tags above) (Some first) old mid) → (later : Answers)
+pub delimiters_left : {C : Type 0} (step : C → Question → Option Answer → C → Type 0) (s : Setting)
+    (above : EnclosingBlocks)
+    (first : ℕ) (old mid : ResolverState C)
+    → (r : ResolvesFrom step s.text (pass_one s no_notes above) (Some first) old mid) → (later : Answers)
     → delimiters_of (trees_at mid.nodes (Some first))
-    ≡ (chain_counts s plain_tags above (chain_at s.text old (Some first))
-    (known_at old (r.answers ++ later))).delimiters
+    ≡ (chain_counts s no_notes above (chain_at s.text old (Some first))
+    (state_at old (r.answers ++ later))).delimiters
 delimiters_left step s above first old mid r later =
     delimiters_seen s.text mid.tables mid.nodes (forest_at (links_of mid.nodes) (Some first))
     ∙ ap (λ (o : Outcome (Unit {0})). delimiters_in o.forest) (sym (r.resolves later))

@@ -22,27 +22,27 @@ use Rattle.markdown_base.proofs.ArenaLemmas.{length-changed_at}
 use Rattle.markdown_base.specs.Event.{code}
 use Rattle.markdown_document.specs.Origins.{Origin, inlined, made, origin_at, sliced}
 use Rattle.markdown_document.specs.ChainRest.{begun_at, end_of, cut_shape, past_byte}
-use Rattle.markdown_document.specs.Document.{Label, Plain, block_of, label_of, shape_of, leaf, math}
+use Rattle.markdown_document.specs.Document.{TreeNode, Plain, block_of, tree_node_of, shape_of, leaf, math}
 use Rattle.markdown_document.specs.ItemRules.{ComesBefore, KeepsItemRules}
-use Rattle.markdown_document.specs.Places.{label_at, trees_from}
+use Rattle.markdown_document.specs.Places.{tree_node_at, trees_from}
 use Rattle.markdown_document.specs.PlacedNodes.{IsPlaced, ComesFromPlace}
-use Rattle.markdown_document.specs.Stages.{items_from}
+use Rattle.markdown_document.specs.ResolverStates.{items_from}
 use Rattle.markdown_document.specs.Tables.{Tables, text_at}
 use Rattle.markdown_document.proofs.ItemRulesLemmas.{keeps-closed}
 use Rattle.markdown_document.proofs.TablesLemmas.{grown-nothing}
 use Rattle.markdown_resolver.specs.Rewritten.{IsRestPast, Passes, begun_item, first_past}
-use Rattle.markdown_resolver.specs.Settling.{begun_from}
-use Rattle.markdown_resolver.specs.declared.rest.Rest.{Rest}
+use Rattle.markdown_resolver.specs.LiteralText.{begun_from}
+use Rattle.markdown_resolver.specs.declared.continuation.Continuation.{Continuation}
 use Rattle.markdown_resolver.proofs.NodeChangeLemmas.{changed_other, changed_here}
 use Rattle.markdown_resolver.proofs.ComposeLemmas.{Stands, Moves, moves_none, moves_twice, first_leaves, HeadWritten}
 use Rattle.markdown_resolver.proofs.ComposeLemmas.{head_moves, after_head, below_kept, following_kept}
 
 -- what is left of a chain past a byte, with the first item as it is; and that begun there
-abbrev pub left_past : {A : Type 0} → ℕ → Forest (Label A) → Forest (Label A)
+abbrev pub left_past : {A : Type 0} → ℕ → Forest (TreeNode A) → Forest (TreeNode A)
 left_past i nil = nil
 left_past i (node a below after) = if nat_le (end_of a) i then left_past i after else node a below after
 
-abbrev pub first_begun : {A : Type 0} → ℕ → Forest (Label A) → Forest (Label A)
+abbrev pub first_begun : {A : Type 0} → ℕ → Forest (TreeNode A) → Forest (TreeNode A)
 first_begun i nil = nil
 first_begun i (node a below after) = node (begun_at i a) below after
 
@@ -98,7 +98,7 @@ dropped source tables nodes i (node ix below after) l e s =
     let all = dropped_if (nat_le (item_at nodes ix).end i) source tables nodes ix link
     (left_past i (trees_from source tables nodes (sibling_of nodes ix))) at first in
     let is : trees_from source tables nodes (Some ix)
-    ≡ node (label_at source tables nodes ix) (trees_from source tables nodes (child_of nodes ix))
+    ≡ node (tree_node_at source tables nodes ix) (trees_from source tables nodes (child_of nodes ix))
     (trees_from source tables nodes (sibling_of nodes ix)) = rw o.here refl in
     rw one (record {
       moves = all.moves;
@@ -115,22 +115,22 @@ many_begun : (i : ℕ) (f : Forest Plain) → length (roots (first_begun i f)) �
 many_begun i nil = refl
 many_begun i (node a below after) = refl
 
-pub passes_past : (source : List ℕ) (tables t : Tables) (old new : List (Node Item)) (ix i : ℕ) (rest : Rest)
+pub passes_past : (source : List ℕ) (tables t : Tables) (old new : List (Node Item)) (ix i : ℕ) (rest : Continuation)
     → Stands source tables old (Some ix) → IsRestPast old i (sibling_of old ix) rest
     → trees_from source t new rest.next ≡ past_byte i (trees_from source tables old (sibling_of old ix))
     → Passes ix rest old new
 passes_past source tables t old new ix i rest s past reads =
     let l = sibling_of old ix in
-    let behind = trees_from source tables old l in
+    let after = trees_from source tables old l in
     let o = opens (links_of old) (IsPlaced source tables old) ix s.reaches in
     let d = dropped source tables old i (forest_at (links_of old) l) l refl (first_leaves s).stands in
     let left : length (roots (trees_from source t new rest.next))
     ≡ length (roots (trees_from source tables old rest.next)) =
-    ap (λ (f : Forest Plain). length (roots f)) (reads ∙ past_is i behind) ∙ many_begun i (left_past i behind)
+    ap (λ (f : Forest Plain). length (roots f)) (reads ∙ past_is i after) ∙ many_begun i (left_past i after)
     ∙ ap (λ (f : Forest Plain). length (roots f)) (sym d.reads ∙ ap (trees_from source tables old) (sym past.next_is))
     in
-    let many = as_many (label_at source t new) (forest_at (links_of new) rest.next) in
-    let many' = as_many (label_at source tables old) (forest_at (links_of old) rest.next) in
+    let many = as_many (tree_node_at source t new) (forest_at (links_of new) rest.next) in
+    let many' = as_many (tree_node_at source tables old) (forest_at (links_of old) rest.next) in
     rw o.here (omega (arith, past.counted, left, many, many'))
 
 -- the bytes of an item that is cut at a byte offset
@@ -167,15 +167,15 @@ shape_begun tables bytes n (body.Math ix display) = by display (origin_at tables
     by false made = refl
 shape_begun tables bytes n other = refl
 
-label_begun : (source : List ℕ) (tables : Tables) (i : ℕ) (item : Item) → i ≤ item.end → item.start ≤ item.end
-    → label_of source tables (begun_item i item) ≡ begun_at i (label_of source tables item)
-label_begun source tables i item le ordered =
+node_begun : (source : List ℕ) (tables : Tables) (i : ℕ) (item : Item) → i ≤ item.end → item.start ≤ item.end
+    → tree_node_of source tables (begun_item i item) ≡ begun_at i (tree_node_of source tables item)
+node_begun source tables i item le ordered =
     let e : shape_of tables (slice_range source (max item.start i) item.end) item.body
     ≡ cut_shape (i - item.start) (shape_of tables (slice_range source item.start item.end) item.body) =
     ap (λ bytes. shape_of tables bytes item.body) (slice_begun source item.start item.end i le ordered)
     ∙ shape_begun tables (slice_range source item.start item.end) (i - item.start) item.body in
     ap (λ shape. let a : Plain = record {
-      tag = tt;
+      note = tt;
       part =
           record {
             shape = shape;
@@ -263,8 +263,8 @@ begun_moves source tables nodes ix i s boundary le closed cut =
     let follows = following_kept source ix nodes new tables tables s h in
     let hm = head_moves source ix nodes new new tables tables tables s h m kept.below
     (rw (c.next, follows, c.item) keeps.in_order) (rw (c.next, follows, c.item) keeps.runs_are_whole) in
-    let label : label_of source tables (item_at new ix) ≡ begun_at i (label_at source tables nodes ix) = ap
-    (λ x. label_of source tables x) c.item ∙ label_begun source tables i item le lies.ordered in
+    let label : tree_node_of source tables (item_at new ix) ≡ begun_at i (tree_node_at source tables nodes ix) = ap
+    (λ x. tree_node_of source tables x) c.item ∙ node_begun source tables i item le lies.ordered in
     let after : trees_from source tables new (sibling_of new ix) ≡ trees_from source tables nodes (sibling_of nodes ix)
     = ap (λ (l : Option ℕ). trees_from source tables new l) c.next ∙ a.rest.trees in
     record {

@@ -15,10 +15,10 @@ use Rattle.markdown_base.specs.declared.node.Node.{Node}
 use Rattle.markdown_base.proofs.ArenaForestLemmas.{opens, forest_at-none}
 use Rattle.markdown_base.proofs.ArenaLemmas.{length-changed_at}
 use Rattle.markdown_document.specs.ChainRest.{joined_chains, past_byte}
-use Rattle.markdown_document.specs.Document.{Plain, label_of}
-use Rattle.markdown_document.specs.Places.{label_at, trees_from, origin_start}
+use Rattle.markdown_document.specs.Document.{Plain, tree_node_of}
+use Rattle.markdown_document.specs.Places.{tree_node_at, trees_from, origin_start}
 use Rattle.markdown_document.specs.PlacedNodes.{HasSlices, IsSameAt, IsPlaced}
-use Rattle.markdown_document.specs.Stages.{times_in}
+use Rattle.markdown_document.specs.ResolverStates.{times_in}
 use Rattle.markdown_document.specs.Tables.{Tables}
 use Rattle.markdown_document.specs.NamedEntries.{Named, number_of, size_for, NamesEntries, HasGrown, times_named}
 use Rattle.markdown_document.specs.Totals.{same}
@@ -30,8 +30,8 @@ use Rattle.markdown_document.proofs.TablesLemmas.{same-apart, grown-longer, entr
 use Rattle.markdown_resolver.specs.Chains.{CanResolve}
 use Rattle.markdown_resolver.specs.Rewritten.{Standing, Rewrites, replaced, one_item, parent, IsFoundAt, IsRestPast}
 use Rattle.markdown_resolver.specs.Rewritten.{CanPut, CanPutParent, Puts}
-use Rattle.markdown_resolver.specs.declared.rest.Rest.{Rest}
-use Rattle.markdown_resolver.specs.Settling.{IsWritten, begun_from}
+use Rattle.markdown_resolver.specs.declared.continuation.Continuation.{Continuation}
+use Rattle.markdown_resolver.specs.LiteralText.{IsWritten, begun_from}
 use Rattle.markdown_resolver.proofs.ChainOrderLemmas.{rest_past}
 use Rattle.markdown_resolver.proofs.ComposeLemmas.{same_trans, Stands, stands_ready, Moves, changes_move, moves_twice}
 use Rattle.markdown_resolver.proofs.ComposeLemmas.{HeadWritten, head_moves, after_head, Below, below_kept}
@@ -95,11 +95,11 @@ pub record Written (source : List ℕ) (ix : ℕ) (item : Item) (next : Option �
       → BelowReads source ix old mid new later inside
 
 -- so the trees of what was put replace what was found, and the chain continues after it
-pub put_written : (source : List ℕ) (ix : ℕ) (item : Item) (rest : Rest) (old mid : List (Node Item))
+pub put_written : (source : List ℕ) (ix : ℕ) (item : Item) (rest : Continuation) (old mid : List (Node Item))
     (tables t : Tables) (inside : Forest Plain) (trees : Standing)
     → IsFoundAt source tables old ix item.end → CanPut source tables t item → item.start ≡ (item_at old ix).start
     → IsRestPast old item.end (sibling_of old ix) rest → Written source ix item rest.next old mid tables t inside
-    → ((a : Plain) (below : Forest Plain) → trees a below ≡ node (label_of source t item) inside nil)
+    → ((a : Plain) (below : Forest Plain) → trees a below ≡ node (tree_node_of source t item) inside nil)
     → Puts source ix trees (Some item.end) rest old (begun_from rest.next item.end mid) tables t
 put_written source ix item rest old mid tables t inside trees finds puts starts past w stand =
     let next = rest.next in
@@ -124,14 +124,14 @@ put_written source ix item rest old mid tables t inside trees finds puts starts 
     let follows = r.changes.before (numbered mid ix) (p.follows (numbered mid ix) refl ends) in
     let hm = head_moves source ix old mid new tables t later s w.head (rw w.next_is m) b.below (rw w.next_is follows)
     (no_run_here source (numbered mid ix) (option_map (numbered new) (sibling_of mid ix)) closed) in
-    let behind = past_byte item.end (trees_from source tables old (sibling_of old ix)) in
-    let after : trees_from source later new (sibling_of mid ix) ≡ rule behind =
+    let beyond = past_byte item.end (trees_from source tables old (sibling_of old ix)) in
+    let after : trees_from source later new (sibling_of mid ix) ≡ rule beyond =
     ap (λ (l : Option ℕ). trees_from source later new l) w.next_is ∙ r.rewritten ∙ ap rule p.reads in
     whole_put source ix old mid new tables t later trees (Some item.end) rule finds.ready w.head hm
     (λ x stands. before_closed ix old mid x closes stands) (runs_closed source ix old mid closes)
-    (tree_same (ap (λ x. label_of source t x) w.item_is) b.reads after
-    ∙ ap (λ (f : Forest Plain). joined_chains f (rule behind))
-    (sym (stand (label_at source tables old ix) (trees_from source tables old (child_of old ix))))) in
+    (tree_same (ap (λ x. tree_node_of source t x) w.item_is) b.reads after
+    ∙ ap (λ (f : Forest Plain). joined_chains f (rule beyond))
+    (sym (stand (tree_node_at source tables old ix) (trees_from source tables old (child_of old ix))))) in
     let all = whole (λ f. f) place t (rewrites_none p.moves.stands) in
     record {
       whole = whole;
@@ -144,7 +144,8 @@ put_written source ix item rest old mid tables t inside trees finds puts starts 
     }
 
 -- nothing is put below it
-pub found_puts : {source : List ℕ} {ix : ℕ} {item : Item} {rest : Rest} {old mid : List (Node Item)} {tables t : Tables}
+pub found_puts : {source : List ℕ} {ix : ℕ} {item : Item} {rest : Continuation} {old mid : List
+    (Node Item)} {tables t : Tables}
     → HasGrown tables t
     → IsFoundAt source tables old ix item.end → CanPut source tables t item → item.start ≡ (item_at old ix).start
     → IsRestPast old item.end (sibling_of old ix) rest → IsWritten old mid ix item rest.next
@@ -187,7 +188,7 @@ pub leaf_below : (source : List ℕ) (ix : ℕ) (inside : Item) (old mid new : L
     → Moves source (sibling_of old ix) next mid new t later
     → NewBelow ix inside old mid → CanPut source tables t inside → ((n : Named) → times_named n inside.body ≡ 0)
     → is_open (item_at old ix).body ≡ true → is_open (item_at mid ix).body ≡ false
-    → BelowReads source ix old mid new later (node (label_of source t inside) nil nil)
+    → BelowReads source ix old mid new later (node (tree_node_of source t inside) nil nil)
 leaf_below source ix inside old mid new tables t later next s h m b puts names was_open closed =
     let a = after_head s h in
     let k = length old in
@@ -230,7 +231,7 @@ leaf_below source ix inside old mid new tables t later next s h m b puts names w
     }
 
 -- an item with one child is put there
-pub parent_puts : {source : List ℕ} {ix : ℕ} {item inside : Item} {rest : Rest} {old mid : List (Node Item)}
+pub parent_puts : {source : List ℕ} {ix : ℕ} {item inside : Item} {rest : Continuation} {old mid : List (Node Item)}
     {tables t : Tables} → HasGrown tables t
     → IsFoundAt source tables old ix item.end → CanPutParent source tables t old ix item inside
     → IsRestPast old item.end (sibling_of old ix) rest → item_at mid ix ≡ item → sibling_of mid ix ≡ rest.next
@@ -243,7 +244,7 @@ parent_puts {source} {ix} {item} {inside} {rest} {old} {mid} {tables} {t} grown 
     let size = b.size in
     let h = closed_head source ix item old mid tables t grown puts.closed puts.lies puts.named puts.slices
     puts.new_names item_is (omega (arith, size)) others in
-    put_written source ix item rest old mid tables t (node (label_of source t inside) nil nil)
+    put_written source ix item rest old mid tables t (node (tree_node_of source t inside) nil nil)
     (parent source t item inside) finds puts can.starts past (record {
       item_is = item_is;
       next_is = next_is;

@@ -19,11 +19,11 @@ use Rattle.markdown_base.specs.declared.node.Node.{Node}
 use Rattle.markdown_base.proofs.ArenaForestLemmas.{opens}
 use Rattle.markdown_base.proofs.ArenaLemmas.{length-changed_at}
 use Rattle.markdown_document.specs.ChainRest.{begun_at, end_of, joined_chains, past, past_byte}
-use Rattle.markdown_document.specs.Document.{Plain, label_of}
+use Rattle.markdown_document.specs.Document.{Plain, tree_node_of}
 use Rattle.markdown_document.specs.ItemRules.{ComesBefore}
-use Rattle.markdown_document.specs.Places.{label_at, trees_from, origin_start}
+use Rattle.markdown_document.specs.Places.{tree_node_at, trees_from, origin_start}
 use Rattle.markdown_document.specs.PlacedNodes.{IsSameAt, IsPlaced}
-use Rattle.markdown_document.specs.Stages.{times_in, weight_in}
+use Rattle.markdown_document.specs.ResolverStates.{times_in, weight_in}
 use Rattle.markdown_document.specs.Tables.{Tables}
 use Rattle.markdown_document.specs.Totals.{total, same, weight_at}
 use Rattle.markdown_document.proofs.AboveLemmas.{open-no-block}
@@ -34,7 +34,7 @@ use Rattle.markdown_resolver.specs.Chains.{CanResolve}
 use Rattle.markdown_resolver.specs.Kept.{IsQuietBelow}
 use Rattle.markdown_resolver.specs.Rewritten.{RunsGoOn, Rewrites, Standing, replaced, first_past, begun_item}
 use Rattle.markdown_resolver.specs.Rewritten.{LeavesRest, MayBeCut, numbered_past_byte}
-use Rattle.markdown_resolver.specs.Settling.{begun_from}
+use Rattle.markdown_resolver.specs.LiteralText.{begun_from}
 use Rattle.markdown_resolver.proofs.NodeChangeLemmas.{changed_other, changed_here}
 use Rattle.markdown_resolver.proofs.ComposeLemmas.{same_trans, Stands, stands_ready, Moves, moves_change, moves_none}
 use Rattle.markdown_resolver.proofs.ComposeLemmas.{moves_twice, HeadWritten, HeadMoved, after_head}
@@ -132,9 +132,9 @@ pub whole_put : (source : List ℕ) (ix : ℕ) (old mid new : List (Node Item)) 
     → HeadMoved source ix old mid new tables t later
     → ((a : Numbered) → ComesBefore a (Some (numbered old ix)) → ComesBefore a (Some (numbered mid ix)))
     → RunsGoOn source old mid (Some ix)
-    → node (label_of source t (item_at mid ix)) (trees_from source later new (child_of mid ix))
+    → node (tree_node_of source t (item_at mid ix)) (trees_from source later new (child_of mid ix))
     (trees_from source later new (sibling_of mid ix))
-    ≡ joined_chains (trees (label_at source tables old ix) (trees_from source tables old (child_of old ix)))
+    ≡ joined_chains (trees (tree_node_at source tables old ix) (trees_from source tables old (child_of old ix)))
     (rule (past goes_on (trees_from source tables old (sibling_of old ix))))
     → Rewrites source (replaced trees goes_on rule) (Some ix) old new tables later
 whole_put source ix old mid new tables t later trees goes_on rule ready h hm before runs reads =

@@ -13,11 +13,11 @@ use Rattle.markdown_base.specs.declared.item.Item.{Item}
 use Rattle.markdown_base.specs.declared.node.Node.{Node}
 use Rattle.markdown_base.proofs.ArenaForestLemmas.{opens}
 use Rattle.markdown_document.specs.ChainRest.{past_byte}
-use Rattle.markdown_document.specs.Document.{Plain, label_of}
+use Rattle.markdown_document.specs.Document.{Plain, tree_node_of}
 use Rattle.markdown_document.specs.ItemRules.{ComesBefore}
-use Rattle.markdown_document.specs.Places.{label_at, trees_from}
+use Rattle.markdown_document.specs.Places.{tree_node_at, trees_from}
 use Rattle.markdown_document.specs.PlacedNodes.{IsSameAt, IsPlaced}
-use Rattle.markdown_document.specs.Stages.{weight_in}
+use Rattle.markdown_document.specs.ResolverStates.{weight_in}
 use Rattle.markdown_document.specs.Tables.{Tables}
 use Rattle.markdown_document.specs.NamedEntries.{HasGrown}
 use Rattle.markdown_document.specs.Totals.{total, same, weight_at}
@@ -30,8 +30,8 @@ use Rattle.markdown_resolver.specs.ClosedOver.{last_inside, CanClose, CanPutOver
 use Rattle.markdown_resolver.specs.Kept.{IsQuietBelow}
 use Rattle.markdown_resolver.specs.Rewritten.{RunsGoOn, Rewrites, IsRestPast, LeavesRest, CanPut, first_past}
 use Rattle.markdown_resolver.specs.Rewritten.{numbered_past_byte, MayBeCut}
-use Rattle.markdown_resolver.specs.declared.rest.Rest.{Rest}
-use Rattle.markdown_resolver.specs.Settling.{IsWritten, begun_from}
+use Rattle.markdown_resolver.specs.declared.continuation.Continuation.{Continuation}
+use Rattle.markdown_resolver.specs.LiteralText.{IsWritten, begun_from}
 use Rattle.markdown_resolver.proofs.ChainLeadsLemmas.{no_block}
 use Rattle.markdown_resolver.proofs.ChainOrderLemmas.{AllPast, leads_kept, leads_left, numbered_left, numbered_past_is}
 use Rattle.markdown_resolver.proofs.ComposeLemmas.{same_trans, Stands, Moves, changes_move, moves_change, moves_twice}
@@ -39,8 +39,8 @@ use Rattle.markdown_resolver.proofs.ComposeLemmas.{HeadWritten, HeadMoved, head_
 use Rattle.markdown_resolver.proofs.ComposeLemmas.{below_kept}
 use Rattle.markdown_resolver.proofs.EncloseLemmas.{OpensAt, opens_at, inside_reads, spelled_past, spelled_kept}
 use Rattle.markdown_resolver.proofs.EncloseLemmas.{total_parts}
-use Rattle.markdown_resolver.proofs.FoldLemmas.{IsFolded, behind_past, behind_reads, closer_opens, enclosed_folds}
-use Rattle.markdown_resolver.proofs.FoldLemmas.{first_behind, folded_moves, item_behind, next_behind, stands_once}
+use Rattle.markdown_resolver.proofs.FoldLemmas.{IsFolded, after_past, after_reads, closer_opens, enclosed_folds}
+use Rattle.markdown_resolver.proofs.FoldLemmas.{first_after, folded_moves, item_after, next_after, stands_once}
 use Rattle.markdown_resolver.proofs.FoldLemmas.{whole_childless}
 use Rattle.markdown_resolver.proofs.PastByteLemmas.{tree_same}
 use Rattle.markdown_resolver.proofs.PutFoundLemmas.{closed_head}
@@ -89,7 +89,7 @@ pub record HeadStands (source : List ℕ) (ix i : ℕ) (item : Item) (rule : For
     (nodes mid new : List (Node Item)) (tables t later : Tables) : Type 0 where
   pub moved : HeadMoved source ix nodes mid new tables t later
   pub reads : trees_from source later new (Some ix)
-      ≡ node (label_of source t item) (trees_from source tables nodes (child_of nodes ix))
+      ≡ node (tree_node_of source t item) (trees_from source tables nodes (child_of nodes ix))
       (rule (past_byte i (trees_from source tables nodes (sibling_of nodes ix))))
 
 pub head_stands : {source : List ℕ} {ix i : ℕ} {item : Item} {next : Option ℕ} {nodes mid : List (Node Item)}
@@ -112,7 +112,7 @@ head_stands {source} {ix} {i} {item} {next} {nodes} {mid} {tables} {t} s child p
     ap (λ (l : Option ℕ). trees_from source later new l) p.next_is ∙ r.rewritten ∙ ap rule p.rest.reads in
     record {
       moved = hm;
-      reads = hm.trees ∙ tree_same (ap (λ x. label_of source t x) p.item_is) kept.trees after;
+      reads = hm.trees ∙ tree_same (ap (λ x. tree_node_of source t x) p.item_is) kept.trees after;
     }
 
 -- an item is where another was that was neither open nor a block
@@ -137,8 +137,8 @@ runs_text source ix old new closed closed' = λ a whole.
 -- the closer is not left past a byte
 pub past_closer : (source : List ℕ) (tables : Tables) (nodes : List (Node Item)) (k closer i : ℕ) (after : List ℕ)
     (f : Forest ℕ) → OpensAt k closer after f → (item_at nodes closer).end ≤ i
-    → past_byte i (trees_past k (relabelled (label_at source tables nodes) f))
-    ≡ past_byte i (trees_past (suc k) (relabelled (label_at source tables nodes) f))
+    → past_byte i (trees_past k (relabelled (tree_node_at source tables nodes) f))
+    ≡ past_byte i (trees_past (suc k) (relabelled (tree_node_at source tables nodes) f))
 past_closer source tables nodes zero closer i after nil o ends = refl
 past_closer source tables nodes zero closer i after (node n below rest) o ends =
     let is : n ≡ closer = cc (o.is) in
@@ -156,10 +156,10 @@ pub over_leaves : (source : List ℕ) (opener k byte : ℕ) (next : Option ℕ) 
     (tables t : Tables) (f : Forest ℕ) → CanResolve source tables old (Some opener)
     → forest_at (links_of old) (Some opener) ≡ node opener nil f → Moves source (Some opener) next old place tables t
     → weight_in place next < weight_in old (Some opener)
-    → trees_from source t place next ≡ past_byte byte (trees_past k (relabelled (label_at source tables old) f))
+    → trees_from source t place next ≡ past_byte byte (trees_past k (relabelled (tree_node_at source tables old) f))
     → LeavesRest source opener next old place t
 over_leaves source opener k byte next old place tables t f ready whole left lighter reads =
-    let chain = relabelled (label_at source tables old) f in
+    let chain = relabelled (tree_node_at source tables old) f in
     let quiet : IsQuietBelow chain = (rw whole at ready.quiet_below).2 in
     record {
       ready = record {
@@ -175,33 +175,33 @@ over_leaves source opener k byte next old place tables t f ready whole left ligh
     }
 
 -- the links after the closer lead on past a byte offset, where the nodes there are unchanged
-pub behind_leads : (old mid : List (Node Item)) (opener closer byte : ℕ) (inside after : List ℕ) (next : Option ℕ)
+pub after_leads : (old mid : List (Node Item)) (opener closer byte : ℕ) (inside after : List ℕ) (next : Option ℕ)
     (f : Forest ℕ) → roots f ≡ inside ++ closer ∷ after
     → Spells (links_of old) (sibling_of old opener) f → length old ≤ length mid
     → ((n : ℕ) → 0 < total (same n) (trees_past (suc (length inside)) f) → IsSameAt old mid n)
     → first_past old byte after ≡ next → (low : ℕ) (chain : List Numbered)
     → LeadsThrough old low (sibling_of old closer) chain
     → LeadsThrough (begun_from next byte mid) low next (numbered_past_byte byte chain)
-behind_leads old mid opener closer byte inside after next f listed spelled size kept first low chain e =
+after_leads old mid opener closer byte inside after next f listed spelled size kept first low chain e =
     let o = opens_at inside after closer f listed in
-    let behind = trees_past (suc (length inside)) f in
+    let later = trees_past (suc (length inside)) f in
     let at : Spells (links_of old) (Some closer) (node closer o.below (trees_past (suc (length inside)) f)) =
     rw o.is at (spelled_past old inside after closer (sibling_of old opener) f listed spelled) in
-    let there = spelled_kept old mid (sibling_of old closer) behind size kept at.3 in
-    let leads = leads_kept old mid (sibling_of old closer) behind low chain at.3 size (λ n l some. kept n some) e in
-    let link : first_past mid byte (roots behind) ≡ next =
-    first_kept old mid byte behind (λ n some. (kept n some).item) ∙ ap (λ (ns : List ℕ). first_past old byte ns)
+    let there = spelled_kept old mid (sibling_of old closer) later size kept at.3 in
+    let leads = leads_kept old mid (sibling_of old closer) later low chain at.3 size (λ n l some. kept n some) e in
+    let link : first_past mid byte (roots later) ≡ next =
+    first_kept old mid byte later (λ n some. (kept n some).item) ∙ ap (λ (ns : List ℕ). first_past old byte ns)
     o.follow ∙ first in
     let left : LeadsThrough mid low next (numbered_left byte chain) = rw link at
-    (leads_left mid byte (sibling_of old closer) behind low chain there leads) in
+    (leads_left mid byte (sibling_of old closer) later low chain there leads) in
     rw (numbered_past_is byte chain) (leads_begun mid byte next low (numbered_left byte chain) left)
 
 -- one item, with what a rule shows of what is inside below it
 abbrev pub over_shape : List ℕ → Tables → Item → (shown : Forest Plain → Forest Plain) → Enclosing
-over_shape source tables item shown a inside = node (label_of source tables item) (shown inside) nil
+over_shape source tables item shown a inside = node (tree_node_of source tables item) (shown inside) nil
 
 -- the opener's node was written once it was folded
-module _ {source : List ℕ} {opener closer : ℕ} {item : Item} {byte : ℕ} {inside : List ℕ} {rest : Rest}
+module _ {source : List ℕ} {opener closer : ℕ} {item : Item} {byte : ℕ} {inside : List ℕ} {rest : Continuation}
     {old folded mid : List (Node Item)} {tables t : Tables} (grown : HasGrown tables t)
     (can : CanClose source tables old opener closer inside byte)
     (over : CanPutOver source tables t old opener item byte)
@@ -211,7 +211,7 @@ module _ {source : List ℕ} {opener closer : ℕ} {item : Item} {byte : ℕ} {i
   next = rest.next
 
   next_first : first_past old byte can.after ≡ next
-  next_first = next_behind can ∙ sym past.next_is
+  next_first = next_after can ∙ sym past.next_is
 
   abbrev k : ℕ
   k = length inside
@@ -233,23 +233,23 @@ module _ {source : List ℕ} {opener closer : ℕ} {item : Item} {byte : ℕ} {i
 
   rest_all_past : AllPast folded opener (item_at old opener).end
       (roots (forest_at (links_of folded) (sibling_of folded opener)))
-  rest_all_past = rw v.next_is (behind_past can folded v.size v.behind)
+  rest_all_past = rw v.next_is (after_past can folded v.size v.after)
 
   link_on : next ≡ first_past folded byte (roots (forest_at (links_of folded) (sibling_of folded opener)))
-  link_on = rw v.next_is (sym (first_behind can folded v.size v.behind ∙ next_first))
+  link_on = rw v.next_is (sym (first_after can folded v.size v.after ∙ next_first))
 
   puts : HeadPut source opener byte item next folded mid tables t
   puts =
       head_put source opener byte item next folded mid tables t grown moved.stands over.puts over.ends w
       (item_at old opener).end rest_all_past link_on
-      (λ n e. rw (item_behind can folded v.size v.behind n (next_first ∙ e))
+      (λ n e. rw (item_after can folded v.size v.after n (next_first ∙ e))
       (can.between n (next_first ∙ e))) can.boundary
 
   rest_is : past_byte byte (trees_from source tables folded (sibling_of folded opener))
       ≡ past_byte byte (trees_past (suc k) chain)
   rest_is =
       ap (λ (l : Option ℕ). past_byte byte (trees_from source tables folded l)) v.next_is
-      ∙ ap (λ (g : Forest Plain). past_byte byte g) (behind_reads can folded v.size v.behind)
+      ∙ ap (λ (g : Forest Plain). past_byte byte g) (after_reads can folded v.size v.after)
       ∙ past_closer source tables old k closer byte can.after f (closer_opens can) can.closer_ends
 
   left_moves : Moves source (Some opener) next old place tables t
@@ -268,15 +268,15 @@ module _ {source : List ℕ} {opener closer : ℕ} {item : Item} {byte : ℕ} {i
       over_leaves source opener (suc k) byte next old place tables t f can.ready whole_old left_moves
       (omega (arith, two, all, rest, weight)) (puts.rest.reads ∙ rest_is)
 
-  behind_same : (n : ℕ) → 0 < total (same n) (trees_past (suc k) f) → IsSameAt old mid n
-  behind_same n l =
+  after_same : (n : ℕ) → 0 < total (same n) (trees_past (suc k) f) → IsSameAt old mid n
+  after_same n l =
       let o = closer_opens can in
       let one : total (same n) (trees_past k f)
       ≡ same n closer + (total (same n) o.below + total (same n) (trees_past (suc k) f)) =
       ap (λ (g : Forest ℕ). total (same n) g) o.is in
       let parts = total_parts (same n) k f in
       let once = stands_once can n in
-      same_trans (v.behind n (omega (arith, one, l)))
+      same_trans (v.after n (omega (arith, one, l)))
       (w.others n (λ q. let self : same n opener ≡ 1 = subst (λ (m : ℕ). same n m ≡ 1) q (same-refl n)
       in absurd (omega (arith, once, self, parts, one, l))))
 
@@ -286,8 +286,8 @@ module _ {source : List ℕ} {opener closer : ℕ} {item : Item} {byte : ℕ} {i
       let o = opens (links_of old) (IsPlaced source tables old) opener can.ready.reaches in
       let size = v.size in
       let size' = w.size in
-      behind_leads old mid opener closer byte inside can.after next f can.follows o.after.spelled
-      (omega (arith, size, size')) behind_same next_first
+      after_leads old mid opener closer byte inside can.after next f can.follows o.after.spelled
+      (omega (arith, size, size')) after_same next_first
 
   -- so the item replaces what was found, with what is shown of what was inside
   module _ (shown : Forest Plain → Forest Plain) (reads : trees_from source tables folded (child_of folded opener)
@@ -323,7 +323,8 @@ module _ {source : List ℕ} {opener closer : ℕ} {item : Item} {byte : ℕ} {i
     }
 
 -- a link is over all that is inside
-pub link_puts : {source : List ℕ} {opener last closer : ℕ} {item : Item} {byte : ℕ} {inside : List ℕ} {rest : Rest}
+pub link_puts : {source : List ℕ} {opener last closer : ℕ} {item : Item} {byte : ℕ} {inside : List ℕ} {rest :
+    Continuation}
     {old folded mid : List (Node Item)} {tables t : Tables} → HasGrown tables t
     → CanClose source tables old opener closer inside byte → CanPutOver source tables t old opener item byte
     → last_inside opener inside ≡ last → IsEnclosed old folded opener last closer

@@ -12,11 +12,11 @@ use Rattle.markdown_base.specs.declared.item.Item.{Item}
 use Rattle.markdown_base.specs.declared.node.Node.{Node}
 use Rattle.markdown_base.proofs.ArenaForestLemmas.{opens, Opened, forest_at-none}
 use Rattle.markdown_document.specs.ChainRest.{past_byte}
-use Rattle.markdown_document.specs.Document.{Plain, label_of}
+use Rattle.markdown_document.specs.Document.{Plain, tree_node_of}
 use Rattle.markdown_document.specs.ItemRules.{ComesBefore}
 use Rattle.markdown_document.specs.Places.{trees_from}
 use Rattle.markdown_document.specs.PlacedNodes.{IsSameAt, IsPlaced}
-use Rattle.markdown_document.specs.Stages.{weight_in}
+use Rattle.markdown_document.specs.ResolverStates.{weight_in}
 use Rattle.markdown_document.specs.Tables.{Tables}
 use Rattle.markdown_document.specs.NamedEntries.{HasGrown}
 use Rattle.markdown_document.specs.Totals.{total, same, weight_at}
@@ -26,21 +26,21 @@ use Rattle.markdown_spans.specs.ChainInArena.{LeadsThrough}
 use Rattle.markdown_resolver.specs.Chains.{CanResolve}
 use Rattle.markdown_resolver.specs.ClosedOver.{trees_past, closed_over, after_mark, CanClose, CanPutMark, PutsOver}
 use Rattle.markdown_resolver.specs.Rewritten.{Rewrites, IsRestPast, LeavesRest, first_past, numbered_past_byte}
-use Rattle.markdown_resolver.specs.declared.rest.Rest.{Rest}
-use Rattle.markdown_resolver.specs.Settling.{IsWritten, begun_from}
+use Rattle.markdown_resolver.specs.declared.continuation.Continuation.{Continuation}
+use Rattle.markdown_resolver.specs.LiteralText.{IsWritten, begun_from}
 use Rattle.markdown_resolver.proofs.ChainOrderLemmas.{rest_past}
 use Rattle.markdown_resolver.proofs.ComposeLemmas.{same_trans, Stands, stands_ready, Moves, moves_change, moves_twice}
 use Rattle.markdown_resolver.proofs.ComposeLemmas.{HeadWritten, After, below_kept, head_moves, head_leaves, after_head}
 use Rattle.markdown_resolver.proofs.EncloseLemmas.{opens_at, total_parts}
-use Rattle.markdown_resolver.proofs.FoldLemmas.{next_behind}
+use Rattle.markdown_resolver.proofs.FoldLemmas.{next_after}
 use Rattle.markdown_resolver.proofs.PastByteLemmas.{tree_same}
 use Rattle.markdown_resolver.proofs.PutFoundLemmas.{closed_head}
 use Rattle.markdown_resolver.proofs.PutLemmas.{rewrites_none, next_from, over_numbers, no_run_here, first_kept}
 use Rattle.markdown_resolver.proofs.PutLemmas.{first_there, rest_same, rest_within}
 use Rattle.markdown_resolver.proofs.PutLinkLemmas.{HeadPut, head_put, HeadStands, head_stands, first_no_block}
-use Rattle.markdown_resolver.proofs.PutLinkLemmas.{before_text, runs_text, over_leaves, behind_leads}
-use Rattle.markdown_resolver.proofs.PutPairLemmas.{Skips, skips, past_at, entries_of_none, label_of_none}
-use Rattle.markdown_resolver.proofs.PutReferenceLemmas.{past_inside, first_behind}
+use Rattle.markdown_resolver.proofs.PutLinkLemmas.{before_text, runs_text, over_leaves, after_leads}
+use Rattle.markdown_resolver.proofs.PutPairLemmas.{Skips, skips, past_at, entries_of_none, tree_node_of_none}
+use Rattle.markdown_resolver.proofs.PutReferenceLemmas.{past_inside, first_after}
 
 -- the mark was written, and is followed by the closer; then the closer was written
 module _ {source : List ℕ} {opener closer : ℕ} {mark item : Item} {inside : List ℕ} {old mid : List (Node Item)}
@@ -112,13 +112,13 @@ module _ {source : List ℕ} {opener closer : ℕ} {mark item : Item} {inside : 
   closer_childless : child_of mid closer ≡ None
   closer_childless = closer_opened.holds.keeps.childless (rw closer_same.item over.closer_open)
 
-  behind_reads : past_byte item.end (trees_from source tables mid (sibling_of mid closer))
+  after_reads : past_byte item.end (trees_from source tables mid (sibling_of mid closer))
       ≡ past_byte item.end (trees_past (suc k) chain)
-  behind_reads =
+  after_reads =
       sym skipped_there.reads ∙ ap (λ (g : Forest Plain). past_byte item.end g) after_mark_is.rest.trees
       ∙ past_inside can over.ends
 
-  module _ (rest : Rest) (last : List (Node Item)) (past : IsRestPast old item.end (sibling_of old closer) rest)
+  module _ (rest : Continuation) (last : List (Node Item)) (past : IsRestPast old item.end (sibling_of old closer) rest)
       (w : IsWritten mid last closer item rest.next) where
     abbrev next : Option ℕ
     next = rest.next
@@ -130,10 +130,10 @@ module _ {source : List ℕ} {opener closer : ℕ} {mark item : Item} {inside : 
     items_same n z = (rest_same stands head n (rest_within stands head n z) z).item
 
     next_first : first_past old item.end can.after ≡ next
-    next_first = next_behind can ∙ sym past.next_is
+    next_first = next_after can ∙ sym past.next_is
 
     next_all : first_past old item.end (roots f) ≡ next
-    next_all = first_behind can over.ends ∙ next_first
+    next_all = first_after can over.ends ∙ next_first
 
     link : next ≡ first_past mid item.end (roots (forest_at (links_of mid) (sibling_of mid closer)))
     link =
@@ -173,10 +173,10 @@ module _ {source : List ℕ} {opener closer : ℕ} {mark item : Item} {inside : 
         ≡ nil = rw (can.childless, forest_at-none (links_of old)) refl in
         let none' : trees_from source tables mid (child_of mid closer)
         ≡ nil = rw (closer_childless, forest_at-none (links_of mid)) refl in
-        let label = label_of_none source tables t mid opener grown (rw v.item_is over.names_nothing)
-        ∙ ap (λ x. label_of source t x) v.item_is in
+        let label = tree_node_of_none source tables t mid opener grown (rw v.item_is over.names_nothing)
+        ∙ ap (λ x. tree_node_of source t x) v.item_is in
         let after = ap (λ (x : Option ℕ). trees_from source later new x) v.next_is ∙ h.reads
-        ∙ tree_same refl none' (ap rule behind_reads) in
+        ∙ tree_same refl none' (ap rule after_reads) in
         let item_is : item_at new opener ≡ mark = hm.item ∙ v.item_is in
         record {
           changes = moves_change hm.moves
@@ -199,10 +199,10 @@ module _ {source : List ℕ} {opener closer : ℕ} {mark item : Item} {inside : 
         + (0 + weight_in old l) = ap (λ (g : Forest ℕ). total (weight_at old) g) whole_old in
         let rest : weight_in place next ≤ weight_in old l = rw (← after_mark_is.rest.weight) left_from.no_heavier in
         over_leaves source opener (suc k) item.end next old place tables t f can.ready whole_old left_moves
-        (omega (arith, two, all, rest)) (puts.rest.reads ∙ behind_reads)
+        (omega (arith, two, all, rest)) (puts.rest.reads ∙ after_reads)
 
-    behind_same : (n : ℕ) → 0 < total (same n) (trees_past (suc k) f) → IsSameAt old last n
-    behind_same n x =
+    after_same : (n : ℕ) → 0 < total (same n) (trees_past (suc k) f) → IsSameAt old last n
+    after_same n x =
         let o = opens_at inside can.after closer f can.follows in
         let one : total (same n) (trees_past k f)
         ≡ same n closer + (total (same n) o.below + total (same n) (trees_past (suc k) f)) =
@@ -219,8 +219,8 @@ module _ {source : List ℕ} {opener closer : ℕ} {mark item : Item} {inside : 
     mark_leads =
         let size = v.size in
         let size' = w.size in
-        behind_leads old last opener closer item.end inside can.after next f can.follows opened.after.spelled
-        (omega (arith, size, size')) behind_same next_first
+        after_leads old last opener closer item.end inside can.after next f can.follows opened.after.spelled
+        (omega (arith, size, size')) after_same next_first
 
     mark_numbers : roots (forest_at (links_of place) (Some opener))
         ≡ opener ∷ closer ∷ roots (forest_at (links_of place) next)

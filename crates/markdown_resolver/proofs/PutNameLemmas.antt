@@ -12,10 +12,10 @@ use Rattle.markdown_base.specs.declared.item.Item.{Item}
 use Rattle.markdown_base.specs.declared.node.Node.{Node}
 use Rattle.markdown_base.proofs.ArenaForestLemmas.{opens}
 use Rattle.markdown_base.proofs.ArenaLemmas.{length-changed_at}
-use Rattle.markdown_document.specs.Document.{label_of}
-use Rattle.markdown_document.specs.Places.{label_at, trees_from, origin_start}
+use Rattle.markdown_document.specs.Document.{tree_node_of}
+use Rattle.markdown_document.specs.Places.{tree_node_at, trees_from, origin_start}
 use Rattle.markdown_document.specs.PlacedNodes.{IsSameAt, IsPlaced}
-use Rattle.markdown_document.specs.Stages.{times_in}
+use Rattle.markdown_document.specs.ResolverStates.{times_in}
 use Rattle.markdown_document.specs.Tables.{Tables}
 use Rattle.markdown_document.specs.NamedEntries.{HasGrown, Named, times_named}
 use Rattle.markdown_document.specs.Totals.{total, same, weight_at}
@@ -25,14 +25,14 @@ use Rattle.markdown_document.proofs.PlaceLemmas.{times-past, slices-none, some_w
 use Rattle.markdown_document.proofs.TablesLemmas.{same-refl}
 use Rattle.markdown_resolver.specs.ClosedOver.{first_trees, trees_past, over_text, CanClose, CanPutOver, PutsOver}
 use Rattle.markdown_resolver.specs.Rewritten.{CanPut, IsRestPast}
-use Rattle.markdown_resolver.specs.declared.rest.Rest.{Rest}
-use Rattle.markdown_resolver.specs.Settling.{IsWritten, begun_from}
+use Rattle.markdown_resolver.specs.declared.continuation.Continuation.{Continuation}
+use Rattle.markdown_resolver.specs.LiteralText.{IsWritten, begun_from}
 use Rattle.markdown_resolver.proofs.ComposeLemmas.{same_trans}
 use Rattle.markdown_resolver.proofs.EncloseLemmas.{with_child, with_next, total_parts}
 use Rattle.markdown_resolver.proofs.FoldLemmas.{IsFolded, counted_among, first_roots, stands_once, whole_childless}
 use Rattle.markdown_resolver.proofs.NodeChangeLemmas.{IsChanged, changed_other, changed_here}
 use Rattle.markdown_resolver.proofs.PutLinkLemmas.{fold_puts}
-use Rattle.markdown_resolver.proofs.PutPairLemmas.{entries_of_none, label_of_none}
+use Rattle.markdown_resolver.proofs.PutPairLemmas.{entries_of_none, tree_node_of_none}
 
 -- a Text is below the opener, in a node that was inside; nothing else has changed
 pub record IsHungIn (old new : List (Node Item)) (opener first : ℕ) (inside : Item) : Type 0 where
@@ -179,8 +179,8 @@ module _ (source : List ℕ) (tables t : Tables) (grown : HasGrown tables t) (ol
     other_same n d d' = same_trans (v.others n d d')
         (changed_other hung opener (λ n. record n { next = Some closer }) n d)
 
-    behind_same : (n : ℕ) → 0 < total (same n) (trees_past k f) → IsSameAt old folded n
-    behind_same n l =
+    after_same : (n : ℕ) → 0 < total (same n) (trees_past k f) → IsSameAt old folded n
+    after_same n l =
         let once = stands_once can n in
         let parts = total_parts (same n) k f in
         let there = counted (same n) in
@@ -215,15 +215,15 @@ module _ (source : List ℕ) (tables t : Tables) (grown : HasGrown tables t) (ol
           below_of = λ n. rw (child_is, here) (let there = counted (same n) in omega (arith, there));
           below_named = λ n. rw (child_is, here, item_is) (let z = names_nothing n in omega (arith, z));
           below_weight = rw (child_is, here, item_is, puts.closed) (omega (arith, weight, two));
-          behind = behind_same;
+          after = after_same;
           outside = outside_same;
         }
 
-    name_reads : trees_from source tables folded (child_of folded opener) ≡ node (label_of source t text) nil nil
+    name_reads : trees_from source tables folded (child_of folded opener) ≡ node (tree_node_of source t text) nil nil
     name_reads =
-        let label : label_at source tables folded first ≡ label_of source t text =
-        label_of_none source tables t folded first grown (λ n. rw item_is (names_nothing n))
-        ∙ ap (λ (x : Item). label_of source t x) item_is in
+        let label : tree_node_at source tables folded first ≡ tree_node_of source t text =
+        tree_node_of_none source tables t folded first grown (λ n. rw item_is (names_nothing n))
+        ∙ ap (λ (x : Item). tree_node_of source t x) item_is in
         rw (child_is, here, label) refl
 
     written : (mid : List (Node Item)) (item : Item) (next : Option ℕ) → IsWritten hung mid opener item next
@@ -241,7 +241,7 @@ module _ (source : List ℕ) (tables t : Tables) (grown : HasGrown tables t) (ol
 
 -- so a wikilink is put over its name
 pub name_puts : (source : List ℕ) (opener closer : ℕ) (item text : Item) (inside skipped : List ℕ) (first : ℕ)
-    (shown : List ℕ) (rest : Rest) (old hung mid : List (Node Item)) (tables t : Tables)
+    (shown : List ℕ) (rest : Continuation) (old hung mid : List (Node Item)) (tables t : Tables)
     → HasGrown tables t → CanClose source tables old opener closer inside item.end
     → CanPutOver source tables t old opener item item.end → CanPut source tables t text
     → ((n : Named) → times_named n text.body ≡ 0) → inside ≡ skipped ++ first ∷ shown
@@ -255,6 +255,6 @@ name_puts source opener closer item text inside skipped first shown rest old hun
     (name_folds source tables t grown old hung opener closer inside skipped first shown text item.end can puts
     names_nothing inside_is v)
     past (written source tables t grown old hung opener closer inside skipped first shown text item.end can puts
-    names_nothing inside_is v mid item rest.next w) (λ g. node (label_of source t text) nil nil)
+    names_nothing inside_is v mid item rest.next w) (λ g. node (tree_node_of source t text) nil nil)
     (name_reads source tables t grown old hung opener closer inside skipped first shown text
     item.end can puts names_nothing inside_is v)

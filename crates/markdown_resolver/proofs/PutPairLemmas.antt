@@ -15,11 +15,11 @@ use Rattle.markdown_base.specs.declared.node.Node.{Node}
 use Rattle.markdown_base.proofs.ArenaForestLemmas.{opens, forest_at-none}
 use Rattle.markdown_document.proofs.PlaceLemmas.{slices-none}
 use Rattle.markdown_document.specs.ChainRest.{past_byte}
-use Rattle.markdown_document.specs.Document.{Plain, label_of}
+use Rattle.markdown_document.specs.Document.{Plain, tree_node_of}
 use Rattle.markdown_document.specs.ItemRules.{ComesBefore}
-use Rattle.markdown_document.specs.Places.{label_at, trees_from}
+use Rattle.markdown_document.specs.Places.{tree_node_at, trees_from}
 use Rattle.markdown_document.specs.PlacedNodes.{IsPlaced}
-use Rattle.markdown_document.specs.Stages.{times_in}
+use Rattle.markdown_document.specs.ResolverStates.{times_in}
 use Rattle.markdown_document.specs.Tables.{Tables}
 use Rattle.markdown_document.specs.NamedEntries.{Named, some_text, some_link, some_alignments, NamesEntries, HasGrown}
 use Rattle.markdown_document.specs.NamedEntries.{same_as, times_named}
@@ -29,8 +29,8 @@ use Rattle.markdown_spans.specs.ChainInArena.{LeadsThrough}
 use Rattle.markdown_resolver.specs.Chains.{CanResolve}
 use Rattle.markdown_resolver.specs.Rewritten.{Rewrites, Puts, replaced, first_past, pair, IsFoundAt, IsRestPast}
 use Rattle.markdown_resolver.specs.Rewritten.{CanPutPair, MayBeCut, numbered_past_byte}
-use Rattle.markdown_resolver.specs.declared.rest.Rest.{Rest}
-use Rattle.markdown_resolver.specs.Settling.{IsWritten, begun_from}
+use Rattle.markdown_resolver.specs.declared.continuation.Continuation.{Continuation}
+use Rattle.markdown_resolver.specs.LiteralText.{IsWritten, begun_from}
 use Rattle.markdown_resolver.proofs.ChainOrderLemmas.{StandsPast, AllPast, rest_past, leads_kept, leads_lower}
 use Rattle.markdown_resolver.proofs.ComposeLemmas.{Stands, stands_ready, Moves, changes_move, moves_none, moves_twice}
 use Rattle.markdown_resolver.proofs.ComposeLemmas.{first_leaves, HeadWritten, HeadMoved, After, head_moves, head_leaves}
@@ -180,10 +180,10 @@ entries_of_none tables t b grown h e = record {
   attributes = rw (grown-longer tables t grown).headings at e.attributes;
 }
 
-pub label_of_none : (source : List ℕ) (tables t : Tables) (nodes : List (Node Item)) (ix : ℕ) → HasGrown tables t
+pub tree_node_of_none : (source : List ℕ) (tables t : Tables) (nodes : List (Node Item)) (ix : ℕ) → HasGrown tables t
     → ((n : Named) → times_named n (item_at nodes ix).body ≡ 0)
-    → label_at source tables nodes ix ≡ label_at source t nodes ix
-label_of_none source tables t nodes ix grown h =
+    → tree_node_at source tables nodes ix ≡ tree_node_at source t nodes ix
+tree_node_of_none source tables t nodes ix grown h =
     sym (label-same source tables t nodes nodes ix (record {
       at = record { child = refl; next = refl; item = refl };
       entries = λ n l. absurd (let z = h n in omega (arith, l, z));
@@ -230,7 +230,7 @@ pair_begun source ix closer first second old mid tables t grown finds can v =
     }
 
 -- the closer is written too, and what is left begins at its end
-module _ {source : List ℕ} {ix closer : ℕ} {first second : Item} {rest : Rest} {old mid last : List (Node Item)}
+module _ {source : List ℕ} {ix closer : ℕ} {first second : Item} {rest : Continuation} {old mid last : List (Node Item)}
     {tables t : Tables} (grown : HasGrown tables t)
     (finds : IsFoundAt source tables old ix second.end) (can : CanPutPair source tables t old ix closer first second)
     (past : IsRestPast old second.end (sibling_of old ix) rest) (v : IsWritten old mid ix first (Some closer))
@@ -319,12 +319,12 @@ module _ {source : List ℕ} {ix closer : ℕ} {first second : Item} {rest : Res
 
   second_reads : (rule : Forest Plain → Forest Plain) (new : List (Node Item)) (later : Tables)
       → Rewrites source rule next place new t later → trees_from source later new (Some closer)
-      ≡ node (label_of source t second) nil (rule (past_byte second.end (trees_from source tables old l)))
+      ≡ node (tree_node_of source t second) nil (rule (past_byte second.end (trees_from source tables old l)))
   second_reads rule new later r =
       let m = moves_twice left.moves (changes_move r.changes) in
       let b = none_below closer_stands closer_head m closer_was_open closer_closed w.child_is in
       let after = ap (λ (x : Option ℕ). trees_from source later new x) w.next_is ∙ r.rewritten ∙ ap rule left_reads in
-      (second_moves rule new later r).trees ∙ tree_same (ap (λ x. label_of source t x) w.item_is) b.reads after
+      (second_moves rule new later r).trees ∙ tree_same (ap (λ x. tree_node_of source t x) w.item_is) b.reads after
 
   -- and the first before that
   whole_pair : (rule : Forest Plain → Forest Plain) (new : List (Node Item)) (later : Tables)
@@ -340,8 +340,8 @@ module _ {source : List ℕ} {ix closer : ℕ} {first second : Item} {rest : Res
       (rw v.next_is follows)
       (no_run_here source (numbered mid ix) (option_map (numbered new) (sibling_of mid ix)) opener_closed) in
       let after = ap (λ (x : Option ℕ). trees_from source later new x) v.next_is ∙ second_reads rule new later r in
-      let label = label_of_none source tables t mid ix grown (rw v.item_is can.names_nothing)
-      ∙ ap (λ x. label_of source t x) v.item_is in
+      let label = tree_node_of_none source tables t mid ix grown (rw v.item_is can.names_nothing)
+      ∙ ap (λ x. tree_node_of source t x) v.item_is in
       whole_put source ix old mid new tables tables later (pair source t first second) (Some second.end) rule
       finds.ready begun.head hm
       (λ x stands. before_closed ix old mid x opener_closes stands) (runs_closed source ix old mid opener_closes)

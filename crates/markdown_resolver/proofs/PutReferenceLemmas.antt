@@ -11,9 +11,9 @@ use Rattle.markdown_base.specs.declared.node.Node.{Node}
 use Rattle.markdown_base.proofs.ArenaForestLemmas.{opens, forest_at-none}
 use Rattle.markdown_document.specs.ChainRest.{past_byte}
 use Rattle.markdown_document.specs.Document.{Plain}
-use Rattle.markdown_document.specs.Places.{label_at, trees_from}
+use Rattle.markdown_document.specs.Places.{tree_node_at, trees_from}
 use Rattle.markdown_document.specs.PlacedNodes.{IsSameAt, IsPlaced}
-use Rattle.markdown_document.specs.Stages.{weight_in}
+use Rattle.markdown_document.specs.ResolverStates.{weight_in}
 use Rattle.markdown_document.specs.Tables.{Tables}
 use Rattle.markdown_document.specs.NamedEntries.{HasGrown}
 use Rattle.markdown_document.specs.Totals.{total, same, weight_at}
@@ -22,17 +22,17 @@ use Rattle.markdown_document.proofs.TablesLemmas.{same-refl}
 use Rattle.markdown_spans.specs.ChainInArena.{LeadsThrough}
 use Rattle.markdown_resolver.specs.ClosedOver.{trees_past, closed_over, in_place_of, CanClose, CanPutOver, PutsOver}
 use Rattle.markdown_resolver.specs.Rewritten.{Rewrites, IsRestPast, LeavesRest, first_past, numbered_past_byte}
-use Rattle.markdown_resolver.specs.declared.rest.Rest.{Rest}
-use Rattle.markdown_resolver.specs.Settling.{IsWritten, begun_from}
+use Rattle.markdown_resolver.specs.declared.continuation.Continuation.{Continuation}
+use Rattle.markdown_resolver.specs.LiteralText.{IsWritten, begun_from}
 use Rattle.markdown_resolver.proofs.ChainOrderLemmas.{rest_past}
 use Rattle.markdown_resolver.proofs.ComposeLemmas.{Stands, stands_ready, Moves, moves_change, moves_twice, head_leaves}
 use Rattle.markdown_resolver.proofs.ComposeLemmas.{after_head}
 use Rattle.markdown_resolver.proofs.EncloseLemmas.{read_past, total_parts}
-use Rattle.markdown_resolver.proofs.FoldLemmas.{behind_is, next_behind, stands_once, whole_childless}
+use Rattle.markdown_resolver.proofs.FoldLemmas.{after_is, next_after, stands_once, whole_childless}
 use Rattle.markdown_resolver.proofs.PastByteLemmas.{tree_same}
 use Rattle.markdown_resolver.proofs.PutLemmas.{rewrites_none, next_from, over_numbers}
 use Rattle.markdown_resolver.proofs.PutLinkLemmas.{HeadPut, head_put, head_stands, first_no_block, before_text}
-use Rattle.markdown_resolver.proofs.PutLinkLemmas.{runs_text, over_leaves, behind_leads}
+use Rattle.markdown_resolver.proofs.PutLinkLemmas.{runs_text, over_leaves, after_leads}
 use Rattle.markdown_resolver.proofs.PutPairLemmas.{Skips, skips, ready_next}
 
 -- what is inside, and the closer, are not left past the closer's end
@@ -53,12 +53,12 @@ module _ {source : List ℕ} {tables : Tables} {old : List (Node Item)} {opener 
 
   pub past_inside : past_byte byte trees ≡ past_byte byte (trees_past (suc many) trees)
   past_inside =
-      skipped_there.reads ∙ ap (λ (g : Forest ℕ). past_byte byte (relabelled (label_at source tables old) g))
-      (behind_is can)
-      ∙ ap (λ (g : Forest Plain). past_byte byte g) (read_past (label_at source tables old) (suc many) numbers)
+      skipped_there.reads ∙ ap (λ (g : Forest ℕ). past_byte byte (relabelled (tree_node_at source tables old) g))
+      (after_is can)
+      ∙ ap (λ (g : Forest Plain). past_byte byte g) (read_past (tree_node_at source tables old) (suc many) numbers)
 
-  pub first_behind : first_past old byte (roots numbers) ≡ first_past old byte can.after
-  first_behind = skipped_there.first ∙ sym (next_behind can)
+  pub first_after : first_past old byte (roots numbers) ≡ first_past old byte can.after
+  first_after = skipped_there.first ∙ sym (next_after can)
 
 -- an opener is written in place of what is inside
 module _ {source : List ℕ} {opener closer : ℕ} {item : Item} {inside : List ℕ} {old : List (Node Item)}
@@ -79,10 +79,10 @@ module _ {source : List ℕ} {opener closer : ℕ} {item : Item} {inside : List 
   whole : forest_at (links_of old) (Some opener) ≡ node opener nil f
   whole = whole_childless can
 
-  behind_reads : past_byte item.end chain ≡ past_byte item.end (trees_past (suc k) chain)
-  behind_reads = past_inside can ends
+  after_reads : past_byte item.end chain ≡ past_byte item.end (trees_past (suc k) chain)
+  after_reads = past_inside can ends
 
-  module _ (rest : Rest) (mid : List (Node Item)) (past : IsRestPast old item.end (sibling_of old closer) rest)
+  module _ (rest : Continuation) (mid : List (Node Item)) (past : IsRestPast old item.end (sibling_of old closer) rest)
       (w : IsWritten old mid opener item rest.next) where
     abbrev next : Option ℕ
     next = rest.next
@@ -91,13 +91,13 @@ module _ {source : List ℕ} {opener closer : ℕ} {item : Item} {inside : List 
     place = begun_from next item.end mid
 
     next_first : first_past old item.end can.after ≡ next
-    next_first = next_behind can ∙ sym past.next_is
+    next_first = next_after can ∙ sym past.next_is
 
     puts : HeadPut source opener item.end item next old mid tables t
     puts =
         head_put source opener item.end item next old mid tables t grown stands over.puts over.ends w
         (item_at old opener).end (rest_past can.ready)
-        (sym (first_behind can ends ∙ next_first)) (λ n e. can.between n (next_first ∙ e)) can.boundary
+        (sym (first_after can ends ∙ next_first)) (λ n e. can.between n (next_first ∙ e)) can.boundary
 
     none_inside : trees_from source tables old (child_of old opener) ≡ nil
     none_inside = rw (can.childless, forest_at-none (links_of old)) refl
@@ -113,7 +113,7 @@ module _ {source : List ℕ} {opener closer : ℕ} {item : Item} {inside : List 
               (λ a before. before_text opener old new a (first_no_block source tables old opener can.ready)
               (rw item_is over.starts) before);
           runs = runs_text source opener old new can.opener_closed (rw item_is puts.closed);
-          rewritten = h.reads ∙ tree_same refl none_inside (ap rule behind_reads) ∙ rw whole refl;
+          rewritten = h.reads ∙ tree_same refl none_inside (ap rule after_reads) ∙ rw whole refl;
         }
 
     left_moves : Moves source (Some opener) next old place tables t
@@ -128,10 +128,10 @@ module _ {source : List ℕ} {opener closer : ℕ} {item : Item} {inside : List 
         let rest : weight_in place next ≤ weight_in old (sibling_of old opener) = rw (← a.rest.weight)
         puts.rest.moves.no_heavier in
         over_leaves source opener (suc k) item.end next old place tables t f can.ready whole left_moves
-        (omega (arith, two, all, rest)) (puts.rest.reads ∙ behind_reads)
+        (omega (arith, two, all, rest)) (puts.rest.reads ∙ after_reads)
 
-    behind_same : (n : ℕ) → 0 < total (same n) (trees_past (suc k) f) → IsSameAt old mid n
-    behind_same n l =
+    after_same : (n : ℕ) → 0 < total (same n) (trees_past (suc k) f) → IsSameAt old mid n
+    after_same n l =
         let parts = total_parts (same n) (suc k) f in
         let once = stands_once can n in
         w.others n (λ q. let self : same n opener ≡ 1 = subst (λ (m : ℕ). same n m ≡ 1) q (same-refl n)
@@ -141,9 +141,9 @@ module _ {source : List ℕ} {opener closer : ℕ} {item : Item} {inside : List 
         → LeadsThrough place low next (numbered_past_byte item.end after)
     reference_leads =
         let size = w.size in
-        behind_leads old mid opener closer item.end inside can.after next f can.follows
+        after_leads old mid opener closer item.end inside can.after next f can.follows
         (opens (links_of old) (IsPlaced source tables old)
-        opener can.ready.reaches).after.spelled (omega (arith, size)) behind_same next_first
+        opener can.ready.reaches).after.spelled (omega (arith, size)) after_same next_first
 
     reference_numbers : roots (forest_at (links_of place) (Some opener))
         ≡ opener ∷ roots (forest_at (links_of place) next)

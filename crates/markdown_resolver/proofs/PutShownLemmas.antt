@@ -16,9 +16,9 @@ use Rattle.markdown_base.proofs.ArenaForestLemmas.{opens, forest_at-none}
 use Rattle.markdown_base.proofs.ArenaLemmas.{length-changed_at}
 use Rattle.markdown_document.specs.ChainRest.{begun_at, past_byte}
 use Rattle.markdown_document.specs.Document.{Plain}
-use Rattle.markdown_document.specs.Places.{label_at, trees_from, follows_pipe}
+use Rattle.markdown_document.specs.Places.{tree_node_at, trees_from, follows_pipe}
 use Rattle.markdown_document.specs.PlacedNodes.{IsSameAt, IsPlaced, ComesFromPlace}
-use Rattle.markdown_document.specs.Stages.{times_in, named_in}
+use Rattle.markdown_document.specs.ResolverStates.{times_in, named_in}
 use Rattle.markdown_document.specs.Tables.{Tables}
 use Rattle.markdown_document.specs.NamedEntries.{HasGrown, Named, number_of, size_for, naming}
 use Rattle.markdown_document.specs.Totals.{total, same}
@@ -28,8 +28,8 @@ use Rattle.markdown_document.proofs.TablesLemmas.{same-refl, same_entry-refl, gr
 use Rattle.markdown_resolver.specs.ClosedOver.{first_trees, trees_past, last_inside, over_shown, CanClose, CanPutOver}
 use Rattle.markdown_resolver.specs.ClosedOver.{CanShow, PutsOver, IsEnclosed}
 use Rattle.markdown_resolver.specs.Rewritten.{IsRestPast, begun_item}
-use Rattle.markdown_resolver.specs.declared.rest.Rest.{Rest}
-use Rattle.markdown_resolver.specs.Settling.{IsWritten, begun_from}
+use Rattle.markdown_resolver.specs.declared.continuation.Continuation.{Continuation}
+use Rattle.markdown_resolver.specs.LiteralText.{IsWritten, begun_from}
 use Rattle.markdown_resolver.proofs.ComposeLemmas.{same_trans, Stands, Moves, moves_none, moves_twice, first_leaves}
 use Rattle.markdown_resolver.proofs.EncloseLemmas.{with_child, inside_forest, inside_reads, total_parts}
 use Rattle.markdown_resolver.proofs.FoldLemmas.{IsFolded, enclosed_folds, counted_among, first_roots, stands_once}
@@ -93,7 +93,8 @@ begun_there source tables nodes ix i s boundary ends closed piped =
     → ComesFromPlace source tables (begun_item item.start (item_at nodes m))) is (λ k. absurd (omega (arith, k)))) in
     let e : max item.start item.start ≡ max item.start i = omega arith in
     let d : item.start - item.start ≡ i - item.start = omega arith in
-    let label : begun_at item.start (label_at source tables nodes ix) ≡ begun_at i (label_at source tables nodes ix)
+    let label : begun_at item.start (tree_node_at source tables nodes ix) ≡ begun_at i
+    (tree_node_at source tables nodes ix)
     = rw (d, e) refl in
     let reads : first_begun item.start (trees_from source tables nodes (Some ix))
     ≡ first_begun i (trees_from source tables nodes (Some ix)) = rw o.here (rw label refl) in
@@ -271,11 +272,11 @@ module _ {source : List ℕ} {tables : Tables} {old enclosed : List (Node Item)}
       same_trans (same_trans at (hung_same n d))
       (changed_other hung first (λ n. record n { item = begun_item from (item_at hung first) }) n d')
 
-  behind_shown : (n : ℕ) → 0 < total (same n) (trees_past k f) → IsSameAt old place n
-  behind_shown n l =
+  after_shown : (n : ℕ) → 0 < total (same n) (trees_past k f) → IsSameAt old place n
+  after_shown n l =
       let once = stands_once can n in
       let parts = total_parts (same n) k f in
-      other_same n (folds.behind n l)
+      other_same n (folds.after n l)
       (λ e. let one : same n opener ≡ 1 = subst (λ (m : ℕ). same n m ≡ 1) e (same-refl n) in absurd
       (omega (arith, once, one, parts, l)))
       (λ e. let z : 0 < total (same n) (first_trees k f) = subst (λ (m : ℕ). 0 < total (same m) (first_trees k f))
@@ -312,7 +313,7 @@ module _ {source : List ℕ} {tables : Tables} {old enclosed : List (Node Item)}
         below_of = λ n. rw child_shown (shown_of n);
         below_named = λ n. rw child_shown (shown_named n);
         below_weight = rw child_shown (omega (arith, at, lighter, below));
-        behind = behind_shown;
+        after = after_shown;
         outside = outside_shown;
       }
 
@@ -333,7 +334,7 @@ module _ {source : List ℕ} {tables : Tables} {old enclosed : List (Node Item)}
 
 -- so a wikilink is put over what it shows
 pub shown_puts : {source : List ℕ} {opener last closer : ℕ} {item : Item} {inside skipped : List ℕ} {first from : ℕ}
-    {rest : Rest} {old enclosed place mid : List (Node Item)} {tables t : Tables}
+    {rest : Continuation} {old enclosed place mid : List (Node Item)} {tables t : Tables}
     → HasGrown tables t → CanClose source tables old opener closer inside item.end
     → CanPutOver source tables t old opener item item.end → last_inside opener inside ≡ last
     → IsEnclosed old enclosed opener last closer → CanShow source old inside skipped first from

@@ -8,16 +8,16 @@ use Rattle.markdown_base.specs.declared.item.Item.{Item}
 use Rattle.markdown_base.specs.declared.node.Node.{Node}
 use Rattle.markdown_base.proofs.ArenaForestLemmas.{Spells-same}
 use Rattle.markdown_document.specs.ChainRest.{joined_chains, past}
-use Rattle.markdown_document.specs.Document.{Label, Plain}
-use Rattle.markdown_document.specs.Labels.{retag}
-use Rattle.markdown_document.specs.Places.{label_at, trees_from}
+use Rattle.markdown_document.specs.Document.{TreeNode, Plain}
+use Rattle.markdown_document.specs.TreeNodes.{annotate}
+use Rattle.markdown_document.specs.Places.{tree_node_at, trees_from}
 use Rattle.markdown_document.specs.Tables.{Tables}
 use Rattle.markdown_base.proofs.ForestLemmas.{relabelled-relabelled}
-use Rattle.markdown_resolver.specs.declared.rest.Rest.{Rest}
+use Rattle.markdown_resolver.specs.declared.continuation.Continuation.{Continuation}
 use Rattle.markdown_resolver.specs.Chains.{CanResolve, ChangesChain}
 use Rattle.markdown_resolver.specs.ClosedOver.{first_trees, trees_past}
 use Rattle.markdown_resolver.specs.Kept.{IsQuiet}
-use Rattle.markdown_resolver.specs.PutsTrees.{PutsTrees, numbered_from, numbered_label, without_numbers}
+use Rattle.markdown_resolver.specs.PutsTrees.{PutsTrees, numbered_from, numbered_node, without_numbers}
 use Rattle.markdown_resolver.specs.Rewritten.{Puts, RunsGoOn, Standing, replaced}
 use Rattle.markdown_resolver.proofs.ComposeLemmas.{stands_ready}
 use Rattle.markdown_resolver.proofs.EncloseLemmas.{spelled_past}
@@ -39,7 +39,7 @@ pub past_joined : {A : Type 0} (f g : Forest A) → trees_past (length (roots f)
 past_joined nil g = refl
 past_joined (node a below after) g = past_joined after g
 
--- so it is with other labels
+-- so it is with other nodes
 pub relabelled_first : {A B : Type 0} (h : A → B) (k : ℕ) (f : Forest A) → relabelled h (first_trees k f)
     ≡ first_trees k (relabelled h f)
 relabelled_first h zero f = refl
@@ -56,7 +56,7 @@ relabelled_past h (suc k) (node a below after) = relabelled_past h k after
 -- without its numbers a chain is what is read
 pub plain_from : (source : List ℕ) (tables : Tables) (nodes : List (Node Item)) (l : Option ℕ)
     → without_numbers (numbered_from source tables nodes l) ≡ trees_from source tables nodes l
-plain_from source tables nodes l = relabelled-relabelled (numbered_label source tables nodes) (retag (λ n. tt))
+plain_from source tables nodes l = relabelled-relabelled (numbered_node source tables nodes) (annotate (λ n. tt))
     (forest_at (links_of nodes) l)
 
 -- the trees past the first are what a link leads to, if the same nodes are there
@@ -83,8 +83,8 @@ pub past_chain : (source : List ℕ) (tables : Tables) (nodes : List (Node Item)
 past_chain source tables nodes l next standing s t e =
     let f = forest_at (links_of nodes) l in
     let g = forest_at (links_of nodes) next in
-    sym (relabelled_past (numbered_label source tables nodes) (length standing) f)
-    ∙ ap (λ (h : Forest ℕ). relabelled (numbered_label source tables nodes) h)
+    sym (relabelled_past (numbered_node source tables nodes) (length standing) f)
+    ∙ ap (λ (h : Forest ℕ). relabelled (numbered_node source tables nodes) h)
     (past_is_next nodes standing l next f g e s t)
 
 pub split_chain : (source : List ℕ) (tables : Tables) (nodes : List (Node Item)) (l next : Option ℕ) (standing : List ℕ)
@@ -97,7 +97,7 @@ pub split_chain : (source : List ℕ) (tables : Tables) (nodes : List (Node Item
 split_chain source tables nodes l next standing s t e =
     let all = numbered_from source tables nodes l in
     first_and_past (length standing) all
-    ∙ ap (λ (h : Forest (Label ℕ)). joined_chains (first_trees (length standing) all) h)
+    ∙ ap (λ (h : Forest (TreeNode ℕ)). joined_chains (first_trees (length standing) all) h)
     (past_chain source tables nodes l next standing s t e)
 
 -- trees are in the place of a node, one for each of these nodes, and the chain continues with what is left
@@ -120,28 +120,28 @@ puts_trees source ix next trees rest standing old new tables tables' changes run
       standing = first_trees k all;
       stands = split_chain source tables' new (Some ix) next standing s t numbers;
       reads =
-          relabelled_first (retag (λ n. tt)) k all ∙ ap (λ (h : Forest Plain). first_trees k h) whole
+          relabelled_first (annotate (λ n. tt)) k all ∙ ap (λ (h : Forest Plain). first_trees k h) whole
           ∙ ap (λ n. first_trees n (joined_chains trees rest)) (sym many) ∙ first_joined trees rest;
       rest_is =
-          sym (plain_from source tables' new next) ∙ ap (λ (h : Forest (Label ℕ)). without_numbers h)
+          sym (plain_from source tables' new next) ∙ ap (λ (h : Forest (TreeNode ℕ)). without_numbers h)
           (sym (past_chain source tables' new (Some ix) next standing s t numbers))
-          ∙ relabelled_past (retag (λ n. tt)) k all ∙ ap (λ (h : Forest Plain). trees_past k h) whole
+          ∙ relabelled_past (annotate (λ n. tt)) k all ∙ ap (λ (h : Forest Plain). trees_past k h) whole
           ∙ ap (λ n. trees_past n (joined_chains trees rest)) (sym many) ∙ past_joined trees rest;
       quiet = quiet;
       ready = ready;
     }
 
 -- so it is with what was put for the first item of a chain
-pub put_trees : {source : List ℕ} {ix : ℕ} {trees : Standing} {goes_on : Option ℕ} {rest : Rest}
+pub put_trees : {source : List ℕ} {ix : ℕ} {trees : Standing} {goes_on : Option ℕ} {rest : Continuation}
     {old new : List (Node Item)} {tables tables' : Tables}
     → CanResolve source tables old (Some ix) → Puts source ix trees goes_on rest old new tables tables'
-    → IsQuiet (trees (label_at source tables old ix) (trees_from source tables old (child_of old ix)))
+    → IsQuiet (trees (tree_node_at source tables old ix) (trees_from source tables old (child_of old ix)))
     → PutsTrees source ix rest.next
-    (trees (label_at source tables old ix) (trees_from source tables old (child_of old ix)))
+    (trees (tree_node_at source tables old ix) (trees_from source tables old (child_of old ix)))
     (past goes_on (trees_from source tables old (sibling_of old ix))) old new tables tables'
 put_trees {source} {ix} {trees} {goes_on} {rest} {old} {new} {tables} {tables'} ready puts quiet =
     let o = opens_chain ready in
-    let a = label_at source tables old ix in
+    let a = tree_node_at source tables old ix in
     let below = trees_from source tables old (child_of old ix) in
     let after = trees_from source tables old (sibling_of old ix) in
     let w = puts.whole (λ f. f) new tables' (rewrites_none (stands_ready puts.leaves.ready)) in

@@ -12,11 +12,11 @@ use Rattle.markdown_brackets.specs.Openers.{Waiting}
 use Rattle.markdown_brackets.specs.ReadChain.{among, begun, read_chain}
 use Rattle.markdown_brackets.specs.SpentEnds.{is_spent}
 use Rattle.markdown_brackets.specs.declared.spent_ends.SpentEnds.{SpentEnds}
-use Rattle.markdown_brackets.proofs.BracketTagLemmas.{onto_retag}
-use Rattle.markdown_document.specs.Above.{Above}
-use Rattle.markdown_document.specs.Document.{Plain, plain_tags}
+use Rattle.markdown_brackets.proofs.BracketNoteLemmas.{onto_annotate}
+use Rattle.markdown_document.specs.EnclosingBlocks.{EnclosingBlocks}
+use Rattle.markdown_document.specs.Document.{Plain, no_notes}
 use Rattle.markdown_document.specs.Setting.{Setting}
-use Rattle.markdown_document.specs.Stages.{Stage, chain_at, known_at}
+use Rattle.markdown_document.specs.ResolverStates.{ResolverState, chain_at, state_at}
 use Rattle.markdown_document.proofs.CallbackLemmas.{Asks-append}
 use Rattle.markdown_resolver.specs.Chains.{CanResolve, ResolvesFrom}
 use Rattle.markdown_resolver.specs.PassOne.{Outcome, outcome, pass_one}
@@ -45,8 +45,9 @@ spent_more spent spent' ends before spends are end = spends end ∙ ap (λ b. am
     ∙ sym (among_append end ends before)
 
 -- nothing was read yet
-pub reads_on_none : {C : Type 0} (step : C → Question → Option Answer → C → Type 0) (s : Setting) (above : Above)
-    (first : ℕ) (old : Stage C) (spent : SpentEnds) → CanResolve s.text old.tables old.nodes (Some first)
+pub reads_on_none : {C : Type 0} (step : C → Question → Option Answer → C → Type 0) (s : Setting)
+    (above : EnclosingBlocks)
+    (first : ℕ) (old : ResolverState C) (spent : SpentEnds) → CanResolve s.text old.tables old.nodes (Some first)
     → ReadsOn step s above first (Some first) (Some first) [] old old spent spent [] []
 reads_on_none step s above first old spent ready = record {
   changes = moves_change (moves_none (stands_ready ready)) (λ a stands. stands);
@@ -67,8 +68,9 @@ reads_on_none step s above first old spent ready = record {
 }
 
 -- one stretch was read, and then another
-module _ {C : Type 0} (step : C → Question → Option Answer → C → Type 0) (s : Setting) (above : Above) (first : ℕ)
-    (at mid : Option ℕ) (left : List (Entry ℕ)) (old now : Stage C) (spent spent1 : SpentEnds)
+module _ {C : Type 0} (step : C → Question → Option Answer → C → Type 0) (s : Setting) (above : EnclosingBlocks)
+    (first : ℕ)
+    (at mid : Option ℕ) (left : List (Entry ℕ)) (old now : ResolverState C) (spent spent1 : SpentEnds)
     (brackets wikilinks : List Waiting)
     (r : ReadsOn step s above first at mid left old now spent spent1 brackets wikilinks) where
   abbrev after_first : Progress (Unit {0}) → Progress (Unit {0})
@@ -82,7 +84,8 @@ module _ {C : Type 0} (step : C → Question → Option Answer → C → Type 0)
       ap (λ (a : Answers). all_read s above (chain_at s.text old at) (at_left left old a p))
       (append_assoc r.answers answers later) ∙ r.reads p (answers ++ later) are
 
-  pub reads_on_twice : (next : Option ℕ) (new : Stage C) (spent2 : SpentEnds) (brackets2 wikilinks2 : List Waiting)
+  pub reads_on_twice : (next : Option ℕ) (new : ResolverState C) (spent2 : SpentEnds)
+      (brackets2 wikilinks2 : List Waiting)
       → ReadsOn step s above first mid next r.left_then now new spent1 spent2 brackets2 wikilinks2
       → ReadsOn step s above first at next left old new spent spent2 brackets2 wikilinks2
   reads_on_twice next new spent2 brackets2 wikilinks2 q = record {
@@ -135,25 +138,27 @@ module _ {C : Type 0} (step : C → Question → Option Answer → C → Type 0)
   }
 
 -- a chain that was read to its end was resolved by pass one
-read_to_end : {C : Type 0} (s : Setting) (above : Above) (first : ℕ) (left : List (Entry ℕ)) (new : Stage C)
+read_to_end : {C : Type 0} (s : Setting) (above : EnclosingBlocks) (first : ℕ) (left : List (Entry ℕ))
+    (new : ResolverState C)
     (later : Answers) (p : Progress (Unit {0})) → StandsTo s.text new.tables new.nodes first None left
     → outcome (all_read s above (chain_at s.text new None) (at_left left new later p))
-    ≡ record { questions = p.asked; forest = chain_at s.text new (Some first); known = known_at new later }
+    ≡ record { questions = p.asked; forest = chain_at s.text new (Some first); state = state_at new later }
 unfolding read_chain
 read_to_end s above first left new later p stands =
     let ended : numbered_from s.text new.tables new.nodes None ≡ nil = rw (forest_at-none (links_of new.nodes)) refl in
     let all : chain_at s.text new (Some first) ≡ trees_onto (left_without_numbers left) nil =
     sym (plain_from s.text new.tables new.nodes (Some first))
-    ∙ ap without_numbers (stands.stands ∙ ap (trees_onto left) ended) ∙ sym (onto_retag (λ n. tt) left nil) in
+    ∙ ap without_numbers (stands.stands ∙ ap (trees_onto left) ended) ∙ sym (onto_annotate (λ n. tt) left nil) in
     ap (λ (f : Forest Plain). outcome (all_read s above f (at_left left new later p)))
     (sym (plain_from s.text new.tables new.nodes None) ∙ ap without_numbers ended)
     ∙ ap (λ (f : Forest Plain). let o : Outcome (Unit {0}) = record
-    { questions = p.asked; forest = f; known = known_at new later } in o) (sym all)
+    { questions = p.asked; forest = f; state = state_at new later } in o) (sym all)
 
-pub reads_on_all : {C : Type 0} (step : C → Question → Option Answer → C → Type 0) (s : Setting) (above : Above)
-    (first : ℕ) (old new : Stage C) (spent spent' : SpentEnds) (brackets wikilinks : List Waiting)
+pub reads_on_all : {C : Type 0} (step : C → Question → Option Answer → C → Type 0) (s : Setting)
+    (above : EnclosingBlocks)
+    (first : ℕ) (old new : ResolverState C) (spent spent' : SpentEnds) (brackets wikilinks : List Waiting)
     → AreSpent spent [] → ReadsOn step s above first (Some first) None [] old new spent spent' brackets wikilinks
-    → ResolvesFrom step s.text (pass_one s plain_tags above) (Some first) old new
+    → ResolvesFrom step s.text (pass_one s no_notes above) (Some first) old new
 unfolding pass_one
 reads_on_all step s above first old new spent spent' brackets wikilinks none r = record {
   changes = r.changes;
@@ -161,19 +166,20 @@ reads_on_all step s above first old new spent spent' brackets wikilinks none r =
   questions = r.questions;
   asked = r.asked;
   resolves = λ later.
-      let p : Progress (Unit {0}) = begun (known_at old later) in
+      let p : Progress (Unit {0}) = begun (state_at old later) in
       ap outcome (r.reads p later none) ∙ read_to_end s above first r.left_then new later
       (record p { spent = r.ends ++ []; asked = r.questions; made = 0 + r.made }) r.stands;
 }
 
 -- where memory was refused on the way, it was in pass one
-pub stops_pass_one : {C : Type 0} (step : C → Question → Option Answer → C → Type 0) (s : Setting) (above : Above)
-    (first : ℕ) (old : Stage C) (spent : SpentEnds) (callback' : Option C) → AreSpent spent []
+pub stops_pass_one : {C : Type 0} (step : C → Question → Option Answer → C → Type 0) (s : Setting)
+    (above : EnclosingBlocks)
+    (first : ℕ) (old : ResolverState C) (spent : SpentEnds) (callback' : Option C) → AreSpent spent []
     → StopsOn step s above (Some first) [] old spent callback' → StopsInPassOne step s above first old callback'
 unfolding pass_one
 stops_pass_one step s above first old spent callback' none r = record {
   answers = r.answers;
   questions = r.questions;
   asked = r.asked;
-  begins = λ later. r.begins (begun (known_at old later)) later none;
+  begins = λ later. r.begins (begun (state_at old later)) later none;
 }

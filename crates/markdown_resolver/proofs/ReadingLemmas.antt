@@ -13,13 +13,13 @@ use Rattle.markdown_base.specs.declared.item.ItemBody.{ItemBody}
 use Rattle.markdown_base.specs.declared.item.ItemBody.TheVariants as body
 use Rattle.markdown_base.specs.declared.node.Node.{Node}
 use Rattle.markdown_base.proofs.ArenaForestLemmas.{opens, forest_at-none}
-use Rattle.markdown_document.specs.Above.{Above}
+use Rattle.markdown_document.specs.EnclosingBlocks.{EnclosingBlocks}
 use Rattle.markdown_document.specs.ChainRest.{open_body}
 use Rattle.markdown_document.specs.Counts.{risen}
-use Rattle.markdown_document.specs.Document.{Plain, plain_tags, Shape, unresolved, is_unresolved, shape_of}
-use Rattle.markdown_document.specs.Places.{label_at, trees_from}
+use Rattle.markdown_document.specs.Document.{Plain, no_notes, Shape, unresolved, is_unresolved, shape_of}
+use Rattle.markdown_document.specs.Places.{tree_node_at, trees_from}
 use Rattle.markdown_document.specs.Setting.{Rules, Setting, setting_of}
-use Rattle.markdown_document.specs.Stages.{items_from, above_cursor}
+use Rattle.markdown_document.specs.ResolverStates.{items_from, above_cursor}
 use Rattle.markdown_document.specs.Tables.{Tables}
 use Rattle.markdown_document.specs.Waiting.{is_quiet}
 use Rattle.markdown_document.proofs.PlaceLemmas.{shape-open}
@@ -29,8 +29,8 @@ use Rattle.markdown_spans.specs.SpanClosers.{HoldsFrom, Learned}
 use Rattle.markdown_spans.specs.declared.span_text.SpanKind.{SpanKind}
 use Rattle.markdown_delims.proofs.PairingLemmas.{closed_shape}
 use Rattle.markdown_resolver.specs.Chains.{CanResolve}
-use Rattle.markdown_resolver.specs.Rewritten.{Puts, settled}
-use Rattle.markdown_resolver.specs.declared.rest.Rest.{Rest}
+use Rattle.markdown_resolver.specs.Rewritten.{Puts, literal}
+use Rattle.markdown_resolver.specs.declared.continuation.Continuation.{Continuation}
 use Rattle.markdown_resolver.specs.ReadsItem.{LooksAt, LooksAtMost, ReadsItem}
 use Rattle.markdown_document.specs.declared.chain_place.ChainPlace.{ChainPlace}
 use Rattle.markdown_resolver.proofs.ChainLeadsLemmas.{chain_leads, holds_next}
@@ -67,7 +67,8 @@ counted_all old now all rest c r = let whole : c.done ≡ all = omega (arith, c.
 
 -- nothing is found at an item with this body
 pub record FindsNothing (b : ItemBody) : Type 0 where
-  pub finds : (s : Setting) (above : Above) (a : Plain) (after : Forest Plain) → find_by s above b a after ≡ nothing
+  pub finds : (s : Setting) (above : EnclosingBlocks) (a : Plain) (after : Forest Plain)
+      → find_by s above b a after ≡ nothing
 
 -- so it is where it is no opener of code or math and no `<`
 pub finds_nothing : (b : ItemBody) → ((count : ℕ) (escaped : Bool) → b ≡ body.MaybeCode count escaped → ⊥)
@@ -78,8 +79,9 @@ finds_nothing (body.MaybeMath opens closes context) code math html = absurd (mat
 finds_nothing body.MaybeHtml code math html = absurd (html refl)
 finds_nothing other code math html = record { finds = λ s above a after. refl }
 
--- nothing is found either at a label that has the shape of such a body
-finds_in_shape : (s : Setting) (above : Above) (a : Plain) (after : Forest Plain) (tables : Tables) (source : List ℕ)
+-- nothing is found either at a node that has the shape of such a body
+finds_in_shape : (s : Setting) (above : EnclosingBlocks) (a : Plain) (after : Forest Plain) (tables : Tables)
+    (source : List ℕ)
     (b : ItemBody) → FindsNothing b → find_by s above (open_body (shape_of tables source b)) a after ≡ nothing
 finds_in_shape s above a after tables source b h = by_open (is_open b) refl
   where
@@ -91,26 +93,28 @@ finds_in_shape s above a after tables source b h = by_open (is_open b) refl
     by_open true e = rw (shape-open tables source b e) (h.finds s above a after)
     by_open false e = closed (shape_of tables source b) (closed_shape tables source b e)
 
--- a tree at which nothing is found is settled
-reads_settled : (s : Setting) (above : Above) (a : Plain) (below after : Forest Plain) → find s above a after ≡ nothing
-    → (let r : Passed (Unit {0}) = read_tree s plain_tags above 0 a below after in (r.trees ≡ settled s.text a below)
+-- a tree at which nothing is found becomes literal text
+reads_settled : (s : Setting) (above : EnclosingBlocks) (a : Plain) (below after : Forest Plain)
+    → find s above a after ≡ nothing
+    → (let r : Passed (Unit {0}) = read_tree s no_notes above 0 a below after in (r.trees ≡ literal s.text a below)
     × (r.goes_on ≡ None))
 unfolding read_tree
 reads_settled s above a below after none = by_quiet (is_quiet a.part.shape) refl
   where
     by_quiet : (quiet : Bool) → is_quiet a.part.shape ≡ quiet
-        → (let r : Passed (Unit {0}) = read_tree s plain_tags above 0 a below after in
-        (r.trees ≡ settled s.text a below) × (r.goes_on ≡ None))
+        → (let r : Passed (Unit {0}) = read_tree s no_notes above 0 a below after in
+        (r.trees ≡ literal s.text a below) × (r.goes_on ≡ None))
     by_quiet true e = rw e (refl, refl)
     by_quiet false e = rw (e, none) (refl, refl)
 
--- an item at which nothing is found is read when it is settled
-pub settled_reads : (s : Setting) (above : Above) (ix : ℕ) (rest : Rest) (old new : List (Node Item)) (tables : Tables)
+-- an item at which nothing is found is read when it becomes literal text
+pub literal_reads : (s : Setting) (above : EnclosingBlocks) (ix : ℕ) (rest : Continuation) (old new : List
+    (Node Item)) (tables : Tables)
     → CanResolve s.text tables old (Some ix) → FindsNothing (item_at old ix).body
-    → Puts s.text ix (settled s.text) None rest old new tables tables → ReadsItem s above ix rest old new tables tables
-settled_reads s above ix rest old new tables ready nothing_there puts =
+    → Puts s.text ix (literal s.text) None rest old new tables tables → ReadsItem s above ix rest old new tables tables
+literal_reads s above ix rest old new tables ready nothing_there puts =
     let item = item_at old ix in
-    let a = label_at s.text tables old ix in
+    let a = tree_node_at s.text tables old ix in
     let after = trees_from s.text tables old (sibling_of old ix) in
     let none : find s above a after ≡ nothing = finds_in_shape s above a after tables
     (slice_range s.text item.start item.end) item.body nothing_there in
@@ -140,7 +144,7 @@ stops_at_none failed visits items = record {
 
 -- an item was read, unless memory was refused: what other searches have learned is true of what is left, and they have
 -- examined no item
-pub record ReadsAlone {E : Type 0} (r : Result Rest E) (s : Setting) (above : Above) (ix : ℕ)
+pub record ReadsAlone {E : Type 0} (r : Result Continuation E) (s : Setting) (above : EnclosingBlocks) (ix : ℕ)
     (old new : List (Node Item)) (tables tables' : Tables) : Type 0 where
   pub reads : IfOk r (λ rest. ReadsItem s above ix rest old new tables tables')
   pub holds : (kind : SpanKind) (learned : Learned) → HoldsFrom kind learned old (Some ix)
@@ -148,7 +152,8 @@ pub record ReadsAlone {E : Type 0} (r : Result Rest E) (s : Setting) (above : Ab
   pub looks : (failed : Bool) (visits : ℕ)
       → IfOk r (λ rest. LooksAt failed failed visits visits (items_from old (Some ix)) (items_from new rest.next))
 
-pub reads_alone : {E : Type 0} (r : Result Rest E) (s : Setting) (above : Above) (ix : ℕ) (old new : List (Node Item))
+pub reads_alone : {E : Type 0} (r : Result Continuation E) (s : Setting) (above : EnclosingBlocks) (ix : ℕ)
+    (old new : List (Node Item))
     (tables tables' : Tables) → CanResolve s.text tables old (Some ix)
     → IfOk r (λ rest. ReadsItem s above ix rest old new tables tables') → ReadsAlone r s above ix old new tables tables'
 reads_alone (Ok rest) s above ix old new tables tables' ready reads = record {
@@ -164,7 +169,7 @@ reads_alone (Err fault) s above ix old new tables tables' ready reads = record {
 }
 
 -- so it is by the rules of a setting, where it is so by any rules with its footnotes
-pub reads_by_rules : {E : Type 0} (r : Result Rest E) (place : ChainPlace) (source : List ℕ) (rules : Rules)
+pub reads_by_rules : {E : Type 0} (r : Result Continuation E) (place : ChainPlace) (source : List ℕ) (rules : Rules)
     (tree : Arena Item)
     (ix : ℕ) (new : List (Node Item)) (tables tables' : Tables) → CanResolve place.text.now tables tree.nodes (Some ix)
     → place.text.now ≡ source → gfm_footnotes_on place.options ≡ gfm_footnotes_on rules.options

@@ -12,9 +12,9 @@ use Rattle.markdown_brackets.specs.BracketDecision.{decided}
 use Rattle.markdown_brackets.specs.ClosingBracket.{closed}
 use Rattle.markdown_brackets.specs.ReadChain.{read_chain}
 use Rattle.markdown_raw_html.specs.HtmlTag.{all, both, either, nonempty, often, often_past, one, optional}
-use Rattle.markdown_document.specs.Above.{Above}
-use Rattle.markdown_document.specs.Document.{sliced, Shape, leaf, enclosed, Plain, part_of, plain_tags, text_over}
-use Rattle.markdown_document.specs.Setting.{Setting, Known, setting_of}
+use Rattle.markdown_document.specs.EnclosingBlocks.{EnclosingBlocks}
+use Rattle.markdown_document.specs.Document.{sliced, Shape, leaf, enclosed, Plain, part_of, no_notes, text_over}
+use Rattle.markdown_document.specs.Setting.{Setting, ReferenceState, setting_of}
 use Rattle.markdown_document.specs.Tables.{no_tables}
 use Rattle.markdown_spans.specs.AfterLess.{markup_at}
 use Rattle.markdown_spans.specs.CodeText.{replaced_past, is_sliced}
@@ -39,7 +39,7 @@ setting_by options asks source =
 abbrev setting : List ℕ → Setting
 setting source = setting_by 4 false source
 
-abbrev in_paragraph : List ℕ → Above
+abbrev in_paragraph : List ℕ → EnclosingBlocks
 in_paragraph source = record { block_end = length source; in_table = false; bodies = body.Paragraph ∷ [] }
 
 -- items: a text, backticks, a `*` that opens or closes, a `$`, a `<`, a `[`, a `![`, a `]`
@@ -75,25 +75,25 @@ closer start = item start (start + 1) (body.MaybeLinkClose true)
 
 abbrev chain_of : List ℕ → List Item → Forest Plain
 chain_of source [] = nil
-chain_of source (i ∷ items) = node (record { tag = tt; part = part_of source no_tables i }) nil (chain_of source items)
+chain_of source (i ∷ items) = node (record { note = tt; part = part_of source no_tables i }) nil (chain_of source items)
 
 -- what is left of a chain by pass one, and when it is resolved
-abbrev left_by_pass_one : List ℕ → List Item → Known → Forest Plain
-left_by_pass_one source items known =
-    (pass_one (setting source) plain_tags (in_paragraph source) (chain_of source items) known).forest
+abbrev left_by_pass_one : List ℕ → List Item → ReferenceState → Forest Plain
+left_by_pass_one source items state =
+    (pass_one (setting source) no_notes (in_paragraph source) (chain_of source items) state).forest
 
-abbrev resolved_to : List ℕ → List Item → Known → Forest Plain
-resolved_to source items known =
-    (resolved (setting source) plain_tags (in_paragraph source) (chain_of source items) known).forest
+abbrev resolved_to : List ℕ → List Item → ReferenceState → Forest Plain
+resolved_to source items state =
+    (resolved (setting source) no_notes (in_paragraph source) (chain_of source items) state).forest
 
 -- and with the chains below it
-abbrev resolved_below : List ℕ → List Item → Known → Forest Plain
-resolved_below source items known = all_paired (setting source) (resolved_to source items known)
+abbrev resolved_below : List ℕ → List Item → ReferenceState → Forest Plain
+resolved_below source items state = all_paired (setting source) (resolved_to source items state)
 
--- labels: over bytes i up to j; the text of a span that is a slice of the source
+-- nodes: over bytes i up to j; the text of a span that is a slice of the source
 abbrev over : ℕ → ℕ → Shape → Plain
 over i j shape = record {
-  tag = tt;
+  note = tt;
   part = record { shape = shape; range = record { start = i; end = j }; block = None };
 }
 
@@ -111,131 +111,132 @@ abbrev wikilink_to : List ℕ → LinkView
 wikilink_to name = record { kind = kind.WikiLink false; destination = name; title = []; label = [] }
 
 -- backticks, and others of the same length further on: what is between them is code, including other backticks
-row_code : (known : Known)
+row_code : (state : ReferenceState)
     → left_by_pass_one (codes "``a`b``") (ticks 0 2 ∷ plain_text 2 3 ∷ ticks 3 1 ∷ plain_text 4 5 ∷ ticks 5 2 ∷ [])
-    known ≡ node (sliced_at (code (codes "a`b")) 0 7) nil nil
+    state ≡ node (sliced_at (code (codes "a`b")) 0 7) nil nil
 unfolding pass_one read_chain read_tree replaced_past is_sliced
-row_code known = refl
+row_code state = refl
 
 -- and where there are none they are a Text; what follows is read anew
-row_no_closer : (known : Known)
-    → left_by_pass_one (codes "``a`b`") (ticks 0 2 ∷ plain_text 2 3 ∷ ticks 3 1 ∷ plain_text 4 5 ∷ ticks 5 1 ∷ []) known
+row_no_closer : (state : ReferenceState)
+    → left_by_pass_one (codes "``a`b`") (ticks 0 2 ∷ plain_text 2 3 ∷ ticks 3 1 ∷ plain_text 4 5 ∷ ticks 5 1 ∷ []) state
     ≡ node (over 0 2 (text_over (codes "``"))) nil
     (node (over 2 3 (text_over (codes "a"))) nil (node (sliced_at (code (codes "b")) 3 6) nil nil))
 unfolding pass_one read_chain read_tree replaced_past is_sliced
-row_no_closer known = refl
+row_no_closer state = refl
 
 -- two finds, with a text between them that belongs to neither
-row_two_finds : (known : Known) → left_by_pass_one (codes "`a`-$b$")
+row_two_finds : (state : ReferenceState) → left_by_pass_one (codes "`a`-$b$")
     (ticks 0 1 ∷ plain_text 1 2 ∷ ticks 2 1 ∷ plain_text 3 4 ∷ dollar 4 true false ∷ plain_text 5 6 ∷ dollar 6 false
-    true ∷ []) known ≡ node (sliced_at (code (codes "a")) 0 3) nil
+    true ∷ []) state ≡ node (sliced_at (code (codes "a")) 0 3) nil
     (node (over 3 4 (text_over (codes "-"))) nil (node (sliced_at (inline_math (codes "b")) 4 7) nil nil))
 unfolding pass_one read_chain read_tree replaced_past is_sliced
-row_two_finds known = refl
+row_two_finds state = refl
 
 -- an autolink, with its address as a text below it; the text that reaches past it is cut
-row_autolink : (known : Known) → left_by_pass_one (codes "<http://a.b> c") (less 0 ∷ plain_text 1 14 ∷ []) known
+row_autolink : (state : ReferenceState) → left_by_pass_one (codes "<http://a.b> c") (less 0 ∷ plain_text 1 14
+    ∷ []) state
     ≡ node (over 0 12 (enclosed (link (address (codes "http://a.b")))))
     (node (over 1 11 (text_over (codes "http://a.b"))) nil nil) (node (over 12 14 (text_over (codes " c"))) nil nil)
 unfolding pass_one read_chain read_tree markup_at all both either nonempty often often_past one optional
-row_autolink known = refl
+row_autolink state = refl
 
 -- raw HTML that ends inside a text, of which the rest is left; backticks in it open nothing
-row_tag : (known : Known)
-    → left_by_pass_one (codes "<b c=\"`\">d") (less 0 ∷ plain_text 1 6 ∷ ticks 6 1 ∷ plain_text 7 10 ∷ []) known
+row_tag : (state : ReferenceState)
+    → left_by_pass_one (codes "<b c=\"`\">d") (less 0 ∷ plain_text 1 6 ∷ ticks 6 1 ∷ plain_text 7 10 ∷ []) state
     ≡ node (over 0 9 (leaf (inline_html (codes "<b c=\"`\">")) (sliced ∷ []))) nil
     (node (over 9 10 (text_over (codes "d"))) nil nil)
 unfolding pass_one read_chain read_tree markup_at all both either nonempty often often_past one optional
-row_tag known = refl
+row_tag state = refl
 
 -- a `<` that begins nothing is a Text
-row_less : (known : Known) → left_by_pass_one (codes "< a") (less 0 ∷ plain_text 1 3 ∷ []) known
+row_less : (state : ReferenceState) → left_by_pass_one (codes "< a") (less 0 ∷ plain_text 1 3 ∷ []) state
     ≡ node (over 0 1 (text_over (codes "<"))) nil (node (over 1 3 (text_over (codes " a"))) nil nil)
 unfolding pass_one read_chain read_tree markup_at all both either nonempty often often_past one optional
-row_less known = refl
+row_less state = refl
 
 -- a `[` that nothing closes is a Text, and a run's characters wait
-row_waits : (known : Known)
-    → left_by_pass_one (codes "[*a*") (opener 0 ∷ star 1 true false ∷ plain_text 2 3 ∷ star 3 false true ∷ []) known
+row_waits : (state : ReferenceState)
+    → left_by_pass_one (codes "[*a*") (opener 0 ∷ star 1 true false ∷ plain_text 2 3 ∷ star 3 false true ∷ []) state
     ≡ node (over 0 1 (text_over (codes "["))) nil
     (chain_of (codes "[*a*") (star 1 true false ∷ plain_text 2 3 ∷ star 3 false true ∷ []))
 unfolding pass_one read_chain read_tree
-row_waits known = refl
+row_waits state = refl
 
 -- until they enclose what is between them: here code
-row_emphasis : (known : Known)
+row_emphasis : (state : ReferenceState)
     → resolved_to (codes "*`a`*") (star 0 true false ∷ ticks 1 1 ∷ plain_text 2 3 ∷ ticks 3 1 ∷ star 4 false true ∷ [])
-    known ≡ node (over 0 5 (enclosed emphasis)) (node (sliced_at (code (codes "a")) 1 4) nil nil) nil
+    state ≡ node (over 0 5 (enclosed emphasis)) (node (sliced_at (code (codes "a")) 1 4) nil nil) nil
 unfolding resolved pass_one read_chain read_tree replaced_past is_sliced paired runs_paired reads_from closed_by
     with_quotes
-row_emphasis known = refl
+row_emphasis state = refl
 
 -- code is found first: a run in it pairs with nothing
-row_code_first : (known : Known)
+row_code_first : (state : ReferenceState)
     → resolved_to (codes "*`a*`") (star 0 true false ∷ ticks 1 1 ∷ plain_text 2 3 ∷ star 3 false true ∷ ticks 4 1 ∷ [])
-    known ≡ node (over 0 1 (text_over (codes "*"))) nil (node (sliced_at (code (codes "a*")) 1 5) nil nil)
+    state ≡ node (over 0 1 (text_over (codes "*"))) nil (node (sliced_at (code (codes "a*")) 1 5) nil nil)
 unfolding resolved pass_one read_chain read_tree replaced_past is_sliced paired runs_paired reads_from closed_by
     with_quotes
-row_code_first known = refl
+row_code_first state = refl
 
 -- a link, and an image; what is in the destination is left out
-row_link : (known : Known)
-    → left_by_pass_one (codes "[a](b) c") (opener 0 ∷ plain_text 1 2 ∷ closer 2 ∷ plain_text 3 8 ∷ []) known
+row_link : (state : ReferenceState)
+    → left_by_pass_one (codes "[a](b) c") (opener 0 ∷ plain_text 1 2 ∷ closer 2 ∷ plain_text 3 8 ∷ []) state
     ≡ node (over 0 6 (enclosed (link (inline_to (codes "b"))))) (node (text_at (codes "[a](b) c") 1 2) nil nil)
     (node (text_at (codes "[a](b) c") 6 8) nil nil)
 unfolding pass_one read_chain read_tree closed decided
-row_link known = refl
+row_link state = refl
 
-row_image : (known : Known)
-    → left_by_pass_one (codes "![a](b)") (image_opener 0 ∷ plain_text 2 3 ∷ closer 3 ∷ plain_text 4 7 ∷ []) known
+row_image : (state : ReferenceState)
+    → left_by_pass_one (codes "![a](b)") (image_opener 0 ∷ plain_text 2 3 ∷ closer 3 ∷ plain_text 4 7 ∷ []) state
     ≡ node (over 0 7 (enclosed (image (inline_to (codes "b"))))) (node (text_at (codes "![a](b)") 2 3) nil nil) nil
 unfolding pass_one read_chain read_tree closed decided
-row_image known = refl
+row_image state = refl
 
-row_destination : (known : Known) → left_by_pass_one (codes "[a](`b`)")
+row_destination : (state : ReferenceState) → left_by_pass_one (codes "[a](`b`)")
     (opener 0 ∷ plain_text 1 2 ∷ closer 2 ∷ plain_text 3 4 ∷ ticks 4 1 ∷ plain_text 5 6 ∷ ticks 6 1
-    ∷ plain_text 7 8 ∷ []) known
+    ∷ plain_text 7 8 ∷ []) state
     ≡ node (over 0 8 (enclosed (link (inline_to (codes "`b`"))))) (node (text_at (codes "[a](`b`)") 1 2) nil nil) nil
 unfolding pass_one read_chain read_tree closed decided
-row_destination known = refl
+row_destination state = refl
 
 -- but code that begins before the `]` is found before it
-row_code_in_brackets : (known : Known) → left_by_pass_one (codes "[`a](b`)")
-    (opener 0 ∷ ticks 1 1 ∷ plain_text 2 3 ∷ closer 3 ∷ plain_text 4 6 ∷ ticks 6 1 ∷ plain_text 7 8 ∷ []) known
+row_code_in_brackets : (state : ReferenceState) → left_by_pass_one (codes "[`a](b`)")
+    (opener 0 ∷ ticks 1 1 ∷ plain_text 2 3 ∷ closer 3 ∷ plain_text 4 6 ∷ ticks 6 1 ∷ plain_text 7 8 ∷ []) state
     ≡ node (text_at (codes "[`a](b`)") 0 1) nil
     (node (sliced_at (code (codes "a](b")) 1 7) nil (node (text_at (codes "[`a](b`)") 7 8) nil nil))
 unfolding pass_one read_chain read_tree replaced_past is_sliced closed decided
-row_code_in_brackets known = refl
+row_code_in_brackets state = refl
 
 -- a link holds the run inside it, which is paired when its chain is reached; one that closes outside stays open
-row_emphasis_in_link : (known : Known) → resolved_below (codes "[a *b*](c)")
+row_emphasis_in_link : (state : ReferenceState) → resolved_below (codes "[a *b*](c)")
     (opener 0 ∷ plain_text 1 3 ∷ star 3 true false ∷ plain_text 4 5 ∷ star 5 false true ∷ closer 6
-    ∷ plain_text 7 10 ∷ []) known ≡ node (over 0 10 (enclosed (link (inline_to (codes "c")))))
+    ∷ plain_text 7 10 ∷ []) state ≡ node (over 0 10 (enclosed (link (inline_to (codes "c")))))
     (node (text_at (codes "[a *b*](c)") 1 3) nil
     (node (over 3 6 (enclosed emphasis)) (node (text_at (codes "[a *b*](c)") 4 5) nil nil) nil)) nil
 unfolding resolved pass_one read_chain read_tree closed decided paired runs_paired reads_from closed_by with_quotes
-row_emphasis_in_link known = refl
+row_emphasis_in_link state = refl
 
-row_run_into_link : (known : Known) → resolved_below (codes "*a [b*](c)")
+row_run_into_link : (state : ReferenceState) → resolved_below (codes "*a [b*](c)")
     (star 0 true false ∷ plain_text 1 3 ∷ opener 3 ∷ plain_text 4 5 ∷ star 5 false true ∷ closer 6
-    ∷ plain_text 7 10 ∷ []) known ≡ node (text_at (codes "*a [b*](c)") 0 1) nil
+    ∷ plain_text 7 10 ∷ []) state ≡ node (text_at (codes "*a [b*](c)") 0 1) nil
     (node (text_at (codes "*a [b*](c)") 1 3) nil (node (over 3 10 (enclosed (link (inline_to (codes "c")))))
     (node (text_at (codes "*a [b*](c)") 4 5) nil (node (text_at (codes "*a [b*](c)") 5 6) nil nil)) nil))
 unfolding resolved pass_one read_chain read_tree closed decided paired runs_paired reads_from closed_by with_quotes
-row_run_into_link known = refl
+row_run_into_link state = refl
 
 -- a wikilink, where they are enabled
-row_wikilink : (known : Known)
-    → (pass_one (setting_by 32768 false (codes "[[a]]")) plain_tags (in_paragraph (codes "[[a]]"))
-    (chain_of (codes "[[a]]") (opener 0 ∷ opener 1 ∷ plain_text 2 3 ∷ closer 3 ∷ closer 4 ∷ [])) known).forest
+row_wikilink : (state : ReferenceState)
+    → (pass_one (setting_by 32768 false (codes "[[a]]")) no_notes (in_paragraph (codes "[[a]]"))
+    (chain_of (codes "[[a]]") (opener 0 ∷ opener 1 ∷ plain_text 2 3 ∷ closer 3 ∷ closer 4 ∷ [])) state).forest
     ≡ node (over 0 5 (enclosed (link (wikilink_to (codes "a"))))) (node (text_at (codes "[[a]]") 2 3) nil nil) nil
 unfolding pass_one read_chain read_tree closed decided
-row_wikilink known = refl
+row_wikilink state = refl
 
 -- the callback is asked for what is not defined, with the form of the reference, and its answer is used
 abbrev asks_one : Outcome (Unit {0})
 asks_one =
-    pass_one (setting_by 4 true (codes "[a]")) plain_tags (in_paragraph (codes "[a]"))
+    pass_one (setting_by 4 true (codes "[a]")) no_notes (in_paragraph (codes "[a]"))
     (chain_of (codes "[a]") (opener 0 ∷ plain_text 1 2 ∷ closer 2 ∷ []))
     (record { limit = 100; answers = Some (record { destination = codes "u"; title = [] }) ∷ []; uses = λ name. 0 })
 
@@ -244,7 +245,7 @@ row_asked : asks_one.questions
 unfolding pass_one read_chain read_tree closed decided
 row_asked = refl
 
-row_answer_is_taken : asks_one.known.answers ≡ []
+row_answer_is_taken : asks_one.state.answers ≡ []
 unfolding pass_one read_chain read_tree closed decided
 row_answer_is_taken = refl
 

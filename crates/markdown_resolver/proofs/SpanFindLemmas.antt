@@ -1,4 +1,4 @@
--- What closes a code span or a math span among the nodes of a chain is what closes it among the labels that the chain
+-- What closes a code span or a math span among the nodes of a chain is what closes it among the nodes that the chain
 -- reads as, and where that is.
 use Rattle.std.proofs.Common.{◌≡◌, ℕ, Bool, true, false, not, ◌&&◌, ◌==◌, List, [], ◌∷◌, ◌++◌, map, Option, Some, None}
 use Rattle.std.proofs.Common.{refl, sym, ap, ◌∙◌}
@@ -12,7 +12,7 @@ use Rattle.markdown_base.specs.declared.item.ItemBody.TheVariants as body
 use Rattle.markdown_base.specs.declared.node.Node.{Node}
 use Rattle.markdown_document.specs.ChainRest.{as_item, open_body}
 use Rattle.markdown_document.specs.Document.{Shape, unresolved, is_unresolved, shape_of}
-use Rattle.markdown_document.specs.Places.{label_at}
+use Rattle.markdown_document.specs.Places.{tree_node_at}
 use Rattle.markdown_document.specs.Tables.{Tables}
 use Rattle.markdown_document.proofs.PlaceLemmas.{shape-open}
 use Rattle.markdown_spans.specs.Closers.{Dollar, MathClose, can_close, can_open, math_closed_by, closing_count}
@@ -31,7 +31,7 @@ pub record LooksAlike (shown item : Item) : Type 0 where
   pub context : (n : ℕ) → is_dollar_of n shown.body ≡ is_dollar_of n item.body
   pub closes : can_close shown.body ≡ can_close item.body
 
--- so it is with a label, which counts as a Text where its item is not open
+-- so it is with a node, which counts as a Text where its item is not open
 pub body_open : (tables : Tables) (source : List ℕ) (b : ItemBody) → is_open b ≡ true → open_body
     (shape_of tables source b) ≡ b
 body_open tables source b h = ap open_body (shape-open tables source b h)
@@ -56,11 +56,12 @@ closes_closed : (b : ItemBody) → is_open b ≡ false → can_close b ≡ false
 closes_closed (body.MaybeMath opens closes context) h = cc h
 closes_closed other h = refl
 
-pub label_alike : (source : List ℕ) (tables : Tables) (nodes : List (Node Item)) (n : ℕ)
-    → LooksAlike (as_item (label_at source tables nodes n)) (item_at nodes n)
-label_alike source tables nodes n = by_open (is_open (item_at nodes n).body) refl
+pub node_alike : (source : List ℕ) (tables : Tables) (nodes : List (Node Item)) (n : ℕ)
+    → LooksAlike (as_item (tree_node_at source tables nodes n)) (item_at nodes n)
+node_alike source tables nodes n = by_open (is_open (item_at nodes n).body) refl
   where
-    by_open : (x : Bool) → is_open (item_at nodes n).body ≡ x → LooksAlike (as_item (label_at source tables nodes n))
+    by_open : (x : Bool) → is_open (item_at nodes n).body ≡ x → LooksAlike (as_item
+        (tree_node_at source tables nodes n))
         (item_at nodes n)
     by_open true h =
         let e = body_open tables (slice_range source (item_at nodes n).start (item_at nodes n).end)

@@ -10,7 +10,7 @@ use Rattle.markdown_base.specs.declared.item.Item.{Item}
 use Rattle.markdown_base.specs.declared.item.ItemBody.{ItemBody}
 use Rattle.markdown_base.specs.declared.item.ItemBody.TheVariants as body
 use Rattle.markdown_base.specs.declared.node.Node.{Node}
-use Rattle.markdown_document.specs.Stages.{items_from}
+use Rattle.markdown_document.specs.ResolverStates.{items_from}
 use Rattle.markdown_document.specs.Tables.{Tables}
 use Rattle.markdown_spans.specs.Closers.{Dollar, can_open, closing_count, code_close, context_of, first_dollar}
 use Rattle.markdown_spans.specs.Closers.{math_close_from}
@@ -21,7 +21,7 @@ use Rattle.markdown_spans.specs.SpanClosers.{ClosesCode, ClosesMath, Learned, Ri
 use Rattle.markdown_spans.specs.SpanClosers.{item_in, unless_failed}
 use Rattle.markdown_spans.specs.declared.span_closers.FoundMath.{FoundMath}
 use Rattle.markdown_spans.proofs.VisitLemmas.{code_visit_law, math_visit_law}
-use Rattle.markdown_resolver.specs.declared.rest.Rest.{Rest}
+use Rattle.markdown_resolver.specs.declared.continuation.Continuation.{Continuation}
 use Rattle.markdown_resolver.specs.Chains.{CanResolve}
 use Rattle.markdown_resolver.specs.Rewritten.{Puts, Standing, numbered_past}
 use Rattle.markdown_resolver.specs.ReadsItem.{LooksAt, LooksAtMost}
@@ -49,7 +49,7 @@ looks_at None after searched found looked old new items items' rises failed with
     by s true is found_is works = past found_is
     by true false is found_is works = let failed = rw (is, found_is) at works in cc failed
     by false false is found_is works = omega (arith, unless is, fewer)
-looks_at (Some known) after searched found looked old new items items' rises failed within fewer unless past = record {
+looks_at (Some state) after searched found looked old new items items' rises failed within fewer unless past = record {
   more = 0;
   counted = rises;
   within = omega arith;
@@ -58,7 +58,7 @@ looks_at (Some known) after searched found looked old new items items' rises fai
 }
 
 -- the number of items that are left of a chain
-pub items_put : (source : List ℕ) (ix : ℕ) (trees : Standing) (goes_on : Option ℕ) (rest : Rest)
+pub items_put : (source : List ℕ) (ix : ℕ) (trees : Standing) (goes_on : Option ℕ) (rest : Continuation)
     (old new : List (Node Item)) (tables tables' : Tables) → CanResolve source tables old (Some ix)
     → Puts source ix trees goes_on rest old new tables tables'
     → items_from new rest.next ≡ length (numbered_past goes_on (map (numbered old) (followers old ix)))
@@ -133,7 +133,7 @@ refused_at None looked old new items at_most within = record {
   none = λ before. cc before;
   past = λ works. omega (arith, at_most.within, within);
 }
-refused_at (Some known) looked old new items at_most within = record {
+refused_at (Some state) looked old new items at_most within = record {
   more = at_most.more;
   counted = at_most.counted;
   within = omega (arith, at_most.within);
@@ -227,7 +227,7 @@ module _ {source : List ℕ} {tables : Tables} {old : List (Node Item)} {ix : �
 
   -- where it finds nothing
   pub nothing_looks : {X : Type 0} {found : Option X} {tables' : Tables} {new : List (Node Item)} {trees : Standing}
-      {rest : Rest} (after : Learned) → Counts
+      {rest : Continuation} (after : Learned) → Counts
       → has_failed after ≡ failed_by_now learned search.opens (is_some found) → found ≡ None
       → Puts source ix trees None rest old new tables tables'
       → LooksAt (has_failed learned) (has_failed after) visits visits' (items_from old (Some ix))
@@ -242,7 +242,7 @@ module _ {source : List ℕ} {tables : Tables} {old : List (Node Item)} {ix : �
 
   -- and where it finds something
   pub something_looks : {X : Type 0} {found : Option X} {x : X} {tables' : Tables} {new : List (Node Item)}
-      {trees : Standing} {end : ℕ} {rest : Rest} (after : Learned) → FoundUpTo search old (followers old ix) end
+      {trees : Standing} {end : ℕ} {rest : Continuation} (after : Learned) → FoundUpTo search old (followers old ix) end
       → Counts → has_failed after ≡ failed_by_now learned search.opens (is_some found) → found ≡ Some x
       → Puts source ix trees (Some end) rest old new tables tables'
       → LooksAt (has_failed learned) (has_failed after) visits visits' (items_from old (Some ix))

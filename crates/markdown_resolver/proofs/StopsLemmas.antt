@@ -7,23 +7,23 @@ use Rattle.markdown_brackets.specs.BracketDecision.{Progress}
 use Rattle.markdown_brackets.specs.LeftList.{Entry}
 use Rattle.markdown_brackets.specs.declared.spent_ends.SpentEnds.{SpentEnds}
 use Rattle.markdown_brackets.proofs.ChainAsksLemmas.{AsksMore, asks_nothing, read_asks}
-use Rattle.markdown_document.specs.Above.{Above}
-use Rattle.markdown_document.specs.Document.{Plain, plain_tags}
+use Rattle.markdown_document.specs.EnclosingBlocks.{EnclosingBlocks}
+use Rattle.markdown_document.specs.Document.{Plain, no_notes}
 use Rattle.markdown_document.specs.Setting.{Setting}
-use Rattle.markdown_document.specs.Stages.{Stage, chain_at}
-use Rattle.markdown_resolver.specs.PassOne.{around, read_other}
+use Rattle.markdown_document.specs.ResolverStates.{ResolverState, chain_at}
+use Rattle.markdown_resolver.specs.PassOne.{bracket_context, read_other}
 use Rattle.markdown_resolver.specs.ReadOn.{StopsOn, all_read, at_left}
 
-pub all_asks : (s : Setting) (above : Above) (chain : Forest Plain) (p : Progress (Unit {0}))
+pub all_asks : (s : Setting) (above : EnclosingBlocks) (chain : Forest Plain) (p : Progress (Unit {0}))
     → AsksMore (all_read s above chain p) p
 all_asks s above chain p =
-    let r = read_asks (around s above) (read_other s plain_tags above)
-    (λ a below rest q. asks_nothing (read_other s plain_tags above a below rest q) q refl) chain p in
+    let r = read_asks (bracket_context s above) (read_other s no_notes above)
+    (λ a below rest q. asks_nothing (read_other s no_notes above a below rest q) q refl) chain p in
     record { more = r.more; asked = r.asked }
 
 -- no question was asked
-pub stops_here : {C : Type 0} (step : C → Question → Option Answer → C → Type 0) (s : Setting) (above : Above)
-    (at : Option ℕ) (left : List (Entry ℕ)) (old : Stage C) (spent : SpentEnds)
+pub stops_here : {C : Type 0} (step : C → Question → Option Answer → C → Type 0) (s : Setting) (above : EnclosingBlocks)
+    (at : Option ℕ) (left : List (Entry ℕ)) (old : ResolverState C) (spent : SpentEnds)
     (callback' : Option C) → callback' ≡ old.callback → StopsOn step s above at left old spent callback'
 stops_here step s above at left old spent callback' same = record {
   answers = [];

@@ -10,8 +10,8 @@ use Rattle.markdown_base.specs.declared.item.ItemBody.{ItemBody}
 use Rattle.markdown_base.specs.declared.item.ItemBody.TheVariants as body
 use Rattle.markdown_base.specs.declared.node.Node.{Node}
 use Rattle.markdown_document.specs.ChainRest.{begun_at, cut_shape, end_of, past, past_byte}
-use Rattle.markdown_document.specs.Document.{Label, Plain, Shape, leaf, shape_of}
-use Rattle.markdown_document.specs.Places.{label_at, trees_from}
+use Rattle.markdown_document.specs.Document.{TreeNode, Plain, Shape, leaf, shape_of}
+use Rattle.markdown_document.specs.Places.{tree_node_at, trees_from}
 use Rattle.markdown_document.specs.PlacedNodes.{HasSlices}
 use Rattle.markdown_document.specs.Tables.{Tables}
 use Rattle.markdown_document.specs.Waiting.{is_quiet, waits_for_pairing}
@@ -33,7 +33,7 @@ unmade_slices tables bytes other h source tables' start end = tt
 
 -- so the first that ends past a byte offset may be cut where it is not open
 pub first_cut : (source : List ℕ) (tables : Tables) (nodes : List (Node Item)) (i n : ℕ) (f : Forest ℕ)
-    → IsUnmade (relabelled (label_at source tables nodes) f) → first_past nodes i (roots f) ≡ Some n
+    → IsUnmade (relabelled (tree_node_at source tables nodes) f) → first_past nodes i (roots f) ≡ Some n
     → is_open (item_at nodes n).body ≡ false → MayBeCut (item_at nodes n).body
 first_cut source tables nodes i n nil h first closed = cc first
 first_cut source tables nodes i n (node ix below after) h first closed =
@@ -75,7 +75,7 @@ quiet_cut n (leaf e origins) = refl
 quiet_cut n other = refl
 
 module _ {A : Type 0} where
-  pub unread_past_byte : (i : ℕ) (f : Forest (Label A)) → IsUnread f → IsUnread (past_byte i f)
+  pub unread_past_byte : (i : ℕ) (f : Forest (TreeNode A)) → IsUnread f → IsUnread (past_byte i f)
   unread_past_byte i nil h = tt
   unread_past_byte i (node a below after) h = by (nat_le (end_of a) i) (unread_past_byte i after h.1)
     where
@@ -84,6 +84,6 @@ module _ {A : Type 0} where
       by true later = later
       by false later = (λ read. h.0 (sym (quiet_cut (i - a.part.range.start) a.part.shape) ∙ read), h.1)
 
-  pub unread_past : (goes_on : Option ℕ) (f : Forest (Label A)) → IsUnread f → IsUnread (past goes_on f)
+  pub unread_past : (goes_on : Option ℕ) (f : Forest (TreeNode A)) → IsUnread f → IsUnread (past goes_on f)
   unread_past None f h = h
   unread_past (Some i) f h = unread_past_byte i f h

@@ -19,12 +19,12 @@ use Rattle.markdown_brackets.specs.Openers.{Waiting}
 use Rattle.markdown_brackets.specs.WikilinkNodes.{CanFindWikilink, unless_is}
 use Rattle.markdown_document.specs.declared.chain_place.ChainPlace.{ChainPlace}
 use Rattle.markdown_document.specs.ChainRest.{joined_chains}
-use Rattle.markdown_document.specs.Document.{Label}
+use Rattle.markdown_document.specs.Document.{TreeNode}
 use Rattle.markdown_document.specs.PlacedNodes.{IsPlaced}
 use Rattle.markdown_document.specs.Tables.{Tables}
 use Rattle.markdown_resolver.specs.Chains.{CanResolve}
 use Rattle.markdown_brackets.specs.Finish.{IsSplit}
-use Rattle.markdown_resolver.specs.PutsTrees.{numbered_from, numbered_label}
+use Rattle.markdown_resolver.specs.PutsTrees.{numbered_from, numbered_node}
 use Rattle.markdown_resolver.specs.ReadOn.{EachWaits, IsOpener, StandsTo}
 use Rattle.markdown_resolver.proofs.ComposeLemmas.{stands_ready}
 use Rattle.markdown_resolver.proofs.FollowersLemmas.{InOrder, opens_chain, order_around}
@@ -46,12 +46,12 @@ roots_joined (node a below after) g = ap (λ (l : List ℕ). a ∷ l) (roots_joi
 -- it is there where the left list is at it
 at_opener : (source : List ℕ) (tables : Tables) (nodes : List (Node Item)) (first closer : ℕ) (o : Split ℕ)
     → CanResolve source tables nodes (Some closer) → AtOpener source tables nodes first (Some closer) o
-    → StandsOpen source tables nodes closer o.opener.tag
+    → StandsOpen source tables nodes closer o.opener.note
 at_opener source tables nodes first closer o closes at =
-    let n = o.opener.tag in
+    let n = o.opener.note in
     let later = numbered_from source tables nodes (Some closer) in
     let opened = opens_chain at.ready in
-    let here : node (numbered_label source tables nodes n) (numbered_from source tables nodes (child_of nodes n))
+    let here : node (numbered_node source tables nodes n) (numbered_from source tables nodes (child_of nodes n))
     (numbered_from source tables nodes (sibling_of nodes n)) ≡ node o.opener nil (trees_onto o.after later) =
     sym (numbered_opens source tables nodes n (stands_ready at.ready)) ∙ at.trees in
     let rest : numbered_from source tables nodes (sibling_of nodes n) ≡ trees_onto o.after later = cc here in
@@ -61,9 +61,10 @@ at_opener source tables nodes first closer o closes at =
     let after = numbers_of (numbered_from source tables nodes (sibling_of nodes closer)) in
     let follows : roots f ≡ roots inside ++ closer ∷ roots after =
     ap (λ (g : Forest ℕ). roots g)
-    (sym (numbers_are source tables nodes f) ∙ ap (λ (g : Forest (Label ℕ)). numbers_of g) (rest
-    ∙ onto_split o.after later) ∙ relabelled_joined (λ a. a.tag) (trees_onto o.after nil) later)
-    ∙ roots_joined inside (numbers_of later) ∙ ap (λ (g : Forest (Label ℕ)). roots inside ++ roots (numbers_of g)) c in
+    (sym (numbers_are source tables nodes f) ∙ ap (λ (g : Forest (TreeNode ℕ)). numbers_of g) (rest
+    ∙ onto_split o.after later) ∙ relabelled_joined (λ a. a.note) (trees_onto o.after nil) later)
+    ∙ roots_joined inside (numbers_of later) ∙ ap (λ (g : Forest (TreeNode ℕ)). roots inside ++ roots
+    (numbers_of g)) c in
     record {
       opener = at.opener;
       ready = at.ready;
@@ -81,7 +82,7 @@ waits_open source tables nodes first closer whole after (done a below ∷ left) 
     waits_open source tables nodes first closer whole (after ++ done a below ∷ []) left closes h (e
     ∙ sym (append_assoc after (done a below ∷ []) left))
 waits_open source tables nodes first closer whole after (waits m a ∷ left) closes h e =
-    let o : Split ℕ = record { mark = m; opener = a; after = after; before = left } in
+    let o : Split ℕ = record { state = m; opener = a; after = after; before = left } in
     let split : IsSplit whole o = record { after_then = after; mark_then = m; left_is = e; same_trees = λ later. refl }
     in (
       at_opener source tables nodes first closer o closes (stands_at_opener h split),

@@ -21,15 +21,16 @@ use Rattle.markdown_base.specs.declared.item.Item.{Item}
 use Rattle.markdown_base.specs.declared.item.ItemBody.{ItemBody}
 use Rattle.markdown_base.specs.declared.item.ItemBody.TheVariants as body
 use Rattle.markdown_base.specs.declared.node.Node.{Node}
-use Rattle.markdown_brackets.specs.BracketDecision.{Around, Wikilink, shown_children, if_some, past_second, wikilink_by}
+use Rattle.markdown_brackets.specs.BracketDecision.{BracketContext, Wikilink, shown_children, if_some, past_second}
+use Rattle.markdown_brackets.specs.BracketDecision.{wikilink_by}
 use Rattle.markdown_brackets.specs.BracketDecision.{wikilink_in}
-use Rattle.markdown_brackets.specs.LeftList.{Mark, Entry, Split, inside, nearest, trees_onto}
+use Rattle.markdown_brackets.specs.LeftList.{OpenerState, Entry, Split, inside, nearest, trees_onto}
 use Rattle.markdown_brackets.specs.Wikilink.{Shows, WikilinkBody, cut_at, has_pothole, named, shown_from, shows_from}
 use Rattle.markdown_brackets.specs.Wikilink.{shows_name, shows_nothing, wikilink_body}
 use Rattle.markdown_brackets.proofs.OpenerHeldLemmas.{splits_at}
 use Rattle.markdown_brackets.proofs.WikilinkPipeLemmas.{some_in_block}
 use Rattle.markdown_document.specs.ChainRest.{begun_at, end_of, joined_chains, past_byte, start_of}
-use Rattle.markdown_document.specs.Document.{Label, is_unresolved}
+use Rattle.markdown_document.specs.Document.{TreeNode, is_unresolved}
 use Rattle.markdown_document.specs.Origins.{IsSliceWithin}
 use Rattle.markdown_document.specs.PlacedNodes.{IsPlaced}
 use Rattle.markdown_document.specs.Tables.{Tables}
@@ -39,30 +40,30 @@ use Rattle.markdown_spans.proofs.SliceLemmas.{slice_between, slice_inside}
 use Rattle.markdown_base.proofs.ByteListLemmas.{part_length}
 use Rattle.markdown_resolver.specs.Closes.{FirstLies, IsNotCut, NoneOpenAround, ShowsWell, IsNamedIn}
 use Rattle.markdown_resolver.specs.Kept.{IsQuiet}
-use Rattle.markdown_resolver.specs.PutsTrees.{numbered_label}
+use Rattle.markdown_resolver.specs.PutsTrees.{numbered_node}
 use Rattle.markdown_resolver.specs.ReadOn.{StandsTo}
 use Rattle.markdown_resolver.proofs.PastByteLemmas.{boundary_begun}
 use Rattle.markdown_resolver.proofs.GoesOnLemmas.{one_byte}
 use Rattle.markdown_resolver.proofs.LeftTreesLemmas.{onto_split}
 use Rattle.markdown_resolver.proofs.StandsToLemmas.{rest_of}
 
--- a label starts and ends between characters, and where it is open it is one byte long
-pub record LabelLies (source : List ℕ) (a : Label ℕ) : Type 0 where
+-- a node starts and ends between characters, and where it is open it is one byte long
+pub record NodeLies (source : List ℕ) (a : TreeNode ℕ) : Type 0 where
   pub ordered : start_of a ≤ end_of a
   pub starts : IsCharBoundary source (start_of a)
   pub ends : IsCharBoundary source (end_of a)
   pub short : is_unresolved a.part.shape ≡ true → end_of a ≤ start_of a + 1
 
 -- so do those of a chain
-abbrev pub AllLie : List ℕ → Forest (Label ℕ) → Type 0
+abbrev pub AllLie : List ℕ → Forest (TreeNode ℕ) → Type 0
 AllLie source nil = ⊤
-AllLie source (node a below after) = LabelLies source a × AllLie source after
+AllLie source (node a below after) = NodeLies source a × AllLie source after
 
-second_lies : (source : List ℕ) (f g : Forest (Label ℕ)) → AllLie source (joined_chains f g) → AllLie source g
+second_lies : (source : List ℕ) (f g : Forest (TreeNode ℕ)) → AllLie source (joined_chains f g) → AllLie source g
 second_lies source nil g h = h
 second_lies source (node a below after) g h = second_lies source after g h.1
 
-past_second_lies : (source : List ℕ) (f : Forest (Label ℕ)) → AllLie source f → AllLie source (past_second f)
+past_second_lies : (source : List ℕ) (f : Forest (TreeNode ℕ)) → AllLie source f → AllLie source (past_second f)
 past_second_lies source nil h = tt
 past_second_lies source (node a below after) h = h.1
 
@@ -75,8 +76,8 @@ waiting_long bytes other waits markup run = absurd (cc waits)
 
 -- so it is of an item of an arena that is quiet
 numbered_lies : (source : List ℕ) (tables : Tables) (nodes : List (Node Item)) (ix : ℕ)
-    → IsPlaced source tables nodes ix → is_quiet (numbered_label source tables nodes ix).part.shape ≡ true
-    → LabelLies source (numbered_label source tables nodes ix)
+    → IsPlaced source tables nodes ix → is_quiet (numbered_node source tables nodes ix).part.shape ≡ true
+    → NodeLies source (numbered_node source tables nodes ix)
 numbered_lies source tables nodes ix placed quiet =
     let item = item_at nodes ix in
     let bytes = slice_range source item.start item.end in
@@ -95,17 +96,17 @@ numbered_lies source tables nodes ix placed quiet =
           omega (arith, size, long);
     }
 
-first_lies : (source : List ℕ) (tables : Tables) (nodes : List (Node Item)) (f : Forest ℕ) (g h : Forest (Label ℕ))
+first_lies : (source : List ℕ) (tables : Tables) (nodes : List (Node Item)) (f : Forest ℕ) (g h : Forest (TreeNode ℕ))
     → Each (IsPlaced source tables nodes) f
-    → relabelled (numbered_label source tables nodes) f ≡ joined_chains g h → IsQuiet g → AllLie source g
+    → relabelled (numbered_node source tables nodes) f ≡ joined_chains g h → IsQuiet g → AllLie source g
 first_lies source tables nodes f nil h placed e quiet = tt
 first_lies source tables nodes nil (node a below after) h placed e quiet = absurd (cc e)
 first_lies source tables nodes (node ix inner later) (node a below after) h placed e quiet =
-    let same : numbered_label source tables nodes ix ≡ a = cc e in
-    let shape : is_quiet (numbered_label source tables nodes ix).part.shape
-    ≡ true = ap (λ (b : Label ℕ). is_quiet b.part.shape) same ∙ quiet.0 in
-    let rest : relabelled (numbered_label source tables nodes) later ≡ joined_chains after h = cc e in (
-      subst (LabelLies source) same (numbered_lies source tables nodes ix placed.0 shape),
+    let same : numbered_node source tables nodes ix ≡ a = cc e in
+    let shape : is_quiet (numbered_node source tables nodes ix).part.shape
+    ≡ true = ap (λ (b : TreeNode ℕ). is_quiet b.part.shape) same ∙ quiet.0 in
+    let rest : relabelled (numbered_node source tables nodes) later ≡ joined_chains after h = cc e in (
+      subst (NodeLies source) same (numbered_lies source tables nodes ix placed.0 shape),
       first_lies source tables nodes later after h placed.2 rest quiet.3,
     )
 
@@ -118,10 +119,10 @@ left_lies source tables nodes first at left h =
     h.ready.reaches.each r.whole h.quiet
 
 -- and those inside an opener of it, past the second
-pub inside_lies : (source : List ℕ) (test : Mark → Bool) (left : List (Entry ℕ)) (o : Split ℕ)
+pub inside_lies : (source : List ℕ) (test : OpenerState → Bool) (left : List (Entry ℕ)) (o : Split ℕ)
     → AllLie source (trees_onto left nil) → nearest test left ≡ Some o → AllLie source (past_second (inside o))
 inside_lies source test left o h found =
-    let splits = subst (λ (s : Option (Split ℕ)). IfSome s (λ o. (later : Forest (Label ℕ))
+    let splits = subst (λ (s : Option (Split ℕ)). IfSome s (λ o. (later : Forest (TreeNode ℕ))
     → trees_onto left later ≡ trees_onto o.before (node o.opener nil (trees_onto o.after later))))
     found (splits_at test left) in
     let whole : trees_onto left nil ≡ joined_chains (trees_onto o.before nil) (node o.opener nil (inside o)) = splits
@@ -131,7 +132,7 @@ inside_lies source test left o h found =
     past_second_lies source (inside o) all.1
 
 -- no byte offset cuts one of them that is open
-none_cut : (source : List ℕ) (i : ℕ) (f : Forest (Label ℕ)) → AllLie source f → NoneOpenAround i f
+none_cut : (source : List ℕ) (i : ℕ) (f : Forest (TreeNode ℕ)) → AllLie source f → NoneOpenAround i f
 none_cut source i nil h = tt
 none_cut source i (node a below after) h = by (nat_le (end_of a) i) refl (none_cut source i after h.1)
   where
@@ -146,7 +147,7 @@ none_cut source i (node a below after) h = by (nat_le (end_of a) i) refl (none_c
         (is_unresolved a.part.shape) refl starts ends
 
 -- what is left of them past a byte offset between characters begins and ends between characters
-past_lies : (source : List ℕ) (i : ℕ) (f : Forest (Label ℕ)) → AllLie source f → IsCharBoundary source i
+past_lies : (source : List ℕ) (i : ℕ) (f : Forest (TreeNode ℕ)) → AllLie source f → IsCharBoundary source i
     → FirstLies source (past_byte i f)
 past_lies source i nil h between = tt
 past_lies source i (node a below after) h between = by (nat_le (end_of a) i) refl (past_lies source i after h.1 between)
@@ -225,11 +226,12 @@ body_cut text block_end start end utf8 = by (nat_lt start end) refl _
     by false e found h = tt
 
 -- what it shows starts and ends between characters
-some_lies : (source : List ℕ) (f : Forest (Label ℕ)) → FirstLies source f → IfSome (if_some f) (FirstLies source)
+some_lies : (source : List ℕ) (f : Forest (TreeNode ℕ)) → FirstLies source f → IfSome (if_some f) (FirstLies source)
 some_lies source nil h = tt
 some_lies source (node a below after) h = h
 
-children_lie : (w : Around) (first : Label ℕ) (f : Forest (Label ℕ)) (end : ℕ) (shows : Shows) → AllLie w.setting.text f
+children_lie : (w : BracketContext) (first : TreeNode ℕ) (f : Forest (TreeNode ℕ)) (end : ℕ) (shows : Shows)
+    → AllLie w.setting.text f
     → IsCharBoundary w.setting.text (start_of first)
     → IsCharBoundary w.setting.text end → IsCut w.setting.text (start_of first) end shows
     → IfSome (shown_children w first f end shows) (FirstLies w.setting.text)
@@ -238,14 +240,15 @@ children_lie w first f end (shows_nothing at) all starts ends cut = (omega arith
 children_lie w first f end (shows_from at) all starts ends cut = some_lies w.setting.text (past_byte at f)
     (past_lies w.setting.text at f all cut)
 
-made_lies : (source : List ℕ) (b : WikilinkBody) (children : Option (Forest (Label ℕ)))
+made_lies : (source : List ℕ) (b : WikilinkBody) (children : Option (Forest (TreeNode ℕ)))
     → IfSome children (FirstLies source) → IfSome {T = Wikilink ℕ}
     (option_map (λ children. record { name = b.name; has_pothole = has_pothole b.shows; children = children })
     children) (λ v. FirstLies source v.children)
 made_lies source b None h = tt
 made_lies source b (Some children) h = h
 
-wikilink_lies : (w : Around) (f : Forest (Label ℕ)) (end : ℕ) → IsUtf8 w.setting.text → AllLie w.setting.text f
+wikilink_lies : (w : BracketContext) (f : Forest (TreeNode ℕ)) (end : ℕ) → IsUtf8 w.setting.text
+    → AllLie w.setting.text f
     → IsCharBoundary w.setting.text end → IfSome (wikilink_in w f end) (λ v. FirstLies w.setting.text v.children)
 wikilink_lies w nil end utf8 all ends = tt
 wikilink_lies w (node first below after) end utf8 all ends = by
@@ -261,7 +264,7 @@ wikilink_lies w (node first below after) end utf8 all ends = by
         (children_lie w first (node first below after) end b.shows all all.0.starts ends cut)
 
 -- so a wikilink of this body shows what can be shown
-pub shows_well : (w : Around) (f : Forest (Label ℕ)) (end : ℕ) (v : Wikilink ℕ) → IsUtf8 w.setting.text
+pub shows_well : (w : BracketContext) (f : Forest (TreeNode ℕ)) (end : ℕ) (v : Wikilink ℕ) → IsUtf8 w.setting.text
     → AllLie w.setting.text f → IsCharBoundary w.setting.text end
     → wikilink_in w f end ≡ Some v → ShowsWell w.setting.text f v.children
 shows_well w f end v utf8 all ends e = record {
@@ -313,13 +316,14 @@ body_slice text block_end start end = by (nat_lt start end) refl _
         cut_slice text start end found (h order)
     by false e found h = tt
 
-name_slice : (w : Around) (f : Forest (Label ℕ)) (end : ℕ)
+name_slice : (w : BracketContext) (f : Forest (TreeNode ℕ)) (end : ℕ)
     → IfSome (wikilink_in w f end) (λ v. IsNamedIn w.setting.text f end v.name)
 name_slice w nil end = tt
 name_slice w (node first below after) end = by (wikilink_body w.setting.text w.above.block_end (start_of first) end)
     (body_slice w.setting.text w.above.block_end (start_of first) end)
   where
-    made : (b : WikilinkBody) (children : Option (Forest (Label ℕ))) → IsSliceWithin w.setting.text (start_of first) end
+    made : (b : WikilinkBody) (children : Option (Forest (TreeNode ℕ))) → IsSliceWithin w.setting.text
+        (start_of first) end
         b.name → IfSome {T = Wikilink ℕ}
         (option_map (λ children. record { name = b.name; has_pothole = has_pothole b.shows; children = children })
         children) (λ v. IsSliceWithin w.setting.text (start_of first) end v.name)
@@ -332,7 +336,8 @@ name_slice w (node first below after) end = by (wikilink_body w.setting.text w.a
     by None h = tt
     by (Some b) h = made b (shown_children w first (node first below after) end b.shows) h
 
-pub names_slice : (w : Around) (f : Forest (Label ℕ)) (end : ℕ) (v : Wikilink ℕ) → wikilink_in w f end ≡ Some v
+pub names_slice : (w : BracketContext) (f : Forest (TreeNode ℕ)) (end : ℕ) (v : Wikilink ℕ)
+    → wikilink_in w f end ≡ Some v
     → IsNamedIn w.setting.text f end v.name
 names_slice w f end v e = subst
     (λ (found : Option (Wikilink ℕ)). IfSome found (λ v. IsNamedIn w.setting.text f end v.name)) e (name_slice w f end)

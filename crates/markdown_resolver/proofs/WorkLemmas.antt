@@ -8,13 +8,13 @@ use Rattle.markdown_base.specs.Questions.{Question, Answer, Answers}
 use Rattle.markdown_base.specs.declared.item.Item.{Item}
 use Rattle.markdown_base.specs.declared.node.Node.{Node}
 use Rattle.markdown_base.proofs.ForestLemmas.{roots-relabelled}
-use Rattle.markdown_document.specs.Above.{Above}
+use Rattle.markdown_document.specs.EnclosingBlocks.{EnclosingBlocks}
 use Rattle.markdown_document.specs.Counts.{ChainCounts, RisesAtLeast, RisesAtMost, risen, WorkRises}
 use Rattle.markdown_document.specs.Counts.{comparisons_per_delimiter}
-use Rattle.markdown_document.specs.Document.{plain_tags}
-use Rattle.markdown_document.specs.Places.{label_at, trees_from}
-use Rattle.markdown_document.specs.Setting.{Known, Setting}
-use Rattle.markdown_document.specs.Stages.{Stage, chain_at, items_from, known_at}
+use Rattle.markdown_document.specs.Document.{no_notes}
+use Rattle.markdown_document.specs.Places.{tree_node_at, trees_from}
+use Rattle.markdown_document.specs.Setting.{ReferenceState, Setting}
+use Rattle.markdown_document.specs.ResolverStates.{ResolverState, chain_at, items_from, state_at}
 use Rattle.markdown_document.specs.Tables.{Tables}
 use Rattle.markdown_document.specs.declared.work.Work.{Work}
 use Rattle.markdown_delims.specs.RunReading.{delimiters_of}
@@ -29,8 +29,8 @@ use Rattle.markdown_resolver.proofs.PairedLemmas.{delimiters_left}
 chain_items : (source : List ℕ) (tables : Tables) (nodes : List (Node Item)) (l : Option ℕ)
     → length (roots (trees_from source tables nodes l)) ≡ items_from nodes l
 chain_items source tables nodes l =
-    ap length (roots-relabelled (label_at source tables nodes) (forest_at (links_of nodes) l))
-    ∙ length-map (roots (forest_at (links_of nodes) l)) (label_at source tables nodes)
+    ap length (roots-relabelled (tree_node_at source tables nodes) (forest_at (links_of nodes) l))
+    ∙ length-map (roots (forest_at (links_of nodes) l)) (tree_node_at source tables nodes)
 
 -- the same rise
 same_rise : (most most' old new new' : ℕ) → most' ≡ most → new' ≡ new → RisesAtMost most old new
@@ -51,11 +51,12 @@ found_by : (f f' old old' new : ℕ) → f ≡ f' → old ≡ old' → RisesAtLe
 found_by f f' old old' new e e' h = rw (sym e, sym e') h
 
 -- where a chain was read, the counts rose by those of a part of it: of its items, and of no delimiter character
-pub read_in_part : {C : Type 0} (s : Setting) (above : Above) (first : ℕ) (old : Stage C) (known : Known)
+pub read_in_part : {C : Type 0} (s : Setting) (above : EnclosingBlocks) (first : ℕ) (old : ResolverState C)
+    (state : ReferenceState)
     (work new : Work) → ReadCounts (items_from old.nodes (Some first)) work new
-    → RisesInPart (chain_counts s plain_tags above (chain_at s.text old (Some first)) known) work new
-read_in_part s above first old known work new read =
-    let n = chain_counts s plain_tags above (chain_at s.text old (Some first)) known in
+    → RisesInPart (chain_counts s no_notes above (chain_at s.text old (Some first)) state) work new
+read_in_part s above first old state work new read =
+    let n = chain_counts s no_notes above (chain_at s.text old (Some first)) state in
     let items = chain_items s.text old.tables old.nodes (Some first) in
     record {
       part = record { items = n.items; delimiters = 0; found = 0 };
@@ -74,13 +75,14 @@ read_in_part s above first old known work new read =
     }
 
 -- where a chain was read, and then paired, the counts rose by those of the chain, with so many searches that find
-module _ {C : Type 0} (step : C → Question → Option Answer → C → Type 0) (s : Setting) (above : Above) (first : ℕ)
-    (old mid : Stage C) (work then new : Work)
-    (r : ResolvesFrom step s.text (pass_one s plain_tags above) (Some first) old mid)
+module _ {C : Type 0} (step : C → Question → Option Answer → C → Type 0) (s : Setting) (above : EnclosingBlocks)
+    (first : ℕ)
+    (old mid : ResolverState C) (work then new : Work)
+    (r : ResolvesFrom step s.text (pass_one s no_notes above) (Some first) old mid)
     (read : ReadCounts (items_from old.nodes (Some first)) work then) where
   abbrev counts_of : (later : Answers) → ChainCounts
-  counts_of later = chain_counts s plain_tags above (chain_at s.text old (Some first))
-      (known_at old (r.answers ++ later))
+  counts_of later = chain_counts s no_notes above (chain_at s.text old (Some first))
+      (state_at old (r.answers ++ later))
 
   counts_paired : (found : ℕ) → PairCounts (delimiters_of (trees_at mid.nodes (Some first))) found then new
       → (later : Answers) → WorkRises (record (counts_of later) { found = found }) work new

@@ -9,22 +9,24 @@ use Rattle.markdown_base.specs.declared.item.Item.{Item}
 use Rattle.markdown_base.specs.declared.node.Node.{Node}
 use Rattle.markdown_brackets.specs.QuestionEnds.{StandInLine}
 use Rattle.markdown_brackets.specs.QuestionsAsked.{AsksAtMost, EndApart, closers_among}
-use Rattle.markdown_document.specs.Above.{Above}
-use Rattle.markdown_document.specs.Document.{Label, Tags, document}
-use Rattle.markdown_document.specs.Setting.{Known, Setting}
+use Rattle.markdown_document.specs.EnclosingBlocks.{EnclosingBlocks}
+use Rattle.markdown_document.specs.Document.{TreeNode, Notes, document}
+use Rattle.markdown_document.specs.Setting.{ReferenceState, Setting}
 use Rattle.markdown_document.specs.Tables.{Tables}
 use Rattle.markdown_resolver.specs.Resolved.{resolved}
 use Rattle.markdown_resolver.specs.Kept.{EachChain}
 
 -- at most one question is asked for each `]` of a chain, and none at a limit of 0
 abbrev pub ChainCountLaw : Type 0 → Type 0
-ChainCountLaw A = (s : Setting) (tags : Tags A) (above : Above) (chain : Forest (Label A)) (known : Known)
-    → AsksAtMost (closers_among (roots chain)) known.limit (resolved s tags above chain known).questions
+ChainCountLaw A = (s : Setting) (notes : Notes A) (above : EnclosingBlocks) (chain : Forest (TreeNode A))
+    (state : ReferenceState)
+    → AsksAtMost (closers_among (roots chain)) state.limit (resolved s notes above chain state).questions
 
 -- no two questions end at the same byte offset, where the items of a chain are in order and cover their markup
 abbrev pub ChainEndsLaw : Type 0 → Type 0
-ChainEndsLaw A = (s : Setting) (tags : Tags A) (above : Above) (chain : Forest (Label A)) (known : Known)
-    → StandInLine s.text chain → EndApart (resolved s tags above chain known).questions
+ChainEndsLaw A = (s : Setting) (notes : Notes A) (above : EnclosingBlocks) (chain : Forest (TreeNode A))
+    (state : ReferenceState)
+    → StandInLine s.text chain → EndApart (resolved s notes above chain state).questions
 
 -- so do the items of each chain of a well-formed block result
 abbrev pub DocumentLineLaw : Type 0

@@ -17,16 +17,17 @@ use Rattle.markdown_defs.specs.Footnotes.{footnote_at}
 use Rattle.markdown_resolver.specs.Kept.{IsQuietBelow}
 use Rattle.markdown_resolver.specs.PassOne.{Outcome}
 use Rattle.markdown_resolver.specs.Resolved.{resolved}
-use Rattle.markdown_document.specs.Above.{Above}
+use Rattle.markdown_document.specs.EnclosingBlocks.{EnclosingBlocks}
 use Rattle.markdown_document.specs.Counts.{WorkRises}
 use Rattle.markdown_document.specs.declared.work.Work.{Work}
 use Rattle.markdown_resolver.specs.ChainCounts.{RisesInPart, chain_counts}
-use Rattle.markdown_document.specs.Setting.{Setting, Known}
+use Rattle.markdown_document.specs.Setting.{Setting, ReferenceState}
 use Rattle.markdown_document.specs.Places.{trees_from}
 use Rattle.markdown_document.specs.PlacedNodes.{IsPlaced, IsSameAt}
-use Rattle.markdown_document.specs.Document.{plain_tags, Plain}
-use Rattle.markdown_document.specs.Stages.{Stage, chain_at, known_at, named_in, stage, times_in, weight_in}
-use Rattle.markdown_document.specs.Stages.{above_cursor}
+use Rattle.markdown_document.specs.Document.{no_notes, Plain}
+use Rattle.markdown_document.specs.ResolverStates.{ResolverState, chain_at, state_at, named_in, resolver_state}
+use Rattle.markdown_document.specs.ResolverStates.{times_in, weight_in}
+use Rattle.markdown_document.specs.ResolverStates.{above_cursor}
 use Rattle.markdown_document.specs.Tables.{Tables}
 use Rattle.markdown_document.specs.NamedEntries.{Named, number_of, size_for, HasGrown}
 
@@ -54,7 +55,8 @@ pub record ChangesChain (source : List ℕ) (l : Option ℕ) (old new : List (No
 
 -- from one stage to another the chain from the link l on was resolved by a rule, in place
 pub record ResolvesFrom {C : Type 0} (step : C → Question → Option Answer → C
-    → Type 0) (source : List ℕ) (rule : Forest Plain → Known → Outcome (Unit {0})) (l : Option ℕ) (old new : Stage C)
+    → Type 0) (source : List ℕ) (rule : Forest Plain → ReferenceState → Outcome (Unit {0})) (l : Option ℕ)
+    (old new : ResolverState C)
     : Type 0 where
   pub changes : ChangesChain source l old.nodes new.nodes old.tables new.tables
   -- the callback returned these answers to these questions; and with them the rule gives the new forest, whatever
@@ -62,8 +64,8 @@ pub record ResolvesFrom {C : Type 0} (step : C → Question → Option Answer �
   pub answers : Answers
   pub questions : List Question
   pub asked : Asks step old.callback questions answers new.callback
-  pub resolves : (later : Answers) → rule (chain_at source old l) (known_at old (answers ++ later))
-      ≡ record { questions = questions; forest = chain_at source new l; known = known_at new later }
+  pub resolves : (later : Answers) → rule (chain_at source old l) (state_at old (answers ++ later))
+      ≡ record { questions = questions; forest = chain_at source new l; state = state_at new later }
 
 -- what a resolver may rely on
 pub record CanResolve (source : List ℕ) (tables : Tables) (nodes : List (Node Item)) (l : Option ℕ) : Type 0 where
@@ -92,24 +94,25 @@ pub record ResolvesChain {C : Type 0} (step : C → Question → Option Answer �
   -- in the tables only the texts, the links and the uses of footnotes change, and the names of footnotes stay
   pub tables : held' ≡ record held { cows = held'.cows; links = held'.links; footdefs = held'.footdefs }
   pub footnotes : (name : List ℕ) → is_some (footnote_at held'.footdefs name) ≡ is_some (footnote_at held.footdefs name)
-  pub chain : ResolvesFrom step s.text (resolved s plain_tags (above_cursor s.text old)) (Some first)
-      (stage old held limit callback) (stage new held' limit' callback')
+  pub chain : ResolvesFrom step s.text (resolved s no_notes (above_cursor s.text old)) (Some first)
+      (resolver_state old held limit callback) (resolver_state new held' limit' callback')
   -- the counts rose by those of the chain, for the answers that were given
   pub counted : (later : Answers) → WorkRises
-      (chain_counts s plain_tags (above_cursor s.text old) (chain_at s.text (stage old held limit callback)
+      (chain_counts s no_notes (above_cursor s.text old) (chain_at s.text (resolver_state old held limit callback)
       (Some first))
-      (known_at (stage old held limit callback) (chain.answers ++ later)))
+      (state_at (resolver_state old held limit callback) (chain.answers ++ later)))
       work work'
 
 -- memory was refused on the way: the callback returned these answers to these questions, with which those of the chain
 -- begin; the counts rose by a part of those of the chain for these answers
-pub record StopsIn {C : Type 0} (step : C → Question → Option Answer → C → Type 0) (s : Setting) (above : Above)
-    (first : ℕ) (old : Stage C) (callback' : Option C) (work work' : Work) : Type 0 where
+pub record StopsIn {C : Type 0} (step : C → Question → Option Answer → C → Type 0) (s : Setting)
+    (above : EnclosingBlocks)
+    (first : ℕ) (old : ResolverState C) (callback' : Option C) (work work' : Work) : Type 0 where
   pub answers : Answers
   pub questions : List Question
   pub asked : Asks step old.callback questions answers callback'
   pub begins : (later : Answers) → (others : List Question)
-      × ((resolved s plain_tags above (chain_at s.text old (Some first)) (known_at old (answers ++ later))).questions
+      × ((resolved s no_notes above (chain_at s.text old (Some first)) (state_at old (answers ++ later))).questions
       ≡ questions ++ others)
   pub counts : (later : Answers) → RisesInPart
-      (chain_counts s plain_tags above (chain_at s.text old (Some first)) (known_at old (answers ++ later))) work work'
+      (chain_counts s no_notes above (chain_at s.text old (Some first)) (state_at old (answers ++ later))) work work'

@@ -10,7 +10,7 @@ use Rattle.markdown_base.specs.WellFormed.{run_character}
 use Rattle.markdown_base.specs.declared.item.Item.{Item}
 use Rattle.markdown_base.specs.declared.node.Node.{Node}
 use Rattle.markdown_document.specs.ChainRest.{joined_chains, past, past_byte}
-use Rattle.markdown_document.specs.Document.{Plain, label_of}
+use Rattle.markdown_document.specs.Document.{Plain, tree_node_of}
 use Rattle.markdown_document.specs.Places.{follows_pipe}
 use Rattle.markdown_document.specs.PlacedNodes.{IsSameAt}
 use Rattle.markdown_document.specs.Tables.{Tables}
@@ -19,7 +19,7 @@ use Rattle.markdown_spans.specs.ChainInArena.{LeadsThrough}
 use Rattle.markdown_resolver.specs.Chains.{CanResolve}
 use Rattle.markdown_resolver.specs.Rewritten.{CanPut, IsRestPast, LeavesRest, MayBeCut, Rewrites, first_past}
 use Rattle.markdown_resolver.specs.Rewritten.{numbered_past_byte}
-use Rattle.markdown_resolver.specs.declared.rest.Rest.{Rest}
+use Rattle.markdown_resolver.specs.declared.continuation.Continuation.{Continuation}
 
 -- the first k trees of a chain
 abbrev pub first_trees : {A : Type 0} → ℕ → Forest A → Forest A
@@ -47,26 +47,26 @@ closed_over k trees goes_on rule (node a below after) =
 
 -- one item, with what is inside below it
 abbrev pub over_inside : List ℕ → Tables → Item → Enclosing
-over_inside source tables item a inside = node (label_of source tables item) inside nil
+over_inside source tables item a inside = node (tree_node_of source tables item) inside nil
 
 -- one item, in place of all that is inside
 abbrev pub in_place_of : List ℕ → Tables → Item → Enclosing
-in_place_of source tables item a inside = node (label_of source tables item) nil nil
+in_place_of source tables item a inside = node (tree_node_of source tables item) nil nil
 
 -- one item, with a Text below it
 abbrev pub over_text : List ℕ → Tables → (item text : Item) → Enclosing
 over_text source tables item text a inside =
-    node (label_of source tables item) (node (label_of source tables text) nil nil) nil
+    node (tree_node_of source tables item) (node (tree_node_of source tables text) nil nil) nil
 
 -- one item, with what a wikilink shows below it: what is inside, from its tree k on and from a byte offset on
 abbrev pub over_shown : List ℕ → Tables → Item → (k from : ℕ) → Enclosing
 over_shown source tables item k from a inside =
-    node (label_of source tables item) (past_byte from (trees_past k inside)) nil
+    node (tree_node_of source tables item) (past_byte from (trees_past k inside)) nil
 
 -- a Text for the first byte of the opener, and an item after it
 abbrev pub after_mark : List ℕ → Tables → (mark item : Item) → Enclosing
 after_mark source tables mark item a inside =
-    node (label_of source tables mark) nil (node (label_of source tables item) nil nil)
+    node (tree_node_of source tables mark) nil (node (tree_node_of source tables item) nil nil)
 
 -- the last node inside, or the opener where nothing is inside
 abbrev pub last_inside : (opener : ℕ) → List ℕ → ℕ
@@ -122,7 +122,7 @@ pub record CanPutMark (source : List ℕ) (tables tables' : Tables) (nodes : Lis
 
 -- what a `]` becomes was put in place; `standing` are the nodes that hold it now
 pub record PutsOver (source : List ℕ) (opener closer : ℕ) (inside : List ℕ) (trees : Enclosing) (goes_on : ℕ)
-    (standing : List ℕ) (rest : Rest) (old new : List (Node Item)) (tables tables' : Tables) : Type 0 where
+    (standing : List ℕ) (rest : Continuation) (old new : List (Node Item)) (tables tables' : Tables) : Type 0 where
   -- once what is left is rewritten by a rule, the whole chain is
   pub whole : (rule : Forest Plain → Forest Plain) (nodes : List (Node Item)) (later : Tables)
       → Rewrites source rule rest.next new nodes tables' later

@@ -7,7 +7,8 @@ use Rattle.markdown_base.specs.Forest.{Forest, nil, node}
 use Rattle.markdown_base.specs.declared.item.Item.{Item}
 use Rattle.markdown_base.specs.declared.item.ItemBody.TheVariants as body
 use Rattle.markdown_base.specs.declared.node.Node.{Node}
-use Rattle.markdown_brackets.specs.BracketDecision.{Around, Becomes, a_text, a_link, a_footnote, a_wikilink, Closing}
+use Rattle.markdown_brackets.specs.BracketDecision.{BracketContext, Becomes, a_text, a_link, a_footnote, a_wikilink}
+use Rattle.markdown_brackets.specs.BracketDecision.{Closing}
 use Rattle.markdown_brackets.specs.BracketDecision.{Progress, past_second}
 use Rattle.markdown_brackets.specs.ClosingBracket.{put}
 use Rattle.markdown_brackets.specs.Finish.{SplitsAs}
@@ -16,7 +17,7 @@ use Rattle.markdown_brackets.specs.HeldOpeners.{brackets_of, wikilinks_of}
 use Rattle.markdown_brackets.specs.SpentEnds.{is_spent}
 use Rattle.markdown_brackets.specs.declared.spent_ends.SpentEnds.{SpentEnds}
 use Rattle.markdown_document.specs.ChainRest.{end_of, past, past_byte, start_of}
-use Rattle.markdown_document.specs.Document.{Label, is_unresolved}
+use Rattle.markdown_document.specs.Document.{TreeNode, is_unresolved}
 use Rattle.markdown_document.specs.LinkOrigins.{destination_origin}
 use Rattle.markdown_document.specs.Origins.{IsSliceWithin, made}
 use Rattle.markdown_document.specs.Places.{trees_from}
@@ -25,49 +26,49 @@ use Rattle.markdown_spans.specs.SpanClosers.{HoldsFrom, Learned}
 use Rattle.markdown_spans.specs.declared.span_text.SpanKind.{SpanKind}
 use Rattle.markdown_resolver.specs.Chains.{ChangesChain}
 use Rattle.markdown_resolver.specs.Unread.{IsUnmade}
-use Rattle.markdown_resolver.specs.PutsTrees.{numbered_from, numbered_label}
+use Rattle.markdown_resolver.specs.PutsTrees.{numbered_from, numbered_node}
 use Rattle.markdown_resolver.specs.ReadOn.{StandsTo, left_without_numbers}
 use Rattle.markdown_resolver.specs.Rewritten.{Passes}
-use Rattle.markdown_resolver.specs.declared.rest.Rest.{Rest}
+use Rattle.markdown_resolver.specs.declared.continuation.Continuation.{Continuation}
 
 -- a `]` of an arena, with the chain after it
 abbrev pub closing_at : List ℕ → Tables → List (Node Item) → SpentEnds → (could_be : Bool) → ℕ → Closing ℕ
 closing_at source tables nodes spent could_be ix = record {
-  label = numbered_label source tables nodes ix;
-  could_be_reference = could_be && not (is_spent spent (end_of (numbered_label source tables nodes ix)));
+  node = numbered_node source tables nodes ix;
+  could_be_reference = could_be && not (is_spent spent (end_of (numbered_node source tables nodes ix)));
   rest = numbered_from source tables nodes (sibling_of nodes ix);
 }
 
 -- no open item has bytes both before and after a byte offset: the first that ends past it starts there or later, or is
 -- not open
-abbrev pub IsNotCut : (ends : Bool) → ℕ → Label ℕ → (later : Type 0) → Type 0
+abbrev pub IsNotCut : (ends : Bool) → ℕ → TreeNode ℕ → (later : Type 0) → Type 0
 IsNotCut true i a later = later
 IsNotCut false i a later = start_of a < i → is_unresolved a.part.shape ≡ false
 
 -- no open item of a chain has bytes both before and after a byte offset
-abbrev pub NoneOpenAround : ℕ → Forest (Label ℕ) → Type 0
+abbrev pub NoneOpenAround : ℕ → Forest (TreeNode ℕ) → Type 0
 NoneOpenAround i nil = ⊤
 NoneOpenAround i (node a below after) = IsNotCut (nat_le (end_of a) i) i a (NoneOpenAround i after)
 
 -- the chain after a `]` can continue at a byte offset
 pub record CanGoOn (source : List ℕ) (c : Closing ℕ) (byte : ℕ) : Type 0 where
-  pub behind : end_of c.label ≤ byte
+  pub after : end_of c.node ≤ byte
   pub between : IsCharBoundary source byte
   pub none_around : NoneOpenAround byte c.rest
 
 -- the first tree, if there is one, starts and ends between characters
-abbrev pub FirstLies : List ℕ → Forest (Label ℕ) → Type 0
+abbrev pub FirstLies : List ℕ → Forest (TreeNode ℕ) → Type 0
 FirstLies source nil = ⊤
 FirstLies source (node a below after) = (start_of a ≤ end_of a) × IsCharBoundary source (start_of a)
     × IsCharBoundary source (end_of a)
 
 -- a wikilink's name is a slice of the source from the start of the first tree of its body on
-abbrev pub IsNamedIn : List ℕ → (body : Forest (Label ℕ)) → (end : ℕ) → (name : List ℕ) → Type 0
+abbrev pub IsNamedIn : List ℕ → (body : Forest (TreeNode ℕ)) → (end : ℕ) → (name : List ℕ) → Type 0
 IsNamedIn source nil end name = ⊥
 IsNamedIn source (node a below after) end name = IsSliceWithin source (start_of a) end name
 
 -- what a wikilink shows of its body starts and ends between characters, and is not cut where it is open
-pub record ShowsWell (source : List ℕ) (body children : Forest (Label ℕ)) : Type 0 where
+pub record ShowsWell (source : List ℕ) (body children : Forest (TreeNode ℕ)) : Type 0 where
   pub lies : FirstLies source children
   pub not_cut : (at : ℕ) → past_byte at body ≡ children → NoneOpenAround at body
 
@@ -77,19 +78,19 @@ pub record ShowsWell (source : List ℕ) (body children : Forest (Label ℕ)) : 
 abbrev pub EndsWell : List ℕ → Closing ℕ → Becomes ℕ → Type 0
 EndsWell source c a_text = ⊤
 EndsWell source c (a_link o target end next) =
-    CanGoOn source c next × IsCharBoundary source end × (end_of c.label ≤ end) × (end ≤ next)
+    CanGoOn source c next × IsCharBoundary source end × (end_of c.node ≤ end) × (end ≤ next)
     × (destination_origin target.kind ≡ made)
-EndsWell source c (a_footnote o name) = CanGoOn source c (end_of c.label)
+EndsWell source c (a_footnote o name) = CanGoOn source c (end_of c.node)
 EndsWell source c (a_wikilink o found end) =
     CanGoOn source c end × ShowsWell source (past_second (inside o)) found.children
     × IsNamedIn source (past_second (inside o)) end found.name
 
 -- after a left list there is a `]` of an arena, which becomes this
 pub record ClosesAt (source : List ℕ) (tables : Tables) (nodes : List (Node Item)) (first closer : ℕ)
-    (left : List (Entry ℕ)) (w : Around) (c : Closing ℕ) (becomes : Becomes ℕ) : Type 0 where
+    (left : List (Entry ℕ)) (w : BracketContext) (c : Closing ℕ) (becomes : Becomes ℕ) : Type 0 where
   pub stands : StandsTo source tables nodes first (Some closer) left
   pub closes : (could_be : Bool) × ((item_at nodes closer).body ≡ body.MaybeLinkClose could_be)
-  pub label_is : c.label ≡ numbered_label source tables nodes closer
+  pub node_is : c.node ≡ numbered_node source tables nodes closer
   pub rest_is : c.rest ≡ numbered_from source tables nodes (sibling_of nodes closer)
   pub text_is : w.setting.text ≡ source
   pub unmade : IsUnmade (trees_from source tables nodes (sibling_of nodes closer))
@@ -97,7 +98,8 @@ pub record ClosesAt (source : List ℕ) (tables : Tables) (nodes : List (Node It
   pub ends : EndsWell source c becomes
 
 -- what the `]` becomes was put in place
-pub record PutsClosed (source : List ℕ) (first closer : ℕ) (rest : Rest) (left : List (Entry ℕ)) (w : Around)
+pub record PutsClosed (source : List ℕ) (first closer : ℕ) (rest : Continuation) (left : List (Entry ℕ))
+    (w : BracketContext)
     (c : Closing ℕ) (becomes : Becomes ℕ) (old new : List (Node Item)) (tables tables' : Tables) : Type 0 where
   pub changes : ChangesChain source (Some first) old new tables tables'
   -- the left list that the arena holds now: what `put` gives, apart from the numbers, with the same openers

@@ -1,5 +1,5 @@
 -- The laws of what a chain is resolved to, which a walk that resolves chains in place relies on. They hold whatever
--- blocks are open above, and for labels with any tags.
+-- blocks are open above, and for nodes with any notes.
 use Rattle.std.specs.Prelude.{◌≡◌, ℕ, ◌≤◌, true, List, [], ◌++◌, length}
 use Rattle.std.specs.Option.{option_map}
 use Rattle.markdown_base.specs.BlockTree.{Numbered}
@@ -9,78 +9,83 @@ use Rattle.markdown_base.specs.WellFormed.{IsWellFormed, RunsAreWhole}
 use Rattle.markdown_base.specs.declared.block_parts.BlockParts.{BlockParts}
 use Rattle.markdown_base.specs.declared.item.Item.{Item}
 use Rattle.markdown_base.specs.declared.node.Node.{Node}
-use Rattle.markdown_document.specs.Above.{Above}
+use Rattle.markdown_document.specs.EnclosingBlocks.{EnclosingBlocks}
 use Rattle.markdown_document.specs.ChainRest.{start_of, as_item}
-use Rattle.markdown_document.specs.Document.{Tags, Label, document, is_unresolved}
-use Rattle.markdown_document.specs.Setting.{Setting, Known}
-use Rattle.markdown_document.specs.Labels.{Begins, weight, retagged}
+use Rattle.markdown_document.specs.Document.{Notes, TreeNode, document, is_unresolved}
+use Rattle.markdown_document.specs.Setting.{Setting, ReferenceState}
+use Rattle.markdown_document.specs.TreeNodes.{Begins, weight, annotated}
 use Rattle.markdown_document.specs.Tables.{Tables}
 use Rattle.markdown_delims.specs.Pairing.{paired}
 use Rattle.markdown_resolver.specs.Kept.{IsQuiet, IsQuietBelow}
-use Rattle.markdown_resolver.specs.KeptChains.{IsSettled}
+use Rattle.markdown_resolver.specs.KeptChains.{IsClosedChain}
 use Rattle.markdown_resolver.specs.PassOne.{Outcome, pass_one}
 use Rattle.markdown_resolver.specs.Resolved.{resolved, all_paired}
 
 -- a chain in which only delimiter runs and quotation marks are open asks nothing, leaves what is known as it is, and is
 -- only paired
 abbrev pub QuietLaw : Type 0 → Type 0
-QuietLaw A = (s : Setting) (tags : Tags A) (above : Above) (chain : Forest (Label A)) (known : Known) → IsQuiet chain
-    → resolved s tags above chain known ≡ record { questions = []; forest = paired s chain; known = known }
+QuietLaw A = (s : Setting) (notes : Notes A) (above : EnclosingBlocks) (chain : Forest (TreeNode A))
+    (state : ReferenceState) → IsQuiet chain
+    → resolved s notes above chain state ≡ record { questions = []; forest = paired s chain; state = state }
 
 -- pairing a chain and pairing the chains below it can be done in either order
 abbrev pub OrderLaw : Type 0 → Type 0
-OrderLaw A = (s : Setting) (chain : Forest (Label A)) → all_paired s (paired s chain) ≡ paired s (all_paired s chain)
+OrderLaw A = (s : Setting) (chain : Forest (TreeNode A)) → all_paired s (paired s chain) ≡ paired s (all_paired s chain)
 
 -- no item of a resolved chain is open, and below it at most delimiter runs and quotation marks are
-abbrev pub SettledLaw : Type 0 → Type 0
-SettledLaw A = (s : Setting) (tags : Tags A) (above : Above) (chain : Forest (Label A)) (known : Known)
-    → IsQuietBelow chain → IsSettled (resolved s tags above chain known).forest
+abbrev pub ClosedChainLaw : Type 0 → Type 0
+ClosedChainLaw A = (s : Setting) (notes : Notes A) (above : EnclosingBlocks) (chain : Forest (TreeNode A))
+    (state : ReferenceState)
+    → IsQuietBelow chain → IsClosedChain (resolved s notes above chain state).forest
 
 -- a chain that begins with an open item is resolved to one that begins with an event
 abbrev pub BeginLaw : Type 0 → Type 0
-BeginLaw A = (s : Setting) (tags : Tags A) (above : Above) (a : Label A) (below after : Forest (Label A))
-    (known : Known) → is_unresolved a.part.shape ≡ true
-    → Begins (resolved s tags above (node a below after) known).forest
+BeginLaw A = (s : Setting) (notes : Notes A) (above : EnclosingBlocks) (a : TreeNode A) (below after : Forest
+    (TreeNode A))
+    (state : ReferenceState) → is_unresolved a.part.shape ≡ true
+    → Begins (resolved s notes above (node a below after) state).forest
 
 -- what is known, with other answers to come
-abbrev pub with_answers : Answers → Known → Known
-with_answers answers known = record { limit = known.limit; answers = answers; uses = known.uses }
+abbrev pub with_answers : Answers → ReferenceState → ReferenceState
+with_answers answers state = record { limit = state.limit; answers = answers; uses = state.uses }
 
 -- with one answer for each question the result is the same whatever answers follow, and those are passed on
 abbrev pub AnswerLaw : Type 0 → Type 0
-AnswerLaw A = (s : Setting) (tags : Tags A) (above : Above) (chain : Forest (Label A)) (known : Known)
+AnswerLaw A = (s : Setting) (notes : Notes A) (above : EnclosingBlocks) (chain : Forest (TreeNode A))
+    (state : ReferenceState)
     (answers later : Answers)
-    → let r : Outcome A = resolved s tags above chain (with_answers answers known) in
+    → let r : Outcome A = resolved s notes above chain (with_answers answers state) in
     length r.questions ≡ length answers
-    → resolved s tags above chain (with_answers (answers ++ later) known)
-    ≡ record { questions = r.questions; forest = r.forest; known = with_answers later r.known }
+    → resolved s notes above chain (with_answers (answers ++ later) state)
+    ≡ record { questions = r.questions; forest = r.forest; state = with_answers later r.state }
 
 -- a chain is resolved to one that is no heavier
 abbrev pub WeightLaw : Type 0 → Type 0
-WeightLaw A = (s : Setting) (tags : Tags A) (above : Above) (chain : Forest (Label A)) (known : Known)
-    → weight (resolved s tags above chain known).forest ≤ weight chain
+WeightLaw A = (s : Setting) (notes : Notes A) (above : EnclosingBlocks) (chain : Forest (TreeNode A))
+    (state : ReferenceState)
+    → weight (resolved s notes above chain state).forest ≤ weight chain
 
--- a function maps the first tags of what is made to the second
-pub record Follows {A B : Type 0} (f : A → B) (tags : Tags A) (tags' : Tags B) : Type 0 where
-  pub makes : (n : ℕ) → tags'.fresh n ≡ f (tags.fresh n)
+-- a function maps the first notes of what is made to the second
+pub record Follows {A B : Type 0} (f : A → B) (notes : Notes A) (tags' : Notes B) : Type 0 where
+  pub makes : (n : ℕ) → tags'.of_made n ≡ f (notes.of_made n)
 
--- tags do not matter: a chain with other tags is resolved to the same, with those tags
-abbrev pub TagLaw : Type 0 → Type 0 → Type 0
-TagLaw A B = (f : A → B) (s : Setting) (tags : Tags A) (tags' : Tags B) → Follows f tags tags'
-    → (above : Above) (chain : Forest (Label A)) (known : Known)
-    → let r : Outcome A = resolved s tags above chain known in
-    resolved s tags' above (retagged f chain) known
-    ≡ record { questions = r.questions; forest = retagged f r.forest; known = r.known }
+-- notes do not matter: a chain with other notes is resolved to the same, with those notes
+abbrev pub NoteLaw : Type 0 → Type 0 → Type 0
+NoteLaw A B = (f : A → B) (s : Setting) (notes : Notes A) (tags' : Notes B) → Follows f notes tags'
+    → (above : EnclosingBlocks) (chain : Forest (TreeNode A)) (state : ReferenceState)
+    → let r : Outcome A = resolved s notes above chain state in
+    resolved s tags' above (annotated f chain) state
+    ≡ record { questions = r.questions; forest = annotated f r.forest; state = r.state }
 
--- a label as an item numbered by the byte offset where it starts, so that the numbers of a run's characters are
+-- a node as an item numbered by the byte offset where it starts, so that the numbers of a run's characters are
 -- consecutive
-abbrev pub by_place : {A : Type 0} → Label A → Numbered
+abbrev pub by_place : {A : Type 0} → TreeNode A → Numbered
 by_place a = record { number = start_of a; item = as_item a }
 
 -- runs are whole in a chain, and at every depth below it, as in a block result: a character with count n > 1 is
 -- followed, without a gap, by one of the same byte and flags with count n - 1; one with count 1 by none of the same
 -- byte
-abbrev pub RunsStandWhole : {A : Type 0} → List ℕ → Forest (Label A) → Type 0
+abbrev pub RunsStandWhole : {A : Type 0} → List ℕ → Forest (TreeNode A) → Type 0
 RunsStandWhole source chain = Throughout (λ a below after. RunsAreWhole source (by_place a)
     (option_map by_place (first_root after))) chain
 
@@ -92,6 +97,7 @@ DocumentLaw = (source : List ℕ) (nodes : List (Node Item)) (parts : BlockParts
 
 -- where runs are whole in a chain, they are whole in what pass one makes of it
 abbrev pub WholeLaw : Type 0 → Type 0
-WholeLaw A = (s : Setting) (tags : Tags A) (above : Above) (chain : Forest (Label A)) (known : Known)
+WholeLaw A = (s : Setting) (notes : Notes A) (above : EnclosingBlocks) (chain : Forest (TreeNode A))
+    (state : ReferenceState)
     → RunsStandWhole s.text chain
-    → RunsStandWhole s.text (pass_one s tags above chain known).forest
+    → RunsStandWhole s.text (pass_one s notes above chain state).forest

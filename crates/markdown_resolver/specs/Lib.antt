@@ -14,7 +14,7 @@ pub mod ChainQuestions
 -- what a resolver guarantees to a walk
 pub mod Chains
 -- the terms of private contracts
-pub mod Settling
+pub mod LiteralText
 pub mod Rewritten
 pub mod ClosedOver
 pub mod ChainPlace

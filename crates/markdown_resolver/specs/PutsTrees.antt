@@ -6,26 +6,26 @@ use Rattle.markdown_base.specs.Forest.{Forest, relabelled}
 use Rattle.markdown_base.specs.declared.item.Item.{Item}
 use Rattle.markdown_base.specs.declared.node.Node.{Node}
 use Rattle.markdown_document.specs.ChainRest.{joined_chains}
-use Rattle.markdown_document.specs.Document.{Label, Plain, part_of}
-use Rattle.markdown_document.specs.Labels.{retagged}
+use Rattle.markdown_document.specs.Document.{TreeNode, Plain, part_of}
+use Rattle.markdown_document.specs.TreeNodes.{annotated}
 use Rattle.markdown_document.specs.Places.{trees_from}
 use Rattle.markdown_document.specs.Tables.{Tables}
 use Rattle.markdown_resolver.specs.Chains.{CanResolve, ChangesChain}
 use Rattle.markdown_resolver.specs.Kept.{IsQuiet}
 use Rattle.markdown_resolver.specs.Rewritten.{RunsGoOn}
 
--- the label of a node, with the node's number as its tag
-abbrev pub numbered_label : List ℕ → Tables → List (Node Item) → ℕ → Label ℕ
-numbered_label source tables nodes ix = record { tag = ix; part = part_of source tables (item_at nodes ix) }
+-- the node of a node, with the node's number as its note
+abbrev pub numbered_node : List ℕ → Tables → List (Node Item) → ℕ → TreeNode ℕ
+numbered_node source tables nodes ix = record { note = ix; part = part_of source tables (item_at nodes ix) }
 
 -- a chain, each tree with the number of its node
-abbrev pub numbered_from : List ℕ → Tables → List (Node Item) → Option ℕ → Forest (Label ℕ)
-numbered_from source tables nodes link = relabelled (numbered_label source tables nodes)
+abbrev pub numbered_from : List ℕ → Tables → List (Node Item) → Option ℕ → Forest (TreeNode ℕ)
+numbered_from source tables nodes link = relabelled (numbered_node source tables nodes)
     (forest_at (links_of nodes) link)
 
 -- a forest without the numbers
-abbrev pub without_numbers : Forest (Label ℕ) → Forest Plain
-without_numbers f = retagged (λ n. tt) f
+abbrev pub without_numbers : Forest (TreeNode ℕ) → Forest Plain
+without_numbers f = annotated (λ n. tt) f
 
 -- trees were put in the place of a node, and the chain continues at a link with what is left
 pub record PutsTrees (source : List ℕ) (ix : ℕ) (next : Option ℕ) (trees rest : Forest Plain)
@@ -33,7 +33,7 @@ pub record PutsTrees (source : List ℕ) (ix : ℕ) (next : Option ℕ) (trees r
   pub changes : ChangesChain source (Some ix) old new tables tables'
   pub runs : RunsGoOn source old new (Some ix)
   -- the trees are in the arena, and what is left follows them
-  pub standing : Forest (Label ℕ)
+  pub standing : Forest (TreeNode ℕ)
   pub stands : numbered_from source tables' new (Some ix)
       ≡ joined_chains standing (numbered_from source tables' new next)
   pub reads : without_numbers standing ≡ trees

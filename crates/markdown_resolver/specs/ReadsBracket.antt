@@ -9,20 +9,20 @@ use Rattle.markdown_brackets.specs.LeftList.{Entry}
 use Rattle.markdown_brackets.specs.Reference.{could_be_reference}
 use Rattle.markdown_brackets.specs.declared.closing_bracket.ClosedBracket.{ClosedBracket}
 use Rattle.markdown_document.specs.Setting.{Setting, rules_from, setting_of, uses_of}
-use Rattle.markdown_document.specs.Stages.{Stage, chain_at, items_from, stage, above_cursor}
+use Rattle.markdown_document.specs.ResolverStates.{ResolverState, chain_at, items_from, resolver_state, above_cursor}
 use Rattle.markdown_document.specs.Tables.{tables_of}
 use Rattle.markdown_spans.specs.SpanClosers.{HoldsFrom, Learned, has_failed}
 use Rattle.markdown_spans.specs.declared.span_text.SpanKind.{SpanKind}
 use Rattle.markdown_resolver.specs.ChainPlace.{CanReadOn, CanReadItem}
 use Rattle.markdown_resolver.specs.Unread.{IsUnread}
 use Rattle.markdown_resolver.specs.Closes.{closing_at}
-use Rattle.markdown_resolver.specs.PassOne.{around}
+use Rattle.markdown_resolver.specs.PassOne.{bracket_context}
 use Rattle.markdown_resolver.specs.ReadOn.{ReadsOn, StopsOn}
 use Rattle.markdown_resolver.specs.ReadsItem.{LooksAt, LooksAtMost, ReadsItem}
 use Rattle.markdown_resolver.specs.Rewritten.{IsRefused, Passes}
 use Rattle.markdown_document.specs.declared.chain_place.ChainPlace.{ChainPlace}
 use Rattle.markdown_resolver.specs.declared.resolver.Resolver.{Resolver}
-use Rattle.markdown_resolver.specs.declared.rest.Rest.{Rest}
+use Rattle.markdown_resolver.specs.declared.continuation.Continuation.{Continuation}
 use Rattle.markdown_defs.specs.Footnotes.{footnote_at}
 use Rattle.markdown_base.specs.declared.node.Node.{Node}
 use Rattle.markdown_base.specs.declared.fault.Fault.{Fault}
@@ -32,8 +32,8 @@ abbrev pub setting_by : {C : Type 0} → Resolver C → Setting
 setting_by r = setting_of r.text.now (rules_from r.options r.lookup.tables (is_some r.lookup.callback))
 
 -- the stage of a resolver, with the chain in a tree
-abbrev pub stage_by : {C : Type 0} → Arena Item → Resolver C → Stage C
-stage_by tree r = stage tree r.lookup.tables r.lookup.limit r.lookup.callback
+abbrev pub resolver_state_by : {C : Type 0} → Arena Item → Resolver C → ResolverState C
+resolver_state_by tree r = resolver_state tree r.lookup.tables r.lookup.limit r.lookup.callback
 
 -- a resolver has read a chain up to the item of a node: from the node `first` on is a left list, whose openers it holds
 abbrev pub WasReadTo : {C : Type 0} → ChainPlace → Arena Item → Resolver C → (first ix : ℕ) → List (Entry ℕ) → Type 0
@@ -65,7 +65,7 @@ pub record CanReadOther {C : Type 0} (place : ChainPlace) (tree : Arena Item) (r
 pub record DecidesClosing {C : Type 0} (step : C → Question → Option Answer → C → Type 0) (place : ChainPlace)
     (tree : Arena Item) (ix : ℕ) (old new : Resolver C) (found : ClosedBracket) : Type 0 where
   pub decides : (first : ℕ) (left : List (Entry ℕ)) → WasReadTo place tree old first ix left
-      → Decides step (around (setting_by old) (above_cursor old.text.now tree))
+      → Decides step (bracket_context (setting_by old) (above_cursor old.text.now tree))
       (closing_at old.text.now (tables_of old.lookup.tables) tree.nodes old.waiting.spent
       (could_be_reference (item_at tree.nodes ix).body) ix)
       left old.lookup.limit new.lookup.limit (uses_of old.lookup.tables.footdefs) (uses_of new.lookup.tables.footdefs)
@@ -74,21 +74,21 @@ pub record DecidesClosing {C : Type 0} (step : C → Question → Option Answer 
 
 -- after any left list there, the chain was read on from the item of a node to what is left
 pub record GoesOnTo {C : Type 0} (step : C → Question → Option Answer → C → Type 0) (place : ChainPlace) (ix : ℕ)
-    (rest : Rest) (tree tree' : Arena Item) (old new : Resolver C) : Type 0 where
+    (rest : Continuation) (tree tree' : Arena Item) (old new : Resolver C) : Type 0 where
   pub reads : (first : ℕ) (left : List (Entry ℕ)) → WasReadTo place tree old first ix left
       → ReadsOn step (setting_by old) (above_cursor old.text.now tree) first (Some ix) rest.next left
-      (stage_by tree old)
-      (stage_by tree' new) old.waiting.spent new.waiting.spent new.waiting.openers.brackets
+      (resolver_state_by tree old)
+      (resolver_state_by tree' new) old.waiting.spent new.waiting.spent new.waiting.openers.brackets
       new.waiting.openers.wikilinks
   pub passes : Passes ix rest tree.nodes tree'.nodes
-  pub unread : IsUnread (chain_at old.text.now (stage_by tree old) (Some ix))
-      → IsUnread (chain_at old.text.now (stage_by tree' new) rest.next)
+  pub unread : IsUnread (chain_at old.text.now (resolver_state_by tree old) (Some ix))
+      → IsUnread (chain_at old.text.now (resolver_state_by tree' new) rest.next)
   pub place_is : tree' ≡ record tree { nodes = tree'.nodes }
 
 -- a resolver has read the bracket of a node: what searches have learned of what follows the bracket is true of what is
 -- left
 pub record ReadsBracket {C : Type 0} (step : C → Question → Option Answer → C → Type 0) (place : ChainPlace) (ix : ℕ)
-    (rest : Rest) (tree tree' : Arena Item) (old new : Resolver C) : Type 0 where
+    (rest : Continuation) (tree tree' : Arena Item) (old new : Resolver C) : Type 0 where
   pub goes_on : GoesOnTo step place ix rest tree tree' old new
   pub holds : (kind : SpanKind) (learned : Learned) → HoldsFrom kind learned tree.nodes (sibling_of tree.nodes ix)
       → HoldsFrom kind learned tree'.nodes rest.next
@@ -104,13 +104,14 @@ pub record Looked {C : Type 0} (ix : ℕ) (next : Option ℕ) (tree tree' : Aren
 -- a resolver has read the item of a node: what it has learned from searches is true of what is left, and they have
 -- examined no item of that, unless one failed
 pub record ReadsNode {C : Type 0} (step : C → Question → Option Answer → C → Type 0) (place : ChainPlace) (ix : ℕ)
-    (rest : Rest) (tree tree' : Arena Item) (old new : Resolver C) : Type 0 where
+    (rest : Continuation) (tree tree' : Arena Item) (old new : Resolver C) : Type 0 where
   pub goes_on : GoesOnTo step place ix rest tree tree' old new
   pub learned : HasLearned new tree'.nodes rest.next
   pub looked : Looked ix rest.next tree tree' old new
 
 -- the same for an item that is not a bracket, by the rules of pass one
-pub record ReadsOther {C : Type 0} (ix : ℕ) (rest : Rest) (tree tree' : Arena Item) (old new : Resolver C) : Type 0
+pub record ReadsOther {C : Type 0} (ix : ℕ) (rest : Continuation) (tree tree' : Arena Item)
+    (old new : Resolver C) : Type 0
   where
     pub item : ReadsItem (setting_by old) (above_cursor old.text.now tree) ix rest tree.nodes tree'.nodes
         (tables_of old.lookup.tables) (tables_of new.lookup.tables)
@@ -123,7 +124,7 @@ abbrev pub StopsAtNode : {C : Type 0} → (C → Question → Option Answer → 
     → Arena Item → (old : Resolver C) → (callback' : Option C) → Type 0
 StopsAtNode step place ix tree old callback' = (first : ℕ) (left : List (Entry ℕ))
     → WasReadTo place tree old first ix left
-    → StopsOn step (setting_by old) (above_cursor old.text.now tree) (Some ix) left (stage_by tree old)
+    → StopsOn step (setting_by old) (above_cursor old.text.now tree) (Some ix) left (resolver_state_by tree old)
     old.waiting.spent
     callback'
 

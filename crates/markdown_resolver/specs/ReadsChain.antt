@@ -5,15 +5,15 @@ use Rattle.markdown_base.specs.Questions.{Question, Answer}
 use Rattle.markdown_base.specs.declared.item.Item.{Item}
 use Rattle.markdown_defs.specs.Footnotes.{footnote_at}
 use Rattle.markdown_document.specs.Counts.{RisesAtMost, risen}
-use Rattle.markdown_document.specs.Document.{plain_tags}
+use Rattle.markdown_document.specs.Document.{no_notes}
 use Rattle.markdown_document.specs.Places.{trees_from}
-use Rattle.markdown_document.specs.Stages.{above_cursor}
+use Rattle.markdown_document.specs.ResolverStates.{above_cursor}
 use Rattle.markdown_document.specs.Tables.{Tables}
 use Rattle.markdown_document.specs.declared.work.Work.{Work}
 use Rattle.markdown_resolver.specs.Chains.{AreAbove, CanResolve, ResolvesFrom}
 use Rattle.markdown_resolver.specs.Unread.{IsUnread}
 use Rattle.markdown_resolver.specs.PassOne.{pass_one}
-use Rattle.markdown_resolver.specs.ReadsBracket.{setting_by, stage_by}
+use Rattle.markdown_resolver.specs.ReadsBracket.{setting_by, resolver_state_by}
 use Rattle.markdown_resolver.specs.declared.resolver.Resolver.{Resolver}
 
 -- the chain of a tree from a node on can be resolved: nothing of it was read, and the nodes of the spine are above it
@@ -39,8 +39,8 @@ pub record ReadCounts (items : ℕ) (old new : Work) : Type 0 where
 -- a resolver has read a chain in pass one, in place
 pub record ReadsChain {C : Type 0} (step : C → Question → Option Answer → C → Type 0) (first : ℕ)
     (tree tree' : Arena Item) (old new : Resolver C) : Type 0 where
-  pub reads : ResolvesFrom step old.text.now (pass_one (setting_by old) plain_tags (above_cursor old.text.now tree))
-      (Some first) (stage_by tree old) (stage_by tree' new)
+  pub reads : ResolvesFrom step old.text.now (pass_one (setting_by old) no_notes (above_cursor old.text.now tree))
+      (Some first) (resolver_state_by tree old) (resolver_state_by tree' new)
   pub place_is : tree' ≡ record tree { nodes = tree'.nodes }
 
 -- reading a chain has changed only the texts and links that were appended, the uses of footnotes, what asking changes,

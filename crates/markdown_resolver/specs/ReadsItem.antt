@@ -3,11 +3,11 @@ use Rattle.std.specs.Prelude.{◌≡◌, ℕ, ◌+◌, ◌≤◌, Bool, true, fa
 use Rattle.markdown_base.specs.Arena.{child_of, sibling_of}
 use Rattle.markdown_base.specs.declared.item.Item.{Item}
 use Rattle.markdown_base.specs.declared.node.Node.{Node}
-use Rattle.markdown_document.specs.Above.{Above}
+use Rattle.markdown_document.specs.EnclosingBlocks.{EnclosingBlocks}
 use Rattle.markdown_document.specs.ChainRest.{past}
 use Rattle.markdown_document.specs.Counts.{risen}
-use Rattle.markdown_document.specs.Document.{plain_tags}
-use Rattle.markdown_document.specs.Places.{label_at, trees_from}
+use Rattle.markdown_document.specs.Document.{no_notes}
+use Rattle.markdown_document.specs.Places.{tree_node_at, trees_from}
 use Rattle.markdown_document.specs.Setting.{Setting}
 use Rattle.markdown_document.specs.Tables.{Tables}
 use Rattle.markdown_spans.specs.Finds.{Passed, read_tree}
@@ -15,17 +15,17 @@ use Rattle.markdown_spans.specs.SpanClosers.{HoldsFrom, Learned}
 use Rattle.markdown_spans.specs.declared.span_text.SpanKind.{SpanKind}
 use Rattle.markdown_resolver.specs.PutsTrees.{PutsTrees}
 use Rattle.markdown_resolver.specs.Rewritten.{LeavesRest, Passes}
-use Rattle.markdown_resolver.specs.declared.rest.Rest.{Rest}
+use Rattle.markdown_resolver.specs.declared.continuation.Continuation.{Continuation}
 
 -- what is read of the first tree of a chain in an arena
-abbrev pub read_at : Setting → Above → Tables → List (Node Item) → ℕ → Passed (Unit {0})
+abbrev pub read_at : Setting → EnclosingBlocks → Tables → List (Node Item) → ℕ → Passed (Unit {0})
 read_at s above tables nodes ix =
-    read_tree s plain_tags above 0 (label_at s.text tables nodes ix)
+    read_tree s no_notes above 0 (tree_node_at s.text tables nodes ix)
     (trees_from s.text tables nodes (child_of nodes ix))
     (trees_from s.text tables nodes (sibling_of nodes ix))
 
 -- what is read was put in place, and what is left is what follows it, after the end of what was found
-pub record ReadsItem (s : Setting) (above : Above) (ix : ℕ) (rest : Rest) (old new : List (Node Item))
+pub record ReadsItem (s : Setting) (above : EnclosingBlocks) (ix : ℕ) (rest : Continuation) (old new : List (Node Item))
     (tables tables' : Tables) : Type 0 where
   pub puts : PutsTrees s.text ix rest.next (read_at s above tables old ix).trees
       (past (read_at s above tables old ix).goes_on (trees_from s.text tables old (sibling_of old ix))) old new tables

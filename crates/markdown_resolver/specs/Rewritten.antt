@@ -14,16 +14,16 @@ use Rattle.markdown_base.specs.declared.item.Item.{Item}
 use Rattle.markdown_base.specs.declared.item.ItemBody.{ItemBody}
 use Rattle.markdown_base.specs.declared.node.Node.{Node}
 use Rattle.markdown_document.specs.ChainRest.{joined_chains, past}
-use Rattle.markdown_document.specs.Document.{Plain, as_text, label_of}
+use Rattle.markdown_document.specs.Document.{Plain, as_text, tree_node_of}
 use Rattle.markdown_document.specs.Places.{trees_from}
 use Rattle.markdown_document.specs.PlacedNodes.{HasSlices, IsSameAt}
-use Rattle.markdown_document.specs.Stages.{items_from, times_in, weight_in}
+use Rattle.markdown_document.specs.ResolverStates.{items_from, times_in, weight_in}
 use Rattle.markdown_document.specs.Tables.{Tables}
 use Rattle.markdown_document.specs.NamedEntries.{Named, NamesEntries, number_of, size_for, times_named}
 use Rattle.markdown_document.specs.Waiting.{is_quiet}
 use Rattle.markdown_spans.specs.ChainInArena.{LeadsThrough}
 use Rattle.markdown_resolver.specs.Chains.{CanResolve, ChangesChain}
-use Rattle.markdown_resolver.specs.declared.rest.Rest.{Rest}
+use Rattle.markdown_resolver.specs.declared.continuation.Continuation.{Continuation}
 
 -- a delimiter run before a link that continues there still does
 abbrev pub RunsGoOn : List ℕ → List (Node Item) → List (Node Item) → Option ℕ → Type 0
@@ -54,22 +54,22 @@ text_unless true source a below = node a below nil
 text_unless false source a below = node (as_text source a) nil nil
 
 -- a tree at which nothing is found: a Text, unless it is not open or waits for pairing
-abbrev pub settled : List ℕ → Standing
-settled source a below = text_unless (is_quiet a.part.shape) source a below
+abbrev pub literal : List ℕ → Standing
+literal source a below = text_unless (is_quiet a.part.shape) source a below
 
 -- one item
 abbrev pub one_item : List ℕ → Tables → Item → Standing
-one_item source tables item a below = node (label_of source tables item) nil nil
+one_item source tables item a below = node (tree_node_of source tables item) nil nil
 
 -- two items, one after the other
 abbrev pub pair : List ℕ → Tables → (first second : Item) → Standing
 pair source tables first second a below =
-    node (label_of source tables first) nil (node (label_of source tables second) nil nil)
+    node (tree_node_of source tables first) nil (node (tree_node_of source tables second) nil nil)
 
 -- one item with one child
 abbrev pub parent : List ℕ → Tables → (item inside : Item) → Standing
 parent source tables item inside a below =
-    node (label_of source tables item) (node (label_of source tables inside) nil nil) nil
+    node (tree_node_of source tables item) (node (tree_node_of source tables inside) nil nil) nil
 
 -- an item without its bytes before byte offset i
 abbrev pub begun_item : ℕ → Item → Item
@@ -93,12 +93,12 @@ first_past nodes i [] = None
 first_past nodes i (ix ∷ after) = if nat_le (item_at nodes ix).end i then first_past nodes i after else Some ix
 
 -- what is left of a chain past a byte offset, from the first node that ends past it on
-pub record IsRestPast (nodes : List (Node Item)) (i : ℕ) (l : Option ℕ) (rest : Rest) : Type 0 where
+pub record IsRestPast (nodes : List (Node Item)) (i : ℕ) (l : Option ℕ) (rest : Continuation) : Type 0 where
   pub next_is : rest.next ≡ first_past nodes i (roots (forest_at (links_of nodes) l))
   pub counted : items_from nodes l ≡ rest.passed + items_from nodes rest.next
 
 -- of the chain from the item of a node on, that item and those that were passed after it are not left
-abbrev pub Passes : (ix : ℕ) → Rest → (old new : List (Node Item)) → Type 0
+abbrev pub Passes : (ix : ℕ) → Continuation → (old new : List (Node Item)) → Type 0
 Passes ix rest old new = items_from old (Some ix) ≡ suc (rest.passed + items_from new rest.next)
 
 -- memory was refused, and the arena is as it was
@@ -167,7 +167,7 @@ pub record CanPutParent (source : List ℕ) (tables tables' : Tables) (nodes : L
   pub starts : item.start ≡ (item_at nodes ix).start
 
 -- trees were put in place of what was found, from the item on up to a byte offset
-pub record Puts (source : List ℕ) (ix : ℕ) (trees : Standing) (goes_on : Option ℕ) (rest : Rest)
+pub record Puts (source : List ℕ) (ix : ℕ) (trees : Standing) (goes_on : Option ℕ) (rest : Continuation)
     (old new : List (Node Item)) (tables tables' : Tables) : Type 0 where
   -- once what is left is rewritten by a rule, the whole chain is
   pub whole : (rule : Forest Plain → Forest Plain) (nodes : List (Node Item)) (later : Tables)

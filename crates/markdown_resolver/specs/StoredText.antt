@@ -2,7 +2,7 @@
 use Rattle.std.specs.Prelude.{◌≡◌, ℕ, ◌<◌, ◌≤◌, List, length, slice_range}
 use Rattle.std.specs.Str.{IsCharBoundary}
 use Rattle.markdown_base.specs.declared.index.CowIndex.{CowIndex}
-use Rattle.markdown_document.specs.Above.{Above}
+use Rattle.markdown_document.specs.EnclosingBlocks.{EnclosingBlocks}
 use Rattle.markdown_document.specs.Origins.{Origin, origin_at}
 use Rattle.markdown_document.specs.PlacedNodes.{IsSlicedOf}
 use Rattle.markdown_document.specs.Tables.{Tables, text_at}
@@ -19,11 +19,11 @@ pub record CanCut (source : List ℕ) (start end : ℕ) : Type 0 where
   pub to : IsCharBoundary source end
 
 -- the text of a span between two byte offsets
-abbrev pub text_between : Setting → Above → SpanKind → (start end : ℕ) → List ℕ
+abbrev pub text_between : Setting → EnclosingBlocks → SpanKind → (start end : ℕ) → List ℕ
 text_between s above kind start end = (span_between s above kind start end).bytes
 
 -- the origin of that text
-abbrev pub origin_between : Setting → Above → (start end : ℕ) → Origin
+abbrev pub origin_between : Setting → EnclosingBlocks → (start end : ℕ) → Origin
 origin_between s above start end = span_origin above.in_table (slice_range s.text start end)
 
 -- the text of a span between two byte offsets, of this origin, was appended, with the next free number

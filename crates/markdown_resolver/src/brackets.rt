@@ -8,7 +8,7 @@ ghost use Rattle.markdown_base.specs.BlockTree.{item_at};
 ghost use Rattle.markdown_base.specs.CowText.{text_of};
 ghost use Rattle.markdown_base.specs.declared.item.ItemBody.TheVariants as body;
 ghost use Rattle.markdown_brackets.specs.declared.closing_bracket.ClosedBracket.TheVariants.{Wikilinked};
-ghost use Rattle.markdown_brackets.specs.BracketDecision.{Around, Becomes, Closing, a_footnote, a_link};
+ghost use Rattle.markdown_brackets.specs.BracketDecision.{BracketContext, Becomes, Closing, a_footnote, a_link};
 ghost use Rattle.markdown_base.specs.EnabledOptions.{wikilinks_on};
 ghost use Rattle.markdown_brackets.specs.DecisionView.{IsBecome, opener_of};
 ghost use Rattle.markdown_brackets.specs.LeftList.{Entry, Split, inside};
@@ -20,13 +20,13 @@ ghost use Rattle.markdown_document.specs.ChainRest.{start_of};
 ghost use Rattle.markdown_document.specs.Tables.{Tables, tables_of};
 ghost use Rattle.markdown_resolver.specs.Chains.{CanResolve};
 ghost use Rattle.markdown_resolver.specs.Closes.{ClosesAt, PutsClosed};
-ghost use Rattle.markdown_resolver.specs.Rewritten.{IsRefused, Puts, settled};
+ghost use Rattle.markdown_resolver.specs.Rewritten.{IsRefused, Puts, literal};
 
-use crate::found::settle;
+use crate::continuation::Continuation;
+use crate::found::make_literal;
 use crate::links::{
     Brackets, put_footnote, put_image_footnote, put_link, put_wikilink_name, put_wikilink_shown,
 };
-use crate::rest::Rest;
 use markdown_base::cow_str::CowStr;
 use markdown_base::fault::Fault;
 use markdown_base::index::LinkIndex;
@@ -73,20 +73,19 @@ fn leads_to_opener(tree: &Tree<Item>, link: Option<usize>) -> bool
 }
 
 /// Reads an opener, `[` or `![`: it becomes a Text, and waits for its `]`; with wikilinks enabled, one that a `[`
-/// follows also waits for `]]`. Returns the rest of the chain. The only error is `Fault::Memory`; the tree is then
-/// unchanged.
+/// follows also waits for `]]`. Returns the rest of the chain.
 pub(crate) fn open_bracket(
     tree: &mut Tree<Item>,
     openers: &mut ChainOpeners,
     options: Options,
     ix: usize,
     is_image: bool,
-) -> Result<Rest, Fault>
+) -> Result<Continuation, Fault>
     requires { (source : List ℕ) × (tables : Tables)
         × CanResolve source tables tree.old.nodes (Some ix) }
     ensures puts { IfOk result (λ rest. (source : List ℕ) (tables : Tables)
         → CanResolve source tables tree.old.nodes (Some ix)
-        → Puts source ix (settled source) None rest tree.old.nodes tree.new.nodes tables tables) }
+        → Puts source ix (literal source) None rest tree.old.nodes tree.new.nodes tables tables) }
     ensures next { IfOk result (λ rest. rest.next ≡ sibling_of tree.old.nodes ix) }
     ensures place { IfOk result (λ _. tree.new ≡ record tree.old { nodes = tree.new.nodes }) }
     ensures brackets { OnOk result (
@@ -105,7 +104,7 @@ pub(crate) fn open_bracket(
     if wikilinks_on(options) && leads_to_opener(tree, tree.next(ix)) {
         openers.wikilinks.push(opener)?;
     }
-    Ok(settle(tree, ix))
+    Ok(make_literal(tree, ix))
 }
 
 fn link_body(is_image: bool, link: LinkIndex) -> ItemBody
@@ -131,22 +130,21 @@ fn text_item(start: usize, end: usize) -> Item
     }
 }
 
-/// Puts a link or an image into its opener's node. Returns the rest of the chain. The only error is `Fault::Memory`; the
-/// tree is then unchanged.
+/// Puts a link or an image into its opener's node. Returns the rest of the chain.
 fn put_target<'a>(
     tree: &mut Tree<Item>,
     tables: &mut Allocations<'a>,
     closer: usize,
     link: ClosedLink<'a>,
-) -> Result<Rest, Fault>
-    requires { (source : List ℕ) × (first : ℕ) × (left : List (Entry ℕ)) × (w : Around)
+) -> Result<Continuation, Fault>
+    requires { (source : List ℕ) × (first : ℕ) × (left : List (Entry ℕ)) × (w : BracketContext)
         × (c : Closing ℕ)
         × (o : Split ℕ) × ClosesAt source (tables_of tables.old) tree.old.nodes first closer left w
         c
         (a_link o (target_view link.target) link.end link.next) × (link.opener ≡ opener_of o)
         × IsTargetFrom source (start_of o.opener) link.end link.target }
     ensures puts { IfOk result (λ rest.
-        (source : List ℕ) (first : ℕ) (left : List (Entry ℕ)) (w : Around)
+        (source : List ℕ) (first : ℕ) (left : List (Entry ℕ)) (w : BracketContext)
         (c : Closing ℕ) (o : Split ℕ)
         → ClosesAt source (tables_of tables.old) tree.old.nodes first closer left w c
         (a_link o (target_view link.entry.target) link.entry.end link.entry.next)
@@ -188,21 +186,21 @@ fn put_target<'a>(
 }
 
 /// Puts a footnote reference into the nodes of its brackets; the `!` of an opener `![` becomes a Text before it.
-/// Returns the rest of the chain. The only error is `Fault::Memory`; the tree is then unchanged.
+/// Returns the rest of the chain.
 fn put_reference<'a>(
     tree: &mut Tree<Item>,
     tables: &mut Allocations<'a>,
     closer: usize,
     opener: Opener,
     name: CowStr<'a>,
-) -> Result<Rest, Fault>
-    requires { (source : List ℕ) × (first : ℕ) × (left : List (Entry ℕ)) × (w : Around)
+) -> Result<Continuation, Fault>
+    requires { (source : List ℕ) × (first : ℕ) × (left : List (Entry ℕ)) × (w : BracketContext)
         × (c : Closing ℕ)
         × (o : Split ℕ) × ClosesAt source (tables_of tables.old) tree.old.nodes first closer left w
         c
         (a_footnote o (text_of name)) × (opener ≡ opener_of o) }
     ensures puts { IfOk result (λ rest.
-        (source : List ℕ) (first : ℕ) (left : List (Entry ℕ)) (w : Around)
+        (source : List ℕ) (first : ℕ) (left : List (Entry ℕ)) (w : BracketContext)
         (c : Closing ℕ) (o : Split ℕ)
         → ClosesAt source (tables_of tables.old) tree.old.nodes first closer left w c
         (a_footnote o (text_of name.entry))
@@ -237,22 +235,21 @@ fn put_reference<'a>(
     Ok(put_footnote(tree, brackets, item))
 }
 
-/// Puts a wikilink into its opener's node, as a link or as an image. Returns the rest of the chain. The only error is
-/// `Fault::Memory`; the tree is then unchanged.
+/// Puts a wikilink into its opener's node, as a link or as an image. Returns the rest of the chain.
 fn put_wikilink<'a>(
     tree: &mut Tree<Item>,
     tables: &mut Allocations<'a>,
     closer: usize,
     wikilink: ClosedWikilink<'a>,
-) -> Result<Rest, Fault>
-    requires { (source : List ℕ) × (first : ℕ) × (left : List (Entry ℕ)) × (w : Around)
+) -> Result<Continuation, Fault>
+    requires { (source : List ℕ) × (first : ℕ) × (left : List (Entry ℕ)) × (w : BracketContext)
         × (c : Closing ℕ)
         × (becomes : Becomes ℕ)
         × ClosesAt source (tables_of tables.old) tree.old.nodes first closer left w c becomes
         × IsBecome w becomes (Wikilinked wikilink.opener wikilink.name wikilink.has_pothole
         wikilink.shown wikilink.end) }
     ensures puts { IfOk result (λ rest.
-        (source : List ℕ) (first : ℕ) (left : List (Entry ℕ)) (w : Around)
+        (source : List ℕ) (first : ℕ) (left : List (Entry ℕ)) (w : BracketContext)
         (c : Closing ℕ) (becomes : Becomes ℕ)
         → ClosesAt source (tables_of tables.old) tree.old.nodes first closer left w c becomes
         → IsBecome w becomes (Wikilinked wikilink.entry.opener wikilink.entry.name
@@ -292,21 +289,20 @@ fn put_wikilink<'a>(
     }
 }
 
-/// Puts what a `]`, the node `closer`, becomes in its place. Returns the rest of the chain. The only error is
-/// `Fault::Memory`; the tree is then unchanged.
-pub(crate) fn put_closed<'a>(
+/// Puts what a `]`, the node `closer`, becomes in its place. Returns the rest of the chain.
+pub(crate) fn put_bracket<'a>(
     tree: &mut Tree<Item>,
     tables: &mut Allocations<'a>,
     closer: usize,
     found: ClosedBracket<'a>,
-) -> Result<Rest, Fault>
-    requires { (source : List ℕ) × (first : ℕ) × (left : List (Entry ℕ)) × (w : Around)
+) -> Result<Continuation, Fault>
+    requires { (source : List ℕ) × (first : ℕ) × (left : List (Entry ℕ)) × (w : BracketContext)
         × (c : Closing ℕ)
         × (becomes : Becomes ℕ)
         × ClosesAt source (tables_of tables.old) tree.old.nodes first closer left w c becomes
         × IsBecome w becomes found }
     ensures puts { IfOk result (λ rest.
-        (source : List ℕ) (first : ℕ) (left : List (Entry ℕ)) (w : Around)
+        (source : List ℕ) (first : ℕ) (left : List (Entry ℕ)) (w : BracketContext)
         (c : Closing ℕ) (becomes : Becomes ℕ)
         → ClosesAt source (tables_of tables.old) tree.old.nodes first closer left w c becomes
         → IsBecome w becomes found.entry
@@ -320,7 +316,7 @@ pub(crate) fn put_closed<'a>(
     ensures refused { IfErr result (IsRefused tree.old tree.new) }
 {
     match found {
-        ClosedBracket::Text => Ok(settle(tree, closer)),
+        ClosedBracket::Text => Ok(make_literal(tree, closer)),
         ClosedBracket::Link {
             opener,
             target,

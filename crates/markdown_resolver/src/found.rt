@@ -8,18 +8,18 @@ ghost use Rattle.markdown_document.specs.Tables.{Tables};
 ghost use Rattle.markdown_document.specs.NamedEntries.{HasGrown};
 ghost use Rattle.markdown_resolver.specs.Chains.{CanResolve};
 ghost use Rattle.markdown_resolver.specs.Rewritten.{CanPut, CanPutPair, CanPutParent, IsFoundAt, IsRestPast, Puts};
-ghost use Rattle.markdown_resolver.specs.Rewritten.{settled, one_item, pair, parent};
-ghost use Rattle.markdown_resolver.specs.Settling.{IsWritten, begun_from};
+ghost use Rattle.markdown_resolver.specs.Rewritten.{literal, one_item, pair, parent};
+ghost use Rattle.markdown_resolver.specs.LiteralText.{IsWritten, begun_from};
 
-use crate::rest::Rest;
-use crate::settling::settle_node;
+use crate::continuation::Continuation;
+use crate::literal_text::make_node_literal;
 use markdown_base::item::Item;
 use markdown_base::tree::Tree;
 use std::alloc::AllocError;
 
 /// Returns the first node of a chain, from a link on, whose item ends after byte offset `end`, and the number of nodes
 /// before it.
-pub(crate) fn first_past(tree: &Tree<Item>, first: Option<usize>, end: usize) -> Rest
+pub(crate) fn first_past(tree: &Tree<Item>, first: Option<usize>, end: usize) -> Continuation
     requires { Spells (links_of tree.now.nodes) first (forest_at (links_of tree.now.nodes) first) }
     ensures past { IsRestPast tree.now.nodes end first result }
     ensures within { IfSome result.next (λ ix. ix < length tree.now.nodes) }
@@ -28,12 +28,12 @@ pub(crate) fn first_past(tree: &Tree<Item>, first: Option<usize>, end: usize) ->
     let mut passed = 0;
     'chain: while let Some(ix) = next {
         if tree.item(ix).end > end {
-            return Rest { next, passed };
+            return Continuation { next, passed };
         }
         next = tree.next(ix);
         passed += 1;
     }
-    Rest { next, passed }
+    Continuation { next, passed }
 }
 
 /// Lets the item that a link leads to start at byte offset `start` or later.
@@ -65,24 +65,24 @@ pub(crate) fn write_node(tree: &mut Tree<Item>, ix: usize, item: Item, next: Opt
     tree.set_next(ix, next);
 }
 
-/// Settles an item at which nothing is found: it becomes a Text, unless it is not open or waits for pairing. Returns
+/// MakesLiteral an item at which nothing is found: it becomes a Text, unless it is not open or waits for pairing. Returns
 /// the rest of the chain.
-pub(crate) fn settle(tree: &mut Tree<Item>, ix: usize) -> Rest
+pub(crate) fn make_literal(tree: &mut Tree<Item>, ix: usize) -> Continuation
     requires { (source : List ℕ) × (tables : Tables)
         × CanResolve source tables tree.old.nodes (Some ix) }
     ensures puts { (source : List ℕ) (tables : Tables)
         → CanResolve source tables tree.old.nodes (Some ix)
-        → Puts source ix (settled source) None result tree.old.nodes tree.new.nodes tables tables }
+        → Puts source ix (literal source) None result tree.old.nodes tree.new.nodes tables tables }
     ensures next { result.next ≡ sibling_of tree.old.nodes ix }
     ensures place { tree.new ≡ record tree.old { nodes = tree.new.nodes } }
 {
     let next = tree.next(ix);
-    settle_node(tree, ix);
-    Rest { next, passed: 0 }
+    make_node_literal(tree, ix);
+    Continuation { next, passed: 0 }
 }
 
 /// Puts an item into the node of its opener. Returns the rest of the chain.
-pub(crate) fn put_found(tree: &mut Tree<Item>, ix: usize, item: Item) -> Rest
+pub(crate) fn put_found(tree: &mut Tree<Item>, ix: usize, item: Item) -> Continuation
     requires { (source : List ℕ) × (tables : Tables) × (tables' : Tables) × HasGrown tables tables'
         × IsFoundAt source tables tree.old.nodes ix item.end × CanPut source tables tables' item
         × (item.start ≡ (item_at tree.old.nodes ix).start) }
@@ -107,7 +107,7 @@ pub(crate) fn put_pair(
     first: Item,
     closer: usize,
     second: Item,
-) -> Rest
+) -> Continuation
     requires { (source : List ℕ) × (tables : Tables) × (tables' : Tables) × HasGrown tables tables'
         × IsFoundAt source tables tree.old.nodes ix second.end
         × CanPutPair source tables tables' tree.old.nodes ix closer first second }
@@ -133,7 +133,7 @@ pub(crate) fn put_parent(
     ix: usize,
     item: Item,
     inside: Item,
-) -> Result<Rest, AllocError>
+) -> Result<Continuation, AllocError>
     requires { (source : List ℕ) × (tables : Tables) × (tables' : Tables) × HasGrown tables tables'
         × IsFoundAt source tables tree.old.nodes ix item.end
         × CanPutParent source tables tables' tree.old.nodes ix item inside }

@@ -1,8 +1,8 @@
-//! The laws of what a chain is resolved to, each a function without code: for labels tagged with the numbers of an
-//! arena's nodes, and for labels without tags, as in a document's tree.
+//! The laws of what a chain is resolved to, each a function without code: for nodes annotated with the numbers of an
+//! arena's nodes, and for nodes without notes, as in a document's tree.
 ghost use Rattle.std.specs.Prelude.{ℕ, ⊤};
 ghost use Rattle.markdown_resolver.specs.ChainQuestions.{ChainCountLaw, ChainEndsLaw, DocumentLineLaw};
-ghost use Rattle.markdown_resolver.specs.Laws.{QuietLaw, OrderLaw, SettledLaw, BeginLaw, AnswerLaw, WeightLaw, TagLaw};
+ghost use Rattle.markdown_resolver.specs.Laws.{QuietLaw, OrderLaw, ClosedChainLaw, BeginLaw, AnswerLaw, WeightLaw, NoteLaw};
 ghost use Rattle.markdown_resolver.specs.Laws.{DocumentLaw, WholeLaw};
 
 /// States that resolving a chain in which only delimiter runs and quotation marks are open asks nothing, and only pairs
@@ -17,8 +17,8 @@ pub fn order_of_chains_is_free()
 {}
 
 /// States that no item of a resolved chain is open.
-pub fn resolved_chain_is_settled()
-    ensures { SettledLaw ℕ × SettledLaw ⊤ }
+pub fn resolved_chain_is_closed()
+    ensures { ClosedChainLaw ℕ × ClosedChainLaw ⊤ }
 {}
 
 /// States that a chain whose first item is open begins with an event once it is resolved.
@@ -37,11 +37,11 @@ pub fn resolved_chain_is_no_heavier()
 {}
 
 /// States that the result does not depend on the numbers of nodes.
-pub fn tags_say_nothing()
-    ensures { TagLaw ℕ ⊤ }
+pub fn notes_say_nothing()
+    ensures { NoteLaw ℕ ⊤ }
 {}
 
-/// States that the delimiter runs of a well-formed block result are whole where its items are read as labels.
+/// States that the delimiter runs of a well-formed block result are whole where its items are read as nodes.
 pub fn runs_of_documents_are_whole()
     ensures { DocumentLaw }
 {}

@@ -4,11 +4,11 @@
 mod bracket_kind;
 mod brackets;
 mod chain_place;
+pub mod continuation;
 mod found;
 pub mod laws;
 pub mod links;
+mod literal_text;
 mod markup;
 pub mod resolver;
-pub mod rest;
-mod settling;
 mod spans;

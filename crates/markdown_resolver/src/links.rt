@@ -9,8 +9,8 @@ ghost use Rattle.markdown_resolver.specs.ClosedOver.{after_mark, in_place_of, la
 ghost use Rattle.markdown_resolver.specs.ClosedOver.{over_text};
 ghost use Rattle.markdown_resolver.specs.Rewritten.{CanPut};
 
+use crate::continuation::Continuation;
 use crate::found::{begin_from, first_past, write_node};
-use crate::rest::Rest;
 use markdown_base::item::Item;
 use markdown_base::tree::Tree;
 
@@ -38,7 +38,12 @@ fn enclose(tree: &mut Tree<Item>, opener: usize, last: usize, closer: usize)
 
 /// Puts a link or an image into the node of its opener, over what is inside. Returns the rest of the chain, which is at
 /// byte offset `next_byte` or later.
-pub fn put_link(tree: &mut Tree<Item>, brackets: Brackets, item: Item, next_byte: usize) -> Rest
+pub fn put_link(
+    tree: &mut Tree<Item>,
+    brackets: Brackets,
+    item: Item,
+    next_byte: usize,
+) -> Continuation
     requires { (source : List ℕ) × (tables : Tables) × (tables' : Tables) × (inside : List ℕ)
         × HasGrown tables tables'
         × CanClose source tables tree.old.nodes brackets.opener brackets.closer inside next_byte
@@ -63,7 +68,7 @@ pub fn put_link(tree: &mut Tree<Item>, brackets: Brackets, item: Item, next_byte
 
 /// Puts a footnote reference, which ends where its closer does, into the node of its opener. What was inside leaves the
 /// chain. Returns the rest of the chain.
-pub fn put_footnote(tree: &mut Tree<Item>, brackets: Brackets, item: Item) -> Rest
+pub fn put_footnote(tree: &mut Tree<Item>, brackets: Brackets, item: Item) -> Continuation
     requires { (source : List ℕ) × (tables : Tables) × (tables' : Tables) × (inside : List ℕ)
         × HasGrown tables tables'
         × CanClose source tables tree.old.nodes brackets.opener brackets.closer inside item.end
@@ -88,7 +93,12 @@ pub fn put_footnote(tree: &mut Tree<Item>, brackets: Brackets, item: Item) -> Re
 
 /// Puts a Text for the `!` of an opener into its node, and a footnote reference, which ends where its closer does, into
 /// the closer's node. What was inside leaves the chain. Returns the rest of the chain.
-pub fn put_image_footnote(tree: &mut Tree<Item>, brackets: Brackets, mark: Item, item: Item) -> Rest
+pub fn put_image_footnote(
+    tree: &mut Tree<Item>,
+    brackets: Brackets,
+    mark: Item,
+    item: Item,
+) -> Continuation
     requires { (source : List ℕ) × (tables : Tables) × (tables' : Tables) × (inside : List ℕ)
         × HasGrown tables tables'
         × CanClose source tables tree.old.nodes brackets.opener brackets.closer inside item.end
@@ -138,7 +148,7 @@ pub(crate) fn put_wikilink_name(
     first: usize,
     item: Item,
     inside: Item,
-) -> Rest
+) -> Continuation
     requires { (source : List ℕ) × (tables : Tables) × (tables' : Tables) × (nodes : List ℕ)
         × (skipped : List ℕ)
         × (shown : List ℕ) × HasGrown tables tables'
@@ -176,7 +186,7 @@ pub(crate) fn put_wikilink_shown(
     first: usize,
     item: Item,
     from: usize,
-) -> Rest
+) -> Continuation
     requires { (source : List ℕ) × (tables : Tables) × (tables' : Tables) × (nodes : List ℕ)
         × (skipped : List ℕ)
         × HasGrown tables tables'

@@ -12,9 +12,9 @@ ghost use Rattle.markdown_spans.specs.MarkupView.{markup_of};
 ghost use Rattle.markdown_resolver.specs.MarkupItems.{IsMarkupAt, item_to, standing_for};
 ghost use Rattle.markdown_resolver.specs.Rewritten.{CanPut, IsFoundAt, IsRefused, Puts, one_item};
 
-use crate::found::{put_found, put_parent, settle};
+use crate::continuation::Continuation;
+use crate::found::{make_literal, put_found, put_parent};
 use crate::resolver::Resolver;
-use crate::rest::Rest;
 use markdown_base::cow_str::CowStr;
 use markdown_base::fault::Fault;
 use markdown_base::item::{Item, ItemBody};
@@ -31,15 +31,14 @@ impl<'a, F: BrokenLinkCallback<'a>> Resolver<'a, F> {
 
     /// Reads a `<`: an absolute-URI autolink (CommonMark 6.5) or raw HTML (6.6), if there is one and the next item
     /// starts directly after the `<`; otherwise the `<` becomes a Text, as it does where it is not before the block's
-    /// end. The scanner has to be one of the text up to that end. Returns the rest of the chain. The only error is
-    /// `Fault::Memory`; the tree is then unchanged.
+    /// end. The scanner has to be one of the text up to that end. Returns the rest of the chain.
     pub(crate) fn read_markup(
         &mut self,
         tree: &mut Tree<Item>,
         place: &ChainPlace<'a>,
         scanner: &mut RawHtmlScanner<'a>,
         ix: usize,
-    ) -> Result<Rest, Fault>
+    ) -> Result<Continuation, Fault>
         requires ready { CanReadOther place.now tree.old self.old ix }
         requires opener { (item_at tree.old.nodes ix).body ≡ body.MaybeHtml }
         requires scanner { scanner.old.text.now ≡ take place.now.block_end place.now.text.now }
@@ -54,12 +53,12 @@ impl<'a, F: BrokenLinkCallback<'a>> Resolver<'a, F> {
     {
         let item = *tree.item(ix);
         if item.end > place.block_end || !starts_at(tree, tree.next(ix), item.end) {
-            return Ok(settle(tree, ix));
+            return Ok(make_literal(tree, ix));
         }
         let prefix = ContainerPrefix::new(tree, place.gfm_footnotes());
         let text = &place.text[..place.block_end];
         match scan_after_less(self.alloc, text, item.start, item.end, scanner, &prefix)? {
-            None => Ok(settle(tree, ix)),
+            None => Ok(make_literal(tree, ix)),
             Some(found) => put_markup(tree, &mut self.lookup.tables, ix, found),
         }
     }
@@ -76,14 +75,13 @@ fn starts_at(tree: &Tree<Item>, link: Option<usize>, start: usize) -> bool
     }
 }
 
-/// Puts what was found into the node of its `<`. Returns the rest of the chain. The only error is `Fault::Memory`; the
-/// tree is then unchanged.
+/// Puts what was found into the node of its `<`. Returns the rest of the chain.
 fn put_markup<'a>(
     tree: &mut Tree<Item>,
     tables: &mut Allocations<'a>,
     ix: usize,
     found: MarkupFound<'a>,
-) -> Result<Rest, Fault>
+) -> Result<Continuation, Fault>
     requires { (source : List ℕ)
         × IsMarkupAt source (tables_of tables.old) tree.old.nodes ix (markup_of found) }
     ensures puts { IfOk result (λ rest. (source : List ℕ) (rules : Rules)
@@ -109,7 +107,7 @@ fn put_markup<'a>(
 }
 
 /// Puts raw HTML that ends at byte offset `end` into the node of its `<`. Returns the rest of the chain.
-fn put_html(tree: &mut Tree<Item>, ix: usize, end: usize, body: ItemBody) -> Rest
+fn put_html(tree: &mut Tree<Item>, ix: usize, end: usize, body: ItemBody) -> Continuation
     requires { (source : List ℕ) × (tables : Tables) × (tables' : Tables) × HasGrown tables tables'
         × IsFoundAt source tables tree.old.nodes ix end
         × CanPut source tables tables' (item_to tree.old.nodes ix end body) }
@@ -126,14 +124,14 @@ fn put_html(tree: &mut Tree<Item>, ix: usize, end: usize, body: ItemBody) -> Res
 }
 
 /// Puts an autolink that ends at byte offset `end` into the node of its `<`, with its URI as a Text below it. Returns
-/// the rest of the chain. The only error is `Fault::Memory`; the tree is then unchanged.
+/// the rest of the chain.
 fn put_autolink<'a>(
     tree: &mut Tree<Item>,
     tables: &mut Allocations<'a>,
     ix: usize,
     end: usize,
     uri: &'a str,
-) -> Result<Rest, Fault>
+) -> Result<Continuation, Fault>
     requires { (source : List ℕ)
         × IsMarkupAt source (tables_of tables.old) tree.old.nodes ix (autolink end uri.now) }
     ensures puts { IfOk result (λ rest. (source : List ℕ) (rules : Rules)

@@ -1,15 +1,15 @@
 //! Resolving chains: a chain of inline items is resolved in place, in the arena, from its first open item on. Pass one
 //! reads it, and then its delimiters are paired.
 use crate::bracket_kind::{BracketKind, kind_of};
-use crate::brackets::{open_bracket, put_closed};
+use crate::brackets::{open_bracket, put_bracket};
 use crate::chain_place::place_of_chain;
-use crate::found::settle;
-use crate::rest::Rest;
+use crate::continuation::Continuation;
+use crate::found::make_literal;
 use markdown_base::fault::Fault;
 use markdown_base::item::{Item, ItemBody};
 use markdown_base::options::Options;
 use markdown_base::tree::Tree;
-use markdown_brackets::closer::Closer;
+use markdown_brackets::bracket_reader::BracketReader;
 use markdown_brackets::closing_bracket::ClosedBracket;
 use markdown_brackets::decision::decide_bracket;
 use markdown_brackets::finish::finish_bracket;
@@ -49,12 +49,12 @@ impl<'a, F: BrokenLinkCallback<'a>> Resolver<'a, F> {
     ghost use Rattle.std.specs.Prelude.{OnErr, is_some, take, false, None, []};
     ghost use Rattle.markdown_base.specs.ArenaForest.{Spells, forest_at, links_of};
     ghost use Rattle.markdown_base.specs.BlockTree.{item_at};
-    ghost use Rattle.markdown_brackets.specs.Reference.{is_closer};
+    ghost use Rattle.markdown_brackets.specs.Reference.{is_closing_bracket};
     ghost use Rattle.markdown_brackets.specs.SpentEnds.{is_spent};
     ghost use Rattle.markdown_base.specs.Item.{is_open};
     ghost use Rattle.markdown_document.specs.Counts.{risen};
     ghost use Rattle.markdown_document.specs.Setting.{rules_from, setting_of};
-    ghost use Rattle.markdown_document.specs.Stages.{items_from, stage, above_cursor};
+    ghost use Rattle.markdown_document.specs.ResolverStates.{items_from, resolver_state, above_cursor};
     ghost use Rattle.markdown_document.specs.Tables.{tables_of};
     ghost use Rattle.markdown_resolver.specs.BracketKinds.{kind_of};
     ghost use Rattle.markdown_resolver.specs.Chains.{ResolvesChain, StopsIn};
@@ -64,18 +64,18 @@ impl<'a, F: BrokenLinkCallback<'a>> Resolver<'a, F> {
     ghost use Rattle.markdown_resolver.specs.ReadsBracket.{ChangesForNode, DecidesClosing};
     ghost use Rattle.markdown_resolver.specs.ReadsBracket.{CanReadOther, ChangesForOther, ReadsBracket, ReadsNode};
     ghost use Rattle.markdown_resolver.specs.ReadsBracket.{ReadsOther, StopsAtNode, StopsLooking, StopsReading};
-    ghost use Rattle.markdown_resolver.specs.ReadsBracket.{setting_by, stage_by};
+    ghost use Rattle.markdown_resolver.specs.ReadsBracket.{setting_by, resolver_state_by};
     ghost use Rattle.markdown_resolver.specs.ReadsChain.{CanResolveBelow, ChangesForChain, KeepsInput, ReadCounts, ReadsChain};
 
     /// Reads the item of a node of a chain, which is not a bracket. The scanner has to be one of the text up to the
-    /// block's end. Returns the rest of the chain. The only error is `Fault::Memory`; the tree is then unchanged.
+    /// block's end. Returns the rest of the chain.
     fn read_other(
         &mut self,
         tree: &mut Tree<Item>,
         place: &ChainPlace<'a>,
         scanner: &mut RawHtmlScanner<'a>,
         ix: usize,
-    ) -> Result<Rest, Fault>
+    ) -> Result<Continuation, Fault>
         requires ready { CanReadOther place.now tree.old self.old ix }
         requires scanner { scanner.old.text.now ≡ take place.now.block_end place.now.text.now }
         ensures reads { IfOk result (λ rest.
@@ -91,12 +91,12 @@ impl<'a, F: BrokenLinkCallback<'a>> Resolver<'a, F> {
             ItemBody::MaybeCode(_, _) => self.read_code(tree, place, ix),
             ItemBody::MaybeMath(_, _, _) => self.read_math(tree, place, ix),
             ItemBody::MaybeHtml => self.read_markup(tree, place, scanner, ix),
-            _ => Ok(settle(tree, ix)),
+            _ => Ok(make_literal(tree, ix)),
         }
     }
 
     /// Returns what a `]` of a chain becomes, by the openers that wait, the reference and footnote definitions, and the
-    /// answer of the callback. The only error is `Fault::Memory`; the callback was then not asked.
+    /// answer of the callback.
     fn decide_closing(
         &mut self,
         tree: &Tree<Item>,
@@ -105,7 +105,7 @@ impl<'a, F: BrokenLinkCallback<'a>> Resolver<'a, F> {
     ) -> Result<ClosedBracket<'a>, Fault>
         requires can_ask { IfSome self.old.lookup.callback F.can_ask }
         requires ready { CanReadNode place.now tree.now self.old ix }
-        requires closes { is_closer (item_at tree.now.nodes ix).body ≡ true }
+        requires closes { is_closing_bracket (item_at tree.now.nodes ix).body ≡ true }
         ensures decides { IfOk result (λ found.
             DecidesClosing F.answers place.now tree.now ix self.old self.new found) }
 
@@ -116,7 +116,7 @@ impl<'a, F: BrokenLinkCallback<'a>> Resolver<'a, F> {
         ensures kept { ChangesForDecision self.old self.new }
     {
         let rule = ContainerPrefix::new(tree, place.gfm_footnotes());
-        let closer = Closer {
+        let closer = BracketReader {
             alloc: self.alloc,
             tree,
             node: ix,
@@ -126,17 +126,16 @@ impl<'a, F: BrokenLinkCallback<'a>> Resolver<'a, F> {
         decide_bracket(&closer, &mut self.waiting, &mut self.lookup)
     }
 
-    /// Reads a `]`: decides what it becomes, and puts that in place. Returns the rest of the chain. The only error is
-    /// `Fault::Memory`; the tree is then unchanged.
+    /// Reads a `]`: decides what it becomes, and puts that in place. Returns the rest of the chain.
     fn close_bracket(
         &mut self,
         tree: &mut Tree<Item>,
         place: &ChainPlace<'a>,
         ix: usize,
-    ) -> Result<Rest, Fault>
+    ) -> Result<Continuation, Fault>
         requires can_ask { IfSome self.old.lookup.callback F.can_ask }
         requires ready { CanReadNode place.now tree.old self.old ix }
-        requires closes { is_closer (item_at tree.old.nodes ix).body ≡ true }
+        requires closes { is_closing_bracket (item_at tree.old.nodes ix).body ≡ true }
         ensures reads { IfOk result (λ rest.
             ReadsBracket F.answers place.now ix rest tree.old tree.new self.old self.new) }
 
@@ -149,18 +148,17 @@ impl<'a, F: BrokenLinkCallback<'a>> Resolver<'a, F> {
     {
         let found = self.decide_closing(tree, place, ix)?;
         finish_bracket(&mut self.waiting.openers, tree, &found);
-        put_closed(tree, &mut self.lookup.tables, ix, found)
+        put_bracket(tree, &mut self.lookup.tables, ix, found)
     }
 
-    /// Reads a bracket of a chain. Returns the rest of the chain. The only error is `Fault::Memory`; the tree is then
-    /// unchanged.
+    /// Reads a bracket of a chain. Returns the rest of the chain.
     fn read_bracket(
         &mut self,
         tree: &mut Tree<Item>,
         place: &ChainPlace<'a>,
         ix: usize,
         bracket: BracketKind,
-    ) -> Result<Rest, Fault>
+    ) -> Result<Continuation, Fault>
         requires can_ask { IfSome self.old.lookup.callback F.can_ask }
         requires ready { CanReadNode place.now tree.old self.old ix }
         requires bracket { kind_of (item_at tree.old.nodes ix).body ≡ Some bracket }
@@ -178,7 +176,7 @@ impl<'a, F: BrokenLinkCallback<'a>> Resolver<'a, F> {
             BracketKind::Opener { is_image } => {
                 open_bracket(tree, &mut self.waiting.openers, self.options, ix, is_image)
             }
-            BracketKind::Closer => self.close_bracket(tree, place, ix),
+            BracketKind::BracketReader => self.close_bracket(tree, place, ix),
         }
     }
 
@@ -192,7 +190,7 @@ impl<'a, F: BrokenLinkCallback<'a>> Resolver<'a, F> {
         place: &ChainPlace<'a>,
         scanner: &mut RawHtmlScanner<'a>,
         ix: usize,
-    ) -> Result<Rest, Fault>
+    ) -> Result<Continuation, Fault>
         requires can_ask { IfSome self.old.lookup.callback F.can_ask }
         requires ready { CanReadNode place.now tree.old self.old ix }
         requires scanner { scanner.old.text.now ≡ take place.now.block_end place.now.text.now }
@@ -268,7 +266,7 @@ impl<'a, F: BrokenLinkCallback<'a>> Resolver<'a, F> {
         // on an error, and in any case
         ensures refused { IfErr result (λ fault. fault ≡ Fault.Memory) }
         ensures stops { IfErr result (λ _. StopsInPassOne F.answers (setting_by self.old)
-            (above_cursor self.old.text.now tree.old) first (stage_by tree.old self.old)
+            (above_cursor self.old.text.now tree.old) first (resolver_state_by tree.old self.old)
             self.new.lookup.callback) }
         ensures again { IfSome self.new.lookup.callback F.can_ask }
         ensures counts { ReadCounts (items_from tree.old.nodes (Some first)) self.old.work
@@ -315,7 +313,7 @@ impl<'a, F: BrokenLinkCallback<'a>> Resolver<'a, F> {
             (setting_of self.old.text.now
             (rules_from self.old.options self.old.lookup.tables (is_some self.old.lookup.callback)))
             (above_cursor self.old.text.now tree.old) first
-            (stage tree.old self.old.lookup.tables self.old.lookup.limit
+            (resolver_state tree.old self.old.lookup.tables self.old.lookup.limit
             self.old.lookup.callback) self.new.lookup.callback
             self.old.work self.new.work) }
         ensures again { IfSome self.new.lookup.callback F.can_ask }

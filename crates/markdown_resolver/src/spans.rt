@@ -5,7 +5,7 @@ ghost use Rattle.markdown_base.specs.Arena.{sibling_of};
 ghost use Rattle.markdown_base.specs.BlockTree.{item_at};
 ghost use Rattle.markdown_base.specs.CowText.{text_of};
 ghost use Rattle.markdown_base.specs.declared.item.ItemBody.TheVariants as body;
-ghost use Rattle.markdown_document.specs.Stages.{above_cursor};
+ghost use Rattle.markdown_document.specs.ResolverStates.{above_cursor};
 ghost use Rattle.markdown_document.specs.Origins.{origin_of};
 ghost use Rattle.markdown_document.specs.PlacedNodes.{IsSlicedOf};
 ghost use Rattle.markdown_document.specs.Setting.{Rules, setting_of};
@@ -22,9 +22,9 @@ ghost use Rattle.markdown_resolver.specs.PutCode.{CanPutCode, code_standing};
 ghost use Rattle.markdown_resolver.specs.Rewritten.{IsRefused, Puts};
 ghost use Rattle.markdown_resolver.specs.StoredText.{CanCut, StoresText, text_between};
 
-use crate::found::{put_found, put_pair, settle};
+use crate::continuation::Continuation;
+use crate::found::{make_literal, put_found, put_pair};
 use crate::resolver::Resolver;
-use crate::rest::Rest;
 use markdown_base::cow_str::CowStr;
 use markdown_base::fault::Fault;
 use markdown_base::index::CowIndex;
@@ -37,7 +37,7 @@ use markdown_spans::span_text::{SpanKind, span_text};
 use std::alloc::Global;
 use std::ops::Range;
 
-/// Returns the text of a span with this content, a range of byte offsets. The only error is `Fault::Memory`.
+/// Returns the text of a span with this content, a range of byte offsets.
 fn text_between<'a>(
     alloc: Global,
     tree: &Tree<Item>,
@@ -80,7 +80,7 @@ fn end_of(tree: &Tree<Item>, ix: usize) -> usize
 
 /// Puts a code span into the node of its opener. Where the opener's first backtick is escaped, that backtick becomes a
 /// Text in this node, and the span, which begins after it, goes into the closer's node. Returns the rest of the chain.
-fn put_code(tree: &mut Tree<Item>, ix: usize, closer: usize, body: ItemBody) -> Rest
+fn put_code(tree: &mut Tree<Item>, ix: usize, closer: usize, body: ItemBody) -> Continuation
     requires { (source : List ℕ) × (tables : Tables) × (tables' : Tables)
         × CanPutCode source tables tables' tree.old.nodes ix closer body }
     ensures puts { (source : List ℕ) (tables tables' : Tables)
@@ -150,7 +150,7 @@ impl<'a, F: BrokenLinkCallback<'a>> Resolver<'a, F> {
     ghost use Rattle.markdown_resolver.specs.ReadsBracket.{CanReadOther, ChangesForOther, ReadsOther, StopsLooking};
 
     /// Appends the text of a span with this content, a range of byte offsets, to the table of texts, and returns its
-    /// number. The only error is `Fault::Memory`.
+    /// number.
     #[inline(always)]
     fn store_text(
         &mut self,
@@ -187,13 +187,13 @@ impl<'a, F: BrokenLinkCallback<'a>> Resolver<'a, F> {
 
     /// Reads a backtick run: a code span (CommonMark 6.1), if an item closes it, and otherwise a Text. Where a
     /// backslash precedes the run, its first backtick becomes a Text, and the span goes into the closer's node. Returns
-    /// the rest of the chain. The only error is `Fault::Memory`; the tree is then unchanged.
+    /// the rest of the chain.
     pub(crate) fn read_code(
         &mut self,
         tree: &mut Tree<Item>,
         place: &ChainPlace<'a>,
         ix: usize,
-    ) -> Result<Rest, Fault>
+    ) -> Result<Continuation, Fault>
         requires ready { CanReadOther place.now tree.old self.old ix }
         requires opener { (count : ℕ) × (escaped : Bool)
             × ((item_at tree.old.nodes ix).body ≡ body.MaybeCode count escaped) }
@@ -207,21 +207,20 @@ impl<'a, F: BrokenLinkCallback<'a>> Resolver<'a, F> {
     {
         let visits = &mut self.work.code_visits;
         let Some(closer) = self.code_closers.find_code_closer(tree, ix, visits)? else {
-            return Ok(settle(tree, ix));
+            return Ok(make_literal(tree, ix));
         };
         let content = tree.item(ix).end..tree.item(closer).start;
         let cow = self.store_text(tree, place, SpanKind::Code, content)?;
         Ok(put_code(tree, ix, closer, ItemBody::Code(cow)))
     }
 
-    /// Reads a `$`: a math span, if an item closes it, and otherwise a Text. Returns the rest of the chain. The only
-    /// error is `Fault::Memory`; the tree is then unchanged.
+    /// Reads a `$`: a math span, if an item closes it, and otherwise a Text. Returns the rest of the chain.
     pub(crate) fn read_math(
         &mut self,
         tree: &mut Tree<Item>,
         place: &ChainPlace<'a>,
         ix: usize,
-    ) -> Result<Rest, Fault>
+    ) -> Result<Continuation, Fault>
         requires ready { CanReadOther place.now tree.old self.old ix }
         requires opener { is_dollar (item_at tree.old.nodes ix).body ≡ true }
         ensures reads { IfOk result (λ rest.
@@ -234,7 +233,7 @@ impl<'a, F: BrokenLinkCallback<'a>> Resolver<'a, F> {
     {
         let visits = &mut self.work.math_visits;
         let Some(math) = self.math_closers.find_math_closer(tree, ix, visits)? else {
-            return Ok(settle(tree, ix));
+            return Ok(make_literal(tree, ix));
         };
         let content = math_text_start(tree, ix)..tree.item(math.closer).start;
         let cow = self.store_text(tree, place, SpanKind::Math, content)?;

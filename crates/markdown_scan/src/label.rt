@@ -91,8 +91,7 @@ fn is_shown_whole(source: &str, in_table: bool) -> bool
     !spaced
 }
 
-// Returns the text of a label: `source` is the part of `text` before the label's closing bracket. The error is a
-// refused allocation, which cannot occur if the label's text is a prefix of `source`.
+// Returns the text of a label: `source` is the part of `text` before the label's closing bracket.
 fn label_text<'t, R: LineRule>(
     alloc: Global,
     text: &str,

@@ -105,8 +105,7 @@ impl<'t> LabelText<'t> {
         }
     }
 
-    // Appends a character to the text. The error is a refused allocation, which cannot occur while the text is a prefix
-    // of the source.
+    // Appends a character to the text.
     #[inline(always)]
     fn push(&mut self, alloc: Global, c: char) -> Result<(), AllocError>
         ensures text { OnOk result (so_far self.new ≡ so_far self.old ++ encode_utf8 c) }

@@ -92,7 +92,7 @@ fn split_at_reference<'t>(text: &'t str, in_table: bool) -> Option<(&'t str, cha
     None
 }
 
-/// Returns a copy of the text with its escapes and entities replaced. The error is a refused allocation.
+/// Returns a copy of the text with its escapes and entities replaced.
 fn unescaped_copy(alloc: Global, text: &str, in_table: bool) -> Result<String, AllocError>
     ensures { IfOk result (λ made. string_bytes made ≡ unescaped in_table text.now) }
 {

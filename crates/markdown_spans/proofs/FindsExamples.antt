@@ -6,15 +6,15 @@ use Rattle.markdown_base.specs.Forest.{Forest, nil, node}
 use Rattle.markdown_base.specs.declared.item.Item.{Item}
 use Rattle.markdown_base.specs.declared.item.ItemBody.{ItemBody}
 use Rattle.markdown_base.specs.declared.item.ItemBody.TheVariants as body
-use Rattle.markdown_document.specs.Above.{Above}
-use Rattle.markdown_document.specs.Document.{sliced, made, leaf, enclosed, Label, Tags, part_of}
+use Rattle.markdown_document.specs.EnclosingBlocks.{EnclosingBlocks}
+use Rattle.markdown_document.specs.Document.{sliced, made, leaf, enclosed, TreeNode, Notes, part_of}
 use Rattle.markdown_document.specs.Setting.{Setting}
 use Rattle.markdown_document.specs.Tables.{no_tables}
 use Rattle.markdown_raw_html.specs.HtmlTag.{all, both, either, nonempty, often, often_past, one, optional}
 use Rattle.markdown_spans.specs.AfterLess.{markup_at}
 use Rattle.markdown_document.specs.ChainRest.{begun_at, end_of, past}
 use Rattle.markdown_spans.specs.CodeText.{is_sliced, replaced_past}
-use Rattle.markdown_spans.specs.Finds.{address, label_over, read_tree, text_label}
+use Rattle.markdown_spans.specs.Finds.{address, node_over, read_tree, text_node}
 
 -- GFM footnotes are on, and nothing is defined
 abbrev setting : List ℕ → Setting
@@ -24,14 +24,14 @@ setting source = record {
 }
 
 -- a paragraph, and one in a block quote
-abbrev in_paragraph : List ℕ → Above
+abbrev in_paragraph : List ℕ → EnclosingBlocks
 in_paragraph source = record { block_end = length source; in_table = false; bodies = body.Paragraph ∷ [] }
 
-abbrev in_quote : List ℕ → Above
+abbrev in_quote : List ℕ → EnclosingBlocks
 in_quote source =
     record { block_end = length source; in_table = false; bodies = body.BlockQuote None ∷ body.Paragraph ∷ [] }
 
-abbrev in_cell : List ℕ → Above
+abbrev in_cell : List ℕ → EnclosingBlocks
 in_cell source = record { block_end = length source; in_table = true; bodies = body.TableCell ∷ [] }
 
 -- items: a text, a line ending, backticks, a `$`, a `<`
@@ -51,46 +51,46 @@ abbrev less : ℕ → Item
 less start = item start (start + 1) body.MaybeHtml
 
 -- a chain of items, which are numbered from n on; what is made is numbered from 100 on
-abbrev chain_from : ℕ → List ℕ → List Item → Forest (Label ℕ)
+abbrev chain_from : ℕ → List ℕ → List Item → Forest (TreeNode ℕ)
 chain_from n source [] = nil
 chain_from n source (i ∷ items) =
-    node (record { tag = n; part = part_of source no_tables i }) nil (chain_from (n + 1) source items)
+    node (record { note = n; part = part_of source no_tables i }) nil (chain_from (n + 1) source items)
 
-abbrev tags : Tags ℕ
-tags = record { fresh = λ n. 100 + n }
+abbrev notes : Notes ℕ
+notes = record { of_made = λ n. 100 + n }
 
 -- a chain whose trees are read one after the other
-abbrev onto : Forest (Label ℕ) → Forest (Label ℕ) → Forest (Label ℕ)
+abbrev onto : Forest (TreeNode ℕ) → Forest (TreeNode ℕ) → Forest (TreeNode ℕ)
 onto nil later = later
 onto (node a below after) later = node a below (onto after later)
 
-abbrev leaves : Option ℕ → Label ℕ → Bool
+abbrev leaves : Option ℕ → TreeNode ℕ → Bool
 leaves None a = false
 leaves (Some i) a = nat_le (end_of a) i
 
-abbrev begun : Option ℕ → Label ℕ → Label ℕ
+abbrev begun : Option ℕ → TreeNode ℕ → TreeNode ℕ
 begun None a = a
 begun (Some i) a = begun_at i a
 
-abbrev read_on : Setting → Above → ℕ → Option ℕ → Forest (Label ℕ) → Forest (Label ℕ)
+abbrev read_on : Setting → EnclosingBlocks → ℕ → Option ℕ → Forest (TreeNode ℕ) → Forest (TreeNode ℕ)
 read_on s above n goes_on nil = nil
 read_on s above n goes_on (node a below rest) =
     if leaves goes_on a then read_on s above n goes_on rest
-    else (let found = read_tree s tags above n (begun goes_on a) below rest in
+    else (let found = read_tree s notes above n (begun goes_on a) below rest in
     onto found.trees (read_on s above found.made found.goes_on rest))
 
-abbrev read_chain : (List ℕ → Above) → List ℕ → List Item → Forest (Label ℕ)
+abbrev read_chain : (List ℕ → EnclosingBlocks) → List ℕ → List Item → Forest (TreeNode ℕ)
 read_chain above source items = read_on (setting source) (above source) 0 None (chain_from 0 source items)
 
--- labels: a text, what was made of other bytes, and the text of a span that is a slice of the source
-abbrev text_at : List ℕ → ℕ → ℕ → ℕ → Label ℕ
-text_at source n start end = text_label (setting source) n start end
+-- nodes: a text, what was made of other bytes, and the text of a span that is a slice of the source
+abbrev text_at : List ℕ → ℕ → ℕ → ℕ → TreeNode ℕ
+text_at source n start end = text_node (setting source) n start end
 
-abbrev made_at : ℕ → EventView → ℕ → ℕ → Label ℕ
-made_at n e start end = label_over n (leaf e (made ∷ [])) start end
+abbrev made_at : ℕ → EventView → ℕ → ℕ → TreeNode ℕ
+made_at n e start end = node_over n (leaf e (made ∷ [])) start end
 
-abbrev sliced_at : ℕ → EventView → ℕ → ℕ → Label ℕ
-sliced_at n e start end = label_over n (leaf e (sliced ∷ [])) start end
+abbrev sliced_at : ℕ → EventView → ℕ → ℕ → TreeNode ℕ
+sliced_at n e start end = node_over n (leaf e (sliced ∷ [])) start end
 
 -- code over two lines of a block quote
 abbrev two_lines : List ℕ
@@ -166,8 +166,8 @@ unfolding read_tree replaced_past is_sliced
 row_display = refl
 
 -- an autolink, and the text below it, which is made; the text that reaches past it is cut
-abbrev link_to : ℕ → List ℕ → ℕ → ℕ → Label ℕ
-link_to n uri start end = label_over n (enclosed (link (address uri))) start end
+abbrev link_to : ℕ → List ℕ → ℕ → ℕ → TreeNode ℕ
+link_to n uri start end = node_over n (enclosed (link (address uri))) start end
 
 abbrev linked : List ℕ
 linked = codes "<http://a.b> c"
@@ -184,7 +184,7 @@ tag = codes "a <b> c"
 
 row_tag : read_chain in_paragraph tag (plain_text 0 2 ∷ less 2 ∷ plain_text 3 7 ∷ [])
     ≡ node (text_at tag 0 0 2) nil
-    (node (label_over 1 (leaf (inline_html (codes "<b>")) (sliced ∷ [])) 2 5) nil (node (text_at tag 2 5 7) nil nil))
+    (node (node_over 1 (leaf (inline_html (codes "<b>")) (sliced ∷ [])) 2 5) nil (node (text_at tag 2 5 7) nil nil))
 unfolding read_tree markup_at all both either nonempty often often_past one optional
 row_tag = refl
 

@@ -8,7 +8,7 @@ pub mod AfterLessExamples
 pub mod CloserExamples
 pub mod FindsExamples
 pub mod FindsLemmas
-pub mod FindsTagLemmas
+pub mod FindsNoteLemmas
 pub mod ChainWalkLemmas
 pub mod SpanSearchLemmas
 pub mod SpanClosersLemmas

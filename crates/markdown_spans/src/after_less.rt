@@ -52,8 +52,7 @@ fn into_text(bytes: Vec<u8>) -> String
 }
 
 /// Reads the tag whose `<` is at the byte offset `start`. Returns the offset after its `>`, and the tag without its
-/// line prefixes if it contains any; `None` if there is no tag. The error is a refused allocation, which can only occur
-/// if the tag contains line prefixes.
+/// line prefixes if it contains any; `None` if there is no tag.
 fn scan_tag(
     alloc: Global,
     text: &str,
@@ -101,8 +100,7 @@ fn as_html(text: &str, end: Option<usize>) -> Option<(usize, Option<String>)>
 }
 
 /// Reads the raw HTML whose `<` is at the byte offset `start`, where `at` is the offset after the `<`. Returns the
-/// offset after its `>`, and its text if it is a tag that contains line prefixes. The error is a refused allocation,
-/// which can only occur for such a tag.
+/// offset after its `>`, and its text if it is a tag that contains line prefixes.
 fn scan_html(
     alloc: Global,
     text: &str,

@@ -59,7 +59,7 @@ impl Model for SpanClosers {
     ghost view = { λ s. if s.failed then Some (reverse s.ahead.items) else None };
 }
 
-/// Determines the closer of each recorded mark, with the first mark last. The error is a refused allocation.
+/// Determines the closer of each recorded mark, with the first mark last.
 fn fill_ahead(
     noted: &mut Vec<SpanMark>,
     nearest: &mut HashMap<usize, usize>,
@@ -116,7 +116,7 @@ fn take_dollar(ahead: &mut Vec<KnownCloser>, opener: MathOpener) -> Option<usize
     }
 }
 
-/// Records the second `$` of an opener of display math. The error is a refused allocation.
+/// Records the second `$` of an opener of display math.
 fn note_second(
     tree: &Tree<Item>,
     opener: MathOpener,
@@ -135,7 +135,7 @@ fn note_second(
     Ok(())
 }
 
-/// Continues a search to the end of the chain, from a `$` that does not close. The error is a refused allocation.
+/// Continues a search to the end of the chain, from a `$` that does not close.
 fn walk_on(
     tree: &Tree<Item>,
     ix: usize,
@@ -156,7 +156,7 @@ fn walk_on(
 }
 
 /// Returns what closes an opener of math, by a search of the items after it. If nothing does, all `$` after it are
-/// recorded. The error is a refused allocation.
+/// recorded.
 fn walk_for_math(
     tree: &Tree<Item>,
     opener: MathOpener,
@@ -214,7 +214,7 @@ impl SpanClosers {
     }
 
     /// Searches a chain for a mark of `wanted` backticks, and returns its number; if there is none, learns the closers
-    /// of the marks of the chain. The error is a refused allocation.
+    /// of the marks of the chain.
     fn search_code(
         &mut self,
         tree: &Tree<Item>,
@@ -250,7 +250,6 @@ impl SpanClosers {
     }
 
     /// Searches a chain for what closes an opener of math; if nothing does, learns the closers of the marks after it.
-    /// The error is a refused allocation.
     fn search_math(
         &mut self,
         tree: &Tree<Item>,

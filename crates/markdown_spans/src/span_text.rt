@@ -93,8 +93,7 @@ impl SpanKind {
         None
     }
 
-    /// Returns a copy of the text with its line endings, line prefixes and escaped pipes replaced. The error is a
-    /// refused allocation.
+    /// Returns a copy of the text with its line endings, line prefixes and escaped pipes replaced.
     fn join_lines(
         self,
         alloc: Global,

@@ -87,8 +87,8 @@ module _ (level : ℕ) (open_levels levels : List ℕ) (are : AreOpen open_level
   pub depth-open : length (lower_from level open_levels) ≡ depth level levels
   depth-open = sym (depth-lower level open_levels are.stair) ∙ are.same level
 
-  same-behind : (any : ℕ) → depth any (level ∷ open_levels) ≡ depth any (level ∷ levels)
-  same-behind any = elim (cases_lt level any) [
+  same-after : (any : ℕ) → depth any (level ∷ open_levels) ≡ depth any (level ∷ levels)
+  same-after any = elim (cases_lt level any) [
     | inl above ↦ rw (depth-above any level open_levels above, depth-above any level levels above, are.same level) refl
     | inr beside ↦ rw (depth-beside any level open_levels beside, depth-beside any level levels beside) (are.same any)
   ]
@@ -96,7 +96,7 @@ module _ (level : ℕ) (open_levels levels : List ℕ) (are : AreOpen open_level
   pub open-next : AreOpen (level ∷ lower_from level open_levels) (level ∷ levels)
   open-next = record {
     stair = (stair-top level open_levels are.stair, stair-lower level open_levels are.stair);
-    same = λ any. depth-kept any level open_levels ∙ same-behind any;
+    same = λ any. depth-kept any level open_levels ∙ same-after any;
   }
 
 -- the nearest level is at the end of the list

@@ -54,7 +54,7 @@ pub(super) fn push_pieces(s: &mut String, pieces: &[Piece<'_>]) -> Result<(), Al
 
 /// Returns whether the line is fresh after the bytes from `start` on: whether they end with a newline, and `before`
 /// where there are none.
-fn fresh_behind(bytes: &[u8], start: usize, before: bool) -> bool
+fn is_fresh_after(bytes: &[u8], start: usize, before: bool) -> bool
     ensures { result ≡ fresh_after_bytes before (drop start bytes.now) }
 {
     if start < bytes.len() {
@@ -73,7 +73,7 @@ pub(super) fn put(s: &mut String, fresh: &mut bool, pieces: &[Piece<'_>]) -> Res
 {
     let start = s.as_bytes().len();
     push_pieces(s, pieces)?;
-    *fresh = fresh_behind(s.as_bytes(), start, *fresh);
+    *fresh = is_fresh_after(s.as_bytes(), start, *fresh);
     Ok(())
 }
 
@@ -84,7 +84,7 @@ pub(super) fn put_raw(s: &mut String, fresh: &mut bool, text: &str) -> Result<()
     ensures err { OnErr result (AppendsPart s.old s.new text.now) }
 {
     push_any(s, text)?;
-    *fresh = fresh_behind(text.as_bytes(), 0, *fresh);
+    *fresh = is_fresh_after(text.as_bytes(), 0, *fresh);
     Ok(())
 }
 
@@ -96,6 +96,6 @@ pub(super) fn put_text(s: &mut String, fresh: &mut bool, text: &str) -> Result<(
 {
     let start = s.as_bytes().len();
     push_escaped(s, Escape::Text, text)?;
-    *fresh = fresh_behind(s.as_bytes(), start, *fresh);
+    *fresh = is_fresh_after(s.as_bytes(), start, *fresh);
     Ok(())
 }

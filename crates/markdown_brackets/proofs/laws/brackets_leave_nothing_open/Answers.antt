@@ -4,6 +4,6 @@ use Rattle.markdown_brackets.proofs.laws.brackets_leave_nothing_open.Goals as go
 
 pub returns : goal.returns
 returns c = (
-  (λ w others test events tags rule chain known g. all_kept w test events tags others rule chain known g),
-  (λ w others test events tags rule chain known g. all_kept w test events tags others rule chain known g),
+  (λ w others test events tags rule chain state g. all_kept w test events tags others rule chain state g),
+  (λ w others test events tags rule chain state g. all_kept w test events tags others rule chain state g),
 )

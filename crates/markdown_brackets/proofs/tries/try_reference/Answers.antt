@@ -3,8 +3,8 @@ use Rattle.std.proofs.Common.{◌≡◌, ◌<◌, true, false, sym, ◌∙◌, a
 use Rattle.markdown_base.specs.BlockTree.{no_item}
 use Rattle.markdown_base.specs.declared.item.Item.{Item}
 use Rattle.markdown_brackets.specs.ReferenceView.{form_view}
-use Rattle.markdown_brackets.specs.StandsAt.{could_be_at, around_by}
-use Rattle.markdown_brackets.proofs.AheadOfBracketLemmas.{EndsBehind, form_behind}
+use Rattle.markdown_brackets.specs.StandsAt.{could_be_at, bracket_context_by}
+use Rattle.markdown_brackets.proofs.AheadOfBracketLemmas.{EndsAfter, form_after}
 use Rattle.markdown_brackets.proofs.ComesToLemmas.{comes_to_text}
 use Rattle.markdown_brackets.proofs.WrittenLemmas.{ok_map}
 use Rattle.markdown_brackets.proofs.tries.try_reference.Goals as goal
@@ -14,7 +14,7 @@ pub try_full-requires : goal.try_full-requires
 try_full-requires g c k =
     let can = c.requires.ready.can in
     let form = sym (ap form_view c.in-Reference.is) ∙ c.in_ok-label.ensures.form in
-    let some : 0 < c.in-Reference.end = subst (EndsBehind 0) (sym form) (form_behind _ _ _ _ _ _ _ can.reads.some) in (
+    let some : 0 < c.in-Reference.end = subst (EndsAfter 0) (sym form) (form_after _ _ _ _ _ _ _ can.reads.some) in (
       (refl, tt),
       (
         can,
@@ -39,7 +39,7 @@ pub returns-then-not-could_be_reference-clause-comes : goal.returns-then-not-cou
 returns-then-not-could_be_reference-clause-comes g c skipped bodies o opener start =
     let at = c.args.at.now in
     let nodes = at.tree.now.nodes in
-    let w = around_by at.place.now skipped bodies c.args.lookup.now in
+    let w = bracket_context_by at.place.now skipped bodies c.args.lookup.now in
     let text = comes_to_text g.F.BrokenLinkCallback.answers w c.args.lookup.now c.args.spent.now in
     let could : could_be_at nodes at.node c.args.spent.now ≡ false = sym c.could_be_reference.ensures
     ∙ c.if-not-could_be_reference.true in

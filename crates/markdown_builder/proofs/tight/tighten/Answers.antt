@@ -10,7 +10,7 @@ use Rattle.markdown_builder.proofs.TightLemmas.{one_made, none_made}
 use Rattle.markdown_builder.proofs.tight.tighten.Goals as goal
 
 pub returns-then-is_paragraph-clause-steps : goal.returns-then-is_paragraph-clause-steps
-returns-then-is_paragraph-clause-steps c = λ from behind.
+returns-then-is_paragraph-clause-steps c = λ from after.
     let item : c.item-item.result.now ≡ item_at c.args.tree.now.nodes c.args.number = c.item-item.ensures no_item in
     let passes = ap (λ (x : Item). is_paragraph x.body) (sym item)
     ∙ (sym c.is_paragraph.ensures ∙ c.if-is_paragraph.true) in
@@ -18,10 +18,10 @@ returns-then-is_paragraph-clause-steps c = λ from behind.
     (tight (item_at c.args.tree.now.nodes c.args.number)) =
     c.set_item.ensures ∙ rw (← item) refl in
     subst (λ (t : Arena Item). Tightens from c.args.tree.now t) (sym made)
-    (one_tight c.args.tree.now c.args.number none_tight behind c.requires passes)
+    (one_tight c.args.tree.now c.args.number none_tight after c.requires passes)
 
 pub returns-else-is_paragraph-clause-steps : goal.returns-else-is_paragraph-clause-steps
-returns-else-is_paragraph-clause-steps c = λ from behind. none_tight
+returns-else-is_paragraph-clause-steps c = λ from after. none_tight
 
 pub returns-then-is_paragraph-clause-makes : goal.returns-then-is_paragraph-clause-makes
 returns-then-is_paragraph-clause-makes c =

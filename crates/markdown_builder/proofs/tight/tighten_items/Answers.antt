@@ -3,14 +3,14 @@ use Rattle.std.proofs.Common.{ℕ, ◌≤◌, Option, true, false, subst, arith}
 use Rattle.std.specs.Prelude.{IfSome}
 use Rattle.markdown_builder.specs.TreeSteps.{none_tight}
 use Rattle.markdown_builder.proofs.TightLemmas.{item_step, items_done, rising_still, items_left}
-use Rattle.markdown_builder.proofs.TightLemmas.{tightens_on, next_behind}
+use Rattle.markdown_builder.proofs.TightLemmas.{tightens_on, next_after}
 use Rattle.markdown_builder.proofs.tight.tighten_items.Goals as goal
 
 pub items-init : goal.items-init
 items-init c = record {
   steps = none_tight;
-  behind = rw c.child-link.ensures.value
-      (next_behind c.args.tree.now.nodes c.requires.rising true c.args.list c.args.list (omega arith));
+  after = rw c.child-link.ensures.value
+      (next_after c.args.tree.now.nodes c.requires.rising true c.args.list c.args.list (omega arith));
   left = items_left c.args.tree.now.nodes c.args.list c.child-link.result c.child-link.ensures.value
       c.child-link.ensures.within;
 }
@@ -34,12 +34,12 @@ items-preserved c =
     let i = c.items.invariant in
     let r = rising_still _ _ c.args.tree.now.nodes c.items.tree.nodes i.left.makes c.requires.rising in
     let here : c.args.list ≤ c.in-Some.item =
-    subst (λ (o : Option ℕ). IfSome o (λ number. c.args.list ≤ number)) c.in-Some.is i.behind in
+    subst (λ (o : Option ℕ). IfSome o (λ number. c.args.list ≤ number)) c.in-Some.is i.after in
     record {
       steps = tightens_on c.args.list _ _ _ i.steps (c.tighten_siblings.ensures.steps c.args.list
-          (rw c.child-first.ensures.value (next_behind c.items.tree.nodes r true c.in-Some.item c.args.list here)));
-      behind = rw (c.next-link.ensures.value, c.tighten_siblings.ensures.makes.links false c.in-Some.item)
-          (next_behind c.items.tree.nodes r false c.in-Some.item c.args.list here);
+          (rw c.child-first.ensures.value (next_after c.items.tree.nodes r true c.in-Some.item c.args.list here)));
+      after = rw (c.next-link.ensures.value, c.tighten_siblings.ensures.makes.links false c.in-Some.item)
+          (next_after c.items.tree.nodes r false c.in-Some.item c.args.list here);
       left = (item_step c.args.tree.now.nodes c.items.tree.nodes c.tighten_siblings.new.tree.nodes c.args.list
           c.items.link
           c.next-link.result

@@ -9,7 +9,7 @@ use Rattle.markdown_builder.proofs.tight.tighten_items.Given as goal
 abbrev pub invariant-items : goal.invariant-items
 invariant-items l = record {
   steps : Tightens l.fn.list l.fn.tree l.tree;
-  behind : IfSome l.link (λ number. l.fn.list ≤ number);
+  after : IfSome l.link (λ number. l.fn.list ≤ number);
   left : ItemsLeft l.fn.tree.nodes l.tree.nodes l.fn.list l.link;
 }
 

@@ -4,7 +4,7 @@ use Rattle.std.specs.Prelude.{IfSome}
 use Rattle.markdown_builder.specs.Tightness.{IsInChain}
 use Rattle.markdown_builder.specs.TreeSteps.{none_tight}
 use Rattle.markdown_builder.proofs.TightLemmas.{all_left, leads_to, sibling_step, siblings_done}
-use Rattle.markdown_builder.proofs.TightLemmas.{rising_still, tightens_on, next_behind}
+use Rattle.markdown_builder.proofs.TightLemmas.{rising_still, tightens_on, next_after}
 use Rattle.markdown_builder.proofs.tight.tighten_siblings.Goals as goal
 
 pub siblings-init : goal.siblings-init
@@ -47,7 +47,7 @@ siblings-preserved c = record {
       subst (λ (o : Option ℕ). IfSome o (λ number. from ≤ number)) c.in-Some.is before.1 in (
         tightens_on from _ _ _ before.0 (c.tighten.ensures.steps from here),
         rw (c.next-link.ensures.value, c.tighten.ensures.makes.links false c.in-Some.number)
-            (next_behind c.siblings.tree.nodes r false c.in-Some.number from here),
+            (next_after c.siblings.tree.nodes r false c.in-Some.number from here),
       );
   left = (sibling_step c.args.tree.now.nodes c.siblings.tree.nodes c.tighten.new.tree.nodes c.args.first c.siblings.link
       c.next-link.result

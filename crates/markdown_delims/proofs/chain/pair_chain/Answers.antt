@@ -9,9 +9,9 @@ use Rattle.markdown_document.specs.Counts.{comparisons_per_delimiter}
 use Rattle.markdown_document.specs.Setting.{Rules, Setting, setting_of}
 use Rattle.markdown_document.specs.Tables.{Tables, no_tables}
 use Rattle.markdown_document.specs.Places.{trees_from}
-use Rattle.markdown_delims.specs.declared.marks.Marks.{Marks}
+use Rattle.markdown_delims.specs.declared.extensions.Extensions.{Extensions}
 use Rattle.markdown_delims.specs.ChainReading.{IsChainAt, labels, runs_in, PairsRuns, CountsFinds, PaysForRuns}
-use Rattle.markdown_delims.specs.Layers.{marks_of}
+use Rattle.markdown_delims.specs.Layers.{extensions_of}
 use Rattle.markdown_delims.specs.OpenRuns.{Openers}
 use Rattle.markdown_delims.specs.PairedChain.{CanPair}
 use Rattle.markdown_delims.specs.PairingFinds.{finds_in}
@@ -59,13 +59,13 @@ module _ (s : Setting) (tables : Tables) (old mid : Arena Item) (first count : �
   chain_at : IsChainAt s tables mid.nodes first count (trees old.nodes first)
   chain_at = chain_is s tables old mid first c quoted count counted few
 
-  chain_done : (m : Marks) (text : List ℕ) (new : Arena Item) → marks_of s.rules.options ≡ m → s.text ≡ text
+  chain_done : (m : Extensions) (text : List ℕ) (new : Arena Item) → extensions_of s.rules.options ≡ m → s.text ≡ text
       → PairsRuns m text mid new first count → IsResolved s tables old new first (trees old.nodes first)
   chain_done m text new is e pairs =
       resolved s tables old mid new first (trees old.nodes first) quoted
       (pairs s tables (trees old.nodes first) is e chain_at)
 
-  chain_found : (m : Marks) (text : List ℕ) (o n : Openers) → marks_of s.rules.options ≡ m → s.text ≡ text
+  chain_found : (m : Extensions) (text : List ℕ) (o n : Openers) → extensions_of s.rules.options ≡ m → s.text ≡ text
       → CountsFinds m text mid.nodes first count o n
       → o.examined + finds_in s (trees_from s.text tables old.nodes (Some first)) ≤ n.examined
   chain_found m text o n is e found = omega (
@@ -74,7 +74,7 @@ module _ (s : Setting) (tables : Tables) (old mid : Arena Item) (first count : �
     finds_are s tables old mid first quoted,
   )
 
-  chain_paid : (m : Marks) (text : List ℕ) (o n : Openers) → marks_of s.rules.options ≡ m → s.text ≡ text
+  chain_paid : (m : Extensions) (text : List ℕ) (o n : Openers) → extensions_of s.rules.options ≡ m → s.text ≡ text
       → PaysForRuns m text mid.nodes first count o n
       → n.potential ≤ o.potential + comparisons_per_delimiter * delimiters_of (trees_at old.nodes (Some first))
   chain_paid m text o n is e paid = omega (
@@ -94,7 +94,7 @@ pair_runs-done-requires-clause-chain c =
     c.quote_chain-delimiters.ensures.few in
     record {
       setting = s;
-      marks_are = sym c.of_options.ensures;
+      extensions_are = sym c.of_options.ensures;
       text_is = sym c.as_bytes.ensures.value;
       tables = no_tables;
       forest = trees c.args.tree.now.nodes c.args.first;
@@ -115,26 +115,26 @@ returns c =
     let q = c.quote_chain-delimiters in
     let done = c.pair_runs-done in
     let s : Setting = setting_of c.args.source.text.now (rules_by c.args.source.options) in
-    let marks = sym c.of_options.ensures in
+    let extensions = sym c.of_options.ensures in
     let text = sym c.as_bytes.ensures.value in
     record {
       pairs = on_ok done.result
           (λ pairs rules same. pairs_chain (setting_of c.args.source.text.now rules) old done.new.tree c.args.first
           c.requires.chain (λ tables. chain_done (setting_of c.args.source.text.now rules) tables old q.new.tree
           c.args.first q.result c.requires.chain q.ensures.quotes q.ensures.count q.ensures.few c.of_options.result
-          c.as_bytes.result.now done.new.tree (ap marks_of same ∙ marks) text pairs))
+          c.as_bytes.result.now done.new.tree (ap extensions_of same ∙ extensions) text pairs))
           done.ensures.pairs;
       place = on_ok done.result
           (λ pairs.
           let r = chain_done s no_tables old q.new.tree c.args.first q.result c.requires.chain q.ensures.quotes
-          q.ensures.count q.ensures.few c.of_options.result c.as_bytes.result.now done.new.tree marks text pairs in
+          q.ensures.count q.ensures.few c.of_options.result c.as_bytes.result.now done.new.tree extensions text pairs in
           place_is old done.new.tree r.kept.spine r.kept.cursor)
           done.ensures.pairs;
       found = on_ok done.result
           (λ found rules tables same.
           let all = chain_found (setting_of c.args.source.text.now rules) tables old q.new.tree c.args.first q.result
           c.requires.chain q.ensures.quotes q.ensures.count q.ensures.few c.of_options.result c.as_bytes.result.now
-          c.clear.new.self done.new.openers (ap marks_of same ∙ marks) text found in
+          c.clear.new.self done.new.openers (ap extensions_of same ∙ extensions) text found in
           let none : c.clear.new.self.examined ≡ 0 = ap (λ o. o.examined) c.clear.ensures in
           let rises = risen_at_least c.examined.result
           (finds_in (setting_of c.args.source.text.now rules)
@@ -145,7 +145,7 @@ returns c =
       examined =
           let paid = chain_paid s no_tables old q.new.tree c.args.first q.result c.requires.chain q.ensures.quotes
           q.ensures.count q.ensures.few c.of_options.result c.as_bytes.result.now c.clear.new.self done.new.openers
-          marks text done.ensures.paid in
+          extensions text done.ensures.paid in
           let none : c.clear.new.self.potential ≡ 0 = ap (λ o. o.potential) c.clear.ensures in
           record {
             more = c.examined.result;

@@ -18,14 +18,14 @@ read_tree-requires c =
     (labels p.setting p.tables
     c.args.tree.now.nodes p.forest) < 2 ^ 128 = p.room in
     record {
-      stands = can_go_on _ _ _ _ _ _ p.chain _ _ _ _ c.args.source.marks c.args.source.text.now c.in-Some.ix
-          p.marks_are p.text_is (omega (arith, c.requires.emptied.potential, room))
-          (rw c.in-Some.is at (c.trees.invariant p.setting p.tables p.forest p.marks_are p.text_is p.chain));
+      stands = can_go_on _ _ _ _ _ _ p.chain _ _ _ _ c.args.source.extensions c.args.source.text.now c.in-Some.ix
+          p.extensions_are p.text_is (omega (arith, c.requires.emptied.potential, room))
+          (rw c.in-Some.is at (c.trees.invariant p.setting p.tables p.forest p.extensions_are p.text_is p.chain));
     }
 
 pub trees-preserved : goal.trees-preserved
 trees-preserved c s tables f m t ch =
-    reads_more s tables c.args.tree.now _ _ _ ch _ _ _ _ c.args.source.marks c.args.source.text.now
+    reads_more s tables c.args.tree.now _ _ _ ch _ _ _ _ c.args.source.extensions c.args.source.text.now
     c.read_tree.new.tree c.read_tree.new.openers c.in_ok-read.read c.in_ok-read.next c.in-Some.ix m t
     (rw c.in-Some.is at (c.trees.invariant s tables f m t ch)) c.in_ok-read.ensures.ok
 
@@ -33,9 +33,9 @@ pub trees-smaller : goal.trees-smaller
 trees-smaller c =
     let p = c.requires.chain in
     let h = runs_chain p.setting p.tables c.args.tree.now c.args.first c.args.count p.forest p.chain in
-    let a = rw c.in-Some.is at (c.trees.invariant p.setting p.tables p.forest p.marks_are p.text_is p.chain) in
-    let b = read_on _ _ _ _ _ _ p.chain _ _ _ _ c.args.source.marks c.args.source.text.now c.read_tree.new.tree
-    c.read_tree.new.openers c.in_ok-read.read c.in_ok-read.next c.in-Some.ix p.marks_are p.text_is a
+    let a = rw c.in-Some.is at (c.trees.invariant p.setting p.tables p.forest p.extensions_are p.text_is p.chain) in
+    let b = read_on _ _ _ _ _ _ p.chain _ _ _ _ c.args.source.extensions c.args.source.text.now c.read_tree.new.tree
+    c.read_tree.new.openers c.in_ok-read.read c.in_ok-read.next c.in-Some.ix p.extensions_are p.text_is a
     c.in_ok-read.ensures.ok in
     let w = head_within h c.trees.tree a.rs c.trees.last c.in-Some.ix c.trees.openers a.rest a.stands in
     rw c.in-Some.is

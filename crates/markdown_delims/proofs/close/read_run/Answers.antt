@@ -36,20 +36,20 @@ pub unwrap-requires : goal.unwrap-requires
 unwrap-requires c =
     let p = c.requires.stands in
     is_some c.turns.before (opener_before _ _ _ _ _ _ _ _ _ _ _ (c.turns.invariant.goes_on p.chain p.rs p.vs p.after
-    p.marks_are p.stands p.are) c.turns.invariant.some c.in-Some.opener c.take_nearest.new.self.runs
+    p.extensions_are p.stands p.are) c.turns.invariant.some c.in-Some.opener c.take_nearest.new.self.runs
     c.in-Some.ensures.found c.in-Some.ensures.some)
 
 pub pair-root-requires-clause-stands : goal.pair-root-requires-clause-stands
 pair-root-requires-clause-stands c =
     let p = c.requires.stands in
-    can_pair _ _ _ _ _ _ _ _ _ _ _ (c.turns.invariant.goes_on p.chain p.rs p.vs p.after p.marks_are p.stands p.are)
+    can_pair _ _ _ _ _ _ _ _ _ _ _ (c.turns.invariant.goes_on p.chain p.rs p.vs p.after p.extensions_are p.stands p.are)
     c.turns.invariant.some c.in-Some.opener c.take_nearest.new.self.runs c.in-Some.ensures.found c.in-Some.ensures.some
-    c.args.marks p.marks_are c.unwrap.result c.unwrap.ensures
+    c.args.extensions p.extensions_are c.unwrap.result c.unwrap.ensures
 
 pub overflow_add-closer : goal.overflow_add-closer
 overflow_add-closer c =
     let p = c.requires.stands in
-    let a = c.turns.invariant.goes_on p.chain p.rs p.vs p.after p.marks_are p.stands p.are in
+    let a = c.turns.invariant.goes_on p.chain p.rs p.vs p.after p.extensions_are p.stands p.are in
     let w = last_within p.chain c.turns.tree a.rs c.turns.before c.turns.closer a.vs p.after a.stands
     c.turns.invariant.some in
     let few : length c.turns.tree.nodes ≤ 2 ^ 63 = a.stands.stands.few in
@@ -60,7 +60,7 @@ returns-then-closer-opener-clause-ok c h rs vs after m st a =
     let same : c.push.new.self.examined ≡ c.take_nearest.new.self.examined = ap (λ o. o.examined)
     c.in_ok-push.ensures.ok in
     closing_left _ _ _ _ _ _ _ _ _ _ _ (c.turns.invariant.goes_on h rs vs after m st a) c.turns.invariant.some
-    c.in-Some.opener c.take_nearest.new.self.runs c.in-Some.ensures.found c.in-Some.ensures.some c.args.marks m
+    c.in-Some.opener c.take_nearest.new.self.runs c.in-Some.ensures.found c.in-Some.ensures.some c.args.extensions m
     c.unwrap.result c.unwrap.ensures c.pair-root.new.tree c.pair-root.result.0 c.pair-root.result.1 c.pair-root.ensures
     c.push.new.self (ap (λ o. o.runs) c.in_ok-push.ensures.ok) (omega (arith, same, c.in-Some.ensures.counted))
     c.if-closer-opener.true (not-false c.args.met.run.can_close c.if-not-met.false)
@@ -68,7 +68,7 @@ returns-then-closer-opener-clause-ok c h rs vs after m st a =
 pub returns-then-closer-opener-2-clause-ok : goal.returns-then-closer-opener-2-clause-ok
 returns-then-closer-opener-2-clause-ok c h rs vs after m st a =
     closing_used _ _ _ _ _ _ _ _ _ _ _ (c.turns.invariant.goes_on h rs vs after m st a) c.turns.invariant.some
-    c.in-Some.opener c.take_nearest.new.self.runs c.in-Some.ensures.found c.in-Some.ensures.some c.args.marks m
+    c.in-Some.opener c.take_nearest.new.self.runs c.in-Some.ensures.found c.in-Some.ensures.some c.args.extensions m
     c.unwrap.result c.unwrap.ensures c.pair-root.new.tree c.pair-root.result.0 c.pair-root.result.1 c.pair-root.ensures
     c.take_nearest.new.self refl c.in-Some.ensures.counted c.if-closer-opener-2.true
     (not-false c.args.met.run.can_close c.if-not-met.false)
@@ -80,7 +80,8 @@ turns-preserved c =
     record {
       goes_on = λ h rs vs after m st a.
           closing_more _ _ _ _ _ _ _ _ _ _ _ (c.turns.invariant.goes_on h rs vs after m st a) c.turns.invariant.some
-          c.in-Some.opener c.take_nearest.new.self.runs c.in-Some.ensures.found c.in-Some.ensures.some c.args.marks m
+          c.in-Some.opener c.take_nearest.new.self.runs c.in-Some.ensures.found c.in-Some.ensures.some
+          c.args.extensions m
           c.unwrap.result c.unwrap.ensures c.pair-root.new.tree c.pair-root.result.0 c.pair-root.result.1
           c.pair-root.ensures c.take_nearest.new.self refl c.in-Some.ensures.counted more;
       some = omega arith;
@@ -90,12 +91,13 @@ turns-preserved c =
 pub keep-requires-2-clause-stands : goal.keep-requires-2-clause-stands
 keep-requires-2-clause-stands c =
     let p = c.requires.stands in (
-      c.args.marks,
+      c.args.extensions,
       c.turns.before,
-      can_keep _ _ _ _ _ _ _ _ _ _ _ (c.turns.invariant.goes_on p.chain p.rs p.vs p.after p.marks_are p.stands p.are)
+      can_keep _ _ _ _ _ _ _ _ _ _ _
+          (c.turns.invariant.goes_on p.chain p.rs p.vs p.after p.extensions_are p.stands p.are)
           c.turns.invariant.some
-          c.take_nearest.new.self.runs c.in_default.ensures.missed.0 c.in_default.ensures.missed.1 c.args.marks
-          p.marks_are,
+          c.take_nearest.new.self.runs c.in_default.ensures.missed.0 c.in_default.ensures.missed.1 c.args.extensions
+          p.extensions_are,
     )
 
 pub returns-clause-ok : goal.returns-clause-ok

@@ -1,9 +1,9 @@
 -- Continuing from here gives what the whole run gives, for any chain.
 use Rattle.std.proofs.Common.{◌≡◌, ℕ, ◌<◌, ◌≤◌, List}
 use Rattle.markdown_base.specs.Forest.{Forest}
-use Rattle.markdown_document.specs.Document.{Label}
+use Rattle.markdown_document.specs.Document.{TreeNode}
 use Rattle.markdown_delims.specs.ChainStanding.{Chain, StandsAt, AreOpen}
-use Rattle.markdown_delims.specs.Layers.{marks_of}
+use Rattle.markdown_delims.specs.Layers.{extensions_of}
 use Rattle.markdown_delims.specs.Pairing.{Read}
 use Rattle.markdown_delims.proofs.ClosingLemmas.{ClosingAt}
 use Rattle.markdown_delims.proofs.close.read_run.Given as goal
@@ -12,8 +12,8 @@ abbrev pub invariant-turns : goal.invariant-turns
 invariant-turns l =
     record {
       goes_on :
-          (h : Chain) (rs : List (Read ℕ)) (vs : List (Label ℕ)) (after : Forest (Label ℕ))
-          → marks_of h.setting.rules.options ≡ l.marks
+          (h : Chain) (rs : List (Read ℕ)) (vs : List (TreeNode ℕ)) (after : Forest (TreeNode ℕ))
+          → extensions_of h.setting.rules.options ≡ l.extensions
           → StandsAt h l.fn.tree rs l.fn.last l.fn.met vs after → AreOpen l.fn.openers.runs rs
           → ClosingAt h l.fn.met vs rs after l.fn.tree l.tree l.fn.openers l.openers l.closer l.before;
       some : 0 < l.closer.count;

@@ -2,10 +2,10 @@
 use Rattle.std.proofs.Common.{◌≡◌, ℕ, List, Some, ◌+◌, ◌-◌, ◌<◌, min, sym, subst, refl, arith}
 use Rattle.markdown_base.specs.declared.item.ItemBody.{ItemBody}
 use Rattle.markdown_document.specs.Document.{Shape}
-use Rattle.markdown_delims.specs.Enclosing.{IsLayer, Around, Encloses, inner_of, CanEnclose}
+use Rattle.markdown_delims.specs.Enclosing.{IsLayer, ChainParts, Encloses, inner_of, CanEnclose}
 use Rattle.markdown_delims.specs.ChainStanding.{Chain}
-use Rattle.markdown_delims.specs.Layers.{marks_of, layer_of_one, layer_of_two}
-use Rattle.markdown_delims.specs.declared.marks.Marks.{Marks}
+use Rattle.markdown_delims.specs.Layers.{extensions_of, layer_of_one, layer_of_two}
+use Rattle.markdown_delims.specs.declared.extensions.Extensions.{Extensions}
 use Rattle.markdown_delims.specs.declared.run.Characters.{Characters}
 use Rattle.markdown_delims.proofs.EncloseLemmas.{layers_begin, layers_more, layers_two, layers_one, layers_fit}
 use Rattle.markdown_delims.proofs.EncloseLemmas.{LayersAt, LayersFit}
@@ -13,27 +13,27 @@ use Rattle.markdown_delims.proofs.WriteLemmas.{wrote_as}
 use Rattle.markdown_delims.proofs.layers.enclose.Goals as goal
 
 -- before the first layer
-first_fits : (m : Marks) (o c : Characters) (s : _) → 0 < o.count → 0 < c.count → CanEnclose m o c s
+first_fits : (m : Extensions) (o c : Characters) (s : _) → 0 < o.count → 0 < c.count → CanEnclose m o c s
     → LayersFit s o c (min o.count c.count) (inner_of o s)
 first_fits m o c s some_open some_close p =
     layers_fit p.chain p.around s s s o.run.delimiter o c (min o.count c.count) (inner_of o s)
     (layers_begin p.chain p.around s o.run.delimiter o c (min o.count c.count) (inner_of o s) refl p.encloses)
     (omega arith)
 
-layer_by : (b : ItemBody) (shape : Marks → List ℕ → Shape) (m n : Marks) → n ≡ m → IsLayer b (shape m)
+layer_by : (b : ItemBody) (shape : Extensions → List ℕ → Shape) (m n : Extensions) → n ≡ m → IsLayer b (shape m)
     → IsLayer b (shape n)
 layer_by b shape m n e is = subst (λ x. IsLayer b (shape x)) (sym e) is
 
 pub overflow_add-opener : goal.overflow_add-opener
 overflow_add-opener c =
-    let f = first_fits c.args.marks c.args.opener c.args.closer c.args.tree.now c.requires.some_open
+    let f = first_fits c.args.extensions c.args.opener c.args.closer c.args.tree.now c.requires.some_open
     c.requires.some_close c.requires.stands
     in
     omega (arith, f.root_of_one, f.few)
 
 pub next-inner-requires : goal.next-inner-requires
 next-inner-requires c =
-    (first_fits c.args.marks c.args.opener c.args.closer c.args.tree.now c.requires.some_open c.requires.some_close
+    (first_fits c.args.extensions c.args.opener c.args.closer c.args.tree.now c.requires.some_open c.requires.some_close
     c.requires.stands).root_of_one
 
 pub layers-init : goal.layers-init
@@ -44,14 +44,14 @@ layers-init c =
       layers = λ h g m e. layers_begin h g c.args.tree.now c.args.opener.run.delimiter c.args.opener c.args.closer _ _
           refl e;
       some = omega arith;
-      fits = first_fits c.args.marks c.args.opener c.args.closer c.args.tree.now c.requires.some_open
+      fits = first_fits c.args.extensions c.args.opener c.args.closer c.args.tree.now c.requires.some_open
           c.requires.some_close p;
     })
 
 pub layers-preserved : goal.layers-preserved
 layers-preserved c =
     let p = c.requires.stands in
-    let more : (h : Chain) (g : Around) → marks_of h.setting.rules.options ≡ c.args.marks
+    let more : (h : Chain) (g : ChainParts) → extensions_of h.setting.rules.options ≡ c.args.extensions
     → Encloses h g c.args.tree.now c.args.opener c.args.closer (inner_of c.args.opener c.args.tree.now)
     → LayersAt h g c.args.tree.now c.put_node.new.tree c.args.opener.run.delimiter
     (record c.layers.opener { count = c.layers.opener.count - 2 })
@@ -66,7 +66,7 @@ layers-preserved c =
       layers = more;
       some = omega arith;
       fits = layers_fit p.chain p.around _ _ c.put_node.new.tree _ _ _ _ _
-          (more p.chain p.around p.marks_are p.encloses) (omega arith);
+          (more p.chain p.around p.extensions_are p.encloses) (omega arith);
     }
 
 pub returns-then-left-eq2 : goal.returns-then-left-eq2

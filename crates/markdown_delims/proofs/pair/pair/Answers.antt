@@ -14,7 +14,7 @@ enclose-requires-clause-stands c =
     let p = c.requires.stands in
     record {
       chain = p.chain;
-      marks_are = p.marks_are;
+      extensions_are = p.extensions_are;
       around = around_opener p.chain c.args.tree.now p.rs p.vs p.after p.found c.args.opener c.args.closer c.args.last
           p.stands p.finds
           c.requires.some_open c.requires.some_close;
@@ -26,6 +26,6 @@ enclose-requires-clause-stands c =
 pub returns : goal.returns
 returns c h rs vs after found m st finds =
     pair_done h c.args.tree.now rs vs after found c.args.opener c.args.closer c.args.last st finds c.requires.some_open
-    c.requires.some_close c.lead_on.new.tree c.lead_on.ensures c.args.marks c.enclose.new.tree c.enclose.result.0
+    c.requires.some_close c.lead_on.new.tree c.lead_on.ensures c.args.extensions c.enclose.new.tree c.enclose.result.0
     c.enclose.result.1 m
     c.enclose.ensures

@@ -13,8 +13,8 @@ item-item-requires c =
     let p = c.requires.stands in
     head_within _ _ _ _ _ _ _ p.stands
 
-pub settle_run-requires : goal.settle_run-requires
-settle_run-requires c =
+pub make_run_literal-requires : goal.make_run_literal-requires
+make_run_literal-requires c =
     let p = c.requires.stands in
     let r = met_here _ _ _ _ _ _ p c.item-item.result.now c.in-Some.run' (c.item-item.ensures no_item)
     c.in-Some.ensures in
@@ -42,11 +42,11 @@ read_run-requires c =
       room = omega (arith, r.fewer, room, ap (λ t. runs_in t p.rest) p.text_is);
       stands = record {
         chain = p.chain;
-        marks_are = p.marks_are;
+        extensions_are = p.extensions_are;
         rs = p.rs;
         vs = _;
         after = _;
-        stands = (c.settle_run.ensures p.chain p.rs c.args.last p.rest p.stands.stands r.begins).0;
+        stands = (c.make_run_literal.ensures p.chain p.rs c.args.last p.rest p.stands.stands r.begins).0;
         are = p.stands.are;
       };
     }
@@ -73,8 +73,8 @@ returns-in-Some-clause-ok c =
     c.in-Some.ensures) in
     read_some h c.args.tree.now rs c.args.last c.args.ix c.args.openers.now c.in-Some.run' chain c.read_run.new.openers
     x.0 x.1
-    c.settle_run.new.tree c.read_run.new.tree st r c.settle_run.ensures c.read_run.ensures.paid
-    (on h rs _ _ m (c.settle_run.ensures h rs c.args.last chain st.stands r.begins).0 st.are))
+    c.make_run_literal.new.tree c.read_run.new.tree st r c.make_run_literal.ensures c.read_run.ensures.paid
+    (on h rs _ _ m (c.make_run_literal.ensures h rs c.args.last chain st.stands r.begins).0 st.are))
     c.read_run.ensures.ok
 
 pub returns-in-Some-clause-paid : goal.returns-in-Some-clause-paid

@@ -3,7 +3,7 @@ use Rattle.std.proofs.Common.{◌≡◌, refl, rules}
 use Rattle.markdown_base.specs.BlockTree.{no_item}
 use Rattle.markdown_document.specs.Tables.{tables_of}
 use Rattle.markdown_inline.specs.WalkSteps.{IsRefused}
-use Rattle.markdown_inline.proofs.TakingLemmas.{open-way}
+use Rattle.markdown_inline.proofs.TakingLemmas.{open-visit}
 use Rattle.markdown_inline.proofs.WalkStepsLemmas.{passed_over, passed_in, passed_plain, refused_at}
 use Rattle.markdown_inline.proofs.step.step_at.Goals as goal
 
@@ -11,7 +11,7 @@ pub returns-in-Open : goal.returns-in-Open
 returns-in-Open c source held w = (
   record {
     cursor = c.requires.at_ix;
-    is_open = rw (← (c.item-item.ensures no_item)) (open-way c.item-item.result.now.body c.in-Open.ensures);
+    is_open = rw (← (c.item-item.ensures no_item)) (open-visit c.item-item.result.now.body c.in-Open.ensures);
   },
   refl,
 )

@@ -3,8 +3,8 @@ use Rattle.std.proofs.Common.{◌+◌, ◌<◌, ◌≤◌, length, arith}
 use Rattle.markdown_base.proofs.ByteListLemmas.{none_further}
 use Rattle.markdown_lines.specs.Lines.{is_line_ending}
 use Rattle.markdown_lines.proofs.LinesLemmas.{content_through, line_end_in}
-use Rattle.markdown_lines.proofs.line.first_line_ending.Goals.{then-not-are_behind_endings+else-before-lt-TOGETHER}
-use Rattle.markdown_lines.proofs.line.first_line_ending.Goals.{else-not-are_behind_endings}
+use Rattle.markdown_lines.proofs.line.first_line_ending.Goals.{then-not-are_after_endings+else-before-lt-TOGETHER}
+use Rattle.markdown_lines.proofs.line.first_line_ending.Goals.{else-not-are_after_endings}
 use Rattle.markdown_lines.proofs.line.first_line_ending.Goals as goal
 
 pub returns-then-before-lt-TOGETHER : goal.returns-then-before-lt-TOGETHER
@@ -30,15 +30,15 @@ content-preserved c =
     record {
       low = omega (arith, low);
       high = within;
-      content = elim c.if-not-are_behind_endings.branch [
-        | then-not-are_behind_endings+else-before-lt-TOGETHER w ↦ λ p low high.
+      content = elim c.if-not-are_after_endings.branch [
+        | then-not-are_after_endings+else-before-lt-TOGETHER w ↦ λ p low high.
             let full = w.if-before-lt-TOGETHER.false in
             content_through bytes c.args.from start (start + 16) w.length_before_ending-before.result (omega arith)
             within
             kept.content w.length_before_ending-before.ensures p low (omega (arith, high, full))
-        | else-not-are_behind_endings w ↦ none_further is_line_ending bytes c.args.from start (start + 16) (omega arith)
+        | else-not-are_after_endings w ↦ none_further is_line_ending bytes c.args.from start (start + 16) (omega arith)
             within
-            kept.content (c.are_behind_endings.ensures w.if-not-are_behind_endings.false)
+            kept.content (c.are_after_endings.ensures w.if-not-are_after_endings.false)
       ];
     }
 

@@ -1,9 +1,9 @@
 -- The next block is a leaf, takes nothing, ends, or continues.
 use Rattle.std.proofs.Common.{◌≡◌, ◌+◌, ◌∙◌, drop, refl, sym, ap, arith}
-use Rattle.markdown_lines.specs.Places.{left_from}
+use Rattle.markdown_lines.specs.Positions.{left_from}
 use Rattle.markdown_plain.specs.Containers.{Reach, reach_from, reach_of}
 use Rattle.markdown_plain.specs.OpenBlocks.{outer_of}
-use Rattle.markdown_plain.specs.Stretches.{starts, starts_behind}
+use Rattle.markdown_plain.specs.Stretches.{starts, starts_after}
 use Rattle.markdown_plain.proofs.ContainersLemmas.{none_left, next_is_leaf, next_ends, next_goes_on}
 use Rattle.markdown_plain.proofs.StretchesLemmas.{AtNextStretch, ahead_deep, past_stretch_at, starts_ahead}
 use Rattle.markdown_plain.proofs.StretchesLemmas.{starts_at_first, starts_past_any}
@@ -38,30 +38,30 @@ blocks-2-preserved c =
     let old = c.args.stretches.old_notes in
     let empty = c.args.item_is_empty in
     let blocks = c.args.blocks.now in
-    let behind = c.behind_container-reached.ensures in
-    let depth : c.behind_container-reached.result.depth ≡ c.blocks-2.reached.depth + 1 = ap (λ (r : Reach). r.depth)
-    behind in
+    let after = c.after_container-reached.ensures in
+    let depth : c.after_container-reached.result.depth ≡ c.blocks-2.reached.depth + 1 = ap (λ (r : Reach). r.depth)
+    after in
     let more = c.blocks-2-test.true in
     record {
       within = omega (arith, depth, more);
-      all = ap (λ (r : Reach). r.all) behind;
+      all = ap (λ (r : Reach). r.all) after;
       ahead = λ known.
-          c.starts_behind-starts-in-Some.ensures
-          ∙ (ap (λ n. starts_behind n c.blocks-2.starts.now) depth
+          c.starts_after-starts-in-Some.ensures
+          ∙ (ap (λ n. starts_after n c.blocks-2.starts.now) depth
           ∙ (starts_past_any old c.blocks-2.reached.depth blocks c.blocks-2.starts.now more
           (c.blocks-2.invariant.ahead known)
           ∙ ap (λ n. starts_ahead old n blocks) (sym depth)));
       goes_on =
-          ap (λ n. reach_from old empty stop (drop n blocks) (reach_of text stop c.behind_container-reached.result))
+          ap (λ n. reach_from old empty stop (drop n blocks) (reach_of text stop c.after_container-reached.result))
           depth
-          ∙ (ap (λ r. reach_from old empty stop (drop (c.blocks-2.reached.depth + 1) blocks) r) behind
+          ∙ (ap (λ r. reach_from old empty stop (drop (c.blocks-2.reached.depth + 1) blocks) r) after
           ∙ (sym (next_goes_on old empty stop blocks c.blocks-2.reached.depth _ (reach_of text stop c.blocks-2.reached)
-          (left_from text c.in-Some.place stop) more (sym c.is_container.ensures ∙ c.if-not-is_container.false)
+          (left_from text c.in-Some.position stop) more (sym c.is_container.ensures ∙ c.if-not-is_container.false)
           c.in-Some.ensures)
           ∙ c.blocks-2.invariant.goes_on));
     }
 
-past_this_stretch : (c : goal.After-starts_behind-starts)
+past_this_stretch : (c : goal.After-starts_after-starts)
     → AtNextStretch c.args.stretches.old_notes c.args.item_is_empty c.args.line.stop c.blocks-2.reached.depth
     c.args.blocks.now (reach_of c.args.text.now c.args.line.stop c.blocks-2.reached) c.blocks-2.starts.now
     c.next_start.result
@@ -84,7 +84,7 @@ blocks-2-preserved-then-is_skipped c =
       within = omega (arith, within);
       all = c.blocks-2.invariant.all;
       ahead = λ known.
-          c.starts_behind-starts.ensures
+          c.starts_after-starts.ensures
           ∙ (past.ahead
           ∙ sym (ahead_deep c.args.stretches.old_notes c.next_start.result c.args.blocks.now
           (omega (arith, more, deep))));

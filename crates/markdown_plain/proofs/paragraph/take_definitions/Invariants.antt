@@ -9,5 +9,5 @@ invariant-definitions l = record {
   text : l.placing.builder.text ≡ l.fn.placing.builder.text;
   steps : IfFitted l.fn.placing l.placing (l.placing.builder ≡ stepped l.fn.placing.builder l.placing.builder.at);
   within : l.taken ≤ length l.lines;
-  behind : 0 < l.taken → IfFitted l.fn.placing l.placing (l.placing.builder.at ≡ end_of l.lines l.taken);
+  after : 0 < l.taken → IfFitted l.fn.placing l.placing (l.placing.builder.at ≡ end_of l.lines l.taken);
 }

@@ -1,5 +1,5 @@
--- An opener is settled, and waits.
-use Rattle.markdown_resolver.proofs.SettlingLemmas.{node_within}
+-- An opener becomes literal text, and waits.
+use Rattle.markdown_resolver.proofs.LiteralTextLemmas.{node_within}
 use Rattle.markdown_resolver.proofs.brackets.open_bracket.Goals as goal
 
 pub next-requires : goal.next-requires

@@ -5,7 +5,7 @@ use Rattle.markdown_base.specs.declared.item.Item.{Item}
 use Rattle.markdown_document.specs.Tables.{tables_of}
 use Rattle.markdown_document.specs.NamedEntries.{times_named}
 use Rattle.markdown_resolver.specs.Rewritten.{CanPut}
-use Rattle.markdown_resolver.proofs.SettlingLemmas.{names_nothing}
+use Rattle.markdown_resolver.proofs.LiteralTextLemmas.{names_nothing}
 use Rattle.markdown_resolver.proofs.CloseWikilinkLemmas.{may_show, name_closed, named_over, opener_there, shown_closed}
 use Rattle.markdown_resolver.proofs.CloseWikilinkLemmas.{shows_over}
 use Rattle.markdown_resolver.proofs.SplitLemmas.{inside_numbers}

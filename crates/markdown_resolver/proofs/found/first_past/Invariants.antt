@@ -3,7 +3,7 @@
 use Rattle.std.proofs.Common.{◌≡◌, ◌+◌}
 use Rattle.markdown_base.specs.ArenaForest.{Spells, forest_at, links_of}
 use Rattle.markdown_base.specs.Forest.{roots}
-use Rattle.markdown_document.specs.Stages.{items_from}
+use Rattle.markdown_document.specs.ResolverStates.{items_from}
 use Rattle.markdown_resolver.specs.Rewritten.{first_past}
 use Rattle.markdown_resolver.proofs.found.first_past.Given as goal
 

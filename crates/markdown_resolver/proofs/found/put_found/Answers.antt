@@ -1,6 +1,6 @@
 -- An item is put into the node of its opener.
 use Rattle.std.proofs.Common.{◌≡◌, ap}
-use Rattle.markdown_resolver.specs.Settling.{begun_from}
+use Rattle.markdown_resolver.specs.LiteralText.{begun_from}
 use Rattle.markdown_resolver.proofs.PutFoundLemmas.{rest_spelled, found_puts}
 use Rattle.markdown_resolver.proofs.found.put_found.Goals as goal
 

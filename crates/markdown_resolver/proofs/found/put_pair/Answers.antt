@@ -1,6 +1,6 @@
 -- Two items are put into the nodes of an opener and of what closes it.
 use Rattle.std.proofs.Common.{◌≡◌, ap}
-use Rattle.markdown_resolver.specs.Settling.{begun_from}
+use Rattle.markdown_resolver.specs.LiteralText.{begun_from}
 use Rattle.markdown_resolver.proofs.PutFoundLemmas.{rest_spelled}
 use Rattle.markdown_resolver.proofs.PutPairLemmas.{pair_puts}
 use Rattle.markdown_resolver.proofs.found.put_pair.Goals as goal

@@ -1,9 +1,9 @@
 -- An item with one child is put into the node of its opener.
 use Rattle.std.proofs.Common.{◌≡◌, ◌<◌, ℕ, suc, length, Option, Some, None, ap, ◌∙◌, arith}
 use Rattle.std.specs.Prelude.{IfSome}
-use Rattle.markdown_resolver.specs.Settling.{begun_from}
+use Rattle.markdown_resolver.specs.LiteralText.{begun_from}
 use Rattle.markdown_resolver.proofs.PutFoundLemmas.{rest_spelled, parent_puts, is_hung, hung_size, hung_below}
-use Rattle.markdown_resolver.proofs.SettlingLemmas.{node_within}
+use Rattle.markdown_resolver.proofs.LiteralTextLemmas.{node_within}
 use Rattle.markdown_resolver.proofs.found.put_parent.Goals as goal
 
 within_more : (o : Option ℕ) (a b : ℕ) → b ≡ suc a → IfSome o (λ n. n < a) → IfSome o (λ n. n < b)

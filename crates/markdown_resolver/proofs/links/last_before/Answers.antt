@@ -3,7 +3,7 @@ use Rattle.std.proofs.Common.{sym, ◌∙◌, arith}
 use Rattle.markdown_base.specs.Arena.{sibling_of}
 use Rattle.markdown_resolver.proofs.LastInsideLemmas.{ahead_first, ahead_here, ahead_next, ahead_none, first_spelled}
 use Rattle.markdown_resolver.proofs.PastByteLemmas.{items_fall, spelled_at}
-use Rattle.markdown_resolver.proofs.SettlingLemmas.{node_within}
+use Rattle.markdown_resolver.proofs.LiteralTextLemmas.{node_within}
 use Rattle.markdown_resolver.proofs.links.last_before.Goals as goal
 
 pub inside-init : goal.inside-init

@@ -2,7 +2,7 @@
 use Rattle.std.proofs.Common.{◌<◌, ℕ, List, length}
 use Rattle.markdown_base.specs.Arena.{sibling_of}
 use Rattle.markdown_base.specs.ArenaForest.{Spells, forest_at, links_of}
-use Rattle.markdown_document.specs.Stages.{items_from}
+use Rattle.markdown_document.specs.ResolverStates.{items_from}
 use Rattle.markdown_document.specs.Tables.{Tables}
 use Rattle.markdown_resolver.specs.ClosedOver.{CanClose}
 use Rattle.markdown_resolver.proofs.LastInsideLemmas.{IsAhead}

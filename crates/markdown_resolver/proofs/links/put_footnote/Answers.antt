@@ -1,17 +1,17 @@
 -- A reference is put into the node of its opener.
 use Rattle.std.proofs.Common.{◌≡◌, ap}
-use Rattle.markdown_resolver.specs.Settling.{begun_from}
+use Rattle.markdown_resolver.specs.LiteralText.{begun_from}
 use Rattle.markdown_resolver.proofs.EncloseLemmas.{closer_within}
-use Rattle.markdown_resolver.proofs.FoldLemmas.{behind_spelled}
+use Rattle.markdown_resolver.proofs.FoldLemmas.{after_spelled}
 use Rattle.markdown_resolver.proofs.PutReferenceLemmas.{reference_puts}
-use Rattle.markdown_resolver.proofs.SettlingLemmas.{node_within}
+use Rattle.markdown_resolver.proofs.LiteralTextLemmas.{node_within}
 use Rattle.markdown_resolver.proofs.links.put_footnote.Goals as goal
 
 pub next-requires : goal.next-requires
 next-requires c = closer_within c.requires.5
 
 pub first_past-rest-requires : goal.first_past-rest-requires
-first_past-rest-requires c = rw c.next.ensures.value (behind_spelled c.requires.5)
+first_past-rest-requires c = rw c.next.ensures.value (after_spelled c.requires.5)
 
 pub write_node-requires-clause-node : goal.write_node-requires-clause-node
 write_node-requires-clause-node c = node_within c.requires.5.ready

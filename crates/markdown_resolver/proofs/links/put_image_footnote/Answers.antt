@@ -1,10 +1,10 @@
 -- A Text is put into the node of an opener, and a reference into that of its closer.
 use Rattle.std.proofs.Common.{◌≡◌, ap}
-use Rattle.markdown_resolver.specs.Settling.{begun_from}
+use Rattle.markdown_resolver.specs.LiteralText.{begun_from}
 use Rattle.markdown_resolver.proofs.EncloseLemmas.{closer_within}
-use Rattle.markdown_resolver.proofs.FoldLemmas.{behind_spelled}
+use Rattle.markdown_resolver.proofs.FoldLemmas.{after_spelled}
 use Rattle.markdown_resolver.proofs.PutMarkLemmas.{mark_puts}
-use Rattle.markdown_resolver.proofs.SettlingLemmas.{node_within}
+use Rattle.markdown_resolver.proofs.LiteralTextLemmas.{node_within}
 use Rattle.markdown_resolver.proofs.links.put_image_footnote.Goals as goal
 
 pub write_node-requires-clause-node : goal.write_node-requires-clause-node
@@ -17,7 +17,7 @@ pub next-requires : goal.next-requires
 next-requires c = closer_within c.requires.5
 
 pub first_past-rest-requires : goal.first_past-rest-requires
-first_past-rest-requires c = rw c.next.ensures.value (behind_spelled c.requires.5)
+first_past-rest-requires c = rw c.next.ensures.value (after_spelled c.requires.5)
 
 pub write_node-requires-2-clause-node : goal.write_node-requires-2-clause-node
 write_node-requires-2-clause-node c = rw c.write_node.ensures.written.size (closer_within c.requires.5)

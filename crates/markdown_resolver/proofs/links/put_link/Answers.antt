@@ -1,8 +1,8 @@
 -- A link is put into the node of its opener, over what is inside.
 use Rattle.std.proofs.Common.{◌≡◌, ap}
-use Rattle.markdown_resolver.specs.Settling.{begun_from}
+use Rattle.markdown_resolver.specs.LiteralText.{begun_from}
 use Rattle.markdown_resolver.proofs.EncloseLemmas.{are_within, closer_within}
-use Rattle.markdown_resolver.proofs.FoldLemmas.{behind_spelled}
+use Rattle.markdown_resolver.proofs.FoldLemmas.{after_spelled}
 use Rattle.markdown_resolver.proofs.PutLinkLemmas.{link_puts}
 use Rattle.markdown_resolver.proofs.links.put_link.Goals as goal
 
@@ -10,7 +10,7 @@ pub next-requires : goal.next-requires
 next-requires c = closer_within c.requires.5
 
 pub first_past-rest-requires : goal.first_past-rest-requires
-first_past-rest-requires c = rw c.next.ensures.value (behind_spelled c.requires.5)
+first_past-rest-requires c = rw c.next.ensures.value (after_spelled c.requires.5)
 
 pub enclose-requires : goal.enclose-requires
 enclose-requires c =

@@ -1,8 +1,8 @@
 -- A wikilink is put into the node of its opener, with a Text for its name below it.
 use Rattle.std.proofs.Common.{◌≡◌, None, Some, ap}
-use Rattle.markdown_resolver.specs.Settling.{begun_from}
+use Rattle.markdown_resolver.specs.LiteralText.{begun_from}
 use Rattle.markdown_resolver.proofs.EncloseLemmas.{closer_within, size_child}
-use Rattle.markdown_resolver.proofs.FoldLemmas.{behind_spelled}
+use Rattle.markdown_resolver.proofs.FoldLemmas.{after_spelled}
 use Rattle.markdown_resolver.proofs.PutNameLemmas.{are_there, hung_tree, name_puts}
 use Rattle.markdown_resolver.proofs.links.put_wikilink_name.Goals as goal
 
@@ -10,7 +10,7 @@ pub next-requires : goal.next-requires
 next-requires c = closer_within c.requires.7
 
 pub first_past-rest-requires : goal.first_past-rest-requires
-first_past-rest-requires c = rw c.next.ensures.value (behind_spelled c.requires.7)
+first_past-rest-requires c = rw c.next.ensures.value (after_spelled c.requires.7)
 
 pub set_child-requires-clause-node : goal.set_child-requires-clause-node
 set_child-requires-clause-node c = (are_there c.requires.4 c.args.first c.requires.5 c.requires.7 c.requires.10).within

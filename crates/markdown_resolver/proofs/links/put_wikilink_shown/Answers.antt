@@ -3,9 +3,9 @@ use Rattle.std.proofs.Common.{◌≡◌, Some, ap, ◌∙◌}
 use Rattle.markdown_base.specs.declared.item.Item.{Item}
 use Rattle.markdown_base.specs.declared.node.Node.{Node}
 use Rattle.std.specs.Prelude.{List}
-use Rattle.markdown_resolver.specs.Settling.{begun_from}
+use Rattle.markdown_resolver.specs.LiteralText.{begun_from}
 use Rattle.markdown_resolver.proofs.EncloseLemmas.{are_within, closer_within, with_child}
-use Rattle.markdown_resolver.proofs.FoldLemmas.{behind_spelled}
+use Rattle.markdown_resolver.proofs.FoldLemmas.{after_spelled}
 use Rattle.markdown_resolver.proofs.PutShownLemmas.{opener_shown, shown_puts, shown_size, shown_within}
 use Rattle.markdown_resolver.proofs.links.put_wikilink_shown.Goals as goal
 
@@ -13,7 +13,7 @@ pub next-requires : goal.next-requires
 next-requires c = closer_within c.requires.6
 
 pub first_past-rest-requires : goal.first_past-rest-requires
-first_past-rest-requires c = rw c.next.ensures.value (behind_spelled c.requires.6)
+first_past-rest-requires c = rw c.next.ensures.value (after_spelled c.requires.6)
 
 pub enclose-requires-clause-opener : goal.enclose-requires-clause-opener
 enclose-requires-clause-opener c =

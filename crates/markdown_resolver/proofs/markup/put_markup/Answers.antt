@@ -13,7 +13,7 @@ use Rattle.markdown_spans.specs.MarkupView.{markup_of}
 use Rattle.markdown_spans.specs.declared.after_less.MarkupFound.{MarkupFound}
 use Rattle.markdown_resolver.specs.MarkupItems.{IsMarkupAt, item_to, standing_for}
 use Rattle.markdown_resolver.specs.Rewritten.{Puts, one_item}
-use Rattle.markdown_resolver.specs.declared.rest.Rest.{Rest}
+use Rattle.markdown_resolver.specs.declared.continuation.Continuation.{Continuation}
 use Rattle.markdown_resolver.proofs.CodeSpanLemmas.{PutsText, text_put}
 use Rattle.markdown_resolver.proofs.MarkupItemLemmas.{can_put_html, can_put_owned, html_trees, owned_trees}
 use Rattle.markdown_resolver.proofs.MarkupItemLemmas.{puts_standing}
@@ -21,7 +21,7 @@ use Rattle.markdown_resolver.proofs.MarkupLemmas.{if_ok}
 use Rattle.markdown_resolver.proofs.markup.put_markup.Goals as goal
 
 -- what is put there if it was found there
-abbrev StandsFor : List ℕ → Rules → (tables tables' : Tables) → (old new : List (Node Item)) → (ix : ℕ) → Rest
+abbrev StandsFor : List ℕ → Rules → (tables tables' : Tables) → (old new : List (Node Item)) → (ix : ℕ) → Continuation
     → MarkupFound → Type 0
 StandsFor source rules tables tables' old new ix rest found =
     IsMarkupAt source tables old ix (markup_of found)

@@ -7,7 +7,7 @@ use Rattle.markdown_base.specs.CowText.{text_of}
 use Rattle.markdown_spans.proofs.SliceLemmas.{sliced_inside}
 use Rattle.markdown_document.specs.Origins.{origin_of}
 use Rattle.markdown_document.specs.PlacedNodes.{IsSlicedOf}
-use Rattle.markdown_document.specs.Stages.{above_cursor}
+use Rattle.markdown_document.specs.ResolverStates.{above_cursor}
 use Rattle.markdown_document.specs.Setting.{Setting, setting_of}
 use Rattle.markdown_spans.specs.CodeText.{span_text, span_origin}
 use Rattle.markdown_spans.specs.Finds.{prefix_below}

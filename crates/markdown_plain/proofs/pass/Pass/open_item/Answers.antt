@@ -7,11 +7,11 @@ pub returns-clause-inside : goal.returns-clause-inside
 returns-clause-inside c = λ within.
     let text = c.args.self.now.placing.builder.text in
     let stop = c.args.line.stop in
-    let place = c.args.before.behind in
+    let position = c.args.before.after in
     let width = c.args.marker.width in
-    let after = c.past-behind.ensures.at (omega (arith, within)) in
-    past_item_is text c.text.result.now place c.past-behind.result c.item_content-content.result.behind stop width
+    let after = c.past-after.ensures.at (omega (arith, within)) in
+    past_item_is text c.text.result.now position c.past-after.result c.item_content-content.result.after stop width
     (c.text.ensures ∙ (c.in_ok-open_list.ensures.text ∙ c.in_ok-close_down.ensures.text))
-    (past_bytes_is text place c.past-behind.result stop width within after c.past-behind.ensures.column
-    c.past-behind.ensures.owed)
-    c.item_content-content.ensures.behind
+    (past_bytes_is text position c.past-after.result stop width within after c.past-after.ensures.column
+    c.past-after.ensures.owed)
+    c.item_content-content.ensures.after

@@ -1,6 +1,6 @@
 -- One item of the chain after another is counted.
 use Rattle.std.proofs.Common.{ℕ, refl, ap, ◌∙◌, arith}
-use Rattle.markdown_document.specs.Stages.{items_from}
+use Rattle.markdown_document.specs.ResolverStates.{items_from}
 use Rattle.markdown_document.specs.declared.work.Work.{Work}
 use Rattle.markdown_resolver.specs.declared.resolver.Resolver.{Resolver}
 use Rattle.markdown_resolver.proofs.PastByteLemmas.{items_fall, spelled_at}

@@ -1,7 +1,7 @@
 -- Some items were counted, and the others follow.
 use Rattle.std.specs.Prelude.{◌≡◌, Some}
 use Rattle.markdown_base.specs.ArenaForest.{Spells, forest_at, links_of}
-use Rattle.markdown_document.specs.Stages.{items_from}
+use Rattle.markdown_document.specs.ResolverStates.{items_from}
 use Rattle.markdown_resolver.proofs.ReadingLemmas.{Counted}
 use Rattle.markdown_resolver.proofs.resolver.Resolver.count_items.Given as goal
 

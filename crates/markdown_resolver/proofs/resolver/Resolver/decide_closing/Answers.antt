@@ -4,7 +4,7 @@ use Rattle.markdown_base.specs.BlockTree.{item_at}
 use Rattle.markdown_resolver.proofs.ChainPlaceLemmas.{has_blocks}
 use Rattle.markdown_resolver.proofs.CloseBracketLemmas.{IsPrefixOf, decides_here, finds_each, tries_each}
 use Rattle.markdown_resolver.proofs.OpenerReadLemmas.{closer_body, ready_here}
-use Rattle.markdown_resolver.proofs.SettlingLemmas.{node_within}
+use Rattle.markdown_resolver.proofs.LiteralTextLemmas.{node_within}
 use Rattle.markdown_resolver.proofs.resolver.Resolver.decide_closing.Goals as goal
 
 pub new-rule-requires : goal.new-rule-requires

@@ -1,8 +1,8 @@
 -- An opener waits, and a `]` is closed.
 use Rattle.std.proofs.Common.{Some, refl, ap, ◌∙◌}
-use Rattle.markdown_document.specs.Stages.{above_cursor}
+use Rattle.markdown_document.specs.ResolverStates.{above_cursor}
 use Rattle.markdown_document.specs.Tables.{tables_of}
-use Rattle.markdown_resolver.specs.ReadsBracket.{setting_by, stage_by}
+use Rattle.markdown_resolver.specs.ReadsBracket.{setting_by, resolver_state_by}
 use Rattle.markdown_resolver.proofs.OpenerReadLemmas.{if_err, reads_opener, ready_here}
 use Rattle.markdown_resolver.proofs.StopsLemmas.{stops_here}
 use Rattle.markdown_resolver.proofs.resolver.Resolver.read_bracket.Goals as goal
@@ -21,14 +21,14 @@ returns-in-Opener g c =
           (c.requires.bracket ∙ ap Some c.in-Opener.is) opened.puts opened.place opened.brackets opened.wikilinks;
       stops = if_err c.open_bracket.result (λ first left was_read.
           stops_here g.F.BrokenLinkCallback.answers (setting_by s) (above_cursor s.text.now c.args.tree.now)
-          (Some c.args.ix) left (stage_by c.args.tree.now s) s.waiting.spent s.lookup.callback refl);
+          (Some c.args.ix) left (resolver_state_by c.args.tree.now s) s.waiting.spent s.lookup.callback refl);
       again = c.requires.can_ask;
       refused = opened.refused;
       kept = record { kept = refl; footnotes = λ name. refl };
     }
 
-pub returns-in-Closer : goal.returns-in-Closer
-returns-in-Closer g c =
+pub returns-in-BracketReader : goal.returns-in-BracketReader
+returns-in-BracketReader g c =
     let closed = c.close_bracket.ensures in
     record {
       reads = closed.reads;

@@ -3,7 +3,7 @@ use Rattle.std.proofs.Common.{◌≡◌, ℕ, suc, false, Option, Some, take, sy
 use Rattle.std.specs.Prelude.{is_some}
 use Rattle.markdown_document.specs.Counts.{risen}
 use Rattle.markdown_document.specs.Setting.{rules_from, setting_of}
-use Rattle.markdown_document.specs.Stages.{items_from}
+use Rattle.markdown_document.specs.ResolverStates.{items_from}
 use Rattle.markdown_spans.specs.SpanClosers.{has_failed}
 use Rattle.markdown_brackets.proofs.WrittenLemmas.{whole_range}
 use Rattle.markdown_resolver.specs.declared.resolver.Resolver.{Resolver}

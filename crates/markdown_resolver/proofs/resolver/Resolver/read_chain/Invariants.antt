@@ -1,7 +1,7 @@
 -- What was read so far of a chain, and what is true of the rest.
 use Rattle.std.specs.Prelude.{◌≡◌, ℕ, List, IfSome, Some, is_some, take}
 use Rattle.markdown_document.specs.Setting.{rules_from, setting_of}
-use Rattle.markdown_document.specs.Stages.{items_from}
+use Rattle.markdown_document.specs.ResolverStates.{items_from}
 use Rattle.markdown_spans.specs.SpanClosers.{has_failed}
 use Rattle.markdown_resolver.proofs.ChainReadLemmas.{ReadsUpTo}
 use Rattle.markdown_resolver.proofs.ReadingLemmas.{Counted, LookedUpTo}

@@ -1,10 +1,10 @@
 -- Reading a backtick run: the contracts of the searches and the writes give what the lemmas on code spans require.
 use Rattle.std.proofs.Common.{Some, None, ap, subst, refl}
 use Rattle.markdown_base.specs.BlockTree.{item_at, no_item}
-use Rattle.markdown_document.specs.Stages.{above_cursor}
+use Rattle.markdown_document.specs.ResolverStates.{above_cursor}
 use Rattle.markdown_document.specs.Setting.{Setting, setting_of, rules_from}
 use Rattle.markdown_document.specs.Tables.{tables_of}
-use Rattle.markdown_resolver.specs.declared.rest.Rest.{Rest}
+use Rattle.markdown_resolver.specs.declared.continuation.Continuation.{Continuation}
 use Rattle.markdown_spans.specs.SpanClosers.{ClosesCode, has_failed}
 use Rattle.markdown_spans.specs.declared.span_text.SpanKind.TheVariants.{Code}
 use Rattle.markdown_resolver.proofs.ChainLeadsLemmas.{chain_leads}
@@ -26,7 +26,7 @@ find_code_closer-requires g c =
     let chain = chain_leads c.requires.ready.chain.ready in
     record { ready = record { chain = chain; holds = c.requires.ready.learned.code } }
 
--- nothing closes it: it is settled
+-- nothing closes it: it becomes literal text
 pub returns-in_default-clause-reads : goal.returns-in_default-clause-reads
 returns-in_default-clause-reads g c =
     let s = c.args.self.now in
@@ -39,11 +39,12 @@ returns-in_default-clause-reads g c =
     let o = c.requires.opener in
     let found = c.in_ok-closer.ensures in
     let closes : ClosesCode nodes ix None = subst (ClosesCode nodes ix) c.in_default.is found.found in
-    let puts = c.settle.ensures.puts place.text.now tables ready in
-    let result : Result Rest Fault = Ok c.settle.result in
+    let puts = c.make_literal.ensures.puts place.text.now tables ready in
+    let result : Result Continuation Fault = Ok c.make_literal.result in
     let read = reads_by_rules result place s.text.now (rules_from s.options s.lookup.tables (is_some s.lookup.callback))
     tree ix
-    c.settle.new.tree.nodes tables tables ready c.requires.ready.text (ap gfm_footnotes_on c.requires.ready.options)
+    c.make_literal.new.tree.nodes tables tables ready c.requires.ready.text
+    (ap gfm_footnotes_on c.requires.ready.options)
     (λ rules gfm. let set : Setting = setting_of place.text.now rules in
     reads_item ready (nothing_reads set (above_cursor set.text tree) tables nodes ix o.0 o.1 ready o.2 closes) puts) in
     record {
@@ -58,7 +59,7 @@ returns-in_default-clause-reads g c =
             puts;
         math = read.looks (has_failed s.math_closers) s.work.math_visits;
       };
-      place_is = c.settle.ensures.place;
+      place_is = c.make_literal.ensures.place;
     }
 
 -- an item closes it: the text between them is taken
@@ -97,7 +98,7 @@ returns-clause-reads g c =
     let ready = c.requires.ready.chain.ready in
     let o = c.requires.opener in
     let found = c.in_ok-closer.ensures in
-    let result : Result Rest Fault = Ok c.put_code.result in
+    let result : Result Continuation Fault = Ok c.put_code.result in
     let here = found_code ready o.2 found.found c.in-Some.is found.within (c.item.ensures no_item)
     (c.item-2.ensures no_item) c.in_ok-cow.ensures.stored in
     let was_put = c.put_code.ensures.puts place.text.now tables tables' here.can in

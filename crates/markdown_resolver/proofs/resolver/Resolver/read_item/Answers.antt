@@ -4,15 +4,15 @@ use Rattle.std.proofs.lemmas.Result.{IfOk-weaker, IfErr-weaker}
 use Rattle.std.specs.Prelude.{IfSome}
 use Rattle.markdown_base.specs.BlockTree.{item_at, no_item}
 use Rattle.markdown_base.specs.declared.item.Item.{Item}
-use Rattle.markdown_document.specs.Stages.{above_cursor}
+use Rattle.markdown_document.specs.ResolverStates.{above_cursor}
 use Rattle.markdown_resolver.specs.BracketKinds.{kind_of}
-use Rattle.markdown_resolver.specs.ReadsBracket.{setting_by, stage_by}
+use Rattle.markdown_resolver.specs.ReadsBracket.{setting_by, resolver_state_by}
 use Rattle.markdown_resolver.specs.declared.resolver.Resolver.{Resolver}
 use Rattle.markdown_resolver.proofs.ChainReadLemmas.{can_read_item}
 use Rattle.markdown_resolver.proofs.NodeReadLemmas.{bracket_changes, bracket_read, bracket_stops, other_changes}
 use Rattle.markdown_resolver.proofs.NodeReadLemmas.{other_read}
 use Rattle.markdown_resolver.proofs.OpenerReadLemmas.{if_err_both, ready_here}
-use Rattle.markdown_resolver.proofs.SettlingLemmas.{node_within}
+use Rattle.markdown_resolver.proofs.LiteralTextLemmas.{node_within}
 use Rattle.markdown_resolver.proofs.StopsLemmas.{stops_here}
 use Rattle.markdown_resolver.proofs.resolver.Resolver.read_item.Goals as goal
 
@@ -66,7 +66,7 @@ returns-in-None g c =
         refused = both.0;
         at_node = λ first left was_read.
             stops_here g.F.BrokenLinkCallback.answers (setting_by s) (above_cursor s.text.now t) (Some c.args.ix) left
-            (stage_by t s)
+            (resolver_state_by t s)
             s.waiting.spent new.self.lookup.callback (ap (λ (r : Resolver g.row.F.Denot). r.lookup.callback) e.kept);
         looking = both.1;
       }) (if_err_both c.read_other.result _ _ e.refused e.stops);

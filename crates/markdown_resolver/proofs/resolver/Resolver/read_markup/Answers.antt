@@ -7,7 +7,7 @@ use Rattle.markdown_base.specs.declared.item.Item.{Item}
 use Rattle.markdown_document.specs.Tables.{tables_of}
 use Rattle.markdown_spans.specs.MarkupView.{markup_of}
 use Rattle.markdown_brackets.proofs.WrittenLemmas.{whole_range}
-use Rattle.markdown_resolver.specs.declared.rest.Rest.{Rest}
+use Rattle.markdown_resolver.specs.declared.continuation.Continuation.{Continuation}
 use Rattle.markdown_resolver.proofs.ChainPlaceLemmas.{has_blocks}
 use Rattle.markdown_resolver.proofs.MarkupItemLemmas.{boundary_before, lies_at}
 use Rattle.markdown_resolver.proofs.MarkupLemmas.{if_ok, is_scanned, markup_stands, none_follows, none_past_block}
@@ -19,7 +19,7 @@ use Rattle.markdown_resolver.proofs.resolver.Resolver.read_markup.Goals.{
 }
 use Rattle.std.specs.Prelude.{Result, Ok}
 use Rattle.markdown_document.specs.Setting.{Rules, setting_of}
-use Rattle.markdown_document.specs.Stages.{above_cursor}
+use Rattle.markdown_document.specs.ResolverStates.{above_cursor}
 use Rattle.markdown_base.specs.EnabledOptions.{gfm_footnotes_on}
 use Rattle.markdown_base.specs.declared.fault.Fault.{Fault}
 use Rattle.markdown_spans.specs.SpanClosers.{has_failed}
@@ -36,10 +36,11 @@ returns-then-item-place-clause-reads g c =
     let tree = c.args.tree.now in
     let held = s.lookup.tables in
     let same = c.item-item.ensures no_item in
-    let puts = c.settle.ensures.puts place.text.now (tables_of held) c.requires.ready.chain.ready in
+    let puts = c.make_literal.ensures.puts place.text.now (tables_of held) c.requires.ready.chain.ready in
     let reads : (rules : Rules) → gfm_footnotes_on rules.options ≡ gfm_footnotes_on place.options
-    → ReadsItem (setting_of place.text.now rules) (above_cursor place.text.now tree) c.args.ix c.settle.result
-    tree.nodes c.settle.new.tree.nodes (tables_of held) (tables_of held) = λ rules gfm. elim c.then-item-place.branch [
+    → ReadsItem (setting_of place.text.now rules) (above_cursor place.text.now tree) c.args.ix c.make_literal.result
+    tree.nodes c.make_literal.new.tree.nodes (tables_of held)
+    (tables_of held) = λ rules gfm. elim c.then-item-place.branch [
       | then-item-place-via-then-item-place w ↦ reads_text c.requires.ready.chain c.requires.opener
           (none_past_block place tree held c.args.ix rules c.item-item.result.now c.requires.ready.chain
           c.requires.opener same w.if-item-place.true) puts
@@ -47,8 +48,9 @@ returns-then-item-place-clause-reads g c =
           (none_follows place tree held c.args.ix rules c.item-item.result.now w.next.result c.requires.ready.chain same
           w.next.ensures.value (sym w.if-not-starts_at.true ∙ w.starts_at.ensures)) puts
     ] in
-    let result : Result Rest Fault = Ok c.settle.result in
-    only_reads result place tree s s c.args.ix c.settle.new.tree c.requires.ready c.settle.ensures.place reads refl refl
+    let result : Result Continuation Fault = Ok c.make_literal.result in
+    only_reads result place tree s s c.args.ix c.make_literal.new.tree c.requires.ready c.make_literal.ensures.place
+    reads refl refl
     refl
 
 pub new-prefix-requires : goal.new-prefix-requires
@@ -102,11 +104,12 @@ returns-in-None-clause-reads g c =
     (c.item-item.ensures no_item) c.if-item-place.false c.next.ensures.value c.if-not-starts_at.ensures
     c.new-prefix.ensures.tree
     (c.new-prefix.ensures.footnotes ∙ c.gfm_footnotes.ensures) c.range-text.ensures.value c.range-text.utf8 value in
-    let result : Result Rest Fault = Ok c.settle-in-None.result in
-    only_reads result place tree s s c.args.ix c.settle-in-None.new.tree c.requires.ready c.settle-in-None.ensures.place
+    let result : Result Continuation Fault = Ok c.make_literal-in-None.result in
+    only_reads result place tree s s c.args.ix c.make_literal-in-None.new.tree c.requires.ready
+    c.make_literal-in-None.ensures.place
     (λ rules gfm. reads_text
     c.requires.ready.chain c.requires.opener (scan_finds place tree held c.args.ix prefix None rules scanned gfm)
-    (c.settle-in-None.ensures.puts place.text.now (tables_of held) c.requires.ready.chain.ready)) refl refl refl
+    (c.make_literal-in-None.ensures.puts place.text.now (tables_of held) c.requires.ready.chain.ready)) refl refl refl
 
 pub returns-in-Some-clause-reads : goal.returns-in-Some-clause-reads
 returns-in-Some-clause-reads g c =

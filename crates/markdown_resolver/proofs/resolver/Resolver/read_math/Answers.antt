@@ -2,10 +2,10 @@
 use Rattle.std.proofs.Common.{Some, None, ap, subst, refl}
 use Rattle.markdown_base.specs.BlockTree.{item_at, no_item}
 use Rattle.markdown_base.specs.declared.item.Item.{Item}
-use Rattle.markdown_document.specs.Stages.{above_cursor}
+use Rattle.markdown_document.specs.ResolverStates.{above_cursor}
 use Rattle.markdown_document.specs.Setting.{Setting, setting_of, rules_from}
 use Rattle.markdown_document.specs.Tables.{tables_of}
-use Rattle.markdown_resolver.specs.declared.rest.Rest.{Rest}
+use Rattle.markdown_resolver.specs.declared.continuation.Continuation.{Continuation}
 use Rattle.markdown_spans.specs.SpanClosers.{ClosesMath, has_failed}
 use Rattle.markdown_spans.specs.declared.span_text.SpanKind.TheVariants.{Math}
 use Rattle.markdown_resolver.specs.Rewritten.{Puts, one_item}
@@ -29,7 +29,7 @@ find_math_closer-requires g c =
     let chain = chain_leads c.requires.ready.chain.ready in
     record { ready = record { chain = chain; holds = c.requires.ready.learned.math } }
 
--- nothing closes it: it is settled
+-- nothing closes it: it becomes literal text
 pub returns-in_default-clause-reads : goal.returns-in_default-clause-reads
 returns-in_default-clause-reads g c =
     let s = c.args.self.now in
@@ -42,11 +42,12 @@ returns-in_default-clause-reads g c =
     let d = dollar_body (item_at nodes ix).body c.requires.opener in
     let found = c.in_ok-math.ensures in
     let closes : ClosesMath nodes ix None = subst (ClosesMath nodes ix) c.in_default.is found.found in
-    let puts = c.settle.ensures.puts place.text.now tables ready in
-    let result : Result Rest Fault = Ok c.settle.result in
+    let puts = c.make_literal.ensures.puts place.text.now tables ready in
+    let result : Result Continuation Fault = Ok c.make_literal.result in
     let read = reads_by_rules result place s.text.now (rules_from s.options s.lookup.tables (is_some s.lookup.callback))
     tree ix
-    c.settle.new.tree.nodes tables tables ready c.requires.ready.text (ap gfm_footnotes_on c.requires.ready.options)
+    c.make_literal.new.tree.nodes tables tables ready c.requires.ready.text
+    (ap gfm_footnotes_on c.requires.ready.options)
     (λ rules gfm. let set : Setting = setting_of place.text.now rules in
     reads_item ready (no_math_reads set (above_cursor set.text tree) tables nodes ix d.opens d.closes d.context ready
     d.is closes) puts) in
@@ -62,7 +63,7 @@ returns-in_default-clause-reads g c =
             c.find_math_closer.new.visits ready c.find_math_closer.new.self found.counted found.failed c.in_default.is
             puts;
       };
-      place_is = c.settle.ensures.place;
+      place_is = c.make_literal.ensures.place;
     }
 
 -- something closes it: the text between them is taken
@@ -104,7 +105,7 @@ returns-clause-reads g c =
     let d = dollar_body (item_at nodes ix).body c.requires.opener in
     let found = c.in_ok-math.ensures in
     let start = start_is place.text.now tables nodes ix c.math_text_start.result ready c.math_text_start.ensures in
-    let result : Result Rest Fault = Ok c.put_found.result in
+    let result : Result Continuation Fault = Ok c.put_found.result in
     let standing_item = math_item nodes ix m c.in_ok-cow.cow in
     let here : PutsMath place.text.now tables tables' nodes ix m c.in_ok-cow.cow
     (span_of c.item-2.result.now c.item-3.result.now m c.in_ok-cow.cow) =

@@ -4,16 +4,16 @@ use Rattle.std.specs.Prelude.{Result, Ok}
 use Rattle.markdown_base.specs.BlockTree.{no_item}
 use Rattle.markdown_base.specs.declared.fault.Fault.{Fault}
 use Rattle.markdown_base.specs.declared.item.Item.{Item}
-use Rattle.markdown_document.specs.Stages.{above_cursor}
+use Rattle.markdown_document.specs.ResolverStates.{above_cursor}
 use Rattle.markdown_document.specs.Tables.{tables_of}
 use Rattle.markdown_spans.specs.Closers.{is_dollar}
 use Rattle.markdown_spans.specs.SpanClosers.{has_failed}
 use Rattle.markdown_spans.specs.declared.span_text.SpanKind.{SpanKind}
-use Rattle.markdown_resolver.specs.declared.rest.Rest.{Rest}
+use Rattle.markdown_resolver.specs.declared.continuation.Continuation.{Continuation}
 use Rattle.markdown_resolver.specs.Chains.{CanResolve}
 use Rattle.markdown_resolver.specs.ReadsBracket.{setting_by}
-use Rattle.markdown_resolver.proofs.ReadingLemmas.{FindsNothing, finds_nothing, reads_alone, settled_reads}
-use Rattle.markdown_resolver.proofs.SettlingLemmas.{node_within}
+use Rattle.markdown_resolver.proofs.ReadingLemmas.{FindsNothing, finds_nothing, reads_alone, literal_reads}
+use Rattle.markdown_resolver.proofs.LiteralTextLemmas.{node_within}
 use Rattle.markdown_resolver.proofs.resolver.Resolver.read_other.Goals as goal
 
 pub item-requires : goal.item-requires
@@ -46,11 +46,11 @@ returns-in_default g c =
     c.in_default.not-MaybeCode c.in_default.not-MaybeMath c.in_default.not-MaybeHtml in
     let ready : CanResolve s.text.now tables nodes (Some c.args.ix) = rw c.requires.ready.text at
     c.requires.ready.chain.ready in
-    let result : Result Rest Fault = Ok c.settle.result in
-    let read = reads_alone result set above c.args.ix nodes c.settle.new.tree.nodes tables tables ready
-    (settled_reads set above c.args.ix c.settle.result nodes c.settle.new.tree.nodes tables ready
+    let result : Result Continuation Fault = Ok c.make_literal.result in
+    let read = reads_alone result set above c.args.ix nodes c.make_literal.new.tree.nodes tables tables ready
+    (literal_reads set above c.args.ix c.make_literal.result nodes c.make_literal.new.tree.nodes tables ready
     (subst FindsNothing (ap (λ (item : Item). item.body) (c.item.ensures no_item)) nothing_there)
-    (c.settle.ensures.puts s.text.now tables ready)) in
+    (c.make_literal.ensures.puts s.text.now tables ready)) in
     record {
       reads = record {
         item = read.reads;
@@ -62,7 +62,7 @@ returns-in_default g c =
           code = read.looks (has_failed s.code_closers) s.work.code_visits;
           math = read.looks (has_failed s.math_closers) s.work.math_visits;
         };
-        place_is = c.settle.ensures.place;
+        place_is = c.make_literal.ensures.place;
       };
       stops = tt;
       refused = tt;

@@ -6,7 +6,7 @@ use Rattle.markdown_base.specs.declared.item.Item.{Item}
 use Rattle.markdown_document.specs.Setting.{rules_from, setting_of}
 use Rattle.markdown_document.specs.Counts.{RisesAtLeast}
 use Rattle.markdown_document.specs.Places.{trees_from}
-use Rattle.markdown_document.specs.Stages.{chain_at, stage, above_cursor}
+use Rattle.markdown_document.specs.ResolverStates.{chain_at, resolver_state, above_cursor}
 use Rattle.markdown_document.specs.Tables.{tables_of}
 use Rattle.markdown_delims.specs.PairingFinds.{finds_in}
 use Rattle.markdown_resolver.specs.declared.resolver.Resolver.{Resolver}
@@ -29,7 +29,8 @@ returns-in_err-read_chain-clause-stops g c =
     if_err c.from_residual.result (stops_resolving _ _ _ _ _ _ s.work c.read_chain.new.self.work
     c.in_err-read_chain.ensures.stops (λ later. read_in_part (setting_of s.text.now rules)
     (above_cursor s.text.now c.args.tree.now) c.args.first
-    (stage c.args.tree.now s.lookup.tables s.lookup.limit s.lookup.callback) _ s.work c.read_chain.new.self.work read))
+    (resolver_state c.args.tree.now s.lookup.tables s.lookup.limit s.lookup.callback) _ s.work
+    c.read_chain.new.self.work read))
 
 pub returns-in_err-pair_chain-clause-stops : goal.returns-in_err-pair_chain-clause-stops
 returns-in_err-pair_chain-clause-stops g c =
@@ -47,7 +48,7 @@ returns-clause-resolves g c =
     let rules = rules_from s.options s.lookup.tables (is_some s.lookup.callback) in
     let setting = setting_of s.text.now rules in
     let after = c.read_chain.new.self in
-    let mid = stage c.read_chain.new.tree after.lookup.tables after.lookup.limit after.lookup.callback in
+    let mid = resolver_state c.read_chain.new.tree after.lookup.tables after.lookup.limit after.lookup.callback in
     let kept = c.read_chain.ensures.kept.kept in
     let reads = c.in_ok-read_chain.ensures.reads in
     let pairs = rw kept at (c.in_ok-pair_chain.ensures.pairs rules (rw kept refl)) in

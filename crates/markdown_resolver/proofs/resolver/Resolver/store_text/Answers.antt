@@ -1,6 +1,6 @@
 -- A text that is put in is found there, as it was made.
 use Rattle.std.proofs.Common.{◌≡◌}
-use Rattle.markdown_document.specs.Stages.{above_cursor}
+use Rattle.markdown_document.specs.ResolverStates.{above_cursor}
 use Rattle.markdown_document.specs.Setting.{Rules, setting_of}
 use Rattle.markdown_base.specs.EnabledOptions.{gfm_footnotes_on}
 use Rattle.markdown_resolver.specs.StoredText.{text_between}

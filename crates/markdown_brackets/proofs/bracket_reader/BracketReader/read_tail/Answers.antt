@@ -1,0 +1,32 @@
+-- The tail is that of the block's text, by the items ahead, and its title comes from there.
+use Rattle.std.proofs.Common.{◌∙◌}
+use Rattle.std.specs.Prelude.{IfOk}
+use Rattle.markdown_base.specs.BlockTree.{no_item}
+use Rattle.markdown_brackets.specs.ChainAhead.{starts_from}
+use Rattle.markdown_brackets.specs.LinkTail.{link_tail}
+use Rattle.markdown_brackets.specs.LinkTailView.{ReadsTail}
+use Rattle.markdown_brackets.proofs.TailTitleLemmas.{has_title}
+use Rattle.markdown_brackets.proofs.WrittenLemmas.{ok_both, whole_range}
+use Rattle.markdown_brackets.proofs.bracket_reader.BracketReader.read_tail.Goals as goal
+
+pub returns-clause-value : goal.returns-clause-value
+returns-clause-value g c =
+    let at = c.args.self.now in
+    let rules = c.rules.result in
+    let text = c.range-text.ensures.value ∙ whole_range at.place.now.text.now at.place.now.block_end in
+    let read : IfOk c.scan_link_tail.result (ReadsTail rules.in_table (link_tail (g.R.LineRule.skipped rules.rule.now)
+    (starts_from at.tree.now.nodes c.next.result) c.range-text.result.now c.item.result.now.end))
+    = c.scan_link_tail.ensures.value in
+    rw (c.rules.ensures.in_table, c.rules.ensures.rule, c.next.ensures.value, text, c.item.ensures no_item) at read
+
+pub returns-clause-from : goal.returns-clause-from
+returns-clause-from g c =
+    let at = c.args.self.now in
+    let place = at.place.now in
+    let text = c.range-text.ensures.value ∙ whole_range place.text.now place.block_end in
+    rw (c.item.ensures no_item) at
+    (ok_both c.scan_link_tail.result _ _ _ c.scan_link_tail.ensures.value c.scan_link_tail.ensures.borrowed
+    (λ found reads borrows.
+    has_title c.rules.result.in_table (g.R.LineRule.skipped c.rules.result.rule.now)
+    (starts_from at.tree.now.nodes c.next.result)
+    place.text.now c.range-text.result.now place.block_end c.item.result.now.end found text reads borrows))

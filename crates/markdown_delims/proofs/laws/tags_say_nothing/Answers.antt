@@ -1,6 +1,0 @@
--- By the lemma.
-use Rattle.markdown_delims.proofs.LawLemmas.{tag-law}
-use Rattle.markdown_delims.proofs.laws.tags_say_nothing.Goals as goal
-
-pub returns : goal.returns
-returns c = tag-law

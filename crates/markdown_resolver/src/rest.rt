@@ -1,8 +1,0 @@
-//! What is left of a chain once an item of it was read.
-
-/// Where a chain continues after an item was read, and how many items after that one have left it.
-#[derive(Clone, Copy, Drop)]
-pub struct Rest {
-    pub next: Option<usize>,
-    pub passed: usize,
-}
