@@ -1,5 +1,5 @@
 -- What is written are the events of the parser, as a page has them.
-use Rattle.std.proofs.Common.{Unit, rules, tt}
+use Rattle.std.proofs.Common.{rules}
 use Rattle.std.specs.Iterator.Adapters.{map_source}
 use Rattle.markdown.specs.ReadingWords.{IsEventOf, NextGives}
 use Rattle.markdown_uses.proofs.ChangedEventsLemmas.{all_changed, written}
