@@ -50,7 +50,7 @@ fn open_items_at_which_nothing_is_found(rt: HostRuntime) -> Result<(), Fail> {
 }
 
 /// Returns a parser of the open items, with the definition of `foo`.
-fn open_parser<'a>(alloc: Global) -> Result<Parser<'a>, Fail> {
+fn open_parser(alloc: Global) -> Result<Parser<'static>, Fail> {
     let tree = tree_of_placed(alloc, OPEN_ITEMS)?;
     let parts = defining(alloc, &[("foo", "/u")])?;
     parser_of(alloc, OPEN, Options::empty(), tree, parts)
