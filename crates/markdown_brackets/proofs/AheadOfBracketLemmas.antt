@@ -140,8 +140,7 @@ label_ends_after at (Some l) some = by l.is_footnote
     by false = omega (arith, some)
 
 pub form_after : (style : FootnoteStyle) (skipped : List ℕ → Option ℕ) (in_table : Bool) (text : List ℕ) (at : ℕ)
-    (next after : Option Item)
-    → 0 < at → EndsAfter 0 (form_at style skipped in_table text at next after)
+    (next after : Option Item) → 0 < at → EndsAfter 0 (form_at style skipped in_table text at next after)
 form_after style skipped in_table text at next after some =
     by (stands_at at is_opener next && stands_at (at + 1) is_closing_bracket after) (stands_at at (λ b. true) next)
   where

@@ -143,8 +143,7 @@ module _ {C : Type 0} (step : C → Question → Option Answer → C → Type 0)
   link_or_text end next target = unwrap_or (option_map (λ t. a_link o t end next) target) a_text
 
   pub comes_to_reference : (about : BrokenLink) (next : ℕ) (spends : List ℕ) (spent spent' : SpentEnds)
-      (target : Option LinkView)
-      (found : ClosedBracket)
+      (target : Option LinkView) (found : ClosedBracket)
       → about.span.start ≡ start_of o.opener → new.tables ≡ old.tables → Spends spends spent spent'
       → IsLookedUp about.link_type → LooksUp step old new (question_of about) target
       → (IsNoInline target → IsBecome w (link_or_text about.span.end next target) found)

@@ -33,8 +33,7 @@ use Rattle.markdown_brackets.proofs.TakeWikilinkLemmas.{closer_found, opener_hol
 use Rattle.markdown_brackets.proofs.TakeWikilinkLemmas.{left_of, IsNearest, TakenOff, is_nearest}
 
 module _ {C : Type 0} (step : C → Question → Option Answer → C → Type 0) (w : BracketContext) (c : Closing ℕ)
-    (left : List (Entry ℕ))
-    (lookup : LabelLookup C) (spent : SpentEnds)
+    (left : List (Entry ℕ)) (lookup : LabelLookup C) (spent : SpentEnds)
     (taken : Option (Opener × Bool)) (old new held : List Waiting) (old_is : old ≡ brackets_of left)
     (m : TakenOff taken old new) (found : ClosedBracket) where
   pub decides_wikilink : TakesOne w c left held found

@@ -107,8 +107,7 @@ after_all n (waits m a ∷ left) f h = ((after n left (node a nil f) h).0, after
 
 -- each node of the left list leads to the next
 links_on : (source : List ℕ) (tables : Tables) (nodes : List (Node Item)) (first : Option ℕ) (left : List (Entry ℕ))
-    (a : TreeNode ℕ)
-    (below later below' later' : Forest (TreeNode ℕ))
+    (a : TreeNode ℕ) (below later below' later' : Forest (TreeNode ℕ))
     → Holds source tables nodes first (trees_onto left (node a below later))
     → AreRising (roots (numbers_of (trees_onto left (node a below' later')))) → LinksOn nodes a.note left
 links_on source tables nodes first [] a below later below' later' h r = tt
@@ -158,8 +157,7 @@ stays_all flag nodes n next (waits m a ∷ left) h le =
     (stays_all flag nodes n a.note left h.2 (omega (arith, h.0, le)))
 
 before_opener : (flag : OpenerState → Flag) (nodes : List (Node Item)) (m : OpenerState) (a : TreeNode ℕ)
-    (after left : List (Entry ℕ))
-    → AreAfter a.note after → LinksOn nodes a.note left
+    (after left : List (Entry ℕ)) → AreAfter a.note after → LinksOn nodes a.note left
     → before a.note (held_by flag (after ++ waits m a ∷ left)) ≡ held_by flag left
 before_opener flag nodes m a after left h links =
     goes_all flag a.note after (waits m a ∷ left) h
@@ -254,9 +252,7 @@ no_wikilinks (waits m a ∷ left) =
 
 -- the stacks at an opener of the left list
 module _ (nodes : List (Node Item)) (closer : ℕ) (left : List (Entry ℕ)) (c : Closing ℕ)
-    (s : StandsBefore nodes closer left c)
-    (rises : LeftRises left)
-    (o : Split ℕ) (h : IsSplit left o) where
+    (s : StandsBefore nodes closer left c) (rises : LeftRises left) (o : Split ℕ) (h : IsSplit left o) where
   abbrev n : ℕ
   n = o.opener.note
 

@@ -21,8 +21,8 @@ pub record IsSplitBy {A : Type 0} (f : OpenerState → OpenerState) (left left' 
   pub is : left ≡ o.after ++ waits o.state o.opener ∷ o.before
   pub changed : left' ≡ o.after ++ waits (f o.state) o.opener ∷ o.before
 
-split_after : {A : Type 0} (f : OpenerState → OpenerState) (e : Entry A) (left left' : List (Entry A)) (o : Option
-    (Split A))
+split_after : {A : Type 0} (f : OpenerState → OpenerState) (e : Entry A) (left left' : List (Entry A))
+    (o : Option (Split A))
     → IfSome o (IsSplitBy f left left') → IfSome (option_map (with_entry e) o) (IsSplitBy f (e ∷ left) (e ∷ left'))
 split_after f e left left' None h = tt
 split_after f e left left' (Some o) h = record { is = ap (λ l. e ∷ l) h.is; changed = ap (λ l. e ∷ l) h.changed }
@@ -80,8 +80,7 @@ module _ {A : Type 0} {low : OpenerState → OpenerState → Type 0} {same : Lis
   same_marks f lower (waits m a ∷ left) = k.opener m (f m) a left (on_states f left) (lower m) (same_marks f lower left)
 
   pub same_change : (test : OpenerState → Bool) (f : OpenerState → OpenerState) → ((m : OpenerState) → low m (f m)) →
-      (left : List (Entry A))
-      → same left (change_nearest test f left)
+      (left : List (Entry A)) → same left (change_nearest test f left)
   same_change test f lower [] = k.empty
   same_change test f lower (done a below ∷ left) =
       k.tree a below left (change_nearest test f left) (same_change test f lower left)

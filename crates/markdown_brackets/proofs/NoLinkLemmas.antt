@@ -195,9 +195,8 @@ link_entry false a target start end below before s f g h = (
   (same_before_link sounds_marked false before).1 s,
 )
 
-wikilink_entry : {A : Type 0} (i : Bool) (a : TreeNode A) (target : LinkView) (start end : ℕ) (below : Forest
-    (TreeNode A))
-    (before : List (Entry A))
+wikilink_entry : {A : Type 0} (i : Bool) (a : TreeNode A) (target : LinkView) (start end : ℕ)
+    (below : Forest (TreeNode A)) (before : List (Entry A))
     → IsSound before → (i ≡ false → IsFreeOfLinks below) → HasNoLinkInLink below
     → IsSound (done (over a (enclosed (if i then image target else link target)) start end) below ∷ before_wikilink
     before)

@@ -100,9 +100,8 @@ trees_marked = record {
   twice = λ one two three h k later. k later ∙ h later;
 }
 
-pub trees_stay : (test : OpenerState → Bool) (f : OpenerState → OpenerState) (left : List (Entry ℕ)) (later : Forest
-    (TreeNode ℕ))
-    → trees_onto (change_nearest test f left) later ≡ trees_onto left later
+pub trees_stay : (test : OpenerState → Bool) (f : OpenerState → OpenerState) (left : List (Entry ℕ))
+    (later : Forest (TreeNode ℕ)) → trees_onto (change_nearest test f left) later ≡ trees_onto left later
 trees_stay test f left later = same_change trees_marked test f (λ m. tt) left later
 
 -- the trees of a left list at an opener

@@ -18,8 +18,7 @@ by_items style skipped in_table at false true = refl
 by_items style skipped in_table at false false = refl
 
 pub form_past : (style : FootnoteStyle) (skipped : List ℕ → Option ℕ) (in_table : Bool) (text : List ℕ) (at : ℕ)
-    (next after : Option Item)
-    → length text ≤ at
+    (next after : Option Item) → length text ≤ at
     → form_at style skipped in_table text at next after
     ≡ (if stands_at at is_opener next && stands_at (at + 1) is_closing_bracket after
     then collapsed else shortcut)

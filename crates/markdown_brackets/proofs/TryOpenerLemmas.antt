@@ -35,8 +35,7 @@ use Rattle.markdown_brackets.proofs.ComesToLemmas.{comes_to_text, found_as}
 
 -- a reference by two tests that agree past byte 0
 reference_same : (w : BracketContext) (o : Split ℕ) (end : ℕ) (closes closes' : ℕ → Bool) (own : Option FoundLabel)
-    (form : Form)
-    → EndsAfter 0 form → ((i : ℕ) → 0 < i → closes i ≡ closes' i)
+    (form : Form) → EndsAfter 0 form → ((i : ℕ) → 0 < i → closes i ≡ closes' i)
     → reference_written w o end closes own form ≡ reference_written w o end closes' own form
 reference_same w o end closes closes' own (reference label to) after same = rw (same to after) refl
 reference_same w o end closes closes' own collapsed after same = refl

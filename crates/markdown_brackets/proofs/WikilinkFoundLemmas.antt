@@ -193,8 +193,8 @@ low_of : (nodes : List (Node Item)) (l : Option ℕ) (f : Forest (TreeNode ℕ))
 low_of nodes l f e = subst (λ g. height g ≤ length nodes) e (height_found (links_of nodes) l)
 
 -- the trees past the second of some, in an arena
-module _ (source : List ℕ) (tables : Tables) (nodes : List (Node Item)) (closer : TreeNode ℕ) (rest : Forest
-    (TreeNode ℕ))
+module _ (source : List ℕ) (tables : Tables) (nodes : List (Node Item)) (closer : TreeNode ℕ)
+    (rest : Forest (TreeNode ℕ))
   where
     pub record PastSecond (trees : Forest (TreeNode ℕ)) : Type 0 where
       pub link : Option ℕ
@@ -220,8 +220,7 @@ finds_none nodes w end closer c None t = refl
 finds_none nodes w end closer c (Some o) t = absurd t
 
 pub finds_dead : (nodes : List (Node Item)) (w : BracketContext) (end closer : ℕ) (opener : Opener) (live : Bool)
-    (c : Closing ℕ)
-    (o : Option (Split ℕ)) → live ≡ false
+    (c : Closing ℕ) (o : Option (Split ℕ)) → live ≡ false
     → TriesWikilink nodes closer (Some (opener, live)) c o → FindsWikilink w end c o None
 finds_dead nodes w end closer opener live c None e t = absurd t
 finds_dead nodes w end closer opener live c (Some o) e t =
@@ -229,8 +228,7 @@ finds_dead nodes w end closer opener live c (Some o) e t =
     rw dead tt
 
 pub finds_live : (nodes : List (Node Item)) (w : BracketContext) (end closer : ℕ) (opener : Opener) (live : Bool)
-    (c : Closing ℕ)
-    (o : Option (Split ℕ)) (r : Option ClosedBracket) → live ≡ true
+    (c : Closing ℕ) (o : Option (Split ℕ)) (r : Option ClosedBracket) → live ≡ true
     → IsWikilinkAt opener end (wikilink_nodes nodes w.setting.text w.above.block_end opener.node closer) r
     → TriesWikilink nodes closer (Some (opener, live)) c o → FindsWikilink w end c o r
 finds_live nodes w end closer opener live c None r e h t = absurd t

@@ -51,8 +51,7 @@ no_reference w o false end closes false = refl
 
 -- past the block's end nothing is written
 pub nothing_past_block : (nodes : List (Node Item)) (place : ChainPlace) (skipped : List ℕ → Option ℕ) (closer : ℕ)
-    (w : BracketContext)
-    (o : Split ℕ) (could_be : Bool) (start : ℕ) → place.block_end < (item_at nodes closer).end
+    (w : BracketContext) (o : Split ℕ) (could_be : Bool) (start : ℕ) → place.block_end < (item_at nodes closer).end
     → written_at nodes place skipped closer w o could_be start ≡ None
 nothing_past_block nodes place skipped closer w o could_be start past =
     let end = (item_at nodes closer).end in

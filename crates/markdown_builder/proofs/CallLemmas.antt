@@ -377,8 +377,7 @@ IsReplaced old new block = (outer : List OpenBlock) (last : OpenBlock) → old �
 
 -- `change`
 pub change_keeps : {s : State} (now : Standpoint) (inner : OpenBlock) (b : ItemBody) (blocks : List OpenBlock)
-    (new : Arena Item)
-    → IsSound s → seen s ≡ now
+    (new : Arena Item) → IsSound s → seen s ≡ now
     → is_plain_block b ≡ true → is_leaf b ≡ now.leaf → Some inner ≡ innermost_block s.blocks
     → IsReplaced s.blocks blocks (record inner { body = b })
     → IsRewritten s.tree new (record inner { body = b }) → IsSound (record s { tree = new; blocks = blocks })
@@ -403,8 +402,7 @@ body_changed old new inner b last replace outer block h =
 
 -- `begin_later`
 pub begin_later_keeps : {s : State} (now : Standpoint) (inner : OpenBlock) (start : ℕ) (blocks : List OpenBlock)
-    (new : Arena Item)
-    → IsSound s → seen s ≡ now
+    (new : Arena Item) → IsSound s → seen s ≡ now
     → start ≤ now.at → IsCharBoundary now.text start
     → IfSome (innermost_block now.blocks) (λ block. IsWhite now.text block.start start)
     → Some inner ≡ innermost_block s.blocks → IsReplaced s.blocks blocks (record inner { start = start })

@@ -45,8 +45,7 @@ field_none g d (n ∷ nodes) (suc i) h = field_none g d nodes i (omega (arith, h
 
 -- a change elsewhere
 field_elsewhere : {X : Type 0} (g : Node Item → X) (d : X) (change : Node Item → Node Item) (ix i : ℕ)
-    (nodes : List (Node Item))
-    → (i ≡ ix → ⊥)
+    (nodes : List (Node Item)) → (i ≡ ix → ⊥)
     → slice_index_or (map g (changed_at ix change nodes)) i d ≡ slice_index_or (map g nodes) i d
 field_elsewhere g d change ix i [] h = refl
 field_elsewhere g d change zero zero (n ∷ nodes) h = absurd (h refl)

@@ -312,8 +312,7 @@ replaced s spine blocks n block other k split o fits may loose begun covered =
 
 -- as much is covered where it begins there too
 covered_changed : (text : List ℕ) (nodes : List (Node Item)) (definitions : List (CowStr × LinkDef))
-    (blocks : List OpenBlock)
-    (block : OpenBlock) (b : ItemBody) (at : ℕ)
+    (blocks : List OpenBlock) (block : OpenBlock) (b : ItemBody) (at : ℕ)
     → AreCovered text nodes definitions (covered_to (blocks ++ block ∷ []) at)
     → AreCovered text nodes definitions (covered_to (blocks ++ record block { body = b } ∷ []) at)
 covered_changed text nodes definitions [] block b at c = c
@@ -321,8 +320,7 @@ covered_changed text nodes definitions (x ∷ blocks) block b at c = c
 
 -- and where it begins after white space
 covered_later : (text : List ℕ) (nodes : List (Node Item)) (definitions : List (CowStr × LinkDef))
-    (blocks : List OpenBlock)
-    (block : OpenBlock) (start at : ℕ)
+    (blocks : List OpenBlock) (block : OpenBlock) (start at : ℕ)
     → AreCovered text nodes definitions (covered_to (blocks ++ block ∷ []) at) → IsWhite text block.start start
     → AreCovered text nodes definitions (covered_to (blocks ++ record block { start = start } ∷ []) at)
 covered_later text nodes definitions [] block start at c w = covered_white text nodes definitions block.start start c w

@@ -271,8 +271,8 @@ module _ (s : Setting) (tables : Tables) (old : Arena Item) (first count : ℕ) 
     unfolding whole_chain
     all_paid l a = a.paid
 
-    pub pays : (text : List ℕ) (ix : ℕ) (new : Openers) → s.text ≡ text → (rs : List (Read ℕ)) (rest : Forest
-        (TreeNode ℕ))
+    pub pays : (text : List ℕ) (ix : ℕ) (new : Openers) → s.text ≡ text → (rs : List (Read ℕ))
+        (rest : Forest (TreeNode ℕ))
         → StandsWhole runs_chain t rs last (Some ix) rest now → PaysForTree text ix last t now new
         → new.potential ≤ now.potential + comparisons_per_delimiter * runs_in s.text rest
     unfolding whole_chain

@@ -149,9 +149,8 @@ pub record LayersLeave (number end : ℕ) (xs vs : List (TreeNode ℕ)) (made : 
   pub closing : FirstFrom next made.closing
   pub closing_count : length made.closing ≡ length vs - min (length xs) (length vs)
 
-pub layers_leave : (s : Setting) (d : Delimiter) (number end : ℕ) (xs vs : List (TreeNode ℕ)) (inside : Forest
-    (TreeNode ℕ))
-    → LastFrom number xs
+pub layers_leave : (s : Setting) (d : Delimiter) (number end : ℕ) (xs vs : List (TreeNode ℕ))
+    (inside : Forest (TreeNode ℕ)) → LastFrom number xs
     → FirstFrom end vs → LayersLeave number end xs vs (layers s d xs vs inside)
 layers_leave s d number end [] vs inside f g = record {
   next = end;
@@ -197,9 +196,8 @@ layers_leave s d number end (x ∷ y ∷ xs) (v ∷ w ∷ vs) inside f g =
     }
 
 -- the cut goes to the right over characters
-read_over : (own : ℕ → Bool) (k : View Part) (first : Option ℕ) (vs xs : List (TreeNode ℕ)) (before : Forest
-    (TreeNode ℕ))
-    (l : Option ℕ)
+read_over : (own : ℕ → Bool) (k : View Part) (first : Option ℕ) (vs xs : List (TreeNode ℕ))
+    (before : Forest (TreeNode ℕ)) (l : Option ℕ)
     (after : Forest (TreeNode ℕ)) (hi : ℕ) → Cut own k first (left_texts xs before) l (texts vs after) hi
     → (m : Option ℕ) × Cut own k first (left_texts (last_first vs xs) before) m after hi
 read_over own k first [] xs before l after hi c = (l, c)
@@ -243,8 +241,7 @@ flat-opened true run xs rs = refl
 flat-opened false run xs rs = flat-done xs rs
 
 last_there : (k : View Part) (first : Option ℕ) (c : Characters) (xs : List (TreeNode ℕ)) (before : Forest (TreeNode ℕ))
-    (l : Option ℕ)
-    → 0 < c.count → AreLast c xs → LeftHolds k first (left_texts xs before) l
+    (l : Option ℕ) → 0 < c.count → AreLast c xs → LeftHolds k first (left_texts xs before) l
     → (c.number + (c.count - 1) < k.size) × (Some (c.number + (c.count - 1)) ≡ top (left_texts xs before))
 last_there k first c [] before l some are h = absurd (omega (arith, some, are.count))
 last_there k first c (x ∷ xs) before l some are h =

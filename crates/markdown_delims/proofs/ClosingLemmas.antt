@@ -74,9 +74,8 @@ pub record ClosingAt (h : Chain) (met : Characters) (met_vs : List (TreeNode ℕ
   pub found : old.examined + closer_finds h.setting (length met_vs) met.run met_vs begun
       ≤ now.examined + closer_finds h.setting turns closer.run vs rs
 
-pub closing_begin : (h : Chain) (met : Characters) (vs : List (TreeNode ℕ)) (rs : List (Read ℕ)) (after : Forest
-    (TreeNode ℕ))
-    (s : Arena Item)
+pub closing_begin : (h : Chain) (met : Characters) (vs : List (TreeNode ℕ)) (rs : List (Read ℕ))
+    (after : Forest (TreeNode ℕ)) (s : Arena Item)
     (o : Openers) (last : Option ℕ) → StandsAt h s rs last met vs after → AreOpen o.runs rs
     → ClosingAt h met vs rs after s s o o met last
 closing_begin h met vs rs after s o last st a = record {
@@ -92,10 +91,8 @@ closing_begin h met vs rs after s o last st a = record {
   found = omega arith;
 }
 
-module _ (h : Chain) (met : Characters) (met_vs : List (TreeNode ℕ)) (begun : List (Read ℕ)) (after : Forest
-    (TreeNode ℕ))
-    (s t : Arena Item)
-    (old now : Openers) (closer : Characters) (last : Option ℕ)
+module _ (h : Chain) (met : Characters) (met_vs : List (TreeNode ℕ)) (begun : List (Read ℕ))
+    (after : Forest (TreeNode ℕ)) (s t : Arena Item) (old now : Openers) (closer : Characters) (last : Option ℕ)
     (a : ClosingAt h met met_vs begun after s t old now closer last) (some : 0 < closer.count) where
   turn : a.turns ≡ suc (a.turns - 1)
   turn = omega (arith, a.enough, some)

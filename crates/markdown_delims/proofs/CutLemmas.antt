@@ -98,8 +98,7 @@ module _ (own : ℕ → Bool) (k k' : View Part) (ix : ℕ) (item : Part) (child
 
 -- over one tree, to the right and to the left
 pub step_right : (own : ℕ → Bool) (k : View Part) (first : Option ℕ) (left : Forest (TreeNode ℕ)) (l : Option ℕ)
-    (a : TreeNode ℕ)
-    (below after : Forest (TreeNode ℕ)) (hi : ℕ)
+    (a : TreeNode ℕ) (below after : Forest (TreeNode ℕ)) (hi : ℕ)
     → Cut own k first left l (node a below after) hi → Cut own k first (node a below left) (k.next a.note) after hi
 step_right own k first left l a below after hi c =
     record {
@@ -109,10 +108,8 @@ step_right own k first left l a below after hi c =
       rises_right = Rises-lower own (suc a.note) 0 after hi (omega arith) c.rises_right.2;
     }
 
-pub step_left : (own : ℕ → Bool) (k : View Part) (first : Option ℕ) (a : TreeNode ℕ) (below before : Forest
-    (TreeNode ℕ))
-    (l : Option ℕ)
-    (right : Forest (TreeNode ℕ)) (hi : ℕ)
+pub step_left : (own : ℕ → Bool) (k : View Part) (first : Option ℕ) (a : TreeNode ℕ)
+    (below before : Forest (TreeNode ℕ)) (l : Option ℕ) (right : Forest (TreeNode ℕ)) (hi : ℕ)
     → Cut own k first (node a below before) l right hi → Cut own k first before (Some a.note) (node a below right) hi
 step_left own k first a below before l right hi c =
     let above : suc a.note ≤ next_number right hi = c.rises_left.0.0 in
@@ -125,8 +122,7 @@ step_left own k first a below before l right hi c =
 
 -- a node that a left list leads to encloses a chain
 pub enclosing : (own : ℕ → Bool) (k k' : View Part) (first : Option ℕ) (before : Forest (TreeNode ℕ)) (a : TreeNode ℕ)
-    (l m : Option ℕ)
-    (inside : Forest (TreeNode ℕ)) (hi : ℕ) → own a.note ≡ true
+    (l m : Option ℕ) (inside : Forest (TreeNode ℕ)) (hi : ℕ) → own a.note ≡ true
     → a.note < k.size → LeftHolds k first before (Some a.note) → LeftRises own before a.note → Holds k l inside
     → Inside own (suc a.note) inside hi
     → Writes k k' a.note a.part l m → LeftHolds k' first (node a inside before) m
@@ -145,10 +141,8 @@ pub record Parted (k : View Part) (first : Option ℕ) (before : Forest (TreeNod
     pub left : LeftHolds k first before m
     pub right : Holds k l after
 
-pub parted : (own : ℕ → Bool) (k k' : View Part) (first : Option ℕ) (a : TreeNode ℕ) (below before : Forest
-    (TreeNode ℕ))
-    (l m : Option ℕ)
-    (right : Forest (TreeNode ℕ)) (hi : ℕ)
+pub parted : (own : ℕ → Bool) (k k' : View Part) (first : Option ℕ) (a : TreeNode ℕ)
+    (below before : Forest (TreeNode ℕ)) (l m : Option ℕ) (right : Forest (TreeNode ℕ)) (hi : ℕ)
     → Cut own k first (node a below before) l right hi → own a.note ≡ true
     → Writes k k' a.note (k.item a.note) (k.child a.note) m
     → Parted k' first (node a below before) m l right

@@ -36,8 +36,7 @@ link_within k (Some ix) (node a below after) h = let e : ix ≡ a.note = cc in o
 
 -- a character of a left list, with what precedes it and the chain that is to be inside
 pub record Peeled (own : ℕ → Bool) (k : View Part) (first : Option ℕ) (x : TreeNode ℕ) (before : Forest (TreeNode ℕ))
-    (l : Option ℕ)
-    (chain : Forest (TreeNode ℕ)) (hi : ℕ) : Type 0 where
+    (l : Option ℕ) (chain : Forest (TreeNode ℕ)) (hi : ℕ) : Type 0 where
   pub within : x.note < k.size
   pub item : k.item x.note ≡ x.part
   pub left : LeftHolds k first before (Some x.note)
@@ -46,8 +45,7 @@ pub record Peeled (own : ℕ → Bool) (k : View Part) (first : Option ℕ) (x :
   pub rises : Rises own (suc x.note) chain hi
 
 module _ (own : ℕ → Bool) (k : View Part) (first : Option ℕ) (x : TreeNode ℕ) (before : Forest (TreeNode ℕ))
-    (l : Option ℕ)
-    (chain : Forest (TreeNode ℕ)) (hi : ℕ) where
+    (l : Option ℕ) (chain : Forest (TreeNode ℕ)) (hi : ℕ) where
   pub peel_one : Cut own k first (node x nil before) l chain hi → Peeled own k first x before l chain hi
   peel_one c =
       record {
@@ -123,9 +121,8 @@ layers_end s d [] vs inside e = refl
 layers_end s d (x ∷ xs) [] inside e = refl
 layers_end s d (x ∷ xs) (v ∷ vs) inside e = absurd (omega (arith, e))
 
-layers_once : (s : Setting) (d : Delimiter) (x v : TreeNode ℕ) (xs vs : List (TreeNode ℕ)) (inside : Forest
-    (TreeNode ℕ))
-    → min (length xs) (length vs) ≡ 0
+layers_once : (s : Setting) (d : Delimiter) (x v : TreeNode ℕ) (xs vs : List (TreeNode ℕ))
+    (inside : Forest (TreeNode ℕ)) → min (length xs) (length vs) ≡ 0
     → layers s d (x ∷ xs) (v ∷ vs) inside
     ≡ layers s d xs vs (node (spanned s.text (layer_of_one (extensions_of s.rules.options) d) x v) inside nil)
 layers_once s d x v [] vs inside e = refl
@@ -158,8 +155,7 @@ pub record LayersAt (h : Chain) (g : ChainParts) (s t : Arena Item) (d : Delimit
     pub kept : Kept h.touched s t
 
 pub layers_begin : (h : Chain) (g : ChainParts) (s : Arena Item) (d : Delimiter) (o c : Characters) (left : ℕ)
-    (inner : Option ℕ)
-    → left ≡ min o.count c.count → Encloses h g s o c inner → LayersAt h g s s d o c left inner
+    (inner : Option ℕ) → left ≡ min o.count c.count → Encloses h g s o c inner → LayersAt h g s s d o c left inner
 layers_begin h g s d o c left inner e st = record {
   opening = g.opening;
   closing = g.closing;
@@ -210,8 +206,8 @@ module _ (h : Chain) (t : Arena Item) (o c : Characters) (inner : Option ℕ) (b
     around xs vs = record { before = before; opening = xs; inside = inside; closing = vs; after = after }
 
     -- after a layer of n characters the characters that are left pair around it, if there are any
-    pub record LayerOf (n : ℕ) (shape : Setting → Delimiter → List ℕ → Shape) (opening closing : List
-        (TreeNode ℕ)) : Type
+    pub record LayerOf (n : ℕ) (shape : Setting → Delimiter → List ℕ → Shape)
+        (opening closing : List (TreeNode ℕ)) : Type
         0 where
       pub next : NextLayer h (around opening closing) t o c inner n
       pub layers_are : (n ≡ 1 → min (length next.xs) (length next.vs) ≡ 0) → (s : Setting) (d : Delimiter)
@@ -326,8 +322,7 @@ pub record LayersFit (t : Arena Item) (o c : Characters) (left : ℕ) (inner : O
 
 -- one layer more
 module _ (h : Chain) (g : ChainParts) (s t u : Arena Item) (d : Delimiter) (o c : Characters) (left : ℕ)
-    (inner : Option ℕ)
-    (a : LayersAt h g s t d o c left inner) where
+    (inner : Option ℕ) (a : LayersAt h g s t d o c left inner) where
   abbrev two : 2 ≤ left → LayerOf h t o c inner g.before a.inside g.after 2 shape_of_two a.opening a.closing
   two l = layer_of_two_at h t o c inner g.before a.inside g.after a.opening a.closing a.stands
       (omega (arith, a.left_is, l))
@@ -417,8 +412,7 @@ module _ (h : Chain) (g : ChainParts) (s t u : Arena Item) (d : Delimiter) (o c 
         })
 
     pub layers_two : IsLayer b (layer_of_two (extensions_of h.setting.rules.options) d) → (root end : ℕ)
-        (rest : Option ℕ)
-        → root ≡ o.number + (o.count - 2) → end ≡ c.number + 1 → left ≡ 2 → rest ≡ (view h t).next end
+        (rest : Option ℕ) → root ≡ o.number + (o.count - 2) → end ≡ c.number + 1 → left ≡ 2 → rest ≡ (view h t).next end
         → LayerWritten rest root end → IsDone root rest
     layers_two is root end rest e f l r w =
         outermost 2 shape_of_two (two (omega (arith, l))) l is root end rest e (omega (arith, f)) r w

@@ -117,8 +117,7 @@ joins-law closer (waiting dropped run xs ∷ rs) inside =
     (joins-law closer rs (texts_before xs inside))
 
 misses_if : {A : Type 0} (closer run : Run) (dropped : Bool) (rs : List (Read A)) (f : FoundOpener A)
-    (o : Option (FoundOpener A))
-    (b : Bool) → may_pair run closer ≡ b → IfNone o (NonePairs closer rs)
+    (o : Option (FoundOpener A)) (b : Bool) → may_pair run closer ≡ b → IfNone o (NonePairs closer rs)
     → IfNone (found_if (not dropped && b) f o) ((dropped ≡ false → may_pair run closer ≡ false) × NonePairs closer rs)
 misses_if closer run true rs f None b e h = (λ d. absurd (no_drop d), h)
   where

@@ -20,8 +20,7 @@ use Rattle.markdown_delims.proofs.WriteLemmas.{parts_written, body_part, kept_no
 
 -- another part at the first node of the rest, over which the cut goes
 pub written_over : (own : ℕ → Bool) (k k' : View Part) (first : Option ℕ) (before : Forest (TreeNode ℕ)) (l : Option ℕ)
-    (a : TreeNode ℕ)
-    (below after : Forest (TreeNode ℕ)) (hi : ℕ) (p : Part)
+    (a : TreeNode ℕ) (below after : Forest (TreeNode ℕ)) (hi : ℕ) (p : Part)
     → Cut own k first before l (node a below after) hi → own a.note ≡ true
     → Writes k k' a.note p (k.child a.note) (k.next a.note)
     → Cut own k' first (node (record { note = a.note; part = p }) below before) (k.next a.note) after hi
@@ -39,8 +38,8 @@ written_over own k k' first before l a below after hi p c o w =
     }
 
 -- the first i characters are texts, the last one first, and others are left
-pub record LiteralTextAt (h : Chain) (s t : Arena Item) (rs : List (Read ℕ)) (number n i : ℕ) (chain : Forest
-    (TreeNode ℕ))
+pub record LiteralTextAt (h : Chain) (s t : Arena Item) (rs : List (Read ℕ)) (number n i : ℕ)
+    (chain : Forest (TreeNode ℕ))
     : Type 0 where
   pub xs : List (TreeNode ℕ)
   pub left : ℕ

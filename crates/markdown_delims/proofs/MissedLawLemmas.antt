@@ -176,8 +176,7 @@ after_done a below rs (node b under after) h =
     let k = after_done a below rs after h.1 in ((h.0.0, k.0), (h.0.1, k.1))
 
 after_waiting : (dropped : Bool) (run : Run) (xs : List Character) (rs : List (Read MaybeRun)) (l : IsLeft run xs rs)
-    (f : Forest Character)
-    → AllLater (waiting dropped run xs ∷ rs) f
+    (f : Forest Character) → AllLater (waiting dropped run xs ∷ rs) f
     → NonePairsLater (Some l.at) f × AllLater rs f
 after_waiting dropped run xs rs l nil h = (tt, tt)
 after_waiting dropped run xs rs l (node b under after) h =
@@ -409,8 +408,7 @@ module _ (s : Setting) where
       (l.2, layer_fine p made.whole (still_waiting f.run made.opening f.before) l.0 k.0 k.1)
 
   searched_fine : (again : List Character → List (Read MaybeRun) → List (Read MaybeRun)) (closer : Run) (p : RunAt)
-      (vs : List Character)
-      (rs : List (Read MaybeRun)) (o : Option (FoundOpener MaybeRun))
+      (vs : List Character) (rs : List (Read MaybeRun)) (o : Option (FoundOpener MaybeRun))
       → ((left : List Character) (others : List (Read MaybeRun)) → length left < length vs → AreOf p left → Fine others
       → Fine (again left others)) → p.run ≡ closer
       → AreOf p vs → HasSome vs → Fine rs

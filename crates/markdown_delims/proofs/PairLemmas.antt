@@ -28,9 +28,8 @@ pub record CutSomewhere (own : ℕ → Bool) (k : View Part) (first : Option ℕ
   pub link : Option ℕ
   pub cut : Cut own k first before link after hi
 
-pub over_texts : (own : ℕ → Bool) (k : View Part) (first : Option ℕ) (xs : List (TreeNode ℕ)) (before : Forest
-    (TreeNode ℕ))
-    (l : Option ℕ)
+pub over_texts : (own : ℕ → Bool) (k : View Part) (first : Option ℕ) (xs : List (TreeNode ℕ))
+    (before : Forest (TreeNode ℕ)) (l : Option ℕ)
     (after : Forest (TreeNode ℕ)) (hi : ℕ) → Cut own k first (left_texts xs before) l after hi
     → CutSomewhere own k first before (texts_before xs after) hi
 over_texts own k first [] before l after hi c = record { link = l; cut = c }
@@ -99,9 +98,8 @@ top_is own k first (node a below before) last hi l h r t e =
     let same : last ≡ a.note = cc in (omega (arith, h.0, same), omega (arith, r.0.0, same), rw same t.0)
 
 -- the link after the last of an opener's characters
-pub last_link : (k : View Part) (first : Option ℕ) (o : Characters) (xs : List (TreeNode ℕ)) (before : Forest
-    (TreeNode ℕ))
-    (l : Option ℕ)
+pub last_link : (k : View Part) (first : Option ℕ) (o : Characters) (xs : List (TreeNode ℕ))
+    (before : Forest (TreeNode ℕ)) (l : Option ℕ)
     → 0 < o.count → AreLast o xs → LeftHolds k first (left_texts xs before) l → l ≡ k.next (o.number + (o.count - 1))
 last_link k first o [] before l some are h = absurd (omega (arith, some, are.count))
 last_link k first o (x ∷ xs) before l some are h =
@@ -130,10 +128,8 @@ flat_pair f made whole inside e =
 
 -- a closer after an opener that its search finds
 module _ (h : Chain) (s : Arena Item) (rs : List (Read ℕ)) (vs : List (TreeNode ℕ)) (after : Forest (TreeNode ℕ))
-    (found : FoundOpener ℕ)
-    (opener closer : Characters) (last : ℕ) (st : StandsAt h s rs (Some last) closer vs after)
-    (finds : Finds rs opener closer found)
-    (some_open : 0 < opener.count) (some_close : 0 < closer.count) where
+    (found : FoundOpener ℕ) (opener closer : Characters) (last : ℕ) (st : StandsAt h s rs (Some last) closer vs after)
+    (finds : Finds rs opener closer found) (some_open : 0 < opener.count) (some_close : 0 < closer.count) where
   top_last : (last < length s.nodes) × (last < next_number (texts vs after) h.bound) × (h.touched last ≡ true)
   top_last = top_is h.touched (view h s) h.first (flat rs) last (next_number (texts vs after) h.bound)
       (Some closer.number) st.stands.cut.left st.stands.cut.rises_left st.stands.left_touched st.stands.last_is

@@ -233,8 +233,7 @@ made_character c = record {
 
 -- a tree at the link to the rest
 module _ (h : Chain) (s : Arena Item) (begun : Forest (TreeNode ℕ)) (single : Option ℕ) (ix : ℕ) (a : TreeNode ℕ)
-    (below after : Forest (TreeNode ℕ))
-    (st : QuotesStand h s begun single (Some ix) (node a below after)) where
+    (below after : Forest (TreeNode ℕ)) (st : QuotesStand h s begun single (Some ix) (node a below after)) where
   pub number_is : ix ≡ a.note
   number_is = let here : Some ix ≡ Some a.note = st.cut.right.0 in cc
 
@@ -310,8 +309,8 @@ module _ (h : Chain) (s : Arena Item) (begun : Forest (TreeNode ℕ)) (single : 
   here_root c none = inl (sym number_is, none)
 
 -- the remembered one becomes a left quote
-put_left : (h : Chain) (s t : Arena Item) (read : Forest (TreeNode ℕ)) (left : ℕ) (l : Option ℕ) (rest : Forest
-    (TreeNode ℕ))
+put_left : (h : Chain) (s t : Arena Item) (read : Forest (TreeNode ℕ)) (left : ℕ) (l : Option ℕ)
+    (rest : Forest (TreeNode ℕ))
     → QuotesStand h s read (Some left) l rest → WroteBody s t left (body.SynthesizeChar 8216)
     → QuotesStand h t (left_quoted left read) None l rest
 put_left h s t read left l rest st w =
@@ -343,8 +342,7 @@ put_left h s t read left l rest st w =
 
 -- and a tree after it a right one
 pub close_on : (h : Chain) (s t u : Arena Item) (begun : Forest (TreeNode ℕ)) (left ix : ℕ) (a : TreeNode ℕ)
-    (below after : Forest (TreeNode ℕ))
-    (double opens : Bool)
+    (below after : Forest (TreeNode ℕ)) (double opens : Bool)
     → QuotesStand h s begun (Some left) (Some ix) (node a below after) → kind.Single opens true
     ≡ kind_of_shape a.part.shape
     → WroteBody s t left (body.SynthesizeChar 8216) → WroteBody t u ix (body.SynthesizeChar 8217)

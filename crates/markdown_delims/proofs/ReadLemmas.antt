@@ -221,8 +221,7 @@ module _ (h : Chain) (s : Arena Item) (rs : List (Read ℕ)) (last : Option ℕ)
 
 -- the run that is met in a chain that can be read
 pub met_here : (m : Extensions) (text : List ℕ) (ix : ℕ) (last : Option ℕ) (s : Arena Item) (o : Openers)
-    (p : CanReadTree m text ix last s o)
-    (item : Item) (run : Run) → item ≡ item_at s.nodes ix
+    (p : CanReadTree m text ix last s o) (item : Item) (run : Run) → item ≡ item_at s.nodes ix
     → ((tables : Tables) → HasCount item.body → Some run ≡ run_of text (part_of text tables item))
     → RunHere p.chain s p.rs last ix o run p.rest
 met_here m text ix last s o p item run e is =

@@ -91,11 +91,9 @@ pub run-long : (source : List ℕ) (part : Part) (run : Run) → run_of source p
 run-long source part run e = subst (λ o. IfSome o (λ run. 0 < run.length)) e (some-long part.shape _)
 
 module _ {A : Type 0} (s : Setting) (g : Run → List (TreeNode A) → Type 0)
-    (i : List (TreeNode A) → List (Read A) → Forest (TreeNode A) → Type 0)
-    (stays : StaysTrueOf s g i) where
+    (i : List (TreeNode A) → List (Read A) → Forest (TreeNode A) → Type 0) (stays : StaysTrueOf s g i) where
   searched_stays : (again : List (TreeNode A) → List (Read A) → List (Read A)) (closer : Run) (vs : List (TreeNode A))
-      (rs : List (Read A))
-      (rest : Forest (TreeNode A)) (o : Option (FoundOpener A))
+      (rs : List (Read A)) (rest : Forest (TreeNode A)) (o : Option (FoundOpener A))
       → ((left : List (TreeNode A)) (others : List (Read A)) → g closer left → i left others rest
       → i [] (again left others) rest)
       → g closer vs → i vs rs rest
@@ -135,8 +133,7 @@ module _ {A : Type 0} (s : Setting) (g : Run → List (TreeNode A) → Type 0)
   run-stays-of run vs rs rest q h = read_stays run.can_close run vs rs rest refl q h
 
   tree_stays : (go_on : ℕ → List (Read A) → List (Read A)) (a : TreeNode A) (below after : Forest (TreeNode A))
-      (rs : List (Read A))
-      (o : Option Run) → run_of s.text a.part ≡ o
+      (rs : List (Read A)) (o : Option Run) → run_of s.text a.part ≡ o
       → ((skip : ℕ) (others : List (Read A)) → i [] others (later skip after) → i [] (go_on skip others) nil)
       → i [] rs (node a below after)
       → i [] (after_tree s go_on a below after rs o) nil

@@ -87,9 +87,8 @@ pub record CanMakeLiteral (met : Characters) (s : Arena Item) : Type 0 where
   pub some : 0 < met.count
 
 -- what was read of a chain whose runs are whole is this, and the open runs are those of it
-pub record StandsWhole (h : Chain) (s : Arena Item) (rs : List (Read ℕ)) (last l : Option ℕ) (rest : Forest
-    (TreeNode ℕ))
-    (openers : Openers) : Type 0 where
+pub record StandsWhole (h : Chain) (s : Arena Item) (rs : List (Read ℕ)) (last l : Option ℕ)
+    (rest : Forest (TreeNode ℕ)) (openers : Openers) : Type 0 where
   pub stands : Stands h s rs last l rest
   pub whole : AreWhole h.setting.text rest
   pub are : AreOpen openers.runs rs

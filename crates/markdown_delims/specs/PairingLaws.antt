@@ -118,8 +118,7 @@ NoneMissed chain = Throughout (λ a below after. NonePairsLater (kept_run a) aft
 -- those of the other. Having the runs as tags changes nothing else
 abbrev pub NoneMissedLaw : Type 0 → Type 0
 NoneMissedLaw A =
-    (s : Setting) (chain : Forest (TreeNode A))
-    → NoneMissed (paired s (with_runs s 0 None chain))
+    (s : Setting) (chain : Forest (TreeNode A)) → NoneMissed (paired s (with_runs s 0 None chain))
     × (without_notes (paired s (with_runs s 0 None chain)) ≡ without_notes (paired s chain))
 
 -- each node that is made has the block of a node of the chain, and is not open: so a test that such nodes pass holds

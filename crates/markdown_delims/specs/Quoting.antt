@@ -49,8 +49,7 @@ pub record QuotesStand (h : Chain) (s : Arena Item) (read : Forest (TreeNode ℕ
 
 -- a tree was read, and the whole chain becomes the same
 pub record QuotesOn (h : Chain) (s t : Arena Item) (begun whole : Forest (TreeNode ℕ)) (single : Option ℕ)
-    (double : Bool)
-    (single' : Option ℕ) (double' : Bool) (l : Option ℕ) (rest : Forest (TreeNode ℕ)) : Type 0 where
+    (double : Bool) (single' : Option ℕ) (double' : Bool) (l : Option ℕ) (rest : Forest (TreeNode ℕ)) : Type 0 where
   pub read : Forest (TreeNode ℕ)
   pub stands : QuotesStand h t read single' l rest
   pub kept : Kept h.touched s t

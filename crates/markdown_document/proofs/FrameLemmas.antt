@@ -128,8 +128,7 @@ following_same tables tables' nodes nodes' l (node ix below after) s h = rw (s.0
 
 -- its items are placed as before
 placed_same : (source : List ℕ) (tables tables' : Tables) (nodes nodes' : List (Node Item)) (l : Option ℕ)
-    (f : Forest ℕ)
-    → Spells (links_of nodes) l f → IsNoShorter tables tables'
+    (f : Forest ℕ) → Spells (links_of nodes) l f → IsNoShorter tables tables'
     → Each (Stays tables tables' nodes nodes') f → Each (IsPlaced source tables nodes) f
     → Each (IsPlaced source tables' nodes') f
 placed_same source tables tables' nodes nodes' l nil s z h p = tt

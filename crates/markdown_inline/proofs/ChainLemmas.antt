@@ -80,8 +80,7 @@ gives-closed tables source b true e g = absurd (rw (shape-open tables source b e
 gives-closed tables source b false e g = refl
 
 opened-begins : (shape : Shape) (range : Range ℕ) (inside : Reading → Reading) (after whole : Reading)
-    (state : ReferenceState)
-    → GivesFirst shape
+    (state : ReferenceState) → GivesFirst shape
     → BeginsWithEvent (reading_opened shape range inside after whole state)
 opened-begins (leaf e origins) range inside after whole state h = record
     { first = (e, range, origins); rest = after state; is = refl }
@@ -128,8 +127,7 @@ above_named source tables nodes spine n r l = ⊎_elim (λ h. h)
 
 -- what is above a chain stays when the chain is resolved
 above_chain : {C : Type 0} (step : C → Question → Option Answer → C → Type 0) (s : Setting) (first : ℕ) (spine : List ℕ)
-    (old new : ResolverState C)
-    → Stands s.text old.tables old.nodes (Some first) spine
+    (old new : ResolverState C) → Stands s.text old.tables old.nodes (Some first) spine
     → ResolvesFrom step s.text (resolved s no_notes (above_at s.text old.nodes spine)) (Some first) old new
     → AboveFramed s old.tables new.tables old.nodes new.nodes spine
 unfolding left_total
@@ -191,8 +189,7 @@ are_above source tables nodes first spine w = nodes_above source (links_of nodes
 
 -- what is left before a chain, where its first item is open
 pub chain_left : (s : Setting) (tables : Tables) (nodes : List (Node Item)) (first : ℕ) (spine : List ℕ)
-    (state : ReferenceState)
-    → Stands s.text tables nodes (Some first) spine → is_open (item_at nodes first).body ≡ true
+    (state : ReferenceState) → Stands s.text tables nodes (Some first) spine → is_open (item_at nodes first).body ≡ true
     → left_of s tables nodes (Some first) spine state ≡ chain_reading s no_notes (above_at s.text nodes spine)
     (trees_from s.text tables nodes (Some first)) (after_chain s (no_blocks s.text) tables nodes spine nothing_read)
     state
@@ -210,8 +207,7 @@ chain_left s tables nodes first spine state w e =
     ap (λ (x : Reading). x state) whole
 
 pub moves_chain : {C : Type 0} (step : C → Question → Option Answer → C → Type 0) (s : Setting) (first : ℕ)
-    (spine : List ℕ)
-    (old new : ResolverState C)
+    (spine : List ℕ) (old new : ResolverState C)
     → Stands s.text old.tables old.nodes (Some first) spine → is_open (item_at old.nodes first).body ≡ true
     → (r : ResolvesFrom step s.text (resolved s no_notes (above_at s.text old.nodes spine)) (Some first) old new)
     → ChainMoves s old.tables new.tables old.nodes new.nodes first spine (state_at old) (state_at new) r.questions
@@ -286,8 +282,7 @@ more_questions s r after questions others e = (
 
 -- where memory is refused on the way, what was left begins with the questions asked
 pub stops_chain : {C : Type 0} (step : C → Question → Option Answer → C → Type 0) (s : Setting) (first : ℕ)
-    (spine : List ℕ) (old : ResolverState C)
-    (d : Option C) (work work' : Work)
+    (spine : List ℕ) (old : ResolverState C) (d : Option C) (work work' : Work)
     → Stands s.text old.tables old.nodes (Some first) spine → is_open (item_at old.nodes first).body ≡ true
     → (r : StopsIn step s (above_at s.text old.nodes spine) first old d work work')
     → (later : Answers) → (others : List Element)

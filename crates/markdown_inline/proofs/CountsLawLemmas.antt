@@ -78,8 +78,7 @@ delimiters-few (node a below after) = omega (arith, shape-few a.part.shape, deli
 
 -- so the counts of a chain are few
 chain-few : {A : Type 0} (s : Setting) (notes : Notes A) (above : EnclosingBlocks) (chain : Forest (TreeNode A))
-    (state : ReferenceState)
-    → AreFew (chain_counts s notes above chain state) (weight chain)
+    (state : ReferenceState) → AreFew (chain_counts s notes above chain state) (weight chain)
 chain-few s notes above chain state = record {
   items = roots-few chain;
   delimiters = omega (
@@ -91,9 +90,7 @@ chain-few s notes above chain state = record {
 
 -- and so are those before the first event of a forest
 opened-few : (shape : Shape) (range : Range ℕ) (inside : Reading → Reading) (after whole : Reading)
-    (state : ReferenceState)
-    (most : ℕ)
-    → AreFew (inside after state).counts most → AreFew (whole state).counts most
+    (state : ReferenceState) (most : ℕ) → AreFew (inside after state).counts most → AreFew (whole state).counts most
     → AreFew (reading_opened shape range inside after whole state).counts most
 opened-few (leaf e origins) range inside after whole state most i c = few-none most
 opened-few (enclosed tag) range inside after whole state most i c = few-none most
@@ -150,8 +147,7 @@ ended-few None range after state most h = h
 ended-few (Some e) range after state most h = few-none most
 
 after-few : (s : Setting) (above : EnclosingBlocks) (tables : Tables) (nodes : List (Node Item)) (spine : List ℕ)
-    (after : Reading)
-    (state : ReferenceState) (most : ℕ) → AreFew (after state).counts most
+    (after : Reading) (state : ReferenceState) (most : ℕ) → AreFew (after state).counts most
     → AreFew (after_chain s above tables nodes spine after state).counts
     (climbed (λ ix. 1) (weight_at nodes) (links_of nodes) spine + most)
 after-few s above tables nodes [] after state most h = few-more (after state).counts most (0 + most) (omega arith) h
@@ -170,8 +166,7 @@ after-few s above tables nodes (ix ∷ deeper) after state most h =
 
 -- the counts of a walk are few, by the weight of what is left of it
 left-few : (s : Setting) (tables : Tables) (nodes : List (Node Item)) (l : Option ℕ) (spine : List ℕ)
-    (state : ReferenceState)
-    → AreFew (left_of s tables nodes l spine state).counts (weight_to_come nodes l spine)
+    (state : ReferenceState) → AreFew (left_of s tables nodes l spine state).counts (weight_to_come nodes l spine)
 unfolding left_of left_total
 left-few s tables nodes l spine state =
     let trees = trees_from s.text tables nodes l in

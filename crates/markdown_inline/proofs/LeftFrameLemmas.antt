@@ -79,8 +79,7 @@ pub record LeftFramed (s : Setting) (tables tables' : Tables) (nodes nodes' : Li
     pub left : left_of s tables' nodes' l spine ≡ left_of s tables nodes l spine
 
 pub left_framed : (s : Setting) (tables tables' : Tables) (nodes nodes' : List (Node Item)) (l : Option ℕ)
-    (spine : List ℕ)
-    → length nodes ≤ length nodes' → IsNoShorter tables tables'
+    (spine : List ℕ) → length nodes ≤ length nodes' → IsNoShorter tables tables'
     → Stands s.text tables nodes l spine
     → ((n : ℕ) → 0 < times_left (links_of nodes) l spine n → IsSameAt nodes nodes' n)
     → ((n : Named) → 0 < named_left nodes l spine n → IsSameEntry tables tables' n)

@@ -252,8 +252,7 @@ module _ {A : Type 0} where
   free_find s new a nothing = (tt, tt, tt)
 
   free_unless : (quiet : Bool) (s : Setting) (notes : Notes A) (above : EnclosingBlocks) (n : ℕ) (a : TreeNode A)
-      (below rest : Forest (TreeNode A))
-      → IsNoLink a.part.shape → IsFreeOfLinks below
+      (below rest : Forest (TreeNode A)) → IsNoLink a.part.shape → IsFreeOfLinks below
       → IsFreeOfLinks (read_unless quiet s notes above n a below rest).trees
   free_unless true s notes above n a below rest h i = (h, i, tt)
   free_unless false s notes above n a below rest h i = free_find s (notes.of_made n) a (find s above a rest)
@@ -278,10 +277,8 @@ module _ {A : Type 0} where
             ∙ sym (append_assoc r.more (done a below ∷ []) left);
       }
 
-  other_free : (s : Setting) (notes : Notes A) (above : EnclosingBlocks) (a : TreeNode A) (below rest : Forest
-      (TreeNode A))
-      (p : Progress A)
-      → IsNoLink a.part.shape → IsFreeOfLinks below
+  other_free : (s : Setting) (notes : Notes A) (above : EnclosingBlocks) (a : TreeNode A)
+      (below rest : Forest (TreeNode A)) (p : Progress A) → IsNoLink a.part.shape → IsFreeOfLinks below
       → HasMoreTrees p.left (read_other s notes above a below rest p).left
   unfolding read_tree
   other_free s notes above a below rest p h i =
@@ -291,8 +288,7 @@ module _ {A : Type 0} where
 
   -- pass one puts no link into a link either, by the law of brackets; nor does the whole
   pass_one_apart : (s : Setting) (notes : Notes A) (above : EnclosingBlocks) (chain : Forest (TreeNode A))
-      (state : ReferenceState)
-      → IsFreeOfLinks chain
+      (state : ReferenceState) → IsFreeOfLinks chain
       → HasNoLinkInLink (pass_one s notes above chain state).forest
   unfolding pass_one
   pass_one_apart s notes above chain state h = no_link_in_link (bracket_context s above) (read_other s notes above)
@@ -300,8 +296,7 @@ module _ {A : Type 0} where
       state h
 
   pub resolved_apart : (s : Setting) (notes : Notes A) (above : EnclosingBlocks) (chain : Forest (TreeNode A))
-      (state : ReferenceState)
-      → IsFreeOfLinks chain
+      (state : ReferenceState) → IsFreeOfLinks chain
       → HasNoLinkInLink (all_paired s (resolved s notes above chain state).forest)
   unfolding resolved
   resolved_apart s notes above chain state h =

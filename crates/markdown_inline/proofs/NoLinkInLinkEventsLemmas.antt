@@ -38,8 +38,7 @@ Goes es free = (within : ℕ) (rest : List Ranged) → (1 ≤ within → free) �
 
 -- what a tag encloses
 tag_goes : {A : Type 0} (tag : TagView) (range : Range ℕ) (below : Forest (TreeNode A)) (es fs : List Ranged)
-    (within : ℕ)
-    → ClosesOverNone tag below → (1 ≤ within → OpensNoLink tag × IsFreeOfLinks below)
+    (within : ℕ) → ClosesOverNone tag below → (1 ≤ within → OpensNoLink tag × IsFreeOfLinks below)
     → Goes es (IsFreeOfLinks below) → NoLinkInLinkFrom within fs
     → NoLinkInLinkFrom within ((start tag, range) ∷ (es ++ (end (tag_end tag), range) ∷ fs))
 tag_goes (link v) range below es fs within over free inside h = (
@@ -52,8 +51,7 @@ tag_goes other range below es fs within over free inside h = inside within ((end
 
 -- a tree before others
 goes_on : {A : Type 0} (shape : Shape) (range : Range ℕ) (below : Forest (TreeNode A)) (es fs : List Ranged)
-    (free : Type 0)
-    → total (alone_at shape) ≡ 0 → HasNoneBelow shape below
+    (free : Type 0) → total (alone_at shape) ≡ 0 → HasNoneBelow shape below
     → Goes es (IsFreeOfLinks below) → Goes fs free
     → Goes (opened_events shape range es fs) (IsNoLink shape × IsFreeOfLinks below × free)
 goes_on (leaf e origins) range below es fs free lone apart inside after within rest freed h =

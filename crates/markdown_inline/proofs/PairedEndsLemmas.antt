@@ -247,9 +247,7 @@ module _ (own : Shape → List ℕ) (numbers : NumbersNoMarks own) where
 
     -- a pair at most drops some numbers, and so does each step of the reading
     pair_within : (s : Setting) (vs : List (TreeNode A)) (rs : List (Read A)) (rest : Forest (TreeNode A))
-        (f : FoundOpener A)
-        (t : List ℕ)
-        → Splits (ends_read rs) f
+        (f : FoundOpener A) (t : List ℕ) → Splits (ends_read rs) f
         → IsWithin (ends_read (after_layers f (layers s f.run.delimiter f.characters vs f.inside))
         (forward (layers s f.run.delimiter f.characters vs f.inside).closing (ends rest t)))
         (ends_read rs (forward vs (ends rest t)))

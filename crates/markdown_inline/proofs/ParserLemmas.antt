@@ -199,8 +199,7 @@ above_chain source s held first w b = are_above source (tables_of held) s.nodes 
 
 -- what a resolved chain is for the walk
 chain_moves : {C : Type 0} (step : C → Question → Option Answer → C → Type 0) (g : Setting) (s t : Arena Item)
-    (held held' : Allocated)
-    (first limit limit' : ℕ) (c d : Option C) (work work' : Work)
+    (held held' : Allocated) (first limit limit' : ℕ) (c d : Option C) (work work' : Work)
     → TreeStands g.text (tables_of held) s → IsBeforeChain s first
     → (r : ResolvesChain step g first s t held held' limit limit' c d work work')
     → ChainMoves g (tables_of held) (tables_of held') s.nodes t.nodes first s.spine (state_at
@@ -212,8 +211,7 @@ chain_moves step g s t held held' first limit limit' c d work work' w b r =
     r.chain
 
 pub stands_chain : {C : Type 0} (step : C → Question → Option Answer → C → Type 0) (g : Setting) (s t : Arena Item)
-    (held held' : Allocated)
-    (first limit limit' : ℕ) (c d : Option C) (work work' : Work)
+    (held held' : Allocated) (first limit limit' : ℕ) (c d : Option C) (work work' : Work)
     → TreeStands g.text (tables_of held) s → IsBeforeChain s first → ResolvesChain step g first s t held held' limit
     limit' c d work work'
     → TreeStands g.text (tables_of held') t
@@ -336,8 +334,7 @@ moved_done s t e same c d = record {
 
 -- a step that was refused asked nothing
 pub moved_refused : {F : Type 0} (step : F → Question → Option Answer → F → Type 0) (s t : Parser F)
-    (after : Arena Item)
-    → t.resolver.lookup.callback ≡ s.resolver.lookup.callback → t.resolver.work ≡ s.resolver.work
+    (after : Arena Item) → t.resolver.lookup.callback ≡ s.resolver.lookup.callback → t.resolver.work ≡ s.resolver.work
     → IsRefused s.tree after → HasEnded t.tree
     → Failed step s t
 moved_refused step s t after c k r e = record {
@@ -441,8 +438,7 @@ abbrev pub Advances : {F : Type 0} → (F → Question → Option Answer → F �
 Advances {F} step s r t = NextGives {F = F} step IsPlacedOf s r t
 
 pub advances_none : {F I : Type 0} (step : F → Question → Option Answer → F → Type 0)
-    (is_of : List ℕ → I → Placed → Type 0)
-    (s t u : Parser F) → HasGone step s t → Ended t u
+    (is_of : List ℕ → I → Placed → Type 0) (s t u : Parser F) → HasGone step s t → Ended t u
     → Keeps t u → NextGives step is_of s None u
 advances_none step is_of s t u g e k =
     let q = none_quiet s t e.was.left g.went.asked in
@@ -461,8 +457,7 @@ advances_none step is_of s t u g e k =
     }
 
 pub advances_fault : {F I : Type 0} (step : F → Question → Option Answer → F → Type 0)
-    (is_of : List ℕ → I → Placed → Type 0)
-    (s t u : Parser F) → HasGone step s t → Failed step t u
+    (is_of : List ℕ → I → Placed → Type 0) (s t u : Parser F) → HasGone step s t → Failed step t u
     → Keeps t u → NextGives step is_of s (Some (Err Memory)) u
 advances_fault step is_of s t u g f k =
     let l = g.went.leads in
@@ -492,8 +487,7 @@ advances_fault step is_of s t u g f k =
     }
 
 pub advances_event : {F : Type 0} (step : F → Question → Option Answer → F → Type 0) (s t u : Parser F) (e : Event)
-    (range : Range ℕ)
-    → HasGone step s t → GaveEvent t u e range → Keeps t u
+    (range : Range ℕ) → HasGone step s t → GaveEvent t u e range → Keeps t u
     → parser_steps u < parser_steps t → Advances step s (Some (Ok (e, range))) u
 unfolding leads_on leads_gave
 advances_event step s t u e range g w k f =
@@ -521,8 +515,7 @@ advances_event step s t u e range g w k f =
 
 -- an event with its range is an event
 pub without_range : {F : Type 0} (step : F → Question → Option Answer → F → Type 0) (s : Parser F) (e : Event × Range ℕ)
-    (t : Parser F)
-    → GivesItem step IsPlacedOf s e t → GivesItem step IsEventOf s e.0 t
+    (t : Parser F) → GivesItem step IsPlacedOf s e t → GivesItem step IsEventOf s e.0 t
 without_range step s e t g = record {
   questions = g.questions;
   answers = g.answers;
@@ -554,8 +547,7 @@ took_falls s t u item took l = rw took.tree l
 
 -- the event of an item is given once it is made
 pub begun_event : {F : Type 0} (step : F → Question → Option Answer → F → Type 0) (s r t u : Parser F) (item : Item)
-    (w : Visit) (e : Event)
-    → HasGone step s r → Keeps r t → WentPast r t item w → Began t u item e
+    (w : Visit) (e : Event) → HasGone step s r → Keeps r t → WentPast r t item w → Began t u item e
     → Advances step s (Some (Ok (e, range_of item))) u
 begun_event step s r t u item w e g k past b =
     advances_event step s r u e (range_of item) g (past.gave u e b.took b.opens)
@@ -564,8 +556,7 @@ begun_event step s r t u item w e g k past b =
 
 -- it may be refused memory
 pub failed_past : {F : Type 0} (step : F → Question → Option Answer → F → Type 0) (s t u : Parser F) (item : Item)
-    (w : Visit) (fault : Fault)
-    → WentPast s t item w → RefusedAt t u fault → Failed step s u
+    (w : Visit) (fault : Fault) → WentPast s t item w → RefusedAt t u fault → Failed step s u
 failed_past step s t u item w fault past r = record {
   is = r.is;
   more = omega (arith, past.falls);
@@ -578,8 +569,7 @@ failed_past step s t u item w fault past r = record {
 }
 
 pub begun_fault : {F I : Type 0} (step : F → Question → Option Answer → F → Type 0)
-    (is_of : List ℕ → I → Placed → Type 0)
-    (s r t u : Parser F) (item : Item) (w : Visit) (fault : Fault)
+    (is_of : List ℕ → I → Placed → Type 0) (s r t u : Parser F) (item : Item) (w : Visit) (fault : Fault)
     → HasGone step s r → Keeps r t → WentPast r t item w → RefusedAt t u fault
     → NextGives step is_of s (Some (Err fault)) u
 begun_fault step is_of s r t u item w fault g k past refused =
@@ -588,8 +578,7 @@ begun_fault step is_of s r t u item w fault g k past refused =
 
 -- an item with its range is given, and so it is without
 pub next_event : {F : Type 0} (step : F → Question → Option Answer → F → Type 0) (s t : Parser F) (e : Event)
-    (range : Range ℕ)
-    → Advances step s (Some (Ok (e, range))) t → NextGives step IsEventOf s (Some (Ok e)) t
+    (range : Range ℕ) → Advances step s (Some (Ok (e, range))) t → NextGives step IsEventOf s (Some (Ok e)) t
 next_event step s t e range n = record {
   gives = without_range step s (e, range) t n.gives;
   text = n.text;
@@ -599,8 +588,7 @@ next_event step s t e range n = record {
 
 -- what comes of a Start
 pub begun_start : {F : Type 0} (step : F → Question → Option Answer → F → Type 0) (s r t u : Parser F) (item : Item)
-    (w : Visit)
-    (made : Result Event Fault) → HasGone step s r → Keeps r t → WentPast r t item w
+    (w : Visit) (made : Result Event Fault) → HasGone step s r → Keeps r t → WentPast r t item w
     → MatchResult made (Began t u item) (RefusedAt t u)
     → NextGives step IsEventOf s (Some made) u
 begun_start step s r t u item w (Ok e) g k past b =
@@ -609,8 +597,7 @@ begun_start step s r t u item w (Err fault) g k past b = begun_fault step IsEven
 
 -- after a Start there are fewer steps to come
 pub start_falls : {F : Type 0} (step : F → Question → Option Answer → F → Type 0) (s r t u : Parser F) (item : Item)
-    (w : Visit)
-    (made : Result Event Fault) → HasGone step s r → WentPast r t item w
+    (w : Visit) (made : Result Event Fault) → HasGone step s r → WentPast r t item w
     → MatchResult made (Began t u item) (RefusedAt t u)
     → parser_steps u < parser_steps s
 start_falls step s r t u item w (Ok e) g past b = let l = took_falls r t u item b.took past.falls in omega

@@ -73,8 +73,7 @@ chain-quiet s above chain after after' h q state =
 
 -- of a tree of a quiet chain: open, or not
 quiet_tree : (s : Setting) (above : EnclosingBlocks) (a : Plain) (below later : Forest Plain) (after after' : Reading)
-    (is_open : Bool)
-    → is_unresolved a.part.shape ≡ is_open
+    (is_open : Bool) → is_unresolved a.part.shape ≡ is_open
     → ((inner inner' : Reading) → SameElements inner inner'
     → SameElements (reading s no_notes (inside_node a above) below inner)
     (closed_reading (paired_if_open s (all_paired s below)) inner'))

@@ -286,8 +286,7 @@ module _ {A : Type 0} (own : Shape → List ℕ) (holds : List ℕ → (limit : 
 
     -- with what is inside it and before it
     enclosing : (left : List (Entry A)) (o : Split A) (children : Forest (TreeNode A)) (before : List (Entry A))
-        (x : List ℕ) (limit later : ℕ)
-        → IsWithin (ends children []) (ends_left o.after [])
+        (x : List ℕ) (limit later : ℕ) → IsWithin (ends children []) (ends_left o.after [])
         → ((t : List ℕ) → ends_left before t ≡ ends_left o.before t) → IsPart left o
         → ((ns : List ℕ) → holds ns limit → holds (ns ++ x) later) → holds (ends_left left []) limit
         → holds (ends_left before (ends children (x ++ []))) later
@@ -550,8 +549,7 @@ module _ {A : Type 0} (own : Shape → List ℕ) (holds : List ℕ → (limit : 
 
   -- a resolved chain, with its chains of children paired
   pub resolved_holds : (s : Setting) (notes : Notes A) (above : EnclosingBlocks) (chain : Forest (TreeNode A))
-      (state : ReferenceState)
-      → HasNone chain
+      (state : ReferenceState) → HasNone chain
       → holds [] state.limit
       → holds (ends (all_paired s (resolved s notes above chain state).forest) [])
       (resolved s notes above chain state).state.limit

@@ -160,8 +160,7 @@ in_order_from source counts a (node b below after) r w h = λ x y. h
 
 -- the facts of each number are one
 each_placed : (source : List ℕ) (counts : PartCounts) (tables : Tables) (nodes : List (Node Item)) (l : Option ℕ)
-    (f : Forest ℕ)
-    → Spells (links_of nodes) l f → AllKept source counts (relabelled (numbered nodes) f)
+    (f : Forest ℕ) → Spells (links_of nodes) l f → AllKept source counts (relabelled (numbered nodes) f)
     → Each (λ ix. NamesEntries tables (item_at nodes ix).body) f → Each (IsPlaced source tables nodes) f
 each_placed source counts tables nodes l nil s w named = tt
 each_placed source counts tables nodes l (node ix below after) s w named =

@@ -263,8 +263,7 @@ opens_slice source range view e c (slice, is, over) viewed texts from = rw is (r
 
 -- an event of one text that is referred to, and is taken
 pub opens_made : (source : List ℕ) (range : Range ℕ) (cows : List CowStr) (n : ℕ) (view : List ℕ → EventView)
-    (e : CowStr → Event) (c : CowStr)
-    → n < length cows → c ≡ get_or cows n c
+    (e : CowStr → Event) (c : CowStr) → n < length cows → c ≡ get_or cows n c
     → ((d : CowStr) → event_view (e d) ≡ view (text_of d)) → ((d : CowStr) → texts_of (e d) ≡ d ∷ [])
     → OpensWith source range (leaf (view (text_at cows n)) (made ∷ [])) (e c)
 opens_made source range cows n view e c within read viewed texts = record {
@@ -276,8 +275,7 @@ opens_made source range cows n view e c within read viewed texts = record {
 
 -- the same for the text of a span, which is a slice of the source where the table says so
 pub opens_span : (source : List ℕ) (range : Range ℕ) (cows : List CowStr) (n : ℕ) (view : List ℕ → EventView)
-    (e : CowStr → Event) (c : CowStr)
-    → n < length cows → c ≡ get_or cows n c
+    (e : CowStr → Event) (c : CowStr) → n < length cows → c ≡ get_or cows n c
     → IsSlicedOf source (origin_start source range.start) range.end (origin_at cows n) (text_at cows n)
     → ((d : CowStr) → event_view (e d) ≡ view (text_of d)) → ((d : CowStr) → texts_of (e d) ≡ d ∷ [])
     → ((d : CowStr) → slice_start source (e d) range.start ≡ origin_start source range.start)

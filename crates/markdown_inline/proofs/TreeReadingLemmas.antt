@@ -52,8 +52,7 @@ one_reads e reads state later es qs r = record {
 
 -- what is below a tree, and what comes after it
 both_read : (below after : Reading → Reading) (state middle later : ReferenceState) (es fs : List Placed)
-    (qs ps : List Question)
-    → Reads below state es qs middle → Reads after middle fs ps later
+    (qs ps : List Question) → Reads below state es qs middle → Reads after middle fs ps later
     → Reads (λ rest. below (after rest)) state (es ++ fs) (qs ++ ps) later
 both_read below after state middle later es fs qs ps b a = record {
   events = λ rest. b.events (after rest) ∙ ap (λ (l : List Placed). es ++ l) (a.events rest)
@@ -69,8 +68,7 @@ both_read below after state middle later es fs qs ps b a = record {
 
 -- a tree that encloses what is below it
 enclosed_reads : (first last : Placed) (below after : Reading → Reading) (state middle later : ReferenceState)
-    (es fs : List Placed)
-    (qs ps : List Question) → Reads below state es qs middle → Reads after middle fs ps later
+    (es fs : List Placed) (qs ps : List Question) → Reads below state es qs middle → Reads after middle fs ps later
     → Reads (λ rest. then_reads first (below (then_reads last (after rest)))) state (first ∷ (es ++ last ∷ fs))
     (qs ++ ps) later
 enclosed_reads first last below after state middle later es fs qs ps b a =
@@ -80,8 +78,7 @@ enclosed_reads first last below after state middle later es fs qs ps b a =
 
 -- a resolved forest
 settled_by : (shape : Shape) (range : Range ℕ) (under rest : Reading → Reading) (state : ReferenceState)
-    (es fs : List Placed)
-    → Reads under state es [] state → Reads rest state fs [] state
+    (es fs : List Placed) → Reads under state es [] state → Reads rest state fs [] state
     → Reads (λ after. reading_opened shape range under (rest after) (rest after)) state (tree_events shape range es fs)
     [] state
 settled_by (leaf e origins) range under rest state es fs i b = one_reads (e, range, origins) rest state state fs [] b

@@ -39,8 +39,7 @@ use Rattle.markdown_document.proofs.PlaceLemmas.{some_weight}
 
 -- a walk went from l below spine to m below deeper, and gave these events
 pub record Moves (s : Setting) (tables : Tables) (nodes : List (Node Item)) (l : Option ℕ) (spine : List ℕ)
-    (m : Option ℕ) (deeper : List ℕ)
-    (given : List Placed) : Type 0 where
+    (m : Option ℕ) (deeper : List ℕ) (given : List Placed) : Type 0 where
   pub stands : Stands s.text tables nodes m deeper
   pub left : (state : ReferenceState) → left_of s tables nodes l spine state
       ≡ events_first given (left_of s tables nodes m deeper state)
@@ -94,9 +93,7 @@ AboveKept-last source tables nodes (j ∷ js) ix a = AboveKept-last source table
 
 -- the node that was entered last ends first
 around-snoc : (s : Setting) (above : EnclosingBlocks) (tables : Tables) (nodes : List (Node Item))
-    (spine : List ℕ) (ix : ℕ)
-    (after : Reading)
-    → after_chain s above tables nodes (spine ++ ix ∷ []) after
+    (spine : List ℕ) (ix : ℕ) (after : Reading) → after_chain s above tables nodes (spine ++ ix ∷ []) after
     ≡ ended (end_of_body (item_at nodes ix).body) (range_of (item_at nodes ix))
     (reading s no_notes (inside_all nodes spine above) (trees_from s.text tables nodes (sibling_of nodes ix))
     (after_chain s above tables nodes spine after))
@@ -153,8 +150,7 @@ closing-plain tables source other h = cc h
 
 -- a tree that reads as one event
 reads-event : (shape : Shape) (range : Range ℕ) (inside : Reading → Reading) (after whole : Reading) (e : EventView)
-    (origins : List Origin)
-    → event_of_shape shape ≡ Some (e, origins)
+    (origins : List Origin) → event_of_shape shape ≡ Some (e, origins)
     → reading_opened shape range inside after whole ≡ then_reads (e, range, origins) after
 reads-event (leaf d origins') range inside after whole e origins h =
     let same : (d, origins')
@@ -291,8 +287,7 @@ moves_in_plain s tables nodes ix spine w h =
 
 -- out of a node that ends like this
 pub moves_out : (s : Setting) (tables : Tables) (nodes : List (Node Item)) (ix : ℕ) (spine : List ℕ)
-    (given : List Placed)
-    → Stands s.text tables nodes None (spine ++ ix ∷ [])
+    (given : List Placed) → Stands s.text tables nodes None (spine ++ ix ∷ [])
     → ((after : Reading) (state : ReferenceState) → ended (end_of_body (item_at nodes ix).body) (range_of
     (item_at nodes ix))
     after state

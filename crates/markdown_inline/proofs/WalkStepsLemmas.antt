@@ -44,8 +44,7 @@ any_rules = record { options = record { 0 = 0 }; definitions = []; is_footnote =
 
 -- an entry that is taken after a move, and is no longer referred to, changes nothing of what is left
 taken_after : (source : List ℕ) (nodes : List (Node Item)) (ix : ℕ) (held held' : Allocated) (m : Option ℕ)
-    (deeper : List ℕ)
-    (rules : Rules)
+    (deeper : List ℕ) (rules : Rules)
     → TakesOnly (item_at nodes ix).body held held' → ((n : Named) → naming nodes n ix + named_left nodes m deeper n ≤ 1)
     → Stands source (tables_of held) nodes m deeper
     → Stands source (tables_of held') nodes m deeper
@@ -101,8 +100,7 @@ spine_within source tables s ix up w e
 
 -- over a node
 pub went_on : (source : List ℕ) (s t : Arena Item) (held held' : Allocated) (ix : ℕ) (item : Item) (e : EventView)
-    (origins : List Origin)
-    → TreeStands source (tables_of held) s → s.cursor ≡ Some ix → item ≡ item_at s.nodes ix
+    (origins : List Origin) → TreeStands source (tables_of held) s → s.cursor ≡ Some ix → item ≡ item_at s.nodes ix
     → event_of_shape (shape_of (tables_of held) (over source item) item.body) ≡ Some (e, origins)
     → TakesOnly item.body held held'
     → t ≡ record s { cursor = sibling_of s.nodes ix } → Went source s t held held' ((e, range_of item, origins) ∷ [])
@@ -228,8 +226,7 @@ went_out source s t held ix up given w a sp cl c =
 
 -- out of a node that gives an End
 pub went_out_end : (source : List ℕ) (s t : Arena Item) (held : Allocated) (ix : ℕ) (item : Item) (up : List ℕ)
-    (e : TagEnd)
-    → TreeStands source (tables_of held) s → s.cursor ≡ None → s.spine ≡ up ++ ix ∷ []
+    (e : TagEnd) → TreeStands source (tables_of held) s → s.cursor ≡ None → s.spine ≡ up ++ ix ∷ []
     → item ≡ item_at s.nodes ix → end_of_body item.body ≡ Some e → t
     ≡ record s { spine = up; cursor = sibling_of s.nodes ix }
     → Went source s t held held ((end e, range_of item, []) ∷ [])

@@ -68,8 +68,7 @@ asks_once blocks asks answers =
 
 -- what `into_events` returns keeps the laws
 pub whole_run : {F : Type 0} (step : F → Question → Option Answer → F → Type 0) (p : Parser F)
-    (given : List (Event × Range ℕ))
-    (callback : Option F)
+    (given : List (Event × Range ℕ)) (callback : Option F)
     → GaveRest IsPlacedOf step p given callback → IsWholeFromStart step p given callback
 whole_run step p given callback r blocks reads =
     let answers : Answers = r.answers ++ [] in

@@ -13,7 +13,6 @@ use Rattle.markdown_resolver.specs.Resolved.{resolved, all_paired}
 -- where they are counted, or all at once
 abbrev pub ReadingLaw : Type 0
 ReadingLaw = (s : Setting) (above : EnclosingBlocks) (chain : Forest Plain) (state later : ReferenceState)
-    (after : Reading)
-    → IsQuietBelow chain
+    (after : Reading) → IsQuietBelow chain
     → (reading s no_notes above (resolved s no_notes above chain state).forest after later).elements
     ≡ (closed_reading (all_paired s (resolved s no_notes above chain state).forest) after later).elements

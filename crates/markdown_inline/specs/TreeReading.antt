@@ -53,8 +53,7 @@ TreeLaw = (s : Setting) (above : EnclosingBlocks) (f : Forest Plain) (state : Re
 -- the answers that the first trees left
 abbrev pub SplitLaw : Type 0
 SplitLaw = (s : Setting) (above : EnclosingBlocks) (first others : Forest Plain) (state : ReferenceState)
-    (after : Reading)
-    → NothingOpen first
+    (after : Reading) → NothingOpen first
     → (reading s no_notes above (joined_chains first others) after state).elements
     ≡ (reading s no_notes above first nothing_read state).elements
     ++ (reading s no_notes above others after (resolved_document s no_notes above first state).state).elements

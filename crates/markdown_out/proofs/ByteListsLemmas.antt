@@ -68,8 +68,7 @@ StandsTo-none bytes_of old xs = record { is = sym (append-nil old) }
 
 -- one more was appended
 pub StandsTo-more : {A : Type 0} (bytes_of : A → List ℕ) (out out' old : List ℕ) (xs : List A)
-    (n : ℕ) (d : A)
-    → n < length xs → out' ≡ out ++ bytes_of (get_or xs n d) → StandsTo bytes_of out old xs n
+    (n : ℕ) (d : A) → n < length xs → out' ≡ out ++ bytes_of (get_or xs n d) → StandsTo bytes_of out old xs n
     → StandsTo bytes_of out' old xs (n + 1)
 StandsTo-more bytes_of out out' old xs n d h e p = record {
   is =
@@ -86,8 +85,7 @@ StandsTo-all bytes_of out old xs n h p = p.is ∙ ap (λ x. old
 
 -- a prefix of the next one was appended
 pub StandsTo-prefix : {A : Type 0} (bytes_of : A → List ℕ) (out out' old : List ℕ) (xs : List A)
-    (n : ℕ) (d : A)
-    → n < length xs → AppendsPrefix out out' (bytes_of (get_or xs n d))
+    (n : ℕ) (d : A) → n < length xs → AppendsPrefix out out' (bytes_of (get_or xs n d))
     → StandsTo bytes_of out old xs n → AppendsPrefix old out' (flat_map bytes_of xs)
 StandsTo-prefix bytes_of out out' old xs n d h f p =
     let whole : flat_map bytes_of (take n xs) ++ (bytes_of (get_or xs n d)

@@ -70,8 +70,7 @@ past_item_is text read_in position after inside stop count same past content =
 
 -- the rest after the marker of a block quote and the space that is a part of it
 pub marker_after_is : (text : List ℕ) (before : scan.Space) (columns : ℕ) (position after : Position) (stop : ℕ)
-    (read : Space)
-    → columns ≡ before.columns → left_from text position stop ≡ before.after → columns < 4
+    (read : Space) → columns ≡ before.columns → left_from text position stop ≡ before.after → columns < 4
     → begins_with (codes ">") (slice_range text position.at stop) ≡ true → left_from text after stop
     ≡ past_one_byte (left_from text position stop)
     → IsSpaceAt text after stop 1 read → marker_after before ≡ Some (left_from text read.after stop)

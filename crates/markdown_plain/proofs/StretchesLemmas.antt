@@ -370,8 +370,7 @@ unfolding starts outer_of
 no_starts old number block inner = refl
 
 past_next : (old empty : Bool) (stop number : ℕ) (block inner next : OpenBlock) (blocks : List OpenBlock)
-    (reach : Reach)
-    (alike : Bool) → are_alike old block.body inner.body ≡ alike
+    (reach : Reach) (alike : Bool) → are_alike old block.body inner.body ≡ alike
     → TakesNothing (nat_le stop reach.content) reach.left (taken_by old block.body) → reach.all ≡ true
     → (TakesNothing (nat_le stop reach.content) reach.left (taken_by old inner.body)
     → PastStretch old empty stop (number + 1) (inner ∷ next ∷ blocks) (record reach { depth = reach.depth + 1 })
@@ -395,8 +394,7 @@ past_next old empty stop number block inner next blocks reach false unlike takes
 
 -- where a block takes nothing, the line goes past its stretch, up to the block that begins the next or the innermost
 pub past_stretch : (old empty : Bool) (stop number : ℕ) (block inner : OpenBlock) (blocks : List OpenBlock)
-    (reach : Reach)
-    → TakesNothing (nat_le stop reach.content) reach.left (taken_by old block.body) → reach.all ≡ true
+    (reach : Reach) → TakesNothing (nat_le stop reach.content) reach.left (taken_by old block.body) → reach.all ≡ true
     → PastStretch old empty stop number (block ∷ inner ∷ blocks) reach
     (next_of (number + suc (length blocks)) (starts old number (outer_of (block ∷ inner ∷ blocks))))
 past_stretch old empty stop number block inner [] reach takes all =
@@ -409,8 +407,7 @@ past_stretch old empty stop number block inner (next ∷ blocks) reach takes all
 
 -- What is reached past the stretch of the block with the number `number`, before the block with the number `next`.
 pub record AtNextStretch (old empty : Bool) (stop number : ℕ) (blocks : List OpenBlock) (reach : Reach)
-    (numbers : List ℕ)
-    (next : ℕ) : Type 0 where
+    (numbers : List ℕ) (next : ℕ) : Type 0 where
   pub more : number < next
   pub within : next < length blocks
   pub ahead : starts_after next numbers ≡ starts old next (outer_of (drop next blocks))
@@ -444,8 +441,7 @@ at_next old empty stop number next blocks inside reach numbers are n ahead depth
 
 -- where a block that is not the innermost takes nothing, the line goes past its stretch
 pub past_stretch_at : (old empty : Bool) (stop number last : ℕ) (blocks : List OpenBlock) (or : OpenBlock)
-    (reach : Reach)
-    (numbers : List ℕ) → number < last → last + 1 ≡ length blocks
+    (reach : Reach) (numbers : List ℕ) → number < last → last + 1 ≡ length blocks
     → TakesNothing (nat_le stop reach.content) reach.left (taken_by old (get_or blocks number or).body) → reach.all
     ≡ true
     → reach.depth ≡ number → numbers ≡ starts old number (outer_of (drop number blocks))

@@ -89,16 +89,14 @@ pub text_node : (source : List ℕ) (tables : Tables) (w : BracketContext) (a : 
 text_node source tables w a start start' end end' e e' is = rw (e, e', is) refl
 
 -- what is put, of an opener `[` and of an opener `![`
-one_onto : (w : BracketContext) (c : Closing ℕ) (is_image : Bool) (opener : TreeNode ℕ) (name : List ℕ) (left : List
-    (Entry ℕ))
-    → is_image ≡ false → footnote_onto w c is_image opener name left
+one_onto : (w : BracketContext) (c : Closing ℕ) (is_image : Bool) (opener : TreeNode ℕ) (name : List ℕ)
+    (left : List (Entry ℕ)) → is_image ≡ false → footnote_onto w c is_image opener name left
     ≡ all_done (node (footnote_from opener name (start_of opener) (end_of c.node)) nil nil) left
 one_onto w c true opener name left e = cc e
 one_onto w c false opener name left e = refl
 
-two_onto : (w : BracketContext) (c : Closing ℕ) (is_image : Bool) (opener : TreeNode ℕ) (name : List ℕ) (left : List
-    (Entry ℕ))
-    → is_image ≡ true → footnote_onto w c is_image opener name left
+two_onto : (w : BracketContext) (c : Closing ℕ) (is_image : Bool) (opener : TreeNode ℕ) (name : List ℕ)
+    (left : List (Entry ℕ)) → is_image ≡ true → footnote_onto w c is_image opener name left
     ≡ all_done (node (text_from w opener (start_of opener) (start_of opener + 1)) nil
     (node (footnote_from c.node name (start_of opener + 1) (end_of c.node)) nil nil)) left
 two_onto w c true opener name left e = refl

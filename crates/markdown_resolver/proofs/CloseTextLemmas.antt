@@ -47,8 +47,7 @@ closer_settled source tables nodes closer could_be is =
     ap (λ (s : Shape). text_unless (is_quiet s) source a (trees_from source tables nodes (child_of nodes closer))) shape
 
 pub text_closed : (source : List ℕ) (tables : Tables) (old new : List (Node Item)) (first closer : ℕ)
-    (rest : Continuation)
-    (left : List (Entry ℕ)) (w : BracketContext) (c : Closing ℕ)
+    (rest : Continuation) (left : List (Entry ℕ)) (w : BracketContext) (c : Closing ℕ)
     → ClosesAt source tables old first closer left w c a_text → Puts source closer (literal source) None rest old new
     tables tables → PutsClosed source first closer rest left w c a_text old new tables tables
 text_closed source tables old new first closer rest left w c closes puts =

@@ -195,8 +195,8 @@ name_from source start end origins v is slice = record {
 }
 
 -- which is after its opener
-name_after : (source : List ℕ) (tables : Tables) (nodes : List (Node Item)) (start low end : ℕ) (f : Forest
-    (TreeNode ℕ))
+name_after : (source : List ℕ) (tables : Tables) (nodes : List (Node Item)) (start low end : ℕ)
+    (f : Forest (TreeNode ℕ))
     (g : Forest ℕ) (after : List ℕ) (name : List ℕ) → f ≡ relabelled (numbered_node source tables nodes) g
     → InOrder nodes low (roots g ++ after)
     → start ≤ low → IsNamedIn source (past_second f) end name → IsSliceWithin source start end name
@@ -224,8 +224,8 @@ name_in_range source tables nodes first closer o end name at h =
 
 -- its opener is a node
 pub opener_there : {source : List ℕ} {tables : Tables} {nodes : List (Node Item)} {first closer : ℕ}
-    {left : List (Entry ℕ)} {w : BracketContext} {c : Closing ℕ} {becomes : Becomes ℕ} (opener : Opener) (name : Bor
-    (List ℕ))
+    {left : List (Entry ℕ)} {w : BracketContext} {c : Closing ℕ} {becomes : Becomes ℕ} (opener : Opener)
+    (name : Bor (List ℕ))
     (has_pothole : Bool) (shown : ShownNodes) (end : ℕ) → ClosesAt source tables nodes first closer left w c becomes
     → IsBecome w becomes (Wikilinked opener name has_pothole shown end) → opener.node < length nodes
 opener_there {source} {tables} {nodes} {first} {closer} {left} {w} {c} {becomes} opener name has_pothole shown end
@@ -237,8 +237,7 @@ opener_there {source} {tables} {nodes} {first} {closer} {left} {w} {c} {becomes}
 -- what becomes a wikilink can be put in place, as an item, once its entry is in its table
 pub record MayShow (source : List ℕ) (tables tables' : Tables) (nodes : List (Node Item)) (first closer : ℕ)
     (left : List (Entry ℕ)) (w : BracketContext) (c : Closing ℕ) (becomes : Becomes ℕ) (opener : Opener)
-    (shown : ShownNodes)
-    (number : LinkIndex) (end : ℕ) (item : Item) : Type 0 where
+    (shown : ShownNodes) (number : LinkIndex) (end : ℕ) (item : Item) : Type 0 where
   pub split : Split ℕ
   pub found : Wikilink ℕ
   pub is : becomes ≡ a_wikilink split found end

@@ -52,8 +52,7 @@ pub record HoldsPut (w : BracketContext) (c : Closing ℕ) (becomes : Becomes �
         × (wikilinks ≡ wikilinks_of (put w c becomes p).left)
 
 module _ {C : Type 0} (step : C → Question → Option Answer → C → Type 0) (s : Setting) (above : EnclosingBlocks)
-    (first ix : ℕ)
-    (left : List (Entry ℕ)) (could_be : Bool) (old new : ResolverState C)
+    (first ix : ℕ) (left : List (Entry ℕ)) (could_be : Bool) (old new : ResolverState C)
     (spent spent' : SpentEnds) (brackets wikilinks : List Waiting) (found : ClosedBracket) where
   abbrev the_closing : Closing ℕ
   the_closing = closing_at s.text old.tables old.nodes spent could_be ix

@@ -70,8 +70,7 @@ closes_by_number {source} {tables} {nodes} {ix} {count} {escaped} {found} ready 
 
 -- and so what pass one finds there
 code_read : (s : Setting) (above : EnclosingBlocks) (tables : Tables) (nodes : List (Node Item)) (ix count : ℕ)
-    (escaped : Bool)
-    (found : Option ℕ)
+    (escaped : Bool) (found : Option ℕ)
     → CanResolve s.text tables nodes (Some ix) → (item_at nodes ix).body ≡ body.MaybeCode count escaped
     → ClosesCode nodes ix found → find_by s above (body.MaybeCode count escaped) (tree_node_at s.text tables nodes ix)
     (trees_from s.text tables nodes (sibling_of nodes ix))
@@ -101,8 +100,7 @@ nothing_reads s above tables nodes ix count escaped ready is closes =
 
 -- where something does, a code span, with the text between them
 pub code_reads : (s : Setting) (above : EnclosingBlocks) (tables tables' : Tables) (nodes : List (Node Item))
-    (ix x count : ℕ)
-    (escaped : Bool) (cow : CowIndex)
+    (ix x count : ℕ) (escaped : Bool) (cow : CowIndex)
     → CanResolve s.text tables nodes (Some ix) → (item_at nodes ix).body ≡ body.MaybeCode count escaped
     → ClosesCode nodes ix (Some x)
     → text_at tables'.cows cow.0 ≡ text_between s above Code (item_at nodes ix).end (item_at nodes x).start

@@ -22,8 +22,7 @@ carried_left w (Some (inline_link o t)) q = refl
 carried_left w (Some other) q = refl
 
 pub decided_left : {A : Type 0} (w : BracketContext) (c : Closing A) (p : List (Entry A) → Type 0) → Stays p →
-    (q : Progress A)
-    → p q.left → p (decided w c q).progress.left
+    (q : Progress A) → p q.left → p (decided w c q).progress.left
 unfolding decided
 decided_left w c p stays q h =
     let second = second_end w c.rest in

@@ -210,8 +210,7 @@ module _ (source : List ℕ) (w : BracketContext) (c : Closing ℕ) (may : MayGo
 
 -- the chain after a `]` can continue at each of these byte offsets
 may_go_on : (source : List ℕ) (tables : Tables) (nodes : List (Node Item)) (w : BracketContext) (c : Closing ℕ)
-    (f : Forest ℕ)
-    → StandsAfter source tables nodes c f
+    (f : Forest ℕ) → StandsAfter source tables nodes c f
     → IsCharBoundary source (start_of c.node) → start_of c.node ≤ end_of c.node → w.setting.text ≡ source
     → IsUtf8 source → MayGoOn source w c
 may_go_on source tables nodes w c f k starts ordered text utf8 = record {

@@ -50,8 +50,7 @@ held_done trees left brackets wikilinks held = record {
 
 -- an item that is not a bracket was read
 pub reads_on_item : {C : Type 0} (step : C → Question → Option Answer → C → Type 0) (s : Setting)
-    (above : EnclosingBlocks)
-    (first ix : ℕ) (rest : Continuation) (left : List (Entry ℕ)) (old new : ResolverState C)
+    (above : EnclosingBlocks) (first ix : ℕ) (rest : Continuation) (left : List (Entry ℕ)) (old new : ResolverState C)
     (spent : SpentEnds) (brackets wikilinks : List Waiting) → new
     ≡ record old { nodes = new.nodes; tables = new.tables }
     → StandsTo s.text old.tables old.nodes first (Some ix) left → AreHeld brackets wikilinks left

@@ -20,9 +20,8 @@ none_left : (l : Answers) → length l ≡ 0 → (later : Answers) → l ++ late
 none_left [] e later = refl
 none_left (a ∷ l) e later = absurd (omega (arith, e))
 
-pub answers_handed_on : {A : Type 0} (s : Setting) (notes : Notes A) (above : EnclosingBlocks) (chain : Forest
-    (TreeNode A))
-    (state : ReferenceState) (answers later : Answers)
+pub answers_handed_on : {A : Type 0} (s : Setting) (notes : Notes A) (above : EnclosingBlocks)
+    (chain : Forest (TreeNode A)) (state : ReferenceState) (answers later : Answers)
     → length (resolved s notes above chain (with_answers answers state)).questions ≡ length answers
     → resolved s notes above chain (with_answers (answers ++ later) state) ≡ record {
       questions = (resolved s notes above chain (with_answers answers state)).questions;
@@ -41,8 +40,7 @@ answers_handed_on {A} s notes above chain state answers later e =
 
 -- neither pass makes a chain heavier
 pub no_heavier : {A : Type 0} (s : Setting) (notes : Notes A) (above : EnclosingBlocks) (chain : Forest (TreeNode A))
-    (state : ReferenceState)
-    → weight (resolved s notes above chain state).forest ≤ weight chain
+    (state : ReferenceState) → weight (resolved s notes above chain state).forest ≤ weight chain
 unfolding resolved
 no_heavier s notes above chain state =
     let read = pass_one-weight s notes above chain state in
@@ -50,8 +48,8 @@ no_heavier s notes above chain state =
     omega arith
 
 -- neither depends on notes
-pub same_notes : {A B : Type 0} (f : A → B) (s : Setting) (notes : Notes A) (tags' : Notes B) → Follows f notes tags'
-    → (above : EnclosingBlocks) (chain : Forest (TreeNode A)) (state : ReferenceState) → resolved s tags' above
+pub same_notes : {A B : Type 0} (f : A → B) (s : Setting) (notes : Notes A) (notes' : Notes B) → Follows f notes notes'
+    → (above : EnclosingBlocks) (chain : Forest (TreeNode A)) (state : ReferenceState) → resolved s notes' above
     (annotated f chain) state
     ≡ record {
       questions = (resolved s notes above chain state).questions;
@@ -59,9 +57,9 @@ pub same_notes : {A B : Type 0} (f : A → B) (s : Setting) (notes : Notes A) (t
       state = (resolved s notes above chain state).state;
     }
 unfolding resolved
-same_notes {B = B} f s notes tags' follows above chain state =
+same_notes {B = B} f s notes notes' follows above chain state =
     let r = pass_one s notes above chain state in
-    ap (then_paired s) (pass_one-annotate f s notes tags' follows above chain state)
+    ap (then_paired s) (pass_one-annotate f s notes notes' follows above chain state)
     ∙ ap (λ (g : Forest (TreeNode B)). let o : Outcome B = record {
       questions = r.questions;
       forest = g;

@@ -112,8 +112,7 @@ opener_item s tables nodes ix b is opens =
     (ap open_body (opener_shape s tables nodes ix b is opens) ∙ sym is)
 
 math_read : (s : Setting) (above : EnclosingBlocks) (tables : Tables) (nodes : List (Node Item)) (ix : ℕ)
-    (opens closes : Bool)
-    (context : ℕ) (found : Option FoundMath)
+    (opens closes : Bool) (context : ℕ) (found : Option FoundMath)
     → CanResolve s.text tables nodes (Some ix) → (item_at nodes ix).body ≡ body.MaybeMath opens closes context
     → ClosesMath nodes ix found
     → find_by s above (body.MaybeMath opens closes context) (tree_node_at s.text tables nodes ix)

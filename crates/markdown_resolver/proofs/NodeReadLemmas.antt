@@ -145,8 +145,7 @@ other_read (Err fault) step place ix tree tree' old new can kind kept reads = tt
 
 -- an item was read without a search, by any rules with the footnotes of its place
 pub only_reads : {C E : Type 0} (r : Result Continuation E) (place : ChainPlace) (tree : Arena Item)
-    (old new : Resolver C)
-    (ix : ℕ)
+    (old new : Resolver C) (ix : ℕ)
     (tree' : Arena Item) → CanReadOther place tree old ix → IfOk r (λ rest. tree' ≡ record tree { nodes = tree'.nodes })
     → IfOk r (λ rest. (rules : Rules) → gfm_footnotes_on rules.options ≡ gfm_footnotes_on place.options
     → ReadsItem (setting_of place.text.now rules) (above_cursor place.text.now tree) ix rest tree.nodes tree'.nodes

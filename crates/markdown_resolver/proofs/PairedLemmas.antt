@@ -124,8 +124,7 @@ read_quiet step s above first old mid quiet r =
 
 -- so it can be paired
 pub read_can_pair : {C : Type 0} (step : C → Question → Option Answer → C → Type 0) (s : Setting)
-    (above : EnclosingBlocks)
-    (first : ℕ) (old mid : ResolverState C) → IsQuietBelow (chain_at s.text old (Some first))
+    (above : EnclosingBlocks) (first : ℕ) (old mid : ResolverState C) → IsQuietBelow (chain_at s.text old (Some first))
     → ResolvesFrom step s.text (pass_one s no_notes above) (Some first) old mid → CanPair s.text mid.nodes first
 read_can_pair step s above first old mid quiet r =
     let f = forest_at (links_of mid.nodes) (Some first) in
@@ -168,8 +167,7 @@ pair_changes step s above first old mid nodes quiet r p =
 
 -- a chain that was read and then paired is resolved
 pub pair_resolves : {C : Type 0} (step : C → Question → Option Answer → C → Type 0) (s : Setting)
-    (above : EnclosingBlocks)
-    (first : ℕ) (old mid : ResolverState C) (nodes : List (Node Item))
+    (above : EnclosingBlocks) (first : ℕ) (old mid : ResolverState C) (nodes : List (Node Item))
     → (r : ResolvesFrom step s.text (pass_one s no_notes above) (Some first) old mid)
     → PairsChain s first mid.nodes nodes
     → (later : Answers) → resolved s no_notes above (chain_at s.text old (Some first))
@@ -200,11 +198,8 @@ then_pairs step s above first old mid nodes quiet r p = record {
 
 -- where memory is refused to pass one, the questions asked are the first of the chain
 pub stops_resolving : {C : Type 0} (step : C → Question → Option Answer → C → Type 0) (s : Setting)
-    (above : EnclosingBlocks)
-    (first : ℕ)
-    (old : ResolverState C) (callback : Option C) (work work' : Work)
-    (p : StopsInPassOne step s above first old callback)
-    → ((later : Answers) → RisesInPart
+    (above : EnclosingBlocks) (first : ℕ) (old : ResolverState C) (callback : Option C) (work work' : Work)
+    (p : StopsInPassOne step s above first old callback) → ((later : Answers) → RisesInPart
     (chain_counts s no_notes above (chain_at s.text old (Some first)) (state_at old (p.answers ++ later))) work work')
     → StopsIn step s above first old callback work work'
 unfolding resolved
@@ -218,8 +213,7 @@ stops_resolving step s above first old callback work work' p counts = record {
 
 -- where memory is refused to pairing, the chain's questions were all asked
 pub stops_in : {C : Type 0} (step : C → Question → Option Answer → C → Type 0) (s : Setting) (above : EnclosingBlocks)
-    (first : ℕ)
-    (old mid : ResolverState C)
+    (first : ℕ) (old mid : ResolverState C)
     (work work' : Work) (r : ResolvesFrom step s.text (pass_one s no_notes above) (Some first) old mid)
     → ((later : Answers) → RisesInPart
     (chain_counts s no_notes above (chain_at s.text old (Some first)) (state_at old (r.answers ++ later))) work work')
@@ -268,8 +262,7 @@ delimiters_seen source tables nodes (node ix below after) =
 
 -- those of a chain that are counted are the ones that pass one leaves
 pub delimiters_left : {C : Type 0} (step : C → Question → Option Answer → C → Type 0) (s : Setting)
-    (above : EnclosingBlocks)
-    (first : ℕ) (old mid : ResolverState C)
+    (above : EnclosingBlocks) (first : ℕ) (old mid : ResolverState C)
     → (r : ResolvesFrom step s.text (pass_one s no_notes above) (Some first) old mid) → (later : Answers)
     → delimiters_of (trees_at mid.nodes (Some first))
     ≡ (chain_counts s no_notes above (chain_at s.text old (Some first))

@@ -170,8 +170,8 @@ unfolding read_tree
 tree_made s above n a below rest = unless_made s above n a below rest (is_quiet a.part.shape)
 
 -- so what is not a bracket is read the same wherever it is
-pub reads_other : (s : Setting) (above : EnclosingBlocks) (a : Plain) (below rest : Forest Plain) (p : Progress
-    (Unit {0}))
+pub reads_other : (s : Setting) (above : EnclosingBlocks) (a : Plain) (below rest : Forest Plain)
+    (p : Progress (Unit {0}))
     → p.goes_on ≡ None → NoBracket (open_body a.part.shape) → all_read s above (node a below rest) p
     ≡ (let r : Passed (Unit {0}) = read_tree s no_notes above 0 a below rest in
     all_read s above (past r.goes_on rest)
@@ -216,8 +216,8 @@ module _ {A : Type 0} where
   begins_as nil h = absurd h
   begins_as (node a below after) h = first_not_plain a.part.shape h
 
-  begun_by : (P : Forest (TreeNode A) → Type 0) (f : Forest (TreeNode A)) → ((a : TreeNode A) (below after : Forest
-      (TreeNode A))
+  begun_by : (P : Forest (TreeNode A) → Type 0) (f : Forest (TreeNode A)) → ((a : TreeNode A)
+      (below after : Forest (TreeNode A))
       → is_plain a.part.shape ≡ false → P (node a below after)) → BeginsWith is_not_plain f → P f
   begun_by P nil holds h = absurd h
   begun_by P (node a below after) holds h = holds a below after (shows_more (is_plain a.part.shape) h)
@@ -313,23 +313,23 @@ module _ {A B : Type 0} (f : A → B) where
   all_done_annotate nil left = refl
   all_done_annotate (node a below after) left = all_done_annotate after (done a below ∷ left)
 
-  module _ (s : Setting) (notes : Notes A) (tags' : Notes B) (follows : Follows f notes tags')
+  module _ (s : Setting) (notes : Notes A) (notes' : Notes B) (follows : Follows f notes notes')
       (above : EnclosingBlocks) where
-    pub other_annotate : AnnotatesTo f (read_other s notes above) (read_other s tags' above)
+    pub other_annotate : AnnotatesTo f (read_other s notes above) (read_other s notes' above)
     other_annotate a below rest p =
         let r : Passed A = read_tree s notes above p.made a below rest in
         ap (λ (r : Passed B). put_passed r (annotate_progress f p))
-        (read_annotate f s notes tags' above p.made (follows.makes p.made) a below
+        (read_annotate f s notes notes' above p.made (follows.makes p.made) a below
         rest) ∙ ap (λ (left : List (Entry B)). record (annotate_progress f p)
         { left = left; goes_on = r.goes_on; made = r.made }) (all_done_annotate r.trees p.left)
 
-    pub read_on_annotate : (chain : Forest (TreeNode A)) (p : Progress A) → read_on s tags' above (annotated f chain)
+    pub read_on_annotate : (chain : Forest (TreeNode A)) (p : Progress A) → read_on s notes' above (annotated f chain)
         (annotate_progress f p) ≡ annotate_progress f (read_on s notes above chain p)
     read_on_annotate chain p = read_chain_annotate f (bracket_context s above) (read_other s notes above)
-        (read_other s tags' above)
+        (read_other s notes' above)
         other_annotate chain p
 
-    pub pass_one-annotate : (chain : Forest (TreeNode A)) (state : ReferenceState) → pass_one s tags' above
+    pub pass_one-annotate : (chain : Forest (TreeNode A)) (state : ReferenceState) → pass_one s notes' above
         (annotated f chain) state
         ≡ (let r : Outcome A = pass_one s notes above chain state in record {
           questions = r.questions;

@@ -69,8 +69,7 @@ reads_on_none step s above first old spent ready = record {
 
 -- one stretch was read, and then another
 module _ {C : Type 0} (step : C → Question → Option Answer → C → Type 0) (s : Setting) (above : EnclosingBlocks)
-    (first : ℕ)
-    (at mid : Option ℕ) (left : List (Entry ℕ)) (old now : ResolverState C) (spent spent1 : SpentEnds)
+    (first : ℕ) (at mid : Option ℕ) (left : List (Entry ℕ)) (old now : ResolverState C) (spent spent1 : SpentEnds)
     (brackets wikilinks : List Waiting)
     (r : ReadsOn step s above first at mid left old now spent spent1 brackets wikilinks) where
   abbrev after_first : Progress (Unit {0}) → Progress (Unit {0})

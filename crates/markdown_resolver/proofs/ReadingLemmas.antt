@@ -108,8 +108,8 @@ reads_settled s above a below after none = by_quiet (is_quiet a.part.shape) refl
     by_quiet false e = rw (e, none) (refl, refl)
 
 -- an item at which nothing is found is read when it becomes literal text
-pub literal_reads : (s : Setting) (above : EnclosingBlocks) (ix : ℕ) (rest : Continuation) (old new : List
-    (Node Item)) (tables : Tables)
+pub literal_reads : (s : Setting) (above : EnclosingBlocks) (ix : ℕ) (rest : Continuation)
+    (old new : List (Node Item)) (tables : Tables)
     → CanResolve s.text tables old (Some ix) → FindsNothing (item_at old ix).body
     → Puts s.text ix (literal s.text) None rest old new tables tables → ReadsItem s above ix rest old new tables tables
 literal_reads s above ix rest old new tables ready nothing_there puts =
@@ -153,8 +153,7 @@ pub record ReadsAlone {E : Type 0} (r : Result Continuation E) (s : Setting) (ab
       → IfOk r (λ rest. LooksAt failed failed visits visits (items_from old (Some ix)) (items_from new rest.next))
 
 pub reads_alone : {E : Type 0} (r : Result Continuation E) (s : Setting) (above : EnclosingBlocks) (ix : ℕ)
-    (old new : List (Node Item))
-    (tables tables' : Tables) → CanResolve s.text tables old (Some ix)
+    (old new : List (Node Item)) (tables tables' : Tables) → CanResolve s.text tables old (Some ix)
     → IfOk r (λ rest. ReadsItem s above ix rest old new tables tables') → ReadsAlone r s above ix old new tables tables'
 reads_alone (Ok rest) s above ix old new tables tables' ready reads = record {
   reads = reads;

@@ -109,8 +109,7 @@ opener_shape s tables nodes ix b is opens =
 
 -- what is read of an item that is open and does not wait for pairing is what is found at it
 pub read_opener : (s : Setting) (above : EnclosingBlocks) (tables : Tables) (nodes : List (Node Item)) (ix : ℕ)
-    (b : ItemBody)
-    → (item_at nodes ix).body ≡ b → is_open b ≡ true → waits_for_pairing b ≡ false
+    (b : ItemBody) → (item_at nodes ix).body ≡ b → is_open b ≡ true → waits_for_pairing b ≡ false
     → read_at s above tables nodes ix ≡ passed s no_notes 0 (tree_node_at s.text tables nodes ix)
     (find_by s above b (tree_node_at s.text tables nodes ix) (trees_from s.text tables nodes (sibling_of nodes ix)))
 unfolding read_tree

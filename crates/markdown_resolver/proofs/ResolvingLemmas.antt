@@ -27,8 +27,7 @@ module _ {A : Type 0} where
 
   -- a chain of which all open items wait for pairing is paired, and keeps what is known
   pub resolved-quiet : (s : Setting) (notes : Notes A) (above : EnclosingBlocks) (chain : Forest (TreeNode A))
-      (state : ReferenceState)
-      → IsQuiet chain
+      (state : ReferenceState) → IsQuiet chain
       → resolved s notes above chain state ≡ record { questions = []; forest = paired s chain; state = state }
   unfolding resolved
   resolved-quiet s notes above chain state q = ap (then_paired s) (pass_one-stays s notes above chain state q)
@@ -88,16 +87,14 @@ module _ {A : Type 0} where
 
   -- and a resolved one
   pub resolved-literal : (s : Setting) (notes : Notes A) (above : EnclosingBlocks) (chain : Forest (TreeNode A))
-      (state : ReferenceState)
-      → IsQuietBelow chain → IsClosedChain (resolved s notes above chain state).forest
+      (state : ReferenceState) → IsQuietBelow chain → IsClosedChain (resolved s notes above chain state).forest
   unfolding resolved
   resolved-literal s notes above chain state q = paired-literal s (pass_one s notes above chain state).forest
       (pass_one-quiet s notes above chain state q)
 
   -- a chain whose first item is open gives an event at once, after its questions
   pub resolved-begins : (s : Setting) (notes : Notes A) (above : EnclosingBlocks) (a : TreeNode A)
-      (below after : Forest (TreeNode A))
-      (state : ReferenceState)
+      (below after : Forest (TreeNode A)) (state : ReferenceState)
       → is_unresolved a.part.shape ≡ true → Begins (resolved s notes above (node a below after) state).forest
   unfolding resolved
   resolved-begins s notes above a below after state h = pass_one-first s notes above (λ f. Begins (paired s f)) a below

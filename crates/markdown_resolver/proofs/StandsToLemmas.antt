@@ -138,8 +138,8 @@ module _ (source : List ℕ) (tables : Tables) (nodes : List (Node Item)) where
       record {
         whole = whole;
         moves = subst (λ (l : Option ℕ). Moves source (Some first) l nodes nodes tables tables) link r.moves;
-        quiet_below = below_second (trees_onto left nil) later (subst (λ (g : Forest
-            (TreeNode ℕ)). IsQuietBelow g) whole
+        quiet_below = below_second (trees_onto left nil) later (subst (λ
+            (g : Forest (TreeNode ℕ)). IsQuietBelow g) whole
             (quiet_numbered (Some first) h.ready.quiet_below));
       }
 
@@ -289,8 +289,8 @@ footnote_trees left later = marked_trees without_bracket (second_folded left) la
 pub footnote_waits : (p : ℕ → Type 0) (left : List (Entry ℕ)) → EachWaits p left → EachWaits p (before_footnote left)
 footnote_waits p left h = marked_waits p without_bracket (second_folded left) (folded_waits p left h)
 
-pub taken_waits : (p : ℕ → Type 0) (test : OpenerState → Bool) (f : OpenerState → OpenerState) (left : List
-    (Entry ℕ)) → EachWaits p left
+pub taken_waits : (p : ℕ → Type 0) (test : OpenerState → Bool) (f : OpenerState → OpenerState)
+    (left : List (Entry ℕ)) → EachWaits p left
     → EachWaits p (change_nearest test f left)
 taken_waits p test f [] h = h
 taken_waits p test f (done a below ∷ left) h = taken_waits p test f left h

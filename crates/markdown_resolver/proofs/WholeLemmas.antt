@@ -186,9 +186,8 @@ module _ {A : Type 0} where
   WaitsClosed (waits m a ∷ left) = (is_unresolved a.part.shape ≡ false) × WaitsClosed left
 
   -- states do not change the trees
-  same_change : (opens : OpenerState → Bool) (f : OpenerState → OpenerState) (left : List (Entry A)) (later : Forest
-      (TreeNode A))
-      → trees_onto (change_nearest opens f left) later ≡ trees_onto left later
+  same_change : (opens : OpenerState → Bool) (f : OpenerState → OpenerState) (left : List (Entry A))
+      (later : Forest (TreeNode A)) → trees_onto (change_nearest opens f left) later ≡ trees_onto left later
   same_change opens f [] later = refl
   same_change opens f (done a below ∷ left) later = same_change opens f left (node a below later)
   same_change opens f (waits m a ∷ left) later = by (opens m) (same_change opens f left (node a nil later))
@@ -280,8 +279,8 @@ module _ {A : Type 0} where
   past_second_whole source (node a below after) w = w.2
 
   -- a left list before a `]`, and one that any chain can follow
-  record WholeBefore (source : List ℕ) (b : TreeNode A) (rest : Forest (TreeNode A)) (left : List
-      (Entry A)) : Type 0 where
+  record WholeBefore (source : List ℕ) (b : TreeNode A) (rest : Forest (TreeNode A))
+      (left : List (Entry A)) : Type 0 where
     whole : RunsStandWhole source (trees_onto left (node b nil rest))
     waiting : WaitsClosed left
 

@@ -52,8 +52,7 @@ found_by f f' old old' new e e' h = rw (sym e, sym e') h
 
 -- where a chain was read, the counts rose by those of a part of it: of its items, and of no delimiter character
 pub read_in_part : {C : Type 0} (s : Setting) (above : EnclosingBlocks) (first : ℕ) (old : ResolverState C)
-    (state : ReferenceState)
-    (work new : Work) → ReadCounts (items_from old.nodes (Some first)) work new
+    (state : ReferenceState) (work new : Work) → ReadCounts (items_from old.nodes (Some first)) work new
     → RisesInPart (chain_counts s no_notes above (chain_at s.text old (Some first)) state) work new
 read_in_part s above first old state work new read =
     let n = chain_counts s no_notes above (chain_at s.text old (Some first)) state in
@@ -76,8 +75,7 @@ read_in_part s above first old state work new read =
 
 -- where a chain was read, and then paired, the counts rose by those of the chain, with so many searches that find
 module _ {C : Type 0} (step : C → Question → Option Answer → C → Type 0) (s : Setting) (above : EnclosingBlocks)
-    (first : ℕ)
-    (old mid : ResolverState C) (work then new : Work)
+    (first : ℕ) (old mid : ResolverState C) (work then new : Work)
     (r : ResolvesFrom step s.text (pass_one s no_notes above) (Some first) old mid)
     (read : ReadCounts (items_from old.nodes (Some first)) work then) where
   abbrev counts_of : (later : Answers) → ChainCounts

@@ -25,8 +25,7 @@ ChainCountLaw A = (s : Setting) (notes : Notes A) (above : EnclosingBlocks) (cha
 -- no two questions end at the same byte offset, where the items of a chain are in order and cover their markup
 abbrev pub ChainEndsLaw : Type 0 → Type 0
 ChainEndsLaw A = (s : Setting) (notes : Notes A) (above : EnclosingBlocks) (chain : Forest (TreeNode A))
-    (state : ReferenceState)
-    → StandInLine s.text chain → EndApart (resolved s notes above chain state).questions
+    (state : ReferenceState) → StandInLine s.text chain → EndApart (resolved s notes above chain state).questions
 
 -- so do the items of each chain of a well-formed block result
 abbrev pub DocumentLineLaw : Type 0

@@ -35,14 +35,12 @@ OrderLaw A = (s : Setting) (chain : Forest (TreeNode A)) → all_paired s (paire
 -- no item of a resolved chain is open, and below it at most delimiter runs and quotation marks are
 abbrev pub ClosedChainLaw : Type 0 → Type 0
 ClosedChainLaw A = (s : Setting) (notes : Notes A) (above : EnclosingBlocks) (chain : Forest (TreeNode A))
-    (state : ReferenceState)
-    → IsQuietBelow chain → IsClosedChain (resolved s notes above chain state).forest
+    (state : ReferenceState) → IsQuietBelow chain → IsClosedChain (resolved s notes above chain state).forest
 
 -- a chain that begins with an open item is resolved to one that begins with an event
 abbrev pub BeginLaw : Type 0 → Type 0
-BeginLaw A = (s : Setting) (notes : Notes A) (above : EnclosingBlocks) (a : TreeNode A) (below after : Forest
-    (TreeNode A))
-    (state : ReferenceState) → is_unresolved a.part.shape ≡ true
+BeginLaw A = (s : Setting) (notes : Notes A) (above : EnclosingBlocks) (a : TreeNode A)
+    (below after : Forest (TreeNode A)) (state : ReferenceState) → is_unresolved a.part.shape ≡ true
     → Begins (resolved s notes above (node a below after) state).forest
 
 -- what is known, with other answers to come
@@ -52,8 +50,7 @@ with_answers answers state = record { limit = state.limit; answers = answers; us
 -- with one answer for each question the result is the same whatever answers follow, and those are passed on
 abbrev pub AnswerLaw : Type 0 → Type 0
 AnswerLaw A = (s : Setting) (notes : Notes A) (above : EnclosingBlocks) (chain : Forest (TreeNode A))
-    (state : ReferenceState)
-    (answers later : Answers)
+    (state : ReferenceState) (answers later : Answers)
     → let r : Outcome A = resolved s notes above chain (with_answers answers state) in
     length r.questions ≡ length answers
     → resolved s notes above chain (with_answers (answers ++ later) state)
@@ -62,19 +59,18 @@ AnswerLaw A = (s : Setting) (notes : Notes A) (above : EnclosingBlocks) (chain :
 -- a chain is resolved to one that is no heavier
 abbrev pub WeightLaw : Type 0 → Type 0
 WeightLaw A = (s : Setting) (notes : Notes A) (above : EnclosingBlocks) (chain : Forest (TreeNode A))
-    (state : ReferenceState)
-    → weight (resolved s notes above chain state).forest ≤ weight chain
+    (state : ReferenceState) → weight (resolved s notes above chain state).forest ≤ weight chain
 
 -- a function maps the first notes of what is made to the second
-pub record Follows {A B : Type 0} (f : A → B) (notes : Notes A) (tags' : Notes B) : Type 0 where
-  pub makes : (n : ℕ) → tags'.of_made n ≡ f (notes.of_made n)
+pub record Follows {A B : Type 0} (f : A → B) (notes : Notes A) (notes' : Notes B) : Type 0 where
+  pub makes : (n : ℕ) → notes'.of_made n ≡ f (notes.of_made n)
 
 -- notes do not matter: a chain with other notes is resolved to the same, with those notes
 abbrev pub NoteLaw : Type 0 → Type 0 → Type 0
-NoteLaw A B = (f : A → B) (s : Setting) (notes : Notes A) (tags' : Notes B) → Follows f notes tags'
+NoteLaw A B = (f : A → B) (s : Setting) (notes : Notes A) (notes' : Notes B) → Follows f notes notes'
     → (above : EnclosingBlocks) (chain : Forest (TreeNode A)) (state : ReferenceState)
     → let r : Outcome A = resolved s notes above chain state in
-    resolved s tags' above (annotated f chain) state
+    resolved s notes' above (annotated f chain) state
     ≡ record { questions = r.questions; forest = annotated f r.forest; state = r.state }
 
 -- a node as an item numbered by the byte offset where it starts, so that the numbers of a run's characters are
@@ -98,6 +94,5 @@ DocumentLaw = (source : List ℕ) (nodes : List (Node Item)) (parts : BlockParts
 -- where runs are whole in a chain, they are whole in what pass one makes of it
 abbrev pub WholeLaw : Type 0 → Type 0
 WholeLaw A = (s : Setting) (notes : Notes A) (above : EnclosingBlocks) (chain : Forest (TreeNode A))
-    (state : ReferenceState)
-    → RunsStandWhole s.text chain
+    (state : ReferenceState) → RunsStandWhole s.text chain
     → RunsStandWhole s.text (pass_one s notes above chain state).forest

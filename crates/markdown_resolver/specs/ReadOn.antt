@@ -87,8 +87,7 @@ all_read s above chain p = record (read_on s no_notes above chain p) { goes_on =
 -- a chain was read in place from one link to another: for all answers that follow, reading on from the second link
 -- gives the same as from the first
 pub record ReadsOn {C : Type 0} (step : C → Question → Option Answer → C → Type 0) (s : Setting)
-    (above : EnclosingBlocks)
-    (first : ℕ)
+    (above : EnclosingBlocks) (first : ℕ)
     (at next : Option ℕ) (left : List (Entry ℕ)) (old new : ResolverState C) (spent spent' : SpentEnds)
     (brackets wikilinks : List Waiting)
     : Type 0 where
@@ -116,8 +115,7 @@ pub record ReadsOn {C : Type 0} (step : C → Question → Option Answer → C �
 -- memory was refused on the way: the callback returned these answers to these questions, with which those of the rest
 -- begin
 pub record StopsOn {C : Type 0} (step : C → Question → Option Answer → C → Type 0) (s : Setting)
-    (above : EnclosingBlocks)
-    (at : Option ℕ)
+    (above : EnclosingBlocks) (at : Option ℕ)
     (left : List (Entry ℕ)) (old : ResolverState C) (spent : SpentEnds) (callback' : Option C) : Type 0 where
   pub answers : Answers
   pub questions : List Question
@@ -128,9 +126,7 @@ pub record StopsOn {C : Type 0} (step : C → Question → Option Answer → C �
 
 -- the same in pass one over the chain from the node `first` on
 pub record StopsInPassOne {C : Type 0} (step : C → Question → Option Answer → C → Type 0) (s : Setting)
-    (above : EnclosingBlocks)
-    (first : ℕ)
-    (old : ResolverState C) (callback' : Option C) : Type 0 where
+    (above : EnclosingBlocks) (first : ℕ) (old : ResolverState C) (callback' : Option C) : Type 0 where
   pub answers : Answers
   pub questions : List Question
   pub asked : Asks step old.callback questions answers callback'

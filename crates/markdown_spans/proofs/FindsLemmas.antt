@@ -84,9 +84,7 @@ module _ {A : Type 0} where
 
   -- what is read from a tree weighs at most what the tree does
   unless_weight : (s : Setting) (notes : Notes A) (above : EnclosingBlocks) (n : ℕ) (a : TreeNode A)
-      (below rest : Forest (TreeNode A))
-      (quiet : Bool)
-      → is_quiet a.part.shape ≡ quiet
+      (below rest : Forest (TreeNode A)) (quiet : Bool) → is_quiet a.part.shape ≡ quiet
       → weight (read_unless quiet s notes above n a below rest).trees ≤ weight_if (is_unresolved a.part.shape) + weight
       below
   unless_weight s notes above n a below rest true e = omega arith
@@ -206,17 +204,14 @@ module _ {A : Type 0} where
   quiet_trees s new a nothing h = ((refl, h), tt, tt)
 
   unless_quiet : (s : Setting) (notes : Notes A) (above : EnclosingBlocks) (n : ℕ) (a : TreeNode A)
-      (below rest : Forest (TreeNode A))
-      (quiet : Bool)
-      → is_quiet a.part.shape ≡ quiet
+      (below rest : Forest (TreeNode A)) (quiet : Bool) → is_quiet a.part.shape ≡ quiet
       → is_some a.part.block ≡ false → Each IsQuietNode below
       → Each IsQuietNode (read_unless quiet s notes above n a below rest).trees
   unless_quiet s notes above n a below rest true e h inner = ((e, h), inner, tt)
   unless_quiet s notes above n a below rest false e h inner = quiet_trees s (notes.of_made n) a (find s above a rest) h
 
   pub read_quiet : (s : Setting) (notes : Notes A) (above : EnclosingBlocks) (n : ℕ) (a : TreeNode A)
-      (below rest : Forest (TreeNode A))
-      → is_some a.part.block ≡ false → Each IsQuietNode below
+      (below rest : Forest (TreeNode A)) → is_some a.part.block ≡ false → Each IsQuietNode below
       → Each IsQuietNode (read_tree s notes above n a below rest).trees
   unfolding read_tree
   read_quiet s notes above n a below rest h inner = unless_quiet s notes above n a below rest

@@ -208,8 +208,8 @@ module _ {A B : Type 0} (f : A → B) where
       (start_of a)
       (end_of a))
 
-  find_by_annotate : (s : Setting) (above : EnclosingBlocks) (b : ItemBody) (a : TreeNode A) (rest : Forest
-      (TreeNode A))
+  find_by_annotate : (s : Setting) (above : EnclosingBlocks) (b : ItemBody) (a : TreeNode A)
+      (rest : Forest (TreeNode A))
       → find_by s above b (annotate f a) (annotated f rest) ≡ annotate_find (find_by s above b a rest)
   find_by_annotate s above (body.MaybeCode count escaped) a rest =
       ap (λ l. code_found s above (annotate f a) (code_close as_item (body.MaybeCode count escaped) l))
@@ -264,31 +264,32 @@ module _ {A B : Type 0} (f : A → B) where
   made_annotate (markup (html_markup end bytes)) = refl
   made_annotate nothing = refl
 
-  passed_annotate : (s : Setting) (notes : Notes A) (tags' : Notes B) (n : ℕ) → tags'.of_made n ≡ f (notes.of_made n)
+  passed_annotate : (s : Setting) (notes : Notes A) (notes' : Notes B) (n : ℕ) → notes'.of_made n ≡ f (notes.of_made n)
       → (a : TreeNode A) (found : Find A)
-      → passed s tags' n (annotate f a) (annotate_find found) ≡ annotate_passed (passed s notes n a found)
-  passed_annotate s notes tags' n follows a found =
+      → passed s notes' n (annotate f a) (annotate_find found) ≡ annotate_passed (passed s notes n a found)
+  passed_annotate s notes notes' n follows a found =
       rw (follows, trees_annotate s (notes.of_made n) a found, end_annotate found, made_annotate found) refl
 
-  unless_annotate : (s : Setting) (notes : Notes A) (tags' : Notes B) (above : EnclosingBlocks) (n : ℕ)
-      → tags'.of_made n
+  unless_annotate : (s : Setting) (notes : Notes A) (notes' : Notes B) (above : EnclosingBlocks) (n : ℕ)
+      → notes'.of_made n
       ≡ f (notes.of_made n)
       → (a : TreeNode A) (below rest : Forest (TreeNode A)) (quiet : Bool)
-      → read_unless quiet s tags' above n (annotate f a) (annotated f below) (annotated f rest)
+      → read_unless quiet s notes' above n (annotate f a) (annotated f below) (annotated f rest)
       ≡ annotate_passed (read_unless quiet s notes above n a below rest)
-  unless_annotate s notes tags' above n follows a below rest true = refl
-  unless_annotate s notes tags' above n follows a below rest false =
-      ap (passed s tags' n (annotate f a)) (find_annotate s above a rest)
-      ∙ passed_annotate s notes tags' n follows a (find s above a rest)
+  unless_annotate s notes notes' above n follows a below rest true = refl
+  unless_annotate s notes notes' above n follows a below rest false =
+      ap (passed s notes' n (annotate f a)) (find_annotate s above a rest)
+      ∙ passed_annotate s notes notes' n follows a (find s above a rest)
 
-  pub read_annotate : (s : Setting) (notes : Notes A) (tags' : Notes B) (above : EnclosingBlocks) (n : ℕ)
-      → tags'.of_made n
+  pub read_annotate : (s : Setting) (notes : Notes A) (notes' : Notes B) (above : EnclosingBlocks) (n : ℕ)
+      → notes'.of_made n
       ≡ f (notes.of_made n)
       → (a : TreeNode A) (below rest : Forest (TreeNode A))
-      → read_tree s tags' above n (annotate f a) (annotated f below) (annotated f rest)
+      → read_tree s notes' above n (annotate f a) (annotated f below) (annotated f rest)
       ≡ annotate_passed (read_tree s notes above n a below rest)
   unfolding read_tree
-  read_annotate s notes tags' above n follows a below rest = unless_annotate s notes tags' above n follows a below rest
+  read_annotate s notes notes' above n follows a below rest =
+      unless_annotate s notes notes' above n follows a below rest
       (is_quiet a.part.shape)
 
   -- what is left of a chain

@@ -157,8 +157,7 @@ module _ {Y : Type 0} where
 
   -- one more heading
   pub ready-next : (open_old open_new : List ℕ) (old new : BTreeMap (String Y) ℕ) (before : List EntryView)
-      (e : EntryView)
-      → AreReadyAfter open_old old before
+      (e : EntryView) → AreReadyAfter open_old old before
       → ((levels : List ℕ) → AreOpen open_old levels → AreOpen open_new (e.level ∷ levels))
       → CountsOneMore old new (plain_anchor e.text) → AreReadyAfter open_new new (before ++ e ∷ [])
   ready-next open_old open_new old new before e ready opened counted = record {

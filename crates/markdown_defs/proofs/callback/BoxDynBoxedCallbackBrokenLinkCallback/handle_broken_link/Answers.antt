@@ -5,8 +5,7 @@ use Rattle.markdown_defs.proofs.callback.BoxDynBoxedCallbackBrokenLinkCallback.h
 
 -- what a step left in a box, as a value of the box as it was before
 left_after : {I D : Type 0} (X : I → Type 0) (made : (i : I) → X i → D) (G : (i : I) → X i → X i → Type 0)
-    (p : (i : I) × X i) (i : I)
-    (x : X i) → p ≡ (i, x)
+    (p : (i : I) × X i) (i : I) (x : X i) → p ≡ (i, x)
     → (new : X p.0) → G p.0 p.1 new → (y : X i) × G i x y × (made p.0 new ≡ made i y)
 left_after X made G p i x e new h =
     let P = λ (q : (i : _) × X i). (y : X q.0) × G q.0 q.1 y × (made p.0 new ≡ made q.0 y) in
