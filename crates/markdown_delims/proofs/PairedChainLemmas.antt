@@ -112,7 +112,7 @@ module _ (s : Setting) (tables : Tables) (old mid : Arena Item) (first : ℕ) (c
     few = few;
   }
 
--- nodes without the numbers of their nodes
+-- tree nodes without their numbers in the arena
 unannotated : (s : Setting) (tables : Tables) (nodes : List (Node Item)) (first : ℕ)
     → annotated (λ n. tt) (labels s tables nodes (trees nodes first)) ≡ trees_from s.text tables nodes (Some first)
 unannotated s tables nodes first = relabelled-relabelled _ (annotate (λ n. tt)) (trees nodes first)

@@ -9,7 +9,7 @@ use Rattle.markdown_document.specs.Document.{Plain, tree_node_of}
 use Rattle.markdown_document.specs.Tables.{Tables}
 use Rattle.std.specs.Prelude.{ℕ, zero, suc, Bool, false, List, Option, ◌==◌, if◌then◌else◌, slice_index}
 
--- the node of the node with this number
+-- the tree node as which the arena's node with this number reads
 abbrev pub tree_node_at : List ℕ → Tables → List (Node Item) → ℕ → Plain
 tree_node_at source tables nodes ix = tree_node_of source tables (item_at nodes ix)
 

@@ -154,7 +154,7 @@ fn body_of(heading: Option<(HeadingLevel, Line)>) -> ItemBody
     }
 }
 
-/// Positions the lines from the number `from` on as a paragraph, or as a heading that ends with the line of its underline.
+/// Places the lines from the number `from` on as a paragraph, or as a heading that ends with the line of its underline.
 #[tactic(auto, using(crate::proofs::OpenBlocksLemmas::outer_of_opened))]
 fn place_paragraph(
     placing: &mut Placing<'_>,

@@ -34,7 +34,7 @@ use Rattle.markdown_resolver.proofs.StandsToLemmas.{numbers_are, same_link, numb
 use Rattle.markdown_resolver.proofs.StandsToLemmas.{quiet_numbered, quiet_plain, rest_of, stands_from, some_nodes}
 
 module _ (source : List ℕ) (old new : List (Node Item)) (tables tables' : Tables) where
-  -- nodes that stay have the same nodes
+  -- nodes that stay read as the same tree nodes
   numbered_stays : (f : Forest ℕ) → Each (Stays tables tables' old new) f
       → relabelled (numbered_node source tables' new) f ≡ relabelled (numbered_node source tables old) f
   numbered_stays nil h = refl

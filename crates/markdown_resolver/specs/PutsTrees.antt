@@ -14,7 +14,7 @@ use Rattle.markdown_resolver.specs.Chains.{CanResolve, ChangesChain}
 use Rattle.markdown_resolver.specs.Kept.{IsQuiet}
 use Rattle.markdown_resolver.specs.Rewritten.{RunsGoOn}
 
--- the node of a node, with the node's number as its note
+-- the tree node as which a node of the arena reads, with the number of that node as its note
 abbrev pub numbered_node : List ℕ → Tables → List (Node Item) → ℕ → TreeNode ℕ
 numbered_node source tables nodes ix = record { note = ix; part = part_of source tables (item_at nodes ix) }
 

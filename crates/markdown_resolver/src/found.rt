@@ -65,7 +65,7 @@ pub(crate) fn write_node(tree: &mut Tree<Item>, ix: usize, item: Item, next: Opt
     tree.set_next(ix, next);
 }
 
-/// MakesLiteral an item at which nothing is found: it becomes a Text, unless it is not open or waits for pairing. Returns
+/// Makes an item literal at which nothing is found: it becomes a Text, unless it is not open or waits for pairing. Returns
 /// the rest of the chain.
 pub(crate) fn make_literal(tree: &mut Tree<Item>, ix: usize) -> Continuation
     requires { (source : List ℕ) × (tables : Tables)

@@ -23,7 +23,7 @@ fn becomes_text(body: ItemBody) -> bool
     body.is_open() && !waits_for_pairing(body)
 }
 
-/// MakesLiteral the item of a node at which nothing is found: it becomes a Text over its range, if it is open and does not
+/// Makes a node's item literal at which nothing is found: it becomes a Text over its range, if it is open and does not
 /// wait for pairing.
 pub(crate) fn make_node_literal(tree: &mut Tree<Item>, ix: usize)
     requires { ix < length tree.old.nodes }
