@@ -108,6 +108,31 @@ fn options_have_upstream_bits() -> Result<(), Fail> {
 }
 
 #[test]
+fn each_option_has_its_bit() -> Result<(), Fail> {
+    let bits = [
+        Options::ENABLE_TABLES.bits(),
+        Options::ENABLE_FOOTNOTES.bits(),
+        Options::ENABLE_STRIKETHROUGH.bits(),
+        Options::ENABLE_TASKLISTS.bits(),
+        Options::ENABLE_SMART_PUNCTUATION.bits(),
+        Options::ENABLE_HEADING_ATTRIBUTES.bits(),
+        Options::ENABLE_YAML_STYLE_METADATA_BLOCKS.bits(),
+        Options::ENABLE_PLUSES_DELIMITED_METADATA_BLOCKS.bits(),
+        Options::ENABLE_OLD_FOOTNOTES.bits(),
+        Options::ENABLE_MATH.bits(),
+        Options::ENABLE_GFM.bits(),
+        Options::ENABLE_DEFINITION_LIST.bits(),
+        Options::ENABLE_SUPERSCRIPT.bits(),
+        Options::ENABLE_SUBSCRIPT.bits(),
+        Options::ENABLE_WIKILINKS.bits(),
+    ];
+    let wanted = [
+        2, 4, 8, 16, 32, 64, 128, 256, 516, 1024, 2048, 4096, 8192, 16384, 32768,
+    ];
+    gives("bits", bits, wanted)
+}
+
+#[test]
 fn bodies_are_of_kinds() -> Result<(), Fail> {
     let heading = ItemBody::Heading(HeadingLevel::H1, Some(HeadingIndex(1)));
     let [code, other_code] = [ItemBody::Code(CowIndex(3)), ItemBody::Code(CowIndex(2))];
