@@ -1,6 +1,5 @@
-//! Tests of what no clause says of events and what is made of them: a module for each topic. They are in a crate of
-//! their
-//! own, so that no library is proved a second time with its tests.
+//! Tests of what no clause says of events, and of the HTML and the outlines that are made of them: a module for each
+//! topic. They are in a crate of their own, so that no library is proved a second time with its tests.
 #![tactic(auto)]
 
 #[cfg(test)]
@@ -19,6 +18,12 @@ mod merges;
 mod messages;
 #[cfg(test)]
 mod odd_texts;
+#[cfg(test)]
+mod outline_notes;
+#[cfg(test)]
+mod outlines;
+#[cfg(test)]
+mod outlines_of_texts;
 #[cfg(test)]
 mod parser;
 #[cfg(test)]

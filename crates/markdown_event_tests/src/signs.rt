@@ -129,7 +129,7 @@ fn event_of<'s>(sign: Sign<'s>) -> Event<'s> {
 }
 
 /// Returns the item of a sign.
-fn item_of<'s>(alloc: Global, sign: Sign<'s>) -> Item<'s> {
+pub fn item_of<'s>(alloc: Global, sign: Sign<'s>) -> Item<'s> {
     match sign {
         Sign::Open(tag) => Ok(Event::Start(tag_of(alloc, tag))),
         Sign::Link(link_type, destination, title) => Ok(link(link_type, destination, title)),

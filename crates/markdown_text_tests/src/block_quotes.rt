@@ -1,5 +1,5 @@
 //! Block quotes (CommonMark 5.1), and lazy lines.
-use crate::rows::{Rows, compare};
+use crate::rows::{Rows, check_whole_texts};
 use std::test::Fail;
 
 const EXAMPLES: Rows = &[
@@ -161,5 +161,5 @@ const OTHER_TEXTS: Rows = &[
 
 #[test]
 fn texts(rt: HostRuntime) -> Result<(), Fail> {
-    compare(rt.alloc(), &[EXAMPLES, OTHER_TEXTS])
+    check_whole_texts(rt.alloc(), &[EXAMPLES, OTHER_TEXTS])
 }

@@ -1,5 +1,5 @@
 //! Tabs (CommonMark 2.2), line endings (2.1), and the precedence of block structure over inline structure (3.1).
-use crate::rows::{Rows, compare};
+use crate::rows::{Rows, check_whole_texts};
 use std::test::Fail;
 
 const TABS: Rows = &[
@@ -113,5 +113,5 @@ const PRECEDENCE: Rows = &[(
 
 #[test]
 fn texts(rt: HostRuntime) -> Result<(), Fail> {
-    compare(rt.alloc(), &[TABS, OTHER_TABS, LINE_ENDINGS, PRECEDENCE])
+    check_whole_texts(rt.alloc(), &[TABS, OTHER_TABS, LINE_ENDINGS, PRECEDENCE])
 }

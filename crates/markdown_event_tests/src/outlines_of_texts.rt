@@ -1,5 +1,5 @@
 //! The headings of texts, where no allocation is refused.
-use crate::notes::said_of;
+use crate::outline_notes::said_of;
 use markdown_base::options::Options;
 use markdown_blocks::Blocks;
 use markdown_outline::{outline, outline_of};

@@ -1,5 +1,5 @@
 //! HTML blocks (CommonMark 4.6): the examples, then how each kind begins, ends and interrupts.
-use crate::rows::{Rows, compare};
+use crate::rows::{Rows, check_whole_texts};
 use std::test::Fail;
 
 const EXAMPLES: Rows = &[
@@ -237,5 +237,5 @@ const OTHER_TEXTS: Rows = &[
 
 #[test]
 fn texts(rt: HostRuntime) -> Result<(), Fail> {
-    compare(rt.alloc(), &[EXAMPLES, MORE_EXAMPLES, KINDS, OTHER_TEXTS])
+    check_whole_texts(rt.alloc(), &[EXAMPLES, MORE_EXAMPLES, KINDS, OTHER_TEXTS])
 }

@@ -1,4 +1,4 @@
-//! Checks for tests of chains: texts with their HTML or their events, trees made by hand, counts of work.
+//! Checks for tests of texts: their HTML or their events, trees made by hand, counts of work.
 use crate::walks::count_left;
 use markdown_base::item::{Item, ItemBody};
 use markdown_base::options::Options;
@@ -93,6 +93,14 @@ fn check_unchanged(alloc: Global, rows: &[&str]) -> Result<(), Fail> {
 fn check_whole(alloc: Global, options: Options, rows: Rows) -> Result<(), Fail> {
     for (source, wanted) in rows {
         assert_html(alloc, options, source, wanted)?;
+    }
+    Ok(())
+}
+
+/// Checks the HTML of each text of each table, read with no options.
+pub fn check_whole_texts(alloc: Global, tables: &[Rows]) -> Result<(), Fail> {
+    for rows in tables {
+        check_whole(alloc, Options::empty(), rows)?;
     }
     Ok(())
 }

@@ -1,5 +1,5 @@
 //! Link reference definitions (CommonMark 4.7).
-use crate::rows::{Rows, compare};
+use crate::rows::{Rows, check_whole_texts};
 use std::test::Fail;
 
 const EXAMPLES: Rows = &[
@@ -157,5 +157,5 @@ const OTHER_TEXTS: Rows = &[
 
 #[test]
 fn texts(rt: HostRuntime) -> Result<(), Fail> {
-    compare(rt.alloc(), &[EXAMPLES, MORE_EXAMPLES, OTHER_TEXTS])
+    check_whole_texts(rt.alloc(), &[EXAMPLES, MORE_EXAMPLES, OTHER_TEXTS])
 }

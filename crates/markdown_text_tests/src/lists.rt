@@ -1,5 +1,5 @@
 //! Lists, tight and loose (CommonMark 5.3).
-use crate::rows::{Rows, compare};
+use crate::rows::{Rows, check_whole_texts};
 use std::test::Fail;
 
 const EXAMPLES: Rows = &[
@@ -276,7 +276,7 @@ const TIGHT_BESIDE_EMPTY_ITEMS: Rows = &[
 
 #[test]
 fn texts(rt: HostRuntime) -> Result<(), Fail> {
-    compare(
+    check_whole_texts(
         rt.alloc(),
         &[
             EXAMPLES,

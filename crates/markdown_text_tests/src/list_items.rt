@@ -1,5 +1,5 @@
 //! List items (CommonMark 5.2).
-use crate::rows::{Rows, compare};
+use crate::rows::{Rows, check_whole_texts};
 use std::test::Fail;
 
 const EXAMPLES: Rows = &[
@@ -236,7 +236,7 @@ const OTHER_TEXTS: Rows = &[
 
 #[test]
 fn texts(rt: HostRuntime) -> Result<(), Fail> {
-    compare(
+    check_whole_texts(
         rt.alloc(),
         &[EXAMPLES, MORE_EXAMPLES, INDENTED_ITEMS, OTHER_TEXTS],
     )

@@ -1,5 +1,5 @@
 //! Thematic breaks and headings (CommonMark 4.1 to 4.3).
-use crate::rows::{Rows, compare};
+use crate::rows::{Rows, check_whole_texts};
 use std::test::Fail;
 
 const BREAKS: Rows = &[
@@ -211,7 +211,7 @@ const OTHER_SETEXT_HEADINGS: Rows = &[
 
 #[test]
 fn texts(rt: HostRuntime) -> Result<(), Fail> {
-    compare(
+    check_whole_texts(
         rt.alloc(),
         &[
             BREAKS,

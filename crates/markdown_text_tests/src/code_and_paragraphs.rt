@@ -1,5 +1,5 @@
 //! Code blocks (CommonMark 4.4, 4.5), paragraphs (4.8) and blank lines (4.9).
-use crate::rows::{Rows, compare};
+use crate::rows::{Rows, check_whole_texts};
 use std::test::Fail;
 
 const INDENTED_CODE: Rows = &[
@@ -212,7 +212,7 @@ const PARAGRAPHS: Rows = &[
 
 #[test]
 fn texts(rt: HostRuntime) -> Result<(), Fail> {
-    compare(
+    check_whole_texts(
         rt.alloc(),
         &[
             INDENTED_CODE,

@@ -1,1 +1,0 @@
--- No definition: the tests have no contracts.
