@@ -78,7 +78,7 @@ pub use defs::{
 pub use markdown_base::cow_str::CowStr;
 pub use markdown_base::event::Event;
 pub use markdown_base::fault::Fault;
-pub use markdown_base::inline_str::InlineStr;
+pub use markdown_base::inline_str::{InlineStr, StringTooLongError};
 pub use markdown_base::options::Options;
 pub use markdown_base::tag::{
     Alignment, BlockQuoteKind, CodeBlockKind, HeadingLevel, InvalidHeadingLevel, LinkType,

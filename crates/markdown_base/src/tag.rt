@@ -46,10 +46,10 @@ pub enum LinkType {
     WikiLink { has_pothole: bool },
 }
 
-/// A heading's level (CommonMark 4.2, 4.3).
-#[derive(Clone, Copy, Debug, PartialEq, Eq, Drop)]
+/// A heading's level (CommonMark 4.2, 4.3). As a number it is 1 to 6, and levels are ordered by it.
+#[derive(Clone, Copy, Debug, PartialEq, Eq, PartialOrd, Ord, Hash, Drop)]
 pub enum HeadingLevel {
-    H1,
+    H1 = 1,
     H2,
     H3,
     H4,
@@ -143,6 +143,23 @@ pub enum CodeBlockKind<'a> {
 }
 
 impl<'a> CodeBlockKind<'a> {
+    ghost use Rattle.std.specs.Prelude.{IsTrue, ◌↔◌, ◌≢◌};
+    ghost use Rattle.markdown_base.specs.Event.{indented_code};
+
+    /// Returns whether the block is indented.
+    pub fn is_indented(&self) -> bool
+        ensures { IsTrue result ↔ (code_block_view self.now ≡ indented_code) }
+    {
+        matches!(self, CodeBlockKind::Indented)
+    }
+
+    /// Returns whether the block is fenced.
+    pub fn is_fenced(&self) -> bool
+        ensures { IsTrue result ↔ (code_block_view self.now ≢ indented_code) }
+    {
+        matches!(self, CodeBlockKind::Fenced(_))
+    }
+
     /// Returns a copy of the kind. A slice of the source is copied as a slice. The only error is `Fault::Memory`.
     pub fn try_clone(&self, alloc: Global) -> Result<CodeBlockKind<'a>, Fault>
         ensures same { IfOk result (λ copy. code_block_view copy ≡ code_block_view self.now) }
@@ -293,6 +310,18 @@ fn clone_link_texts<'a>(
     let title = title.try_clone(alloc)?;
     let id = id.try_clone(alloc)?;
     Ok((dest_url, title, id))
+}
+
+impl<'a> From<Tag<'a>> for TagEnd {
+    ghost use Rattle.markdown_base.specs.Event.{tag_end};
+
+    ghost from_gives = { λ tag closed. closed ≡ tag_end (tag_view tag) };
+
+    fn from(tag: Tag<'a>) -> TagEnd {
+        let end = tag.to_end();
+        drop(tag);
+        end
+    }
 }
 
 impl<'a> Tag<'a> {

@@ -92,6 +92,20 @@ fn each_other_start_has_its_end(rt: HostRuntime) -> Result<(), Fail> {
 }
 
 #[test]
+fn levels_have_numbers_and_an_order() -> Result<(), Fail> {
+    let numbers = [
+        HeadingLevel::H1 as usize,
+        HeadingLevel::H2 as usize,
+        HeadingLevel::H3 as usize,
+        HeadingLevel::H4 as usize,
+        HeadingLevel::H5 as usize,
+        HeadingLevel::H6 as usize,
+    ];
+    gives("numbers", numbers, [1, 2, 3, 4, 5, 6])?;
+    gives("order", HeadingLevel::H2 < HeadingLevel::H6, true)
+}
+
+#[test]
 fn options_have_upstream_bits() -> Result<(), Fail> {
     let mut options = Options::ENABLE_TABLES;
     let one = options.bits();
