@@ -1,5 +1,5 @@
 -- lemmas
-pub mod MarkLemmas
+pub mod SeenLemmas
 pub mod NameLemmas
 pub mod NodeLemmas
 pub mod NodeRulesLemmas

@@ -8,7 +8,7 @@ use Rattle.markdown_base.specs.declared.node.Node.{Node}
 use Rattle.markdown_base.specs.BlockTree.{item_at}
 use Rattle.markdown_blocks.specs.declared.named.NamedPart.{NamedPart}
 use Rattle.markdown_blocks.specs.NodeRules.{part_named, names_of, AreNamedOnce}
-use Rattle.markdown_blocks.proofs.MarkLemmas.{Fresh, AreNamedOnce-from_Fresh, Fresh-from_AreNamedOnce}
+use Rattle.markdown_blocks.proofs.SeenLemmas.{Fresh, AreNamedOnce-from_Fresh, Fresh-from_AreNamedOnce}
 
 -- all numbers are below a size and occur once, just where those to come are fresh
 pub record FreshSoFar (size : ℕ) (all : List ℕ) (seen : List Bool) (rest : List ℕ) : Type 0 where

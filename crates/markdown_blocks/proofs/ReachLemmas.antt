@@ -15,9 +15,9 @@ use Rattle.markdown_base.specs.Forest.{Forest, nil, node, preorder}
 use Rattle.markdown_base.specs.WellFormed.{IsReachedOnce}
 use Rattle.markdown_base.proofs.ArenaForestLemmas.{height, forest_at-fits}
 use Rattle.markdown_base.proofs.ForestLemmas.{All-append}
-use Rattle.markdown_blocks.proofs.MarkLemmas.{Fresh, unmarked, unset, unset-set, Fresh-unmarked_length}
-use Rattle.markdown_blocks.proofs.MarkLemmas.{AreNamedOnce-from_Fresh}
-use Rattle.markdown_blocks.proofs.MarkLemmas.{Fresh-from_AreNamedOnce}
+use Rattle.markdown_blocks.proofs.SeenLemmas.{Fresh, unmarked, unset, unset-set, Fresh-unmarked_length}
+use Rattle.markdown_blocks.proofs.SeenLemmas.{AreNamedOnce-from_Fresh}
+use Rattle.markdown_blocks.proofs.SeenLemmas.{Fresh-from_AreNamedOnce}
 
 -- the links below the root lead through a forest with the numbers xs in preorder, and no number
 -- comes twice, nor the root's

@@ -3,12 +3,12 @@
 
 mod blocks;
 mod chain;
-mod marks;
 mod markup;
 mod named;
 mod reach;
 mod rules;
 mod runs;
+mod seen;
 
 pub use blocks::Blocks;
 pub use markdown_base::block_parts::BlockParts;

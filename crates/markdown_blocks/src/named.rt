@@ -2,7 +2,7 @@
 ghost use Rattle.std.specs.Prelude.{◌≡◌, ◌↔◌, ◌<◌, length, IfOk, IsTrue};
 ghost use Rattle.std.specs.List.{AllByRecursion};
 
-use super::marks::mark;
+use super::seen::insert;
 use markdown_base::index::{AlignmentIndex, CowIndex};
 use markdown_base::item::{Item, ItemBody};
 use markdown_base::tree::Tree;
@@ -50,7 +50,7 @@ impl NamedPart {
         let mut seen = vec![in alloc; false; size]?;
         'names: for ix in order {
             if let Some(name) = self.number(tree.item(*ix).body) {
-                if !mark(&mut seen, name) {
+                if !insert(&mut seen, name) {
                     return Ok(false);
                 }
             }

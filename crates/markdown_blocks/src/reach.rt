@@ -4,7 +4,7 @@ ghost use Rattle.markdown_base.specs.ArenaForest.{numbers_below};
 ghost use Rattle.markdown_base.specs.Forest.{preorder};
 ghost use Rattle.markdown_base.specs.WellFormed.{IsReachedOnce};
 
-use super::marks::mark;
+use super::seen::insert;
 use markdown_base::item::Item;
 use markdown_base::tree::Tree;
 use std::alloc::{AllocError, Global};
@@ -19,13 +19,13 @@ pub fn reached_once(alloc: Global, tree: &Tree<Item>) -> Result<Option<Vec<usize
         × (order.items ≡ preorder (numbers_below tree.now.nodes)))) }
 {
     let mut seen = vec![in alloc; false; tree.len()]?;
-    let _root = mark(&mut seen, 0);
+    let _root = insert(&mut seen, 0);
     let mut order = Vec::new(alloc);
     let mut pending = Vec::new(alloc);
     pending.push(tree.child(0))?;
     'reach: while let Some(link) = pending.pop() {
         if let Some(ix) = link {
-            if !mark(&mut seen, ix) {
+            if !insert(&mut seen, ix) {
                 return Ok(None);
             }
             order.push(ix)?;

@@ -33,7 +33,7 @@ use Rattle.markdown_brackets.specs.NoLinkInLink.{IsNoLink, OpensNoLink, is_autol
 use Rattle.markdown_brackets.proofs.NoLinkLemmas.{no_link_in_link}
 use Rattle.markdown_resolver.specs.PassOne.{bracket_context, pass_one, read_other}
 use Rattle.markdown_resolver.specs.Resolved.{all_paired, paired_from, paired_if_open, resolved}
-use Rattle.markdown_inline.specs.ResolvedShapes.{IsMark}
+use Rattle.markdown_inline.specs.ResolvedShapes.{IsPairedTag}
 use Rattle.markdown_inline.proofs.EndOrderLemmas.{total, total_ends}
 use Rattle.markdown_inline.proofs.PairedEndsLemmas.{IsNoBracket, NumbersNoMarks, below_within}
 
@@ -91,7 +91,7 @@ links_numbered = record {
   mark = λ tag h. mark_no_link tag h;
 }
   where
-    mark_no_link : (tag : TagView) → IsMark tag → link_of tag ≡ []
+    mark_no_link : (tag : TagView) → IsPairedTag tag → link_of tag ≡ []
     mark_no_link (link v) h = absurd h
     mark_no_link other h = refl
 

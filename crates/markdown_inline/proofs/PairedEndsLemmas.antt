@@ -25,7 +25,7 @@ use Rattle.markdown_delims.specs.declared.run.Run.{Run}
 use Rattle.markdown_delims.proofs.LayerLawLemmas.{turn-made}
 use Rattle.markdown_delims.proofs.StepLawLemmas.{StaysTrue, found-if, later, reads-stay}
 use Rattle.markdown_resolver.specs.Resolved.{all_paired, paired_from, paired_if_open}
-use Rattle.markdown_inline.specs.ResolvedShapes.{IsMadeEvent, IsMark}
+use Rattle.markdown_inline.specs.ResolvedShapes.{IsMadeEvent, IsPairedTag}
 use Rattle.markdown_inline.proofs.EndOrderLemmas.{IsWithin, drop_list, ends_drop, ends_mono, ends_onto, keep_list}
 use Rattle.markdown_inline.proofs.EndOrderLemmas.{within_same}
 use Rattle.markdown_inline.proofs.EndOrderLemmas.{within_trans}
@@ -39,17 +39,17 @@ IsNoBracket other = ⊤
 -- what is made of open items has no numbers, except links and images
 pub record NumbersNoMarks (own : Shape → List ℕ) : Type 0 where
   pub lone : (e : EventView) (origins : List Origin) → IsMadeEvent e → own (leaf e origins) ≡ []
-  pub mark : (tag : TagView) → IsMark tag → own (enclosed tag) ≡ []
+  pub mark : (tag : TagView) → IsPairedTag tag → own (enclosed tag) ≡ []
 
 -- a mark is neither a link nor an image
-pub mark_bracket : (tag : TagView) → IsMark tag → IsNoBracket tag
+pub mark_bracket : (tag : TagView) → IsPairedTag tag → IsNoBracket tag
 mark_bracket (link v) h = absurd h
 mark_bracket (image v) h = absurd h
 mark_bracket other h = tt
 
 module _ (own : Shape → List ℕ) (numbers : NumbersNoMarks own) where
   -- what pairs make has no numbers
-  enclosed_none : (b : Bool) (tag : TagView) (other : Shape) → IsMark tag → own other ≡ []
+  enclosed_none : (b : Bool) (tag : TagView) (other : Shape) → IsPairedTag tag → own other ≡ []
       → own (enclosed_if b tag other) ≡ []
   enclosed_none true tag other h e = numbers.mark tag h
   enclosed_none false tag other h e = e

@@ -8,7 +8,7 @@ use Rattle.markdown_document.specs.ChainRest.{cut_shape}
 use Rattle.markdown_document.specs.Document.{Shape, leaf, enclosed, TreeNode}
 use Rattle.markdown_delims.proofs.SumLemmas.{sum_of}
 use Rattle.markdown_inline.specs.ResolvedDocument.{resolved_chain}
-use Rattle.markdown_inline.specs.ResolvedShapes.{IsMadeShape, IsMadeTag, IsMark, ShapesLaw}
+use Rattle.markdown_inline.specs.ResolvedShapes.{IsMadeShape, IsMadeTag, IsPairedTag, ShapesLaw}
 use Rattle.markdown_inline.proofs.EndOrderLemmas.{total, total_append, total_ends}
 use Rattle.markdown_inline.proofs.ResolvedEndsLemmas.{Keeps, resolved_holds}
 
@@ -24,7 +24,7 @@ none_passed : (b : Bool) → total (unless_passed b) ≡ 0 → b ≡ true
 none_passed true e = refl
 none_passed false e = cc e
 
-mark_made : (tag : TagView) → IsMark tag → IsMadeTag tag
+mark_made : (tag : TagView) → IsPairedTag tag → IsMadeTag tag
 mark_made (link v) h = tt
 mark_made (image v) h = tt
 mark_made other h = h

@@ -22,19 +22,19 @@ IsMadeEvent (footnote_reference name) = ⊤
 IsMadeEvent other = ⊥
 
 -- the tag is that of a pair of delimiters
-abbrev pub IsMark : TagView → Type 0
-IsMark emphasis = ⊤
-IsMark strong = ⊤
-IsMark strikethrough = ⊤
-IsMark superscript = ⊤
-IsMark subscript = ⊤
-IsMark other = ⊥
+abbrev pub IsPairedTag : TagView → Type 0
+IsPairedTag emphasis = ⊤
+IsPairedTag strong = ⊤
+IsPairedTag strikethrough = ⊤
+IsPairedTag superscript = ⊤
+IsPairedTag subscript = ⊤
+IsPairedTag other = ⊥
 
 -- the tag can be made of open items
 abbrev pub IsMadeTag : TagView → Type 0
 IsMadeTag (link v) = ⊤
 IsMadeTag (image v) = ⊤
-IsMadeTag other = IsMark other
+IsMadeTag other = IsPairedTag other
 
 -- the shape can be made of open items
 abbrev pub IsMadeShape : Shape → Type 0

@@ -1,7 +1,7 @@
 -- Each step of the search, by the lemmas on what is found and what is pending.
 use Rattle.std.proofs.Common.{◌∙◌, ap, arith, refl, ◌++◌, ◌∷◌, []}
 use Rattle.markdown_base.specs.ArenaForest.{links_of}
-use Rattle.markdown_blocks.proofs.MarkLemmas.{unset_within}
+use Rattle.markdown_blocks.proofs.SeenLemmas.{unset_within}
 use Rattle.markdown_blocks.proofs.ReachLemmas.{found_init, found_skips, found_visits, found_again_top, found_end}
 use Rattle.markdown_blocks.proofs.ReachLemmas.{found_below, not_found}
 use Rattle.markdown_blocks.proofs.ReachLemmas.{visits_fall}
@@ -9,40 +9,42 @@ use Rattle.markdown_blocks.proofs.reach.reached_once.Goals as goal
 
 pub reach-init : goal.reach-init
 reach-init c =
-    found_init (links_of c.args.tree.now.nodes) c.in_ok-seen.seen.items c.mark-root.new.seen.items c.push.new.self.items
-    c.new-order.result.items c.len.result c.mark-root.result
+    found_init (links_of c.args.tree.now.nodes) c.in_ok-seen.seen.items c.insert-root.new.seen.items
+    c.push.new.self.items
+    c.new-order.result.items c.len.result c.insert-root.result
     c.len.ensures.rooted c.len.ensures.count (c.in_ok-seen.ensures.items_if_clones_equal (λ y e. e))
-    c.mark-root.ensures.unmarked
-    c.mark-root.ensures.marked
+    c.insert-root.ensures.unseen
+    c.insert-root.ensures.inserted
     (rw (c.in_ok-push.ensures.items, c.new-pending.ensures.items, c.child.ensures.value) refl) c.new-order.ensures.items
 
-pub returns-then-not-mark-clause-found : goal.returns-then-not-mark-clause-found
-returns-then-not-mark-clause-found c =
+pub returns-then-not-insert-clause-found : goal.returns-then-not-insert-clause-found
+returns-then-not-insert-clause-found c =
     let e = c.in-Some.ensures.items ∙ ap (λ l. c.pop.new.self.items ++ l ∷ []) c.in-Some-link.is in
     not_found c.args.tree.now.nodes (omega arith)
     (found_again_top (links_of c.args.tree.now.nodes) c.reach.seen.items c.reach.pending.items c.pop.new.self.items
     c.reach.order.items
-    c.in-Some-link.ix c.reach.invariant e (λ h. let marked = c.if-not-mark.ensures.unmarked.1 h in cc marked))
+    c.in-Some-link.ix c.reach.invariant e (λ h. let marked = c.if-not-insert.ensures.unseen.1 h in cc marked))
 
 pub reach-smaller-in-Continue-branch-5 : goal.reach-smaller-in-Continue-branch-5
 reach-smaller-in-Continue-branch-5 c =
-    visits_fall c.reach.seen.items c.mark.new.seen.items c.reach.pending.items c.pop.new.self.items
+    visits_fall c.reach.seen.items c.insert.new.seen.items c.reach.pending.items c.pop.new.self.items
     c.push-in-Some-link-3.new.self.items
     c.in-Some-link.ix c.next.result c.child-in-Some-link.result
-    (c.if-not-mark.ensures.unmarked.0 refl)
+    (c.if-not-insert.ensures.unseen.0 refl)
     (c.in-Some.ensures.items ∙ ap (λ l. c.pop.new.self.items ++ l ∷ []) c.in-Some-link.is)
-    c.if-not-mark.ensures.marked
+    c.if-not-insert.ensures.inserted
     (rw (c.in_ok-push-4.ensures.items, c.in_ok-push-3.ensures.items) refl)
 
 pub reach-preserved-in-Continue-branch-5 : goal.reach-preserved-in-Continue-branch-5
 reach-preserved-in-Continue-branch-5 c =
-    let fresh = c.if-not-mark.ensures.unmarked.0 refl in
+    let fresh = c.if-not-insert.ensures.unseen.0 refl in
     let sizes = c.reach.invariant.sizes in
-    found_visits (links_of c.args.tree.now.nodes) c.reach.seen.items c.mark.new.seen.items c.reach.pending.items
+    found_visits (links_of c.args.tree.now.nodes) c.reach.seen.items c.insert.new.seen.items c.reach.pending.items
     c.pop.new.self.items
     c.push-in-Some-link-3.new.self.items c.reach.order.items _ c.in-Some-link.ix c.reach.invariant
     (c.in-Some.ensures.items ∙ ap (λ l. c.pop.new.self.items ++ l ∷ []) c.in-Some-link.is)
-    (omega (arith, unset_within c.reach.seen.items c.in-Some-link.ix fresh, sizes)) fresh c.if-not-mark.ensures.marked
+    (omega (arith, unset_within c.reach.seen.items c.in-Some-link.ix fresh, sizes)) fresh
+    c.if-not-insert.ensures.inserted
     (rw (
       c.in_ok-push-4.ensures.items,
       c.in_ok-push-3.ensures.items,

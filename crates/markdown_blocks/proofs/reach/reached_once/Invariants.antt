@@ -1,7 +1,7 @@
 -- What is found so far and what is pending make up the numbers in preorder, if there are such.
 use Rattle.std.proofs.Common.{◌+◌, ◌*◌, length, reverse}
 use Rattle.markdown_base.specs.ArenaForest.{links_of}
-use Rattle.markdown_blocks.proofs.MarkLemmas.{unset}
+use Rattle.markdown_blocks.proofs.SeenLemmas.{unset}
 use Rattle.markdown_blocks.proofs.ReachLemmas.{IsFound}
 use Rattle.markdown_blocks.proofs.reach.reached_once.Given as goal
 
