@@ -87,5 +87,5 @@ covers_at_end {s} now parts k e same =
           (⊎_elim (λ (b : IsUnderTop s.tree.nodes at). inl (in_tree s.text s.counts s.tree.nodes at k.nodes b))
           (λ (d : IsTrue (is_in_definition s.definitions at)). inr (rw (← same) d))
           (k.covered at (rw closed (omega (arith, low, read))) dark));
-      definitions = rw (← same) k.brackets;
+      definitions = rw (← same) k.ranges;
     })

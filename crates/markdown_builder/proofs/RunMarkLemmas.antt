@@ -65,7 +65,7 @@ stands_with_run s run h = record {
   covered = h.covered;
   boundary = h.boundary;
   begun = h.begun;
-  brackets = h.brackets;
+  ranges = h.ranges;
 }
 
 -- a Text is no open block

@@ -19,7 +19,7 @@ use Rattle.markdown_base.specs.ArenaChanges.{single, appended, changed_at}
 use Rattle.markdown_base.specs.ArenaForest.{links_of}
 use Rattle.markdown_base.specs.ArenaRules.{next_at}
 use Rattle.markdown_base.specs.BlockTree.{item_at, numbered}
-use Rattle.markdown_base.specs.Coverage.{is_inside}
+use Rattle.markdown_base.specs.Coverage.{IsDefinitionRange, is_inside}
 use Rattle.markdown_base.specs.Item.{range_of, is_inline, is_childless, is_tight_paragraph, text_named}
 use Rattle.markdown_base.specs.Item.{alignments_named}
 use Rattle.markdown_base.specs.WellFormed.{source_of, PartCounts, run_character, RunsAreWhole}
@@ -123,7 +123,7 @@ begun text counts tree utf8 e = subst (λ (t : Arena Item). IsSound (beginning t
     covered = λ p l dark. absurd (omega (arith, l));
     boundary = IsCharBoundary-start text utf8;
     begun = tt;
-    brackets = tt;
+    ranges = tt;
   };
   runs = λ i. no_run_at i;
   last_run = tt;
@@ -149,9 +149,9 @@ covered_white text nodes definitions from to c w p l dark =
 -- a builder moves to a byte offset, where all before that is covered, by the definitions that it has then
 moved : (s : State) (to : ℕ) (definitions : List (CowStr × LinkDef)) → IsSound s → s.at ≤ to → IsCharBoundary s.text to
     → AreCovered s.text s.tree.nodes definitions (covered_to s.blocks to)
-    → AllByRecursion (λ d. slice_index s.text d.1.span.start ≡ 91) definitions
+    → AllByRecursion (λ d. IsDefinitionRange s.text d.1.span) definitions
     → IsSound (record s { definitions = definitions; at = to })
-moved s to definitions k low boundary covered brackets = record {
+moved s to definitions k low boundary covered ranges = record {
   utf8 = k.utf8;
   stands = record {
     nodes = k.stands.nodes;
@@ -165,7 +165,7 @@ moved s to definitions k low boundary covered brackets = record {
     covered = covered;
     boundary = boundary;
     begun = All-weaker (λ b. b.start ≤ s.at) (λ b. b.start ≤ to) (λ b h. omega (arith, h, low)) s.blocks k.stands.begun;
-    brackets = brackets;
+    ranges = ranges;
   };
   runs = k.runs;
   last_run = k.last_run;
@@ -177,7 +177,7 @@ pub skipped : (s : State) (to : ℕ) → IsSound s → s.at ≤ to → IsCharBou
     → (s.leaf ≡ false → s.blocks ≡ [] → IsWhite s.text s.at to)
     → IsSound (record s { at = to })
 skipped s to k low boundary white =
-    moved s to s.definitions k low boundary (over s.blocks k.stands.leaves k.stands.covered white) k.stands.brackets
+    moved s to s.definitions k low boundary (over s.blocks k.stands.leaves k.stands.covered white) k.stands.ranges
   where
     over : (blocks : List OpenBlock) → OnlyLastIsLeaf blocks s.leaf → AreCovered s.text s.tree.nodes s.definitions
         (covered_to blocks s.at)
@@ -249,7 +249,7 @@ added s many to b run k more fits names kind no_run loose =
         boundary = fits.ranges_lie_in.end;
         begun = All-weaker (λ q. q.start ≤ s.at) (λ q. q.start ≤ to) (λ q h. omega (arith, h, low)) s.blocks
             k.stands.begun;
-        brackets = k.stands.brackets;
+        ranges = k.stands.ranges;
       };
       runs = runs_appended s.text s.tree.nodes (appended s.tree x).nodes (place_down s.tree.cursor)
           (place_at s.tree.spine s.tree.cursor) x
@@ -335,7 +335,7 @@ opened s many b k outside placed parent =
             a.covered;
         boundary = k.stands.boundary;
         begun = All-snoc (λ q. q.start ≤ s.at) s.blocks block k.stands.begun (omega arith);
-        brackets = k.stands.brackets;
+        ranges = k.stands.ranges;
       };
       runs = runs_appended s.text s.tree.nodes new (place_down s.tree.cursor) (place_at s.tree.spine s.tree.cursor) x
           k.stands.nodes.rising
@@ -382,7 +382,7 @@ more_parts s many more k = record {
     covered = k.stands.covered;
     boundary = k.stands.boundary;
     begun = k.stands.begun;
-    brackets = k.stands.brackets;
+    ranges = k.stands.ranges;
   };
   runs = k.runs;
   last_run = k.last_run;
@@ -555,7 +555,7 @@ closed s spine blocks n block k whole split =
             }) covered_was);
         boundary = k.stands.boundary;
         begun = All-front (λ b. b.start ≤ at) blocks block begun_all;
-        brackets = k.stands.brackets;
+        ranges = k.stands.ranges;
       };
       runs = runs_written s.text old made n x k.stands.nodes.rising w none_was none k.runs;
       last_run = rw none_now tt;
@@ -592,7 +592,8 @@ pub defined : (s : State) (to : ℕ) (d : CowStr × LinkDef) → IsSound s → s
     → IsSound (record s { definitions = s.definitions ++ d ∷ []; at = to })
 defined s to d k low boundary bracket span =
     moved s to (s.definitions ++ d ∷ []) k low boundary (over s.blocks k.stands.covered)
-    (All-snoc (λ x. slice_index s.text x.1.span.start ≡ 91) s.definitions d k.stands.brackets (rw span bracket))
+    (All-snoc (λ x. IsDefinitionRange s.text x.1.span) s.definitions d k.stands.ranges
+    (rw span (record { ordered = low; start = k.stands.boundary; end = boundary; bracket = bracket })))
   where
     widened : (end : ℕ) → AreCovered s.text s.tree.nodes s.definitions end
         → AreCovered s.text s.tree.nodes (s.definitions ++ d ∷ []) end

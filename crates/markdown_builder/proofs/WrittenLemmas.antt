@@ -101,7 +101,7 @@ written s number x blocks h positive low fits m stays opens leaves covered begun
           }) covered;
       boundary = h.boundary;
       begun = begun;
-      brackets = h.brackets;
+      ranges = h.ranges;
     }
 
 -- where no character of a run is written, the run in focus stays

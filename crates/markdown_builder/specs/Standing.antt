@@ -4,7 +4,6 @@ use Rattle.std.specs.Prelude.{IfSome, ⊤, ◌⊎◌, length, slice_index}
 use Rattle.std.specs.Char.{is_ascii_whitespace}
 use Rattle.std.specs.List.{AllByRecursion, list_any}
 use Rattle.std.specs.Str.{IsCharBoundary, IsUtf8}
-use Rattle.markdown_base.specs.Bytes.{open_bracket}
 use Rattle.markdown_base.specs.declared.block_parts.LinkDef.{LinkDef}
 use Rattle.markdown_base.specs.declared.cow_str.CowStr.{CowStr}
 use Rattle.markdown_base.specs.declared.item.Item.{Item}
@@ -13,7 +12,7 @@ use Rattle.markdown_base.specs.Arena.{Arena, child_of}
 use Rattle.markdown_base.specs.ArenaChanges.{appended, changed_at}
 use Rattle.markdown_base.specs.ArenaForest.{links_of}
 use Rattle.markdown_base.specs.BlockTree.{item_at, numbered}
-use Rattle.markdown_base.specs.Coverage.{is_inside}
+use Rattle.markdown_base.specs.Coverage.{IsDefinitionRange, is_inside}
 use Rattle.markdown_base.specs.Item.{range_of, is_inline, is_childless}
 use Rattle.markdown_base.specs.WellFormed.{PartCounts, run_character, byte_of}
 use Rattle.markdown_builder.specs.declared.open_block.OpenBlock.{OpenBlock}
@@ -130,7 +129,7 @@ pub record Stands (s : State) : Type 0 where
   pub covered : AreCovered s.text s.tree.nodes s.definitions (covered_to s.blocks s.at)
   pub boundary : IsCharBoundary s.text s.at
   pub begun : AllByRecursion (λ b. b.start ≤ s.at) s.blocks
-  pub brackets : AllByRecursion (λ d. slice_index s.text d.1.span.start ≡ open_bracket) s.definitions
+  pub ranges : AllByRecursion (λ d. IsDefinitionRange s.text d.1.span) s.definitions
 
 -- where the node at the cursor is the end of a delimiter run, callers see its character
 abbrev pub LastRun : List ℕ → List (Node Item) → Option ℕ → Option ℕ → Type 0
