@@ -46,6 +46,7 @@ impl<'a> CowStr<'a> {
     /// Returns an owned copy of a text, stored inline if it has at most 22 bytes, and otherwise on the heap.
     fn owned<'b>(alloc: Global, text: &str) -> Result<CowStr<'b>, AllocError>
         ensures text { IfOk result (λ made. text_of made ≡ text.now) }
+        ensures owned { IfOk result (λ made. IsBorrowed made → ⊥) }
         ensures short { length text.now ≤ 22 → IsOk result }
     {
         match InlineStr::new(text) {
@@ -72,6 +73,7 @@ impl<'a> CowStr<'a> {
     /// more than 22 bytes allocate memory. The error is a refused allocation.
     pub fn into_static(self, alloc: Global) -> Result<CowStr<'static>, AllocError>
         ensures text { IfOk result (λ made. text_of made ≡ text_of self.entry) }
+        ensures owned { IfOk result (λ made. IsBorrowed made → ⊥) }
         ensures boxed { IsBoxed self.entry → IsOkAnd result IsBoxed }
         ensures short { (IsBorrowed self.entry → length (text_of self.entry) ≤ 22) → IsOk result }
     {

@@ -115,6 +115,7 @@ fn unescaped_copy(alloc: Global, text: &str, in_table: bool) -> Result<String, A
 pub fn unescape<'t>(alloc: Global, text: &'t str, in_table: bool) -> Result<CowStr<'t>, AllocError>
     ensures value { IfOk result (λ made. text_of made ≡ unescaped in_table text.now) }
     ensures borrowed { IfOk result (λ made. text_of made ≡ text.now → IsBorrowed made) }
+    ensures copied { IfOk result (λ made. IsBorrowed made → text_of made ≡ text.now) }
     ensures unchanged { unescaped in_table text.now ≡ text.now → IsOk result }
 {
     match split_at_reference(text, in_table) {
