@@ -1,5 +1,5 @@
--- A mapped iterator, over one that stays ended, may be called again after None.
-use Rattle.std.proofs.Common.{◌≡◌, List, [], ◌∷◌, Option, Some, None, ap, sym, subst}
+-- A mapped iterator, over one that stays ended, may be called again after None, and stays ended.
+use Rattle.std.proofs.Common.{◌≡◌, List, [], ◌∷◌, Option, Some, None, ap, refl, sym, subst}
 use Rattle.std.specs.Fn.{Mut}
 use Rattle.std.specs.Iterator.{Count, Yields, CallableOnAll}
 use Rattle.std.specs.Iterator.Adapters.{map_source, map_callee, map_steps}
@@ -52,3 +52,16 @@ module _ {S A : Type 0} (steps : S → Option A → S → Type 0) where
             after.1,
           );
     }
+
+    -- it stays ended too
+    pub mapped_stays_ended : (m : Map S F) → StaysEnded steps (map_source m) → StaysEnded (map_steps steps g) m
+    mapped_stays_ended m ends answers s t u r gave none next =
+        by r next
+      where
+        read : (read : List (Option A)) × Gave steps (map_source m) read (map_source s)
+        read = source_gave m s answers gave
+
+        by : (r : Option B) → map_steps steps g t r u → r ≡ None
+        by None h = refl
+        by (Some y) h = absurd (some-none (ends read.0 (map_source s) (map_source t) (map_source u) (Some h.0) read.1
+            none.0 h.1))

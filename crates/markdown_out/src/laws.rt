@@ -81,6 +81,12 @@ pub fn a_mapped_iterator_can_be_merged<I: Iterator, B, F: FnMut(I::Item) -> B>(m
         (λ m. I.remaining (map_source m)) mapped.now }
 {}
 
+/// States that a mapped iterator stays ended where its source does.
+pub fn a_mapped_iterator_stays_ended<I: Iterator, B, F: FnMut(I::Item) -> B>(mapped: &Map<I, F>)
+    ensures { StaysEnded I.next_gives (map_source mapped.now)
+        → StaysEnded (map_steps I.next_gives F.FnMut) mapped.now }
+{}
+
 /// States what `push_html` writes for a new merge of events over an iterator that stays ended: the HTML of the merge of
 /// the events; at an error, the open HTML of the merge of the events before it; and where the merge itself is refused
 /// memory, or too many Starts are open in an image, the open HTML of a prefix of the merge of the events read.
