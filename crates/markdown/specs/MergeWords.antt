@@ -2,7 +2,7 @@
 
 -- the merge of a list of events and errors
 pub use Rattle.markdown_out.specs.Merge.{Item, PlacedText, text_item, text_of_item, Run, runs, merged, merge_answers}
-pub use Rattle.markdown_out.specs.Places.{bare, nowhere, with_range, through_ranges}
+pub use Rattle.markdown_out.specs.EventRanges.{bare, nowhere, with_range, through_ranges}
 -- a merge between calls, and a call of it
 pub use Rattle.markdown_out.specs.MergeNext.{MergeState, CanMerge, CallsMerge, MergesNext, PassesOn, Gave}
 pub use Rattle.markdown_out.specs.MergeNext.{item_view, some_count, left_count}

@@ -51,21 +51,21 @@ module _ {P : Type 0} (through : P → P → P) where
   -- two Texts are joined
   pub joins-two : (t u : PlacedText P) (later : List (Option (Item P)))
       → merge_answers through (text_item t ∷ []) (Some (text_item u) ∷ later)
-      ≡ merge_answers through (text_item (record { bytes = t.bytes ++ u.bytes; place = t.place }) ∷ text_item
-      (record { bytes = []; place = u.place }) ∷ []) later
+      ≡ merge_answers through (text_item (record { bytes = t.bytes ++ u.bytes; range = t.range }) ∷ text_item
+      (record { bytes = []; range = u.range }) ∷ []) later
   joins-two t u later = answers-alike through (text_item t) (text_item u ∷ [])
-      (text_item (record { bytes = t.bytes ++ u.bytes; place = t.place }))
-      (text_item (record { bytes = []; place = u.place }) ∷ []) []
+      (text_item (record { bytes = t.bytes ++ u.bytes; range = t.range }))
+      (text_item (record { bytes = []; range = u.range }) ∷ []) []
       later (λ more. merged-two_texts through t u more)
 
   -- one more Text is joined
   pub joins-more : (t l u : PlacedText P) (later : List (Option (Item P))) → l.bytes ≡ []
       → merge_answers through (text_item t ∷ text_item l ∷ []) (Some (text_item u) ∷ later)
-      ≡ merge_answers through (text_item (record { bytes = t.bytes ++ u.bytes; place = t.place }) ∷ text_item
-      (record { bytes = []; place = u.place }) ∷ []) later
+      ≡ merge_answers through (text_item (record { bytes = t.bytes ++ u.bytes; range = t.range }) ∷ text_item
+      (record { bytes = []; range = u.range }) ∷ []) later
   joins-more t l u later e = answers-alike through (text_item t) (text_item l ∷ text_item u ∷ [])
-      (text_item (record { bytes = t.bytes ++ u.bytes; place = t.place }))
-      (text_item (record { bytes = []; place = u.place }) ∷ []) []
+      (text_item (record { bytes = t.bytes ++ u.bytes; range = t.range }))
+      (text_item (record { bytes = []; range = u.range }) ∷ []) []
       later (λ more. merged-three_texts through t l u more e)
 
   -- joined Texts are given at their end, where they are not empty
@@ -73,10 +73,10 @@ module _ {P : Type 0} (through : P → P → P) where
       → l.bytes ≡ []
       → IsNoText answer
       → merge_answers through (text_item t ∷ text_item l ∷ []) (option_map placed_view answer ∷ later)
-      ≡ map (λ i. Some i) (unless_empty t.bytes (through t.place l.place)) ++ merge_answers through
+      ≡ map (λ i. Some i) (unless_empty t.bytes (through t.range l.range)) ++ merge_answers through
       (answer_items answer) later
   gives-run t l None later e h = ap (λ items. map (λ i. Some i) items ++ merge_answers through [] later)
       (merged-run_last through t l e)
   gives-run t l (Some y) later e h = answers-prefix through (text_item t) (text_item l ∷ [])
-      (unless_empty t.bytes (through t.place l.place)) (placed_view y) [] later
+      (unless_empty t.bytes (through t.range l.range)) (placed_view y) [] later
       (λ rest. merged-run_end through t l (placed_view y) rest e h)

@@ -17,7 +17,7 @@ pub record IsText {P : Type 0} (x : Item P) : Type 0 where
   pub is : x ≡ text_item t
 
 pub text_or_none : {P : Type 0} (x : Item P) → IsText x ⊎ (text_of_item x ≡ None)
-text_or_none (Ok (text t, p)) = inl (record { t = record { bytes = t; place = p }; is = refl })
+text_or_none (Ok (text t, p)) = inl (record { t = record { bytes = t; range = p }; is = refl })
 text_or_none (Ok (start o, p)) = inr refl
 text_or_none (Ok (end c, p)) = inr refl
 text_or_none (Ok (code t, p)) = inr refl
@@ -87,10 +87,10 @@ module _ {P : Type 0} (through : P → P → P) where
   items-apart (alone x ∷ rs) m = before-no_text x (flat_map (run_items through) rs) m.0 (items-apart rs m.1)
   items-apart (texts t [] ∷ []) m = tt
   items-apart (texts t (u ∷ us) ∷ []) m = run-last (flat_map (λ x. x.bytes) (t ∷ u ∷ us))
-      (through t.place (last_text u us).place)
+      (through t.range (last_text u us).range)
   items-apart (texts t [] ∷ alone x ∷ rs) m = (inr m.0, items-apart (alone x ∷ rs) m)
   items-apart (texts t (u ∷ us) ∷ alone x ∷ rs) m =
-      run-before (flat_map (λ x. x.bytes) (t ∷ u ∷ us)) (through t.place (last_text u us).place) x
+      run-before (flat_map (λ x. x.bytes) (t ∷ u ∷ us)) (through t.range (last_text u us).range) x
       (flat_map (run_items through) rs) m.0
       (items-apart (alone x ∷ rs) m)
   items-apart (texts t us ∷ texts v vs ∷ rs) m = absurd m

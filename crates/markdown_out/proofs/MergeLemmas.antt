@@ -45,45 +45,45 @@ module _ {P : Type 0} (through : P → P → P) where
       ap (λ rs. flat_map (run_items through) (before_runs (text_item t) (Some t) rs)) (runs-alone y ys h)
       ∙ ap (λ rs. text_item t ∷ flat_map (run_items through) rs) (sym (runs-alone y ys h))
 
-  -- two Texts at the front count as one of both at the first place and an empty one at the last
+  -- two Texts at the front count as one of both at the first range and an empty one at the last
   pub merged-two_texts : (t u : PlacedText P) (rest : List (Item P))
       → merged through (text_item t ∷ text_item u ∷ rest)
-      ≡ merged through (text_item (record { bytes = t.bytes ++ u.bytes; place = t.place }) ∷ text_item
-      (record { bytes = []; place = u.place }) ∷ rest)
+      ≡ merged through (text_item (record { bytes = t.bytes ++ u.bytes; range = t.range }) ∷ text_item
+      (record { bytes = []; range = u.range }) ∷ rest)
   merged-two_texts t u rest = by_runs (runs rest)
     where
       both : PlacedText P
-      both = record { bytes = t.bytes ++ u.bytes; place = t.place }
+      both = record { bytes = t.bytes ++ u.bytes; range = t.range }
 
       none : PlacedText P
-      none = record { bytes = []; place = u.place }
+      none = record { bytes = []; range = u.range }
 
       with_two : List (Run P) → PlacedText P → PlacedText P → List (Item P)
       with_two rs a b = flat_map (run_items through)
           (before_runs (text_item a) (Some a) (before_runs (text_item b) (Some b) rs))
 
       by_runs : (rs : List (Run P)) → with_two rs t u ≡ with_two rs both none
-      by_runs [] = ap (λ bytes. unless_empty bytes (through t.place u.place) ++ [])
+      by_runs [] = ap (λ bytes. unless_empty bytes (through t.range u.range) ++ [])
           (sym (append_assoc t.bytes u.bytes []))
-      by_runs (alone x ∷ rs) = ap (λ bytes. unless_empty bytes (through t.place u.place) ++ flat_map (run_items through)
+      by_runs (alone x ∷ rs) = ap (λ bytes. unless_empty bytes (through t.range u.range) ++ flat_map (run_items through)
           (alone x ∷ rs))
           (sym (append_assoc t.bytes u.bytes []))
       by_runs (texts v vs ∷ rs) =
-          ap (λ bytes. unless_empty bytes (through t.place (last_text v vs).place) ++ flat_map (run_items through) rs)
+          ap (λ bytes. unless_empty bytes (through t.range (last_text v vs).range) ++ flat_map (run_items through) rs)
           (sym (append_assoc t.bytes u.bytes (flat_map (λ x. x.bytes) (v ∷ vs))))
 
   -- a third Text after two whose last is empty
   pub merged-three_texts : (t l u : PlacedText P) (rest : List (Item P)) → l.bytes ≡ []
       → merged through (text_item t ∷ text_item l ∷ text_item u ∷ rest)
-      ≡ merged through (text_item (record { bytes = t.bytes ++ u.bytes; place = t.place }) ∷ text_item
-      (record { bytes = []; place = u.place }) ∷ rest)
+      ≡ merged through (text_item (record { bytes = t.bytes ++ u.bytes; range = t.range }) ∷ text_item
+      (record { bytes = []; range = u.range }) ∷ rest)
   merged-three_texts t l u rest e = by_runs (runs rest)
     where
       both : PlacedText P
-      both = record { bytes = t.bytes ++ u.bytes; place = t.place }
+      both = record { bytes = t.bytes ++ u.bytes; range = t.range }
 
       none : PlacedText P
-      none = record { bytes = []; place = u.place }
+      none = record { bytes = []; range = u.range }
 
       joined : (more : List ℕ) → t.bytes ++ (l.bytes ++ (u.bytes ++ more)) ≡ (t.bytes ++ u.bytes) ++ more
       joined more = ap (λ bytes. t.bytes ++ (bytes ++ (u.bytes ++ more))) e ∙ sym (append_assoc t.bytes u.bytes more)
@@ -93,34 +93,34 @@ module _ {P : Type 0} (through : P → P → P) where
           (before_runs (text_item l) (Some l) (before_runs (text_item u) (Some u) rs)))
           ≡ flat_map (run_items through)
           (before_runs (text_item both) (Some both) (before_runs (text_item none) (Some none) rs))
-      by_runs [] = ap (λ bytes. unless_empty bytes (through t.place u.place) ++ []) (joined [])
-      by_runs (alone x ∷ rs) = ap (λ bytes. unless_empty bytes (through t.place u.place) ++ flat_map (run_items through)
+      by_runs [] = ap (λ bytes. unless_empty bytes (through t.range u.range) ++ []) (joined [])
+      by_runs (alone x ∷ rs) = ap (λ bytes. unless_empty bytes (through t.range u.range) ++ flat_map (run_items through)
           (alone x ∷ rs))
           (joined [])
       by_runs (texts v vs ∷ rs) =
-          ap (λ bytes. unless_empty bytes (through t.place (last_text v vs).place) ++ flat_map (run_items through) rs)
+          ap (λ bytes. unless_empty bytes (through t.range (last_text v vs).range) ++ flat_map (run_items through) rs)
           (joined (flat_map (λ x. x.bytes) (v ∷ vs)))
 
   -- two Texts, the last of them empty, where no Text follows
   pub merged-run_end : (t l : PlacedText P) (y : Item P) (ys : List (Item P)) → l.bytes ≡ [] → text_of_item y ≡ None
-      → merged through (text_item t ∷ text_item l ∷ y ∷ ys) ≡ unless_empty t.bytes (through t.place l.place) ++ merged
+      → merged through (text_item t ∷ text_item l ∷ y ∷ ys) ≡ unless_empty t.bytes (through t.range l.range) ++ merged
       through (y ∷ ys)
   merged-run_end t l y ys e h =
       ap (λ rs. flat_map (run_items through)
       (before_runs (text_item t) (Some t) (before_runs (text_item l) (Some l) rs)))
       (runs-alone y ys h)
-      ∙ (ap (λ bytes. unless_empty bytes (through t.place l.place) ++ flat_map (run_items through) (alone y ∷ runs ys))
+      ∙ (ap (λ bytes. unless_empty bytes (through t.range l.range) ++ flat_map (run_items through) (alone y ∷ runs ys))
       (ap (λ bytes. t.bytes ++ (bytes ++ [])) e ∙ append-nil t.bytes)
-      ∙ ap (λ rs. unless_empty t.bytes (through t.place l.place) ++ flat_map (run_items through) rs)
+      ∙ ap (λ rs. unless_empty t.bytes (through t.range l.range) ++ flat_map (run_items through) rs)
       (sym (runs-alone y ys h)))
 
   -- the same where nothing follows
   pub merged-run_last : (t l : PlacedText P) → l.bytes ≡ [] → merged through (text_item t ∷ text_item l ∷ [])
-      ≡ unless_empty t.bytes (through t.place l.place)
+      ≡ unless_empty t.bytes (through t.range l.range)
   merged-run_last t l e =
-      ap (λ bytes. unless_empty bytes (through t.place l.place) ++ []) (ap (λ bytes. t.bytes ++ (bytes ++ [])) e
+      ap (λ bytes. unless_empty bytes (through t.range l.range) ++ []) (ap (λ bytes. t.bytes ++ (bytes ++ [])) e
       ∙ append-nil t.bytes)
-      ∙ append-nil (unless_empty t.bytes (through t.place l.place))
+      ∙ append-nil (unless_empty t.bytes (through t.range l.range))
 
   -- items at the front whose merge does not depend on what comes after the next item
   pub answers-prefix : (x : Item P) (xs prefix : List (Item P)) (y : Item P) (ys : List (Item P))

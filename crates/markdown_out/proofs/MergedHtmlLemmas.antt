@@ -18,7 +18,7 @@ use Rattle.markdown_out.specs.EventHtml.{html_of}
 use Rattle.markdown_out.specs.Merge.{PlacedText, text_item, Run, alone, texts, before_runs, runs, last_text}
 use Rattle.markdown_out.specs.Merge.{unless_empty, run_items}
 use Rattle.markdown_out.specs.OutLaws.{event_item, item_events, merged_events, IsNoEmptyText}
-use Rattle.markdown_out.specs.Places.{nowhere}
+use Rattle.markdown_out.specs.EventRanges.{nowhere}
 use Rattle.markdown_out.proofs.ByteListsLemmas.{fresh_after_bytes-append}
 
 -- what the writer keeps after one more event
@@ -215,9 +215,9 @@ same-runs (texts t (u ∷ us) ∷ rs) past a =
     let given = flat_map item_events (flat_map (run_items nowhere) rs) in
     let one = same-cons past (text whole) given rest (same-runs rs (past_after past (text whole)) a.1) in
     let all = same-texts past t.bytes (u ∷ us) rest a.0.0 a.0.1 in
-    let item : unless_empty whole (nowhere t.place (last_text u us).place)
-    ≡ Ok (text whole, nowhere t.place (last_text u us).place) ∷ [] =
-    given-text whole (nowhere t.place (last_text u us).place) (longer t.bytes (flat_map (λ x. x.bytes) (u ∷ us)) a.0.0)
+    let item : unless_empty whole (nowhere t.range (last_text u us).range)
+    ≡ Ok (text whole, nowhere t.range (last_text u us).range) ∷ [] =
+    given-text whole (nowhere t.range (last_text u us).range) (longer t.bytes (flat_map (λ x. x.bytes) (u ∷ us)) a.0.0)
     in
     subst (λ items. IsSameHtml past (flat_map item_events (items ++ flat_map (run_items nowhere) rs))
     (text t.bytes ∷ (map (λ x. text x.bytes) (u ∷ us) ++ rest))) (sym item)
@@ -241,7 +241,7 @@ events-text t (texts u us ∷ rs) = refl
 -- the runs of events hold those events, and no empty Text where there is none
 pub runs_of_events : (events : List EventView) → flat_map run_events (runs (map event_item events)) ≡ events
 runs_of_events [] = refl
-runs_of_events (text t ∷ es) = events-text (record { bytes = t; place = tt }) (runs (map event_item es))
+runs_of_events (text t ∷ es) = events-text (record { bytes = t; range = tt }) (runs (map event_item es))
     ∙ ap (λ xs. text t ∷ xs) (runs_of_events es)
 runs_of_events (start o ∷ es) = ap (λ xs. start o ∷ xs) (runs_of_events es)
 runs_of_events (end c ∷ es) = ap (λ xs. end c ∷ xs) (runs_of_events es)
@@ -260,7 +260,7 @@ pub full_runs : (events : List EventView) → AllByRecursion IsNoEmptyText event
     → AllByRecursion IsFullRun (runs (map event_item events))
 full_runs [] a = tt
 full_runs (text [] ∷ es) a = absurd a.0
-full_runs (text (b ∷ bs) ∷ es) a = full-text (record { bytes = b ∷ bs; place = tt }) (runs (map event_item es))
+full_runs (text (b ∷ bs) ∷ es) a = full-text (record { bytes = b ∷ bs; range = tt }) (runs (map event_item es))
     (omega arith)
     (full_runs es a.1)
 full_runs (start o ∷ es) a = (tt, full_runs es a.1)

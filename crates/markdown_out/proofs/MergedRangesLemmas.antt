@@ -13,16 +13,16 @@ use Rattle.markdown_out.specs.Merge.{unless_empty, run_items, merged}
 use Rattle.markdown_out.specs.MergeNext.{item_view}
 use Rattle.markdown_out.specs.OutLaws.{RangedEvent, event_item, item_events, item_ranged, merged_events, merged_ranged}
 use Rattle.markdown_out.specs.OutLaws.{ranged_item}
-use Rattle.markdown_out.specs.Places.{nowhere, with_range, through_ranges}
+use Rattle.markdown_out.specs.EventRanges.{nowhere, with_range, through_ranges}
 use Rattle.markdown_out.proofs.MergeLawsLemmas.{IsText, text_or_none}
 
--- an item, a Text and a run without their places
+-- an item, a Text and a run without their ranges
 abbrev unplaced : {P : Type 0} → Item P → Item (Unit {0})
 unplaced (Ok placed) = Ok (placed.0, tt)
 unplaced (Err fault) = Err fault
 
 abbrev unplaced_text : {P : Type 0} → PlacedText P → PlacedText (Unit {0})
-unplaced_text t = record { bytes = t.bytes; place = tt }
+unplaced_text t = record { bytes = t.bytes; range = tt }
 
 abbrev unplaced_run : {P : Type 0} → Run P → Run (Unit {0})
 unplaced_run (alone x) = alone (unplaced x)
@@ -81,7 +81,7 @@ module _ {P : Type 0} (through : P → P → P) where
   same-items (texts t []) = refl
   same-items (texts t (u ∷ us)) =
       ap (λ bytes. unless_empty bytes tt) (same-bytes (t ∷ u ∷ us))
-      ∙ unless-bare (flat_map (λ x. x.bytes) (t ∷ u ∷ us)) (through t.place (last_text u us).place)
+      ∙ unless-bare (flat_map (λ x. x.bytes) (t ∷ u ∷ us)) (through t.range (last_text u us).range)
 
   all-items : (rs : List (Run P)) → flat_map (run_items nowhere) (bare_runs rs)
       ≡ bare_items (flat_map (run_items through) rs)
@@ -91,7 +91,7 @@ module _ {P : Type 0} (through : P → P → P) where
       ∙ ap (λ xs. bare_items (run_items through r) ++ xs) (all-items rs)
       ∙ sym (map-append unplaced (run_items through r) (flat_map (run_items through) rs))
 
-  -- merging without places is merging, and then leaving places out
+  -- merging without ranges is merging, and then leaving ranges out
   pub merged-bare : (xs : List (Item P)) → merged nowhere (bare_items xs) ≡ bare_items (merged through xs)
   merged-bare xs = ap (flat_map (run_items nowhere)) (same-runs xs) ∙ all-items (runs xs)
 

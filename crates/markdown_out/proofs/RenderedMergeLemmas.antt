@@ -17,7 +17,7 @@ use Rattle.markdown_out.specs.Merge.{Item, PlacedText, text_item, text_of_item, 
 use Rattle.markdown_out.specs.Merge.{last_text}
 use Rattle.markdown_out.specs.Merge.{unless_empty, run_items, merged}
 use Rattle.markdown_out.specs.MergeNext.{MergeState, PassesOn, item_view}
-use Rattle.markdown_out.specs.Places.{bare, nowhere}
+use Rattle.markdown_out.specs.EventRanges.{bare, nowhere}
 use Rattle.markdown_out.specs.OutLaws.{event_item, item_events, merged_events, StaysEnded, merge_steps, IsNewMerge}
 use Rattle.markdown_out.specs.OutLaws.{GoesTooDeepMerged, IsRenderedMerged, StopsAtErrorMerged, IsRefusedMerged}
 use Rattle.markdown_out.proofs.DrainedMergeLemmas.{gives_the_merge}
@@ -83,7 +83,7 @@ no_error-runs (alone (Err fault) ∷ rs) h = absurd h
 no_error-runs (texts t [] ∷ rs) h = no_error-runs rs h
 no_error-runs (texts t (u ∷ us) ∷ rs) h =
     no_error-texts (t ∷ u ∷ us) (flat_map run_source rs)
-    (no_error-runs rs (no_error-rest (flat_map (λ x. x.bytes) (t ∷ u ∷ us)) (nowhere t.place (last_text u us).place)
+    (no_error-runs rs (no_error-rest (flat_map (λ x. x.bytes) (t ∷ u ∷ us)) (nowhere t.range (last_text u us).range)
     (flat_map (run_items nowhere) rs) h))
 
 no_error-views : (es : List EventView) → HasNoError (map event_item es)
@@ -129,7 +129,7 @@ no_error-given (alone (Ok x) ∷ rs) h = no_error-given rs h
 no_error-given (alone (Err fault) ∷ rs) h = absurd h
 no_error-given (texts t [] ∷ rs) h = no_error-given rs h
 no_error-given (texts t (u ∷ us) ∷ rs) h =
-    no_error-unless (flat_map (λ x. x.bytes) (t ∷ u ∷ us)) (nowhere t.place (last_text u us).place)
+    no_error-unless (flat_map (λ x. x.bytes) (t ∷ u ∷ us)) (nowhere t.range (last_text u us).range)
     (flat_map (run_items nowhere) rs)
     (no_error-given rs (no_error-after us (flat_map run_source rs) h))
 

@@ -7,15 +7,15 @@ use Rattle.markdown_out.specs.MergeNext.{item_view}
 use Rattle.markdown_out.specs.declared.merge.held.Held.{Held}
 use Rattle.markdown_out.specs.declared.merge.held.Held.TheVariants as held
 
--- an event with its place, or an error, in the form in which the merge is defined
+-- an event with its range, or an error, in the form in which the merge is defined
 abbrev pub placed_view : {P : Type 0} → Result (Event × P) Fault → Item P
 placed_view x = item_view (λ placed. placed) x
 
--- the items that are held: joined texts count as one text of all their bytes at the first place, and
--- an empty one at the last place
+-- the items that are held: joined texts count as one text of all their bytes at the first range, and
+-- an empty one at the last range
 abbrev pub held_items : {P : Type 0} → Held P → List (Item P)
 held_items held.Nothing = []
 held_items (held.Item x) = placed_view x ∷ []
 held_items (held.Texts t) =
-    text_item (record { bytes = string_bytes t.bytes; place = t.first })
-    ∷ text_item (record { bytes = []; place = t.last }) ∷ []
+    text_item (record { bytes = string_bytes t.bytes; range = t.first })
+    ∷ text_item (record { bytes = []; range = t.last }) ∷ []

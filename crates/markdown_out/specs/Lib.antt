@@ -10,7 +10,7 @@ pub mod ByteLists
 pub mod StringAppends
 pub mod Merge
 pub mod MergeNext
-pub mod Places
+pub mod EventRanges
 pub mod HeldItems
 pub mod MergeState
 pub mod OutLaws

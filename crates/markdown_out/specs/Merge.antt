@@ -4,22 +4,22 @@ use Rattle.std.specs.List.{flat_map}
 use Rattle.markdown_base.specs.Event.{EventView, text}
 use Rattle.markdown_base.specs.declared.fault.Fault.{Fault}
 
--- an event with its place, or an error
+-- an event with its range, or an error
 abbrev pub Item : Type 0 → Type 0
 Item P = Result (EventView × P) Fault
 
--- the bytes of a Text, and its place
+-- the bytes of a Text, and its range
 pub record PlacedText (P : Type 0) : Type 0 where
   pub bytes : List ℕ
-  pub place : P
+  pub range : P
 
 -- a Text, as an item
 abbrev pub text_item : {P : Type 0} → PlacedText P → Item P
-text_item t = Ok (text t.bytes, t.place)
+text_item t = Ok (text t.bytes, t.range)
 
 -- the Text that an item is, if it is one
 abbrev pub text_of_item : {P : Type 0} → Item P → Option (PlacedText P)
-text_of_item (Ok (text t, place)) = Some (record { bytes = t; place = place })
+text_of_item (Ok (text t, range)) = Some (record { bytes = t; range = range })
 text_of_item item = None
 
 -- an item that is not a Text, or a maximal run of neighbouring Texts: the first, and those after it
@@ -45,17 +45,17 @@ last_text t (u ∷ us) = last_text u us
 
 -- one Text of these bytes, or nothing where there are none
 abbrev pub unless_empty : {P : Type 0} → List ℕ → P → List (Item P)
-unless_empty [] place = []
-unless_empty (b ∷ bytes) place = Ok (text (b ∷ bytes), place) ∷ []
+unless_empty [] range = []
+unless_empty (b ∷ bytes) range = Ok (text (b ∷ bytes), range) ∷ []
 
 module _ {P : Type 0} (through : P → P → P) where
   -- what a run becomes: an item or a single Text stays as it is; two or more Texts become one Text of
-  -- their bytes, from the place of the first to that of the last, or nothing where it would be empty
+  -- their bytes, from the range of the first to that of the last, or nothing where it would be empty
   abbrev pub run_items : Run P → List (Item P)
   run_items (alone item) = item ∷ []
   run_items (texts t []) = text_item t ∷ []
   run_items (texts t (u ∷ us)) =
-      unless_empty (flat_map (λ x. x.bytes) (t ∷ u ∷ us)) (through t.place (last_text u us).place)
+      unless_empty (flat_map (λ x. x.bytes) (t ∷ u ∷ us)) (through t.range (last_text u us).range)
 
   -- the merge of a list of items
   abbrev pub merged : List (Item P) → List (Item P)

@@ -10,7 +10,7 @@ use Rattle.markdown_base.specs.declared.fault.Fault.{Fault}
 use Rattle.markdown_base.specs.declared.fault.Fault.TheVariants.{Memory}
 use Rattle.markdown_out.specs.Merge.{Item, merge_answers}
 
--- an item in the form in which the merge is defined; `parts` gives its event and its place
+-- an item in the form in which the merge is defined; `parts` gives its event and its range
 abbrev pub item_view : {T P : Type 0} → (T → Event × P) → Result T Fault → Item P
 item_view parts (Ok x) = Ok (event_view (parts x).0, (parts x).1)
 item_view parts (Err fault) = Err fault

@@ -11,7 +11,7 @@ use Rattle.markdown_out.specs.HtmlCorrect.{items}
 use Rattle.markdown_out.specs.LookBacks.{IsTooDeep}
 use Rattle.markdown_out.specs.Merge.{Item, text_of_item, merged}
 use Rattle.markdown_out.specs.MergeNext.{Gave, MergeState, CallsMerge, item_view}
-use Rattle.markdown_out.specs.Places.{bare, nowhere, through_ranges}
+use Rattle.markdown_out.specs.EventRanges.{bare, nowhere, through_ranges}
 
 -- at most one of the two is a Text
 abbrev pub AreApart : {P : Type 0} → Item P → Item P → Type 0

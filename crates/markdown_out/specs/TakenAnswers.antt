@@ -12,9 +12,9 @@ use Rattle.markdown_out.specs.declared.merge.held.Held.{Held}
 use Rattle.markdown_out.specs.declared.merge.held.Step.{Step}
 use Rattle.markdown_out.specs.declared.merge.held.Step.TheVariants as step
 
--- a text and its place
+-- a text and its range
 abbrev pub placed_text : {P : Type 0} → CowStr × P → PlacedText P
-placed_text t = record { bytes = text_of t.0; place = t.1 }
+placed_text t = record { bytes = text_of t.0; range = t.1 }
 
 -- the items of a result, which is at most one
 abbrev pub answer_items : {P : Type 0} → Option (Result (Event × P) Fault) → List (Item P)

@@ -14,7 +14,7 @@ ghost use Rattle.markdown_out.specs.MergeState.{stream_state, offset_state};
 ghost use Rattle.markdown_out.specs.OutLaws.{HasNoNeighbours, MergingKeepsHtml, StaysEnded};
 ghost use Rattle.markdown_out.specs.OutLaws.{IsNewMerge, GivesTheMerge, merge_steps};
 ghost use Rattle.markdown_out.specs.OutLaws.{GoesTooDeepMerged, IsRenderedMerged, StopsAtErrorMerged, IsRefusedMerged};
-ghost use Rattle.markdown_out.specs.Places.{bare, nowhere, with_range, through_ranges};
+ghost use Rattle.markdown_out.specs.EventRanges.{bare, nowhere, with_range, through_ranges};
 
 use crate::merge::{TextMergeStream, TextMergeWithOffset};
 use markdown_base::event::Event;

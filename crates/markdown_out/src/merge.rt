@@ -7,9 +7,9 @@
 ghost use Rattle.std.specs.Prelude.{◌≡◌, ◌+◌, [], false, None, IfSome, MatchOption};
 ghost use Rattle.markdown_out.specs.MergeState.{stream_state, offset_state};
 
+mod event_range;
 mod held;
 mod merging;
-mod place;
 
 use markdown_base::event::Event;
 use markdown_base::fault::Fault;
@@ -56,7 +56,7 @@ impl<'a, I: Iterator<Item = Result<Event<'a>, Fault>>> Iterator for TextMergeStr
     ghost use Rattle.std.specs.Iterator.{at_most};
     ghost use Rattle.markdown_out.specs.MergeNext.{CanMerge, CallsMerge, item_view, left_count};
     ghost use Rattle.markdown_out.specs.MergeState.{stream_state};
-    ghost use Rattle.markdown_out.specs.Places.{bare, nowhere};
+    ghost use Rattle.markdown_out.specs.EventRanges.{bare, nowhere};
 
     ghost can_next = { λ m. CanMerge I.next_gives I.can_next I.remaining (stream_state m).iter };
 
@@ -107,7 +107,7 @@ impl<'a, I: Iterator<Item = Result<(Event<'a>, Range<usize>), Fault>>> Iterator
     ghost use Rattle.std.specs.Iterator.{at_most};
     ghost use Rattle.markdown_out.specs.MergeNext.{CanMerge, CallsMerge, item_view, left_count};
     ghost use Rattle.markdown_out.specs.MergeState.{offset_state};
-    ghost use Rattle.markdown_out.specs.Places.{with_range, through_ranges};
+    ghost use Rattle.markdown_out.specs.EventRanges.{with_range, through_ranges};
 
     ghost can_next = { λ m. CanMerge I.next_gives I.can_next I.remaining (offset_state m).iter };
 

@@ -14,7 +14,7 @@ use Rattle.markdown_out.specs.Merge.{last_text}
 use Rattle.markdown_out.specs.Merge.{unless_empty, run_items, merged}
 use Rattle.markdown_out.specs.MergeNext.{MergeState, PassesOn, item_view}
 use Rattle.markdown_out.specs.OutLaws.{StaysEnded, IsNewMerge, merge_steps}
-use Rattle.markdown_out.specs.Places.{with_range, through_ranges}
+use Rattle.markdown_out.specs.EventRanges.{with_range, through_ranges}
 use Rattle.markdown_out.proofs.DrainedMergeLemmas.{gives_the_merge}
 use Rattle.markdown_out.proofs.MergeLawsLemmas.{IsText, text_or_none}
 use Rattle.markdown_outline.specs.Outline.{Ranged, EntryView, entries_of}
@@ -69,7 +69,7 @@ error-given [] = refl
 error-given (alone x ∷ rs) = ap (λ (b : Bool). is_error x || b) (error-given rs)
 error-given (texts t [] ∷ rs) = error-given rs
 error-given (texts t (u ∷ us) ∷ rs) =
-    error-unless (flat_map (λ (x : PlacedText R). x.bytes) (t ∷ u ∷ us)) (through_ranges t.place (last_text u us).place)
+    error-unless (flat_map (λ (x : PlacedText R). x.bytes) (t ∷ u ∷ us)) (through_ranges t.range (last_text u us).range)
     (flat_map (run_items through_ranges) rs)
     ∙ error-given rs
 

@@ -9,7 +9,7 @@ use Rattle.markdown_base.specs.Event.{EventView, text}
 use Rattle.markdown_out.specs.Merge.{Item, PlacedText, text_item, text_of_item, Run, alone, texts, before_runs, runs}
 use Rattle.markdown_out.specs.Merge.{last_text}
 use Rattle.markdown_out.specs.Merge.{unless_empty, run_items, merged}
-use Rattle.markdown_out.specs.Places.{through_ranges}
+use Rattle.markdown_out.specs.EventRanges.{through_ranges}
 use Rattle.markdown_out.proofs.MergeLawsLemmas.{IsText, text_or_none}
 use Rattle.markdown_outline.specs.Outline.{Ranged, EntryView, opened_level, ends_heading, text_added, joined_text}
 use Rattle.markdown_outline.specs.Outline.{up_to_end}
@@ -59,7 +59,7 @@ same-cons e xs ys same = record { text = by_end (ends_heading e.0); entries = by
 
 -- a Text with its range, as an event
 abbrev text_event : PlacedText R → Ranged
-text_event t = (text t.bytes, t.place)
+text_event t = (text t.bytes, t.range)
 
 abbrev bytes_of : List (PlacedText R) → List ℕ
 bytes_of us = flat_map (λ (u : PlacedText R). u.bytes) us
@@ -111,7 +111,7 @@ same-run t u us given events rest = record {
     bytes = bytes_of (t ∷ u ∷ us)
 
     p : R
-    p = through_ranges t.place (last_text u us).place
+    p = through_ranges t.range (last_text u us).range
 
 -- what runs become has the outline of their events
 same-runs : (rs : List (Run R)) → IsSameOutline (flat_map item_events (flat_map (run_items through_ranges) rs))

@@ -2,7 +2,7 @@
 use Rattle.std.specs.Prelude.{◌≡◌, ℕ, List, map, Ok}
 use Rattle.std.specs.declared.ops.Range.{Range}
 use Rattle.markdown_out.specs.Merge.{Item, merged}
-use Rattle.markdown_out.specs.Places.{through_ranges}
+use Rattle.markdown_out.specs.EventRanges.{through_ranges}
 use Rattle.markdown_outline.specs.Outline.{Ranged, entries_of}
 
 -- events with their ranges, as items of a merge

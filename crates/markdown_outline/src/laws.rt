@@ -3,7 +3,7 @@ ghost use Rattle.std.specs.Prelude.{List};
 ghost use Rattle.markdown_out.specs.MergeNext.{item_view};
 ghost use Rattle.markdown_out.specs.MergeState.{offset_state};
 ghost use Rattle.markdown_out.specs.OutLaws.{IsNewMerge, StaysEnded, merge_steps};
-ghost use Rattle.markdown_out.specs.Places.{with_range, through_ranges};
+ghost use Rattle.markdown_out.specs.EventRanges.{with_range, through_ranges};
 ghost use Rattle.markdown_outline.specs.Outline.{EntryView};
 ghost use Rattle.markdown_outline.specs.OutlineLaws.{MergingKeepsOutline};
 ghost use Rattle.markdown_outline.specs.OutlineRead.{IsOutlineOfAll};

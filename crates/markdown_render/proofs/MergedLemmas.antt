@@ -13,7 +13,7 @@ use Rattle.markdown_out.specs.MergeNext.{MergeState, item_view}
 use Rattle.markdown_out.specs.MergeState.{stream_state}
 use Rattle.markdown_out.specs.OutLaws.{StaysEnded, merge_steps, IsNewMerge, IsRenderedMerged}
 use Rattle.markdown_out.specs.OutLaws.{GoesTooDeepMerged, IsRefusedMerged, StopsAtErrorMerged}
-use Rattle.markdown_out.specs.Places.{bare, nowhere}
+use Rattle.markdown_out.specs.EventRanges.{bare, nowhere}
 use Rattle.markdown_out.specs.declared.merge.TextMergeStream.{TextMergeStream}
 use Rattle.markdown_out.proofs.RenderedMergeLemmas.{deep-merged, rendered-merged, stopped-merged}
 use Rattle.markdown_render.specs.Merged.{IsMergedHtmlOf, IsMergeTooDeep}

@@ -1,14 +1,14 @@
 //! A linter: the line and column of each piece of raw HTML in a text.
 ghost use Rattle.std.specs.Prelude.{◌≡◌, ◌<◌, IfOk, IfErr, length};
 ghost use Rattle.markdown.specs.EventWords.{event_view};
-ghost use Rattle.markdown_uses.specs.Linter.{AreHtmlPlacesOf, ends_line_at, is_html, place_at};
+ghost use Rattle.markdown_uses.specs.Linter.{AreHtmlPositionsOf, ends_line_at, is_html, position_at};
 
 use markdown::{Event, Fault, Parser};
 use std::alloc::Global;
 
-/// A place in a text. Lines and columns are counted from 1; columns are counted in bytes.
+/// A position in a text. Lines and columns are counted from 1; columns are counted in bytes.
 #[derive(Clone, Copy, Debug, PartialEq, Eq, Drop)]
-pub struct Place {
+pub struct Position {
     pub line: usize,
     pub column: usize,
 }
@@ -26,10 +26,10 @@ fn is_line_end(bytes: &[u8], at: usize) -> bool
     }
 }
 
-/// Returns the line and column of a byte offset. An offset past the end of the text has the place of
+/// Returns the line and column of a byte offset. An offset past the end of the text has the position of
 /// its end.
-pub fn place_of(source: &str, offset: usize) -> Place
-    ensures { result ≡ place_at source.now offset }
+pub fn position_of(source: &str, offset: usize) -> Position
+    ensures { result ≡ position_at source.now offset }
 {
     let bytes = source.as_bytes();
     let end = offset.min(bytes.len());
@@ -41,7 +41,7 @@ pub fn place_of(source: &str, offset: usize) -> Place
             line_start = at + 1;
         }
     }
-    Place {
+    Position {
         line,
         column: end - line_start + 1,
     }
@@ -57,26 +57,26 @@ fn is_raw_html(event: &Event<'_>) -> bool
 
 /// Returns where the raw HTML of a text begins: each tag or comment in a paragraph, and each line of
 /// an HTML block. The only error is `Fault::Memory`.
-pub fn raw_html(alloc: Global, source: &str) -> Result<Vec<Place>, Fault>
-    ensures places { IfOk result (λ places. AreHtmlPlacesOf source.now places.items) }
+pub fn raw_html(alloc: Global, source: &str) -> Result<Vec<Position>, Fault>
+    ensures positions { IfOk result (λ positions. AreHtmlPositionsOf source.now positions.items) }
     ensures refused { IfErr result (λ fault. fault ≡ Fault.Memory) }
 {
     let parser = Parser::new(alloc, source)?;
     let (events, _) = parser.into_offset_iter().into_events()?;
-    let mut places = Vec::new(alloc);
+    let mut positions = Vec::new(alloc);
     for (event, range) in &events {
         if is_raw_html(event) {
-            places.push(place_of(source, range.start))?;
+            positions.push(position_of(source, range.start))?;
         }
     }
-    Ok(places)
+    Ok(positions)
 }
 
 /// Returns a line for each piece of raw HTML.
 pub fn report(alloc: Global, source: &str) -> Result<String, Fault> {
     let mut lines = String::new(alloc);
-    for place in &raw_html(alloc, source)? {
-        let line = format!(in alloc; "{}:{}: raw HTML\n", place.line, place.column)?;
+    for position in &raw_html(alloc, source)? {
+        let line = format!(in alloc; "{}:{}: raw HTML\n", position.line, position.column)?;
         lines.push_str(line.as_str())?;
     }
     Ok(lines)

@@ -7,13 +7,13 @@ ghost use Rattle.markdown_out.specs.HeldItems.{placed_view, held_items};
 ghost use Rattle.markdown_out.specs.TakenAnswers.{placed_text, answer_items, given_answers, IsNoText};
 ghost use Rattle.markdown_out.specs.TakenAnswers.{TakesIn, answer_count, held_count, given_count};
 
-use super::place::Place;
+use super::event_range::EventRange;
 use markdown_base::cow_str::CowStr;
 use markdown_base::event::Event;
 use markdown_base::fault::Fault;
 use std::alloc::{AllocError, Global};
 
-/// An event with its place, or an error.
+/// An event with its range, or an error.
 pub type Placed<'a, P> = Result<(Event<'a>, P), Fault>;
 
 /// Two or more texts that have been joined.
@@ -39,22 +39,22 @@ pub enum Step<'a, P> {
     Give(Option<Placed<'a, P>>),
 }
 
-/// Returns the text and its place where the item is a text, and otherwise the item as an `Err`.
-fn into_text<'a, P: Place>(item: Placed<'a, P>) -> Result<(CowStr<'a>, P), Placed<'a, P>>
+/// Returns the text and its range where the item is a text, and otherwise the item as an `Err`.
+fn into_text<'a, P: EventRange>(item: Placed<'a, P>) -> Result<(CowStr<'a>, P), Placed<'a, P>>
     ensures { MatchResult result (λ t. placed_view item.entry ≡ text_item (placed_text t))
         (λ x. (x ≡ item.entry) × (text_of_item (placed_view item.entry) ≡ None)) }
 {
     match item {
         Err(fault) => Err(Err(fault)),
-        Ok((event, place)) => match event {
-            Event::Text(text) => Ok((text, place)),
-            other => Err(Ok((other, place))),
+        Ok((event, range)) => match event {
+            Event::Text(text) => Ok((text, range)),
+            other => Err(Ok((other, range))),
         },
     }
 }
 
-/// Returns the text and its place where the iterator's result is a text, and otherwise the result as an `Err`.
-fn text_or<'a, P: Place>(
+/// Returns the text and its range where the iterator's result is a text, and otherwise the result as an `Err`.
+fn text_or<'a, P: EventRange>(
     answer: Option<Placed<'a, P>>,
 ) -> Result<(CowStr<'a>, P), Option<Placed<'a, P>>>
     ensures { MatchResult result (λ t. option_map placed_view answer.entry
@@ -71,7 +71,7 @@ fn text_or<'a, P: Place>(
 }
 
 /// Returns what a merge holds of the iterator's result until the next one is read.
-fn hold<'a, P: Place>(answer: Option<Placed<'a, P>>) -> Held<'a, P>
+fn hold<'a, P: EventRange>(answer: Option<Placed<'a, P>>) -> Held<'a, P>
     ensures items { held_items result ≡ answer_items answer.entry }
     ensures count { held_count result ≡ answer_count answer.entry }
 {
@@ -82,7 +82,7 @@ fn hold<'a, P: Place>(answer: Option<Placed<'a, P>>) -> Held<'a, P>
 }
 
 /// Joins two texts. The bytes of the first are not copied where it is boxed.
-fn join<'a, P: Place>(
+fn join<'a, P: EventRange>(
     alloc: Global,
     first: (CowStr<'a>, P),
     last: (CowStr<'a>, P),
@@ -92,18 +92,18 @@ fn join<'a, P: Place>(
     ensures first { IfOk result (λ t. t.first ≡ first.entry.1) }
     ensures last { IfOk result (λ t. t.last ≡ last.entry.1) }
 {
-    let (text, place) = first;
+    let (text, range) = first;
     let mut bytes = text.into_string(alloc)?;
     bytes.push_str(last.0.as_str())?;
     Ok(JoinedTexts {
         bytes,
-        first: place,
+        first: range,
         last: last.1,
     })
 }
 
 /// Appends another text to joined ones.
-fn append<'a, P: Place>(
+fn append<'a, P: EventRange>(
     texts: JoinedTexts<P>,
     last: (CowStr<'a>, P),
 ) -> Result<JoinedTexts<P>, AllocError>
@@ -122,7 +122,7 @@ fn append<'a, P: Place>(
 }
 
 /// Ends a run of joined texts: returns them as one text, or calls for the next item where all of them are empty.
-fn close<'a, P: Place>(texts: JoinedTexts<P>) -> Step<'a, P>
+fn close<'a, P: EventRange>(texts: JoinedTexts<P>) -> Step<'a, P>
     ensures count { given_count result ≤ 1 }
     ensures given { given_answers result
         ≡ map (λ x. Some x)
@@ -131,12 +131,12 @@ fn close<'a, P: Place>(texts: JoinedTexts<P>) -> Step<'a, P>
     if texts.bytes.is_empty() {
         return Step::Again;
     }
-    let place = texts.first.through(texts.last);
-    Step::Give(Some(Ok((Event::Text(CowStr::from(texts.bytes)), place))))
+    let range = texts.first.through(texts.last);
+    Step::Give(Some(Ok((Event::Text(CowStr::from(texts.bytes)), range))))
 }
 
 /// Takes the iterator's next result where a single item is held.
-fn after_item<'a, P: Place>(
+fn after_item<'a, P: EventRange>(
     alloc: Global,
     item: Placed<'a, P>,
     answer: Option<Placed<'a, P>>,
@@ -161,7 +161,7 @@ fn after_item<'a, P: Place>(
 }
 
 /// Takes the iterator's next result where joined texts are held.
-fn after_texts<'a, P: Place>(
+fn after_texts<'a, P: EventRange>(
     texts: JoinedTexts<P>,
     answer: Option<Placed<'a, P>>,
 ) -> Result<(Step<'a, P>, Held<'a, P>), AllocError>
@@ -180,7 +180,7 @@ fn after_texts<'a, P: Place>(
 
 /// Takes the iterator's next result, and returns what the merge does next and what it then holds. Joining texts fails
 /// where memory is refused; then what was held is dropped.
-pub fn take_in<'a, P: Place>(
+pub fn take_in<'a, P: EventRange>(
     alloc: Global,
     held: Held<'a, P>,
     answer: Option<Placed<'a, P>>,

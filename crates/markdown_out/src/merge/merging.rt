@@ -8,8 +8,8 @@ ghost use Rattle.markdown_out.specs.TakenAnswers.{answer_count, held_count};
 ghost use Rattle.markdown_out.specs.AdvanceSteps.{IsMerged};
 ghost use Rattle.markdown_out.specs.MergeState.{merging_state};
 
+use super::event_range::{EventRange, MergeItem};
 use super::held::{Held, Placed, Step, take_in};
-use super::place::{MergeItem, Place};
 use markdown_base::fault::Fault;
 use std::alloc::{AllocError, Global};
 use std::mem;
@@ -24,7 +24,7 @@ pub struct Merging<'a, I, P> {
     pub over: bool,
 }
 
-/// Splits the item of an iterator's result into event and place.
+/// Splits the item of an iterator's result into event and range.
 fn parted<'a, T: MergeItem<'a>>(answer: Option<Result<T, Fault>>) -> Option<Placed<'a, T::At>>
     ensures view { option_map placed_view result ≡ option_map (item_view T.parts) answer }
     ensures count { answer_count result ≡ answer_count answer }
@@ -36,7 +36,7 @@ fn parted<'a, T: MergeItem<'a>>(answer: Option<Result<T, Fault>>) -> Option<Plac
     }
 }
 
-/// Puts event and place together again as the item of a result.
+/// Puts event and range together again as the item of a result.
 fn rebuilt<'a, T: MergeItem<'a>>(answer: Option<Placed<'a, T::At>>) -> Option<Result<T, Fault>>
     ensures view { option_map (item_view T.parts) result ≡ option_map placed_view answer.entry }
     ensures count { answer_count result ≡ answer_count answer.entry }
@@ -44,7 +44,7 @@ fn rebuilt<'a, T: MergeItem<'a>>(answer: Option<Placed<'a, T::At>>) -> Option<Re
     match answer {
         None => None,
         Some(Err(fault)) => Some(Err(fault)),
-        Some(Ok((event, place))) => Some(Ok(T::at(event, place))),
+        Some(Ok((event, range))) => Some(Ok(T::at(event, range))),
     }
 }
 
@@ -76,7 +76,7 @@ fn advance<'a, T: MergeItem<'a>, I: Iterator<Item = Result<T, Fault>>>(
     }
 }
 
-impl<'a, I, P: Place> Merging<'a, I, P> {
+impl<'a, I, P: EventRange> Merging<'a, I, P> {
     ghost use Rattle.std.specs.Prelude.{◌≡◌, [], false};
     ghost use Rattle.markdown_out.specs.MergeState.{merging_state};
 

@@ -1,6 +1,6 @@
 use Rattle.markdown_out.specs.MergeNext.{item_view}
 use Rattle.markdown_out.specs.MergeState.{stream_state}
-use Rattle.markdown_out.specs.Places.{bare, nowhere}
+use Rattle.markdown_out.specs.EventRanges.{bare, nowhere}
 use Rattle.markdown_out.proofs.DrainedMergeLemmas.{gives_the_merge}
 use Rattle.markdown_out.proofs.laws.a_stream_gives_the_merge.Goals as goal
 

@@ -1,6 +1,6 @@
 use Rattle.markdown_out.specs.MergeNext.{item_view}
 use Rattle.markdown_out.specs.MergeState.{offset_state}
-use Rattle.markdown_out.specs.Places.{with_range, through_ranges}
+use Rattle.markdown_out.specs.EventRanges.{with_range, through_ranges}
 use Rattle.markdown_out.proofs.DrainedMergeLemmas.{gives_the_merge}
 use Rattle.markdown_out.proofs.laws.a_stream_with_offsets_gives_the_merge.Goals as goal
 

@@ -1,4 +1,4 @@
-use Rattle.markdown_out.specs.Places.{nowhere, through_ranges}
+use Rattle.markdown_out.specs.EventRanges.{nowhere, through_ranges}
 use Rattle.markdown_out.proofs.MergeLawsLemmas.{merged-apart}
 use Rattle.markdown_out.proofs.laws.merged_texts_are_no_neighbours.Goals as goal
 

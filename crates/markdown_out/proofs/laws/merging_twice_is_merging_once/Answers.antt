@@ -1,4 +1,4 @@
-use Rattle.markdown_out.specs.Places.{nowhere, through_ranges}
+use Rattle.markdown_out.specs.EventRanges.{nowhere, through_ranges}
 use Rattle.markdown_out.proofs.MergeLawsLemmas.{merged-twice}
 use Rattle.markdown_out.proofs.laws.merging_twice_is_merging_once.Goals as goal
 

@@ -13,7 +13,7 @@ returns-in-Err-clause-takes g c =
       leaves = λ later. rw (
         held,
         same,
-        gives-alone g.P.Place.through (placed_view c.args.item)
+        gives-alone g.P.EventRange.through (placed_view c.args.item)
             c.args.answer later c.in-Err.ensures.1,
       );
       counts = omega (arith, count);
@@ -33,7 +33,7 @@ returns-in-Err-text_or-clause-takes g c =
         c.in-Ok.ensures,
         held,
         same,
-        gives-lone_text g.P.Place.through
+        gives-lone_text g.P.EventRange.through
             (placed_text c.in-Ok.first) c.args.answer later c.in-Err-text_or.ensures.1,
       );
       counts = omega (arith, count);
@@ -53,7 +53,7 @@ returns-in_ok-texts-in-Ok-text_or-clause-takes g c =
         made.bytes,
         made.first,
         made.last,
-        joins-two g.P.Place.through (placed_text c.in-Ok.first)
+        joins-two g.P.EventRange.through (placed_text c.in-Ok.first)
             (placed_text c.in-Ok-text_or.last) later,
       );
       counts = omega (arith, count);

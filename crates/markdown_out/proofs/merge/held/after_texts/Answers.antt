@@ -8,7 +8,7 @@ use Rattle.markdown_out.proofs.merge.held.after_texts.Goals as goal
 pub returns-in-Err-clause-takes : goal.returns-in-Err-clause-takes
 returns-in-Err-clause-takes g c =
     let t = c.args.texts in
-    let through = g.P.Place.through in
+    let through = g.P.EventRange.through in
     let same : c.in-Err.answer ≡ c.args.answer = c.in-Err.ensures.0 in
     let held : held_items c.hold.result ≡ answer_items c.in-Err.answer = c.hold.ensures.items in
     let count : held_count c.hold.result ≡ answer_count c.args.answer =
@@ -22,8 +22,8 @@ returns-in-Err-clause-takes g c =
         same,
         given,
         gives-run through
-            (record { bytes = string_bytes t.bytes; place = t.first })
-            (record { bytes = []; place = t.last }) c.args.answer later refl c.in-Err.ensures.1,
+            (record { bytes = string_bytes t.bytes; range = t.first })
+            (record { bytes = []; range = t.last }) c.args.answer later refl c.in-Err.ensures.1,
       );
       counts = omega (arith, count, c.close.ensures.count);
       holds = omega (arith, count);
@@ -43,8 +43,8 @@ returns-in_ok-texts-in-Ok-clause-takes g c =
         made.first,
         made.last,
         joins-more
-            g.P.Place.through (record { bytes = string_bytes t.bytes; place = t.first })
-            (record { bytes = []; place = t.last }) (placed_text c.in-Ok.last) later refl,
+            g.P.EventRange.through (record { bytes = string_bytes t.bytes; range = t.first })
+            (record { bytes = []; range = t.last }) (placed_text c.in-Ok.last) later refl,
       );
       counts = omega (arith, count);
       holds = omega (arith, count);

@@ -10,7 +10,7 @@ use Rattle.markdown_out.proofs.merge.merging.advance.Goals as goal
 
 pub returns-in-Give-clause-passes : goal.returns-in-Give-clause-passes
 returns-in-Give-clause-passes g c =
-    let through = g.T.At.Place.through in
+    let through = g.T.At.EventRange.through in
     let view = item_view g.T.MergeItem.parts in
     let steps = g.I.Iterator.next_gives in
     let after = c.in_ok-step.next in
@@ -25,7 +25,7 @@ returns-in-Give-clause-passes g c =
 
 pub reading-preserved : goal.reading-preserved
 reading-preserved g c =
-    let through = g.T.At.Place.through in
+    let through = g.T.At.EventRange.through in
     let view = item_view g.T.MergeItem.parts in
     let steps = g.I.Iterator.next_gives in
     let after = c.in_ok-step.next in

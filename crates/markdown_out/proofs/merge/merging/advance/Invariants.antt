@@ -7,7 +7,7 @@ use Rattle.markdown_out.proofs.merge.merging.advance.Given as goal
 
 abbrev pub invariant-reading : goal.invariant-reading
 invariant-reading g l =
-    IsReading g.T.At.Place.through (item_view g.T.MergeItem.parts) g.I.Iterator.next_gives g.I.Iterator.can_next
+    IsReading g.T.At.EventRange.through (item_view g.T.MergeItem.parts) g.I.Iterator.next_gives g.I.Iterator.can_next
     g.I.Iterator.remaining
     l.fn.held l.fn.iter l.held l.iter
 

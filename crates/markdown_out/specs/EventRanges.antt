@@ -1,13 +1,13 @@
--- The places of events: none, or a range of the source.
+-- The ranges of events: a range of the source, or none.
 use Rattle.std.specs.Prelude.{ℕ}
 use Rattle.std.specs.declared.ops.Range.{Range}
 use Rattle.markdown_base.specs.declared.event.Event.{Event}
 
--- an event without a place
+-- an event without a range
 abbrev pub bare : Event → Event × Unit {0}
 bare event = (event, tt)
 
--- from the beginning of the first to the end of the last, where events have no place
+-- from the beginning of the first to the end of the last, where events have no range
 abbrev pub nowhere : Unit {0} → Unit {0} → Unit {0}
 nowhere first last = first
 

@@ -1,6 +1,6 @@
 use Rattle.std.proofs.Common.{◌≡◌, ◌+◌, ◌≤◌}
 use Rattle.markdown_uses.specs.Linter.{bytes_before_in_line, lines_before}
-use Rattle.markdown_uses.proofs.linter.place_of.Given as goal
+use Rattle.markdown_uses.proofs.linter.position_of.Given as goal
 
 -- how many lines have ended, and where the current line begins
 abbrev pub invariant-loop-at : goal.invariant-loop-at

@@ -1,23 +1,23 @@
 //! The items of a merge: events, with their ranges in the source or without.
 ghost use Rattle.std.specs.Prelude.{◌≡◌};
 ghost use Rattle.markdown_base.specs.declared.event.Event as declared;
-ghost use Rattle.markdown_out.specs.Places.{bare, nowhere, with_range, through_ranges};
+ghost use Rattle.markdown_out.specs.EventRanges.{bare, nowhere, with_range, through_ranges};
 
 use markdown_base::event::Event;
 use std::ops::Range;
 
-/// The place of an event: a range of the source, or nothing.
-pub trait Place: Drop {
-    /// The place from the beginning of one place to the end of another.
+/// The range of an event in the source, or nothing.
+pub trait EventRange: Drop {
+    /// From the beginning of one range to the end of another.
     ghost through: { Self → Self → Self };
 
-    /// Returns the place from the beginning of this place to the end of the last.
+    /// Returns the range from the beginning of this one to the end of the last.
     fn through(self, last: Self) -> Self
         ensures { result ≡ through self last };
 }
 
-/// The place of an event without a range.
-impl Place for () {
+/// An event without a range.
+impl EventRange for () {
     ghost through = { nowhere };
 
     fn through(self, last: ()) -> () {
@@ -26,7 +26,7 @@ impl Place for () {
     }
 }
 
-impl Place for Range<usize> {
+impl EventRange for Range<usize> {
     ghost through = { through_ranges };
 
     fn through(self, last: Range<usize>) -> Range<usize> {
@@ -34,20 +34,20 @@ impl Place for Range<usize> {
     }
 }
 
-/// An item that is an event, and its place.
+/// An item that is an event, with its range or without.
 pub trait MergeItem<'a>: Drop {
-    type At: Place;
+    type At: EventRange;
 
-    /// The event and its place.
+    /// The event and its range, if it has one.
     ghost parts: { Self → declared.Event × Self.At };
 
-    /// Returns the event and its place.
+    /// Returns the event and its range, if it has one.
     fn into_parts(self) -> (Event<'a>, Self::At)
         ensures { result ≡ parts self };
 
-    /// Returns the item of an event at a place.
-    fn at(event: Event<'a>, place: Self::At) -> Self
-        ensures { parts result ≡ (event.entry, place) };
+    /// Returns the item of an event with this range.
+    fn at(event: Event<'a>, range: Self::At) -> Self
+        ensures { parts result ≡ (event.entry, range) };
 }
 
 impl<'a> MergeItem<'a> for Event<'a> {
@@ -59,8 +59,8 @@ impl<'a> MergeItem<'a> for Event<'a> {
         (self, ())
     }
 
-    fn at(event: Event<'a>, place: ()) -> Self {
-        let _ = place;
+    fn at(event: Event<'a>, range: ()) -> Self {
+        let _ = range;
         event
     }
 }
@@ -74,7 +74,7 @@ impl<'a> MergeItem<'a> for (Event<'a>, Range<usize>) {
         self
     }
 
-    fn at(event: Event<'a>, place: Range<usize>) -> Self {
-        (event, place)
+    fn at(event: Event<'a>, range: Range<usize>) -> Self {
+        (event, range)
     }
 }

@@ -1,7 +1,7 @@
 use Rattle.std.proofs.Common.{arith, sym, ◌∙◌}
 use Rattle.markdown_uses.proofs.LinterLemmas.{line_ended, line_continued}
-use Rattle.markdown_uses.proofs.linter.place_of.Goals as goal
-use Rattle.markdown_uses.proofs.linter.place_of.Goals.{then-is_line_end, else-is_line_end}
+use Rattle.markdown_uses.proofs.linter.position_of.Goals as goal
+use Rattle.markdown_uses.proofs.linter.position_of.Goals.{then-is_line_end, else-is_line_end}
 
 pub loop-at-preserved : goal.loop-at-preserved
 loop-at-preserved c =
