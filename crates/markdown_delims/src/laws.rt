@@ -25,7 +25,7 @@ pub fn closer_misses_none()
     ensures { MissesNoneLaw ℕ × MissesNoneLaw ⊤ }
 {}
 
-/// States that, if the trees of a chain lie in order, any two pairs are nested or disjoint.
+/// States that, if the trees of a chain lie one after the other, any two pairs are nested or disjoint.
 pub fn pairs_nest_or_lie_apart()
     ensures { NestLaw ℕ × NestLaw ⊤ }
 {}
