@@ -287,8 +287,9 @@ below-greatest work left f = record {
   math_visits = omega (arith, f.math_visits);
 }
 
-pub counts-law : {F : Type 0} (step : F → Question → Option Answer → F → Type 0) (p : Parser F) → CountsLaw step p
-counts-law step p none few =
+pub counts-law : {F : Type 0} (step : F → Question → Option Answer → F → Type 0) (p : Parser F)
+    → parser_steps p < 2 ^ 62 → CountsLaw step p
+counts-law step p few none =
     let start = fits-start (parser_work p) (parser_steps p) none few in (
       λ given t calls. below-greatest (parser_work t) (parser_steps t) (fits-run step IsEventOf p given t calls start),
       λ given t calls. below-greatest (parser_work t) (parser_steps t) (fits-run step IsPlacedOf p given t calls start),

@@ -12,6 +12,7 @@ pub mod ParserLemmas
 pub mod StartLemmas
 pub mod RunLemmas
 pub mod OneForestLemmas
+pub mod StepsLemmas
 pub mod CountsLawLemmas
 -- the tree and the events of a whole document
 pub mod TreeReadingLemmas

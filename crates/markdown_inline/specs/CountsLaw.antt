@@ -30,9 +30,9 @@ pub record AreBelowGreatest (work : Work) : Type 0 where
   pub math_visits : work.math_visits < 2 ^ 128 - 1
 
 -- no count has reached the maximum after any calls, refused or not, with ranges or without, from a parser whose counts
--- are 0 and which has fewer than 2 ^ 62 steps to come
+-- are 0
 abbrev pub CountsLaw : {F : Type 0} → (F → Question → Option Answer → F → Type 0) → Parser F → Type 0
-CountsLaw {F} step p = parser_work p ≡ no_work → parser_steps p < 2 ^ 62
+CountsLaw {F} step p = parser_work p ≡ no_work
     → ((given : List (Option (Result Event Fault))) (t : Parser F) → Calls step IsEventOf p given t
     → AreBelowGreatest (parser_work t))
     × ((given : List (Option (Result (Event × Range ℕ) Fault))) (t : Parser F) → Calls step IsPlacedOf p given t
