@@ -36,6 +36,7 @@ pub use Rattle.markdown_inline.specs.QuestionLaws.{DocumentCountLaw, DocumentEnd
 pub use Rattle.markdown_inline.specs.ReadingLaw.{ReadingLaw}
 pub use Rattle.markdown_inline.specs.WholeRun.{viewed, IsWhole, AsksApartAndOnce, AsksOnce, IsWholeRun}
 pub use Rattle.markdown_inline.specs.WholeRun.{IsWholeFromStart}
+pub use Rattle.markdown_brackets.specs.BracketLaws.{ClosedLaw, ClosesInOne}
 -- counts of work
 pub use Rattle.markdown_inline.specs.ParserLeft.{no_work}
 pub use Rattle.markdown_inline.specs.CountsLaw.{Calls, AreBelowGreatest, CountsLaw, RisesPlainly}

@@ -1,10 +1,12 @@
 -- Events that are given have the views and the ranges of those that were left: so they keep the laws of a whole
 -- document.
-use Rattle.std.proofs.Common.{◌≡◌, ℕ, List, [], ◌∷◌, ◌++◌, Option, Bool, refl, sym, subst, ap, ◌∙◌}
+use Rattle.std.proofs.Common.{◌≡◌, ℕ, List, [], ◌∷◌, ◌++◌, Option, Bool, refl, sym, subst, ap, ◌∙◌, append-nil}
 use Rattle.std.specs.Prelude.{is_some}
 use Rattle.std.specs.declared.ops.Range.{Range}
 use Rattle.markdown_base.specs.Questions.{Question, Answer, Answers}
 use Rattle.markdown_base.specs.declared.event.Event.{Event}
+use Rattle.markdown_brackets.proofs.BracketLawLemmas.{closed_law}
+use Rattle.markdown_defs.specs.Callback.{Asks}
 use Rattle.markdown_blocks.specs.Blocks.{text_of_blocks, block_tree, block_parts}
 use Rattle.markdown_blocks.specs.declared.blocks.Blocks.{Blocks}
 use Rattle.markdown_document.specs.EnclosingBlocks.{EnclosingBlocks}
@@ -57,7 +59,8 @@ asks_once blocks asks answers =
     let rules = rules_of blocks asks in
     let s = setting_of source rules in
     record {
-      at_most = document_asks source nodes tables rules (state_at_start source answers);
+      at_most = (document_asks source nodes tables rules (state_at_start source answers)).once;
+      when_read = closed_law;
       in_chains = each_also (AsksApart s) (λ chain. (above : EnclosingBlocks) (state : ReferenceState)
           → AsksApartAndOnce s above state chain)
           (λ chain apart above state. record
@@ -71,16 +74,17 @@ pub whole_run : {F : Type 0} (step : F → Question → Option Answer → F → 
     (given : List (Event × Range ℕ)) (callback : Option F)
     → GaveRest IsPlacedOf step p given callback → IsWholeFromStart step p given callback
 whole_run step p given callback r blocks reads =
-    let answers : Answers = r.answers ++ [] in
     let asks = is_some (parser_callback p) in
-    let same : viewed given ≡ ranged (events_of (reading_of blocks asks answers)) =
-    viewed-ranged _ given r.events r.are ∙ ap ranged (sym (r.left []))
-    ∙ ap (λ es. ranged (events_of es)) (reads answers) in
+    let all : events_of (elements p r.answers) ≡ r.events =
+    ap (λ (answers : Answers). events_of (elements p answers)) (sym (append-nil r.answers)) ∙ r.left [] in
+    let same : viewed given ≡ ranged (events_of (reading_of blocks asks r.answers)) =
+    viewed-ranged _ given r.events r.are ∙ ap ranged (sym all)
+    ∙ ap (λ es. ranged (events_of es)) (reads r.answers) in
     record {
-      events = subst (IsWhole (text_of_blocks blocks)) (sym same) (whole_reading blocks asks answers);
-      questions = questions_of (elements p r.answers);
+      events = subst (IsWhole (text_of_blocks blocks)) (sym same) (whole_reading blocks asks r.answers);
       answers = r.answers;
-      asked = r.asked;
-      once = subst (λ (es : List Element). AsksOnce blocks asks (questions_of es)) (sym (reads r.answers))
-          (asks_once blocks asks r.answers);
+      are = same;
+      asked = subst (λ (es : List Element). Asks step (parser_callback p) (questions_of es) r.answers callback)
+          (reads r.answers) r.asked;
+      once = asks_once blocks asks r.answers;
     }
