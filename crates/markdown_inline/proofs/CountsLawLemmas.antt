@@ -43,6 +43,7 @@ use Rattle.markdown_inline.specs.Reading.{chain_reading, reading, reading_opened
 use Rattle.markdown_inline.specs.Walk.{after_chain, end_of_body, ended, left_of}
 use Rattle.markdown_inline.specs.WalkTotals.{climbed, left_total, weight_to_come}
 use Rattle.markdown_inline.specs.declared.walk.Parser.{Parser}
+use Rattle.markdown_inline.proofs.CountLemmas.{part_most}
 
 -- counts of a chain that are no greater than a number
 record AreFew (n : ChainCounts) (most : ℕ) : Type 0 where
@@ -260,7 +261,14 @@ module _ {F I : Type 0} (step : F → Question → Option Answer → F → Type 
       let r = g.counts [] in
       let few = parser-few s (g.answers ++ []) in
       fits-on r.part (parser_work s) (parser_work t) (parser_steps s) (parser_steps t) f r.rises
-      (record { items = omega (arith, r.items, few.items); delimiters = omega (arith, r.delimiters, few.delimiters) })
+      (record {
+        items = omega (arith, part_most (parser_counts s (g.answers ++ [])).items r.part.items r.items, few.items);
+        delimiters = omega (
+          arith,
+          part_most (parser_counts s (g.answers ++ [])).delimiters r.part.delimiters r.delimiters,
+          few.delimiters,
+        );
+      })
       (paid-falls (parser_steps s) (parser_steps t) falls f.few)
 
   fits-run : (s : Parser F) (given : List (Option (Result I Fault))) (t : Parser F) → Calls step is_of s given t

@@ -1,5 +1,5 @@
 -- How much the counts of work rise where a chain is resolved.
-use Rattle.std.proofs.Common.{◌≡◌, ℕ, ◌*◌, List, ◌++◌, Option, Some, length, refl, sym, ap, ◌∙◌, arith, subst}
+use Rattle.std.proofs.Common.{◌≡◌, ℕ, ◌*◌, List, ◌++◌, Option, Some, length, refl, sym, ap, ◌∙◌, arith, subst, inl, inr}
 use Rattle.std.proofs.lemmas.List.{length-map}
 use Rattle.markdown_base.specs.ArenaForest.{links_of, forest_at}
 use Rattle.markdown_base.specs.BlockTree.{trees_at}
@@ -59,8 +59,8 @@ read_in_part s above first old state work new read =
     let items = chain_items s.text old.tables old.nodes (Some first) in
     record {
       part = record { items = n.items; delimiters = 0; found = 0 };
-      items = omega arith;
-      delimiters = omega arith;
+      items = inr refl;
+      delimiters = inl refl;
       rises = record {
         items = read.items_counted ∙ ap (λ k. risen k work.items) (sym items);
         delimiters = read.same_delimiters;
@@ -119,7 +119,7 @@ module _ {C : Type 0} (step : C → Question → Option Answer → C → Type 0)
       → (later : Answers) → RisesInPart (counts_of later) work new
   counts_in_part paired later = record {
     part = record (counts_of later) { found = 0 };
-    items = omega arith;
-    delimiters = omega arith;
+    items = inr refl;
+    delimiters = inr refl;
     rises = counts_paired 0 paired later;
   }

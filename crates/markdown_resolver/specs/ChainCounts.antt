@@ -1,5 +1,5 @@
 -- The counts of resolving a chain.
-use Rattle.std.specs.Prelude.{◌≤◌, length}
+use Rattle.std.specs.Prelude.{◌≡◌, ◌⊎◌, ℕ, length}
 use Rattle.markdown_base.specs.Forest.{Forest, roots}
 use Rattle.markdown_document.specs.EnclosingBlocks.{EnclosingBlocks}
 use Rattle.markdown_document.specs.Counts.{ChainCounts, WorkRises, delimiters_in}
@@ -19,10 +19,15 @@ chain_counts s notes above chain state = record {
   found = finds_in s (pass_one s notes above chain state).forest;
 }
 
+-- all of a number, or nothing
+abbrev pub IsAllOrNothing : (all part : ℕ) → Type 0
+IsAllOrNothing all part = (part ≡ 0) ⊎ (part ≡ all)
+
 -- memory was refused before a chain with these counts was resolved, or on the way: the counts rose as for a part of it,
--- with no more items or delimiter characters, so that each of the others rose by no more than these allow
+-- with all its items or none, and all its delimiter characters or none, so that each of the others rose by no more than
+-- these allow
 pub record RisesInPart (all : ChainCounts) (old new : Work) : Type 0 where
   pub part : ChainCounts
-  pub items : part.items ≤ all.items
-  pub delimiters : part.delimiters ≤ all.delimiters
+  pub items : IsAllOrNothing all.items part.items
+  pub delimiters : IsAllOrNothing all.delimiters part.delimiters
   pub rises : WorkRises part old new
