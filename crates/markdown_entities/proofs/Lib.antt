@@ -1,0 +1,4 @@
+pub mod NamesLemmas
+pub mod RowsLemmas
+pub mod GroupsLemmas
+pub mod TableLemmas
