@@ -10,3 +10,7 @@ pub mod HtmlBeginnings
 pub mod HtmlKinds
 pub mod ListMarkers
 pub mod ThematicBreaks
+-- what lines are and begin, and link reference definitions: the definition of a text's blocks rests on them
+pub mod SourceLines
+pub mod BlockBeginnings
+pub mod DefinitionRules

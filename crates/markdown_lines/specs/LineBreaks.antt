@@ -1,5 +1,5 @@
 -- The break between two lines of a paragraph (CommonMark 6.7, 6.8), by the bytes at the end of the first.
-use Rattle.std.specs.Prelude.{◌≡◌, ℕ, ◌-◌, ◌%◌, true, false, cond, ◌==◌, List, nat_lt}
+use Rattle.std.specs.Prelude.{◌≡◌, ℕ, ◌-◌, ◌%◌, true, false, ◌==◌, if◌then◌else◌, List, nat_lt}
 use Rattle.markdown_base.specs.Bytes.{backslash, space}
 use Rattle.markdown_base.specs.declared.item.ItemBody.TheVariants as body
 use Rattle.markdown_lines.specs.declared.line_break.LineBreak.{LineBreak}
@@ -10,11 +10,11 @@ use Rattle.markdown_lines.specs.Lines.{is_space_or_tab, IsRunBefore}
 -- ends at `content`.
 abbrev pub break_after : ℕ → ℕ → ℕ → ℕ → LineBreak
 break_after stop backslashes spaces content =
-    cond ((stop - backslashes) % 2 == 1)
-    (record { text_end = stop - 1; start = stop - 1; body = body.HardBreak true })
-    (cond (nat_lt (stop - spaces) 2)
-    (record { text_end = content; start = stop; body = body.SoftBreak })
-    (record { text_end = content; start = spaces; body = body.HardBreak false }))
+    if (stop - backslashes) % 2 == 1
+    then record { text_end = stop - 1; start = stop - 1; body = body.HardBreak true }
+    else if nat_lt (stop - spaces) 2
+    then record { text_end = content; start = stop; body = body.SoftBreak }
+    else record { text_end = content; start = spaces; body = body.HardBreak false }
 
 -- the break after a line whose content is from byte offset `from` up to `stop`
 pub record IsLineBreak (text : List ℕ) (from stop : ℕ) (between : LineBreak) : Type 0 where

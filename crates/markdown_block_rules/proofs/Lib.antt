@@ -1,0 +1,4 @@
+mod BlockBeginningsLemmas
+mod BlockLawsLemmas
+mod IndentedLinesLemmas
+mod QuotedLinesLemmas

@@ -1,0 +1,230 @@
+-- The blocks of a document, line by line. A tree of blocks takes one line more: the last block goes on in it, or a
+-- block begins, or the line is blank (CommonMark, chapters 4 and 5, and the appendix on parsing, phase 1). Nothing is
+-- known of the tree but the tree: the blocks that are open are those on its right edge.
+use Rattle.std.specs.Prelude.{ℕ, zero, suc, Bool, true, false, not, ◌==◌, ◌&&◌, ◌||◌, nat_lt, List, [], ◌∷◌}
+use Rattle.std.specs.Prelude.{◌++◌, Option, Some, None, length, unwrap_or, codes, if◌then◌else◌}
+use Rattle.std.specs.List.{fold}
+use Rattle.std.specs.Option.{option_map, option_or}
+use Rattle.markdown_base.specs.Forest.{Forest, nil, node}
+use Rattle.markdown_base.specs.EnabledOptions.{old_footnotes_on}
+use Rattle.markdown_lines.specs.declared.atx_heading.AtxHeading.{AtxHeading}
+use Rattle.markdown_lines.specs.declared.fence.Fence.{Fence}
+use Rattle.markdown_lines.specs.declared.fence.OpeningFence.{OpeningFence}
+use Rattle.markdown_lines.specs.declared.html_kind.HtmlKind.{HtmlKind}
+use Rattle.markdown_lines.specs.declared.list_marker.ListMarker.{ListMarker}
+use Rattle.markdown_base.specs.declared.tag.HeadingLevel.{HeadingLevel}
+use Rattle.markdown_scan.specs.Beginnings.{begins_with}
+use Rattle.markdown_lines.specs.BlockBeginnings as line
+use Rattle.markdown_lines.specs.BlockBeginnings.{Source, Before, Beginning, begins}
+use Rattle.markdown_lines.specs.CodeFences.{closes_fence}
+use Rattle.markdown_lines.specs.DefinitionRules.{divided}
+use Rattle.markdown_lines.specs.HtmlKinds.{ends_at_blank, ends_in}
+use Rattle.markdown_scan.specs.LineStart.{LineLeft, leading_space, past_marker}
+use Rattle.markdown_lines.specs.SourceLines.{SourceLine, cut, is_blank_rest, lines_of_text, past_white, stop_of}
+use Rattle.markdown_lines.specs.SourceLines.{text_line}
+
+-- what a block is; a blank line is kept where it is, since it may separate blocks
+pub data Kind : Type 0 where
+  blank_line : Kind
+  paragraph_leaf : List SourceLine → Kind
+  underlined_leaf : HeadingLevel → List SourceLine → Kind
+  heading_leaf : AtxHeading → Kind
+  break_leaf : Kind
+  indented_leaf : List SourceLine → Kind
+  -- whether it is closed
+  fenced_leaf : OpeningFence → Bool → List SourceLine → Kind
+  html_leaf : HtmlKind → Bool → List SourceLine → Kind
+  quote_container : Kind
+  list_container : ListMarker → Kind
+  item_container : ℕ → Kind
+  footnote_container : List ℕ → Kind
+
+-- a block: the byte offsets at which it begins, and at which its first and its last line end
+pub record Block : Type 0 where
+  pub start : ℕ
+  pub first : ℕ
+  pub last : ℕ
+  pub kind : Kind
+
+-- one forest and then another
+abbrev pub followed_by : {A : Type 0} → Forest A → Forest A → Forest A
+followed_by nil others = others
+followed_by (node a below after) others = node a below (followed_by after others)
+
+abbrev pub is_nil : {A : Type 0} → Forest A → Bool
+is_nil nil = true
+is_nil (node a below after) = false
+
+-- a block that begins with a line at a byte offset, with these blocks inside
+abbrev pub new_block : ℕ → SourceLine → Kind → Forest Block → Forest Block
+new_block start l kind below =
+    node (record { start = start; first = l.next; last = l.next; kind = kind }) below nil
+
+-- the byte offset of the first byte of a line that is not white space
+abbrev pub content_of : SourceLine → ℕ
+content_of l = (past_white l.left).scanned
+
+-- a line that is not blank ends an HTML block of this kind
+abbrev pub ends_html : HtmlKind → SourceLine → Bool
+ends_html kind l = ends_in kind l.left.bytes
+
+-- a list item, where `inside` are the blocks that begin with the rest of a line
+abbrev pub new_item : (LineLeft → Forest Block) → SourceLine → ℕ → LineLeft → Forest Block
+new_item inside l indent rest = new_block (content_of l) l (item_container indent) (inside rest)
+
+-- the block that a line begins
+abbrev pub new_blocks : (LineLeft → Forest Block) → SourceLine → Beginning → Forest Block
+new_blocks inside l (line.begins_indented rest) =
+    new_block rest.scanned l (indented_leaf (record l { left = rest } ∷ [])) nil
+new_blocks inside l (line.begins_quote rest) = new_block (content_of l) l quote_container (inside rest)
+new_blocks inside l (line.begins_heading found) = new_block (content_of l) l (heading_leaf found) nil
+new_blocks inside l (line.begins_fence opening) = new_block (content_of l) l (fenced_leaf opening false []) nil
+new_blocks inside l (line.begins_html kind) =
+    new_block (content_of l) l (html_leaf kind (ends_html kind l) (l ∷ [])) nil
+new_blocks inside l (line.begins_footnote label rest) =
+    new_block (content_of l) l (footnote_container label) (inside rest)
+new_blocks inside l line.begins_break = new_block (content_of l) l break_leaf nil
+new_blocks inside l (line.begins_item marker indent rest) =
+    new_block (content_of l) l (list_container marker) (new_item inside l indent rest)
+new_blocks inside l other = new_block (content_of l) l (paragraph_leaf (text_line l ∷ [])) nil
+
+-- the blocks that begin with the rest of a line: none where it is blank
+abbrev pub inside_of : (SourceLine → Forest Block) → SourceLine → LineLeft → Forest Block
+inside_of begun l rest =
+    if is_blank_rest (record l { left = rest }) then nil else begun (record l { left = rest })
+
+-- the blocks that begin with a line that is not blank, containers in containers at most `n` deep
+unfoldable pub begun_in : ℕ → Source → SourceLine → Forest Block
+begun_in zero s l = nil
+begun_in (suc n) s l = new_blocks (inside_of (begun_in n s) l) l (begins s line.no_paragraph l)
+
+-- the blocks that begin with a line that is not blank: each container takes at least one byte
+abbrev pub begun_by : Source → SourceLine → Forest Block
+begun_by s l = begun_in (suc (length l.left.bytes)) s l
+
+-- a line as a block: what begins with it, or a blank line
+abbrev pub line_block : Source → SourceLine → Forest Block
+line_block s l = if is_blank_rest l then new_block l.left.scanned l blank_line nil else begun_by s l
+
+-- a fence closes a code block, after at most three columns of space
+abbrev pub closes : Source → SourceLine → Fence → Bool
+closes s l opening =
+    let space = leading_space 4 l.left in
+    nat_lt space.columns 4 && closes_fence s.text space.after.scanned (stop_of l) opening
+
+-- a paragraph with one more line, where that begins nothing else: as text, or as the heading that its underline makes
+-- of it, unless it holds definitions only
+abbrev pub paragraph_with : Source → SourceLine → List SourceLine → Beginning → Option Kind
+paragraph_with s l lines line.begins_text = Some (paragraph_leaf (lines ++ text_line l ∷ []))
+paragraph_with s l lines (line.begins_underline level) =
+    if length (divided s.text lines).lines == 0 then None else Some (underlined_leaf level lines)
+paragraph_with s l lines other = None
+
+-- a leaf with one more line, where it goes on in it
+abbrev pub leaf_with : Source → SourceLine → Kind → Option Kind
+leaf_with s l (paragraph_leaf lines) =
+    if is_blank_rest l then None else paragraph_with s l lines (begins s line.reached l)
+leaf_with s l (indented_leaf lines) =
+    if is_blank_rest l || ((leading_space 4 l.left).columns == 4) then Some (indented_leaf (lines ++ cut 4 l ∷ []))
+    else None
+leaf_with s l (fenced_leaf opening closed lines) =
+    if closed then None
+    else if closes s l opening.fence then Some (fenced_leaf opening true lines)
+    else Some (fenced_leaf opening false (lines ++ cut opening.fence.indent l ∷ []))
+leaf_with s l (html_leaf kind closed lines) =
+    if closed || (is_blank_rest l && ends_at_blank kind) then None
+    else Some (html_leaf kind (ends_html kind l) (lines ++ l ∷ []))
+leaf_with s l other = None
+
+-- the rest of a line after what a container takes of it, where the container goes on in it
+abbrev pub past_quote : LineLeft → Option LineLeft
+past_quote left =
+    let space = leading_space 4 left in
+    if nat_lt space.columns 4 && begins_with (codes ">") space.after.bytes then Some (past_marker space.after)
+    else None
+
+abbrev pub past_indentation : ℕ → SourceLine → Option LineLeft
+past_indentation indent l =
+    let space = leading_space indent l.left in
+    if is_blank_rest l || (space.columns == indent) then Some space.after else None
+
+-- in the old style a footnote definition ends at a blank line, and has no prefix
+abbrev pub past_footnote : Source → SourceLine → Option LineLeft
+past_footnote s l =
+    if not (old_footnotes_on s.options) then past_indentation 4 l else if is_blank_rest l then None else Some l.left
+
+abbrev pub with_lazy_text : SourceLine → Block → Forest Block → Kind → Option (Forest Block)
+with_lazy_text l b below (paragraph_leaf lines) =
+    Some (node (record b { last = l.next; kind = paragraph_leaf (lines ++ text_line l ∷ []) }) below nil)
+with_lazy_text l b below other = None
+
+-- the last block's paragraph, at any depth, with a lazy continuation line (5.1); none where it does not end with one
+unfoldable pub with_lazy : SourceLine → Forest Block → Option (Forest Block)
+with_lazy l nil = None
+with_lazy l (node b below after) =
+    if is_nil after
+    then option_or (with_lazy_text l b below b.kind)
+    (option_map (λ f. node (record b { last = l.next }) f nil) (with_lazy l below))
+    else option_map (node b below) (with_lazy l after)
+
+abbrev pub is_text : Beginning → Bool
+is_text line.begins_text = true
+is_text other = false
+
+-- what is in a container, with a line that lacks the container's prefix
+abbrev pub lazily : Source → SourceLine → Forest Block → Option (Forest Block)
+lazily s l below =
+    if not (is_blank_rest l) && is_text (begins s line.lazy l) then with_lazy l below else None
+
+-- What is in a container, with one more line, from the rest of the line inside it; `inside` is what is in it where its
+-- last block goes on.
+abbrev pub with_rest : Source → SourceLine → Forest Block → (SourceLine → Option (Forest Block)) → Option LineLeft
+    → Option (Forest Block)
+with_rest s l below inside None = lazily s l below
+with_rest s l below inside (Some rest) =
+    let rest_of_line = record l { left = rest } in
+    Some (unwrap_or (inside rest_of_line) (followed_by below (line_block s rest_of_line)))
+
+-- another item of a list, where a line begins one of its kind
+abbrev pub another_item : Source → SourceLine → ListMarker → Beginning → Option (Forest Block)
+another_item s l marker (line.begins_item found indent rest) =
+    if found.character == marker.character then Some (new_item (inside_of (begun_by s) l) l indent rest) else None
+another_item s l marker other = None
+
+-- the items of a list with a line in which the last item does not go on; a blank line is after an empty item
+abbrev pub next_item : Source → SourceLine → ListMarker → Option (Forest Block)
+next_item s l marker =
+    if is_blank_rest l then Some (line_block s l) else another_item s l marker (begins s line.lazy l)
+
+-- what is in a container, with one more line, where the container goes on in it
+abbrev pub container_with : Source → SourceLine → Forest Block → (SourceLine → Option (Forest Block)) → Kind
+    → Option (Forest Block)
+container_with s l below inside quote_container = with_rest s l below inside (past_quote l.left)
+container_with s l below inside (list_container marker) =
+    option_or (inside l) (option_map (followed_by below) (next_item s l marker))
+container_with s l below inside (item_container indent) =
+    if is_blank_rest l && is_nil below then None else with_rest s l below inside (past_indentation indent l)
+container_with s l below inside (footnote_container label) = with_rest s l below inside (past_footnote s l)
+container_with s l below inside other = None
+
+-- one block with one more line, where it goes on in it
+abbrev pub block_with : Source → SourceLine → Block → Forest Block → (SourceLine → Option (Forest Block))
+    → Option (Forest Block)
+block_with s l b below inside =
+    option_or (option_map (λ kind. node (record b { last = l.next; kind = kind }) below nil) (leaf_with s l b.kind))
+    (option_map (λ f. node (record b { last = l.next }) f nil) (container_with s l below inside b.kind))
+
+-- blocks with one more line, where the last of them goes on in it
+unfoldable pub goes_on : Source → Forest Block → SourceLine → Option (Forest Block)
+goes_on s nil l = None
+goes_on s (node b below after) l =
+    if is_nil after then block_with s l b below (goes_on s below)
+    else option_map (node b below) (goes_on s after l)
+
+-- blocks with one more line
+abbrev pub with_line : Source → Forest Block → SourceLine → Forest Block
+with_line s blocks l = unwrap_or (goes_on s blocks l) (followed_by blocks (line_block s l))
+
+-- the blocks of a text
+abbrev pub blocks_of : Source → Forest Block
+blocks_of s = fold (with_line s) nil (lines_of_text s.text)

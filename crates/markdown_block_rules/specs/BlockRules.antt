@@ -1,0 +1,179 @@
+-- The block structure of a text: the tree of its blocks with their ranges and with the open items of their lines, its
+-- link reference definitions, and its footnotes. All of it is read off the blocks that the lines made.
+use Rattle.std.specs.Prelude.{ℕ, Bool, true, false, not, ◌||◌, ◌&&◌, List, [], ◌∷◌, ◌++◌, Option, Some, None}
+use Rattle.std.specs.Prelude.{slice_range, if◌then◌else◌}
+use Rattle.markdown_base.specs.Forest.{Forest, nil, node}
+use Rattle.markdown_lines.specs.declared.fence.OpeningFence.{OpeningFence}
+use Rattle.markdown_base.specs.declared.item.ItemBody.{ItemBody}
+use Rattle.markdown_base.specs.declared.item.ItemBody.TheVariants as body
+use Rattle.markdown_lines.specs.BlockBeginnings.{Source}
+use Rattle.markdown_block_rules.specs.BlockGrowth as was
+use Rattle.markdown_block_rules.specs.BlockGrowth.{Block, Kind, blocks_of, followed_by}
+use Rattle.markdown_lines.specs.DefinitionRules.{Definition, divided}
+use Rattle.markdown_block_rules.specs.LineContents.{Shown, content_items, lines_items, source_lines}
+use Rattle.markdown_items.specs.LineItems.{extensions_of}
+use Rattle.markdown_lines.specs.SourceLines.{SourceLine, is_blank_rest}
+use Rattle.markdown_scan.specs.Unescape.{unescaped}
+
+-- a line before others, unless it is blank and there are no others
+abbrev pub before_code : SourceLine → List SourceLine → List SourceLine
+before_code l [] = if is_blank_rest l then [] else l ∷ []
+before_code l (m ∷ lines) = l ∷ m ∷ lines
+
+-- the lines of indented code without blank lines at its end
+abbrev pub code_lines : List SourceLine → List SourceLine
+code_lines [] = []
+code_lines (l ∷ lines) = before_code l (code_lines lines)
+
+-- the last of some lines is blank
+abbrev pub last_is_blank : List SourceLine → Bool
+last_is_blank [] = false
+last_is_blank (l ∷ []) = is_blank_rest l
+last_is_blank (l ∷ m ∷ lines) = last_is_blank (m ∷ lines)
+
+-- the end of the last of some lines
+abbrev pub lines_end : ℕ → List SourceLine → ℕ
+lines_end before [] = before
+lines_end before (l ∷ lines) = lines_end l.next lines
+
+abbrev pub is_blank_block : Kind → Bool
+is_blank_block was.blank_line = true
+is_blank_block other = false
+
+-- where a block ends, from where the last block in it does: with its last line, or with the last block in it
+abbrev pub block_end : Block → ℕ → Kind → ℕ
+block_end b inside (was.list_container marker) = inside
+block_end b inside (was.item_container indent) = inside
+block_end b inside (was.footnote_container label) = inside
+block_end b inside (was.indented_leaf lines) = lines_end b.first (code_lines lines)
+block_end b inside other = b.last
+
+-- where the last of some blocks ends, or the number before them
+abbrev pub last_end : ℕ → Forest Block → ℕ
+last_end before nil = before
+last_end before (node b below after) =
+    last_end (if is_blank_block b.kind then before else block_end b (last_end b.first below) b.kind) after
+
+-- a block ends with a blank line, from whether the last block in it does; what follows it is separated from it then
+abbrev pub block_ends_blank : Bool → Kind → Bool
+block_ends_blank inside was.blank_line = true
+block_ends_blank inside (was.indented_leaf lines) = last_is_blank lines
+block_ends_blank inside (was.list_container marker) = inside
+block_ends_blank inside (was.item_container indent) = inside
+block_ends_blank inside (was.footnote_container label) = inside
+block_ends_blank inside other = false
+
+-- the last of some blocks ends with a blank line
+abbrev pub ends_blank : Bool → Forest Block → Bool
+ends_blank before nil = before
+ends_blank before (node b below after) = ends_blank (block_ends_blank (ends_blank false below) b.kind) after
+
+-- there is a block among them, and not only blank lines
+abbrev pub holds_block : Forest Block → Bool
+holds_block nil = false
+holds_block (node b below after) = not (is_blank_block b.kind) || holds_block after
+
+-- two of these blocks have a blank line between them
+abbrev pub are_separated : Forest Block → Bool
+are_separated nil = false
+are_separated (node b below after) =
+    (block_ends_blank (ends_blank false below) b.kind && holds_block after) || are_separated after
+
+-- an item directly contains two blocks with a blank line between them
+abbrev pub hold_separated : Forest Block → Bool
+hold_separated nil = false
+hold_separated (node b below after) = are_separated below || hold_separated after
+
+-- a list is loose (5.3)
+abbrev pub is_loose : Forest Block → Bool
+is_loose items = are_separated items || hold_separated items
+
+-- items beside each other, with nothing below them
+abbrev pub chain_of : List Shown → Forest Shown
+chain_of [] = nil
+chain_of (a ∷ items) = node a nil (chain_of items)
+
+-- a block of a body, and of the text that it refers to
+abbrev pub shown_over : ℕ → ℕ → ItemBody → Option (List ℕ) → Forest Shown → Forest Shown
+shown_over start end b text below =
+    node (record { item = record { start = start; end = end; body = b }; text = text }) below nil
+
+-- a paragraph, or the heading that it is, without the definitions at its beginning; nothing where there is nothing else
+abbrev pub shown_text : Source → Block → ItemBody → List SourceLine → Forest Shown
+shown_text s b leaf [] = nil
+shown_text s b leaf (l ∷ lines) =
+    shown_over l.left.scanned b.last leaf None (chain_of (lines_items s.text (extensions_of s.options) (l ∷ lines)))
+
+abbrev pub paragraph_body : Bool → ItemBody
+paragraph_body tight = if tight then body.TightParagraph else body.Paragraph
+
+-- an info string, with escapes and entities replaced (4.5)
+abbrev pub info_of : Source → OpeningFence → List ℕ
+info_of s opening = unescaped false (slice_range s.text opening.from opening.to)
+
+-- One block; `below` are the blocks in it, `inside` what they become where they are directly in an item of a tight list
+-- or not, `end` where it ends, and `tight` whether it is directly in such an item, or is one.
+abbrev pub shown_block : Source → Bool → Block → ℕ → Forest Block → (Bool → Forest Shown) → Kind → Forest Shown
+shown_block s tight b end below inside was.blank_line = nil
+shown_block s tight b end below inside (was.paragraph_leaf lines) =
+    shown_text s b (paragraph_body tight) (divided s.text lines).lines
+shown_block s tight b end below inside (was.underlined_leaf level lines) =
+    shown_text s b (body.Heading level None) (divided s.text lines).lines
+shown_block s tight b end below inside (was.heading_leaf found) =
+    shown_over b.start end (body.Heading found.level None) None
+    (chain_of (content_items s.text (extensions_of s.options) found.from found.to))
+shown_block s tight b end below inside was.break_leaf = shown_over b.start end body.Rule None nil
+shown_block s tight b end below inside (was.indented_leaf lines) =
+    shown_over b.start end body.IndentCodeBlock None (chain_of (source_lines (body.Text false) (code_lines lines)))
+shown_block s tight b end below inside (was.fenced_leaf opening closed lines) =
+    shown_over b.start end (body.FencedCodeBlock (record { 0 = 0 })) (Some (info_of s opening))
+    (chain_of (source_lines (body.Text false) lines))
+shown_block s tight b end below inside (was.html_leaf kind closed lines) =
+    shown_over b.start end body.HtmlBlock None (chain_of (source_lines body.Html lines))
+shown_block s tight b end below inside was.quote_container = shown_over b.start end (body.BlockQuote None) None
+    (inside false)
+shown_block s tight b end below inside (was.list_container marker) =
+    shown_over b.start end (body.List (not (is_loose below)) marker.character marker.first) None
+    (inside (not (is_loose below)))
+shown_block s tight b end below inside (was.item_container indent) =
+    shown_over b.start end (body.ListItem indent) None (inside tight)
+shown_block s tight b end below inside (was.footnote_container label) =
+    shown_over b.start end (body.FootnoteDefinition (record { 0 = 0 })) (Some label) (inside false)
+
+-- the items of some blocks, which may be directly in an item of a tight list
+unfoldable pub shown_blocks : Source → Bool → Forest Block → Forest Shown
+shown_blocks s tight nil = nil
+shown_blocks s tight (node b below after) =
+    followed_by (shown_block s tight b (block_end b (last_end b.first below) b.kind) below
+    (λ inside. shown_blocks s inside below) b.kind) (shown_blocks s tight after)
+
+-- the lines of a paragraph, or of a heading that one became
+abbrev pub paragraph_lines : Kind → List SourceLine
+paragraph_lines (was.paragraph_leaf lines) = lines
+paragraph_lines (was.underlined_leaf level lines) = lines
+paragraph_lines other = []
+
+-- the definitions of some blocks, in the order of the text
+unfoldable pub definitions_in : Source → Forest Block → List Definition
+definitions_in s nil = []
+definitions_in s (node b below after) =
+    (divided s.text (paragraph_lines b.kind)).definitions ++ (definitions_in s below ++ definitions_in s after)
+
+abbrev pub label_of : Kind → List (List ℕ)
+label_of (was.footnote_container label) = label ∷ []
+label_of other = []
+
+-- the labels of the footnote definitions among some blocks, in the order of the text
+unfoldable pub footnotes_in : Forest Block → List (List ℕ)
+footnotes_in nil = []
+footnotes_in (node b below after) = label_of b.kind ++ (footnotes_in below ++ footnotes_in after)
+
+-- the tree of a text's blocks
+abbrev pub block_tree : Source → Forest Shown
+block_tree s = shown_blocks s false (blocks_of s)
+
+abbrev pub block_definitions : Source → List Definition
+block_definitions s = definitions_in s (blocks_of s)
+
+abbrev pub block_footnotes : Source → List (List ℕ)
+block_footnotes s = footnotes_in (blocks_of s)

@@ -1,0 +1,60 @@
+-- Examples: a text, the tree of its blocks, and its link reference definitions.
+use Rattle.std.specs.Prelude.{◌≡◌, ℕ, ◌+◌, List, [], ◌∷◌, ◌++◌, Option, Some, map}
+use Rattle.markdown_base.specs.EnabledOptions.{no_options}
+use Rattle.markdown_base.specs.Forest.{Forest, nil, node}
+use Rattle.markdown_base.specs.declared.index.CowIndex.{CowIndex}
+use Rattle.markdown_base.specs.declared.item.ItemBody.{ItemBody}
+use Rattle.markdown_lines.specs.BlockBeginnings.{Source}
+use Rattle.markdown_lines.specs.DefinitionRules.{Definition}
+use Rattle.markdown_block_rules.specs.BlockRules.{block_definitions, block_tree}
+use Rattle.markdown_block_rules.specs.LineContents.{Shown, plain_item}
+
+-- a tree is written as its labels in preorder, each with its depth
+pub record Example : Type 0 where
+  pub text : List ℕ
+  pub tree : List (ℕ × Shown)
+  pub definitions : List Definition
+
+-- the labels of a forest that is this deep in a tree, in preorder, with their depths
+abbrev pub with_depths : {A : Type 0} → ℕ → Forest A → List (ℕ × A)
+with_depths depth nil = []
+with_depths depth (node a below after) = (depth, a) ∷ (with_depths (depth + 1) below ++ with_depths depth after)
+
+-- at a depth, a block or an item over a range; one that refers to a text
+abbrev pub at : (depth start end : ℕ) → ItemBody → ℕ × Shown
+at depth start end body = (depth, plain_item start end body)
+
+abbrev pub naming_at : (depth start end : ℕ) → (CowIndex → ItemBody) → List ℕ → ℕ × Shown
+naming_at depth start end body text = (
+  depth,
+  record {
+    item = record { start = start; end = end; body = body (record { 0 = 0 }) };
+    text = Some text;
+  },
+)
+
+-- a link reference definition over a range
+abbrev pub defined : (start end : ℕ) → (label destination : List ℕ) → Option (List ℕ) → Definition
+defined start end label destination title = record {
+  label = label;
+  destination = destination;
+  title = title;
+  start = start;
+  end = end;
+}
+
+abbrev pub example : List ℕ → List (ℕ × Shown) → List Definition → Example
+example text tree definitions = record { text = text; tree = tree; definitions = definitions }
+
+-- a text without extensions
+abbrev pub commonmark : List ℕ → Source
+commonmark text = record { text = text; options = no_options }
+
+-- a text with the tree and the definitions that it has
+abbrev pub blocks_as_defined : List ℕ → Example
+blocks_as_defined text =
+    example text (with_depths 0 (block_tree (commonmark text))) (block_definitions (commonmark text))
+
+-- the examples have the blocks that are written with them
+abbrev pub HaveTrees : List Example → Type 0
+HaveTrees examples = map (λ e. blocks_as_defined e.text) examples ≡ examples

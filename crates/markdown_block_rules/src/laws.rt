@@ -1,0 +1,60 @@
+//! Sentences of CommonMark about blocks, as laws of their definition: functions without code.
+ghost use Rattle.markdown_block_rules.specs.BlockLaws.{BlankLineEndsQuote, IndentationBeforeTextMayBeLeftOut};
+ghost use Rattle.markdown_block_rules.specs.BlockLaws.{IndentedLineGoesIntoItem, IndentedLinesMakeItem};
+ghost use Rattle.markdown_block_rules.specs.BlockLaws.{ItemMayBeginWithBlankLine, LineChangesTheLastBlock};
+ghost use Rattle.markdown_block_rules.specs.BlockLaws.{MarkedLineGoesIntoQuote};
+ghost use Rattle.markdown_block_rules.specs.BlockLaws.{MarkerBeforeTextMayBeLeftOut, OnlyParagraphsGoOnLazily};
+ghost use Rattle.markdown_block_rules.specs.BlockLaws.{QuotedLinesMakeQuote};
+
+/// States that lines that all begin with a block quote marker make one block quote, and in it the blocks that they make
+/// without the marker (5.1, basic case).
+pub fn quoted_lines_make_a_quote()
+    ensures { QuotedLinesMakeQuote }
+{}
+
+/// States that a line with the marker goes into a block quote: what is in it has one line more (5.1).
+pub fn a_marked_line_goes_into_the_quote()
+    ensures { MarkedLineGoesIntoQuote }
+{}
+
+/// States that the marker may be left out before paragraph continuation text (5.1, laziness).
+pub fn the_marker_before_text_may_be_left_out()
+    ensures { MarkerBeforeTextMayBeLeftOut }
+{}
+
+/// States that only a paragraph continues on a line that lacks the marker: a block quote that ends with no paragraph
+/// ends before it (5.1).
+pub fn only_paragraphs_go_on_lazily()
+    ensures { OnlyParagraphsGoOnLazily }
+{}
+
+/// States that a blank line ends a block quote (5.1, consecutiveness).
+pub fn a_blank_line_ends_a_quote()
+    ensures { BlankLineEndsQuote }
+{}
+
+/// States that a line that begins a list item, and lines with the indentation of its content, make a list of one item,
+/// and in it the blocks that they make without marker and indentation (5.2, rules 1 and 2).
+pub fn indented_lines_make_an_item()
+    ensures { IndentedLinesMakeItem }
+{}
+
+/// States the same for an item that begins with a blank line, followed by one that is not blank (5.2, rule 3).
+pub fn an_item_may_begin_with_a_blank_line()
+    ensures { ItemMayBeginWithBlankLine }
+{}
+
+/// States that a line with the indentation of the last item's content goes into that item (5.2).
+pub fn an_indented_line_goes_into_the_item()
+    ensures { IndentedLineGoesIntoItem }
+{}
+
+/// States that the indentation may be left out before paragraph continuation text (5.2, laziness).
+pub fn the_indentation_before_text_may_be_left_out()
+    ensures { IndentationBeforeTextMayBeLeftOut }
+{}
+
+/// States that one more line changes the last block alone: the blocks before it stay.
+pub fn a_line_changes_the_last_block_alone()
+    ensures { LineChangesTheLastBlock }
+{}
