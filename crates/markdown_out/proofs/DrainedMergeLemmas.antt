@@ -6,9 +6,8 @@ use Rattle.std.specs.Option.{option_map}
 use Rattle.std.specs.Iterator.{Count, Yields}
 use Rattle.std.proofs.lemmas.List.{map-append}
 use Rattle.markdown_base.specs.declared.fault.Fault.{Fault}
-use Rattle.markdown_base.specs.declared.fault.Fault.TheVariants.{Memory}
 use Rattle.markdown_out.specs.Merge.{Item, merged, merge_answers}
-use Rattle.markdown_out.specs.MergeNext.{Gave, MergeState, PassesOn}
+use Rattle.markdown_out.specs.MergeNext.{Gave, MergeState, PassesOn, Refuses}
 use Rattle.markdown_out.specs.OutLaws.{StaysEnded, merge_steps, IsNewMerge, IsMergeOfAll, IsMergeSoFar, GivesTheMerge}
 use Rattle.markdown_out.proofs.MergeNextLemmas.{gave-append, gave-more}
 
@@ -205,20 +204,20 @@ module _ {M S T P : Type 0} (through : P → P → P) (view : Result T Fault →
   -- a merge that is over stays so
   over-stays : (m t : M) (r : Option (Result T Fault)) → (state m).over ≡ true → calls m r t → (state t).over ≡ true
   over-stays m t r o c = (subst (λ b. MatchBool b ((r ≡ None) × ((state t).over ≡ true))
-      (PassesOn through view steps (state m) r (state t) ⊎ ((r ≡ Some (Err Memory)) × ((state t).over ≡ true))))
+      (PassesOn through view steps (state m) r (state t) ⊎ Refuses steps (state m) r (state t)))
       o c.gives).1
 
   -- where it is not over after a call, the call passed on
   passes : (m t : M) (r : Option (Result T Fault)) → (state m).over ≡ false → (state t).over ≡ false → calls m r t
       → PassesOn through view steps (state m) r (state t)
   passes m t r o n c = by_kind (subst (λ b. MatchBool b ((r ≡ None) × ((state t).over ≡ true))
-      (PassesOn through view steps (state m) r (state t) ⊎ ((r ≡ Some (Err Memory)) × ((state t).over ≡ true))))
+      (PassesOn through view steps (state m) r (state t) ⊎ Refuses steps (state m) r (state t)))
       o c.gives)
     where
       both : (state t).over ≡ true → ⊥
       both e = cc
 
-      by_kind : PassesOn through view steps (state m) r (state t) ⊎ ((r ≡ Some (Err Memory)) × ((state t).over ≡ true))
+      by_kind : PassesOn through view steps (state m) r (state t) ⊎ Refuses steps (state m) r (state t)
           → PassesOn through view steps (state m) r (state t)
       by_kind (inl p) = p
       by_kind (inr q) = absurd (both q.1)

@@ -1,6 +1,7 @@
 -- Calls of an iterator one after another, and what a merge makes of their answers.
-use Rattle.std.proofs.Common.{◌≡◌, ◌+◌, ◌≤◌, List, [], ◌∷◌, ◌++◌, map, Result, Option, Some, None, refl, sym, ap, subst}
-use Rattle.std.proofs.Common.{◌∙◌, append_assoc}
+use Rattle.std.proofs.Common.{◌≡◌, ◌+◌, ◌≤◌, List, [], ◌∷◌, ◌++◌, map, Ok, Err, Result, Option, Some, None, refl, sym}
+use Rattle.std.proofs.Common.{ap, subst, ◌∙◌, append_assoc}
+use Rattle.std.specs.Prelude.{IfErr}
 use Rattle.std.proofs.Common.{arith}
 use Rattle.std.specs.Option.{option_map}
 use Rattle.std.proofs.lemmas.List.{map-append}
@@ -8,12 +9,17 @@ use Rattle.std.specs.Iterator.{Count, size, MakesProgress}
 use Rattle.markdown_base.specs.declared.event.Event.{Event}
 use Rattle.markdown_base.specs.declared.fault.Fault.{Fault}
 use Rattle.markdown_out.specs.Merge.{Item, merge_answers}
-use Rattle.markdown_out.specs.MergeNext.{Gave, CanMerge}
+use Rattle.markdown_out.specs.MergeNext.{Gave, CanMerge, ReadsItem}
 use Rattle.markdown_out.specs.AdvanceSteps.{IsMerged}
 use Rattle.markdown_out.specs.HeldItems.{placed_view, held_items}
 use Rattle.markdown_out.specs.TakenAnswers.{held_count, answer_count, given_answers, TakesIn}
 use Rattle.markdown_out.specs.declared.merge.held.Held.{Held}
 use Rattle.markdown_out.specs.declared.merge.held.Step.{Step}
+
+-- what holds in any case holds at an error
+pub on_error : {X E P : Type 0} (r : Result X E) → P → IfErr r (λ e. P)
+on_error (Ok x) h = tt
+on_error (Err e) h = h
 
 module _ {S A : Type 0} (steps : S → Option A → S → Type 0) where
   -- calls after calls
@@ -26,6 +32,12 @@ module _ {S A : Type 0} (steps : S → Option A → S → Type 0) where
   pub gave-more : (s t u : S) (xs : List (Option A)) (r : Option A) → Gave steps s xs t → steps t r u
       → Gave steps s (xs ++ r ∷ []) u
   gave-more s t u xs r a p = gave-append s t u xs (r ∷ []) a (u, p, refl)
+
+  -- one more call, which returned an item
+  pub reads-item : (s t u : S) (xs : List (Option A)) (r : Option A) → Gave steps s xs t → steps t r u
+      → 1 ≤ answer_count r → ReadsItem steps s u
+  reads-item s t u xs None a p some = absurd (omega (arith, some))
+  reads-item s t u xs (Some x) a p some = record { before = xs; last = x; read = gave-more s t u xs (Some x) a p }
 
   module _ {can : S → Type 0} {rest : S → Count} where
     -- after a call an iterator can be merged still

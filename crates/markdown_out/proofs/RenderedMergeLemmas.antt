@@ -16,7 +16,7 @@ use Rattle.markdown_out.specs.HtmlCorrect.{items, GoesTooDeep, IsRendered, Stops
 use Rattle.markdown_out.specs.Merge.{Item, PlacedText, text_item, text_of_item, Run, alone, texts, before_runs, runs}
 use Rattle.markdown_out.specs.Merge.{last_text}
 use Rattle.markdown_out.specs.Merge.{unless_empty, run_items, merged}
-use Rattle.markdown_out.specs.MergeNext.{MergeState, PassesOn, item_view}
+use Rattle.markdown_out.specs.MergeNext.{MergeState, PassesOn, Refuses, item_view}
 use Rattle.markdown_out.specs.EventRanges.{bare, nowhere}
 use Rattle.markdown_out.specs.OutLaws.{event_item, item_events, merged_events, StaysEnded, merge_steps, IsNewMerge}
 use Rattle.markdown_out.specs.OutLaws.{GoesTooDeepMerged, IsRenderedMerged, StopsAtErrorMerged, IsRefusedMerged}
@@ -333,9 +333,9 @@ module _ {S M : Type 0} (steps : S → Option Raw → S → Type 0) (can : S →
 
   -- a merge that is not over passes on, or is refused memory
   pub passes_or_refused : (m t : M) (r : Option Raw) → (state m).over ≡ false → calls m r t
-      → Passes m r t ⊎ ((r ≡ Some (Err Memory)) × ((state t).over ≡ true))
+      → Passes m r t ⊎ Refuses steps (state m) r (state t)
   passes_or_refused m t r o c = subst (λ b. MatchBool b ((r ≡ None) × ((state t).over ≡ true))
-      (Passes m r t ⊎ ((r ≡ Some (Err Memory)) × ((state t).over ≡ true)))) o c.gives
+      (Passes m r t ⊎ Refuses steps (state m) r (state t))) o c.gives
 
   ok-goes-on : (m t : M) (e : Event) → (state m).over ≡ false → calls m (Some (Ok e)) t → (state t).over ≡ false
   ok-goes-on m t e o c = by (passes_or_refused m t (Some (Ok e)) o c)
@@ -343,7 +343,7 @@ module _ {S M : Type 0} (steps : S → Option Raw → S → Type 0) (can : S →
       no_refusal : (e : Event) → Some (Ok e) ≡ Some (Err Memory) → ⊥
       no_refusal e h = cc
 
-      by : Passes m (Some (Ok e)) t ⊎ ((Some (Ok e) ≡ Some (Err Memory)) × ((state t).over ≡ true)) → (state t).over
+      by : Passes m (Some (Ok e)) t ⊎ Refuses steps (state m) (Some (Ok e)) (state t) → (state t).over
           ≡ false
       by (inl p) = p.goes_on
       by (inr q) = absurd (no_refusal e q.0)
@@ -354,7 +354,7 @@ module _ {S M : Type 0} (steps : S → Option Raw → S → Type 0) (can : S →
       no_refusal : no_answer ≡ Some (error Memory) → ⊥
       no_refusal h = cc
 
-      by : Passes m None t ⊎ ((no_answer ≡ Some (error Memory)) × ((state t).over ≡ true)) → (state t).over ≡ false
+      by : Passes m None t ⊎ Refuses steps (state m) None (state t) → (state t).over ≡ false
       by (inl p) = p.goes_on
       by (inr q) = absurd (no_refusal q.0)
 
@@ -402,8 +402,7 @@ module _ {S M : Type 0} (steps : S → Option Raw → S → Type 0) (can : S →
         same-fault : Some (error fault) ≡ Some (error Memory) → fault ≡ Memory
         same-fault h = cc
 
-        by : Passes f.mid (Some (Err fault)) f.rest.0 ⊎ ((Some (error fault) ≡ Some (error Memory))
-            × ((state f.rest.0).over ≡ true))
+        by : Passes f.mid (Some (Err fault)) f.rest.0 ⊎ Refuses steps (state f.mid) (Some (Err fault)) (state f.rest.0)
             → StopsAtErrorMerged steps (state m).iter old new fault ⊎
             ((fault ≡ Memory) × IsRefusedMerged steps (state m).iter old new)
         by (inl p) =

@@ -21,6 +21,12 @@ module _ {S A : Type 0} (steps : S → Option A → S → Type 0) where
   Gave s [] t = s ≡ t
   Gave s (r ∷ answers) t = (j : S) × steps s r j × Gave j answers t
 
+  -- calls lead from state s to state t, and the last of them returned an item
+  pub record ReadsItem (s t : S) : Type 0 where
+    pub before : List (Option A)
+    pub last : A
+    pub read : Gave s (before ++ Some last ∷ []) t
+
   -- The iterator may be called, and ends. In every state that calls lead to, it may be called again
   -- after it returns None, and has no more items left than before.
   pub record CanMerge (can : S → Type 0) (rest : S → Count) (s : S) : Type 0 where
@@ -56,6 +62,11 @@ module _ {S T P : Type 0} (through : P → P → P) (view : T → Item P) (steps
         ≡ option_map view r ∷ merge_answers through t.held later
     pub goes_on : t.over ≡ false
 
+-- a merge is refused memory when it has read an item: it returns this error, and is over
+abbrev pub Refuses : {S T P : Type 0} → (S → Option (Result T Fault) → S → Type 0)
+    → MergeState S P → Option (Result T Fault) → MergeState S P → Type 0
+Refuses steps s r t = (r ≡ Some (Err Memory)) × (t.over ≡ true) × ReadsItem steps s.iter t.iter
+
 -- one call: the merge returns its next result, or an allocation is refused, which is an error item,
 -- followed only by None
 abbrev pub MergesNext : {S T P : Type 0} → (P → P → P) → (Result T Fault → Item P)
@@ -63,7 +74,7 @@ abbrev pub MergesNext : {S T P : Type 0} → (P → P → P) → (Result T Fault
     → MergeState S P → Option (Result T Fault) → MergeState S P → Type 0
 MergesNext through view steps s r t = MatchBool s.over
     ((r ≡ None) × (t.over ≡ true))
-    (PassesOn through view steps s r t ⊎ ((r ≡ Some (Err Memory)) × (t.over ≡ true)))
+    (PassesOn through view steps s r t ⊎ Refuses steps s r t)
 
 -- a call of `next`: it returns this, the merge may be called again, after None too, and it has no more
 -- items left than before

@@ -2,7 +2,7 @@
 ghost use Rattle.std.specs.Prelude.{◌≡◌, ◌+◌, ◌≤◌, ◌∷◌, [], IfOk, IfErr};
 ghost use Rattle.std.specs.Option.{option_map};
 ghost use Rattle.std.specs.Iterator.{size};
-ghost use Rattle.markdown_out.specs.MergeNext.{CanMerge, MergesNext, item_view, left_count};
+ghost use Rattle.markdown_out.specs.MergeNext.{CanMerge, MergesNext, ReadsItem, item_view, left_count};
 ghost use Rattle.markdown_out.specs.HeldItems.{placed_view, held_items};
 ghost use Rattle.markdown_out.specs.TakenAnswers.{answer_count, held_count};
 ghost use Rattle.markdown_out.specs.AdvanceSteps.{IsMerged};
@@ -63,6 +63,7 @@ fn advance<'a, T: MergeItem<'a>, I: Iterator<Item = Result<T, Fault>>>(
     ensures less { IfOk result (λ p. answer_count p.0 + held_count p.1 + size (I.remaining iter.new)
         ≤ held_count held.entry + size (I.remaining iter.old)) }
     ensures some { IfErr result (λ _. 1 ≤ held_count held.entry + size (I.remaining iter.old)) }
+    ensures stops { IfErr result (λ _. ReadsItem I.next_gives iter.old iter.new) }
 {
     let mut held = held;
     'reading: loop {

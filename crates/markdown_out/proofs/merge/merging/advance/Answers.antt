@@ -5,7 +5,7 @@ use Rattle.markdown_out.specs.MergeNext.{item_view}
 use Rattle.markdown_out.specs.HeldItems.{held_items}
 use Rattle.markdown_out.specs.TakenAnswers.{again_count, given_answers, given_count, held_count}
 use Rattle.markdown_out.specs.AdvanceSteps.{IsMerged}
-use Rattle.markdown_out.proofs.MergeNextLemmas.{merged-more, can_merge-after, fewer-after}
+use Rattle.markdown_out.proofs.MergeNextLemmas.{merged-more, can_merge-after, fewer-after, on_error, reads-item}
 use Rattle.markdown_out.proofs.merge.merging.advance.Goals as goal
 
 pub returns-in-Give-clause-passes : goal.returns-in-Give-clause-passes
@@ -86,3 +86,11 @@ returns-in-Give-clause-less g c =
       c.reading.invariant.fewer,
       fewer-after steps c.next.result c.reading.invariant.can_merge c.next.ensures.steps c.next.ensures.goes,
     )
+
+pub returns-in_err-step-clause-stops : goal.returns-in_err-step-clause-stops
+returns-in_err-step-clause-stops g c =
+    on_error c.from_residual.result
+    (reads-item g.I.Iterator.next_gives c.args.iter.now c.reading.iter c.next.new.self
+    c.reading.invariant.merged.answers
+    c.next.result c.reading.invariant.merged.read c.next.ensures.steps
+    (omega (arith, c.parted-answer.ensures.count, c.in_err-step.ensures.refused)))
