@@ -7,6 +7,7 @@ pub mod LabelWholeLemmas
 pub mod LineStartLemmas
 pub mod LineSpaceLemmas
 pub mod BeginsWithLemmas
+pub mod EmailLemmas
 pub mod EntityLemmas
 pub mod UnescapeLemmas
 pub mod ScanLawsLemmas

@@ -8,6 +8,7 @@ pub mod LineStart
 pub mod PastSpace
 pub mod LineView
 pub mod Autolink
+pub mod EmailAutolink
 pub mod Destination
 pub mod Label
 pub mod WikilinkPipe

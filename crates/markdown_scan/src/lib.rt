@@ -5,6 +5,7 @@ pub mod ascii_kinds;
 pub mod autolink;
 mod backslash;
 pub mod destination;
+pub mod email;
 pub mod entity;
 pub mod label;
 mod label_end;

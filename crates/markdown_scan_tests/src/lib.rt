@@ -6,6 +6,8 @@ mod autolink;
 #[cfg(test)]
 mod destination;
 #[cfg(test)]
+mod email;
+#[cfg(test)]
 mod entity;
 #[cfg(test)]
 mod html_tag;
@@ -13,6 +15,8 @@ mod html_tag;
 mod label;
 #[cfg(test)]
 mod line_start;
+#[cfg(test)]
+mod named_entity;
 #[cfg(test)]
 mod raw_html;
 #[cfg(test)]
