@@ -5,7 +5,7 @@
 pub mod command;
 pub mod laws;
 pub mod merged;
-mod pushed;
+pub mod pushed;
 pub mod rendering;
 pub mod run;
 pub mod words;

@@ -1,0 +1,522 @@
+-- What safe events write outside images is safe, with what its tags do: tag by tag.
+use Rattle.std.proofs.Common.{◌≡◌, ◌++◌, ◌==◌, ◌+◌, ℕ, zero, suc, Bool, true, false, not, List, [], ◌∷◌, map}
+use Rattle.std.proofs.Common.{refl, sym, ap, ◌∙◌, append_assoc, append-nil, codes, Option, Some, None}
+use Rattle.std.proofs.Common.{if◌then◌else◌, take, arith}
+use Rattle.std.specs.List.{flat_map, list_all, prefix_len, position_or_len}
+use Rattle.std.specs.Char.{is_ascii_whitespace}
+use Rattle.std.specs.Fmt.{decimal}
+use Rattle.std.proofs.lemmas.Bool.{and_parts}
+use Rattle.markdown_base.specs.Bytes.{space}
+use Rattle.markdown_base.specs.Event as event
+use Rattle.markdown_base.specs.Event.{EventView, TagView, start, end, text, code, inline_math, display_math, html}
+use Rattle.markdown_base.specs.Event.{inline_html, footnote_reference, soft_break, hard_break, rule, task_list_marker}
+use Rattle.markdown_base.specs.declared.tag.Alignment.{Alignment}
+use Rattle.markdown_base.specs.declared.tag.Alignment.TheVariants as align
+use Rattle.markdown_base.specs.declared.tag.BlockQuoteKind.{BlockQuoteKind}
+use Rattle.markdown_base.specs.declared.tag.BlockQuoteKind.TheVariants as quote
+use Rattle.markdown_base.specs.declared.tag.HeadingLevel.{HeadingLevel}
+use Rattle.markdown_base.specs.declared.tag.HeadingLevel.TheVariants as level
+use Rattle.markdown_base.specs.declared.tag.LinkType.{LinkType}
+use Rattle.markdown_base.specs.declared.tag.LinkType.TheVariants as kinds
+use Rattle.markdown_base.specs.declared.tag.TagEnd.{TagEnd}
+use Rattle.markdown_base.specs.declared.tag.TagEnd.TheVariants as tag_ends
+use Rattle.markdown_out.specs.ByteLists.{joined}
+use Rattle.markdown_out.specs.Escapes.{text_escaped, attribute_escaped, destination_escaped}
+use Rattle.markdown_out.specs.EventHtml.{outside_parts}
+use Rattle.markdown_out.specs.LookBacks.{Past, place}
+use Rattle.markdown_out.specs.TagHtml.{new_line, heading_parts, quote_class, code_block_parts, cell_style, link_scheme}
+use Rattle.markdown_out.specs.TagHtml.{link_parts, start_parts, end_parts, language}
+use Rattle.markdown_out.specs.TagHtml.{level_digit}
+use Rattle.markdown_out.specs.TagHtml.{numbered_list_parts}
+use Rattle.markdown_safe.specs.SafeUrl.{is_safe_url}
+use Rattle.markdown_safe.specs.SafeHtml.{by_itself, character_bytes, Attribute, HtmlPiece, character}
+use Rattle.markdown_safe.specs.SafeHtml.{start_tag, end_tag, bytes_of_piece, is_safe_piece}
+use Rattle.markdown_safe.specs.SafeHtml.{is_safe_class, tag_bytes, void_tag}
+use Rattle.markdown_safe.specs.SafeEvents.{safe_destination, safe_name, safe_info, safe_tag, safe_event}
+use Rattle.markdown_safe.proofs.SafeHtmlLemmas.{of_pieces, both, text_safe, attribute_safe, IsValue, value-append}
+use Rattle.markdown_safe.proofs.SafeHtmlLemmas.{value-empty, value-escaped, value-plain, digits_plain, decimal_digits}
+use Rattle.markdown_safe.proofs.SafeHtmlLemmas.{plain_safe, destination-escaped, destination-safe, Turn, opens, closes}
+use Rattle.markdown_safe.proofs.SafeHtmlLemmas.{turns_of, IsMarkup}
+
+-- the elements of a heading and of a cell
+abbrev pub level_name : HeadingLevel → List ℕ
+level_name level.H1 = codes "h1"
+level_name level.H2 = codes "h2"
+level_name level.H3 = codes "h3"
+level_name level.H4 = codes "h4"
+level_name level.H5 = codes "h5"
+level_name level.H6 = codes "h6"
+
+abbrev pub cell_name : Bool → List ℕ
+cell_name head = if head then codes "th" else codes "td"
+
+-- what the tags do that a Start writes
+abbrev pub start_turns : (in_head : Bool) → TagView → List Turn
+start_turns head event.paragraph = opens (codes "p") ∷ []
+start_turns head (event.heading h) = opens (level_name h.level) ∷ []
+start_turns head (event.block_quote kind) = opens (codes "blockquote") ∷ []
+start_turns head event.indented_code = opens (codes "pre") ∷ opens (codes "code") ∷ []
+start_turns head (event.fenced_code info) = opens (codes "pre") ∷ opens (codes "code") ∷ []
+start_turns head event.html_block = []
+start_turns head (event.list None) = opens (codes "ul") ∷ []
+start_turns head (event.list (Some first)) = opens (codes "ol") ∷ []
+start_turns head event.list_item = opens (codes "li") ∷ []
+start_turns head (event.footnote_definition name) =
+    opens (codes "div") ∷ opens (codes "sup") ∷ closes (codes "sup") ∷ []
+start_turns head event.definition_list = opens (codes "dl") ∷ []
+start_turns head event.definition_list_title = opens (codes "dt") ∷ []
+start_turns head event.definition_list_definition = opens (codes "dd") ∷ []
+start_turns head (event.table alignments) = opens (codes "table") ∷ []
+start_turns head event.table_head = opens (codes "thead") ∷ opens (codes "tr") ∷ []
+start_turns head event.table_row = opens (codes "tr") ∷ []
+start_turns head event.table_cell = opens (cell_name head) ∷ []
+start_turns head event.emphasis = opens (codes "em") ∷ []
+start_turns head event.strong = opens (codes "strong") ∷ []
+start_turns head event.strikethrough = opens (codes "del") ∷ []
+start_turns head event.superscript = opens (codes "sup") ∷ []
+start_turns head event.subscript = opens (codes "sub") ∷ []
+start_turns head (event.link l) = opens (codes "a") ∷ []
+start_turns head (event.image i) = []
+start_turns head (event.metadata_block kind) = []
+
+-- what the tags do that an End writes
+abbrev pub end_turns : (in_head : Bool) → TagEnd → List Turn
+end_turns head tag_ends.Paragraph = closes (codes "p") ∷ []
+end_turns head (tag_ends.Heading l) = closes (level_name l) ∷ []
+end_turns head (tag_ends.BlockQuote kind) = closes (codes "blockquote") ∷ []
+end_turns head tag_ends.CodeBlock = closes (codes "code") ∷ closes (codes "pre") ∷ []
+end_turns head tag_ends.HtmlBlock = []
+end_turns head (tag_ends.List true) = closes (codes "ol") ∷ []
+end_turns head (tag_ends.List false) = closes (codes "ul") ∷ []
+end_turns head tag_ends.Item = closes (codes "li") ∷ []
+end_turns head tag_ends.FootnoteDefinition = closes (codes "div") ∷ []
+end_turns head tag_ends.DefinitionList = closes (codes "dl") ∷ []
+end_turns head tag_ends.DefinitionListTitle = closes (codes "dt") ∷ []
+end_turns head tag_ends.DefinitionListDefinition = closes (codes "dd") ∷ []
+end_turns head tag_ends.Table = closes (codes "tbody") ∷ closes (codes "table") ∷ []
+end_turns head tag_ends.TableHead = closes (codes "tr") ∷ closes (codes "thead") ∷ opens (codes "tbody") ∷ []
+end_turns head tag_ends.TableRow = closes (codes "tr") ∷ []
+end_turns head tag_ends.TableCell = closes (cell_name head) ∷ []
+end_turns head tag_ends.Emphasis = closes (codes "em") ∷ []
+end_turns head tag_ends.Strong = closes (codes "strong") ∷ []
+end_turns head tag_ends.Strikethrough = closes (codes "del") ∷ []
+end_turns head tag_ends.Superscript = closes (codes "sup") ∷ []
+end_turns head tag_ends.Subscript = closes (codes "sub") ∷ []
+end_turns head tag_ends.Link = closes (codes "a") ∷ []
+end_turns head tag_ends.Image = []
+end_turns head (tag_ends.MetadataBlock kind) = []
+
+-- what the tags do that an event writes
+abbrev pub event_turns : (in_head : Bool) → EventView → List Turn
+event_turns head (start tag) = start_turns head tag
+event_turns head (end tag) = end_turns head tag
+event_turns head (code t) = opens (codes "code") ∷ closes (codes "code") ∷ []
+event_turns head (inline_math t) = opens (codes "span") ∷ closes (codes "span") ∷ []
+event_turns head (display_math t) = opens (codes "span") ∷ closes (codes "span") ∷ []
+event_turns head (footnote_reference name) =
+    opens (codes "sup") ∷ opens (codes "a") ∷ closes (codes "a") ∷ closes (codes "sup") ∷ []
+event_turns head e = []
+
+-- a tag without attributes, and the end of a line
+abbrev bare : List ℕ → HtmlPiece
+bare name = start_tag name []
+
+abbrev newline : HtmlPiece
+newline = character (by_itself 10)
+
+-- after a newline where the line is not fresh
+line : {ts : List Turn} (fresh : Bool) (bytes : List ℕ) → IsMarkup bytes ts → IsMarkup (new_line fresh ++ bytes) ts
+line true bytes safe = safe
+line false bytes safe = both (codes "\n") bytes (of_pieces (newline ∷ []) refl) safe
+
+-- three parts
+around : {ts us vs : List Turn} (a b c : List ℕ) → IsMarkup a ts → IsMarkup b us → IsMarkup c vs
+    → IsMarkup (a ++ (b ++ c)) (ts ++ (us ++ vs))
+around a b c x y z = both a (b ++ c) x (both b c y z)
+
+-- an attribute with a value
+abbrev with_value : {bytes read : List ℕ} → List ℕ → IsValue bytes read → Attribute
+with_value name v = record { name = name; value = v.value }
+
+-- a start tag with one attribute, and what follows it
+one : {ts : List Turn} (name first bytes read rest : List ℕ) (v : IsValue bytes read)
+    → is_safe_piece (start_tag name (with_value first v ∷ [])) ≡ true → IsMarkup rest ts
+    → IsMarkup (codes "<" ++ (name ++ (codes " " ++ (first ++ (codes "=\"" ++ (bytes ++ (codes "\">" ++ rest)))))))
+    (opens name ∷ ts)
+one name first bytes read rest v safe after = record {
+  pieces = start_tag name (with_value first v ∷ []) ∷ after.pieces;
+  are = rw (v.are, after.are) (simp append_assoc);
+  safe = rw (safe, after.safe) refl;
+  does = rw after.does refl;
+}
+
+-- an attribute, and what follows it
+attribute_then : (name value rest : List ℕ) → (codes " " ++ (name ++ (codes "=\"" ++ (value ++ codes "\"")))) ++ rest
+    ≡ codes " " ++ (name ++ (codes "=\"" ++ (value ++ (codes "\"" ++ rest))))
+attribute_then name value rest = ap (λ l. codes " " ++ l) (append_assoc name (codes "=\"" ++ (value ++ codes "\"")) rest
+    ∙ ap (λ l. name ++ (codes "=\"" ++ l)) (append_assoc value (codes "\"") rest))
+
+flat_two : (name a b ends rest : List ℕ)
+    → (name ++ ((a ++ (b ++ [])) ++ ends)) ++ rest ≡ name ++ (a ++ (b ++ (ends ++ rest)))
+flat_two name a b ends rest = simp (append_assoc, append-nil)
+
+flat_three : (name a b c ends rest : List ℕ)
+    → (name ++ ((a ++ (b ++ (c ++ []))) ++ ends)) ++ rest ≡ name ++ (a ++ (b ++ (c ++ (ends ++ rest))))
+flat_three name a b c ends rest = simp (append_assoc, append-nil)
+
+-- the bytes of an attribute
+abbrev quoted : List ℕ → List ℕ → List ℕ
+quoted name value = codes " " ++ (name ++ (codes "=\"" ++ (value ++ codes "\"")))
+
+-- and of an attribute before others
+abbrev quoted_then : List ℕ → List ℕ → List ℕ → List ℕ
+quoted_then name value rest = codes " " ++ (name ++ (codes "=\"" ++ (value ++ (codes "\"" ++ rest))))
+
+-- a tag with two attributes, and what follows it
+pub two : {ts : List Turn} (tag : List Attribute → HtmlPiece)
+    (name first second ends bytes read bytes' read' rest : List ℕ) (v : IsValue bytes read) (w : IsValue bytes' read')
+    → ((given : List Attribute) → bytes_of_piece (tag given) ≡ tag_bytes name given ends)
+    → is_safe_piece (tag (with_value first v ∷ with_value second w ∷ [])) ≡ true → IsMarkup rest ts
+    → IsMarkup (codes "<" ++ (name ++ (codes " " ++ (first ++ (codes "=\"" ++ (bytes ++ (codes "\"" ++ (codes " "
+    ++ (second ++ (codes "=\"" ++ (bytes' ++ (codes "\"" ++ (ends ++ rest)))))))))))))
+    (turns_of (tag (with_value first v ∷ with_value second w ∷ [])) ++ ts)
+two tag name first second ends bytes read bytes' read' rest v w writes safe after = record {
+  pieces = tag (with_value first v ∷ with_value second w ∷ []) ∷ after.pieces;
+  are =
+      let x = flat_map character_bytes v.value in
+      let y = flat_map character_bytes w.value in
+      let end = flat_map bytes_of_piece after.pieces in
+      rw (v.are, w.are, after.are) (ap (λ l. codes "<" ++ l)
+      (sym (flat_two name (quoted first x) (quoted second y) ends end
+      ∙ ap (λ l. name ++ l) (attribute_then first x (quoted second y ++ (ends ++ end))
+      ∙ ap (λ l. quoted_then first x l) (attribute_then second y (ends ++ end)))))
+      ∙ ap (λ l. l ++ end) (sym (writes (with_value first v ∷ with_value second w ∷ []))));
+  safe = rw (safe, after.safe) refl;
+  does = rw after.does refl;
+}
+
+-- a tag without an end tag, with three attributes
+pub three : (name first second third ends bytes read bytes' read' bytes'' read'' : List ℕ) (v : IsValue bytes read)
+    (w : IsValue bytes' read') (x : IsValue bytes'' read'')
+    → is_safe_piece (void_tag name (with_value first v ∷ with_value second w ∷ with_value third x ∷ []) ends) ≡ true
+    → IsMarkup (codes "<" ++ (name ++ (codes " " ++ (first ++ (codes "=\"" ++ (bytes ++ (codes "\"" ++ (codes " "
+    ++ (second ++ (codes "=\"" ++ (bytes' ++ (codes "\"" ++ (codes " " ++ (third ++ (codes "=\"" ++ (bytes''
+    ++ (codes "\"" ++ (ends ++ [])))))))))))))))))) []
+three name first second third ends bytes read bytes' read' bytes'' read'' v w x safe = record {
+  pieces = void_tag name (with_value first v ∷ with_value second w ∷ with_value third x ∷ []) ends ∷ [];
+  are =
+      let a = flat_map character_bytes v.value in
+      let b = flat_map character_bytes w.value in
+      let c = flat_map character_bytes x.value in
+      rw (v.are, w.are, x.are) (ap (λ l. codes "<" ++ l) (sym (flat_three name (quoted first a) (quoted second b)
+      (quoted third c) ends []
+      ∙ ap (λ l. name ++ l) (attribute_then first a (quoted second b ++ (quoted third c ++ (ends ++ [])))
+      ∙ ap (λ l. quoted_then first a l) (attribute_then second b (quoted third c ++ (ends ++ []))
+      ∙ ap (λ l. quoted_then second b l) (attribute_then third c (ends ++ [])))))));
+  safe = rw safe refl;
+  does = refl;
+}
+
+-- a value that is a safe URL
+pub record IsUrlValue (bytes : List ℕ) : Type 0 where
+  pub read : List ℕ
+  pub value : IsValue bytes read
+  pub url : is_safe_url read ≡ true
+
+pub url_value : (destination : List ℕ) → IsUrlValue (destination_escaped (safe_destination destination))
+url_value destination = by_test (is_safe_url destination) refl
+  where
+    by_test : (t : Bool) → is_safe_url destination ≡ t
+        → IsUrlValue (destination_escaped (if t then destination else []))
+    by_test true e = let d = destination-escaped destination in record {
+      read = d.read;
+      value = d.value;
+      url = destination-safe (destination_escaped destination) destination d e;
+    }
+    by_test false e = record { read = []; value = value-empty; url = refl }
+
+link_value : (kind : LinkType) (destination : List ℕ)
+    → IsUrlValue (link_scheme kind ++ destination_escaped (safe_destination destination))
+link_value kinds.Email destination =
+    let u = url_value destination in record {
+      read = codes "mailto:" ++ u.read;
+      value = value-append (codes "mailto:") (destination_escaped (safe_destination destination)) (codes "mailto:")
+          u.read
+          (value-plain (codes "mailto:") refl) u.value;
+      url = refl;
+    }
+link_value kind destination = url_value destination
+
+-- a link's Start
+link_safe : (kind : LinkType) (destination title : List ℕ)
+    → IsMarkup (joined (link_parts kind (safe_destination destination) title)) (opens (codes "a") ∷ [])
+link_safe kind destination [] =
+    let u = link_value kind destination in
+    rw (← append_assoc (link_scheme kind) (destination_escaped (safe_destination destination)) (codes "\">"))
+    (one (codes "a") (codes "href") _ u.read [] u.value (rw (u.value.safe, u.value.means, u.url) refl)
+    (of_pieces [] refl))
+link_safe kind destination (b ∷ title) =
+    let u = link_value kind destination in
+    let t = value-escaped (b ∷ title) in
+    rw (← append_assoc (link_scheme kind) (destination_escaped (safe_destination destination))
+    (codes "\" title=\"" ++ (attribute_escaped (b ∷ title) ++ codes "\">")))
+    (two (start_tag (codes "a")) (codes "a") (codes "href") (codes "title") (codes ">") _ u.read _ (b ∷ title) []
+    u.value t
+    (λ given. refl) (rw (u.value.safe, u.value.means, u.url, t.safe) refl) (of_pieces [] refl))
+
+-- a heading's Start
+heading_safe : (fresh : Bool) (l : HeadingLevel)
+    → IsMarkup (joined (heading_parts fresh (record { level = l; id = None; classes = []; attributes = [] })))
+    (opens (level_name l) ∷ [])
+heading_safe fresh level.H1 = line fresh (codes "<h1>") (of_pieces (bare (codes "h1") ∷ []) refl)
+heading_safe fresh level.H2 = line fresh (codes "<h2>") (of_pieces (bare (codes "h2") ∷ []) refl)
+heading_safe fresh level.H3 = line fresh (codes "<h3>") (of_pieces (bare (codes "h3") ∷ []) refl)
+heading_safe fresh level.H4 = line fresh (codes "<h4>") (of_pieces (bare (codes "h4") ∷ []) refl)
+heading_safe fresh level.H5 = line fresh (codes "<h5>") (of_pieces (bare (codes "h5") ∷ []) refl)
+heading_safe fresh level.H6 = line fresh (codes "<h6>") (of_pieces (bare (codes "h6") ∷ []) refl)
+
+heading_end_safe : (l : HeadingLevel)
+    → IsMarkup (joined (codes "</h" ∷ level_digit l ∷ codes ">\n" ∷ [])) (closes (level_name l) ∷ [])
+heading_end_safe level.H1 = of_pieces (end_tag (codes "h1") ∷ newline ∷ []) refl
+heading_end_safe level.H2 = of_pieces (end_tag (codes "h2") ∷ newline ∷ []) refl
+heading_end_safe level.H3 = of_pieces (end_tag (codes "h3") ∷ newline ∷ []) refl
+heading_end_safe level.H4 = of_pieces (end_tag (codes "h4") ∷ newline ∷ []) refl
+heading_end_safe level.H5 = of_pieces (end_tag (codes "h5") ∷ newline ∷ []) refl
+heading_end_safe level.H6 = of_pieces (end_tag (codes "h6") ∷ newline ∷ []) refl
+
+-- an attribute whose value the renderer writes by itself
+abbrev own : List ℕ → List ℕ → Attribute
+own name value = record { name = name; value = map by_itself value }
+
+-- a block quote's Start
+quote_piece : (class : List ℕ) → HtmlPiece
+quote_piece class = start_tag (codes "blockquote") (own (codes "class") class ∷ [])
+
+quote_safe : (kind : Option BlockQuoteKind)
+    → IsMarkup (codes "<blockquote" ++ (quote_class kind ++ codes ">\n")) (opens (codes "blockquote") ∷ [])
+unfolding quote_piece
+quote_safe None = of_pieces (bare (codes "blockquote") ∷ newline ∷ []) refl
+quote_safe (Some quote.Note) = of_pieces (quote_piece (codes "markdown-alert-note") ∷ newline ∷ []) refl
+quote_safe (Some quote.Tip) = of_pieces (quote_piece (codes "markdown-alert-tip") ∷ newline ∷ []) refl
+quote_safe (Some quote.Important) = of_pieces (quote_piece (codes "markdown-alert-important") ∷ newline ∷ []) refl
+quote_safe (Some quote.Warning) = of_pieces (quote_piece (codes "markdown-alert-warning") ∷ newline ∷ []) refl
+quote_safe (Some quote.Caution) = of_pieces (quote_piece (codes "markdown-alert-caution") ∷ newline ∷ []) refl
+
+-- a cell's Start
+cell_safe : (head : Bool) (alignment : Option Alignment)
+    → IsMarkup ((if head then codes "<th" else codes "<td") ++ cell_style alignment) (opens (cell_name head) ∷ [])
+cell_safe true None = of_pieces (bare (codes "th") ∷ []) refl
+cell_safe true (Some align.None) = of_pieces (bare (codes "th") ∷ []) refl
+cell_safe true (Some align.Left) =
+    of_pieces (start_tag (codes "th") (own (codes "style") (codes "text-align: left") ∷ []) ∷ []) refl
+cell_safe true (Some align.Center) =
+    of_pieces (start_tag (codes "th") (own (codes "style") (codes "text-align: center") ∷ []) ∷ []) refl
+cell_safe true (Some align.Right) =
+    of_pieces (start_tag (codes "th") (own (codes "style") (codes "text-align: right") ∷ []) ∷ []) refl
+cell_safe false None = of_pieces (bare (codes "td") ∷ []) refl
+cell_safe false (Some align.None) = of_pieces (bare (codes "td") ∷ []) refl
+cell_safe false (Some align.Left) =
+    of_pieces (start_tag (codes "td") (own (codes "style") (codes "text-align: left") ∷ []) ∷ []) refl
+cell_safe false (Some align.Center) =
+    of_pieces (start_tag (codes "td") (own (codes "style") (codes "text-align: center") ∷ []) ∷ []) refl
+cell_safe false (Some align.Right) =
+    of_pieces (start_tag (codes "td") (own (codes "style") (codes "text-align: right") ∷ []) ∷ []) refl
+
+cell_end_safe : (head : Bool) → IsMarkup (if head then codes "</th>" else codes "</td>") (closes (cell_name head) ∷ [])
+cell_end_safe true = of_pieces (end_tag (codes "th") ∷ []) refl
+cell_end_safe false = of_pieces (end_tag (codes "td") ∷ []) refl
+
+-- what stands before a byte that passes a test
+take_passes : (p : ℕ → Bool) (n : ℕ) (xs : List ℕ) → list_all p xs ≡ true → list_all p (take n xs) ≡ true
+take_passes p zero xs h = refl
+take_passes p (suc n) [] h = refl
+take_passes p (suc n) (x ∷ xs) h =
+    let parts = and_parts (p x) (list_all p xs) h in
+    rw (parts.0, take_passes p n xs parts.1) refl
+
+prefix_passes : (p : ℕ → Bool) (xs : List ℕ) → list_all p (take (prefix_len p xs) xs) ≡ true
+prefix_passes p [] = refl
+prefix_passes p (x ∷ xs) = by_test (prefix_passes p xs) (p x) refl
+  where
+    by_test : list_all p (take (prefix_len p xs) xs) ≡ true → (t : Bool) → p x ≡ t
+        → list_all p (take (if t then 1 + prefix_len p xs else 0) (x ∷ xs)) ≡ true
+    by_test others true e = let more : 1 + prefix_len p xs ≡ suc (prefix_len p xs) = omega arith in
+        rw more (rw (e, others) refl)
+    by_test others false e = refl
+
+info_is_one_class : (info : List ℕ) → list_all (λ b. not (is_ascii_whitespace b)) (language (safe_info info)) ≡ true
+info_is_one_class info =
+    take_passes (λ b. not (is_ascii_whitespace b)) (position_or_len (λ b. b == space) (safe_info info)) (safe_info info)
+    (prefix_passes (λ b. not (is_ascii_whitespace b)) info)
+
+-- a code block's Start
+code_block_safe : (fresh : Bool) (name : List ℕ) → list_all (λ b. not (is_ascii_whitespace b)) name ≡ true
+    → IsMarkup (joined (code_block_parts fresh name)) (opens (codes "pre") ∷ opens (codes "code") ∷ [])
+code_block_safe fresh [] h =
+    line fresh (codes "<pre><code>") (of_pieces (bare (codes "pre") ∷ bare (codes "code") ∷ []) refl)
+code_block_safe fresh (b ∷ name) h =
+    let v = value-append (codes "language-") (attribute_escaped (b ∷ name)) (codes "language-") (b ∷ name)
+    (value-plain (codes "language-") refl) (value-escaped (b ∷ name)) in
+    let class : is_safe_class (codes "language-" ++ (b ∷ name)) ≡ true = h in
+    line fresh _ (both (codes "<pre>") _ (of_pieces (bare (codes "pre") ∷ []) refl)
+    (one (codes "code") (codes "class") _ (codes "language-" ++ (b ∷ name)) [] v
+    (rw (v.safe, v.means, class) refl) (of_pieces [] refl)))
+
+-- digits
+number_safe : (n : ℕ) → IsMarkup (decimal n) []
+number_safe n = plain_safe (decimal n) (digits_plain (decimal n) (decimal_digits n))
+
+pub number_value : (n : ℕ) → IsValue (decimal n) (decimal n)
+number_value n = value-plain (decimal n) (digits_plain (decimal n) (decimal_digits n))
+
+-- a list's Start
+list_safe : (past : Past) (first : ℕ)
+    → IsMarkup (joined (start_parts past (event.list (Some first)))) (opens (codes "ol") ∷ [])
+list_safe past first = by_test (first == 1)
+  where
+    by_test : (t : Bool) → IsMarkup (joined (if t then new_line past.fresh ∷ codes "<ol>\n" ∷ []
+        else numbered_list_parts past.fresh (decimal first))) (opens (codes "ol") ∷ [])
+    by_test true = line past.fresh (codes "<ol>\n") (of_pieces (bare (codes "ol") ∷ newline ∷ []) refl)
+    by_test false = let v = number_value first in
+        line past.fresh _ (one (codes "ol") (codes "start") (decimal first) (decimal first) (codes "\n") v
+        (rw (v.safe, v.means, decimal_digits first) refl) (of_pieces (newline ∷ []) refl))
+
+-- a footnote
+definition_safe : (fresh : Bool) (name : List ℕ) (n : ℕ)
+    → IsMarkup (new_line fresh ++ (codes "<div class=\"footnote-definition\" id=\""
+    ++ (attribute_escaped (safe_name name)
+    ++ (codes "\"><sup class=\"footnote-definition-label\">" ++ (decimal n ++ codes "</sup>")))))
+    (opens (codes "div") ∷ opens (codes "sup") ∷ closes (codes "sup") ∷ [])
+definition_safe fresh name n =
+    let class = value-plain (codes "footnote-definition") refl in
+    let id = value-escaped (safe_name name) in
+    let label = both (decimal n) (codes "</sup>") (number_safe n) (of_pieces (end_tag (codes "sup") ∷ []) refl) in
+    let sup = both (codes "<sup class=\"footnote-definition-label\">") _
+    (of_pieces (start_tag (codes "sup") (own (codes "class") (codes "footnote-definition-label") ∷ []) ∷ [])
+    refl) label in
+    line fresh _ (two (start_tag (codes "div")) (codes "div") (codes "class") (codes "id") (codes ">") _
+    (codes "footnote-definition") _ (safe_name name) _ class id (λ given. refl)
+    (rw (class.safe, class.means, id.safe, id.means) refl) sup)
+
+reference_safe : (name : List ℕ) (n : ℕ)
+    → IsMarkup (codes "<sup class=\"footnote-reference\"><a href=\"#" ++ (attribute_escaped (safe_name name)
+    ++ (codes "\">" ++ (decimal n ++ codes "</a></sup>"))))
+    (opens (codes "sup") ∷ opens (codes "a") ∷ closes (codes "a") ∷ closes (codes "sup") ∷ [])
+reference_safe name n =
+    let v = value-append (codes "#") (attribute_escaped (safe_name name)) (codes "#") (safe_name name)
+    (value-plain (codes "#") refl) (value-escaped (safe_name name)) in
+    both (codes "<sup class=\"footnote-reference\">") _
+    (of_pieces (start_tag (codes "sup") (own (codes "class") (codes "footnote-reference") ∷ []) ∷ []) refl)
+    (one (codes "a") (codes "href") _ (codes "#" ++ safe_name name) _ v (rw (v.safe, v.means) refl)
+    (both (decimal n) (codes "</a></sup>") (number_safe n)
+    (of_pieces (end_tag (codes "a") ∷ end_tag (codes "sup") ∷ []) refl)))
+
+-- what a Start writes outside images, but for the Start of an image
+abbrev pub StartIsSafe : Past → TagView → Type 0
+StartIsSafe past (event.image i) = Unit {0}
+StartIsSafe past tag = IsMarkup (joined (start_parts past (safe_tag tag))) (start_turns past.in_head (safe_tag tag))
+
+pub start_safe : (past : Past) (tag : TagView) → StartIsSafe past tag
+start_safe past event.paragraph = line past.fresh (codes "<p>") (of_pieces (bare (codes "p") ∷ []) refl)
+start_safe past (event.heading h) = heading_safe past.fresh h.level
+start_safe past (event.block_quote kind) = line past.fresh _ (quote_safe kind)
+start_safe past event.indented_code = code_block_safe past.fresh [] refl
+start_safe past (event.fenced_code info) =
+    code_block_safe past.fresh (language (safe_info info)) (info_is_one_class info)
+start_safe past event.html_block = of_pieces [] refl
+start_safe past (event.list None) =
+    line past.fresh (codes "<ul>\n") (of_pieces (bare (codes "ul") ∷ newline ∷ []) refl)
+start_safe past (event.list (Some first)) = list_safe past first
+start_safe past event.list_item = line past.fresh (codes "<li>") (of_pieces (bare (codes "li") ∷ []) refl)
+start_safe past (event.footnote_definition name) =
+    definition_safe past.fresh name (place (safe_name name) past.names + 1)
+start_safe past event.definition_list =
+    line past.fresh (codes "<dl>\n") (of_pieces (bare (codes "dl") ∷ newline ∷ []) refl)
+start_safe past event.definition_list_title = line past.fresh (codes "<dt>") (of_pieces (bare (codes "dt") ∷ []) refl)
+start_safe past event.definition_list_definition =
+    line past.fresh (codes "<dd>") (of_pieces (bare (codes "dd") ∷ []) refl)
+start_safe past (event.table alignments) = of_pieces (bare (codes "table") ∷ []) refl
+start_safe past event.table_head = of_pieces (bare (codes "thead") ∷ bare (codes "tr") ∷ []) refl
+start_safe past event.table_row = of_pieces (bare (codes "tr") ∷ []) refl
+start_safe past event.table_cell = cell_safe past.in_head _
+start_safe past event.emphasis = of_pieces (bare (codes "em") ∷ []) refl
+start_safe past event.strong = of_pieces (bare (codes "strong") ∷ []) refl
+start_safe past event.strikethrough = of_pieces (bare (codes "del") ∷ []) refl
+start_safe past event.superscript = of_pieces (bare (codes "sup") ∷ []) refl
+start_safe past event.subscript = of_pieces (bare (codes "sub") ∷ []) refl
+start_safe past (event.link l) = link_safe l.kind l.destination l.title
+start_safe past (event.image i) = tt
+start_safe past (event.metadata_block kind) = of_pieces [] refl
+
+-- what an End writes outside images
+end_safe : (past : Past) (tag : TagEnd) → IsMarkup (joined (end_parts past tag)) (end_turns past.in_head tag)
+end_safe past tag_ends.Paragraph = of_pieces (end_tag (codes "p") ∷ newline ∷ []) refl
+end_safe past (tag_ends.Heading l) = heading_end_safe l
+end_safe past (tag_ends.BlockQuote kind) = of_pieces (end_tag (codes "blockquote") ∷ newline ∷ []) refl
+end_safe past tag_ends.CodeBlock = of_pieces (end_tag (codes "code") ∷ end_tag (codes "pre") ∷ newline ∷ []) refl
+end_safe past tag_ends.HtmlBlock = of_pieces [] refl
+end_safe past (tag_ends.List true) = of_pieces (end_tag (codes "ol") ∷ newline ∷ []) refl
+end_safe past (tag_ends.List false) = of_pieces (end_tag (codes "ul") ∷ newline ∷ []) refl
+end_safe past tag_ends.Item = of_pieces (end_tag (codes "li") ∷ newline ∷ []) refl
+end_safe past tag_ends.FootnoteDefinition = of_pieces (end_tag (codes "div") ∷ newline ∷ []) refl
+end_safe past tag_ends.DefinitionList = of_pieces (end_tag (codes "dl") ∷ newline ∷ []) refl
+end_safe past tag_ends.DefinitionListTitle = of_pieces (end_tag (codes "dt") ∷ newline ∷ []) refl
+end_safe past tag_ends.DefinitionListDefinition = of_pieces (end_tag (codes "dd") ∷ newline ∷ []) refl
+end_safe past tag_ends.Table = of_pieces (end_tag (codes "tbody") ∷ end_tag (codes "table") ∷ newline ∷ []) refl
+end_safe past tag_ends.TableHead =
+    of_pieces (end_tag (codes "tr") ∷ end_tag (codes "thead") ∷ bare (codes "tbody") ∷ newline ∷ []) refl
+end_safe past tag_ends.TableRow = of_pieces (end_tag (codes "tr") ∷ newline ∷ []) refl
+end_safe past tag_ends.TableCell = cell_end_safe past.in_head
+end_safe past tag_ends.Emphasis = of_pieces (end_tag (codes "em") ∷ []) refl
+end_safe past tag_ends.Strong = of_pieces (end_tag (codes "strong") ∷ []) refl
+end_safe past tag_ends.Strikethrough = of_pieces (end_tag (codes "del") ∷ []) refl
+end_safe past tag_ends.Superscript = of_pieces (end_tag (codes "sup") ∷ []) refl
+end_safe past tag_ends.Subscript = of_pieces (end_tag (codes "sub") ∷ []) refl
+end_safe past tag_ends.Link = of_pieces (end_tag (codes "a") ∷ []) refl
+end_safe past tag_ends.Image = of_pieces [] refl
+end_safe past (tag_ends.MetadataBlock kind) = of_pieces [] refl
+
+-- text, but in metadata none
+shown_safe : (hidden : Bool) (t : List ℕ) → IsMarkup (joined (if hidden then [] else text_escaped t ∷ [])) []
+shown_safe true t = of_pieces [] refl
+shown_safe false t = text_safe t
+
+-- mathematics
+math_piece : (class : List ℕ) → HtmlPiece
+math_piece class = start_tag (codes "span") (own (codes "class") class ∷ [])
+
+-- what an event writes outside images, but for Starts and Ends
+abbrev pub OtherIsSafe : Past → EventView → Type 0
+OtherIsSafe past (start tag) = Unit {0}
+OtherIsSafe past e =
+    IsMarkup (joined (outside_parts past (safe_event e))) (event_turns past.in_head (safe_event e))
+
+pub other_safe : (past : Past) (e : EventView) → OtherIsSafe past e
+unfolding math_piece
+other_safe past (start tag) = tt
+other_safe past (end tag) = end_safe past tag
+other_safe past (text t) = shown_safe past.in_metadata t
+other_safe past (code t) =
+    around (codes "<code>") (text_escaped t) (codes "</code>") (of_pieces (bare (codes "code") ∷ []) refl) (text_safe t)
+    (of_pieces (end_tag (codes "code") ∷ []) refl)
+other_safe past (inline_math t) =
+    around (codes "<span class=\"math math-inline\">") (attribute_escaped t) (codes "</span>")
+    (of_pieces (math_piece (codes "math math-inline") ∷ []) refl) (attribute_safe t)
+    (of_pieces (end_tag (codes "span") ∷ []) refl)
+other_safe past (display_math t) =
+    around (codes "<span class=\"math math-display\">") (attribute_escaped t) (codes "</span>")
+    (of_pieces (math_piece (codes "math math-display") ∷ []) refl) (attribute_safe t)
+    (of_pieces (end_tag (codes "span") ∷ []) refl)
+other_safe past (html t) = shown_safe past.in_metadata t
+other_safe past (inline_html t) = shown_safe past.in_metadata t
+other_safe past (footnote_reference name) = reference_safe name (place (safe_name name) past.names + 1)
+other_safe past soft_break = of_pieces (newline ∷ []) refl
+other_safe past hard_break = of_pieces (void_tag (codes "br") [] (codes " />") ∷ newline ∷ []) refl
+other_safe past rule =
+    line past.fresh (codes "<hr />\n") (of_pieces (void_tag (codes "hr") [] (codes " />") ∷ newline ∷ []) refl)
+other_safe past (task_list_marker true) =
+    of_pieces (void_tag (codes "input") (own (codes "disabled") [] ∷ own (codes "type") (codes "checkbox") ∷ own
+    (codes "checked") [] ∷ []) (codes "/>") ∷ newline ∷ []) refl
+other_safe past (task_list_marker false) =
+    of_pieces (void_tag (codes "input") (own (codes "disabled") [] ∷ own (codes "type") (codes "checkbox") ∷ [])
+    (codes "/>") ∷ newline ∷ []) refl
