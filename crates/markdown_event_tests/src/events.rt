@@ -5,10 +5,14 @@ use markdown_base::event::Event;
 use markdown_base::fault::Fault;
 use markdown_test_parsers::html::html_of;
 use std::alloc::Global;
+use std::ops::Range;
 use std::test::Fail;
 
 /// An item of an iterator over events.
 pub type Item<'a> = Result<Event<'a>, Fault>;
+
+/// An item of an iterator over events with their ranges.
+pub type RangedItem<'a> = Result<(Event<'a>, Range<usize>), Fault>;
 
 /// Returns whether an event is a soft break.
 pub fn is_soft_break(event: &Event<'_>) -> bool {

@@ -373,7 +373,7 @@ fn errors(rt: HostRuntime) -> Result<(), Fail> {
                 Some(Fault::Memory),
             ),
             (
-                &[Sign::Image("u", "t"), Sign::Words("a"), BLOCKS_FAULT],
+                &[Sign::Image("u", ""), Sign::Words("a"), BLOCKS_FAULT],
                 IN_IMAGE,
                 Some(Fault::Blocks),
             ),

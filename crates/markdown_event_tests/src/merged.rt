@@ -1,8 +1,7 @@
 //! Parsers under merges and adapters, and their HTML.
-use crate::events::{html_of_hardened, is_soft_break};
+use crate::events::{RangedItem, html_of_hardened, is_soft_break};
 use markdown_base::cow_str::CowStr;
 use markdown_base::event::Event;
-use markdown_base::fault::Fault;
 use markdown_out::laws::a_mapped_iterator_can_be_merged;
 use markdown_out::merge::{TextMergeStream, TextMergeWithOffset};
 use markdown_render::merged::{merged_html, offsets_can_be_merged};
@@ -11,10 +10,7 @@ use markdown_test_helpers::rows::gives;
 use markdown_test_parsers::faults::or_fail;
 use markdown_test_parsers::parsers::plain_parser;
 use std::alloc::Global;
-use std::ops::Range;
 use std::test::Fail;
-
-type Placed<'a> = Result<(Event<'a>, Range<usize>), Fault>;
 
 #[test]
 fn html_of_a_map(rt: HostRuntime) -> Result<(), Fail> {
@@ -37,7 +33,7 @@ fn html_of_a_merge(rt: HostRuntime) -> Result<(), Fail> {
 }
 
 /// Returns a text of one space for a soft break, and any other item unchanged.
-fn soften<'a>(placed: Placed<'a>) -> Placed<'a> {
+fn soften<'a>(placed: RangedItem<'a>) -> RangedItem<'a> {
     let (event, range) = placed?;
     if is_soft_break(&event) {
         drop(event);

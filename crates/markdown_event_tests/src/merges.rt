@@ -1,121 +1,121 @@
-//! The results of a merge, where no allocation is refused.
-ghost use Rattle.std.specs.Iterator.{IsFinite};
-
-use crate::events::Item;
-use crate::signs::{Sign, items_of};
-use markdown_base::event::Event;
+//! The results of both merges, where no allocation is refused.
+use crate::events::{Item, RangedItem};
+use crate::signs::{Sign, items_of, ranged_items_of};
 use markdown_base::fault::Fault;
-use markdown_out::merge::TextMergeStream;
-use markdown_test_helpers::events::text;
-use markdown_test_helpers::lists::{Items, Listed, is_nothing};
+use markdown_out::merge::{TextMergeStream, TextMergeWithOffset};
+use markdown_test_helpers::notes::{push_event, push_placed};
 use markdown_test_helpers::rows::gives;
 use std::alloc::{AllocError, Global};
 use std::test::Fail;
 
-/// Appends an item as a text: a text in brackets, a rule as a dash, an error as `!`.
-fn push_item(notes: &mut String, item: &Item<'_>) -> Result<(), AllocError> {
-    match item {
-        Ok(Event::Text(text)) => {
-            notes.push_str("[")?;
-            notes.push_str(text.as_str())?;
-            notes.push_str("]")
+/// An item of a merge.
+trait Noted: Drop {
+    /// Appends the item as a text: an event as tests write it, or the error.
+    fn push_to(&self, alloc: Global, notes: &mut String) -> Result<(), AllocError>;
+}
+
+fn push_fault(alloc: Global, notes: &mut String, fault: Fault) -> Result<(), AllocError> {
+    notes.push_str(format!(in alloc; "!{fault:?} ")?.as_str())
+}
+
+impl Noted for Item<'_> {
+    fn push_to(&self, alloc: Global, notes: &mut String) -> Result<(), AllocError> {
+        match self {
+            Ok(event) => push_event(alloc, notes, event),
+            Err(fault) => push_fault(alloc, notes, *fault),
         }
-        Ok(_) => notes.push_str("-"),
-        Err(_) => notes.push_str("!"),
     }
 }
 
-/// Returns the items of an iterator as a text.
-fn noted<'a, I: Iterator<Item = Item<'a>>>(alloc: Global, items: I) -> Result<String, Fail>
-    requires can { I.can_next items }
-    requires ends { IsFinite (I.remaining items) }
+impl Noted for RangedItem<'_> {
+    fn push_to(&self, alloc: Global, notes: &mut String) -> Result<(), AllocError> {
+        match self {
+            Ok((event, range)) => push_placed(alloc, notes, event, range),
+            Err(fault) => push_fault(alloc, notes, *fault),
+        }
+    }
+}
+
+/// Calls `next` of an iterator `calls` times. Returns its results as a text: None as a dot.
+fn called<T: Noted, I: Iterator<Item = T> + Drop>(
+    alloc: Global,
+    items: I,
+    calls: usize,
+) -> Result<String, AllocError>
+    requires can { (left : I) → I.can_next left }
 {
+    let mut items = items;
     let mut notes = String::new(alloc);
-    for item in items {
-        let done = push_item(&mut notes, &item);
-        drop(item);
-        done?;
+    'calling: for _ in 0..calls {
+        match items.next() {
+            Some(item) => {
+                let done = item.push_to(alloc, &mut notes);
+                drop(item);
+                done?;
+            }
+            None => notes.push_str(".")?,
+        }
     }
     Ok(notes)
 }
 
-/// Returns the merge of these items up to its first None, as a text.
-fn merged<'s>(alloc: Global, signs: &'s [Sign<'s>]) -> Result<String, Fail> {
-    noted(alloc, TextMergeStream::new(alloc, items_of(alloc, signs)))
-}
+/// The items of an iterator, and the results of one call of `next` for each and one more: of a merge of the events,
+/// and of a merge of the events with their ranges.
+type Row = (&'static [Sign<'static>], &'static str, &'static str);
 
-/// Checks the merge of these items.
-fn merge_gives<'s>(alloc: Global, signs: &'s [Sign<'s>], wanted: &str) -> Result<(), Fail> {
-    let notes = merged(alloc, signs)?;
-    gives(wanted, notes.as_str(), wanted)
-}
+static ROWS: [Row; 5] = [
+    (
+        &[Sign::Rule, Sign::Words(""), Sign::Words(""), Sign::Rule],
+        "<hr><hr>...",
+        "<hr>0..1 <hr>3..4 ...",
+    ),
+    (&[Sign::Words(""), Sign::Words("")], "...", "..."),
+    (
+        &[Sign::Rule, Sign::Words(""), Sign::Rule],
+        "<hr>[]<hr>.",
+        "<hr>0..1 []1..2 <hr>2..3 .",
+    ),
+    (
+        &[
+            Sign::Words("a"),
+            Sign::Words("b"),
+            Sign::Refused(Fault::Memory),
+            Sign::Words("c"),
+        ],
+        "+[ab]!Memory [c]..",
+        "+[ab]0..2 !Memory [c]3..4 ..",
+    ),
+    // each stretch between Nones is merged by itself, and a None after an item that is held is not returned
+    (
+        &[
+            Sign::Words("a"),
+            Sign::Nothing,
+            Sign::Words("b"),
+            Sign::Words("c"),
+            Sign::Nothing,
+            Sign::Nothing,
+        ],
+        "[a]+[bc].....",
+        "[a]0..1 +[bc]2..4 .....",
+    ),
+];
 
 #[test]
-fn runs(rt: HostRuntime) -> Result<(), Fail> {
-    let rows: &[(&[Sign<'static>], &str)] = &[
-        (
-            &[Sign::Rule, Sign::Words(""), Sign::Words(""), Sign::Rule],
-            "--",
-        ),
-        (&[Sign::Words(""), Sign::Words("")], ""),
-        (&[Sign::Rule, Sign::Words(""), Sign::Rule], "-[]-"),
-        (
-            &[
-                Sign::Words("a"),
-                Sign::Words("b"),
-                Sign::Refused(Fault::Memory),
-                Sign::Words("c"),
-            ],
-            "[ab]![c]",
-        ),
-    ];
-    for &(signs, wanted) in rows {
-        merge_gives(rt.alloc(), signs, wanted)?;
+fn events(rt: HostRuntime) -> Result<(), Fail> {
+    for &(signs, wanted, _) in &ROWS {
+        let merge = TextMergeStream::new(rt.alloc(), items_of(rt.alloc(), signs));
+        let found = called(rt.alloc(), merge, signs.len() + 1)?;
+        gives(wanted, found.as_str(), wanted)?;
     }
     Ok(())
 }
 
-/// An iterator that returns None in between: a text for each word.
-#[derive(Drop)]
-struct Answers<'a> {
-    words: &'a [Option<&'a str>],
-}
-
-impl<'a> Listed for Answers<'a> {
-    type Item = Item<'a>;
-
-    fn item(&self, at: usize) -> Option<Item<'a>> {
-        let word = (*self.words.get(at)?)?;
-        Some(Ok(text(word)))
-    }
-}
-
-/// Returns whether an item is this text.
-fn is_words(item: &Item<'_>, words: &str) -> bool {
-    match item {
-        Ok(Event::Text(text)) => text.as_str() == words,
-        _ => false,
-    }
-}
-
-/// Returns whether a result is this text.
-fn is_text(answer: Option<Item<'_>>, words: &str) -> bool {
-    let is = match &answer {
-        Some(item) => is_words(item, words),
-        None => false,
-    };
-    drop(answer);
-    is
-}
-
 #[test]
-fn stretches_between_nones(rt: HostRuntime) -> Result<(), Fail> {
-    let words = &[Some("a"), None, Some("b"), Some("c"), None, None];
-    let answers = Items::of(Answers { words }, 6);
-    let mut merge = TextMergeStream::new(rt.alloc(), answers);
-    let first = is_text(merge.next(), "a");
-    let second = is_text(merge.next(), "bc");
-    let third = is_nothing(merge.next());
-    drop(merge);
-    gives("a, bc, nothing", (first, second, third), (true, true, true))
+fn events_with_ranges(rt: HostRuntime) -> Result<(), Fail> {
+    for &(signs, _, wanted) in &ROWS {
+        let merge = TextMergeWithOffset::new(rt.alloc(), ranged_items_of(rt.alloc(), signs));
+        let found = called(rt.alloc(), merge, signs.len() + 1)?;
+        gives(wanted, found.as_str(), wanted)?;
+    }
+    Ok(())
 }

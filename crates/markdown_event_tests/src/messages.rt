@@ -1,17 +1,19 @@
 //! The message of each of the programs where something fails, and its status.
-use crate::runs::{Given, Input, Program, words_of};
+use crate::runs::{Given, Input, Program, reported, words_of};
+use markdown_base::fault::Fault;
+use markdown_render::run::Failure;
 use markdown_test_helpers::rows::gives;
 use std::alloc::Global;
 use std::io::ErrorKind;
 use std::test::Fail;
 
-/// Arguments, input, the errors of writes to standard output and to standard error; and the status with the message.
+/// Arguments, input, the errors of writes to standard output and to standard error; and the status and the message.
 type Row = (
     &'static [&'static str],
     Input<'static>,
     Option<ErrorKind>,
     Option<ErrorKind>,
-    &'static str,
+    (u8, &'static str),
 );
 
 /// Two arguments, of which the second is unknown.
@@ -36,31 +38,56 @@ fn is_said(alloc: Global, program: Program, row: Row) -> Result<(), Fail> {
         err,
     };
     let found = program.printed(alloc, given)?;
-    gives((program, wanted), found.as_str(), wanted)
+    let (status, message) = wanted;
+    gives(
+        (program, wanted),
+        (found.status, found.message.as_str(), found.text.as_str()),
+        (status, message, ""),
+    )
 }
 
 #[test]
 fn messages(rt: HostRuntime) -> Result<(), Fail> {
     let rows: &[Row] = &[
-        (&[], NO_TEXT, None, None, "1 input is not UTF-8\n"),
-        (&[], UNREAD, None, None, "1 read failed\n"),
+        (&[], NO_TEXT, None, None, (1, "input is not UTF-8\n")),
+        (&[], UNREAD, None, None, (1, "read failed\n")),
         (
             &[],
             Input::Failing(ErrorKind::OutOfMemory),
             None,
             None,
-            "1 out of memory\n",
+            (1, "out of memory\n"),
         ),
-        (&[], Input::Bytes(b"a"), BROKEN, None, "1 write failed\n"),
-        (&[], Input::Bytes(b"a"), MEMORY, None, "1 out of memory\n"),
-        (UNKNOWN, UNREAD, None, None, "2 unknown option: nosuch\n"),
+        (&[], Input::Bytes(b"a"), BROKEN, None, (1, "write failed\n")),
+        (
+            &[],
+            Input::Bytes(b"a"),
+            MEMORY,
+            None,
+            (1, "out of memory\n"),
+        ),
+        (UNKNOWN, UNREAD, None, None, (2, "unknown option: nosuch\n")),
         // where no message can be written the status is the same
-        (UNKNOWN, UNREAD, None, BROKEN, "2 "),
-        (&[], NO_TEXT, None, BROKEN, "1 "),
+        (UNKNOWN, UNREAD, None, BROKEN, (2, "")),
+        (&[], NO_TEXT, None, BROKEN, (1, "")),
     ];
     for row in rows {
         is_said(rt.alloc(), Program::Html, *row)?;
         is_said(rt.alloc(), Program::Events, *row)?;
+    }
+    Ok(())
+}
+
+/// No text makes a program fail by these.
+#[test]
+fn messages_of_faults(rt: HostRuntime) -> Result<(), Fail> {
+    for (fault, wanted) in [
+        (Fault::Memory, "out of memory\n"),
+        (Fault::Blocks, "bad block result\n"),
+        (Fault::Depth, "image nested too deeply\n"),
+    ] {
+        let (status, message) = reported(rt.alloc(), Failure::Fault(fault))?;
+        gives(wanted, (status, message.as_str()), (1, wanted))?;
     }
     Ok(())
 }

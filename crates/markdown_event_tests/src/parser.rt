@@ -1,6 +1,5 @@
 //! The events of parsers, where no allocation is refused.
-use markdown_base::event::Event;
-use markdown_base::fault::Fault;
+use crate::events::RangedItem;
 use markdown_base::item::ItemBody;
 use markdown_base::options::Options;
 use markdown_defs::{BoxedCallback, BrokenLinkCallback, DefaultBrokenLinkCallback};
@@ -22,7 +21,7 @@ use std::test::Fail;
 
 /// Checks the events of a text, each with its range.
 fn text_gives(alloc: Global, source: &str, events: &str) -> Result<(), Fail> {
-    let parser = text_parser(alloc, source, Options::ENABLE_GFM)?;
+    let parser = text_parser(alloc, source, Options::empty())?;
     parser_gives(alloc, source, parser, events)
 }
 
@@ -128,21 +127,23 @@ fn walks_that_change_hands(rt: HostRuntime) -> Result<(), Fail> {
     is_handed_on(rt.alloc(), "", 2, 0, "")
 }
 
-fn end_of(item: Result<(Event<'_>, Range<usize>), Fault>) -> usize {
+/// Returns the range of an event, and an empty one for an error.
+fn range_of(item: RangedItem<'_>) -> Range<usize> {
     match item {
         Ok((event, range)) => {
             drop(event);
-            range.end
+            range
         }
-        Err(_) => 0,
+        Err(_) => 0..0,
     }
 }
 
 #[test]
 fn adapters(rt: HostRuntime) -> Result<(), Fail> {
     let iter = plain_parser(rt.alloc(), "a  \nb")?.into_offset_iter();
-    let ends: Vec<usize> = iter.map(end_of).collect(rt.alloc())?;
-    gives("a  \nb", ends.as_slice(), [5, 1, 4, 5, 5].as_slice())
+    let ranges: Vec<Range<usize>> = iter.map(range_of).collect(rt.alloc())?;
+    let wanted = [0..5, 0..1, 1..4, 4..5, 0..5];
+    gives("a  \nb", ranges.as_slice(), wanted.as_slice())
 }
 
 #[test]
@@ -206,15 +207,9 @@ fn callbacks_that_do_not_answer(rt: HostRuntime) -> Result<(), Fail> {
 }
 
 /// Checks the HTML of a tree over a text.
-fn tree_shows(
-    alloc: Global,
-    source: &str,
-    options: Options,
-    placed: &[Placed],
-    html: &str,
-) -> Result<(), Fail> {
+fn tree_shows(alloc: Global, source: &str, placed: &[Placed], html: &str) -> Result<(), Fail> {
     let tree = tree_of_placed(alloc, placed)?;
-    let parser = parser_of(alloc, source, options, tree, no_parts(alloc))?;
+    let parser = parser_of(alloc, source, Options::empty(), tree, no_parts(alloc))?;
     parser_shows(alloc, source, parser, html)
 }
 
@@ -230,8 +225,8 @@ const ONE_TEXT: &[Placed] = &[(0, 0, 6, ItemBody::Paragraph), (1, 0, 6, TEXT)];
 fn html_of_trees_made_by_hand(rt: HostRuntime) -> Result<(), Fail> {
     let alloc = rt.alloc();
     // an empty text at the place of another is kept
-    tree_shows(alloc, "ab", Options::ENABLE_GFM, TWO_TEXTS, "<p>ab</p>\n")?;
+    tree_shows(alloc, "ab", TWO_TEXTS, "<p>ab</p>\n")?;
     // a text is escaped
     let html = "<p>a&lt;b&gt;&amp;\"</p>\n";
-    tree_shows(alloc, "a<b>&\"", Options::empty(), ONE_TEXT, html)
+    tree_shows(alloc, "a<b>&\"", ONE_TEXT, html)
 }

@@ -1,5 +1,5 @@
 //! Runs of the two programs, over one reader and one writer, so that each program is proved for one type of each.
-use markdown_render::run::run as run_html;
+use markdown_render::run::{Failure, report, run as run_html};
 use markdown_text_json::run::run as run_events;
 use std::alloc::{AllocError, Global};
 use std::io::{self, ErrorKind, Read, Write};
@@ -58,6 +58,25 @@ pub struct Given<'i> {
     pub err: Option<ErrorKind>,
 }
 
+/// The status of a program, and what it wrote to standard error and to standard output.
+#[derive(Drop)]
+pub struct Printed {
+    pub status: u8,
+    pub message: String,
+    pub text: String,
+}
+
+/// Returns the message for a failure, with the status.
+pub fn reported(alloc: Global, failure: Failure) -> Result<(u8, String), Fail> {
+    let mut err = Output {
+        written: Vec::new(alloc),
+        error: None,
+    };
+    let status = report(Err(failure), &mut err);
+    let Output { written, .. } = err;
+    Ok((status, String::from_utf8(written)?))
+}
+
 impl Program {
     /// Runs the program, and returns its status.
     fn run(self, alloc: Global, given: Given<'_>, out: &mut Output, err: &mut Output) -> u8 {
@@ -68,8 +87,8 @@ impl Program {
         }
     }
 
-    /// Runs the program, and returns its status, its message, and then what it printed.
-    pub fn printed(self, alloc: Global, given: Given<'_>) -> Result<String, Fail> {
+    /// Runs the program, and returns its status with what it wrote.
+    pub fn printed(self, alloc: Global, given: Given<'_>) -> Result<Printed, Fail> {
         let mut out = Output {
             written: Vec::new(alloc),
             error: given.out,
@@ -83,7 +102,11 @@ impl Program {
         let message = String::from_utf8(said)?;
         let Output { written, .. } = out;
         let text = String::from_utf8(written)?;
-        Ok(format!(in alloc; "{status} {message}{text}")?)
+        Ok(Printed {
+            status,
+            message,
+            text,
+        })
     }
 }
 

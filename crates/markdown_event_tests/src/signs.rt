@@ -1,7 +1,7 @@
 //! Events for tests, each by a sign that can be copied, so that lists of them are constants. An event is made on
 //! demand: no
 //! list of events is dropped at the end of a scope, for which a proof takes many seconds.
-use crate::events::Item;
+use crate::events::{Item, RangedItem};
 use markdown_base::cow_str::CowStr;
 use markdown_base::event::Event;
 use markdown_base::fault::Fault;
@@ -35,6 +35,8 @@ pub enum Sign<'s> {
     Rule,
     Task(bool),
     Refused(Fault),
+    /// No item, where others may follow.
+    Nothing,
     Table(&'s [Alignment]),
     /// The Start of a heading with an id, two classes, an attribute with a value and one without.
     FullHeading,
@@ -152,12 +154,41 @@ impl<'s> Listed for Signed<'s> {
     type Item = Item<'s>;
 
     fn item(&self, at: usize) -> Option<Item<'s>> {
-        let sign = self.signs.get(at)?;
-        Some(item_of(self.alloc, *sign))
+        match self.signs.get(at)? {
+            Sign::Nothing => None,
+            sign => Some(item_of(self.alloc, *sign)),
+        }
     }
 }
 
 /// Returns an iterator over the items of signs, in order.
 pub fn items_of<'s>(alloc: Global, signs: &'s [Sign<'s>]) -> Items<Signed<'s>> {
     Items::of(Signed { alloc, signs }, signs.len())
+}
+
+/// The same, each with a range of one byte at its position in the list.
+#[derive(Drop)]
+pub struct Ranged<'s> {
+    signed: Signed<'s>,
+}
+
+/// Returns an item with a range of one byte.
+fn placed<'s>(item: Item<'s>, at: usize) -> RangedItem<'s> {
+    let event = item?;
+    Ok((event, at..at.saturating_add(1)))
+}
+
+impl<'s> Listed for Ranged<'s> {
+    type Item = RangedItem<'s>;
+
+    fn item(&self, at: usize) -> Option<RangedItem<'s>> {
+        let item = self.signed.item(at)?;
+        Some(placed(item, at))
+    }
+}
+
+/// Returns an iterator over the items of signs, in order, each with a range of one byte.
+pub fn ranged_items_of<'s>(alloc: Global, signs: &'s [Sign<'s>]) -> Items<Ranged<'s>> {
+    let signed = Signed { alloc, signs };
+    Items::of(Ranged { signed }, signs.len())
 }

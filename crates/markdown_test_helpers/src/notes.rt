@@ -252,7 +252,7 @@ fn push_leaf(notes: &mut String, event: &Event<'_>) -> Result<(), AllocError> {
 }
 
 /// Appends an event.
-fn push_event(alloc: Global, notes: &mut String, event: &Event<'_>) -> Result<(), AllocError> {
+pub fn push_event(alloc: Global, notes: &mut String, event: &Event<'_>) -> Result<(), AllocError> {
     match event {
         Event::Start(tag) => push_start(alloc, notes, tag),
         Event::End(tag) => push_end(notes, *tag),
@@ -261,7 +261,7 @@ fn push_event(alloc: Global, notes: &mut String, event: &Event<'_>) -> Result<()
 }
 
 /// Appends an event, and then its range.
-fn push_placed(
+pub fn push_placed(
     alloc: Global,
     notes: &mut String,
     event: &Event<'_>,
