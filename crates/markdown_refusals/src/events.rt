@@ -114,12 +114,13 @@ fn is_same_or_refused<T: PartialEq + Drop>(made: Result<T, Fault>, wanted: &T) -
     }
 }
 
-/// Returns the same where what is wanted was made, and otherwise true.
-fn is_wanted<T: PartialEq + Drop>(made: Result<T, Fault>, wanted: Result<T, AllocError>) -> bool {
-    match wanted {
-        Ok(wanted) => is_same_or_refused(made, &wanted),
-        Err(_) => true,
-    }
+/// Returns the same where what is wanted was made, and otherwise None.
+fn is_wanted<T: PartialEq + Drop>(
+    made: Result<T, Fault>,
+    wanted: Result<T, AllocError>,
+) -> Option<bool> {
+    let wanted = wanted.ok()?;
+    Some(is_same_or_refused(made, &wanted))
 }
 
 /// Returns whether a value and its copy are what is wanted; the copy may have been refused.
@@ -127,40 +128,38 @@ fn are_wanted<T: PartialEq + Drop>(
     held: T,
     copy: Result<T, Fault>,
     wanted: Result<T, AllocError>,
-) -> bool {
-    match wanted {
-        Ok(wanted) => is_same_or_refused(copy, &wanted) && held == wanted,
-        Err(_) => true,
-    }
+) -> Option<bool> {
+    let wanted = wanted.ok()?;
+    Some(is_same_or_refused(copy, &wanted) && held == wanted)
 }
 
 /// Returns whether an event is copied, and unchanged where an allocation was refused.
-fn is_copied(alloc: Global, kind: Kind) -> Result<bool, AllocError> {
-    let held = event(alloc, kind)?;
+fn is_copied(alloc: Global, kind: Kind) -> Option<bool> {
+    let held = event(alloc, kind).ok()?;
     let copy = held.try_clone(alloc);
-    Ok(are_wanted(held, copy, event(alloc, kind)))
+    are_wanted(held, copy, event(alloc, kind))
 }
 
-fn is_freed(alloc: Global, kind: Kind) -> Result<bool, AllocError> {
-    let held = event(alloc, kind)?;
+fn is_freed(alloc: Global, kind: Kind) -> Option<bool> {
+    let held = event(alloc, kind).ok()?;
     let freed = held.into_static(alloc);
-    Ok(is_wanted(freed, event(alloc, kind)))
+    is_wanted(freed, event(alloc, kind))
 }
 
-pub fn copies(alloc: Global) -> bool {
+pub fn copies(alloc: Global) -> Option<bool> {
     for kind in &KINDS {
-        if !is_copied(alloc, *kind).unwrap_or(true) {
-            return false;
+        if !is_copied(alloc, *kind)? {
+            return Some(false);
         }
     }
-    true
+    Some(true)
 }
 
-pub fn frees(alloc: Global) -> bool {
+pub fn frees(alloc: Global) -> Option<bool> {
     for kind in &KINDS {
-        if !is_freed(alloc, *kind).unwrap_or(true) {
-            return false;
+        if !is_freed(alloc, *kind)? {
+            return Some(false);
         }
     }
-    true
+    Some(true)
 }

@@ -126,6 +126,6 @@ pub fn merges_with_ranges(alloc: Global) -> bool {
     )
 }
 
-pub fn renders_mixed_events(alloc: Global) -> bool {
+pub fn renders_mixed_events(alloc: Global) -> Option<bool> {
     writes(alloc, given(Mixed { name: "a" }, 8), MIXED)
 }

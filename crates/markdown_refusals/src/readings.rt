@@ -15,9 +15,16 @@ use std::ops::Range;
 
 type Placed = (Event<'static>, Range<usize>);
 
-/// Returns a parser of the block result of a text.
-fn of_blocks(alloc: Global, source: Source) -> Result<Parser<'static, Asked>, Fault> {
+/// Returns the block result of a text, whose tree and parts are checked once more.
+fn checked(alloc: Global, source: Source) -> Result<Blocks<'static>, Fault> {
     let blocks = Blocks::of_text(alloc, source.text, source.options())?;
+    let (text, options, tree, parts) = blocks.into_parts();
+    Blocks::checked(alloc, text, options, tree, parts)
+}
+
+/// Returns a parser of this block result.
+fn of_blocks(alloc: Global, source: Source) -> Result<Parser<'static, Asked>, Fault> {
+    let blocks = checked(alloc, source)?;
     Parser::from_blocks(alloc, blocks, Some(callback_for(source)))
 }
 
@@ -70,15 +77,11 @@ fn walks_over(alloc: Global, source: Source, full: &[Event<'static>]) -> bool {
     }
 }
 
-fn walks(alloc: Global, source: Source) -> bool {
-    match events_of(alloc, source) {
-        Some(full) => {
-            let is_so = walks_over(alloc, source, full.as_slice());
-            drop(full);
-            is_so
-        }
-        None => true,
-    }
+fn walks(alloc: Global, source: Source) -> Option<bool> {
+    let full = events_of(alloc, source)?;
+    let is_so = walks_over(alloc, source, full.as_slice());
+    drop(full);
+    Some(is_so)
 }
 
 /// Returns the events of a text, each with its range.
@@ -98,15 +101,11 @@ fn walks_over_ranges(alloc: Global, source: Source, full: &[Placed]) -> bool {
     }
 }
 
-fn walks_with_ranges(alloc: Global, source: Source) -> bool {
-    match placed_of(alloc, source) {
-        Some(full) => {
-            let is_so = walks_over_ranges(alloc, source, full.as_slice());
-            drop(full);
-            is_so
-        }
-        None => true,
-    }
+fn walks_with_ranges(alloc: Global, source: Source) -> Option<bool> {
+    let full = placed_of(alloc, source)?;
+    let is_so = walks_over_ranges(alloc, source, full.as_slice());
+    drop(full);
+    Some(is_so)
 }
 
 /// Returns the merged events of a text.
@@ -125,15 +124,11 @@ fn merges_to(alloc: Global, source: Source, full: &[Event<'static>]) -> bool {
     }
 }
 
-fn merges(alloc: Global, source: Source) -> bool {
-    match merged_of(alloc, source) {
-        Some(full) => {
-            let is_so = merges_to(alloc, source, full.as_slice());
-            drop(full);
-            is_so
-        }
-        None => true,
-    }
+fn merges(alloc: Global, source: Source) -> Option<bool> {
+    let full = merged_of(alloc, source)?;
+    let is_so = merges_to(alloc, source, full.as_slice());
+    drop(full);
+    Some(is_so)
 }
 
 /// Returns the merged events of a text, each with its range.
@@ -153,15 +148,11 @@ fn merges_to_ranges(alloc: Global, source: Source, full: &[Placed]) -> bool {
     }
 }
 
-fn merges_with_ranges(alloc: Global, source: Source) -> bool {
-    match placed_merged_of(alloc, source) {
-        Some(full) => {
-            let is_so = merges_to_ranges(alloc, source, full.as_slice());
-            drop(full);
-            is_so
-        }
-        None => true,
-    }
+fn merges_with_ranges(alloc: Global, source: Source) -> Option<bool> {
+    let full = placed_merged_of(alloc, source)?;
+    let is_so = merges_to_ranges(alloc, source, full.as_slice());
+    drop(full);
+    Some(is_so)
 }
 
 /// Returns whether two lists are equal.
@@ -187,15 +178,11 @@ fn all_of_text(alloc: Global, source: Source) -> Result<(Vec<Placed>, Option<Ask
 }
 
 /// Returns whether all events are returned at once, with the callback, or neither.
-fn collects(alloc: Global, source: Source) -> bool {
-    match placed_of(alloc, source) {
-        Some(full) => {
-            let is_so = are_all(all_of_text(alloc, source), full.as_slice());
-            drop(full);
-            is_so
-        }
-        None => true,
-    }
+fn collects(alloc: Global, source: Source) -> Option<bool> {
+    let full = placed_of(alloc, source)?;
+    let is_so = are_all(all_of_text(alloc, source), full.as_slice());
+    drop(full);
+    Some(is_so)
 }
 
 /// Returns the HTML of a text.
@@ -209,38 +196,36 @@ fn html_of(alloc: Global, source: Source) -> Result<String, Fault> {
 }
 
 /// Returns whether all of the HTML is returned, or an allocation was refused.
-fn renders(alloc: Global, source: Source) -> bool {
-    let Ok(full) = html_of(alloc, source) else {
-        return true;
-    };
-    match html_of(alloc, source) {
+fn renders(alloc: Global, source: Source) -> Option<bool> {
+    let full = html_of(alloc, source).ok()?;
+    let is_so = match html_of(alloc, source) {
         Ok(html) => html.as_str() == full.as_str(),
         Err(fault) => fault == Fault::Memory,
-    }
+    };
+    drop(full);
+    Some(is_so)
 }
 
 /// Returns whether the old text is followed by all of the HTML, or by a prefix of it where an allocation was refused.
-fn pushes(alloc: Global, source: Source) -> bool {
-    match html_of(alloc, source) {
-        Ok(full) => writes_html(alloc, source, full.as_str()),
-        Err(_) => true,
-    }
+fn pushes(alloc: Global, source: Source) -> Option<bool> {
+    let full = html_of(alloc, source).ok()?;
+    let is_so = writes_html(alloc, source, full.as_str());
+    drop(full);
+    is_so
 }
 
 /// Returns the same for this HTML.
-fn writes_html(alloc: Global, source: Source, html: &str) -> bool {
+fn writes_html(alloc: Global, source: Source, html: &str) -> Option<bool> {
     match parser(alloc, source) {
         Ok(parser) => writes(alloc, parser, html),
-        Err(fault) => fault == Fault::Memory,
+        Err(fault) => Some(fault == Fault::Memory),
     }
 }
 
-/// Returns whether each call that the block pass makes fits, or an allocation was refused.
-fn fits(alloc: Global, source: Source) -> bool {
-    match misfits(alloc, source.text, source.options()) {
-        Ok(count) => count == 0,
-        Err(_) => true,
-    }
+/// Returns whether each call that the block pass makes fits, or None where an allocation was refused.
+fn fits(alloc: Global, source: Source) -> Option<bool> {
+    let count = misfits(alloc, source.text, source.options()).ok()?;
+    Some(count == 0)
 }
 
 /// Returns the outline of the events of a text.
@@ -281,18 +266,18 @@ fn is_outline(given: Result<Vec<Entry>, Fault>, full: &[Entry]) -> bool {
     }
 }
 
-fn outlines(alloc: Global, source: Source) -> bool {
-    match outline_read(alloc, source) {
-        Ok(full) => is_outline(outline_read(alloc, source), full.as_slice()),
-        Err(fault) => fault == Fault::Memory,
-    }
+fn outlines(alloc: Global, source: Source) -> Option<bool> {
+    let full = outline_read(alloc, source).ok()?;
+    let is_so = is_outline(outline_read(alloc, source), full.as_slice());
+    drop(full);
+    Some(is_so)
 }
 
-fn outlines_blocks(alloc: Global, source: Source) -> bool {
-    match outline_of_blocks(alloc, source) {
-        Ok(full) => is_outline(outline_of_blocks(alloc, source), full.as_slice()),
-        Err(fault) => fault == Fault::Memory,
-    }
+fn outlines_blocks(alloc: Global, source: Source) -> Option<bool> {
+    let full = outline_of_blocks(alloc, source).ok()?;
+    let is_so = is_outline(outline_of_blocks(alloc, source), full.as_slice());
+    drop(full);
+    Some(is_so)
 }
 
 /// A way to read a text.
@@ -325,11 +310,12 @@ static READINGS: [(&str, Reading); 11] = [
     ("outline_of", Reading::OutliningBlocks),
 ];
 
-/// Returns whether what is promised for a way to read a text holds.
-fn stands(alloc: Global, reading: Reading, source: Source) -> bool {
+/// Returns whether what is promised for a way to read a text holds, or None where an allocation was refused for what it
+/// is compared with.
+fn stands(alloc: Global, reading: Reading, source: Source) -> Option<bool> {
     match reading {
         Reading::Fitting => fits(alloc, source),
-        Reading::Making => makes(alloc, source),
+        Reading::Making => Some(makes(alloc, source)),
         Reading::Walking => walks(alloc, source),
         Reading::WalkingWithRanges => walks_with_ranges(alloc, source),
         Reading::Merging => merges(alloc, source),
@@ -342,20 +328,22 @@ fn stands(alloc: Global, reading: Reading, source: Source) -> bool {
     }
 }
 
-/// Returns the first way for which what is promised does not hold.
-fn broken_reading(alloc: Global, source: Source) -> Option<&'static str> {
+/// Returns the first way for which what is promised does not hold, and counts those that were not compared.
+fn broken_reading(alloc: Global, source: Source, uncompared: &mut usize) -> Option<&'static str> {
     for (name, reading) in &READINGS {
-        if !stands(alloc, *reading, source) {
-            return Some(*name);
+        match stands(alloc, *reading, source) {
+            Some(true) => {}
+            Some(false) => return Some(*name),
+            None => *uncompared = uncompared.saturating_add(1),
         }
     }
     None
 }
 
-/// Returns the first text for which it does not hold, and the way.
-pub fn broken(alloc: Global) -> Option<(&'static str, &'static str)> {
+/// Returns the first text for which it does not hold, and the way, and counts what was not compared.
+pub fn broken(alloc: Global, uncompared: &mut usize) -> Option<(&'static str, &'static str)> {
     for source in &SOURCES {
-        if let Some(name) = broken_reading(alloc, *source) {
+        if let Some(name) = broken_reading(alloc, *source, uncompared) {
             return Some((name, source.text));
         }
     }

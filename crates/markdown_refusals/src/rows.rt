@@ -1,17 +1,17 @@
-//! The promises by name, each with whether it holds.
+//! The promises by name, each with whether it holds, or with None where an allocation was refused for what it needs.
 use crate::tables::{Call, answers_again};
 use crate::{events, lists, tables, texts, trees};
 use std::alloc::Global;
 
-pub fn all(alloc: Global) -> [(&'static str, bool); 23] {
+pub fn all(alloc: Global) -> [(&'static str, Option<bool>); 23] {
     [
         (
             "a slice is copied without memory",
-            texts::copies_a_slice(alloc),
+            Some(texts::copies_a_slice(alloc)),
         ),
         (
             "a slice is freed from its source or gone",
-            texts::frees_a_slice(alloc),
+            Some(texts::frees_a_slice(alloc)),
         ),
         (
             "a text on the heap is copied whole or stays",
@@ -25,15 +25,15 @@ pub fn all(alloc: Global) -> [(&'static str, bool); 23] {
         ("a refused push leaves the tree", trees::pushes(alloc)),
         (
             "a good tree is never refused for its rules",
-            trees::checks(alloc),
+            Some(trees::checks(alloc)),
         ),
         (
             "the merged events are a beginning, and then an error ends them",
-            lists::merges(alloc),
+            Some(lists::merges(alloc)),
         ),
         (
             "the merged ranges are a beginning, and then an error ends them",
-            lists::merges_with_ranges(alloc),
+            Some(lists::merges_with_ranges(alloc)),
         ),
         (
             "the old text stands, and then a beginning of the HTML of any events",
@@ -74,11 +74,11 @@ pub fn all(alloc: Global) -> [(&'static str, bool); 23] {
         ),
         (
             "a definition is freed from its source or gone",
-            texts::frees_a_definition(alloc),
+            Some(texts::frees_a_definition(alloc)),
         ),
         (
             "a broken link is freed from its source or gone",
-            texts::frees_a_broken_link(alloc),
+            Some(texts::frees_a_broken_link(alloc)),
         ),
         ("an event is copied whole or stays", events::copies(alloc)),
         (

@@ -1,4 +1,5 @@
 //! The promises of definitions, footnotes and allocations: after a refusal the same call returns what it always does.
+use markdown_base::block_parts::HeadingAttributes;
 use markdown_base::cow_str::CowStr;
 use markdown_base::fault::Fault;
 use markdown_base::tag::{Alignment, LinkType};
@@ -25,26 +26,50 @@ fn made(alloc: Global) -> Option<Allocations<'static>> {
     Allocations::new(alloc, parts).ok()
 }
 
-/// Allocates a link, and returns its number.
-fn put_link(held: &mut Allocations<'static>) -> Result<usize, Fault> {
-    let made = held.allocate_link(
+/// Returns whether a text is put in under the first number.
+fn puts_text(held: &mut Allocations<'static>) -> Result<bool, Fault> {
+    let ix = held.allocate_cow(CowStr::Borrowed("a"))?;
+    Ok(ix.0 == 0 && held[ix].as_str() == "a")
+}
+
+/// Returns whether a link is put in under the first number.
+fn puts_link(held: &mut Allocations<'static>) -> Result<bool, Fault> {
+    let ix = held.allocate_link(
         LinkType::Inline,
         CowStr::Borrowed("u"),
         CowStr::Borrowed("t"),
         CowStr::Borrowed("i"),
     )?;
-    Ok(made.0)
+    let (link_type, destination, title, id) = &held[ix];
+    Ok(
+        ix.0 == 0
+            && *link_type == LinkType::Inline
+            && destination.as_str() == "u"
+            && title.as_str() == "t"
+            && id.as_str() == "i",
+    )
 }
 
-/// Allocates alignments, and returns their number.
-fn put_alignments(alloc: Global, held: &mut Allocations<'static>) -> Result<usize, Fault> {
-    let none: Vec<Alignment> = Vec::new(alloc);
-    Ok(held.allocate_alignment(none)?.0)
+/// Returns whether alignments are put in under the first number.
+fn puts_alignments(alloc: Global, held: &mut Allocations<'static>) -> Result<bool, Fault> {
+    let ix = held.allocate_alignment(vec![in alloc; Alignment::Center]?)?;
+    Ok(ix.0 == 0 && held[ix].as_slice() == [Alignment::Center].as_slice())
 }
 
-/// Allocates a heading's attributes, and returns their number.
-fn put_attributes(alloc: Global, held: &mut Allocations<'static>) -> Result<usize, Fault> {
-    Ok(held.allocate_heading(no_attributes(alloc))?.0 as usize)
+/// Returns whether a heading's attributes are put in under the first number.
+fn puts_attributes(alloc: Global, held: &mut Allocations<'static>) -> Result<bool, Fault> {
+    let mut attributes = no_attributes(alloc);
+    attributes.id = Some(CowStr::Borrowed("i"));
+    let ix = held.allocate_heading(attributes)?;
+    Ok(ix.0 == 1 && has_id(&held[ix]))
+}
+
+/// Returns whether a heading's attributes have this id.
+fn has_id(attributes: &HeadingAttributes<'_>) -> bool {
+    match &attributes.id {
+        Some(id) => id.as_str() == "i",
+        None => false,
+    }
 }
 
 /// Returns whether a key finds the definition.
@@ -86,27 +111,26 @@ fn answers(alloc: Global, held: &mut Allocations<'static>, call: Call) -> Result
         Call::LookUp => looks_up(held),
         Call::Contains => held.footdefs.contains("N"),
         Call::LookUpUses => is_unused(held),
-        Call::PutText => Ok(held.allocate_cow(CowStr::Borrowed("a"))?.0 == 0),
-        Call::PutLink => Ok(put_link(held)? == 0),
-        Call::PutAlignments => Ok(put_alignments(alloc, held)? == 0),
-        Call::PutAttributes => Ok(put_attributes(alloc, held)? == 1),
+        Call::PutText => puts_text(held),
+        Call::PutLink => puts_link(held),
+        Call::PutAlignments => puts_alignments(alloc, held),
+        Call::PutAttributes => puts_attributes(alloc, held),
     }
 }
 
 /// Returns whether a call does so, at once or after a refusal: a refused call allocates nothing, and changes nothing
 /// else.
-pub fn answers_again(alloc: Global, call: Call) -> bool {
-    let Some(mut held) = made(alloc) else {
-        return true;
-    };
-    match answers(alloc, &mut held, call) {
+pub fn answers_again(alloc: Global, call: Call) -> Option<bool> {
+    let mut held = made(alloc)?;
+    let is_so = match answers(alloc, &mut held, call) {
         Ok(answered) => answered,
         Err(fault) => {
             fault == Fault::Memory
                 && is_as_made(&mut held)
                 && answers(alloc, &mut held, call) == Ok(true)
         }
-    }
+    };
+    Some(is_so)
 }
 
 /// Returns how often the footnote has been used, or None where an allocation was refused.
@@ -119,15 +143,13 @@ fn uses(held: &mut Allocations<'static>) -> Option<usize> {
 }
 
 /// Returns whether a use is counted once, and not at all where an allocation was refused.
-pub fn counts(alloc: Global) -> bool {
-    let Some(mut held) = made(alloc) else {
-        return true;
-    };
+pub fn counts(alloc: Global) -> Option<bool> {
+    let mut held = made(alloc)?;
     let counted = held.footdefs.count_use("N");
     let expected = if counted == Ok(true) { 1 } else { 0 };
     let seen = match uses(&mut held) {
         Some(seen) => Some(seen),
         None => uses(&mut held),
     };
-    counted != Ok(false) && seen == Some(expected)
+    Some(counted != Ok(false) && seen == Some(expected))
 }

@@ -35,19 +35,15 @@ pub fn frees_a_slice(alloc: Global) -> bool {
 }
 
 /// Returns whether a boxed text is copied, and unchanged where an allocation was refused.
-pub fn copies_a_boxed_text(alloc: Global) -> bool {
-    match boxed(alloc) {
-        Ok(text) => is_text_or_refused(text.try_clone(alloc)) && text.as_str() == LONG,
-        Err(_) => true,
-    }
+pub fn copies_a_boxed_text(alloc: Global) -> Option<bool> {
+    let text = boxed(alloc).ok()?;
+    Some(is_text_or_refused(text.try_clone(alloc)) && text.as_str() == LONG)
 }
 
 /// Returns whether a text that is owned already becomes `'static` without allocating.
-pub fn frees_a_boxed_text(alloc: Global) -> bool {
-    match boxed(alloc) {
-        Ok(text) => is_text(text.into_static(alloc)),
-        Err(_) => true,
-    }
+pub fn frees_a_boxed_text(alloc: Global) -> Option<bool> {
+    let text = boxed(alloc).ok()?;
+    Some(is_text(text.into_static(alloc)))
 }
 
 fn definition(dest: CowStr<'static>, title: CowStr<'static>) -> LinkDef<'static> {
@@ -72,13 +68,26 @@ fn is_definition_or_refused(made: Result<LinkDef<'_>, Fault>) -> bool {
     }
 }
 
-/// Returns whether a definition is copied, and unchanged where an allocation was refused.
-pub fn copies_a_definition(alloc: Global) -> bool {
-    let (Ok(dest), Ok(title)) = (boxed(alloc), boxed(alloc)) else {
-        return true;
-    };
+/// Returns whether a definition is copied, at once or after a refusal, and unchanged.
+pub fn copies_a_definition(alloc: Global) -> Option<bool> {
+    let dest = boxed(alloc).ok()?;
+    let title = boxed(alloc).ok()?;
     let held = definition(dest, title);
-    is_definition_or_refused(held.try_clone(alloc)) && is_definition(&held)
+    let is_copied = match held.try_clone(alloc) {
+        Ok(copy) => is_definition(&copy),
+        Err(fault) => {
+            fault == Fault::Memory && is_definition(&held) && is_made(held.try_clone(alloc))
+        }
+    };
+    Some(is_copied && is_definition(&held))
+}
+
+/// Returns whether the definition is made.
+fn is_made(made: Result<LinkDef<'_>, Fault>) -> bool {
+    match made {
+        Ok(made) => is_definition(&made),
+        Err(_) => false,
+    }
 }
 
 pub fn frees_a_definition(alloc: Global) -> bool {

@@ -19,29 +19,27 @@ fn paragraph(alloc: Global) -> Result<Tree<Item>, AllocError> {
 }
 
 /// Returns whether `append` adds a node and moves the cursor to it, or changes nothing.
-pub fn appends(alloc: Global) -> bool {
-    let Ok(mut tree) = paragraph(alloc) else {
-        return true;
-    };
+pub fn appends(alloc: Global) -> Option<bool> {
+    let mut tree = paragraph(alloc).ok()?;
     let before = tree.len();
-    match tree.append(item(0, 1, ItemBody::Rule)) {
+    let is_so = match tree.append(item(0, 1, ItemBody::Rule)) {
         Ok(ix) => ix == before && tree.cur() == Some(ix),
         Err(_) => tree.len() == before && tree.cur() == Some(1),
-    }
+    };
+    Some(is_so)
 }
 
 /// Returns whether `push` enters the paragraph, or changes nothing.
-pub fn pushes(alloc: Global) -> bool {
-    let Ok(mut tree) = paragraph(alloc) else {
-        return true;
-    };
+pub fn pushes(alloc: Global) -> Option<bool> {
+    let mut tree = paragraph(alloc).ok()?;
     if tree.cur().is_none() {
-        return false;
+        return Some(false);
     }
-    match tree.push() {
+    let is_so = match tree.push() {
         Ok(ix) => ix == 1 && tree.cur().is_none() && tree.walk_spine().len() == 1,
         Err(_) => tree.cur() == Some(1) && tree.walk_spine().len() == 0,
-    }
+    };
+    Some(is_so)
 }
 
 /// A text, followed by the eight open bodies.

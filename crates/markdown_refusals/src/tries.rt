@@ -183,24 +183,24 @@ pub fn gives<L: Listed, I: Iterator<Item = Result<L::Item, Fault>> + Drop>(
     false
 }
 
-/// Returns whether the old text is followed by all of the HTML; or by a prefix of it, and the error is `Memory`.
+/// Returns whether the old text is followed by all of the HTML; or by a prefix of it, and the error is `Memory`. None
+/// where there is no old text.
 pub fn writes<'a, I: Iterator<Item = Result<Event<'a>, Fault>>>(
     alloc: Global,
     events: I,
     html: &str,
-) -> bool
+) -> Option<bool>
     requires can { I.can_next events }
     requires ends { IsFinite (I.remaining events) }
 {
-    let Ok(mut written) = String::from_str(alloc, "old") else {
-        return true;
-    };
+    let mut written = String::from_str(alloc, "old").ok()?;
     let ended = push_html(alloc, &mut written, events);
-    match written.as_str().strip_prefix("old") {
+    let is_so = match written.as_str().strip_prefix("old") {
         None => false,
         Some(front) => match ended {
             Ok(()) => front == html,
             Err(fault) => fault == Fault::Memory && html.starts_with(front),
         },
-    }
+    };
+    Some(is_so)
 }
