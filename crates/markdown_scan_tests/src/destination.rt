@@ -85,7 +85,12 @@ fn nested_parentheses() -> Result<(), Fail> {
             false,
         ),
     ] {
-        gives(text, destination_of(text, max_nesting).is_some(), is_one)?;
+        let wanted = if is_one {
+            Some((text.len(), text))
+        } else {
+            None
+        };
+        gives(text, destination_of(text, max_nesting), wanted)?;
     }
     Ok(())
 }

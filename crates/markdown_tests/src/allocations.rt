@@ -102,7 +102,7 @@ fn put_alignments(
     held: &mut Allocations<'_>,
 ) -> Result<(AlignmentIndex, [bool; 3]), Fault> {
     let ix = held.allocate_alignment(vec![in alloc; Alignment::Center]?)?;
-    let is_there = held[ix].len() == 1;
+    let is_there = held[ix].as_slice() == [Alignment::Center].as_slice();
     let is_taken = is_centered(held.take_alignment(ix));
     Ok((ix, [is_there, is_taken, held[ix].is_empty()]))
 }

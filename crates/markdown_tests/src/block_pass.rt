@@ -1,7 +1,9 @@
 //! The block pass on small texts.
 use crate::rows::fits;
-use markdown_base::item::ItemBody;
+use markdown_base::block_parts::BlockParts;
+use markdown_base::item::{Item, ItemBody};
 use markdown_base::options::Options;
+use markdown_base::tree::Tree;
 use markdown_plain::blocks;
 use markdown_test_helpers::documents::random_text;
 use markdown_test_helpers::rows::gives;
@@ -24,14 +26,14 @@ fn name_of(alloc: Global, body: ItemBody) -> Result<String, AllocError> {
 
 /// Checks the items of the blocks of a text.
 fn has_blocks(alloc: Global, text: &str, want: &str) -> Result<(), Fail> {
-    fits(alloc, text, Options::ENABLE_GFM)?;
+    fits(alloc, text, Options::empty())?;
     let list = listed(alloc, text)?;
     gives(text, list.as_str(), want)
 }
 
 /// Returns the items of a text's blocks.
 fn listed(alloc: Global, text: &str) -> Result<String, AllocError> {
-    let (mut tree, parts) = blocks(alloc, text, Options::ENABLE_GFM)?;
+    let (mut tree, parts) = blocks(alloc, text, Options::empty())?;
     let mut list = String::new(alloc);
     let done = push_items(alloc, &mut list, &mut tree, name_of);
     drop(tree);
@@ -103,8 +105,8 @@ fn breaks(rt: HostRuntime) -> Result<(), Fail> {
 #[test]
 fn nothing_is_named(rt: HostRuntime) -> Result<(), Fail> {
     let text = "a  \nb\\\n\nc";
-    fits(rt.alloc(), text, Options::ENABLE_GFM)?;
-    let (tree, parts) = blocks(rt.alloc(), text, Options::ENABLE_GFM)?;
+    fits(rt.alloc(), text, Options::empty())?;
+    let (tree, parts) = blocks(rt.alloc(), text, Options::empty())?;
     let nodes = tree.len();
     let named = [
         parts.definitions.len(),
@@ -118,19 +120,74 @@ fn nothing_is_named(rt: HostRuntime) -> Result<(), Fail> {
     gives("nodes, and each kind of part", (nodes, named), (7, [0; 5]))
 }
 
-/// Checks that each call of the block pass for a text fits, without footnotes and with those of each style.
-fn fits_with_footnotes(alloc: Global, text: &str) -> Result<(), Fail> {
-    fits(alloc, text, Options::empty())?;
-    fits(alloc, text, Options::ENABLE_FOOTNOTES)?;
-    fits(alloc, text, Options::ENABLE_OLD_FOOTNOTES)
+/// Returns how many letters `é` are in the bytes from `start` to `end` of a text.
+fn count_in(text: &str, start: usize, end: usize) -> usize {
+    match text.get(start..end) {
+        Some(part) => part.matches('é').count(),
+        None => 0,
+    }
+}
+
+/// Returns how many are in the inline items of a tree. The walk ends after 10,000 steps.
+fn count_in_items(text: &str, tree: &mut Tree<Item>) -> usize {
+    let mut count = 0usize;
+    tree.reset();
+    for _ in 0..10000 {
+        if let Some(ix) = tree.cur() {
+            let item = *tree.item(ix);
+            if item.body.is_inline() {
+                count = count.saturating_add(count_in(text, item.start, item.end));
+            }
+            if tree.push().is_err() {
+                return count;
+            }
+        } else if let Some(ix) = tree.pop() {
+            tree.next_sibling(ix);
+        } else {
+            return count;
+        }
+    }
+    count
+}
+
+/// Returns how many are in the info strings and in the ranges of the definitions.
+fn count_in_parts(text: &str, parts: &BlockParts<'_>) -> usize {
+    let mut count = 0usize;
+    for info in &parts.cows {
+        count = count.saturating_add(info.as_str().matches('é').count());
+    }
+    for (_, link) in &parts.definitions {
+        count = count.saturating_add(count_in(text, link.span.start, link.span.end));
+    }
+    count
+}
+
+/// Checks that each letter `é` of a text is in an item, in an info string or in a definition, and in only one; and that
+/// each call of the block pass fits.
+fn keeps_letters(alloc: Global, text: &str, options: Options) -> Result<(), Fail> {
+    fits(alloc, text, options)?;
+    let (mut tree, parts) = blocks(alloc, text, options)?;
+    let in_items = count_in_items(text, &mut tree);
+    let in_parts = count_in_parts(text, &parts);
+    drop(tree);
+    drop(parts);
+    let found = in_items.saturating_add(in_parts);
+    gives((text, options), found, text.matches('é').count())
+}
+
+/// Checks the same without footnotes and with those of each style.
+fn keeps_letters_with_footnotes(alloc: Global, text: &str) -> Result<(), Fail> {
+    keeps_letters(alloc, text, Options::empty())?;
+    keeps_letters(alloc, text, Options::ENABLE_FOOTNOTES)?;
+    keeps_letters(alloc, text, Options::ENABLE_OLD_FOOTNOTES)
 }
 
 #[test]
-fn each_call_fits(rt: HostRuntime) -> Result<(), Fail> {
+fn no_letter_is_lost(rt: HostRuntime) -> Result<(), Fail> {
     let mut seed = 1;
     for _ in 0..1000 {
         let text = random_text(rt.alloc(), &mut seed)?;
-        fits_with_footnotes(rt.alloc(), text.as_str())?;
+        keeps_letters_with_footnotes(rt.alloc(), text.as_str())?;
     }
     Ok(())
 }

@@ -13,7 +13,7 @@ use std::test::Fail;
 
 /// Returns whether a tree is a well-formed block result over a text.
 pub fn is_well_formed(alloc: Global, over: &'static str, tree: Tree<Item>) -> Result<bool, Fault> {
-    match Blocks::checked(alloc, over, Options::ENABLE_GFM, tree, one_of_each(alloc)?) {
+    match Blocks::checked(alloc, over, Options::empty(), tree, one_of_each(alloc)?) {
         Ok(blocks) => {
             drop(blocks);
             Ok(true)

@@ -164,21 +164,27 @@ fn forms_of_references(rt: HostRuntime) -> Result<(), Fail> {
     Ok(())
 }
 
-/// Returns whether a target is of this type with this destination, or is None for None.
-fn is_target(found: &Option<Target<'_>>, wanted: Option<(LinkType, &str)>) -> bool {
+/// A target's type, destination and title.
+type Wanted = (LinkType, &'static str, &'static str);
+
+/// Returns whether a target has this type, destination and title, or is None for None.
+fn is_target(found: &Option<Target<'_>>, wanted: Option<Wanted>) -> bool {
     match found {
-        Some(target) => wanted == Some((target.link_type, target.destination.as_str())),
+        Some(target) => {
+            let texts = (target.destination.as_str(), target.title.as_str());
+            wanted == Some((target.link_type, texts.0, texts.1))
+        }
         None => wanted.is_none(),
     }
 }
 
-/// Returns whether a label finds a link of this type with this destination, or nothing for None, and what is then left of
+/// Returns whether a label finds a link of this type, destination and title, or nothing for None, and what is then left of
 /// the limit.
 fn finds<'a, F: BrokenLinkCallback<'a>>(
     alloc: Global,
     lookup: &mut LabelLookup<'a, F>,
     label: &'a str,
-    wanted: Option<(LinkType, &str)>,
+    wanted: Option<Wanted>,
 ) -> Result<(bool, usize), Fault>
     requires { IfSome lookup.old.callback F.can_ask }
     ensures { IfSome lookup.new.callback F.can_ask }
@@ -204,8 +210,8 @@ fn look_up_each<'a, F: BrokenLinkCallback<'a>>(
     requires { IfSome lookup.old.callback F.can_ask }
     ensures { IfSome lookup.new.callback F.can_ask }
 {
-    let defined = Some((LinkType::Shortcut, "/u"));
-    let answered = Some((LinkType::ShortcutUnknown, "YOLO"));
+    let defined = Some((LinkType::Shortcut, "/u", ""));
+    let answered = Some((LinkType::ShortcutUnknown, "YOLO", "SWAG"));
     Ok([
         finds(alloc, lookup, "a", defined)?,
         finds(alloc, lookup, "b", answered)?,

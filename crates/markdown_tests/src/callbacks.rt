@@ -18,15 +18,20 @@ fn broken_link() -> BrokenLink<'static> {
     }
 }
 
-/// Returns whether a callback answers a question with this destination, or with None where none is wanted.
-fn answers<'input, C: BrokenLinkCallback<'input>>(callback: &mut C, wanted: Option<&str>) -> bool
+/// A destination and a title.
+type Target = (&'static str, &'static str);
+
+const TARGET: Option<Target> = Some(("url", "title"));
+
+/// Returns whether a callback answers a question with this destination and title, or with None where none are wanted.
+fn answers<'input, C: BrokenLinkCallback<'input>>(callback: &mut C, wanted: Option<Target>) -> bool
     requires { C.can_ask callback.old }
     ensures { C.can_ask callback.new }
 {
     let answer = callback.handle_broken_link(broken_link());
     let is_so = match &answer {
         None => wanted.is_none(),
-        Some((destination, _)) => wanted == Some(destination.as_str()),
+        Some((destination, title)) => wanted == Some((destination.as_str(), title.as_str())),
     };
     drop(answer);
     is_so
@@ -66,10 +71,7 @@ fn a_closure_answers_and_keeps_count() -> Result<(), Fail> {
             Some((CowStr::Borrowed("url"), CowStr::Borrowed("title")))
         },
     );
-    let answered = [
-        answers(&mut closure, Some("url")),
-        answers(&mut closure, Some("url")),
-    ];
+    let answered = [answers(&mut closure, TARGET), answers(&mut closure, TARGET)];
     drop(closure);
     gives("answers and questions", (answered, asked), ([true; 2], 2))
 }
@@ -82,7 +84,7 @@ fn a_boxed_object_answers_and_the_default_does_not(rt: HostRuntime) -> Result<()
     let answered = [
         is_silent,
         answers(&mut boxed, None),
-        answers(&mut boxed, Some("url")),
+        answers(&mut boxed, TARGET),
     ];
     drop(boxed);
     gives("answers", answered, [true; 3])

@@ -43,6 +43,11 @@ fn quotes(rt: HostRuntime) -> Result<(), Fail> {
                 "> a\n---\n",
                 "0 BlockQuote(None) 0..4;1 Paragraph 2..4;2 T 2..3;0 Rule 4..8;",
             ),
+            (
+                "> [a](b \"x\n> y\")",
+                "0 BlockQuote(None) 0..16;1 Paragraph 2..16;2 MaybeLinkOpen 2..3;2 T 3..4;2 MaybeLinkClose(true) 4..5;\
+                2 T 5..10;2 SoftBreak 10..11;2 T 13..16;",
+            ),
             (">", "0 BlockQuote(None) 0..1;"),
         ],
     )
@@ -134,7 +139,7 @@ fn footnotes(rt: HostRuntime) -> Result<(), Fail> {
         (
             Options::ENABLE_FOOTNOTES,
             "[^x]: [a]: b\n",
-            "0 FootnoteDefinition(CowIndex(0)) 0..13;[a]: <b> \"\" 6..12;",
+            "0 FootnoteDefinition(CowIndex(0)) 0..13;[a]: <b> 6..12;",
         ),
         (
             Options::ENABLE_OLD_FOOTNOTES,

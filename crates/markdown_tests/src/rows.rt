@@ -15,7 +15,7 @@ fn printed(alloc: Global, body: ItemBody) -> Result<String, AllocError> {
     format!(in alloc; "{body:?}")
 }
 
-/// Appends a definition: its label, its destination, its title, and its range.
+/// Appends a definition: its label, its destination, its title, if it has one, and its range.
 fn push_definition(
     alloc: Global,
     list: &mut String,
@@ -23,17 +23,18 @@ fn push_definition(
     link: &LinkDef<'_>,
 ) -> Result<(), AllocError> {
     let title = match &link.title {
-        Some(title) => title.as_str(),
-        None => "",
+        Some(title) => format!(in alloc; "\"{}\" ", title.as_str())?,
+        None => String::new(alloc),
     };
     let row = format!(in alloc;
-        "[{}]: <{}> \"{}\" {}..{};",
+        "[{}]: <{}> {}{}..{};",
         label,
         link.dest.as_str(),
-        title,
+        title.as_str(),
         link.span.start,
         link.span.end
     )?;
+    drop(title);
     list.push_str(row.as_str())
 }
 
@@ -85,10 +86,10 @@ pub fn assert_made(alloc: Global, text: &str, options: Options, want: &str) -> R
     gives(text, made.as_str(), want)
 }
 
-/// Checks the items and the definitions of each text.
+/// Checks the items and the definitions of each text, read with no options.
 pub fn compare(alloc: Global, rows: &[(&str, &str)]) -> Result<(), Fail> {
     for (text, want) in rows {
-        assert_made(alloc, text, Options::ENABLE_GFM, want)?;
+        assert_made(alloc, text, Options::empty(), want)?;
     }
     Ok(())
 }

@@ -113,6 +113,12 @@ fn are_held(alloc: Global, text: &str, form: &str) -> Result<[bool; 4], AllocErr
     ])
 }
 
+/// Returns whether what is held of a text in place is the text, or None where it is too long.
+fn is_held_in_place(text: &str) -> Option<bool> {
+    let held = InlineStr::new(text)?;
+    Some(held.as_str() == text)
+}
+
 #[test]
 fn texts_are_copied(rt: HostRuntime) -> Result<(), Fail> {
     let alloc = rt.alloc();
@@ -123,7 +129,8 @@ fn texts_are_copied(rt: HostRuntime) -> Result<(), Fail> {
         ("12345678901234567890123", "boxed"),
     ] {
         gives(text, are_held(alloc, text, form)?, [true; 4])?;
-        gives(text, InlineStr::new(text).is_some(), form == "in place")?;
+        let wanted = if form == "in place" { Some(true) } else { None };
+        gives(text, is_held_in_place(text), wanted)?;
     }
     let in_place = [
         is_held(CowStr::from('a').try_clone(alloc), "a", "in place"),
@@ -136,18 +143,20 @@ fn texts_are_copied(rt: HostRuntime) -> Result<(), Fail> {
 fn texts_are_printed(rt: HostRuntime) -> Result<(), Fail> {
     let printed = format!(in rt.alloc(); "{} {:?}", CowStr::from("b"), CowStr::from("c"))?;
     gives("printed", printed.as_str(), "b \"c\"")?;
-    gives("lent", lent_bytes(&CowStr::from("bc")), 2)?;
-    gives("as a str", str_length(&CowStr::from("bc")), 2)
+    let text = CowStr::from("bc");
+    let lent = (lent_words(&text) == "bc", lent_as_str(&text) == "bc");
+    drop(text);
+    gives("lent", lent, (true, true))
 }
 
-/// Returns the length of a `str` in bytes.
-fn str_length(text: &str) -> usize {
-    text.len()
+/// Returns a `str`, to which a call coerces its argument.
+fn lent_as_str(text: &str) -> &str {
+    text
 }
 
-/// Returns the length in bytes of a value as a `str`.
-fn lent_bytes<T: AsStr>(text: &T) -> usize {
-    text.as_str().len()
+/// Returns a value as a `str`.
+fn lent_words<T: AsStr>(text: &T) -> &str {
+    text.as_str()
 }
 
 #[test]
