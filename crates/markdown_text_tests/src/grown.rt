@@ -22,6 +22,20 @@ fn paragraph_of(alloc: Global, bytes: usize) -> Result<Tree<Item>, AllocError> {
     Ok(tree)
 }
 
+/// Appends the event of an item that stays a text.
+fn push_text(
+    alloc: Global,
+    events: &mut String,
+    source: &str,
+    item: &Item,
+) -> Result<(), AllocError> {
+    let Some(words) = source.get(item.start..item.end) else {
+        return events.push_str("no text");
+    };
+    let event = format!(in alloc; "[{words}]{}..{} ", item.start, item.end)?;
+    events.push_str(event.as_str())
+}
+
 impl Grown {
     /// Returns an empty text, and a paragraph that will have this number of bytes.
     pub fn new(alloc: Global, bytes: usize) -> Result<Grown, AllocError> {
@@ -60,9 +74,21 @@ impl Grown {
         tree_gives(alloc, row, source.as_str(), tree, wanted)
     }
 
-    /// Returns the number of its events, and the counts of the work.
-    pub fn counted(self, alloc: Global) -> Result<(usize, Work), Fail> {
+    /// Returns the counts of the work.
+    pub fn counted(self, alloc: Global) -> Result<Work, Fail> {
         let Grown { source, tree } = self;
         counted(alloc, source.as_str(), tree)
+    }
+
+    /// Returns the events where each item stays a text, each with its range.
+    pub fn texts(&self, alloc: Global) -> Result<String, AllocError> {
+        let bytes = self.source.len();
+        let mut events = format!(in alloc; "<p>0..{bytes} ")?;
+        for ix in 2..self.tree.len() {
+            push_text(alloc, &mut events, self.source.as_str(), self.tree.item(ix))?;
+        }
+        let end = format!(in alloc; "</p>0..{bytes} ")?;
+        events.push_str(end.as_str())?;
+        Ok(events)
     }
 }

@@ -177,6 +177,10 @@ const RANGES: Rows = &[
     ),
     // titles and destinations are slices of the text, except where something is replaced
     (
+        "[a](<b c>)",
+        "<p>0..10 <a Inline (b c) () ()>0..10 [a]1..2 </a>0..10 </p>0..10 ",
+    ),
+    (
         "[a](b (t))",
         "<p>0..10 <a Inline (b) (t) ()>0..10 [a]1..2 </a>0..10 </p>0..10 ",
     ),

@@ -345,7 +345,7 @@ fn trees_made_by_hand(rt: HostRuntime) -> Result<(), Fail> {
             // quotes in a link begin anew
             (
                 "\"[a\"](b)",
-                &[Options::ENABLE_SMART_PUNCTUATION],
+                &[],
                 QUOTES_IN_A_LINK,
                 Given::Html("<p>“<a href=\"b\">a“</a></p>\n"),
             ),

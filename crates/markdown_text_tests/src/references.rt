@@ -2,7 +2,7 @@
 //! definition.
 ghost use Rattle.std.specs.Prelude.{◌≡◌, ◌+◌, ◌%◌, ◌^◌};
 
-use crate::rows::{Rows, Table, check};
+use crate::rows::{Given, Rows, Table, check};
 use markdown_base::cow_str::CowStr;
 use markdown_base::item::ItemBody;
 use markdown_base::options::Options;
@@ -298,46 +298,69 @@ fn answers(rt: HostRuntime) -> Result<(), Fail> {
     Ok(())
 }
 
-/// Checks the rendering of a text with a callback.
-fn is_rendered<'a, F: BrokenLinkCallback<'a>>(
+/// Checks the rendering of a text with a callback, or its events.
+fn is_given<'a, F: BrokenLinkCallback<'a>>(
     alloc: Global,
     source: &'a str,
     callback: F,
-    wanted: &str,
+    given: Given,
 ) -> Result<(), Fail>
     requires { F.can_ask callback }
 {
-    let options = Options::empty();
-    fits(alloc, source, options)?;
-    let html = or_fail(render(alloc, source, options, Some(callback)))?;
-    gives(source, html.as_str(), wanted)
+    match given {
+        Given::Html(wanted) => {
+            let options = Options::empty();
+            fits(alloc, source, options)?;
+            let html = or_fail(render(alloc, source, options, Some(callback)))?;
+            gives(source, html.as_str(), wanted)
+        }
+        Given::Events(wanted) => {
+            let parser = parser_asking(alloc, source, callback)?;
+            let (events, callback) = or_fail(all_noted(alloc, parser))?;
+            drop(callback);
+            gives(source, events.as_str(), wanted)
+        }
+    }
 }
 
-/// Checks the rendering of a text with a boxed callback that has these answers.
-fn is_rendered_with(alloc: Global, source: &str, reply: Reply, wanted: &str) -> Result<(), Fail> {
+/// Two labels without a definition, and what is given for them where each answer has the number of its question.
+const NUMBERED: (&str, [Given; 2]) = (
+    "[a] [b]",
+    [
+        Given::Html("<p><a href=\"/1\">a</a> <a href=\"/2\">b</a></p>\n"),
+        Given::Events(
+            "<p>0..7 <a ShortcutUnknown +(/1) () (a)>0..3 [a]1..2 </a>0..3 [ ]3..4 \
+            <a ShortcutUnknown +(/2) () (b)>4..7 [b]5..6 </a>4..7 </p>0..7 ",
+        ),
+    ],
+);
+
+/// Checks what is given for a text with a boxed callback that has these answers.
+fn is_given_with(alloc: Global, source: &str, reply: Reply, given: Given) -> Result<(), Fail> {
     let boxed: Box<dyn BoxedCallback> = Box::new(alloc, Replying::new(alloc, reply))?;
-    is_rendered(alloc, source, boxed, wanted)
+    is_given(alloc, source, boxed, given)
 }
 
 #[test]
-fn html_with_boxed_callbacks(rt: HostRuntime) -> Result<(), Fail> {
-    for &(source, reply, wanted) in &[
+fn boxed_callbacks(rt: HostRuntime) -> Result<(), Fail> {
+    let (numbered, [html, events]) = NUMBERED;
+    for (source, reply, given) in [
+        (numbered, Reply::Number, html),
+        (numbered, Reply::Number, events),
         (
-            "[a] [b]",
-            Reply::Number,
-            "<p><a href=\"/1\">a</a> <a href=\"/2\">b</a></p>\n",
+            "[a]",
+            Reply::Target("", ""),
+            Given::Html("<p><a href=\"\">a</a></p>\n"),
         ),
-        ("[a]", Reply::Target("", ""), "<p><a href=\"\">a</a></p>\n"),
-        ("[a]", Reply::Nothing, "<p>[a]</p>\n"),
+        ("[a]", Reply::Nothing, Given::Html("<p>[a]</p>\n")),
     ] {
-        is_rendered_with(rt.alloc(), source, reply, wanted)?;
+        is_given_with(rt.alloc(), source, reply, given)?;
     }
     Ok(())
 }
 
-#[test]
-fn html_with_a_closure_that_counts(rt: HostRuntime) -> Result<(), Fail> {
-    let alloc = rt.alloc();
+/// Checks what is given with a closure that counts its questions, and that there are two.
+fn is_given_with_a_closure(alloc: Global, source: &str, given: Given) -> Result<(), Fail> {
     let mut asked = 0u64;
     let numbering = |link: BrokenLink| -> Option<(CowStr, CowStr)>
         ensures counted { asked.exit ≡ (asked.entry + 1) % 2 ^ 64 }
@@ -347,9 +370,15 @@ fn html_with_a_closure_that_counts(rt: HostRuntime) -> Result<(), Fail> {
         let destination = format!(in alloc; "/{asked}").ok()?;
         Some((CowStr::from(destination), CowStr::Borrowed("")))
     };
-    let wanted = "<p><a href=\"/1\">a</a> <a href=\"/2\">b</a></p>\n";
-    is_rendered(alloc, "[a] [b]", Closure::new(numbering), wanted)?;
+    is_given(alloc, source, Closure::new(numbering), given)?;
     gives("questions", asked, 2)
+}
+
+#[test]
+fn closures_that_count(rt: HostRuntime) -> Result<(), Fail> {
+    let (source, [html, events]) = NUMBERED;
+    is_given_with_a_closure(rt.alloc(), source, html)?;
+    is_given_with_a_closure(rt.alloc(), source, events)
 }
 
 /// Returns the events of a text, with `X` for the answer, and the questions, with a callback that answers with this

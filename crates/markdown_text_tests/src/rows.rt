@@ -211,9 +211,9 @@ pub fn tree_gives(
     parser_gives(alloc, row, parser, wanted)
 }
 
-/// Returns the number of events of a tree over a text, and the counts of the work.
-pub fn counted(alloc: Global, source: &str, tree: Tree<Item>) -> Result<(usize, Work), Fail> {
+/// Returns the counts of the work of a walk of a tree over a text.
+pub fn counted(alloc: Global, source: &str, tree: Tree<Item>) -> Result<Work, Fail> {
     let mut parser = parser_of(alloc, source, Options::empty(), tree, no_parts(alloc))?;
-    let events = count_left(&mut parser);
-    Ok((events, parser.work()))
+    count_left(&mut parser);
+    Ok(parser.work())
 }

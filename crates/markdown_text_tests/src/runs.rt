@@ -113,7 +113,7 @@ fn a_thousand_runs_of_three_lengths(rt: HostRuntime) -> Result<(), Fail> {
 
 #[test]
 fn work_of_a_thousand_runs_of_three_lengths(rt: HostRuntime) -> Result<(), Fail> {
-    let (_, work) = three_lengths(rt.alloc())?.counted(rt.alloc())?;
+    let work = three_lengths(rt.alloc())?.counted(rt.alloc())?;
     gives(
         "delimiters, and whether few are examined",
         (work.delimiters, work.examined <= 21989),
@@ -170,7 +170,7 @@ fn stay_apart(
 ) -> Result<(), Fail> {
     let wanted = apart_given(alloc, bytes)?;
     apart(alloc, runs, bytes)?.gives(alloc, "runs that never pair", wanted.as_str())?;
-    let (_, work) = apart(alloc, runs, bytes)?.counted(alloc)?;
+    let work = apart(alloc, runs, bytes)?.counted(alloc)?;
     gives(
         runs,
         (work.delimiters, work.examined <= examined),

@@ -5,7 +5,6 @@ use crate::rows::{Given, Rows, Table, check, check_made};
 use markdown_base::index::{AlignmentIndex, in_32_bits};
 use markdown_base::item::ItemBody;
 use markdown_base::options::Options;
-use markdown_document::work::Work;
 use markdown_test_helpers::rows::gives;
 use markdown_test_parsers::made::{Placed, TEXT};
 use std::alloc::{AllocError, Global};
@@ -217,19 +216,19 @@ fn trees_made_by_hand(rt: HostRuntime) -> Result<(), Fail> {
         &[
             (
                 "$a $b$",
-                &[Options::ENABLE_MATH],
+                &[],
                 DOLLARS,
                 Given::Events("<p>0..6 [$]0..1 [a ]1..3 $b$3..6 </p>0..6 "),
             ),
             (
                 "$a $b$",
-                &[Options::ENABLE_MATH],
+                &[],
                 DOLLARS,
                 Given::Html("<p>$a <span class=\"math math-inline\">b</span></p>\n"),
             ),
             (
                 "`a\\|b`",
-                &[Options::ENABLE_TABLES],
+                &[],
                 CODE_IN_A_CELL,
                 Given::Html(
                     "<table><thead><tr><th><code>a|b</code></th></tr></thead><tbody>\n</tbody></table>\n",
@@ -237,7 +236,7 @@ fn trees_made_by_hand(rt: HostRuntime) -> Result<(), Fail> {
             ),
             (
                 "`a\\|b`",
-                &[Options::ENABLE_TABLES],
+                &[],
                 CODE_IN_A_CELL,
                 Given::Events(
                     "<table []>0..6 <thead>0..6 <td>0..6 +`a|b`0..6 </td>0..6 </thead>0..6 </table>0..6 ",
@@ -257,25 +256,14 @@ fn append_backticks(alloc: Global, over: &mut Grown, count: usize) -> Result<(),
     over.append_a()
 }
 
-/// Returns the number of events of runs of 1 up to 100 backticks, and the counts of the work.
-fn counted_of_backticks(alloc: Global) -> Result<(usize, Work), Fail> {
+/// Returns runs of 1 up to 100 backticks.
+fn backticks(alloc: Global) -> Result<Grown, AllocError> {
     // 5050 backticks and 100 characters `a`
     let mut over = Grown::new(alloc, 5150)?;
     for count in 1..101 {
         append_backticks(alloc, &mut over, count)?;
     }
-    over.counted(alloc)
-}
-
-#[test]
-fn backticks_of_rising_lengths(rt: HostRuntime) -> Result<(), Fail> {
-    let (events, work) = counted_of_backticks(rt.alloc())?;
-    let once_each = work.code_visits == 199 || work.code_visits == 200;
-    gives(
-        "events, items, whether each is visited once",
-        (events, work.items, once_each),
-        (202, 200, true),
-    )
+    Ok(over)
 }
 
 /// Appends a dollar, followed by a text.
@@ -284,22 +272,37 @@ fn append_dollar(over: &mut Grown, context: u8) -> Result<(), AllocError> {
     over.append_a()
 }
 
-/// Returns the number of events of a hundred dollars, each in braces of its own, and the counts of the work.
-fn counted_of_dollars(alloc: Global) -> Result<(usize, Work), Fail> {
+/// Returns a hundred dollars, each in braces of its own.
+fn dollars(alloc: Global) -> Result<Grown, AllocError> {
     let mut over = Grown::new(alloc, 200)?;
     for context in 0..100 {
         append_dollar(&mut over, context)?;
     }
-    over.counted(alloc)
+    Ok(over)
+}
+
+/// Checks that each item stays a text.
+fn stays(alloc: Global, row: &str, over: Grown) -> Result<(), Fail> {
+    let wanted = over.texts(alloc)?;
+    over.gives(alloc, row, wanted.as_str())
 }
 
 #[test]
-fn dollars_of_a_hundred_contexts(rt: HostRuntime) -> Result<(), Fail> {
-    let (events, work) = counted_of_dollars(rt.alloc())?;
-    let once_each = work.math_visits == 199 || work.math_visits == 200;
+fn openers_that_never_close(rt: HostRuntime) -> Result<(), Fail> {
+    stays(rt.alloc(), "backticks", backticks(rt.alloc())?)?;
+    let code = backticks(rt.alloc())?.counted(rt.alloc())?;
+    stays(rt.alloc(), "dollars", dollars(rt.alloc())?)?;
+    let math = dollars(rt.alloc())?.counted(rt.alloc())?;
+    // each item after the first opener is visited once
+    let once_each = 199..201;
     gives(
-        "events, items, whether each is visited once",
-        (events, work.items, once_each),
-        (202, 200, true),
+        "items, and whether each is visited once",
+        (
+            code.items,
+            once_each.contains(&code.code_visits),
+            math.items,
+            once_each.contains(&math.math_visits),
+        ),
+        (200, true, 200, true),
     )
 }
