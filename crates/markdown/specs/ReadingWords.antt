@@ -6,8 +6,8 @@ pub use Rattle.markdown_inline.specs.ParserLeft.{reading_of, expansion_limit, bl
 pub use Rattle.markdown_document.specs.Origins.{Origin, sliced, inlined, made, IsSliceWithin}
 pub use Rattle.markdown_document.specs.LinkOrigins.{LinkOrigins, destination_origin, IsLinkFrom, IsTitleFrom}
 pub use Rattle.markdown_document.specs.Places.{follows_pipe, origin_start}
-pub use Rattle.markdown_document.specs.LinkOrigins.{IsWrittenTitle, LeadsToSlice}
-pub use Rattle.markdown_document.specs.LinkTitle.{Title, title_at}
+pub use Rattle.markdown_document.specs.LinkOrigins.{LeadsToSlice, titles_for}
+pub use Rattle.markdown_document.specs.LinkTitle.{Title, title_at, title_origin}
 -- the tree of a block result, and the reading of it
 pub use Rattle.markdown_inline.specs.ResolvedDocument.{Resolution, Resolving, resolved_blocks, resolved_document}
 pub use Rattle.markdown_inline.specs.ResolvedDocument.{resolved_chain}
@@ -25,7 +25,7 @@ pub use Rattle.markdown_inline.specs.declared.walk.OffsetIter.{OffsetIter}
 -- an item of a parser, and all of them
 pub use Rattle.markdown_inline.specs.NextGives.{NextGives, GivesItem, GivesError, GivesNone, IsEventOf, IsPlacedOf}
 pub use Rattle.markdown_inline.specs.Runs.{AreOf, GaveAll, WasRefused, IsRun, GaveRest, GaveBeginning}
-pub use Rattle.markdown_inline.specs.Slices.{IsSliceOf, slice_start, texts_of, IsFrom, AreFrom, StartIsFrom}
+pub use Rattle.markdown_inline.specs.Slices.{IsSliceOf, slice_start, texts_of, titles_in, IsFrom, AreFrom, StartIsFrom}
 -- between two calls
 pub use Rattle.markdown_inline.specs.OneForest.{IsOneForest, ReadsOneForest}
 -- the events of a whole document

@@ -66,7 +66,7 @@ around_bytes other inner = codes "?"
 
 abbrev shape_bytes : Shape → List ℕ → List ℕ
 shape_bytes (leaf e origins) inner = leaf_bytes e
-shape_bytes (enclosed tag) inner = around_bytes tag inner
+shape_bytes (enclosed tag origins) inner = around_bytes tag inner
 shape_bytes other inner = codes "?"
 
 abbrev shown : Forest Plain → List ℕ

@@ -63,7 +63,7 @@ module _ {A B : Type 0} (f : A → B) where
 
   abbrev pub annotate_becomes : Becomes A → Becomes B
   annotate_becomes a_text = a_text
-  annotate_becomes (a_link o target end next) = a_link (annotate_split o) target end next
+  annotate_becomes (a_link o target titles end next) = a_link (annotate_split o) target titles end next
   annotate_becomes (a_footnote o name) = a_footnote (annotate_split o) name
   annotate_becomes (a_wikilink o found end) = a_wikilink (annotate_split o) (annotate_wikilink found) end
 
@@ -266,8 +266,9 @@ module _ {A B : Type 0} (f : A → B) where
         let rules = w.setting.rules in
         by (look_up rules.definitions rules.asks p.state.limit p.state.answers (question_at o r))
       where
-        target : (t : Option LinkView) → unwrap_or (option_map (λ t. a_link (annotate_split o) t r.end r.next) t) a_text
-            ≡ annotate_becomes (unwrap_or (option_map (λ t. a_link o t r.end r.next) t) a_text)
+        target : (t : Option LinkView)
+            → unwrap_or (option_map (λ t. a_link (annotate_split o) t [] r.end r.next) t) a_text
+            ≡ annotate_becomes (unwrap_or (option_map (λ t. a_link o t [] r.end r.next) t) a_text)
         target None = refl
         target (Some t) = refl
 
@@ -399,7 +400,7 @@ module _ {A B : Type 0} (f : A → B) where
         → put w (annotate_closing c) (annotate_becomes becomes) (annotate_progress f p) ≡ annotate_progress f
         (put w c becomes p)
     put_annotate c a_text p = refl
-    put_annotate c (a_link o target end next) p = rw
+    put_annotate c (a_link o target titles end next) p = rw
         (inside_annotate o, before_link_annotate o.state.is_image o.before) refl
     put_annotate c (a_footnote o name) p =
         rw (before_footnote_annotate o.before)

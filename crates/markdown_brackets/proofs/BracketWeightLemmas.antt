@@ -95,7 +95,7 @@ module _ {A : Type 0} (w : BracketContext) (c : Closing A) (n : ℕ) where
     bracket_goes = λ left h. same_change weights_marked opens_bracket without_bracket (λ m. tt) left ∙ h;
     wikilink_goes = λ left h. same_change weights_marked opens_wikilink without_wikilink (λ m. tt) left ∙ h;
     text = λ left h. let l = least c.node in omega (arith, h, l);
-    link = λ left o target end h found live.
+    link = λ left o target titles end h found live.
         let at = w_nearest opens_bracket left o found in
         let before = same_before_link weights_marked o.state.is_image o.before in
         let inner = w_onto o.after nil in

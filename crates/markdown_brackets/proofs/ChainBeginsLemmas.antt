@@ -32,7 +32,8 @@ begins_onto test (waits m a ∷ left) one other k h = begins_onto test left (nod
     (λ first. first) h
 
 module _ {A : Type 0} (w : BracketContext) (test : Shape → Bool) (events : (e : EventView) (origins : List Origin)
-    → test (leaf e origins) ≡ true) (tags : (tag : TagView) → test (enclosed tag) ≡ true) where
+    → test (leaf e origins) ≡ true) (tags : (tag : TagView) (origins : List Origin)
+    → test (enclosed tag origins) ≡ true) where
   -- the first tree of a left list passes, or this is true where there is none
   abbrev First : Bool → List (Entry A) → Type 0
   First none [] = none ≡ true
@@ -105,16 +106,16 @@ module _ {A : Type 0} (w : BracketContext) (test : Shape → Bool) (events : (e 
       bracket_goes = λ left. same_change first_marked opens_bracket without_bracket (λ m. tt) left true;
       wikilink_goes = λ left. same_change first_marked opens_wikilink without_wikilink (λ m. tt) left true;
       text = λ left h. first_or left (λ k. events _ _) h;
-      link = λ left o target end h found live.
+      link = λ left o target titles end h found live.
           let at = first_nearest opens_bracket left o found h in
-          same_before_link first_marked o.state.is_image o.before _ (first_or o.before (λ k. tags _) at);
+          same_before_link first_marked o.state.is_image o.before _ (first_or o.before (λ k. tags _ _) at);
       footnote = λ left o name h found live.
           let at = first_nearest opens_bracket left o found h in
           first_footnote o.state.is_image o.opener name _ (before_footnote o.before)
           (same_before_footnote first_marked o.before _ at);
       wikilink = λ left o v end h found live is.
           let at = first_nearest opens_wikilink left o found h in
-          same_before_wikilink first_marked o.before _ (first_or o.before (λ k. tags _) at);
+          same_before_wikilink first_marked o.before _ (first_or o.before (λ k. tags _ _) at);
     }
 
   module _ (others : Reader A) (rule : BeginsSo test others) where

@@ -8,11 +8,11 @@ use Rattle.markdown_base.specs.Event.{LinkView}
 use Rattle.markdown_base.specs.Forest.{nil}
 use Rattle.markdown_base.specs.declared.tag.LinkType.{LinkType}
 use Rattle.markdown_base.specs.declared.tag.LinkType.TheVariants as kind
-use Rattle.markdown_document.specs.Document.{as_text}
+use Rattle.markdown_document.specs.Document.{Origin, as_text}
 use Rattle.markdown_document.specs.ChainRest.{start_of, end_of}
 use Rattle.markdown_brackets.specs.BracketOptions.{footnote_style}
 use Rattle.markdown_brackets.specs.BracketDecision.{BracketContext, Closing, Written, LinkReference, Progress, Wikilink}
-use Rattle.markdown_brackets.specs.BracketDecision.{a_link}
+use Rattle.markdown_brackets.specs.BracketDecision.{a_link, inline_title}
 use Rattle.markdown_brackets.specs.BracketDecision.{a_text, block_text, bracket_found, carried_out, closer_ends_at}
 use Rattle.markdown_brackets.specs.BracketDecision.{decided, footnote_label, footnote_written, form_of, found, full}
 use Rattle.markdown_brackets.specs.BracketDecision.{inline_link, inline_target, label_of_opener, left_for_one, lines}
@@ -166,10 +166,10 @@ pub record Cases {A : Type 0} (w : BracketContext) (c : Closing A) (q p : List (
   pub bracket_goes : (left : List (Entry A)) → q left → q (bracket_taken left)
   pub wikilink_goes : (left : List (Entry A)) → q left → q (wikilink_taken left)
   pub text : (left : List (Entry A)) → q left → p (done (as_text w.setting.text c.node) nil ∷ left)
-  pub link : (left : List (Entry A)) (o : Split A) (target : LinkView) (end : ℕ) → q left → nearest opens_bracket left
-      ≡ Some o
+  pub link : (left : List (Entry A)) (o : Split A) (target : LinkView) (titles : List Origin) (end : ℕ) → q left
+      → nearest opens_bracket left ≡ Some o
       → is_live o.state.bracket ≡ true
-      → p (done (linked o target end) (inside o) ∷ before_link o.state.is_image o.before)
+      → p (done (linked o target titles end) (inside o) ∷ before_link o.state.is_image o.before)
   pub footnote : (left : List (Entry A)) (o : Split A) (name : List ℕ) → q left → nearest opens_bracket left ≡ Some o
       → is_live o.state.bracket ≡ true
       → p (footnote_onto w c o.state.is_image o.opener name (before_footnote o.before))
@@ -177,7 +177,7 @@ pub record Cases {A : Type 0} (w : BracketContext) (c : Closing A) (q p : List (
       ≡ Some o
       → is_live o.state.wikilink ≡ true
       → wikilink_in w (past_second (inside o)) (start_of c.node) ≡ Some v
-      → p (done (linked o (wikilink_target v) end) v.children ∷ before_wikilink o.before)
+      → p (done (linked o (wikilink_target v) [] end) v.children ∷ before_wikilink o.before)
 
 module _ {A : Type 0} (w : BracketContext) (c : Closing A) (before after : List (Entry A) → Type 0)
     (k : Cases w c before after)
@@ -188,7 +188,7 @@ module _ {A : Type 0} (w : BracketContext) (c : Closing A) (before after : List 
         (k.text now.left goes)
         (found_cases w c before stays Holds second
         (λ left o h e live. record {
-          inline = λ t is. k.link left o (inline_target w t) t.ends h e live;
+          inline = λ t is. k.link left o (inline_target w t) (inline_title w t ∷ []) t.ends h e live;
           refers = λ r way.
               let rules = w.setting.rules in
               let result = look_up rules.definitions rules.asks p.state.limit p.state.answers (question_at o r) in
@@ -215,6 +215,6 @@ module _ {A : Type 0} (w : BracketContext) (c : Closing A) (before after : List 
         refers : (left : List (Entry A)) (o : Split A) (r : LinkReference) → before left → nearest opens_bracket left
             ≡ Some o
             → is_live o.state.bracket ≡ true → (target : Option LinkView) (p : Progress A) → before p.left
-            → after (put w c (unwrap_or (option_map (λ t. a_link o t r.end r.next) target) a_text) p).left
+            → after (put w c (unwrap_or (option_map (λ t. a_link o t [] r.end r.next) target) a_text) p).left
         refers left o r h e live None p g = k.text p.left g
-        refers left o r h e live (Some t) p g = k.link left o t r.end h e live
+        refers left o r h e live (Some t) p g = k.link left o t [] r.end h e live

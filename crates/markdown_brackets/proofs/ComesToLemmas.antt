@@ -11,7 +11,7 @@ use Rattle.markdown_base.specs.declared.item.ItemBody.{ItemBody}
 use Rattle.markdown_base.specs.declared.tag.LinkType.{LinkType}
 use Rattle.markdown_base.specs.declared.tag.LinkType.TheVariants as kind
 use Rattle.markdown_document.specs.ChainRest.{start_of}
-use Rattle.markdown_document.specs.LinkOrigins.{IsTitleFrom}
+use Rattle.markdown_document.specs.LinkOrigins.{IsTitleFrom, titles_for}
 use Rattle.markdown_document.specs.Origins.{origin_of}
 use Rattle.markdown_document.specs.Setting.{uses_of}
 use Rattle.markdown_document.specs.declared.chain_place.ChainPlace.{ChainPlace}
@@ -24,8 +24,8 @@ use Rattle.markdown_defs.specs.FootnoteCounts as footnotes
 use Rattle.markdown_brackets.specs.BracketDecision.{BracketContext, Becomes, Written, LinkReference, Progress, a_text}
 use Rattle.markdown_brackets.specs.BracketDecision.{a_link}
 use Rattle.markdown_brackets.specs.BracketDecision.{a_footnote, carried_out, footnote_label, footnote_written}
-use Rattle.markdown_brackets.specs.BracketDecision.{inline_link, inline_target, link_reference, looked_up, question_at}
-use Rattle.markdown_brackets.specs.BracketDecision.{to_be, uses_once_more}
+use Rattle.markdown_brackets.specs.BracketDecision.{inline_link, inline_target, inline_title, link_reference, looked_up}
+use Rattle.markdown_brackets.specs.BracketDecision.{question_at, to_be, uses_once_more}
 use Rattle.markdown_brackets.specs.BracketOptions.{footnote_style}
 use Rattle.markdown_brackets.specs.DecisionView.{IsBecome, knowing}
 use Rattle.markdown_brackets.specs.FootnoteUse.{is_reference}
@@ -36,7 +36,7 @@ use Rattle.markdown_brackets.specs.Lookup.{LookedUp, answered, look_up, unknown}
 use Rattle.markdown_brackets.specs.LookupView.{LooksUp}
 use Rattle.markdown_brackets.specs.StandsAt.{Spends, ComesTo, bracket_context_by, reference_to}
 use Rattle.markdown_brackets.specs.SpentEnds.{is_spent}
-use Rattle.markdown_brackets.specs.TargetOrigins.{IsLookedUp, IsTargetFrom}
+use Rattle.markdown_brackets.specs.TargetOrigins.{IsLookedUp, IsTargetFrom, titles_of}
 use Rattle.markdown_brackets.specs.declared.closing_bracket.ClosedBracket.{ClosedBracket}
 use Rattle.markdown_brackets.specs.declared.closing_bracket.ClosedBracket.TheVariants.{Text}
 use Rattle.markdown_brackets.specs.declared.footnote.FootnoteStyle.{FootnoteStyle}
@@ -71,6 +71,13 @@ none_inline defined asks limit answers q h =
     by (Some a) later = unknown_looked_up q.link_type h
 
 -- so nothing is said of its title
+pub no_titles : (target : Target) → IsLookedUp target.link_type → titles_of target ≡ []
+no_titles target h = by target.link_type h
+  where
+    by : (link_type : LinkType) → IsLookedUp link_type → titles_for link_type (origin_of target.title) ≡ []
+    by kind.Inline h = absurd h
+    by other h = refl
+
 pub none_from : (source : List ℕ) (start end : ℕ) (target : Target) → IsLookedUp target.link_type
     → IsTargetFrom source start end target
 none_from source start end target h = by target.link_type h
@@ -111,11 +118,11 @@ module _ {C : Type 0} (step : C → Question → Option Answer → C → Type 0)
   pub comes_to_tail : (o : Split ℕ) (other : Option (Written ℕ)) (t : Option scanned.LinkTail) (tail : LinkTail)
       (found : ClosedBracket) → ReadsTail w.above.in_table t (Some tail)
       → ((t : scanned.LinkTail) → IsTail w.above.in_table t tail
-      → IsBecome w (a_link o (inline_target w t) t.ends t.ends) found)
+      → IsBecome w (a_link o (inline_target w t) (inline_title w t ∷ []) t.ends t.ends) found)
       → ComesTo step w (option_or (option_map (inline_link o) t) other) old old spent spent found
   comes_to_tail o other None tail found reads is = absurd reads
   comes_to_tail o other (Some t) tail found reads is = comes_unasked old (Some (inline_link o t))
-      (a_link o (inline_target w t) t.ends t.ends) found refl (λ p later. refl) (is t reads)
+      (a_link o (inline_target w t) (inline_title w t ∷ []) t.ends t.ends) found refl (λ p later. refl) (is t reads)
 
 -- by another name of what was found
 pub found_as : {C : Type 0} {step : C → Question → Option Answer → C
@@ -140,7 +147,7 @@ module _ {C : Type 0} (step : C → Question → Option Answer → C → Type 0)
 
   -- a label that was looked up
   abbrev pub link_or_text : (end next : ℕ) → Option LinkView → Becomes ℕ
-  link_or_text end next target = unwrap_or (option_map (λ t. a_link o t end next) target) a_text
+  link_or_text end next target = unwrap_or (option_map (λ t. a_link o t [] end next) target) a_text
 
   pub comes_to_reference : (about : BrokenLink) (next : ℕ) (spends : List ℕ) (spent spent' : SpentEnds)
       (target : Option LinkView) (found : ClosedBracket)

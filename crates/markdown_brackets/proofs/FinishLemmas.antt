@@ -354,7 +354,7 @@ pub finished : (nodes : List (Node Item)) (found : ClosedBracket)
 finished nodes Text brackets wikilinks brackets' wikilinks' f w c closer left a_text p s rises split is eb ew ep =
     (f.0 ∙ eb ∙ ap brackets_of (sym ep), f.1 ∙ ew ∙ ap wikilinks_of (sym ep))
 finished nodes (Link opener target end next) brackets wikilinks brackets' wikilinks' f w c closer left
-    (a_link o view to on) p s rises split is eb ew ep =
+    (a_link o view titles to on) p s rises split is eb ew ep =
     let left_then = rw (is.0, eb, ew) at f in (
       left_then.0 ∙ link_brackets nodes closer left c s rises o split o.state.is_image,
       left_then.1 ∙ link_wikilinks nodes closer left c s rises o split o.state.is_image,

@@ -24,7 +24,8 @@ use Rattle.markdown_brackets.proofs.ReadChainLemmas.{Reads, chain_keeps}
 pub record KeepsNodes {A : Type 0} (base p : TreeNode A → Type 0) : Type 0 where
   pub event : (a : TreeNode A) (e : EventView) (origins : List Origin) (start end : ℕ)
       → p (over a (leaf e origins) start end)
-  pub tag : (a : TreeNode A) (t : TagView) (start end : ℕ) → p (over a (enclosed t) start end)
+  pub tag : (a : TreeNode A) (t : TagView) (origins : List Origin) (start end : ℕ)
+      → p (over a (enclosed t origins) start end)
   pub text : (source : List ℕ) (a : TreeNode A) → base a → p (as_text source a)
   pub cut : (i : ℕ) (a : TreeNode A) → p a → p (begun_at i a)
   pub cut_base : (i : ℕ) (a : TreeNode A) → base a → base (begun_at i a)
@@ -95,9 +96,9 @@ module _ {A : Type 0} {base p : TreeNode A → Type 0} (k : KeepsNodes base p) w
         bracket_goes = same_change each_marked opens_bracket without_bracket (λ m. tt);
         wikilink_goes = same_change each_marked opens_wikilink without_wikilink (λ m. tt);
         text = λ left h. (k.text w.setting.text c.node here, tt, h);
-        link = λ left o target end h found live.
+        link = λ left o target titles end h found live.
             let at = each_nearest opens_bracket left o found h in (
-              k.tag o.opener _ _ _,
+              k.tag o.opener _ _ _ _,
               each_onto o.after nil at.0 tt,
               same_before_link each_marked o.state.is_image o.before at.1,
             );
@@ -111,7 +112,7 @@ module _ {A : Type 0} {base p : TreeNode A → Type 0} (k : KeepsNodes base p) w
             (wikilink_keeps w All (λ a x y. (k.event a _ _ _ _, tt, tt)) each_from (past_second (inside o))
             (start_of c.node)
             (each_past (inside o) (each_onto o.after nil at.0 tt))) in (
-              k.tag o.opener _ _ _,
+              k.tag o.opener _ _ _ _,
               shown,
               same_before_wikilink each_marked o.before at.1,
             );

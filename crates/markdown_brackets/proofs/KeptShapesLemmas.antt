@@ -20,7 +20,8 @@ cut_passes test events n (leaf e o) h = events _ o
 cut_passes test events n other h = h
 
 module _ {A : Type 0} (w : BracketContext) (test : Shape → Bool) (events : (e : EventView) (origins : List Origin)
-    → test (leaf e origins) ≡ true) (tags : (tag : TagView) → test (enclosed tag) ≡ true) where
+    → test (leaf e origins) ≡ true) (tags : (tag : TagView) (origins : List Origin)
+    → test (enclosed tag origins) ≡ true) where
   abbrev Any : TreeNode A → Type 0
   Any a = ⊤
 
@@ -30,7 +31,7 @@ module _ {A : Type 0} (w : BracketContext) (test : Shape → Bool) (events : (e 
   passes : KeepsNodes Any Passes
   passes = record {
     event = λ a e origins start end. events e origins;
-    tag = λ a t start end. tags t;
+    tag = λ a t origins start end. tags t origins;
     text = λ source a h. events _ _;
     cut = λ i a h. cut_passes test events _ a.part.shape h;
     cut_base = λ i a h. tt;

@@ -57,8 +57,8 @@ module _ (in_table : Bool) (skipped : List ℕ → Option ℕ) (starts : ℕ →
 
     pub tail_reads : (t : Option tail.LinkTail) → ClosesAt t → Reads t
     tail_reads t c = rw (c.is, ← c.titled.ends, closes) (record {
-      reads = record { ends = refl; destination = is; title = c.titled.text_is };
-      borrows = record { destination = sliced; title = c.titled.borrowed };
+      reads = record { ends = refl; destination = is; title = c.titled.text_is; title_origin = c.titled.origin };
+      borrows = sliced;
     })
 
 -- there is no tail if nothing begins one

@@ -5,7 +5,7 @@ use Rattle.std.specs.Prelude.{⊤, ◌⊎◌, IfSome, if◌then◌else◌}
 use Rattle.std.specs.Option.{option_map, option_and_then}
 use Rattle.markdown_base.specs.Event.{LinkView, link, image}
 use Rattle.markdown_base.specs.Forest.{Forest, nil, node}
-use Rattle.markdown_document.specs.Document.{Shape, enclosed, TreeNode}
+use Rattle.markdown_document.specs.Document.{Origin, Shape, enclosed, TreeNode}
 use Rattle.markdown_document.specs.Setting.{ReferenceState}
 use Rattle.markdown_document.specs.ChainRest.{begun_at, past_byte, cut_shape, start_of}
 use Rattle.markdown_brackets.specs.BracketDecision.{BracketContext, Closing, Progress, Wikilink, over, text_from}
@@ -80,7 +80,7 @@ all_well (e ∷ left) s = (s.1, all_well left s.2)
 
 -- what is free of links has none in a link
 shape_well : {A : Type 0} (shape : Shape) (below : Forest (TreeNode A)) → IsFreeOfLinks below → HasNoneBelow shape below
-shape_well (enclosed (link v)) below h = h
+shape_well (enclosed (link v) origins) below h = h
 shape_well other below h = tt
 
 free_well : {A : Type 0} (f : Forest (TreeNode A)) → IsFreeOfLinks f → HasNoLinkInLink f
@@ -180,27 +180,27 @@ live_if i b w e h = rw (e, h) refl
 live_wikilink_if : (i b w : Bool) → i ≡ false → w ≡ true → (not i && (b || w)) ≡ true
 live_wikilink_if i b w e h = rw (e, h) (or_right b true refl)
 
-link_entry : {A : Type 0} (i : Bool) (a : TreeNode A) (target : LinkView) (start end : ℕ) (below : Forest (TreeNode A))
-    (before : List (Entry A))
+link_entry : {A : Type 0} (i : Bool) (a : TreeNode A) (target : LinkView) (titles : List Origin) (start end : ℕ)
+    (below : Forest (TreeNode A)) (before : List (Entry A))
     → IsSound before → (i ≡ false → IsFreeOfLinks below) → (any_live before ≡ true → IsFreeOfLinks below)
     → HasNoLinkInLink below
-    → IsSound (done (over a (enclosed (if i then image target else link target)) start end) below ∷ before_link i
+    → IsSound (done (over a (enclosed (if i then image target else link target) titles) start end) below ∷ before_link i
     before)
-link_entry true a target start end below before s f g h =
+link_entry true a target titles start end below before s f g h =
     let marked = same_before_link sounds_marked true before in
     (λ q. (tt, g (marked.0 q)), (tt, h), marked.1 s)
-link_entry false a target start end below before s f g h = (
+link_entry false a target titles start end below before s f g h = (
   λ q. absurd (let e = none_live (second_folded before) in cc),
   (f refl, h),
   (same_before_link sounds_marked false before).1 s,
 )
 
-wikilink_entry : {A : Type 0} (i : Bool) (a : TreeNode A) (target : LinkView) (start end : ℕ)
+wikilink_entry : {A : Type 0} (i : Bool) (a : TreeNode A) (target : LinkView) (titles : List Origin) (start end : ℕ)
     (below : Forest (TreeNode A)) (before : List (Entry A))
     → IsSound before → (i ≡ false → IsFreeOfLinks below) → HasNoLinkInLink below
-    → IsSound (done (over a (enclosed (if i then image target else link target)) start end) below ∷ before_wikilink
-    before)
-wikilink_entry i a target start end below before s f h = (
+    → IsSound (done (over a (enclosed (if i then image target else link target) titles) start end) below
+    ∷ before_wikilink before)
+wikilink_entry i a target titles start end below before s f h = (
   λ q. absurd (let e = none_live before in let d = (same_marks sounds_marked without_wikilink lowers_wikilink
       (on_states disabled_state before)).0 q in cc),
   (well i f, h),
@@ -217,7 +217,7 @@ begun_free : {A : Type 0} (i : ℕ) (a : TreeNode A) → IsNoLink a.part.shape �
 begun_free i a h = by (i - a.part.range.start) a.part.shape h
   where
     by : (n : ℕ) (shape : Shape) → IsNoLink shape → IsNoLink (cut_shape n shape)
-    by n (enclosed tag) h = h
+    by n (enclosed tag origins) h = h
     by n other h = tt
 
 begun_well : {A : Type 0} (i : ℕ) (a : TreeNode A) (below : Forest (TreeNode A)) → HasNoneBelow a.part.shape below
@@ -225,7 +225,7 @@ begun_well : {A : Type 0} (i : ℕ) (a : TreeNode A) (below : Forest (TreeNode A
 begun_well i a below h = by (i - a.part.range.start) a.part.shape h
   where
     by : (n : ℕ) (shape : Shape) → HasNoneBelow shape below → HasNoneBelow (cut_shape n shape) below
-    by n (enclosed tag) h = h
+    by n (enclosed tag origins) h = h
     by n other h = tt
 
 pub from_keeps : {A : Type 0} (p : Forest (TreeNode A) → Type 0)
@@ -303,9 +303,9 @@ module _ {A : Type 0} (w : BracketContext) (c : Closing A) where
     bracket_goes = λ left. (same_change sounds_marked opens_bracket without_bracket lowers_bracket left).1;
     wikilink_goes = λ left. (same_change sounds_marked opens_wikilink without_wikilink lowers_wikilink left).1;
     text = λ left s. (λ q. (tt, tt), (tt, tt), s);
-    link = λ left o target end s found live.
+    link = λ left o target titles end s found live.
         let at = sound_nearest opens_bracket left o found s in
-        link_entry o.state.is_image o.opener target (start_of o.opener) end (inside o) o.before at.sound
+        link_entry o.state.is_image o.opener target titles (start_of o.opener) end (inside o) o.before at.sound
         (λ e. free_onto o.after nil (at.free (or_left (is_live_link o.state) (any_live o.before)
         (live_if o.state.is_image (is_live o.state.bracket) (is_live o.state.wikilink) e live))) tt)
         (λ q. free_onto o.after nil (at.free (or_right (is_live_link o.state) (any_live o.before) q)) tt)
@@ -317,7 +317,7 @@ module _ {A : Type 0} (w : BracketContext) (c : Closing A) where
     wikilink = λ left o v end s found live is.
         let at = sound_nearest opens_wikilink left o found s in
         let shown = wikilink_in w (past_second (inside o)) (start_of c.node) in
-        wikilink_entry o.state.is_image o.opener (wikilink_target v) (start_of o.opener) end v.children o.before
+        wikilink_entry o.state.is_image o.opener (wikilink_target v) [] (start_of o.opener) end v.children o.before
         at.sound
         (λ i. some_of shown v (λ v. IsFreeOfLinks v.children) is
         (wikilink_keeps w IsFreeOfLinks (λ a x y. (tt, tt, tt)) free_from (past_second (inside o)) (start_of c.node)

@@ -1,5 +1,5 @@
 -- A left list whose nearest opener was taken off is split at that opener, and so is what a `]` becomes by it.
-use Rattle.std.proofs.Common.{ℕ, Bool, List, Option, Some, None, refl}
+use Rattle.std.proofs.Common.{ℕ, Bool, List, [], Option, Some, None, refl}
 use Rattle.std.specs.Prelude.{IfSome, unwrap_or}
 use Rattle.std.specs.Option.{option_and_then, option_map}
 use Rattle.markdown_base.specs.Event.{LinkView}
@@ -39,6 +39,6 @@ opener_splits w c left (Some o) p h =
     }))
   where
     target : (r : LinkReference) (t : Option LinkView)
-        → SplitsAs left (unwrap_or (option_map (λ t. a_link o t r.end r.next) t) a_text)
+        → SplitsAs left (unwrap_or (option_map (λ t. a_link o t [] r.end r.next) t) a_text)
     target r None = tt
     target r (Some t) = h

@@ -1,25 +1,24 @@
--- The title of a tail comes from the source: it is what is written between its marks.
-use Rattle.std.proofs.Common.{◌≡◌, ℕ, suc, ◌+◌, ◌-◌, ◌≤◌, ◌==◌, Bool, true, false, List, [], ◌∷◌, Option, Some, None}
-use Rattle.std.proofs.Common.{take, drop, slice_range, refl, ◌∙◌, ap, subst, arith, ◌<◌, is_some, nat_lt}
-use Rattle.std.proofs.Common.{unwrap_or}
+-- The title of a tail is a slice of the source where its origin says so.
+use Rattle.std.proofs.Common.{◌≡◌, ℕ, zero, suc, ◌+◌, ◌-◌, ◌≤◌, ◌==◌, Bool, true, false, List, [], ◌∷◌, Option}
+use Rattle.std.proofs.Common.{Some, None}
+use Rattle.std.proofs.Common.{take, drop, slice_range, refl, sym, ◌∙◌, ap, subst, arith, ◌<◌, is_some, nat_lt}
+use Rattle.std.proofs.Common.{unwrap_or, min}
+use Rattle.std.specs.Cmp.Lexicographic.{pointwise, same_text}
 use Rattle.std.specs.Option.{option_and_then, option_map}
-use Rattle.std.specs.Prelude.{slice_index, if◌then◌else◌, ⊤, IfSome}
+use Rattle.std.specs.Prelude.{slice_index, if◌then◌else◌, ⊤, IfSome, nat_eq}
 use Rattle.markdown_base.specs.CowText.{text_of}
-use Rattle.markdown_base.specs.StoredTexts.{IsBorrowed}
-use Rattle.markdown_base.specs.declared.cow_str.CowStr.{CowStr}
-use Rattle.markdown_base.specs.declared.cow_str.CowStr.TheVariants.{Borrowed}
 use Rattle.markdown_base.specs.Bytes.{backslash, line_feed}
 use Rattle.markdown_base.specs.declared.tag.LinkType.TheVariants as kind
 use Rattle.markdown_scan.specs.Backslash.{is_bare}
 use Rattle.markdown_scan.specs.Unescape.{unescaped}
 use Rattle.markdown_document.specs.LinkTitle.{Title, closer_of, joined_lines, next_line, title_at, title_in}
-use Rattle.markdown_document.specs.LinkOrigins.{IsWrittenTitle}
-use Rattle.markdown_document.specs.Origins.{origin_of, sliced}
+use Rattle.markdown_document.specs.LinkTitle.{title_origin}
+use Rattle.markdown_document.specs.Origins.{IsSlicedOf, IsSliceWithin, made, origin_of, sliced}
 use Rattle.markdown_document.proofs.OriginLemmas.{title_wider}
 use Rattle.markdown_brackets.specs.LinkTail as tail
 use Rattle.markdown_brackets.specs.LinkTail.{after_destination, after_title, closed_at, destination_at, link_tail}
 use Rattle.markdown_brackets.specs.LinkTail.{past_separator}
-use Rattle.markdown_brackets.specs.LinkTailView.{BorrowsTail, ReadsTail}
+use Rattle.markdown_brackets.specs.LinkTailView.{ReadsTail}
 use Rattle.markdown_brackets.specs.WrittenView.{IsTailFrom}
 use Rattle.markdown_brackets.specs.declared.link_tail.LinkTail.{LinkTail}
 use Rattle.markdown_brackets.proofs.ChainAheadLemmas.{is_below}
@@ -93,58 +92,91 @@ title_is_at starts text i = by (closer_of (slice_index text i))
         rw (joined_after starts (i + 1) 0 (i + 1) (i + 1) text (omega arith) (omega arith))
         (at (title_in closer false bytes) (is_from starts closer (i + 1) (i + 1) false (drop (i + 1) text)))
 
-borrowed_sliced : (c : CowStr) → IsBorrowed c → origin_of c ≡ sliced
-borrowed_sliced (Borrowed slice) h = refl
-borrowed_sliced other h = absurd h
+-- a title is a slice only where no lines are joined in it and nothing is replaced
+sliced_unchanged : (in_table : Bool) (written : List ℕ) (joined : Bool) → title_origin in_table written joined ≡ sliced
+    → (joined ≡ false) × (unescaped in_table written ≡ written)
+sliced_unchanged in_table written true is = cc is
+sliced_unchanged in_table written false is = (refl, by (pointwise nat_eq (unescaped in_table written) written) refl is)
+  where
+    by : (b : Bool) → pointwise nat_eq (unescaped in_table written) written ≡ b → (if b then sliced else made) ≡ sliced
+        → unescaped in_table written ≡ written
+    by true e is = same_text (unescaped in_table written) written (sym e)
+    by false e is = cc is
+
+-- an empty slice
+slice_none : (source : List ℕ) (i : ℕ) → slice_range source i i ≡ []
+slice_none source i = let none : i - i ≡ 0 = omega arith in ap (λ (n : ℕ). take n (drop i source)) none
+
+-- a slice of a text's beginning is a slice of the text
+take_nothing : (n : ℕ) → ◌≡◌ {A = List ℕ} (take n []) []
+take_nothing zero = refl
+take_nothing (suc n) = refl
+
+take_of_take : (n m : ℕ) (bytes : List ℕ) → take n (take m bytes) ≡ take (min n m) bytes
+take_of_take zero m bytes = let none : 0 ≡ min 0 m = omega arith in ap (λ (k : ℕ). take k bytes) none
+take_of_take (suc n) zero bytes = let none : 0 ≡ min (suc n) 0 = omega arith in ap (λ (k : ℕ). take k bytes) none
+take_of_take (suc n) (suc m) [] = sym (take_nothing (min (suc n) (suc m)))
+take_of_take (suc n) (suc m) (b ∷ bytes) =
+    let more : suc (min n m) ≡ min (suc n) (suc m) = omega arith in
+    ap (λ (l : List ℕ). b ∷ l) (take_of_take n m bytes) ∙ ap (λ (k : ℕ). take k (b ∷ bytes)) more
+
+drop_of_take : (n m : ℕ) (bytes : List ℕ) → drop n (take m bytes) ≡ take (m - n) (drop n bytes)
+drop_of_take zero m bytes = let all : m ≡ m - 0 = omega arith in ap (λ (k : ℕ). take k bytes) all
+drop_of_take (suc n) zero bytes =
+    let none : 0 ≡ 0 - suc n = omega arith in ap (λ (k : ℕ). take k (drop (suc n) bytes)) none
+drop_of_take (suc n) (suc m) [] = sym (take_nothing (suc m - suc n))
+drop_of_take (suc n) (suc m) (b ∷ bytes) =
+    let less : m - n ≡ suc m - suc n = omega arith in
+    drop_of_take n m bytes ∙ ap (λ (k : ℕ). take k (drop n bytes)) less
+
+slice_of_take : (source : List ℕ) (end from to : ℕ) → slice_range (take end source) from to
+    ≡ slice_range source from (min to end)
+slice_of_take source end from to =
+    let both : min (to - from) (end - from) ≡ min to end - from = omega arith in
+    ap (λ (l : List ℕ). take (to - from) l) (drop_of_take from end source)
+    ∙ take_of_take (to - from) (end - from) (drop from source) ∙ ap (λ (n : ℕ). take n (drop from source)) both
 
 module _ (in_table : Bool) (skipped : List ℕ → Option ℕ) (starts : ℕ → Option ℕ) (source : List ℕ) (block_end at : ℕ)
     (found : LinkTail) where
   abbrev text : List ℕ
   text = take block_end source
 
-  -- the title of what was found is written in the text, from the byte `at` on and before the end
+  -- the title of what was found is a slice of the text, from the byte `at` on and before the end, if its origin says so
   abbrev IsWritten : Type 0
-  IsWritten = (text_of found.title ≡ [] → ⊥) → IsWrittenTitle source at found.end (origin_of found.title)
-      (text_of found.title)
+  IsWritten = IsSlicedOf source at found.end (origin_of found.title) (text_of found.title)
 
   -- it is, where that is this tail
   abbrev Titled : Option tail.LinkTail → Type 0
-  Titled t = ReadsTail in_table t (Some found) → BorrowsTail t (Some found) → IsWritten
+  Titled t = ReadsTail in_table t (Some found) → IsWritten
 
   closed : (i : ℕ) (written title : List ℕ) (joined : Bool)
-      → (found.end ≡ i + 1 → text_of found.title ≡ unescaped in_table title
-      → (joined ≡ false → text_of found.title ≡ title → IsBorrowed found.title) → IsWritten)
-      → Titled (closed_at text i written title joined)
+      → (found.end ≡ i + 1 → joined ≡ false → text_of found.title ≡ title
+      → IsSliceWithin source at found.end (text_of found.title)) → Titled (closed_at text i written title joined)
   closed i written title joined h = by (slice_index text i == 41)
     where
       by : (b : Bool)
           → Titled (if b then Some (record { ends = i + 1; destination = written; title = title; is_joined = joined })
           else None)
-      by true reads borrows = h reads.ends reads.title borrows.title
-      by false reads borrows = absurd reads
+      by true reads is =
+          let as_written = sliced_unchanged in_table title joined (sym reads.title_origin ∙ is) in
+          h reads.ends as_written.0 (reads.title ∙ as_written.1)
+      by false reads is = absurd reads
 
   past : (i : ℕ) → i ≤ past_separator skipped text i
   past i = omega arith
 
   titled : (next : ℕ) (written : List ℕ) (o : Option Title) → at ≤ next → title_at starts text next ≡ o
       → Titled (after_title skipped text next written o)
-  titled next written None later e = closed next written [] false (λ ends empty borrows some. absurd (some empty))
+  titled next written None later e = closed next written [] false (λ ends unjoined same.
+      ∣ (record { start = next; end = next }, later, omega (arith, ends), same ∙ sym (slice_none source next)) ∣₁)
   titled next written (Some t) later e = closed (past_separator skipped text t.ends) written t.text t.is_joined
-      (λ ends reads borrows some. record {
-        starts = starts;
-        block_end = block_end;
-        at = next;
-        in_table = in_table;
-        written = t;
-        is_written = e;
-        from = later;
-        to = omega (arith, ends, past t.ends);
-        reads = reads;
-        slice = λ unjoined same. (
-          borrowed_sliced found.title (borrows unjoined same),
-          same ∙ (subst (IsTitleAt text next) e (title_is_at starts text next)).1 unjoined,
-        );
-      })
+      (λ ends unjoined same. ∣ (
+        record { start = next + 1; end = min (t.ends - 1) block_end },
+        omega (arith, later),
+        omega (arith, ends, past t.ends),
+        same ∙ (subst (IsTitleAt text next) e (title_is_at starts text next)).1 unjoined
+            ∙ slice_of_take source block_end (next + 1) (t.ends - 1),
+      ) ∣₁)
 
   tail_titled : Titled (link_tail skipped starts text at)
   tail_titled = by (slice_index text at == 40)
@@ -153,7 +185,7 @@ module _ (in_table : Bool) (skipped : List ℕ → Option ℕ) (starts : ℕ →
       start = past_separator skipped text (at + 1)
 
       led : (d : Option (ℕ × List ℕ)) → Titled (after_destination skipped starts text start d)
-      led None = λ reads borrows. absurd reads
+      led None = λ reads. absurd reads
       led (Some d) =
           let next = past_separator skipped text (start + d.0) in
           titled next d.1 (title_at starts text next) (omega (arith, past (at + 1), past (start + d.0))) refl
@@ -161,17 +193,16 @@ module _ (in_table : Bool) (skipped : List ℕ → Option ℕ) (starts : ℕ →
       by : (b : Bool)
           → Titled (if b then after_destination skipped starts text start (destination_at text start) else None)
       by true = led (destination_at text start)
-      by false = λ reads borrows. absurd reads
+      by false = λ reads. absurd reads
 
 -- the title of a tail that was read up to a block's end
 pub has_title : (in_table : Bool) (skipped : List ℕ → Option ℕ) (starts : ℕ → Option ℕ) (source bytes : List ℕ)
     (block_end at : ℕ)
     (read : Option LinkTail) → bytes ≡ take block_end source
-    → ReadsTail in_table (link_tail skipped starts bytes at) read → BorrowsTail (link_tail skipped starts bytes at) read
-    → IfSome read (IsTailFrom source at)
-has_title in_table skipped starts source bytes block_end at None e reads borrows = tt
-has_title in_table skipped starts source bytes block_end at (Some found) e reads borrows = λ some.
-    ∣ tail_titled in_table skipped starts source block_end at found (rw e at reads) (rw e at borrows) some ∣₁
+    → ReadsTail in_table (link_tail skipped starts bytes at) read → IfSome read (IsTailFrom source at)
+has_title in_table skipped starts source bytes block_end at None e reads = tt
+has_title in_table skipped starts source bytes block_end at (Some found) e reads =
+    tail_titled in_table skipped starts source block_end at found (rw e at reads)
 
 -- what comes from a range comes from a wider one
 pub tail_wider : (source : List ℕ) (start start' : ℕ) (found : LinkTail) → start' ≤ start

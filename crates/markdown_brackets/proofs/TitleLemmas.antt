@@ -7,13 +7,13 @@ use Rattle.std.proofs.Math.Bool.{or-false, or_assoc}
 use Rattle.std.proofs.lemmas.List.{append-nil, drop_all, drop_more, take_more, get_or-drop, length-drop}
 use Rattle.std.proofs.lemmas.Bool.Decides.{nat_tests}
 use Rattle.markdown_base.specs.CowText.{text_of}
-use Rattle.markdown_base.specs.StoredTexts.{IsBorrowed}
 use Rattle.markdown_base.specs.declared.cow_str.CowStr.{CowStr}
 use Rattle.markdown_base.specs.Bytes.{backslash, carriage_return, close_parenthesis, line_feed, open_parenthesis}
 use Rattle.markdown_scan.specs.Backslash.{is_bare}
 use Rattle.markdown_scan.specs.Unescape.{unescaped}
-use Rattle.markdown_document.specs.LinkTitle.{Title, joined_lines, next_line, title_in}
-use Rattle.markdown_brackets.specs.TitleView.{BorrowsTitle, ReadsTitle}
+use Rattle.markdown_document.specs.LinkTitle.{Title, joined_lines, next_line, title_in, title_origin}
+use Rattle.markdown_document.specs.Origins.{origin_of}
+use Rattle.markdown_brackets.specs.TitleView.{ReadsTitle}
 use Rattle.markdown_brackets.proofs.ChainAheadLemmas.{below_is, not_below_is}
 
 -- the byte that stands for this one
@@ -177,11 +177,5 @@ bare_is escaped b what e = grind (arith, nat_tests)
 -- what is returned at the closing mark
 pub ReadsTitle-closed : (in_table : Bool) (whole : Option Title) (so : List ℕ) (joined : Bool) (at : ℕ) (found : CowStr)
     → whole ≡ Some (record { ends = at + 1; text = so; is_joined = joined }) → text_of found ≡ unescaped in_table so
-    → ReadsTitle in_table whole (Some (at + 1, found))
-ReadsTitle-closed in_table whole so joined at found is text = rw is (refl, text)
-
--- a title that is a slice where nothing is replaced
-pub BorrowsTitle-closed : (whole : Option Title) (so : List ℕ) (joined : Bool) (at : ℕ) (found : CowStr)
-    → whole ≡ Some (record { ends = at + 1; text = so; is_joined = joined })
-    → (joined ≡ false → text_of found ≡ so → IsBorrowed found) → BorrowsTitle whole (Some (at + 1, found))
-BorrowsTitle-closed whole so joined at found is borrowed = rw is borrowed
+    → origin_of found ≡ title_origin in_table so joined → ReadsTitle in_table whole (Some (at + 1, found))
+ReadsTitle-closed in_table whole so joined at found is text origin = rw is (refl, text, origin)

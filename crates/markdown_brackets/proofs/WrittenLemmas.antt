@@ -36,11 +36,6 @@ pub ok_map : {X E : Type 0} (r : Result X E) (P G : X → Type 0) → IfOk r P �
 ok_map (Ok x) P G h f = f x h
 ok_map (Err e) P G h f = tt
 
-pub ok_both : {X E : Type 0} (r : Result X E) (P Q G : X → Type 0) → IfOk r P → IfOk r Q → ((x : X) → P x → Q x → G x)
-    → IfOk r G
-ok_both (Ok x) P Q G h k f = f x h k
-ok_both (Err e) P Q G h k f = tt
-
 -- if the bytes from the opener to the `]` are no label, the `]` is not a collapsed or shortcut reference
 no_reference : (w : BracketContext) (o : Split ℕ) (could_be : Bool) (end : ℕ) (closes : ℕ → Bool) (empty : Bool)
     → reference_written w o end closes (if could_be then None else None) (if empty then collapsed else shortcut) ≡ None

@@ -13,7 +13,8 @@ use Rattle.markdown_base.specs.declared.tag.LinkType.TheVariants as kind
 use Rattle.markdown_defs.specs.Folding.{is_match}
 use Rattle.markdown_document.specs.EnclosingBlocks.{EnclosingBlocks}
 use Rattle.markdown_document.specs.ChainRest.{start_of, end_of, open_body, as_item, past_byte}
-use Rattle.markdown_document.specs.Document.{Shape, TreeNode, text_over}
+use Rattle.markdown_document.specs.Document.{Origin, Shape, TreeNode, text_over}
+use Rattle.markdown_document.specs.LinkTitle.{title_origin}
 use Rattle.markdown_document.specs.Setting.{Setting, ReferenceState}
 use Rattle.markdown_scan.specs.Unescape.{unescaped}
 use Rattle.markdown_brackets.specs.BracketOptions.{footnote_style}
@@ -65,11 +66,12 @@ pub record Wikilink (A : Type 0) : Type 0 where
   pub has_pothole : Bool
   pub children : Forest (TreeNode A)
 
--- what a `]` becomes: a Text; a link or an image, from its opener to a byte offset, with the offset where the chain
--- continues; a footnote reference, to the `]`; or a wikilink, to a byte offset
+-- what a `]` becomes: a Text; a link or an image, with the origin of its title if it is inline, from its opener to a
+-- byte offset, with the offset where the chain continues; a footnote reference, to the `]`; or a wikilink, to a byte
+-- offset
 pub data Becomes (A : Type 0) : Type 0 where
   a_text : Becomes A
-  a_link : Split A → LinkView → (end next : ℕ) → Becomes A
+  a_link : Split A → LinkView → (titles : List Origin) → (end next : ℕ) → Becomes A
   a_footnote : Split A → List ℕ → Becomes A
   a_wikilink : Split A → Wikilink A → (end : ℕ) → Becomes A
 
@@ -248,6 +250,10 @@ inline_target w t = record {
   label = [];
 }
 
+-- the origin of its title
+abbrev pub inline_title : BracketContext → LinkTail → Origin
+inline_title w t = title_origin w.above.in_table t.title t.is_joined
+
 -- the number of uses of each footnote, after one more use of this one
 abbrev pub uses_once_more : List ℕ → (List ℕ → ℕ) → (List ℕ → ℕ)
 uses_once_more name uses = λ other. if is_match name other then min (uses other + 1) (2 ^ 64 - 1) else uses other
@@ -259,7 +265,8 @@ question_at o r =
 
 -- a link label was looked up: the `]` becomes a link or an image, if a target was found, and otherwise a Text
 abbrev pub looked_up : {A : Type 0} → Split A → LinkReference → LookedUp → Progress A → Decision A
-looked_up o r result p = to_be (unwrap_or (option_map (λ t. a_link o t r.end r.next) result.target) a_text) (record p {
+looked_up o r result p =
+    to_be (unwrap_or (option_map (λ t. a_link o t [] r.end r.next) result.target) a_text) (record p {
   spent = r.spends ++ p.spent;
   asked = p.asked ++ result.questions;
   state = record { limit = result.limit; answers = result.answers; uses = p.state.uses };
@@ -268,7 +275,8 @@ looked_up o r result p = to_be (unwrap_or (option_map (λ t. a_link o t r.end r.
 -- what was found is carried out: a link label is looked up, and a use of a footnote is counted if it is defined
 abbrev pub carried_out : {A : Type 0} → BracketContext → Option (Written A) → Progress A → Decision A
 carried_out w None p = to_be a_text p
-carried_out w (Some (inline_link o t)) p = to_be (a_link o (inline_target w t) t.ends t.ends) p
+carried_out w (Some (inline_link o t)) p =
+    to_be (a_link o (inline_target w t) (inline_title w t ∷ []) t.ends t.ends) p
 carried_out w (Some (link_reference o r)) p =
     let rules = w.setting.rules in
     looked_up o r (look_up rules.definitions rules.asks p.state.limit p.state.answers (question_at o r)) p

@@ -31,7 +31,7 @@ pub record BeginsSo {A : Type 0} (test : Shape → Bool) (others : Reader A) : T
 abbrev pub BeginsLaw : Type 0 → Type 0
 BeginsLaw A = (w : BracketContext) (others : Reader A) (test : Shape → Bool)
     → ((e : EventView) (origins : List Origin) → test (leaf e origins) ≡ true)
-    → ((tag : TagView) → test (enclosed tag) ≡ true)
+    → ((tag : TagView) (origins : List Origin) → test (enclosed tag origins) ≡ true)
     → BeginsSo test others
     → (a : TreeNode A) (below rest : Forest (TreeNode A)) (state : ReferenceState) → is_unresolved a.part.shape ≡ true
     → BeginsWith test (trees_of (read_chain w others (node a below rest) (begun state)))

@@ -3,7 +3,7 @@ use Rattle.std.specs.Prelude.{ℕ, ◌+◌, Bool, true, false, List, [], ◌∷�
 use Rattle.markdown_base.specs.Event.{LinkView, TagView, link, image, footnote_reference}
 use Rattle.markdown_base.specs.Forest.{nil}
 use Rattle.markdown_base.specs.declared.tag.LinkType.TheVariants as kind
-use Rattle.markdown_document.specs.Document.{made, leaf, enclosed, TreeNode, as_text}
+use Rattle.markdown_document.specs.Document.{Origin, made, leaf, enclosed, TreeNode, as_text}
 use Rattle.markdown_document.specs.ChainRest.{start_of, end_of}
 use Rattle.markdown_brackets.specs.BracketDecision.{BracketContext, Becomes, Closing, Decision, Progress, Step}
 use Rattle.markdown_brackets.specs.BracketDecision.{Wikilink}
@@ -15,9 +15,9 @@ use Rattle.markdown_brackets.specs.LeftList.{before_footnote}
 abbrev pub tag_for : OpenerState → LinkView → TagView
 tag_for m target = if m.is_image then image target else link target
 
--- a link or an image, from its opener to a byte offset
-abbrev pub linked : {A : Type 0} → Split A → LinkView → (end : ℕ) → TreeNode A
-linked o target end = over o.opener (enclosed (tag_for o.state target)) (start_of o.opener) end
+-- a link or an image, with the origin of its title if it is inline, from its opener to a byte offset
+abbrev pub linked : {A : Type 0} → Split A → LinkView → (titles : List Origin) → (end : ℕ) → TreeNode A
+linked o target titles end = over o.opener (enclosed (tag_for o.state target) titles) (start_of o.opener) end
 
 -- a footnote reference over a range
 abbrev pub footnote_from : {A : Type 0} → TreeNode A → List ℕ → (start end : ℕ) → TreeNode A
@@ -41,8 +41,8 @@ wikilink_target found =
 -- what a `]` becomes is added to the left list, and openers before it are disabled or taken off
 abbrev pub put : {A : Type 0} → BracketContext → Closing A → Becomes A → Step A
 put w c a_text p = record p { left = done (as_text w.setting.text c.node) nil ∷ p.left }
-put w c (a_link o target end next) p = record p {
-  left = done (linked o target end) (inside o) ∷ before_link o.state.is_image o.before;
+put w c (a_link o target titles end next) p = record p {
+  left = done (linked o target titles end) (inside o) ∷ before_link o.state.is_image o.before;
   goes_on = Some next;
 }
 put w c (a_footnote o name) p = record p {
@@ -50,7 +50,7 @@ put w c (a_footnote o name) p = record p {
   goes_on = Some (end_of c.node);
 }
 put w c (a_wikilink o found end) p = record p {
-  left = done (linked o (wikilink_target found) end) found.children ∷ before_wikilink o.before;
+  left = done (linked o (wikilink_target found) [] end) found.children ∷ before_wikilink o.before;
   goes_on = Some end;
 }
 

@@ -17,7 +17,7 @@ use Rattle.markdown_brackets.specs.BracketDecision.{past_second, text_from}
 use Rattle.markdown_brackets.specs.ChainHeld.{link_to}
 use Rattle.markdown_brackets.specs.LeftList.{Split, inside}
 use Rattle.markdown_brackets.specs.LookupView.{target_view}
-use Rattle.markdown_brackets.specs.TargetOrigins.{IsTargetFrom}
+use Rattle.markdown_brackets.specs.TargetOrigins.{IsTargetFrom, titles_of}
 use Rattle.markdown_brackets.specs.declared.closing_bracket.ClosedBracket.{ClosedBracket}
 use Rattle.markdown_brackets.specs.declared.closing_bracket.ClosedBracket.TheVariants.{Text, Link, Footnote, Wikilinked}
 use Rattle.markdown_brackets.specs.declared.openers.Opener.{Opener}
@@ -67,12 +67,13 @@ abbrev pub first_shown : ShownNodes → ℕ
 first_shown (Over ix start end) = ix
 first_shown (From ix at) = ix
 
--- a returned value represents what a `]` becomes; the title of an inline link comes from its range in the source
+-- a returned value represents what a `]` becomes; the title of an inline link has its origin, and is a slice of the
+-- link's range in the source if that says so
 abbrev pub IsBecome : BracketContext → Becomes ℕ → ClosedBracket → Type 0
 IsBecome w a_text Text = Unit {0}
-IsBecome w (a_link o target end next) (Link opener found found_end found_next) =
+IsBecome w (a_link o target titles end next) (Link opener found found_end found_next) =
     (opener ≡ opener_of o) × (target_view found ≡ target) × (found_end ≡ end) × (found_next ≡ next)
-    × IsTargetFrom w.setting.text (start_of o.opener) end found
+    × (titles_of found ≡ titles) × IsTargetFrom w.setting.text (start_of o.opener) end found
 IsBecome w (a_footnote o name) (Footnote opener found) = (opener ≡ opener_of o) × (text_of found ≡ name)
 IsBecome w (a_wikilink o v end) (Wikilinked opener name has_pothole shown found_end) =
     (opener ≡ opener_of o) × (name.now ≡ v.name) × (has_pothole ≡ v.has_pothole)

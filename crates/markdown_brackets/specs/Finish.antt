@@ -17,7 +17,7 @@ pub record IsSplit (left : List (Entry ℕ)) (o : Split ℕ) : Type 0 where
 -- the opener of what a `]` becomes is in the left list
 abbrev pub SplitsAs : List (Entry ℕ) → Becomes ℕ → Type 0
 SplitsAs left a_text = ⊤
-SplitsAs left (a_link o target end next) = IsSplit left o
+SplitsAs left (a_link o target titles end next) = IsSplit left o
 SplitsAs left (a_footnote o name) = IsSplit left o
 SplitsAs left (a_wikilink o found end) = IsSplit left o
 

@@ -32,7 +32,7 @@ PassesLeft test left = EachLeft (λ a. test a.part.shape ≡ true) left
 abbrev pub KeptShapesLaw : Type 0 → Type 0
 KeptShapesLaw A = (w : BracketContext) (others : Reader A) (test : Shape → Bool)
     → ((e : EventView) (origins : List Origin) → test (leaf e origins) ≡ true)
-    → ((tag : TagView) → test (enclosed tag) ≡ true)
+    → ((tag : TagView) (origins : List Origin) → test (enclosed tag origins) ≡ true)
     → ((a : TreeNode A) (below rest : Forest (TreeNode A)) (p : Progress A) → PassesAll test below
     → PassesLeft test p.left
     → PassesLeft test (others a below rest p).left)

@@ -22,7 +22,7 @@ OpensNoLink other = ⊤
 
 -- a tree of this shape is not a link other than an autolink
 abbrev pub IsNoLink : Shape → Type 0
-IsNoLink (enclosed tag) = OpensNoLink tag
+IsNoLink (enclosed tag origins) = OpensNoLink tag
 IsNoLink other = ⊤
 
 -- no tree is such a link, at any depth
@@ -36,7 +36,7 @@ ClosesOverNone other below = ⊤
 
 -- if the shape is that of a link, no such link is below it
 abbrev pub HasNoneBelow : {A : Type 0} → Shape → Forest (TreeNode A) → Type 0
-HasNoneBelow (enclosed tag) below = ClosesOverNone tag below
+HasNoneBelow (enclosed tag origins) below = ClosesOverNone tag below
 HasNoneBelow other below = ⊤
 
 -- no link contains such a link, at any depth

@@ -1,18 +1,18 @@
 -- The title of an inline link with the separator after it, or neither.
 use Rattle.std.specs.Prelude.{◌≡◌, ℕ, Bool, false, List, [], Option, Some, None}
 use Rattle.markdown_base.specs.CowText.{text_of}
-use Rattle.markdown_base.specs.StoredTexts.{IsBorrowed}
 use Rattle.markdown_base.specs.declared.cow_str.CowStr.{CowStr}
 use Rattle.markdown_scan.specs.Unescape.{unescaped}
 use Rattle.markdown_brackets.specs.LinkTail.{past_separator}
-use Rattle.markdown_document.specs.LinkTitle.{Title}
+use Rattle.markdown_document.specs.LinkTitle.{Title, title_origin}
+use Rattle.markdown_document.specs.Origins.{origin_of}
 
--- the byte offset after both, and the title, if these are its offset and its text as written
+-- the byte offset after both, and the title with its origin, if these are its offset and its text as written
 pub record IsTitleText (in_table : Bool) (close end : ℕ) (text : List ℕ) (is_joined : Bool) (found : CowStr) : Type 0
   where
     pub ends : end ≡ close
     pub text_is : text_of found ≡ unescaped in_table text
-    pub borrowed : is_joined ≡ false → text_of found ≡ text → IsBorrowed found
+    pub origin : origin_of found ≡ title_origin in_table text is_joined
 
 -- what is returned is the title with the separator after it or, if there is none, an empty title at the same byte
 -- offset

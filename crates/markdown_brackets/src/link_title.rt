@@ -6,7 +6,7 @@ ghost use Rattle.markdown_base.specs.Bytes.{close_parenthesis, open_parenthesis}
 ghost use Rattle.markdown_scan.specs.Backslash as backslash;
 ghost use Rattle.markdown_document.specs.LinkTitle as title;
 ghost use Rattle.markdown_document.specs.LinkTitle.{joined_lines, title_at, title_in};
-ghost use Rattle.markdown_brackets.specs.TitleView.{ReadsTitle, BorrowsTitle};
+ghost use Rattle.markdown_brackets.specs.TitleView.{ReadsTitle};
 
 use crate::items_after::ItemsAfter;
 use crate::title_text::TitleText;
@@ -93,9 +93,6 @@ fn scan_title_text<'t, I: ItemsAfter>(
     ensures value { IfOk result (
         ReadsTitle in_table
         (title_in from.closer false (joined_lines (I.starts items.old) from.start 0 text.now))) }
-    ensures borrowed { IfOk result (
-        BorrowsTitle (title_in from.closer false
-        (joined_lines (I.starts items.old) from.start 0 text.now))) }
     ensures within { IfOk result (λ found. IfSome found (λ t. IsCharBoundary text.now t.0)) }
 {
     let bytes = text.as_bytes();
@@ -141,7 +138,6 @@ pub fn scan_link_title<'t, I: ItemsAfter>(
     requires items { (n s : ℕ) → I.starts items.old n ≡ Some s → s ≤ length text.now
         → IsCharBoundary text.now s }
     ensures value { IfOk result (ReadsTitle in_table (title_at (I.starts items.old) text.now at)) }
-    ensures borrowed { IfOk result (BorrowsTitle (title_at (I.starts items.old) text.now at)) }
     ensures within { IfOk result (λ found. IfSome found (λ t. IsCharBoundary text.now t.0)) }
 {
     match closer_at(text, at) {

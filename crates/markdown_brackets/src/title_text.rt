@@ -21,9 +21,10 @@ impl<'t> TitleText<'t> {
     ghost use Rattle.std.specs.Prelude.{◌≡◌, ◌≤◌, [], ◌∷◌, ◌++◌, IfOk, false, true, slice_range, string_bytes};
     ghost use Rattle.std.specs.Str.{IsCharBoundary};
     ghost use Rattle.markdown_base.specs.CowText.{text_of};
-    ghost use Rattle.markdown_base.specs.StoredTexts.{IsBorrowed};
     ghost use Rattle.markdown_base.specs.Bytes.{line_feed};
     ghost use Rattle.markdown_scan.specs.Unescape.{unescaped};
+    ghost use Rattle.markdown_document.specs.LinkTitle.{title_origin};
+    ghost use Rattle.markdown_document.specs.Origins.{origin_of};
     ghost use Rattle.markdown_brackets.specs.TitleText.{so_far};
 
     /// Returns an empty title that starts at the byte offset `from`.
@@ -75,8 +76,8 @@ impl<'t> TitleText<'t> {
         requires here { IsCharBoundary self.text.now at }
         ensures text { IfOk result (λ made. text_of made
             ≡ unescaped in_table (so_far self.entry at)) }
-        ensures borrowed { IfOk result (λ made.
-            self.entry.is_joined ≡ false → text_of made ≡ so_far self.entry at → IsBorrowed made) }
+        ensures origin { IfOk result (λ made. origin_of made
+            ≡ title_origin in_table (so_far self.entry at) self.entry.is_joined) }
     {
         let last = &self.text[self.from..at];
         if !self.is_joined {

@@ -1,6 +1,6 @@
 //! What is tried for the opener of a closing bracket: an inline link, a full reference, a collapsed or shortcut
 //! reference, and a footnote reference.
-ghost use Rattle.std.specs.Prelude.{◌≡◌, ◌-◌, ℕ, List, Option, Some, None, IfErr, IfOk, IfSome, OnErr};
+ghost use Rattle.std.specs.Prelude.{◌≡◌, ◌-◌, ℕ, List, [], ◌∷◌, Option, Some, None, IfErr, IfOk, IfSome, OnErr};
 ghost use Rattle.std.specs.Prelude.{if◌then◌else◌};
 ghost use Rattle.std.specs.Option.{option_and_then};
 ghost use Rattle.markdown_base.specs.Arena.{sibling_of};
@@ -10,7 +10,7 @@ ghost use Rattle.markdown_base.specs.declared.fault.Fault.{Fault};
 ghost use Rattle.markdown_base.specs.declared.item.ItemBody.{ItemBody};
 ghost use Rattle.markdown_document.specs.ChainRest.{start_of};
 ghost use Rattle.markdown_brackets.specs.BracketDecision.{BracketContext, Closing, a_link, bracket_found};
-ghost use Rattle.markdown_brackets.specs.BracketDecision.{footnote_written, full, inline_target};
+ghost use Rattle.markdown_brackets.specs.BracketDecision.{footnote_written, full, inline_target, inline_title};
 ghost use Rattle.markdown_brackets.specs.BracketDecision.{link_reference, own_written};
 ghost use Rattle.markdown_brackets.specs.ChainAhead.{reaches_closer};
 ghost use Rattle.markdown_brackets.specs.Decides.{CanTry};
@@ -45,7 +45,7 @@ fn inline_link(opener: Opener, tail: LinkTail<'_>) -> ClosedBracket<'_>
     ensures { (w : BracketContext) (o : Split ℕ) (t : scanned.LinkTail) → opener ≡ opener_of o
         → IsTail w.above.in_table t tail.entry
         → IsTailFrom w.setting.text (start_of o.opener) tail.entry
-        → IsBecome w (a_link o (inline_target w t) t.ends t.ends) result }
+        → IsBecome w (a_link o (inline_target w t) (inline_title w t ∷ []) t.ends t.ends) result }
 {
     ClosedBracket::Link {
         opener,

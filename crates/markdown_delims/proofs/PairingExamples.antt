@@ -47,7 +47,7 @@ bytes other = codes "!"
 
 abbrev seen_as : Shape → List ℕ → List ℕ
 seen_as (leaf e origins) inside = bytes e
-seen_as (enclosed tag) inside = around tag inside
+seen_as (enclosed tag origins) inside = around tag inside
 seen_as plain inside = inside
 seen_as backslash_break inside = codes "#"
 seen_as (unresolved b) inside = codes "?"

@@ -1,5 +1,6 @@
 -- What the characters of a pair become, by the options.
-use Rattle.std.specs.Prelude.{ℕ, zero, suc, Bool, true, false, List, Option, Some, None, slice_index, slice_range}
+use Rattle.std.specs.Prelude.{ℕ, zero, suc, Bool, true, false, List, [], Option, Some, None, slice_index}
+use Rattle.std.specs.Prelude.{slice_range}
 use Rattle.markdown_base.specs.EnabledOptions.{strikethrough_on, subscript_on, superscript_on}
 use Rattle.markdown_base.specs.Event.{TagView, emphasis, strong, strikethrough, superscript, subscript}
 use Rattle.markdown_base.specs.declared.item.ItemBody.TheVariants as body
@@ -21,20 +22,20 @@ extensions_of options = record {
 
 -- a mark if it is enabled, and otherwise another shape
 abbrev pub enclosed_if : (is_on : Bool) → TagView → Shape → Shape
-enclosed_if true tag other = enclosed tag
+enclosed_if true tag other = enclosed tag []
 enclosed_if false tag other = other
 
 -- the shape of a layer of two characters over these bytes; a layer that is not a mark is a Text of all of them
 abbrev pub layer_of_two : Extensions → Delimiter → List ℕ → Shape
-layer_of_two m Star source = enclosed strong
-layer_of_two m Underscore source = enclosed strong
+layer_of_two m Star source = enclosed strong []
+layer_of_two m Underscore source = enclosed strong []
 layer_of_two m Tilde source = enclosed_if m.strikethrough strikethrough (text_over source)
 layer_of_two m Caret source = enclosed_if m.superscript superscript (text_over source)
 
 -- the shape of a layer of one character over these bytes
 abbrev pub layer_of_one : Extensions → Delimiter → List ℕ → Shape
-layer_of_one m Star source = enclosed emphasis
-layer_of_one m Underscore source = enclosed emphasis
+layer_of_one m Star source = enclosed emphasis []
+layer_of_one m Underscore source = enclosed emphasis []
 layer_of_one m Tilde source =
     enclosed_if m.subscript subscript (enclosed_if m.strikethrough strikethrough (text_over source))
 layer_of_one m Caret source = enclosed_if m.superscript superscript (text_over source)

@@ -49,8 +49,10 @@ shape-same tables tables' source (body.FootnoteDefinition ix) h e = rw
     ((h (some_text ix.0) (omega (arith, same-refl ix.0))).0) refl
 shape-same tables tables' source (body.Table ix) h e = rw (h (some_alignments ix.0) (omega (arith, same-refl ix.0)))
     refl
-shape-same tables tables' source (body.Link ix) h e = rw ((h (some_link ix.0) (omega (arith, same-refl ix.0))).0) refl
-shape-same tables tables' source (body.Image ix) h e = rw ((h (some_link ix.0) (omega (arith, same-refl ix.0))).0) refl
+shape-same tables tables' source (body.Link ix) h e = let same = h (some_link ix.0) (omega (arith, same-refl ix.0))
+    in rw (same.0, same.1) refl
+shape-same tables tables' source (body.Image ix) h e = let same = h (some_link ix.0) (omega (arith, same-refl ix.0))
+    in rw (same.0, same.1) refl
 shape-same tables tables' source (body.Heading level named) h e = rw e refl
 shape-same tables tables' source other h e = refl
 

@@ -9,7 +9,7 @@ use Rattle.markdown_base.specs.declared.item.ItemBody.{ItemBody}
 use Rattle.markdown_base.specs.declared.item.ItemBody.TheVariants as body
 use Rattle.markdown_base.specs.declared.tag.LinkType.{LinkType}
 use Rattle.markdown_base.specs.declared.tag.LinkType.TheVariants as kind
-use Rattle.markdown_document.specs.LinkOrigins.{IsLinkFrom, IsSlice, IsTitleFrom, IsWrittenTitle, LinkOrigins}
+use Rattle.markdown_document.specs.LinkOrigins.{IsLinkFrom, IsSlice, IsTitleFrom, LinkOrigins}
 use Rattle.markdown_document.specs.Origins.{IsSliceWithin, Origin, sliced}
 use Rattle.markdown_document.specs.Places.{follows_pipe, origin_start}
 use Rattle.markdown_document.specs.PlacedNodes.{ComesFromPlace, HasSlices}
@@ -33,19 +33,8 @@ pub title_wider : (source : List ℕ) (start end start' end' : ℕ) (link_type :
     (title : List ℕ)
     → start' ≤ start → end ≤ end' → IsTitleFrom source start end link_type origin title
     → IsTitleFrom source start' end' link_type origin title
-title_wider source start end start' end' kind.Inline origin title low high h = λ some.
-    ∥∥₁_map (h some) (λ (w : IsWrittenTitle source start end origin title). record {
-      starts = w.starts;
-      block_end = w.block_end;
-      at = w.at;
-      in_table = w.in_table;
-      written = w.written;
-      is_written = w.is_written;
-      from = omega (arith, low, w.from);
-      to = omega (arith, high, w.to);
-      reads = w.reads;
-      slice = w.slice;
-    })
+title_wider source start end start' end' kind.Inline origin title low high h = λ is.
+    slice_wider source start end start' end' title low high (h is)
 title_wider source start end start' end' other origin title low high h = tt
 
 destination_wider : (source : List ℕ) (start end start' : ℕ) (origin : Origin) (bytes : List ℕ) → start' ≤ start

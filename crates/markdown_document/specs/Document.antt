@@ -13,14 +13,15 @@ use Rattle.markdown_base.specs.declared.item.Item.{Item}
 use Rattle.markdown_base.specs.declared.item.ItemBody.{ItemBody}
 use Rattle.markdown_base.specs.declared.node.Node.{Node}
 pub use Rattle.markdown_document.specs.Origins.{Origin, sliced, inlined, made, origin_at}
-use Rattle.markdown_document.specs.Tables.{Tables, text_at, link_at, alignments_at, heading_for}
+use Rattle.markdown_document.specs.Tables.{Tables, text_at, link_at, titles_at, alignments_at, heading_for}
 
--- how a tree reads: as one event, with the origins of its texts, while what is below it is not read; as a Start, what
--- is below it, and the matching End; as only what is below it; as a hard break by a backslash, which is a Text where it
--- ends a paired chain; or, where it is open, not before its chain is resolved
+-- how a tree reads: as one event, with the origins of its texts, while what is below it is not read; as a Start, with
+-- the origin of an inline link's title, what is below it, and the matching End; as only what is below it; as a hard
+-- break by a backslash, which is a Text where it ends a paired chain; or, where it is open, not before its chain is
+-- resolved
 pub data Shape : Type 0 where
   leaf : EventView → List Origin → Shape
-  enclosed : TagView → Shape
+  enclosed : TagView → List Origin → Shape
   plain : Shape
   backslash_break : Shape
   unresolved : ItemBody → Shape
@@ -92,31 +93,33 @@ shape_of tables source (body.HardBreak false) = leaf event.hard_break []
 shape_of tables source body.Rule = leaf event.rule []
 shape_of tables source (body.TaskListMarker done) = leaf (event.task_list_marker done) []
 -- a Start and an End
-shape_of tables source body.Emphasis = enclosed event.emphasis
-shape_of tables source body.Strong = enclosed event.strong
-shape_of tables source body.Strikethrough = enclosed event.strikethrough
-shape_of tables source body.Superscript = enclosed event.superscript
-shape_of tables source body.Subscript = enclosed event.subscript
-shape_of tables source (body.Link ix) = enclosed (event.link (link_at tables.links ix.0))
-shape_of tables source (body.Image ix) = enclosed (event.image (link_at tables.links ix.0))
-shape_of tables source body.Paragraph = enclosed event.paragraph
-shape_of tables source (body.Heading level named) = enclosed (event.heading (heading_for level tables.headings named))
-shape_of tables source (body.FencedCodeBlock ix) = enclosed (event.fenced_code (text_at tables.cows ix.0))
-shape_of tables source body.IndentCodeBlock = enclosed event.indented_code
-shape_of tables source body.HtmlBlock = enclosed event.html_block
-shape_of tables source (body.BlockQuote kind) = enclosed (event.block_quote kind)
+shape_of tables source body.Emphasis = enclosed event.emphasis []
+shape_of tables source body.Strong = enclosed event.strong []
+shape_of tables source body.Strikethrough = enclosed event.strikethrough []
+shape_of tables source body.Superscript = enclosed event.superscript []
+shape_of tables source body.Subscript = enclosed event.subscript []
+shape_of tables source (body.Link ix) = enclosed (event.link (link_at tables.links ix.0)) (titles_at tables.links ix.0)
+shape_of tables source (body.Image ix) =
+    enclosed (event.image (link_at tables.links ix.0)) (titles_at tables.links ix.0)
+shape_of tables source body.Paragraph = enclosed event.paragraph []
+shape_of tables source (body.Heading level named) =
+    enclosed (event.heading (heading_for level tables.headings named)) []
+shape_of tables source (body.FencedCodeBlock ix) = enclosed (event.fenced_code (text_at tables.cows ix.0)) []
+shape_of tables source body.IndentCodeBlock = enclosed event.indented_code []
+shape_of tables source body.HtmlBlock = enclosed event.html_block []
+shape_of tables source (body.BlockQuote kind) = enclosed (event.block_quote kind) []
 shape_of tables source (body.List tight marker first) =
-    enclosed (event.list (if is_ordered marker then Some first else None))
-shape_of tables source (body.ListItem indent) = enclosed event.list_item
-shape_of tables source (body.FootnoteDefinition ix) = enclosed (event.footnote_definition (text_at tables.cows ix.0))
-shape_of tables source (body.MetadataBlock kind) = enclosed (event.metadata_block kind)
-shape_of tables source (body.DefinitionList tight) = enclosed event.definition_list
-shape_of tables source body.DefinitionListTitle = enclosed event.definition_list_title
-shape_of tables source (body.DefinitionListDefinition indent) = enclosed event.definition_list_definition
-shape_of tables source (body.Table ix) = enclosed (event.table (alignments_at tables.alignments ix.0))
-shape_of tables source body.TableHead = enclosed event.table_head
-shape_of tables source body.TableRow = enclosed event.table_row
-shape_of tables source body.TableCell = enclosed event.table_cell
+    enclosed (event.list (if is_ordered marker then Some first else None)) []
+shape_of tables source (body.ListItem indent) = enclosed event.list_item []
+shape_of tables source (body.FootnoteDefinition ix) = enclosed (event.footnote_definition (text_at tables.cows ix.0)) []
+shape_of tables source (body.MetadataBlock kind) = enclosed (event.metadata_block kind) []
+shape_of tables source (body.DefinitionList tight) = enclosed event.definition_list []
+shape_of tables source body.DefinitionListTitle = enclosed event.definition_list_title []
+shape_of tables source (body.DefinitionListDefinition indent) = enclosed event.definition_list_definition []
+shape_of tables source (body.Table ix) = enclosed (event.table (alignments_at tables.alignments ix.0)) []
+shape_of tables source body.TableHead = enclosed event.table_head []
+shape_of tables source body.TableRow = enclosed event.table_row []
+shape_of tables source body.TableCell = enclosed event.table_cell []
 -- no event of their own
 shape_of tables source body.Root = plain
 shape_of tables source body.TightParagraph = plain

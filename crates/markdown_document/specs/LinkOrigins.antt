@@ -1,11 +1,9 @@
 -- Where the destination and the title of a link or an image come from.
-use Rattle.std.specs.Prelude.{◌≡◌, ◌≤◌, ℕ, ◌+◌, ◌-◌, ⊤, Bool, false, List, [], Option, Some, slice_range, take}
+use Rattle.std.specs.Prelude.{◌≡◌, ℕ, ⊤, List, [], ◌∷◌}
 use Rattle.markdown_base.specs.Event.{LinkView}
 use Rattle.markdown_base.specs.declared.tag.LinkType.{LinkType}
 use Rattle.markdown_base.specs.declared.tag.LinkType.TheVariants as kind
-use Rattle.markdown_scan.specs.Unescape.{unescaped}
-use Rattle.markdown_document.specs.LinkTitle.{Title, title_at}
-use Rattle.markdown_document.specs.Origins.{Origin, sliced, made, IsSliceWithin}
+use Rattle.markdown_document.specs.Origins.{Origin, sliced, made, IsSliceWithin, IsSlicedOf}
 
 -- the origins of a link's destination and of its title
 pub record LinkOrigins : Type 0 where
@@ -37,29 +35,19 @@ pub record LeadsToSlice (source : List ℕ) (start end : ℕ) (origin : Origin) 
   pub no_title : link.title ≡ []
   pub no_label : link.label ≡ []
 
--- a title is what is written between two marks of the source within these byte offsets, up to some block's end, with
--- escapes and entities replaced; it is the slice between the marks if no lines are joined in it and nothing is replaced
-pub record IsWrittenTitle (source : List ℕ) (start end : ℕ) (origin : Origin) (title : List ℕ) : Type 0 where
-  pub starts : ℕ → Option ℕ
-  pub block_end : ℕ
-  pub at : ℕ
-  pub in_table : Bool
-  pub written : Title
-  pub is_written : title_at starts (take block_end source) at ≡ Some written
-  pub from : start ≤ at
-  pub to : written.ends ≤ end
-  pub reads : title ≡ unescaped in_table written.text
-  pub slice : written.is_joined ≡ false → title ≡ written.text
-      → (origin ≡ sliced) × (title ≡ slice_range (take block_end source) (at + 1) (written.ends - 1))
+-- the origin of a link's title, if the link is inline: of other titles only the bytes are known
+abbrev pub titles_for : LinkType → Origin → List Origin
+titles_for kind.Inline origin = origin ∷ []
+titles_for other origin = []
 
--- the title of an inline link is written in the link's range, unless it is empty; nothing is said of other titles
+-- the title of an inline link is a slice of the source within these byte offsets, if its origin says so; nothing is
+-- said of other titles
 abbrev pub IsTitleFrom : List ℕ → (start end : ℕ) → LinkType → Origin → List ℕ → Type 0
-IsTitleFrom source start end kind.Inline origin title =
-    (title ≡ [] → ⊥) → ∥ IsWrittenTitle source start end origin title ∥₁
+IsTitleFrom source start end kind.Inline origin title = IsSlicedOf source start end origin title
 IsTitleFrom source start end other origin title = ⊤
 
 -- A link or an image over this range comes from the source: an autolink and a wikilink lead to a slice of the range,
--- and the title of an inline link is written there.
+-- and the title of an inline link is one, if its origin says so.
 pub record IsLinkFrom (source : List ℕ) (start end : ℕ) (origins : LinkOrigins) (link : LinkView) : Type 0 where
   pub leads : destination_origin link.kind ≡ sliced → LeadsToSlice source start end origins.destination link
   pub title : IsTitleFrom source start end link.kind origins.title link.title

@@ -1,11 +1,14 @@
 -- Titles of inline links (CommonMark 6.3) in a chain of items. `starts` returns the start of the first item after the
 -- link's `]` that ends after a byte offset: where a line continues after its container's prefix.
 use Rattle.std.specs.Prelude.{ℕ, ◌+◌, Bool, false, ◌&&◌, ◌||◌, ◌==◌, List, [], ◌∷◌, Option, Some, None, if◌then◌else◌}
-use Rattle.std.specs.Prelude.{is_some, nat_lt, slice_index, unwrap_or}
+use Rattle.std.specs.Prelude.{is_some, nat_eq, nat_lt, not, slice_index, unwrap_or}
+use Rattle.std.specs.Cmp.Lexicographic.{pointwise}
 use Rattle.std.specs.Option.{option_and_then, option_map}
 use Rattle.markdown_base.specs.Bytes.{apostrophe, backslash, carriage_return, close_parenthesis, double_quote}
 use Rattle.markdown_base.specs.Bytes.{line_feed, open_parenthesis}
 use Rattle.markdown_scan.specs.Backslash.{is_bare}
+use Rattle.markdown_scan.specs.Unescape.{unescaped}
+use Rattle.markdown_document.specs.Origins.{Origin, sliced, made}
 
 -- a title: the byte offset after its closing mark, its text as written, with lines joined, and whether any were
 pub record Title : Type 0 where
@@ -38,6 +41,12 @@ title_in closer escaped ((i, b, is_line) ∷ bytes) =
     else if (closer == close_parenthesis) && is_bare escaped b open_parenthesis then None
     else option_map (λ t. record { ends = t.ends; text = b ∷ t.text; is_joined = is_line || t.is_joined })
     (title_in closer (is_bare escaped b backslash) bytes)
+
+-- the origin of a title in an event, from its text as written: it is the slice of the source between its marks, if no
+-- lines are joined in it and nothing in it is replaced
+abbrev pub title_origin : (in_table : Bool) → List ℕ → (is_joined : Bool) → Origin
+title_origin in_table written is_joined =
+    if not is_joined && pointwise nat_eq (unescaped in_table written) written then sliced else made
 
 -- the mark that closes a title which this byte opens, if it opens one
 abbrev pub closer_of : ℕ → Option ℕ

@@ -9,16 +9,10 @@ use Rattle.markdown_base.specs.BlockTree.{item_at}
 use Rattle.markdown_base.specs.declared.item.Item.{Item}
 use Rattle.markdown_base.specs.declared.node.Node.{Node}
 use Rattle.markdown_defs.specs.Allocations.{LinkParts}
-use Rattle.markdown_document.specs.LinkOrigins.{LinkOrigins}
-use Rattle.markdown_document.specs.Origins.{made, origin_at}
-use Rattle.markdown_document.specs.Tables.{Tables, text_at, link_at, link_origins, alignments_at}
+use Rattle.markdown_document.specs.Origins.{origin_at}
+pub use Rattle.markdown_document.specs.Tables.{link_origins_at}
+use Rattle.markdown_document.specs.Tables.{Tables, text_at, link_at, alignments_at}
 use Rattle.markdown_document.specs.Totals.{same}
-
--- the origins of the destination and the title of the link with this number
-abbrev pub link_origins_at : List LinkParts → ℕ → LinkOrigins
-link_origins_at [] ix = record { destination = made; title = made }
-link_origins_at (l ∷ links) zero = link_origins l
-link_origins_at (l ∷ links) (suc ix) = link_origins_at links ix
 
 -- an entry that an event takes out of its table, so that no two items may refer to it. Heading attributes are copied,
 -- and two headings may share them.

@@ -27,3 +27,7 @@ abbrev pub IsSliceWithin : List ℕ → (start end : ℕ) → List ℕ → Type 
 IsSliceWithin source start end bytes =
     ∥ ((range : Range ℕ) × (start ≤ range.start) × (range.end ≤ end)
     × (bytes ≡ slice_range source range.start range.end)) ∥₁
+
+-- these bytes are a slice of the source within these byte offsets, if their origin says so
+abbrev pub IsSlicedOf : List ℕ → (start end : ℕ) → Origin → List ℕ → Type 0
+IsSlicedOf source start end origin bytes = origin ≡ sliced → IsSliceWithin source start end bytes

@@ -8,16 +8,13 @@ use Rattle.markdown_base.specs.Item.{LiesIn}
 use Rattle.markdown_base.specs.declared.item.Item.{Item}
 use Rattle.markdown_base.specs.declared.item.ItemBody.{ItemBody}
 use Rattle.markdown_base.specs.declared.node.Node.{Node}
-use Rattle.markdown_document.specs.Origins.{Origin, sliced, IsSliceWithin, origin_at}
+pub use Rattle.markdown_document.specs.Origins.{IsSlicedOf}
+use Rattle.markdown_document.specs.Origins.{origin_at}
 use Rattle.markdown_document.specs.ItemRules.{KeepsItemRules}
 use Rattle.markdown_document.specs.LinkOrigins.{IsLinkFrom}
 use Rattle.markdown_document.specs.Tables.{Tables, text_at, link_at}
 use Rattle.markdown_document.specs.NamedEntries.{NamesEntries, link_origins_at}
 use Rattle.markdown_document.specs.Places.{origin_start}
-
--- these bytes are a slice of the source within these byte offsets, if their origin says so
-abbrev pub IsSlicedOf : List ℕ → (start end : ℕ) → Origin → List ℕ → Type 0
-IsSlicedOf source start end origin bytes = origin ≡ sliced → IsSliceWithin source start end bytes
 
 -- the text with this number, where it is borrowed, is a slice of the source within these byte offsets
 abbrev pub HasSliceText : List ℕ → Tables → (start end : ℕ) → ℕ → Type 0

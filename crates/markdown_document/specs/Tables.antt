@@ -12,8 +12,8 @@ use Rattle.markdown_base.specs.declared.index.HeadingIndex.{HeadingIndex}
 use Rattle.markdown_base.specs.declared.tag.Alignment.{Alignment}
 use Rattle.markdown_base.specs.declared.tag.HeadingLevel.{HeadingLevel}
 use Rattle.markdown_base.specs.declared.tag.LinkType.TheVariants.{ShortcutUnknown}
-use Rattle.markdown_document.specs.LinkOrigins.{LinkOrigins}
-use Rattle.markdown_document.specs.Origins.{origin_of}
+use Rattle.markdown_document.specs.LinkOrigins.{LinkOrigins, titles_for}
+use Rattle.markdown_document.specs.Origins.{Origin, made, origin_of}
 use Rattle.markdown_defs.specs.Allocations.{Allocated, LinkParts}
 
 -- the entries that can be referred to
@@ -55,6 +55,16 @@ link_at (l ∷ links) (suc ix) = link_at links ix
 -- the origins of a link's destination and title
 abbrev pub link_origins : LinkParts → LinkOrigins
 link_origins link = record { destination = origin_of link.1; title = origin_of link.2 }
+
+-- the origins of the destination and the title of the link with this number
+abbrev pub link_origins_at : List LinkParts → ℕ → LinkOrigins
+link_origins_at [] ix = record { destination = made; title = made }
+link_origins_at (l ∷ links) zero = link_origins l
+link_origins_at (l ∷ links) (suc ix) = link_origins_at links ix
+
+-- the origin of the title of the link with this number, if the link is inline
+abbrev pub titles_at : List LinkParts → ℕ → List Origin
+titles_at links ix = titles_for (link_at links ix).kind (link_origins_at links ix).title
 
 -- the alignments with this number
 abbrev pub alignments_at : List (Vec Alignment Global) → ℕ → List Alignment

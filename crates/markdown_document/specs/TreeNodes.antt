@@ -8,7 +8,7 @@ use Rattle.markdown_document.specs.Totals.{weight_if}
 -- a tree of this shape gives an event of its own first
 abbrev pub GivesFirst : Shape → Type 0
 GivesFirst (leaf e origins) = ⊤
-GivesFirst (enclosed tag) = ⊤
+GivesFirst (enclosed tag origins) = ⊤
 GivesFirst plain = ⊥
 GivesFirst backslash_break = ⊤
 GivesFirst (unresolved b) = ⊥

@@ -29,7 +29,7 @@ goes_on : (shape : Shape) (range : Range ℕ) (es fs : List Ranged) → total (a
     → Goes (opened_events shape range es fs)
 goes_on (leaf e origins) range es fs lone inside after awaited rest h =
     lone_turn e range awaited (λ awaited. AreBalancedFrom awaited (fs ++ rest)) lone (after awaited rest h)
-goes_on (enclosed tag) range es fs lone inside after awaited rest h =
+goes_on (enclosed tag origins) range es fs lone inside after awaited rest h =
     subst (λ xs. AreBalancedFrom ((tag_end tag, range) ∷ awaited) xs)
     (sym (append_assoc es ((end (tag_end tag), range) ∷ fs) rest))
     (inside ((tag_end tag, range) ∷ awaited) ((end (tag_end tag), range) ∷ (fs ++ rest))

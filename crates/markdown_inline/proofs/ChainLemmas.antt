@@ -84,8 +84,8 @@ opened-begins : (shape : Shape) (range : Range ℕ) (inside : Reading → Readin
     → BeginsWithEvent (reading_opened shape range inside after whole state)
 opened-begins (leaf e origins) range inside after whole state h = record
     { first = (e, range, origins); rest = after state; is = refl }
-opened-begins (enclosed tag) range inside after whole state h = record {
-  first = (start tag, range, []);
+opened-begins (enclosed tag origins) range inside after whole state h = record {
+  first = (start tag, range, origins);
   rest =
       inside (then_reads (end (tag_end tag), range, []) after) state;
   is = refl;

@@ -68,7 +68,7 @@ counted-once other = omega arith
 
 shape-few : (shape : Shape) → counts_shape shape ≤ weight_if (is_unresolved shape)
 shape-few (leaf e origins) = omega arith
-shape-few (enclosed tag) = omega arith
+shape-few (enclosed tag origins) = omega arith
 shape-few plain = omega arith
 shape-few backslash_break = omega arith
 shape-few (unresolved b) = omega (arith, counted-once b)
@@ -94,7 +94,7 @@ opened-few : (shape : Shape) (range : Range ℕ) (inside : Reading → Reading) 
     (state : ReferenceState) (most : ℕ) → AreFew (inside after state).counts most → AreFew (whole state).counts most
     → AreFew (reading_opened shape range inside after whole state).counts most
 opened-few (leaf e origins) range inside after whole state most i c = few-none most
-opened-few (enclosed tag) range inside after whole state most i c = few-none most
+opened-few (enclosed tag origins) range inside after whole state most i c = few-none most
 opened-few plain range inside after whole state most i c = i
 opened-few backslash_break range inside after whole state most i c = few-none most
 opened-few (unresolved b) range inside after whole state most i c = c

@@ -47,7 +47,7 @@ module _ {A : Type 0} where
       (sym (lone_lists e opened (λ opened. expansions_from opened (fs ++ rest)) lone))
       (ends_drop expansion_at below (expansions_from opened (fs ++ rest)) (ends later (expansions_from opened rest))
       (h opened rest))
-  tree_lists (enclosed tag) range below later es fs lone i h opened rest =
+  tree_lists (enclosed tag origins) range below later es fs lone i h opened rest =
       let last : List ℕ = tag_expansion tag ++ ends later (expansions_from opened rest) in
       let after : List ℕ = tag_expansion tag ++ expansions_from opened (fs ++ rest) in
       subst (λ (events : List Ranged). IsWithin (expansions_from (tag_expansion tag ∷ opened) events) (ends below last))

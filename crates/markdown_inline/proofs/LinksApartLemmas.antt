@@ -47,7 +47,7 @@ link_of (link v) = not_autolink (is_autolink v.kind)
 link_of other = []
 
 abbrev links_at : Shape → List ℕ
-links_at (enclosed tag) = link_of tag
+links_at (enclosed tag origins) = link_of tag
 links_at other = []
 
 -- a forest is free of links where it has none of them
@@ -64,7 +64,7 @@ free_note (link v) e = free_if (is_autolink v.kind) e
 free_note other e = tt
 
 free_shape : (shape : Shape) → total (links_at shape) ≡ 0 → IsNoLink shape
-free_shape (enclosed tag) e = free_note tag e
+free_shape (enclosed tag origins) e = free_note tag e
 free_shape other e = tt
 
 none_tag : (tag : TagView) → OpensNoLink tag → total (link_of tag) ≡ 0
@@ -72,13 +72,13 @@ none_tag (link v) h = none_if (is_autolink v.kind) h
 none_tag other h = refl
 
 none_shape : (shape : Shape) → IsNoLink shape → total (links_at shape) ≡ 0
-none_shape (enclosed tag) h = none_tag tag h
+none_shape (enclosed tag origins) h = none_tag tag h
 none_shape other h = refl
 
 -- where nothing is below an item, no link is
 nothing_below : (A : Type 0) (shape : Shape) → HasNoneBelow {A = A} shape nil
-nothing_below A (enclosed (link v)) = tt
-nothing_below A (enclosed other) = tt
+nothing_below A (enclosed (link v) origins) = tt
+nothing_below A (enclosed other origins) = tt
 nothing_below A (leaf e origins) = tt
 nothing_below A plain = tt
 nothing_below A backslash_break = tt
@@ -205,8 +205,8 @@ module _ {A : Type 0} where
   shape_apart : (shape : Shape) (below later : Forest (TreeNode A)) → (IsFreeOfLinks below → IsFreeOfLinks later)
       → HasNoneBelow shape below
       → HasNoneBelow shape later
-  shape_apart (enclosed (link v)) below later k h = k h
-  shape_apart (enclosed other) below later k h = tt
+  shape_apart (enclosed (link v) origins) below later k h = k h
+  shape_apart (enclosed other origins) below later k h = tt
   shape_apart (leaf e origins) below later k h = tt
   shape_apart plain below later k h = tt
   shape_apart backslash_break below later k h = tt

@@ -42,7 +42,7 @@ module _ {A : Type 0} where
   module _ (w : BracketContext) (c : Closing A) where
     looked_spent : (o : Split A) (r : LinkReference) (limit : ℕ) (target : Option LinkView) (left : ℕ)
         → MatchOption target (left ≡ limit) (λ v. (1 ≤ limit) × (left ≡ limit - size_of v))
-        → Spent limit (sizes (found_by (unwrap_or (option_map (λ t. a_link o t r.end r.next) target) a_text))) left
+        → Spent limit (sizes (found_by (unwrap_or (option_map (λ t. a_link o t [] r.end r.next) target) a_text))) left
     looked_spent o r limit None left e = record { left = omega (arith, e); fits = tt }
     looked_spent o r limit (Some v) left e = by (is_looked_up v.kind)
       where
@@ -64,7 +64,7 @@ module _ {A : Type 0} where
     -- what is put changes nothing that is known
     put_state : (b : Becomes A) (p : Progress A) → (put w c b p).state.limit ≡ p.state.limit
     put_state a_text p = refl
-    put_state (a_link o target end next) p = refl
+    put_state (a_link o target titles end next) p = refl
     put_state (a_footnote o name) p = refl
     put_state (a_wikilink o found end) p = refl
 

@@ -57,7 +57,7 @@ goes_on : {A : Type 0} (shape : Shape) (range : Range ℕ) (below : Forest (Tree
 goes_on (leaf e origins) range below es fs free lone apart inside after within rest freed h =
     lone_stays e within (λ within. NoLinkInLinkFrom within (fs ++ rest)) lone
     (after within rest (λ some. (freed some).2) h)
-goes_on (enclosed tag) range below es fs free lone apart inside after within rest freed h =
+goes_on (enclosed tag origins) range below es fs free lone apart inside after within rest freed h =
     subst (λ xs. NoLinkInLinkFrom within ((start tag, range) ∷ xs))
     (sym (append_assoc es ((end (tag_end tag), range) ∷ fs) rest))
     (tag_goes tag range below es (fs ++ rest) within apart (λ some. ((freed some).0, (freed some).1)) inside

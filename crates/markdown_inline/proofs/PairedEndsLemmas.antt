@@ -39,7 +39,7 @@ IsNoBracket other = ⊤
 -- what is made of open items has no numbers, except links and images
 pub record NumbersNoMarks (own : Shape → List ℕ) : Type 0 where
   pub lone : (e : EventView) (origins : List Origin) → IsMadeEvent e → own (leaf e origins) ≡ []
-  pub mark : (tag : TagView) → IsPairedTag tag → own (enclosed tag) ≡ []
+  pub mark : (tag : TagView) → IsPairedTag tag → own (enclosed tag []) ≡ []
 
 -- a mark is neither a link nor an image
 pub mark_bracket : (tag : TagView) → IsPairedTag tag → IsNoBracket tag

@@ -46,7 +46,7 @@ module _ {A : Type 0} where
       → ((inner : Reading) → Few most inner → Few most (inside inner)) → Few most after
       → (shape : Shape) → Few most (reading_opened shape a.part.range inside after after)
   settled_tree a most inside after within h (leaf e origins) = record { once = h.once; silent = h.silent }
-  settled_tree a most inside after within h (enclosed tag) =
+  settled_tree a most inside after within h (enclosed tag origins) =
       let inner = within (then_reads (end (tag_end tag), a.part.range, []) after)
       (record { once = h.once; silent = h.silent }) in
       record { once = inner.once; silent = inner.silent }
@@ -82,7 +82,7 @@ opened_few : (a : Plain) (all few : ℕ) (inside : Reading → Reading) (after w
     → (shape : Shape) → Few all (reading_opened shape a.part.range inside after whole)
 opened_few a all few inside after whole within h l rest (leaf e origins) =
     let k = more_few few all after l h in record { once = k.once; silent = k.silent }
-opened_few a all few inside after whole within h l rest (enclosed tag) =
+opened_few a all few inside after whole within h l rest (enclosed tag origins) =
     let inner = within (then_reads (end (tag_end tag), a.part.range, []) after)
     (record { once = h.once; silent = h.silent }) in
     record { once = inner.once; silent = inner.silent }

@@ -24,7 +24,7 @@ pub opened-open : (shape : Shape) (range : Range ℕ) (inside : Reading → Read
     → is_unresolved shape ≡ true
     → reading_opened shape range inside after whole ≡ whole
 opened-open (leaf e origins) range inside after whole h = cc h
-opened-open (enclosed tag) range inside after whole h = cc h
+opened-open (enclosed tag origins) range inside after whole h = cc h
 opened-open plain range inside after whole h = cc h
 opened-open backslash_break range inside after whole h = cc h
 opened-open (unresolved b) range inside after whole h = refl
@@ -42,9 +42,9 @@ pub opened-same : (shape : Shape) (range : Range ℕ) (inside inside' : Reading 
     → SameElements (reading_opened shape range inside after whole) (reading_opened shape range inside' after' whole')
 opened-same (leaf e origins) range inside inside' after after' whole whole' i a w = one_same (e, range, origins) after
     after' a
-opened-same (enclosed tag) range inside inside' after after' whole whole' i a w =
+opened-same (enclosed tag origins) range inside inside' after after' whole whole' i a w =
     let last : Placed = (end (tag_end tag), range, []) in
-    one_same (start tag, range, []) (inside (then_reads last after)) (inside' (then_reads last after'))
+    one_same (start tag, range, origins) (inside (then_reads last after)) (inside' (then_reads last after'))
     (i (then_reads last after) (then_reads last after') (one_same last after after' a))
 opened-same plain range inside inside' after after' whole whole' i a w = i after after' a
 opened-same backslash_break range inside inside' after after' whole whole' i a w = one_same (hard_break, range, [])

@@ -18,7 +18,7 @@ use Rattle.markdown_defs.specs.Definitions as definitions
 use Rattle.markdown_defs.specs.Definitions.{Labelled}
 use Rattle.markdown_document.specs.EnclosingBlocks.{EnclosingBlocks}
 use Rattle.markdown_document.specs.ChainRest.{begun_at, cut_shape, end_of, open_body, past_byte, start_of}
-use Rattle.markdown_document.specs.Document.{made, sliced, Notes, Shape, leaf, enclosed, TreeNode, math}
+use Rattle.markdown_document.specs.Document.{Origin, made, sliced, Notes, Shape, leaf, enclosed, TreeNode, math}
 use Rattle.markdown_document.specs.Setting.{Setting, ReferenceState}
 use Rattle.markdown_document.specs.Waiting.{is_quiet}
 use Rattle.markdown_spans.specs.AfterLess.{Markup, autolink, html_markup}
@@ -29,6 +29,7 @@ use Rattle.markdown_delims.specs.Pairing.{paired}
 use Rattle.markdown_brackets.specs.BracketDecision.{BracketContext, Closing, Written, LinkReference, Progress, Wikilink}
 use Rattle.markdown_brackets.specs.BracketDecision.{a_footnote, a_link, a_text}
 use Rattle.markdown_brackets.specs.BracketDecision.{a_wikilink, carried_out, decided, found, inline_target}
+use Rattle.markdown_brackets.specs.BracketDecision.{inline_title}
 use Rattle.markdown_brackets.specs.BracketDecision.{left_for_one, looked_up, past_second}
 use Rattle.markdown_brackets.specs.BracketDecision.{question_at, second_end, wikilink_in}
 use Rattle.markdown_brackets.specs.ClosingBracket.{closed, footnote_onto, put, put_decided, wikilink_target}
@@ -57,13 +58,15 @@ use Rattle.markdown_inline.proofs.PairedEndsLemmas.{NumbersNoMarks, all_within, 
 pub record Keeps (own : Shape → List ℕ) (holds : List ℕ → (limit : ℕ) → Type 0) : Type 0 where
   pub numbers : NumbersNoMarks own
   pub cut : (n : ℕ) (shape : Shape) → own (cut_shape n shape) ≡ own shape
-  pub other_link : (v : LinkView) → is_looked_up v.kind ≡ false → own (enclosed (link v)) ≡ []
-  pub other_image : (v : LinkView) → is_looked_up v.kind ≡ false → own (enclosed (image v)) ≡ []
+  pub other_link : (v : LinkView) (titles : List Origin) → is_looked_up v.kind ≡ false
+      → own (enclosed (link v) titles) ≡ []
+  pub other_image : (v : LinkView) (titles : List Origin) → is_looked_up v.kind ≡ false
+      → own (enclosed (image v) titles) ≡ []
   pub less : (ns ms : List ℕ) (limit : ℕ) → IsWithin ms ns → holds ns limit → holds ms limit
   pub link_found : (ns : List ℕ) (limit : ℕ) (v : LinkView) → 1 ≤ limit → holds ns limit
-      → holds (ns ++ own (enclosed (link v))) (limit - size_of v)
+      → holds (ns ++ own (enclosed (link v) [])) (limit - size_of v)
   pub image_found : (ns : List ℕ) (limit : ℕ) (v : LinkView) → 1 ≤ limit → holds ns limit
-      → holds (ns ++ own (enclosed (image v))) (limit - size_of v)
+      → holds (ns ++ own (enclosed (image v) [])) (limit - size_of v)
 
 -- what has no numbers comes before a list
 none_before : (xs ns ms : List ℕ) → xs ≡ [] → IsWithin ns ms → IsWithin (xs ++ ns) ms
@@ -265,22 +268,23 @@ module _ {A : Type 0} (own : Shape → List ℕ) (holds : List ℕ → (limit : 
         (none_before shown [] [] (text_none own keeps.numbers bytes) (within_same []))) h
 
     -- a link or an image that was not looked up, and one that was
-    abbrev of_note : (is_image : Bool) → LinkView → List ℕ
-    of_note is_image v = own (enclosed (if is_image then image v else link v))
+    abbrev of_note : (is_image : Bool) → LinkView → List Origin → List ℕ
+    of_note is_image v titles = own (enclosed (if is_image then image v else link v) titles)
 
-    tag_none : (is_image : Bool) (v : LinkView) → is_looked_up v.kind ≡ false → of_note is_image v ≡ []
-    tag_none true v e = keeps.other_image v e
-    tag_none false v e = keeps.other_link v e
+    tag_none : (is_image : Bool) (v : LinkView) (titles : List Origin) → is_looked_up v.kind ≡ false
+        → of_note is_image v titles ≡ []
+    tag_none true v titles e = keeps.other_image v titles e
+    tag_none false v titles e = keeps.other_link v titles e
 
-    tag_holds : (is_image : Bool) (v : LinkView) (ns : List ℕ) (limit : ℕ) → is_looked_up v.kind ≡ false
-        → holds ns limit
-        → holds (ns ++ of_note is_image v) limit
-    tag_holds is_image v ns limit e h = subst (λ (l : List ℕ). holds l limit)
-        (sym (ap (λ (l : List ℕ). ns ++ l) (tag_none is_image v e)
+    tag_holds : (is_image : Bool) (v : LinkView) (titles : List Origin) (ns : List ℕ) (limit : ℕ)
+        → is_looked_up v.kind ≡ false → holds ns limit
+        → holds (ns ++ of_note is_image v titles) limit
+    tag_holds is_image v titles ns limit e h = subst (λ (l : List ℕ). holds l limit)
+        (sym (ap (λ (l : List ℕ). ns ++ l) (tag_none is_image v titles e)
         ∙ append-nil ns)) h
 
     tag_found : (is_image : Bool) (v : LinkView) (ns : List ℕ) (limit : ℕ) → 1 ≤ limit → holds ns limit
-        → holds (ns ++ of_note is_image v) (limit - size_of v)
+        → holds (ns ++ of_note is_image v []) (limit - size_of v)
     tag_found true v ns limit e h = keeps.image_found ns limit v e h
     tag_found false v ns limit e h = keeps.link_found ns limit v e h
 
@@ -307,22 +311,22 @@ module _ {A : Type 0} (own : Shape → List ℕ) (holds : List ℕ → (limit : 
         (within_same (ends_left o.after t))
 
     -- a link or an image: not looked up, or looked up at a limit that was not 0; and a wikilink
-    link_holds : (o : Split A) (v : LinkView) (end next : ℕ) (p : Progress A) → is_looked_up v.kind ≡ false
-        → IsPart p.left o → Holds p
-        → Holds (put w c (a_link o v end next) p)
-    link_holds o v end next p e part h =
-        enclosing p.left o (inside o) (before_link o.state.is_image o.before) (of_note o.state.is_image v) p.state.limit
-        p.state.limit
+    link_holds : (o : Split A) (v : LinkView) (titles : List Origin) (end next : ℕ) (p : Progress A)
+        → is_looked_up v.kind ≡ false → IsPart p.left o → Holds p
+        → Holds (put w c (a_link o v titles end next) p)
+    link_holds o v titles end next p e part h =
+        enclosing p.left o (inside o) (before_link o.state.is_image o.before) (of_note o.state.is_image v titles)
+        p.state.limit p.state.limit
         (inside_within o []) (of_link o.state.is_image o.before) part
-        (λ ns k. tag_holds o.state.is_image v ns p.state.limit e k) h
+        (λ ns k. tag_holds o.state.is_image v titles ns p.state.limit e k) h
 
     link_found : (o : Split A) (v : LinkView) (end next limit : ℕ) (p : Progress A) → 1 ≤ limit → p.state.limit
         ≡ limit - size_of v
         → IsPart p.left o → holds (ends_left p.left []) limit
-        → Holds (put w c (a_link o v end next) p)
+        → Holds (put w c (a_link o v [] end next) p)
     link_found o v end next limit p some e part h =
-        subst (λ l. holds (ends_left (put w c (a_link o v end next) p).left []) l) (sym e)
-        (enclosing p.left o (inside o) (before_link o.state.is_image o.before) (of_note o.state.is_image v) limit
+        subst (λ l. holds (ends_left (put w c (a_link o v [] end next) p).left []) l) (sym e)
+        (enclosing p.left o (inside o) (before_link o.state.is_image o.before) (of_note o.state.is_image v []) limit
         (limit - size_of v)
         (inside_within o []) (of_link o.state.is_image o.before) part
         (λ ns k. tag_found o.state.is_image v ns limit some k) h)
@@ -331,10 +335,10 @@ module _ {A : Type 0} (own : Shape → List ℕ) (holds : List ℕ → (limit : 
         → IsWithin (ends v.children []) (ends_left o.after [])
         → IsPart p.left o → Holds p → Holds (put w c (a_wikilink o v end) p)
     wikilink_holds o v end p i part h =
-        enclosing p.left o v.children (before_wikilink o.before) (of_note o.state.is_image (wikilink_target v))
+        enclosing p.left o v.children (before_wikilink o.before) (of_note o.state.is_image (wikilink_target v) [])
         p.state.limit p.state.limit i
         (of_wikilink o.before) part
-        (λ ns k. tag_holds o.state.is_image (wikilink_target v) ns p.state.limit refl k) h
+        (λ ns k. tag_holds o.state.is_image (wikilink_target v) [] ns p.state.limit refl k) h
 
     -- a footnote reference
     footnote_within : (is_image : Bool) (a : TreeNode A) (name : List ℕ) (before : List (Entry A))
@@ -413,7 +417,7 @@ module _ {A : Type 0} (own : Shape → List ℕ) (holds : List ℕ → (limit : 
     target_try : (o : Split A) (r : LinkReference) (limit : ℕ) (target : Option LinkView) (p : Progress A)
         → MatchOption target (p.state.limit ≡ limit) (λ v. (1 ≤ limit) × (p.state.limit ≡ limit - size_of v))
         → IsPart p.left o → holds (ends_left p.left []) limit
-        → Holds (put w c (unwrap_or (option_map (λ t. a_link o t r.end r.next) target) a_text) p)
+        → Holds (put w c (unwrap_or (option_map (λ t. a_link o t [] r.end r.next) target) a_text) p)
     target_try o r limit None p e part h = as_text_holds p (subst (λ l. holds (ends_left p.left []) l) (sym e) h)
     target_try o r limit (Some v) p e part h = link_found o v r.end r.next limit p e.0 e.1 part h
 
@@ -432,7 +436,7 @@ module _ {A : Type 0} (own : Shape → List ℕ) (holds : List ℕ → (limit : 
         (found_cases w c (Same p.left) (stays p.left) (λ x. Kept (Some x)) second
         (λ other o s e live.
         let part = there o (part_same opens_bracket p.left other o s e) in record {
-          inline = λ t is. link_holds o (inline_target w t) t.ends t.ends now refl part h';
+          inline = λ t is. link_holds o (inline_target w t) (inline_title w t ∷ []) t.ends t.ends now refl part h';
           refers = λ r visit.
               let result = look_up rules.definitions rules.asks p.state.limit p.state.answers (question_at o r) in
               target_try o r p.state.limit result.target (looked_up o r result now).progress
@@ -455,7 +459,7 @@ module _ {A : Type 0} (own : Shape → List ℕ) (holds : List ℕ → (limit : 
 
   markup_none : (s : Setting) (new : A) (a : TreeNode A) (m : Markup) → HasNone (markup_trees s new a m)
   markup_none s new a (autolink end uri) = (
-    keeps.other_link (address uri) refl,
+    keeps.other_link (address uri) [] refl,
     (text_none own keeps.numbers (slice_range s.text (end_of a) (end - 1)), tt, tt),
     tt,
   )

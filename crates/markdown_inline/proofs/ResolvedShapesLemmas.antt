@@ -41,19 +41,19 @@ module _ (passes : Shape → Bool) (made : (shape : Shape) → IsMadeShape shape
   passes_keep = record {
     numbers = record {
       lone = λ e origins h. none_made (leaf e origins) h;
-      mark = λ tag h. none_made (enclosed tag) (mark_made tag h);
+      mark = λ tag h. none_made (enclosed tag []) (mark_made tag h);
     };
     cut = λ n shape. ap unless_passed (cuts n shape);
-    other_link = λ v e. none_made (enclosed (link v)) tt;
-    other_image = λ v e. none_made (enclosed (image v)) tt;
+    other_link = λ v titles e. none_made (enclosed (link v) titles) tt;
+    other_image = λ v titles e. none_made (enclosed (image v) titles) tt;
     less = λ ns ms limit w e. omega (arith, w.sums, e);
     link_found = λ ns limit v h e. omega
-        (arith, total_append ns (own (enclosed (link v))), e, ap total (none_made (enclosed (link v)) tt));
+        (arith, total_append ns (own (enclosed (link v) [])), e, ap total (none_made (enclosed (link v) []) tt));
     image_found = λ ns limit v h e. omega (
       arith,
-      total_append ns (own (enclosed (image v))),
+      total_append ns (own (enclosed (image v) [])),
       e,
-      ap total (none_made (enclosed (image v)) tt),
+      ap total (none_made (enclosed (image v) []) tt),
     );
   }
 

@@ -28,19 +28,19 @@ use Rattle.markdown_base.specs.declared.tag.HeadingLevel.{HeadingLevel}
 use Rattle.markdown_base.specs.declared.tag.Tag.{Tag}
 use Rattle.markdown_defs.specs.Allocations.{Allocated, LinkParts}
 use Rattle.markdown_defs.specs.AllocationCalls.{LeavesEmptyCow, LeavesEmptyLink, LeavesEmptyAlignment}
-use Rattle.markdown_document.specs.LinkOrigins.{IsLinkFrom, LinkOrigins}
+use Rattle.markdown_document.specs.LinkOrigins.{IsLinkFrom, LinkOrigins, titles_for}
 use Rattle.markdown_document.specs.Origins.{Origin, origin_at, origin_of}
 use Rattle.markdown_document.specs.PlacedNodes.{IsSlicedOf, HasSliceLink}
 use Rattle.markdown_document.specs.Document.{Shape, leaf, enclosed, plain, backslash_break, unresolved, sliced, made}
 use Rattle.markdown_document.specs.Document.{shape_of}
 use Rattle.markdown_document.specs.Places.{origin_start}
-use Rattle.markdown_document.specs.Tables.{Tables, text_at, link_at, link_origins, alignments_at}
+use Rattle.markdown_document.specs.Tables.{Tables, text_at, link_at, link_origins, titles_at, alignments_at}
 use Rattle.markdown_document.specs.Tables.{heading_at, heading_with, tables_of}
 use Rattle.markdown_document.specs.NamedEntries.{Named, some_text, some_link, some_alignments, link_origins_at}
 use Rattle.markdown_document.specs.NamedEntries.{link_named, size_for, NamesEntries, IsSameEntry, times_named}
 use Rattle.markdown_document.specs.Totals.{same}
 use Rattle.markdown_document.proofs.TablesLemmas.{same_entry-refl}
-use Rattle.markdown_inline.specs.Slices.{slice_start, texts_of, IsFrom, TagIsFrom, StartIsFrom}
+use Rattle.markdown_inline.specs.Slices.{slice_start, texts_of, titles_in, AreFrom, IsFrom, TagIsFrom, StartIsFrom}
 use Rattle.markdown_inline.specs.WalkSteps.{OpensWith, TakesOnly, beginning, visit_at_shape, visit_at, event_of_shape}
 use Rattle.markdown_inline.specs.WalkSteps.{container_of}
 
@@ -82,6 +82,11 @@ link_origins_at-read : (links : List LinkParts) (n : ℕ) (c : LinkParts) → n 
 link_origins_at-read [] n c l e = absurd (omega (arith, l))
 link_origins_at-read (d ∷ links) zero c l e = ap link_origins (sym e)
 link_origins_at-read (d ∷ links) (suc n) c l e = link_origins_at-read links n c (omega (arith, l)) e
+
+-- the origin of its title
+pub titles_at-read : (links : List LinkParts) (n : ℕ) (c : LinkParts) → n < length links → c ≡ get_or links n c
+    → titles_at links n ≡ titles_for c.0 (origin_of c.2)
+titles_at-read links n c l e = rw (link_at-read links n c l e, link_origins_at-read links n c l e) refl
 
 -- a link comes from where its entry does
 pub leads_from : (source : List ℕ) (start end : ℕ) (tables : Tables) (n : ℕ) (c : LinkParts) → n < length tables.links
@@ -243,10 +248,10 @@ takes_alignments b held held' ix e l = rw l.others (record {
 })
 
 -- an event of one text is not a Start
-pub no_start : (source : List ℕ) (start end : ℕ) (e : Event) (c : CowStr) → texts_of e ≡ c ∷ []
-    → StartIsFrom source start end e
-no_start source start end (step.Start tag) c h = cc h
-no_start source start end other c h = tt
+pub no_start : (source : List ℕ) (start end : ℕ) (origins : List Origin) (e : Event) (c : CowStr)
+    → texts_of e ≡ c ∷ [] → StartIsFrom source start end origins e
+no_start source start end origins (step.Start tag) c h = cc h
+no_start source start end origins other c h = tt
 
 -- an event of one text that is a slice of the source
 pub opens_slice : (source : List ℕ) (range : Range ℕ) (view : List ℕ → EventView) (e : CowStr → Event) (c : CowStr)
@@ -258,7 +263,8 @@ opens_slice source range view e c (slice, is, over) viewed texts from = rw is (r
   origins = sliced ∷ [];
   begins = rw (viewed (Borrowed slice), over) refl;
   texts = rw (texts (Borrowed slice), from (Borrowed slice)) (∣ (range, omega arith, omega arith, over) ∣₁, tt);
-  start = no_start source range.start range.end (e (Borrowed slice)) (Borrowed slice) (texts (Borrowed slice));
+  start = no_start source range.start range.end (sliced ∷ []) (e (Borrowed slice)) (Borrowed slice)
+      (texts (Borrowed slice));
 })
 
 -- an event of one text that is referred to, and is taken
@@ -270,7 +276,7 @@ opens_made source range cows n view e c within read viewed texts = record {
   origins = made ∷ [];
   begins = rw (viewed c, text_at-read cows n c within read) refl;
   texts = rw (texts c) (tt, tt);
-  start = no_start source range.start range.end (e c) c (texts c);
+  start = no_start source range.start range.end (made ∷ []) (e c) c (texts c);
 }
 
 -- the same for the text of a span, which is a slice of the source where the table says so
@@ -287,14 +293,14 @@ opens_span source range cows n view e c within read slice viewed texts from = re
     is_from source (origin_start source range.start) range.end cows n c within read slice,
     tt,
   );
-  start = no_start source range.start range.end (e c) c (texts c);
+  start = no_start source range.start range.end (origin_at cows n ∷ []) (e c) c (texts c);
 }
 
 -- where a walk goes over an item, its event is that of the shape
 pub leaf_shape : (shape : Shape) (e : EventView) (origins : List Origin) → visit_at_shape shape ≡ visit.Leaf
     → beginning shape ≡ Some (e, origins) → event_of_shape shape ≡ Some (e, origins)
 leaf_shape (leaf d others) e origins h b = b
-leaf_shape (enclosed tag) e origins h b = cc h
+leaf_shape (enclosed tag others) e origins h b = cc h
 leaf_shape plain e origins h b = cc h
 leaf_shape backslash_break e origins h b = b
 leaf_shape (unresolved other) e origins h b = cc h
@@ -307,7 +313,7 @@ pub record IsLeafShape (shape : Shape) : Type 0 where
 
 pub some_leaf : (shape : Shape) → visit_at_shape shape ≡ visit.Leaf → IsLeafShape shape
 some_leaf (leaf e origins) h = record { event = e; origins = origins; begins = refl }
-some_leaf (enclosed tag) h = absurd (cc h)
+some_leaf (enclosed tag origins) h = absurd (cc h)
 some_leaf plain h = absurd (cc h)
 some_leaf backslash_break h = record { event = hard_break; origins = []; begins = refl }
 some_leaf (unresolved other) h = absurd (cc h)
@@ -315,11 +321,12 @@ some_leaf (unresolved other) h = absurd (cc h)
 -- where it goes in by a Start, the shape has a tag
 pub record IsEnclosed (shape : Shape) : Type 0 where
   pub tag : TagView
-  pub is : shape ≡ enclosed tag
+  pub origins : List Origin
+  pub is : shape ≡ enclosed tag origins
 
 pub some_tag : (shape : Shape) → visit_at_shape shape ≡ visit.Start → IsEnclosed shape
 some_tag (leaf e origins) h = absurd (cc h)
-some_tag (enclosed tag) h = record { tag = tag; is = refl }
+some_tag (enclosed tag origins) h = record { tag = tag; origins = origins; is = refl }
 some_tag plain h = absurd (cc h)
 some_tag backslash_break h = absurd (cc h)
 some_tag (unresolved other) h = absurd (cc h)
@@ -327,7 +334,7 @@ some_tag (unresolved other) h = absurd (cc h)
 -- where it goes in without one, only what is below is read
 pub plain_shape : (shape : Shape) → visit_at_shape shape ≡ visit.Plain → shape ≡ plain
 plain_shape (leaf e origins) h = cc h
-plain_shape (enclosed tag) h = cc h
+plain_shape (enclosed tag origins) h = cc h
 plain_shape plain h = refl
 plain_shape backslash_break h = cc h
 plain_shape (unresolved other) h = cc h
@@ -364,16 +371,28 @@ some_container other h heading fenced footnote table link image = cc h
 -- the tree reads with the container's tag
 pub container_shape : (tables : Tables) (over : List ℕ) (b : ItemBody) (tag : TagView) (found : Option TagView)
     → container_of b ≡ found
-    → is_some found ≡ true → IfSome found (λ t. tag ≡ t) → shape_of tables over b ≡ enclosed tag
-container_shape tables over b tag None e s h = cc s
-container_shape tables over b tag (Some t) e s h = agrees b t e ∙ ap enclosed (sym h)
+    → is_some found ≡ true → IfSome found (λ t. tag ≡ t) → (titles : List Origin) → titles ≡ []
+    → shape_of tables over b ≡ enclosed tag titles
+container_shape tables over b tag None e s h titles none = cc s
+container_shape tables over b tag (Some t) e s h titles none = rw (h, none) (agrees b t e)
   where
-    agrees : (b : ItemBody) (t : TagView) → container_of b ≡ Some t → shape_of tables over b ≡ enclosed t
+    agrees : (b : ItemBody) (t : TagView) → container_of b ≡ Some t → shape_of tables over b ≡ enclosed t []
     agrees (body.HardBreak true) t e = cc e
     agrees (body.HardBreak false) t e = cc e
     agrees other t e = cc e
 
 -- a Start is the event that a tree of its tag begins with
-pub opens_start : (source : List ℕ) (range : Range ℕ) (shape : Shape) (tag : Tag) → shape ≡ enclosed (tag_view tag)
+pub opens_start : (source : List ℕ) (range : Range ℕ) (shape : Shape) (tag : Tag)
+    → shape ≡ enclosed (tag_view tag) (titles_in tag)
     → TagIsFrom source (origin_start source range.start) range.end tag → OpensWith source range shape (step.Start tag)
-opens_start source range shape tag h from = record { origins = []; begins = rw h refl; texts = tt; start = from }
+opens_start source range shape tag h from = record {
+  origins = titles_in tag;
+  begins = rw h refl;
+  texts = no_texts (titles_in tag);
+  start = (from, refl);
+}
+  where
+    no_texts : (origins : List Origin)
+        → AreFrom source (slice_start source (step.Start tag) range.start) range.end origins []
+    no_texts [] = tt
+    no_texts (origin ∷ origins) = tt

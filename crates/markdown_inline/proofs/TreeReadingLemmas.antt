@@ -82,8 +82,9 @@ settled_by : (shape : Shape) (range : Range ℕ) (under rest : Reading → Readi
     → Reads (λ after. reading_opened shape range under (rest after) (rest after)) state (tree_events shape range es fs)
     [] state
 settled_by (leaf e origins) range under rest state es fs i b = one_reads (e, range, origins) rest state state fs [] b
-settled_by (enclosed tag) range under rest state es fs i b =
-    enclosed_reads (start tag, range, []) (end (tag_end tag), range, []) under rest state state state es fs [] [] i b
+settled_by (enclosed tag origins) range under rest state es fs i b =
+    enclosed_reads (start tag, range, origins) (end (tag_end tag), range, []) under rest state state state es fs [] []
+    i b
 settled_by plain range under rest state es fs i b = both_read under rest state state state es fs [] [] i b
 settled_by backslash_break range under rest state es fs i b = one_reads (hard_break, range, []) rest state state fs [] b
 settled_by (unresolved x) range under rest state es fs i b = b
@@ -143,9 +144,9 @@ module _ (s : Setting) where
       (after state).state) shows
       (one_reads (e, a.part.range, origins) rest state (after state).state (events_in (after state).trees)
       (after state).questions (r state))
-  tree_reads (enclosed tag) a under rest whole below after chain is b r w state =
+  tree_reads (enclosed tag origins) a under rest whole below after chain is b r w state =
       let middle : ReferenceState = (below state).state in
-      let first : Placed = (start tag, a.part.range, []) in
+      let first : Placed = (start tag, a.part.range, origins) in
       let last : Placed = (end (tag_end tag), a.part.range, []) in
       let inside : List Placed = events_in (below state).trees in
       let beyond : List Placed = events_in (after middle).trees in

@@ -127,18 +127,18 @@ heading_for-level level headings None = refl
 heading_for-level level headings (Some ix) = heading_at-level level headings (ix.0 - 1)
 
 -- how a tree ends depends on its body alone
-closing-enclosed : (tables : Tables) (source : List ℕ) (body : ItemBody) (tag : TagView) → shape_of tables source body
-    ≡ enclosed tag
+closing-enclosed : (tables : Tables) (source : List ℕ) (body : ItemBody) (tag : TagView) (origins : List Origin)
+    → shape_of tables source body ≡ enclosed tag origins
     → end_of_body body ≡ Some (tag_end tag)
-closing-enclosed tables source body.Paragraph tag h = cc h
-closing-enclosed tables source body.TightParagraph tag h = cc h
-closing-enclosed tables source (body.HardBreak true) tag h = cc h
-closing-enclosed tables source (body.HardBreak false) tag h = cc h
-closing-enclosed tables source (body.Heading level named) tag h =
+closing-enclosed tables source body.Paragraph tag origins h = cc h
+closing-enclosed tables source body.TightParagraph tag origins h = cc h
+closing-enclosed tables source (body.HardBreak true) tag origins h = cc h
+closing-enclosed tables source (body.HardBreak false) tag origins h = cc h
+closing-enclosed tables source (body.Heading level named) tag origins h =
     ap (λ l. Some (closes.Heading l))
     (heading_for-level level [] named ∙ sym (heading_for-level level tables.headings named))
     ∙ ap end_of_shape h
-closing-enclosed tables source other tag h = cc h
+closing-enclosed tables source other tag origins h = cc h
 
 closing-plain : (tables : Tables) (source : List ℕ) (body : ItemBody) → shape_of tables source body ≡ plain
     → end_of_body body ≡ None
@@ -155,7 +155,7 @@ reads-event : (shape : Shape) (range : Range ℕ) (inside : Reading → Reading)
 reads-event (leaf d origins') range inside after whole e origins h =
     let same : (d, origins')
     ≡ (e, origins) = cc h in ap (λ (x : EventView × List Origin). then_reads (x.0, range, x.1) after) same
-reads-event (enclosed tag) range inside after whole e origins h = cc h
+reads-event (enclosed tag others) range inside after whole e origins h = cc h
 reads-event plain range inside after whole e origins h = cc h
 reads-event backslash_break range inside after whole e origins h =
     let same : (hard_break, [])
@@ -208,16 +208,17 @@ moves_past_in source tables nodes ix spine n w =
 
 -- into a node that reads as a Start, its children and an End
 pub moves_in : (s : Setting) (tables : Tables) (nodes : List (Node Item)) (ix : ℕ) (spine : List ℕ) (tag : TagView)
-    → Stands s.text tables nodes (Some ix) spine → (tree_node_at s.text tables nodes ix).part.shape ≡ enclosed tag
+    (origins : List Origin) → Stands s.text tables nodes (Some ix) spine
+    → (tree_node_at s.text tables nodes ix).part.shape ≡ enclosed tag origins
     → Moves s tables nodes (Some ix) spine (child_of nodes ix) (spine ++ ix ∷ [])
-    ((start tag, range_of (item_at nodes ix), []) ∷ [])
+    ((start tag, range_of (item_at nodes ix), origins) ∷ [])
 unfolding left_of left_total
-moves_in s tables nodes ix spine tag w h =
+moves_in s tables nodes ix spine tag origins w h =
     let o = opens (links_of nodes) (IsPlaced s.text tables nodes) ix w.walk.here in
     let kept = rw o.here at w.here_kept in
     let two = some_weight (is_open (item_at nodes ix).body) in
     let c = closing-enclosed tables (slice_range s.text (item_at nodes ix).start (item_at nodes ix).end)
-    (item_at nodes ix).body tag h in
+    (item_at nodes ix).body tag origins h in
     record {
       stands = record {
         walk = record {

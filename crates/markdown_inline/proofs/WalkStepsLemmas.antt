@@ -113,16 +113,16 @@ went_on source s t held held' ix item e origins w a h sh k c =
 
 -- into a node
 pub went_in : (source : List ℕ) (s t : Arena Item) (held held' : Allocated) (ix : ℕ) (item : Item) (tag : TagView)
-    → TreeStands source (tables_of held) s → s.cursor ≡ Some ix → item ≡ item_at s.nodes ix
-    → shape_of (tables_of held) (over source item) item.body ≡ enclosed tag → TakesOnly item.body held held'
+    (origins : List Origin) → TreeStands source (tables_of held) s → s.cursor ≡ Some ix → item ≡ item_at s.nodes ix
+    → shape_of (tables_of held) (over source item) item.body ≡ enclosed tag origins → TakesOnly item.body held held'
     → t ≡ record s { spine = s.spine ++ ix ∷ []; cursor = child_of s.nodes ix }
-    → Went source s t held held' ((start tag, range_of item, []) ∷ [])
-went_in source s t held held' ix item tag w a h sh k c =
+    → Went source s t held held' ((start tag, range_of item, origins) ∷ [])
+went_in source s t held held' ix item tag origins w a h sh k c =
     let st = stands_at source (tables_of held) s (Some ix) s.spine a refl w in
     rw h (went source s t held held' ix (child_of s.nodes ix) (s.spine ++ ix ∷ [])
-    ((start tag, range_of (item_at s.nodes ix), []) ∷ []) a c
+    ((start tag, range_of (item_at s.nodes ix), origins) ∷ []) a c
     (rw h at k) (λ n. moves_past_in source (tables_of held) s.nodes ix s.spine n st)
-    (λ rules. moves_in (setting_of source rules) (tables_of held) s.nodes ix s.spine tag st (rw h at sh)))
+    (λ rules. moves_in (setting_of source rules) (tables_of held) s.nodes ix s.spine tag origins st (rw h at sh)))
 
 pub went_in_plain : (source : List ℕ) (s t : Arena Item) (held held' : Allocated) (ix : ℕ) (item : Item)
     → TreeStands source (tables_of held) s → s.cursor ≡ Some ix → item ≡ item_at s.nodes ix
@@ -168,13 +168,14 @@ passed_over source s t held ix item w a h goes c =
     }
 
 -- the event that a tree in a tag begins with is the Start
-start_begins : (shape : Shape) (tag : TagView) (e : EventView) (origins : List Origin) → shape ≡ enclosed tag
-    → beginning shape ≡ Some (e, origins) → ◌≡◌ {A = EventView × List Origin} (start tag, []) (e, origins)
-start_begins (enclosed own) tag e origins h b = cc (h, b)
-start_begins (leaf d others) tag e origins h b = cc h
-start_begins plain tag e origins h b = cc h
-start_begins backslash_break tag e origins h b = cc h
-start_begins (unresolved other) tag e origins h b = cc h
+start_begins : (shape : Shape) (tag : TagView) (titles : List Origin) (e : EventView) (origins : List Origin)
+    → shape ≡ enclosed tag titles
+    → beginning shape ≡ Some (e, origins) → ◌≡◌ {A = EventView × List Origin} (start tag, titles) (e, origins)
+start_begins (enclosed own others) tag titles e origins h b = cc (h, b)
+start_begins (leaf d others) tag titles e origins h b = cc h
+start_begins plain tag titles e origins h b = cc h
+start_begins backslash_break tag titles e origins h b = cc h
+start_begins (unresolved other) tag titles e origins h b = cc h
 
 -- into an item by a Start
 pub passed_in : (source : List ℕ) (s t : Arena Item) (held : Allocated) (ix : ℕ) (item : Item)
@@ -188,13 +189,15 @@ passed_in source s t held ix item w a h goes c =
     let some = some_tag shape is in
     record {
       can = can_begin source s held ix item w a h;
-      stays = (went_in source s t held held ix item some.tag w a h some.is (takes_nothing item.body held) c).stands;
-      stands = λ held' k. (went_in source s t held held' ix item some.tag w a h some.is k c).stands;
+      stays = (went_in source s t held held ix item some.tag some.origins w a h some.is
+          (takes_nothing item.body held) c).stands;
+      stands = λ held' k. (went_in source s t held held' ix item some.tag some.origins w a h some.is k c).stands;
       went = λ held' e origins k b.
           subst (λ (x : EventView × List Origin). Went source s t held held' ((x.0, range_of item, x.1) ∷ []))
-          (start_begins shape some.tag e origins some.is b)
-          (went_in source s t held held' ix item some.tag w a h some.is k c);
-      falls = (went_in source s t held held ix item some.tag w a h some.is (takes_nothing item.body held) c).falls;
+          (start_begins shape some.tag some.origins e origins some.is b)
+          (went_in source s t held held' ix item some.tag some.origins w a h some.is k c);
+      falls = (went_in source s t held held ix item some.tag some.origins w a h some.is
+          (takes_nothing item.body held) c).falls;
     }
 
 -- into an item without a Start

@@ -47,7 +47,8 @@ use Rattle.markdown_inline.proofs.TreeReadingLemmas.{blocks_read}
 -- the events of a forest of which nothing is open
 abbrev pub opened_events : Shape → Range ℕ → (inside after : List Ranged) → List Ranged
 opened_events (leaf e origins) range inside after = (e, range) ∷ after
-opened_events (enclosed tag) range inside after = (start tag, range) ∷ (inside ++ (end (tag_end tag), range) ∷ after)
+opened_events (enclosed tag origins) range inside after =
+    (start tag, range) ∷ (inside ++ (end (tag_end tag), range) ∷ after)
 opened_events plain range inside after = inside ++ after
 opened_events backslash_break range inside after = (hard_break, range) ∷ after
 opened_events (unresolved b) range inside after = after
@@ -60,7 +61,7 @@ ranged_in (node a below after) = opened_events a.part.shape a.part.range (ranged
 ranged_tree : (shape : Shape) (range : Range ℕ) (es fs : List Placed)
     → ranged (tree_events shape range es fs) ≡ opened_events shape range (ranged es) (ranged fs)
 ranged_tree (leaf e origins) range es fs = refl
-ranged_tree (enclosed tag) range es fs =
+ranged_tree (enclosed tag origins) range es fs =
     ap (λ (l : List Ranged). (start tag, range) ∷ l)
     (map-append (λ (e : Placed). (e.0, e.1)) es ((end (tag_end tag), range, []) ∷ fs))
 ranged_tree plain range es fs = map-append (λ (e : Placed). (e.0, e.1)) es fs
@@ -112,8 +113,8 @@ alone_keeps : Keeps alone_at (λ ns limit. total ns ≡ 0)
 alone_keeps = record {
   numbers = record { lone = λ e origins h. lone_none e (made_lone e h); mark = λ tag h. refl };
   cut = cut_same;
-  other_link = λ v e. refl;
-  other_image = λ v e. refl;
+  other_link = λ v titles e. refl;
+  other_image = λ v titles e. refl;
   less = λ ns ms limit w e. omega (arith, w.sums, e);
   link_found = λ ns limit v h e. omega (arith, total_append ns [], e);
   image_found = λ ns limit v h e. omega (arith, total_append ns [], e);
@@ -125,7 +126,7 @@ alone_keeps = record {
 
 -- what a shape expands to
 abbrev pub expansion_at : Shape → List ℕ
-expansion_at (enclosed tag) = tag_expansion tag
+expansion_at (enclosed tag origins) = tag_expansion tag
 expansion_at other = []
 
 no_bracket_none : (tag : TagView) → IsNoBracket tag → tag_expansion tag ≡ []
@@ -142,8 +143,8 @@ expansions_keep : (limit : ℕ) → Keeps expansion_at (Spent limit)
 expansions_keep limit = record {
   numbers = record { lone = λ e origins h. refl; mark = λ tag h. no_bracket_none tag (mark_bracket tag h) };
   cut = cut_same;
-  other_link = λ v e. if_none (is_looked_up v.kind) (size_of v ∷ []) e;
-  other_image = λ v e. if_none (is_looked_up v.kind) (size_of v ∷ []) e;
+  other_link = λ v titles e. if_none (is_looked_up v.kind) (size_of v ∷ []) e;
+  other_image = λ v titles e. if_none (is_looked_up v.kind) (size_of v ∷ []) e;
   less = λ ns ms later w s. record {
     left = omega (arith, w.sums, s.left);
     fits = w.fits limit 0 0 (omega arith) s.fits;
@@ -170,7 +171,7 @@ none_such state = record { lone = refl; apart = tt; spent = spent_none state.lim
 -- a shape of a block result: not a link or an image, and not a leaf that is a Start or an End
 abbrev pub IsBlockShape : Shape → Type 0
 IsBlockShape (leaf e origins) = IsLone e
-IsBlockShape (enclosed tag) = IsNoBracket tag
+IsBlockShape (enclosed tag origins) = IsNoBracket tag
 IsBlockShape other = ⊤
 
 abbrev pub AreBlockShapes : {A : Type 0} → Forest (TreeNode A) → Type 0
@@ -182,11 +183,11 @@ block_alone (leaf e origins) h = lone_none e h
 block_alone other h = refl
 
 block_expansion : (shape : Shape) → IsBlockShape shape → expansion_at shape ≡ []
-block_expansion (enclosed tag) h = no_bracket_none tag h
+block_expansion (enclosed tag origins) h = no_bracket_none tag h
 block_expansion other h = refl
 
 block_link : (shape : Shape) → IsBlockShape shape → IsNoLink shape
-block_link (enclosed tag) h = tag_link tag h
+block_link (enclosed tag origins) h = tag_link tag h
   where
     tag_link : (tag : TagView) → IsNoBracket tag → OpensNoLink tag
     tag_link (link v) h = absurd h
@@ -194,7 +195,7 @@ block_link (enclosed tag) h = tag_link tag h
 block_link other h = tt
 
 block_apart : {A : Type 0} (shape : Shape) (below : Forest (TreeNode A)) → IsBlockShape shape → HasNoneBelow shape below
-block_apart (enclosed tag) below h = note_apart tag h
+block_apart (enclosed tag origins) below h = note_apart tag h
   where
     note_apart : (tag : TagView) → IsNoBracket tag → ClosesOverNone tag below
     note_apart (link v) h = absurd h
@@ -261,7 +262,7 @@ tree_such : (shape : Shape) (a : Plain) (below after chain : Resolving (Unit {0}
     → IsSuch state (resolved_tree shape a below after chain state)
 tree_such (leaf e origins) a below after chain h i l w state = then_such a no_trees after state h (none_such state)
     (l state)
-tree_such (enclosed tag) a below after chain h i l w state = then_such a below after state h (i state)
+tree_such (enclosed tag origins) a below after chain h i l w state = then_such a below after state h (i state)
     (l (below state).state)
 tree_such plain a below after chain h i l w state = then_such a below after state h (i state) (l (below state).state)
 tree_such backslash_break a below after chain h i l w state = then_such a no_trees after state h (none_such state)

@@ -29,7 +29,7 @@ is_looked_up (kind.WikiLink has_pothole) = false
 
 -- what a look-up found, where it made a `]` the end of a link or an image
 abbrev pub found_by : {A : Type 0} → Becomes A → List LinkView
-found_by (a_link o target end next) = if is_looked_up target.kind then target ∷ [] else []
+found_by (a_link o target titles end next) = if is_looked_up target.kind then target ∷ [] else []
 found_by other = []
 
 -- what a look-up found at an item, by the item's body: a label is looked up only at a `]`

@@ -15,12 +15,12 @@ use Rattle.markdown_inline.specs.ParserLeft.{parser_work, IsOver}
 use Rattle.markdown_inline.specs.Slices.{slice_start, texts_of, AreFrom, StartIsFrom}
 use Rattle.markdown_inline.specs.declared.walk.Parser.{Parser}
 
--- an event is this one of a reading of the source: its texts have the same bytes and the origins of the reading, and
--- the destination and the title of a link come from its range in the source as its type says
+-- an event is this one of a reading of the source: its texts, and the title of an inline link, have the same bytes and
+-- the origins of the reading, and the destination of a link comes from its range in the source as its type says
 pub record IsEventOf (source : List ℕ) (e : Event) (placed : Placed) : Type 0 where
   pub view : placed.0 ≡ event_view e
   pub texts : AreFrom source (slice_start source e placed.1.start) placed.1.end placed.2 (texts_of e)
-  pub start : StartIsFrom source placed.1.start placed.1.end e
+  pub start : StartIsFrom source placed.1.start placed.1.end placed.2 e
 
 -- the same for an event with its range
 pub record IsPlacedOf (source : List ℕ) (e : Event × Range ℕ) (placed : Placed) : Type 0 where

@@ -16,7 +16,7 @@ use Rattle.markdown_document.specs.Setting.{Setting}
 -- reading of what follows the tree, and `whole` that of the chain from this tree on, where the tree is open
 abbrev pub reading_opened : Shape → Range ℕ → (inside : Reading → Reading) → (after whole : Reading) → Reading
 reading_opened (leaf e origins) range inside after whole = then_reads (e, range, origins) after
-reading_opened (enclosed tag) range inside after whole = then_reads (start tag, range, [])
+reading_opened (enclosed tag origins) range inside after whole = then_reads (start tag, range, origins)
     (inside (then_reads (end (tag_end tag), range, []) after))
 reading_opened plain range inside after whole = inside after
 reading_opened backslash_break range inside after whole = then_reads (hard_break, range, []) after

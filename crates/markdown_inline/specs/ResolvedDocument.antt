@@ -49,7 +49,7 @@ tree_then a below after state = before_others a (below state) (after (below stat
 -- a tree, by its shape: what is below a leaf is not read, and is left out; an open item begins a chain
 abbrev pub resolved_tree : {A : Type 0} → Shape → TreeNode A → (below after chain : Resolving A) → Resolving A
 resolved_tree (leaf e origins) a below after chain state = tree_then a no_trees after state
-resolved_tree (enclosed tag) a below after chain state = tree_then a below after state
+resolved_tree (enclosed tag origins) a below after chain state = tree_then a below after state
 resolved_tree plain a below after chain state = tree_then a below after state
 resolved_tree backslash_break a below after chain state = tree_then a no_trees after state
 resolved_tree (unresolved b) a below after chain state = chain state

@@ -39,7 +39,7 @@ IsMadeTag other = IsPairedTag other
 -- the shape can be made of open items
 abbrev pub IsMadeShape : Shape → Type 0
 IsMadeShape (leaf e origins) = IsMadeEvent e
-IsMadeShape (enclosed tag) = IsMadeTag tag
+IsMadeShape (enclosed tag origins) = IsMadeTag tag
 IsMadeShape other = ⊥
 
 -- each shape is made, or comes from the chain, perhaps without its first bytes: so a test that accepts all that can be

@@ -1,6 +1,6 @@
 -- Where the texts of events come from: those of events that are one leaf, and the destinations and titles of links.
 use Rattle.markdown_base.specs.declared.event.Event.TheVariants as step
-use Rattle.std.specs.Prelude.{ℕ, List, [], ◌∷◌}
+use Rattle.std.specs.Prelude.{◌≡◌, ℕ, List, [], ◌∷◌}
 use Rattle.markdown_base.specs.CowText.{IsInlined}
 use Rattle.markdown_base.specs.Event.{link_view}
 use Rattle.markdown_base.specs.declared.cow_str.CowStr.{CowStr}
@@ -9,8 +9,8 @@ use Rattle.markdown_base.specs.declared.event.Event.{Event}
 use Rattle.markdown_base.specs.declared.tag.Tag.{Tag}
 use Rattle.markdown_base.specs.declared.tag.Tag.TheVariants as opens
 use Rattle.markdown_defs.specs.Allocations.{LinkParts}
-use Rattle.markdown_document.specs.LinkOrigins.{IsLinkFrom}
-use Rattle.markdown_document.specs.Origins.{Origin, sliced, inlined, made, IsSliceWithin}
+use Rattle.markdown_document.specs.LinkOrigins.{IsLinkFrom, titles_for}
+use Rattle.markdown_document.specs.Origins.{Origin, sliced, inlined, made, origin_of, IsSliceWithin}
 use Rattle.markdown_document.specs.Places.{origin_start}
 use Rattle.markdown_document.specs.Tables.{link_origins}
 
@@ -70,7 +70,15 @@ TagIsFrom source start end (opens.Image link_type destination title label) =
     LeadsFrom source start end (link_type, destination, title, label)
 TagIsFrom source start end other = Unit {0}
 
--- the same for the Start of such a tag over this range, which the pipe of a wikilink may have cut
-abbrev pub StartIsFrom : List ℕ → (start end : ℕ) → Event → Type 0
-StartIsFrom source start end (step.Start tag) = TagIsFrom source (origin_start source start) end tag
-StartIsFrom source start end other = Unit {0}
+-- the origin of the title of a tag, if the tag is an inline link or an inline image
+abbrev pub titles_in : Tag → List Origin
+titles_in (opens.Link link_type destination title label) = titles_for link_type (origin_of title)
+titles_in (opens.Image link_type destination title label) = titles_for link_type (origin_of title)
+titles_in other = []
+
+-- the Start of such a tag over this range, which the pipe of a wikilink may have cut, comes from the source as the
+-- tag's type says, and the title of an inline link has this origin
+abbrev pub StartIsFrom : List ℕ → (start end : ℕ) → List Origin → Event → Type 0
+StartIsFrom source start end origins (step.Start tag) =
+    TagIsFrom source (origin_start source start) end tag × (titles_in tag ≡ origins)
+StartIsFrom source start end origins other = Unit {0}

@@ -19,8 +19,8 @@ use Rattle.markdown_inline.specs.ResolvedDocument.{resolved_blocks, resolved_doc
 -- the events of a tree with this range, by its shape, before those of what comes after it
 abbrev pub tree_events : Shape → Range ℕ → (inside after : List Placed) → List Placed
 tree_events (leaf e origins) range inside after = (e, range, origins) ∷ after
-tree_events (enclosed tag) range inside after =
-    (start tag, range, []) ∷ (inside ++ (end (tag_end tag), range, []) ∷ after)
+tree_events (enclosed tag origins) range inside after =
+    (start tag, range, origins) ∷ (inside ++ (end (tag_end tag), range, []) ∷ after)
 tree_events plain range inside after = inside ++ after
 tree_events backslash_break range inside after = (hard_break, range, []) ∷ after
 tree_events (unresolved b) range inside after = after

@@ -21,7 +21,7 @@ use Rattle.markdown_document.specs.Tables.{Tables, no_tables}
 -- the End of a tree of this shape that was begun
 abbrev pub end_of_shape : Shape → Option TagEnd
 end_of_shape (leaf e origins) = None
-end_of_shape (enclosed tag) = Some (tag_end tag)
+end_of_shape (enclosed tag origins) = Some (tag_end tag)
 end_of_shape plain = None
 end_of_shape backslash_break = None
 end_of_shape (unresolved b) = None

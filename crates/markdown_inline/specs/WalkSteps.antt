@@ -30,7 +30,7 @@ use Rattle.markdown_inline.specs.WalkTotals.{tree_steps}
 -- the event that a tree of this shape begins with, with the origins of its texts
 abbrev pub beginning : Shape → Option (EventView × List Origin)
 beginning (leaf e origins) = Some (e, origins)
-beginning (enclosed tag) = Some (start tag, [])
+beginning (enclosed tag origins) = Some (start tag, origins)
 beginning plain = None
 beginning backslash_break = Some (hard_break, [])
 beginning (unresolved b) = None
@@ -40,12 +40,12 @@ pub record OpensWith (source : List ℕ) (range : Range ℕ) (shape : Shape) (e 
   pub origins : List Origin
   pub begins : beginning shape ≡ Some (event_view e, origins)
   pub texts : AreFrom source (slice_start source e range.start) range.end origins (texts_of e)
-  pub start : StartIsFrom source range.start range.end e
+  pub start : StartIsFrom source range.start range.end origins e
 
 -- how a walk moves at a tree of this shape
 abbrev pub visit_at_shape : Shape → Visit
 visit_at_shape (leaf e origins) = visit.Leaf
-visit_at_shape (enclosed tag) = visit.Start
+visit_at_shape (enclosed tag origins) = visit.Start
 visit_at_shape plain = visit.Plain
 visit_at_shape backslash_break = visit.Leaf
 visit_at_shape (unresolved b) = visit.Open
@@ -57,7 +57,7 @@ visit_at b = visit_at_shape (shape_of no_tables [] b)
 -- the tag of a tree of this shape, where it reads as a Start and an End
 abbrev pub enclosing_tag : Shape → Option TagView
 enclosing_tag (leaf e origins) = None
-enclosing_tag (enclosed tag) = Some tag
+enclosing_tag (enclosed tag origins) = Some tag
 enclosing_tag plain = None
 enclosing_tag backslash_break = None
 enclosing_tag (unresolved b) = None
@@ -109,7 +109,7 @@ pub record Gives (source : List ℕ) (s t : Arena Item) (held held' : Allocated)
   where
     pub origins : List Origin
     pub texts : AreFrom source (slice_start source e range.start) range.end origins (texts_of e)
-    pub start : StartIsFrom source range.start range.end e
+    pub start : StartIsFrom source range.start range.end origins e
     pub went : Went source s t held held' ((event_view e, range, origins) ∷ [])
 
 -- a step went past the beginning of an item, whose event is not made yet: the event is given once it is made, whatever

@@ -7,9 +7,9 @@ ghost use Rattle.markdown_defs.specs.AllocationCalls.{HasLink, LeavesEmptyLink};
 ghost use Rattle.markdown_document.specs.Document.{enclosed, math, shape_of};
 ghost use Rattle.markdown_document.specs.Places.{origin_start};
 ghost use Rattle.markdown_document.specs.PlacedNodes.{HasSliceLink, HasSlices};
-ghost use Rattle.markdown_document.specs.Tables.{link_at, tables_of};
+ghost use Rattle.markdown_document.specs.Tables.{link_at, tables_of, titles_at};
 ghost use Rattle.markdown_document.specs.NamedEntries.{NamesEntries};
-ghost use Rattle.markdown_inline.specs.Slices.{TagIsFrom, slice_start, texts_of};
+ghost use Rattle.markdown_inline.specs.Slices.{TagIsFrom, slice_start, texts_of, titles_in};
 ghost use Rattle.markdown_inline.specs.WalkSteps.{CanBegin, ClosesTo, OpensWith, TakesOnly, container_of, visit_at};
 
 use crate::heading::heading_start;
@@ -127,7 +127,7 @@ pub fn start_tag<'a>(
     requires start { visit_at body ≡ Visit.Start }
     requires named { NamesEntries (tables_of tables.old) body }
     ensures tag { (over : List ℕ) → IfOk result (λ tag. shape_of (tables_of tables.old) over body
-        ≡ enclosed (tag_view tag)) }
+        ≡ enclosed (tag_view tag) (titles_in tag)) }
     ensures from { (source : List ℕ) (start end : ℕ)
         → HasSlices source (tables_of tables.old) start end body
         → IfOk result (TagIsFrom source start end) }
@@ -152,6 +152,7 @@ pub fn start_tag<'a>(
 /// Returns the tag of a container that refers to nothing; for any other body, `Tag::Paragraph`.
 fn container_tag<'a>(body: ItemBody) -> Tag<'a>
     ensures tag { IfSome (container_of body) (λ tag. tag_view result ≡ tag) }
+    ensures titles { titles_in result ≡ [] }
     ensures from { (source : List ℕ) (start end : ℕ) → TagIsFrom source start end result }
 {
     match body {
@@ -205,6 +206,7 @@ fn math_event<'a>(display: bool, text: CowStr<'a>) -> Event<'a>
 fn link_tag<'a>(tables: &mut Allocations<'a>, ix: LinkIndex) -> Tag<'a>
     requires { HasLink tables.old ix }
     ensures tag { tag_view result ≡ link (link_at tables.old.links ix.0) }
+    ensures titles { titles_in result ≡ titles_at tables.old.links ix.0 }
     ensures from { (source : List ℕ) (start end : ℕ)
         → HasSliceLink source (tables_of tables.old) start end ix.0
         → TagIsFrom source start end result }
@@ -223,6 +225,7 @@ fn link_tag<'a>(tables: &mut Allocations<'a>, ix: LinkIndex) -> Tag<'a>
 fn image_tag<'a>(tables: &mut Allocations<'a>, ix: LinkIndex) -> Tag<'a>
     requires { HasLink tables.old ix }
     ensures tag { tag_view result ≡ image (link_at tables.old.links ix.0) }
+    ensures titles { titles_in result ≡ titles_at tables.old.links ix.0 }
     ensures from { (source : List ℕ) (start end : ℕ)
         → HasSliceLink source (tables_of tables.old) start end ix.0
         → TagIsFrom source start end result }

@@ -1,12 +1,12 @@
 //! The Start of a heading, with the attributes that follow it in braces. Two headings may refer to the same attributes,
 //! so these are copied, unlike texts, which are taken.
-ghost use Rattle.std.specs.Prelude.{◌≡◌, IfOk, IfSome, List, map, ℕ};
+ghost use Rattle.std.specs.Prelude.{◌≡◌, [], IfOk, IfSome, List, map, ℕ};
 ghost use Rattle.std.specs.Option.{option_map};
 ghost use Rattle.markdown_base.specs.CowText.{text_of};
 ghost use Rattle.markdown_base.specs.Event.{attribute_view, heading, tag_view};
 ghost use Rattle.markdown_defs.specs.AllocationCalls.{HasHeading};
 ghost use Rattle.markdown_document.specs.Tables.{heading_for, heading_with};
-ghost use Rattle.markdown_inline.specs.Slices.{TagIsFrom};
+ghost use Rattle.markdown_inline.specs.Slices.{TagIsFrom, titles_in};
 
 use markdown_base::block_parts::HeadingAttributes;
 use markdown_base::cow_str::CowStr;
@@ -27,6 +27,7 @@ pub fn heading_start<'a>(
     ensures tag { IfOk result (λ tag. tag_view tag
         ≡ heading (heading_for level tables.now.headings named)) }
     ensures from { (source : List ℕ) (start end : ℕ) → IfOk result (TagIsFrom source start end) }
+    ensures titles { IfOk result (λ tag. titles_in tag ≡ []) }
 {
     match named {
         None => Ok(Tag::Heading {
@@ -48,6 +49,7 @@ fn heading_copy<'a>(
     ensures tag { IfOk result (λ tag. tag_view tag
         ≡ heading (heading_with level attributes.now)) }
     ensures from { (source : List ℕ) (start end : ℕ) → IfOk result (TagIsFrom source start end) }
+    ensures titles { IfOk result (λ tag. titles_in tag ≡ []) }
 {
     let id = copy_of(alloc, &attributes.id)?;
     let classes = class_copies(alloc, &attributes.classes)?;

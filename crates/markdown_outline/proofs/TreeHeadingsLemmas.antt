@@ -38,7 +38,7 @@ made_tag (heading h) m = absurd m
 made_tag other m = refl
 
 made : (shape : Shape) → IsMadeShape shape → not_heading shape ≡ true
-made (enclosed tag) m = made_tag tag m
+made (enclosed tag origins) m = made_tag tag m
 made other m = refl
 
 -- nor is it one by its first bytes
@@ -59,7 +59,7 @@ GivesNone r = (state : ReferenceState) → NoHeading (r state).trees
 tree_none : (shape : Shape) (a : Plain) (below after chain : Resolving (Unit {0})) → not_heading a.part.shape ≡ true
     → GivesNone below → GivesNone after → GivesNone chain → GivesNone (resolved_tree shape a below after chain)
 tree_none (leaf e origins) a below after chain n i l w state = (n, tt, l state)
-tree_none (enclosed tag) a below after chain n i l w state = (n, i state, l (below state).state)
+tree_none (enclosed tag origins) a below after chain n i l w state = (n, i state, l (below state).state)
 tree_none plain a below after chain n i l w state = (n, i state, l (below state).state)
 tree_none backslash_break a below after chain n i l w state = (n, tt, l state)
 tree_none (unresolved b) a below after chain n i l w state = w state
@@ -101,7 +101,7 @@ tree_apart : (shape : Shape) (a : Plain) (below after chain : Resolving (Unit {0
     → (is_unresolved a.part.shape ≡ true → GivesNone chain) → GivesApart (resolved_tree shape a below after chain)
 tree_apart (leaf e origins) a below after chain is n i l w state =
     (record { in_heading = λ h. tt; unread = λ h. tt }, tt, l state)
-tree_apart (enclosed tag) a below after chain is n i l w state = (
+tree_apart (enclosed tag origins) a below after chain is n i l w state = (
   record { in_heading = λ h. n h state; unread = λ h. absurd (not_both (sym (ap reads_below is) ∙ h)) },
   i state,
   l (below state).state,

@@ -7,7 +7,8 @@ use Rattle.std.specs.declared.ops.Range.{Range}
 use Rattle.std.proofs.lemmas.List.{map-append}
 use Rattle.markdown_base.specs.Event.{EventView, start, end, tag_end, TagView, heading}
 use Rattle.markdown_base.specs.Forest.{Forest, nil, node, Throughout, Each}
-use Rattle.markdown_document.specs.Document.{Shape, leaf, enclosed, plain, backslash_break, unresolved, TreeNode}
+use Rattle.markdown_document.specs.Document.{Origin, Shape, leaf, enclosed, plain, backslash_break, unresolved}
+use Rattle.markdown_document.specs.Document.{TreeNode}
 use Rattle.markdown_inline.specs.Balanced.{ranged}
 use Rattle.markdown_inline.specs.Elements.{Placed}
 use Rattle.markdown_inline.specs.TreeReading.{GivesBoth, IsLone, events_in, tree_events}
@@ -26,7 +27,7 @@ NoHeading {A} f = Each (λ (a : TreeNode A). not_heading a.part.shape ≡ true) 
 
 -- what is below a tree is read
 abbrev pub reads_below : Shape → Bool
-reads_below (enclosed tag) = true
+reads_below (enclosed tag origins) = true
 reads_below plain = true
 reads_below other = false
 
@@ -85,7 +86,7 @@ Silent events = (rest : List Ranged) → entries_from true (ranged events ++ res
 tree_stays : (shape : Shape) (range : Range ℕ) (inside after : List Placed) → not_heading shape ≡ true → GivesBoth shape
     → Stays inside → Stays after → Stays (tree_events shape range inside after)
 tree_stays (leaf e origins) range inside after n g i l rest = rw (lone_ends_none e g, l rest) refl
-tree_stays (enclosed tag) range inside after n g i l rest =
+tree_stays (enclosed tag origins) range inside after n g i l rest =
     let close : Placed = (end (tag_end tag), range, []) in
     let none = ends_none tag (no_level (tag_level tag) n) in
     let goes_on : up_to_end ((end (tag_end tag), range) ∷ (ranged after ++ rest))
@@ -104,7 +105,7 @@ tree_silent : (shape : Shape) (range : Range ℕ) (inside after : List Placed) �
     → GivesBoth shape
     → Silent inside → Silent after → Silent (tree_events shape range inside after)
 tree_silent (leaf e origins) range inside after n g i l rest = rw (entries_from, lone_ends_none e g) (l rest)
-tree_silent (enclosed tag) range inside after n g i l rest =
+tree_silent (enclosed tag origins) range inside after n g i l rest =
     let close : Placed = (end (tag_end tag), range, []) in
     let none = ends_none tag (no_level (tag_level tag) n) in
     let goes_on : entries_from true ((end (tag_end tag), range) ∷ (ranged after ++ rest))
@@ -148,13 +149,13 @@ record BelowHas {A : Type 0} (below : Forest (TreeNode A)) : Type 0 where
   silent : NoHeading below → Silent (events_in below)
 
 -- a Start and an End with what is between them, by the level of the heading that they are, if they are one
-enclosed_has : {A : Type 0} (tag : TagView) (o : Option ℕ) (range : Range ℕ) (below : Forest (TreeNode A))
-    (after : List Placed)
+enclosed_has : {A : Type 0} (tag : TagView) (origins : List Origin) (o : Option ℕ) (range : Range ℕ)
+    (below : Forest (TreeNode A)) (after : List Placed)
     (others : List EntryView) → tag_level tag ≡ o → (is_some o ≡ true → NoHeading below) → BelowHas below
     → Have after others
-    → Have (tree_events (enclosed tag) range (events_in below) after)
+    → Have (tree_events (enclosed tag origins) range (events_in below) after)
     (own_entry o range below ++ (tree_entries below ++ others))
-enclosed_has tag None range below after others t n b l rest =
+enclosed_has tag origins None range below after others t n b l rest =
     let close : Placed = (end (tag_end tag), range, []) in
     let outside : entries_from false (ranged (events_in below ++ close ∷ after) ++ rest)
     ≡ (tree_entries below ++ others) ++ entries_from false rest =
@@ -163,7 +164,7 @@ enclosed_has tag None range below after others t n b l rest =
     ∙ ap (λ (es : List EntryView). tree_entries below ++ es) (l rest)
     ∙ sym (append_assoc (tree_entries below) others (entries_from false rest)) in
     rw t outside
-enclosed_has tag (Some level) range below after others t n b l rest =
+enclosed_has tag origins (Some level) range below after others t n b l rest =
     let close : Placed = (end (tag_end tag), range, []) in
     let later : List Ranged = ranged after ++ rest in
     let one = ends_one tag level t in
@@ -190,8 +191,8 @@ tree_has : {A : Type 0} (shape : Shape) (range : Range ℕ) (below : Forest (Tre
     (own_entry (tree_level shape) range below ++ (tree_entries below ++ others))
 tree_has (leaf e origins) range below after others g n u b l rest = rw (lone_opens_none e g, no_entries below (u refl))
     (l rest)
-tree_has (enclosed tag) range below after others g n u b l rest =
-    enclosed_has tag (tag_level tag) range below after others refl (λ h. n (rw h refl)) b l rest
+tree_has (enclosed tag origins) range below after others g n u b l rest =
+    enclosed_has tag origins (tag_level tag) range below after others refl (λ h. n (rw h refl)) b l rest
 tree_has plain range below after others g n u b l rest =
     ap (entries_from false) (parted (events_in below) after rest) ∙ b.entries (ranged after ++ rest)
     ∙ ap (λ (es : List EntryView). tree_entries below ++ es) (l rest)

@@ -17,7 +17,7 @@ use Rattle.markdown_outline.specs.Outline.{EntryView, tag_level, joined_text}
 
 -- the level of a heading; other shapes have none
 abbrev pub tree_level : Shape → Option ℕ
-tree_level (enclosed tag) = tag_level tag
+tree_level (enclosed tag origins) = tag_level tag
 tree_level other = None
 
 -- the entry of a tree with this range, if it is a heading

@@ -15,20 +15,20 @@ use Rattle.markdown_brackets.specs.ClosingBracket.{linked}
 use Rattle.markdown_brackets.specs.DecisionView.{IsBecome, opener_of}
 use Rattle.markdown_brackets.specs.LeftList.{Entry, Split, inside}
 use Rattle.markdown_brackets.specs.LookupView.{target_view}
-use Rattle.markdown_brackets.specs.TargetOrigins.{IsTargetFrom}
+use Rattle.markdown_brackets.specs.TargetOrigins.{IsTargetFrom, titles_of}
 use Rattle.markdown_brackets.specs.declared.closing_bracket.ClosedBracket.TheVariants.{Link}
 use Rattle.markdown_brackets.specs.declared.look_up.Target.{Target}
 use Rattle.markdown_brackets.specs.declared.openers.Opener.{Opener}
 use Rattle.markdown_document.specs.ChainRest.{start_of, end_of}
-use Rattle.markdown_document.specs.Document.{TreeNode, Plain, enclosed, tree_node_of}
-use Rattle.markdown_document.specs.LinkOrigins.{IsLinkFrom, IsTitleFrom, LinkOrigins, destination_origin}
+use Rattle.markdown_document.specs.Document.{Origin, TreeNode, Plain, enclosed, tree_node_of}
+use Rattle.markdown_document.specs.LinkOrigins.{IsLinkFrom, IsTitleFrom, LinkOrigins, destination_origin, titles_for}
 use Rattle.markdown_document.specs.Origins.{made, origin_of}
-use Rattle.markdown_document.specs.Tables.{Tables, link_at, link_origins, tables_of}
+use Rattle.markdown_document.specs.Tables.{Tables, link_at, link_origins, tables_of, titles_at}
 use Rattle.markdown_resolver.specs.declared.continuation.Continuation.{Continuation}
 use Rattle.markdown_resolver.specs.ClosedOver.{CanClose, CanPutOver, PutsOver, over_inside}
 use Rattle.markdown_resolver.specs.Closes.{ClosesAt, PutsClosed}
 use Rattle.markdown_resolver.specs.PutsTrees.{numbered_node, without_numbers}
-use Rattle.markdown_resolver.proofs.MarkupItemLemmas.{can_put_link, link_over, PutsLink, link_put}
+use Rattle.markdown_resolver.proofs.MarkupItemLemmas.{can_put_link, link_over, PutsLink, link_put, titles_pushed}
 use Rattle.markdown_resolver.proofs.CloseLemmas.{OpenerAt, can_close, opener_at, opener_before, puts_closed}
 use Rattle.markdown_resolver.proofs.CloseLemmas.{quiet_inside}
 use Rattle.markdown_resolver.proofs.SplitLemmas.{inside_numbers, opens_numbered}
@@ -40,17 +40,17 @@ use Rattle.markdown_defs.specs.AllocationCalls.{with_link}
 pub record BecomesLink (text : List ℕ) (becomes : Becomes ℕ) (opener : Opener) (found : Target) (end next : ℕ) : Type 0
   where
     pub split : Split ℕ
-    pub is : becomes ≡ a_link split (target_view found) end next
+    pub is : becomes ≡ a_link split (target_view found) (titles_of found) end next
     pub opener_is : opener ≡ opener_of split
     pub from : IsTargetFrom text (start_of split.opener) end found
 
 pub becomes_link : (w : BracketContext) (becomes : Becomes ℕ) (opener : Opener) (found : Target) (end next : ℕ)
     → IsBecome w becomes (Link opener found end next) → BecomesLink w.setting.text becomes opener found end next
-becomes_link w (a_link o target e n) opener found end next h = record {
+becomes_link w (a_link o target titles e n) opener found end next h = record {
   split = o;
-  is = rw (h.1, h.2, h.3) refl;
+  is = rw (h.1, h.2, h.3, h.4) refl;
   opener_is = h.0;
-  from = rw h.2 h.4;
+  from = rw h.2 h.5;
 }
 becomes_link w other opener found end next h = absurd h
 
@@ -69,26 +69,29 @@ made_link source start end origins view other title = record { leads = λ slice.
 
 -- a link reads as its entry
 link_label : (source : List ℕ) (tables : Tables) (tag : ℕ) (is_image : Bool) (number : LinkIndex) (view : LinkView)
-    (start start' end : ℕ) → start ≡ start' → link_at tables.links number.0 ≡ view
+    (titles : List Origin) (start start' end : ℕ) → start ≡ start' → link_at tables.links number.0 ≡ view
+    → titles_at tables.links number.0 ≡ titles
     → tree_node_of source tables (link_over is_image number start end) ≡ record {
       note = tt;
       part = record {
-        shape = enclosed (if is_image then image view else link view);
+        shape = enclosed (if is_image then image view else link view) titles;
         range = record { start = start'; end = end };
         block = None;
       };
     }
-link_label source tables tag true number view start start' end e found = rw (e, found) refl
-link_label source tables tag false number view start start' end e found = rw (e, found) refl
+link_label source tables tag true number view titles start start' end e found origin = rw (e, origin, found) refl
+link_label source tables tag false number view titles start start' end e found origin = rw (e, origin, found) refl
 
 pub linked_node : (source : List ℕ) (tables tables' : Tables) (nodes : List (Node Item)) (o : Split ℕ)
-    (number : LinkIndex) (view : LinkView) (end : ℕ) → o.opener ≡ numbered_node source tables nodes o.opener.note
+    (number : LinkIndex) (view : LinkView) (titles : List Origin) (end : ℕ)
+    → o.opener ≡ numbered_node source tables nodes o.opener.note
     → PutsLink source (item_at nodes o.opener.note).start end tables tables' number view
+    → titles_at tables'.links number.0 ≡ titles
     → tree_node_of source tables' (link_from nodes (opener_of o) number end)
-    ≡ record { note = tt; part = (linked o view end).part }
-linked_node source tables tables' nodes o number view end is put =
-    link_label source tables' o.opener.note o.state.is_image number view (item_at nodes o.opener.note).start
-    (start_of o.opener) end (sym (ap (λ (a : TreeNode ℕ). start_of a) is)) put.found
+    ≡ record { note = tt; part = (linked o view titles end).part }
+linked_node source tables tables' nodes o number view titles end is put origin =
+    link_label source tables' o.opener.note o.state.is_image number view titles (item_at nodes o.opener.note).start
+    (start_of o.opener) end (sym (ap (λ (a : TreeNode ℕ). start_of a) is)) put.found origin
 
 -- a link that ends between characters, at the `]` or later
 pub link_over_opener : (source : List ℕ) (tables tables' : Tables) (nodes : List (Node Item)) (first closer : ℕ)
@@ -111,8 +114,10 @@ link_over_opener source tables tables' nodes first closer o number view end byte
 
 -- it can be put in place of an opener, up to a byte offset, once its entry is in its table
 pub record MayLink (source : List ℕ) (tables tables' : Tables) (nodes : List (Node Item)) (closer : ℕ) (o : Split ℕ)
-    (opener : Opener) (number : LinkIndex) (view : LinkView) (end byte : ℕ) (item : Item) : Type 0 where
+    (opener : Opener) (number : LinkIndex) (view : LinkView) (titles : List Origin) (end byte : ℕ) (item : Item)
+    : Type 0 where
   pub put : PutsLink source (item_at nodes o.opener.note).start end tables tables' number view
+  pub origin : titles_at tables'.links number.0 ≡ titles
   pub is : item ≡ link_from nodes opener number end
   pub close : CanClose source tables nodes opener.node closer (inside_numbers o) byte
   pub over : CanPutOver source tables tables' nodes opener.node item byte
@@ -121,11 +126,13 @@ pub may_link : {source : List ℕ} {nodes : List (Node Item)} {first closer : �
     (Entry ℕ)} {w : BracketContext}
     {c : Closing ℕ} {o : Split ℕ} {opener : Opener} {view : LinkView} {end byte : ℕ} (held held' : Allocated)
     (parts : LinkParts) (number : LinkIndex) (begin : Item) (b : ItemBody)
-    → ClosesAt source (tables_of held) nodes first closer left w c (a_link o view end byte)
+    → ClosesAt source (tables_of held) nodes first closer left w c
+    (a_link o view (titles_for parts.0 (origin_of parts.2)) end byte)
     → opener ≡ opener_of o → IsTitleFrom source (start_of o.opener) end view.kind (origin_of parts.2) view.title
     → held' ≡ with_link held parts → number.0 ≡ length held.links → link_view parts ≡ view
     → begin ≡ item_at nodes opener.node → b ≡ (if opener.is_image then body.Image number else body.Link number)
-    → MayLink source (tables_of held) (tables_of held') nodes closer o opener number view end byte
+    → MayLink source (tables_of held) (tables_of held') nodes closer o opener number view
+    (titles_for parts.0 (origin_of parts.2)) end byte
     (item_over begin.start end b)
 may_link {source} {nodes} {first} {closer} {left} {w} {c} {o} {opener} {view} {end} {byte} held held' parts number begin
     b closes is title put last same begins body_is =
@@ -141,6 +148,7 @@ may_link {source} {nodes} {first} {closer} {left} {w} {c} {o} {opener} {view} {e
     closes.ends.2 in
     rw (begins, body_is, is) (record {
       put = there;
+      origin = rw put (titles_pushed held.links parts number.0 last);
       is = refl;
       close = can_close closes at closes.ends.0;
       over = link_over_opener source tables (tables_of held') nodes first closer o number view end byte at there
@@ -150,17 +158,17 @@ may_link {source} {nodes} {first} {closer} {left} {w} {c} {o} {opener} {view} {e
 -- so it is in the left list
 pub link_closed : {source : List ℕ} {tables tables' : Tables} {old new : List (Node Item)} {first closer : ℕ}
     {rest : Continuation} {left : List (Entry ℕ)} {w : BracketContext} {c : Closing ℕ} {o : Split ℕ} {opener : Opener}
-    {number : LinkIndex} {view : LinkView} {end byte : ℕ} {item : Item}
-    → ClosesAt source tables old first closer left w c (a_link o view end byte) → opener ≡ opener_of o
-    → MayLink source tables tables' old closer o opener number view end byte item
+    {number : LinkIndex} {view : LinkView} {titles : List Origin} {end byte : ℕ} {item : Item}
+    → ClosesAt source tables old first closer left w c (a_link o view titles end byte) → opener ≡ opener_of o
+    → MayLink source tables tables' old closer o opener number view titles end byte item
     → PutsOver source opener.node closer (inside_numbers o) (over_inside source tables' item) byte (opener.node ∷ [])
-    rest old new tables tables' → PutsClosed source first closer rest left w c (a_link o view end byte) old new tables
-    tables'
+    rest old new tables tables'
+    → PutsClosed source first closer rest left w c (a_link o view titles end byte) old new tables tables'
 link_closed {source} {tables} {tables'} {old} {new} {first} {closer} {rest} {left} {w} {c} {o} {opener} {number} {view}
-    {end} {byte} {item} closes is r over =
+    {titles} {end} {byte} {item} closes is r over =
     let at = opener_at closes.stands closes.splits in
-    puts_closed (node (linked o view end) (inside o) nil) closes at (rw (r.is, is) at over)
+    puts_closed (node (linked o view titles end) (inside o) nil) closes at (rw (r.is, is) at over)
     (link_stands source tables old first (Some o.opener.note) o.before at.stands o.state.is_image)
     (record { left_is = λ p e. refl; goes = λ p. refl }) (ap (λ (a : Plain). node a (without_numbers (inside o)) nil)
-    (linked_node source tables tables' old o number view end at.around.node_is r.put))
+    (linked_node source tables tables' old o number view titles end at.around.node_is r.put r.origin))
     (refl, refl, quiet_inside left o closes.splits closes.stands.quiet, tt) (λ a i. refl)

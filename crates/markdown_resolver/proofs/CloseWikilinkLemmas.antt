@@ -446,13 +446,14 @@ module _ {source : List ℕ} {tables tables' : Tables} {old : List (Node Item)} 
       let o = r.split in
       let v = r.found in
       let target = wikilink_target v in
-      rw r.is (puts_closed (node (linked o target end) v.children nil) r.closes at_opener
+      rw r.is (puts_closed (node (linked o target [] end) v.children nil) r.closes at_opener
       (rw (r.item_is, r.opener_is) at over)
       (wikilink_stands source tables old first (Some o.opener.note) o.before at_opener.stands)
       (record { left_is = λ p e. refl; goes = λ p. refl })
       (ap (λ (a : Plain). node a (shows (without_numbers (inside o))) nil)
-      (linked_node source tables tables' old o number target end at_opener.around.node_is r.put)
-      ∙ ap (λ (f : Forest Plain). node (record { note = tt; part = (linked o target end).part }) f nil) reads)
+      (linked_node source tables tables' old o number target [] end at_opener.around.node_is r.put
+      (rw r.put.found refl))
+      ∙ ap (λ (f : Forest Plain). node (record { note = tt; part = (linked o target [] end).part }) f nil) reads)
       (refl, refl, quiet, tt) (λ a i. refl))
 
   pub name_closed : {inner : Item} {n from to : ℕ} {new : List (Node Item)} {rest : Continuation}

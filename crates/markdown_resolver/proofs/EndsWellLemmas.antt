@@ -166,7 +166,7 @@ module _ (source : List ℕ) (w : BracketContext) (c : Closing ℕ) (may : MayGo
       )) h.form)) way
 
   target_well : (o : Split ℕ) (r : LinkReference) (target : Option LinkView) → EndsSo source c r.end r.next
-      → IsNoSlice target → EndsWell source c (unwrap_or (option_map (λ t. a_link o t r.end r.next) target) a_text)
+      → IsNoSlice target → EndsWell source c (unwrap_or (option_map (λ t. a_link o t [] r.end r.next) target) a_text)
   unfolding IsNoSlice
   target_well o r None h k = tt
   target_well o r (Some target) h k = (h.0, h.1, h.2, h.3, k)

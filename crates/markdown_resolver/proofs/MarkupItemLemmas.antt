@@ -22,12 +22,12 @@ use Rattle.markdown_base.specs.declared.node.Node.{Node}
 use Rattle.markdown_base.proofs.ArenaForestLemmas.{opens}
 use Rattle.markdown_document.specs.ChainRest.{joined_chains, past}
 use Rattle.markdown_document.specs.Document.{Plain}
-use Rattle.markdown_document.specs.LinkOrigins.{IsLinkFrom}
-use Rattle.markdown_document.specs.Origins.{IsSliceWithin, Origin, sliced}
+use Rattle.markdown_document.specs.LinkOrigins.{IsLinkFrom, titles_for}
+use Rattle.markdown_document.specs.Origins.{IsSliceWithin, Origin, origin_of, sliced}
 use Rattle.markdown_document.specs.Places.{tree_node_at, trees_from}
 use Rattle.markdown_document.specs.PlacedNodes.{HasSliceLink, IsPlaced}
 use Rattle.markdown_document.specs.Setting.{Rules, setting_of}
-use Rattle.markdown_document.specs.Tables.{Tables, link_at, link_origins, tables_of}
+use Rattle.markdown_document.specs.Tables.{Tables, link_at, link_origins, tables_of, titles_at}
 use Rattle.markdown_document.specs.NamedEntries.{HasGrown, Named, link_origins_at, number_of, size_for, some_link}
 use Rattle.markdown_document.specs.NamedEntries.{some_text, times_named}
 use Rattle.markdown_spans.specs.AfterLess.{Markup, autolink, html_markup, markup_at}
@@ -125,6 +125,13 @@ link_pushed : (links : List LinkParts) (link : LinkParts) (n : ℕ) → n ≡ le
 link_pushed [] link n e = rw e refl
 link_pushed (c ∷ links) link zero e = cc e
 link_pushed (c ∷ links) link (suc n) e = link_pushed links link n (omega (arith, e))
+
+-- and its title has the origin that it had
+pub titles_pushed : (links : List LinkParts) (link : LinkParts) (n : ℕ) → n ≡ length links
+    → titles_at (links ++ link ∷ []) n ≡ titles_for link.0 (origin_of link.2)
+titles_pushed [] link n e = rw e refl
+titles_pushed (c ∷ links) link zero e = cc e
+titles_pushed (c ∷ links) link (suc n) e = titles_pushed links link n (omega (arith, e))
 
 -- and comes from where it came from
 from_pushed : (source : List ℕ) (start end : ℕ) (links : List LinkParts) (link : LinkParts) (n : ℕ) (view : LinkView)

@@ -293,8 +293,8 @@ module _ {A : Type 0} where
     unfolding pass_one
     pass_one-first P a below after state holds h =
         begun_by P (trees_onto (read_on s notes above (node a below after) (begun state)).left nil) holds
-        (begins_law (bracket_context s above) (read_other s notes above) is_not_plain (λ e origins. refl) (λ tag. refl)
-        other_begins a below after state h)
+        (begins_law (bracket_context s above) (read_other s notes above) is_not_plain (λ e origins. refl)
+        (λ tag origins. refl) other_begins a below after state h)
 
     -- what is not a bracket asks nothing, and brackets pass later answers on
     other_hands_on : (a : TreeNode A) (below rest : Forest (TreeNode A)) (p : Progress A)

@@ -48,7 +48,7 @@ module _ {A : Type 0} where
   quiet_made : KeepsNodes NoBlock Quiet
   quiet_made = record {
     event = λ a e origins start end. (refl, refl);
-    tag = λ a t start end. (refl, refl);
+    tag = λ a t origins start end. (refl, refl);
     text = λ source a no_block. (refl, no_block);
     cut = λ i a h. (later_quiet (i - start_of a) a.part.shape h.0, h.1);
     cut_base = λ i a no_block. no_block;

@@ -136,7 +136,7 @@ row_two_finds state = refl
 -- an autolink, with its address as a text below it; the text that reaches past it is cut
 row_autolink : (state : ReferenceState) → left_by_pass_one (codes "<http://a.b> c") (less 0 ∷ plain_text 1 14
     ∷ []) state
-    ≡ node (over 0 12 (enclosed (link (address (codes "http://a.b")))))
+    ≡ node (over 0 12 (enclosed (link (address (codes "http://a.b"))) []))
     (node (over 1 11 (text_over (codes "http://a.b"))) nil nil) (node (over 12 14 (text_over (codes " c"))) nil nil)
 unfolding pass_one read_chain read_tree markup_at all both either nonempty often often_past one optional
 row_autolink state = refl
@@ -166,7 +166,7 @@ row_waits state = refl
 -- until they enclose what is between them: here code
 row_emphasis : (state : ReferenceState)
     → resolved_to (codes "*`a`*") (star 0 true false ∷ ticks 1 1 ∷ plain_text 2 3 ∷ ticks 3 1 ∷ star 4 false true ∷ [])
-    state ≡ node (over 0 5 (enclosed emphasis)) (node (sliced_at (code (codes "a")) 1 4) nil nil) nil
+    state ≡ node (over 0 5 (enclosed emphasis [])) (node (sliced_at (code (codes "a")) 1 4) nil nil) nil
 unfolding resolved pass_one read_chain read_tree replaced_past is_sliced paired runs_paired reads_from closed_by
     with_quotes
 row_emphasis state = refl
@@ -182,21 +182,24 @@ row_code_first state = refl
 -- a link, and an image; what is in the destination is left out
 row_link : (state : ReferenceState)
     → left_by_pass_one (codes "[a](b) c") (opener 0 ∷ plain_text 1 2 ∷ closer 2 ∷ plain_text 3 8 ∷ []) state
-    ≡ node (over 0 6 (enclosed (link (inline_to (codes "b"))))) (node (text_at (codes "[a](b) c") 1 2) nil nil)
+    ≡ node (over 0 6 (enclosed (link (inline_to (codes "b"))) (sliced ∷ [])))
+    (node (text_at (codes "[a](b) c") 1 2) nil nil)
     (node (text_at (codes "[a](b) c") 6 8) nil nil)
 unfolding pass_one read_chain read_tree closed decided
 row_link state = refl
 
 row_image : (state : ReferenceState)
     → left_by_pass_one (codes "![a](b)") (image_opener 0 ∷ plain_text 2 3 ∷ closer 3 ∷ plain_text 4 7 ∷ []) state
-    ≡ node (over 0 7 (enclosed (image (inline_to (codes "b"))))) (node (text_at (codes "![a](b)") 2 3) nil nil) nil
+    ≡ node (over 0 7 (enclosed (image (inline_to (codes "b"))) (sliced ∷ [])))
+    (node (text_at (codes "![a](b)") 2 3) nil nil) nil
 unfolding pass_one read_chain read_tree closed decided
 row_image state = refl
 
 row_destination : (state : ReferenceState) → left_by_pass_one (codes "[a](`b`)")
     (opener 0 ∷ plain_text 1 2 ∷ closer 2 ∷ plain_text 3 4 ∷ ticks 4 1 ∷ plain_text 5 6 ∷ ticks 6 1
     ∷ plain_text 7 8 ∷ []) state
-    ≡ node (over 0 8 (enclosed (link (inline_to (codes "`b`"))))) (node (text_at (codes "[a](`b`)") 1 2) nil nil) nil
+    ≡ node (over 0 8 (enclosed (link (inline_to (codes "`b`"))) (sliced ∷ [])))
+    (node (text_at (codes "[a](`b`)") 1 2) nil nil) nil
 unfolding pass_one read_chain read_tree closed decided
 row_destination state = refl
 
@@ -211,16 +214,17 @@ row_code_in_brackets state = refl
 -- a link holds the run inside it, which is paired when its chain is reached; one that closes outside stays open
 row_emphasis_in_link : (state : ReferenceState) → resolved_below (codes "[a *b*](c)")
     (opener 0 ∷ plain_text 1 3 ∷ star 3 true false ∷ plain_text 4 5 ∷ star 5 false true ∷ closer 6
-    ∷ plain_text 7 10 ∷ []) state ≡ node (over 0 10 (enclosed (link (inline_to (codes "c")))))
+    ∷ plain_text 7 10 ∷ []) state ≡ node (over 0 10 (enclosed (link (inline_to (codes "c"))) (sliced ∷ [])))
     (node (text_at (codes "[a *b*](c)") 1 3) nil
-    (node (over 3 6 (enclosed emphasis)) (node (text_at (codes "[a *b*](c)") 4 5) nil nil) nil)) nil
+    (node (over 3 6 (enclosed emphasis [])) (node (text_at (codes "[a *b*](c)") 4 5) nil nil) nil)) nil
 unfolding resolved pass_one read_chain read_tree closed decided paired runs_paired reads_from closed_by with_quotes
 row_emphasis_in_link state = refl
 
 row_run_into_link : (state : ReferenceState) → resolved_below (codes "*a [b*](c)")
     (star 0 true false ∷ plain_text 1 3 ∷ opener 3 ∷ plain_text 4 5 ∷ star 5 false true ∷ closer 6
     ∷ plain_text 7 10 ∷ []) state ≡ node (text_at (codes "*a [b*](c)") 0 1) nil
-    (node (text_at (codes "*a [b*](c)") 1 3) nil (node (over 3 10 (enclosed (link (inline_to (codes "c")))))
+    (node (text_at (codes "*a [b*](c)") 1 3) nil
+    (node (over 3 10 (enclosed (link (inline_to (codes "c"))) (sliced ∷ [])))
     (node (text_at (codes "*a [b*](c)") 4 5) nil (node (text_at (codes "*a [b*](c)") 5 6) nil nil)) nil))
 unfolding resolved pass_one read_chain read_tree closed decided paired runs_paired reads_from closed_by with_quotes
 row_run_into_link state = refl
@@ -229,7 +233,7 @@ row_run_into_link state = refl
 row_wikilink : (state : ReferenceState)
     → (pass_one (setting_by 32768 false (codes "[[a]]")) no_notes (in_paragraph (codes "[[a]]"))
     (chain_of (codes "[[a]]") (opener 0 ∷ opener 1 ∷ plain_text 2 3 ∷ closer 3 ∷ closer 4 ∷ [])) state).forest
-    ≡ node (over 0 5 (enclosed (link (wikilink_to (codes "a"))))) (node (text_at (codes "[[a]]") 2 3) nil nil) nil
+    ≡ node (over 0 5 (enclosed (link (wikilink_to (codes "a"))) [])) (node (text_at (codes "[[a]]") 2 3) nil nil) nil
 unfolding pass_one read_chain read_tree closed decided
 row_wikilink state = refl
 

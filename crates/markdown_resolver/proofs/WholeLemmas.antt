@@ -28,7 +28,8 @@ use Rattle.markdown_brackets.proofs.NoLinkLemmas.{wikilink_keeps}
 use Rattle.markdown_document.specs.EnclosingBlocks.{EnclosingBlocks}
 use Rattle.markdown_document.specs.ChainRest.{begun_at, cut_shape, end_of, joined_chains, open_body, past, past_byte}
 use Rattle.markdown_document.specs.ChainRest.{start_of}
-use Rattle.markdown_document.specs.Document.{Notes, Shape, leaf, enclosed, unresolved, TreeNode, as_text, is_unresolved}
+use Rattle.markdown_document.specs.Document.{Notes, Origin, Shape, leaf, enclosed, unresolved, TreeNode, as_text}
+use Rattle.markdown_document.specs.Document.{is_unresolved}
 use Rattle.markdown_document.specs.TreeNodes.{Begins}
 use Rattle.markdown_document.specs.Setting.{Setting, ReferenceState}
 use Rattle.markdown_document.specs.Waiting.{is_quiet, waits_for_pairing}
@@ -334,8 +335,9 @@ module _ {A : Type 0} where
       waiting = closed_marks without_bracket (second_folded o.before) (closed_second o.before s.before);
     }
 
-    tag_no_run : (m : OpenerState) (target : LinkView) → run_character (open_body (enclosed (tag_for m target))) ≡ None
-    tag_no_run m target = refl
+    tag_no_run : (m : OpenerState) (target : LinkView) (titles : List Origin)
+        → run_character (open_body (enclosed (tag_for m target) titles)) ≡ None
+    tag_no_run m target titles = refl
 
     whole_cases : Cases w c (WholeBefore source c.node rest) (WholeAfter source)
     whole_cases = record {
@@ -354,13 +356,13 @@ module _ {A : Type 0} where
             q.whole (tt, tt, k) (before_other source c.node (as_text source c.node) nil nil rest later closer refl);
         waiting = q.waiting;
       };
-      link = λ left o target end q found live.
+      link = λ left o target titles end q found live.
           let s = some_of (nearest opens_bracket left) o (SplitWhole left) found (split_at opens_bracket left q.waiting)
           in
           record {
             whole = λ later k. subst (RunsStandWhole source)
-                (sym (same_link o.state.is_image o.before (node (linked o target end) (inside o) later)))
-                (put_whole left o q s (linked o target end) (inside o) later refl (inside_whole left o q s) k);
+                (sym (same_link o.state.is_image o.before (node (linked o target titles end) (inside o) later)))
+                (put_whole left o q s (linked o target titles end) (inside o) later refl (inside_whole left o q s) k);
             waiting = closed_link o.state.is_image o.before s.before;
           };
       footnote = λ left o name q found live.
@@ -378,7 +380,7 @@ module _ {A : Type 0} where
             whole = λ later k. subst (RunsStandWhole source)
                 (sym (same_marks without_wikilink (on_states disabled_state o.before) _
                 ∙ same_marks disabled_state o.before _))
-                (put_whole left o q s (linked o (wikilink_target v) end) v.children later refl children k);
+                (put_whole left o q s (linked o (wikilink_target v) [] end) v.children later refl children k);
             waiting = closed_marks without_wikilink (on_states disabled_state o.before)
                 (closed_marks disabled_state o.before s.before);
           };

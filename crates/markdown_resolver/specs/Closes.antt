@@ -77,7 +77,7 @@ pub record ShowsWell (source : List ℕ) (body children : Forest (TreeNode ℕ))
 -- source
 abbrev pub EndsWell : List ℕ → Closing ℕ → Becomes ℕ → Type 0
 EndsWell source c a_text = ⊤
-EndsWell source c (a_link o target end next) =
+EndsWell source c (a_link o target titles end next) =
     CanGoOn source c next × IsCharBoundary source end × (end_of c.node ≤ end) × (end ≤ next)
     × (destination_origin target.kind ≡ made)
 EndsWell source c (a_footnote o name) = CanGoOn source c (end_of c.node)

@@ -10,8 +10,8 @@ abbrev pub is_made : Shape → Bool
 is_made (leaf (code t) origins) = true
 is_made (leaf (inline_math t) origins) = true
 is_made (leaf (display_math t) origins) = true
-is_made (enclosed (link l)) = true
-is_made (enclosed (image l)) = true
+is_made (enclosed (link l) origins) = true
+is_made (enclosed (image l) origins) = true
 is_made other = false
 
 -- pass one has made no item of a chain

@@ -15,7 +15,7 @@ ghost use Rattle.markdown_brackets.specs.LeftList.{Entry, Split, inside};
 ghost use Rattle.markdown_brackets.specs.LookupView.{target_view};
 ghost use Rattle.markdown_brackets.specs.Openers as waiting;
 ghost use Rattle.markdown_brackets.specs.Reference.{is_opener};
-ghost use Rattle.markdown_brackets.specs.TargetOrigins.{IsTargetFrom};
+ghost use Rattle.markdown_brackets.specs.TargetOrigins.{IsTargetFrom, titles_of};
 ghost use Rattle.markdown_document.specs.ChainRest.{start_of};
 ghost use Rattle.markdown_document.specs.Tables.{Tables, tables_of};
 ghost use Rattle.markdown_resolver.specs.Chains.{CanResolve};
@@ -141,17 +141,20 @@ fn put_target<'a>(
         × (c : Closing ℕ)
         × (o : Split ℕ) × ClosesAt source (tables_of tables.old) tree.old.nodes first closer left w
         c
-        (a_link o (target_view link.target) link.end link.next) × (link.opener ≡ opener_of o)
+        (a_link o (target_view link.target) (titles_of link.target) link.end link.next)
+        × (link.opener ≡ opener_of o)
         × IsTargetFrom source (start_of o.opener) link.end link.target }
     ensures puts { IfOk result (λ rest.
         (source : List ℕ) (first : ℕ) (left : List (Entry ℕ)) (w : BracketContext)
         (c : Closing ℕ) (o : Split ℕ)
         → ClosesAt source (tables_of tables.old) tree.old.nodes first closer left w c
-        (a_link o (target_view link.entry.target) link.entry.end link.entry.next)
+        (a_link o (target_view link.entry.target) (titles_of link.entry.target) link.entry.end
+        link.entry.next)
         → link.entry.opener ≡ opener_of o
         → IsTargetFrom source (start_of o.opener) link.entry.end link.entry.target
         → PutsClosed source first closer rest left w c
-        (a_link o (target_view link.entry.target) link.entry.end link.entry.next)
+        (a_link o (target_view link.entry.target) (titles_of link.entry.target) link.entry.end
+        link.entry.next)
         tree.old.nodes tree.new.nodes (tables_of tables.old) (tables_of tables.new)) }
     ensures place { IfOk result (λ _. tree.new ≡ record tree.old { nodes = tree.new.nodes }) }
 

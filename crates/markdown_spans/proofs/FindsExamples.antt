@@ -167,7 +167,7 @@ row_display = refl
 
 -- an autolink, and the text below it, which is made; the text that reaches past it is cut
 abbrev link_to : ℕ → List ℕ → ℕ → ℕ → TreeNode ℕ
-link_to n uri start end = node_over n (enclosed (link (address uri))) start end
+link_to n uri start end = node_over n (enclosed (link (address uri)) []) start end
 
 abbrev linked : List ℕ
 linked = codes "<http://a.b> c"

@@ -28,7 +28,7 @@ IsQuietNode a = (is_quiet a.part.shape ≡ true) × (is_some a.part.block ≡ fa
 -- what is not quiet is open
 open_weight : (shape : Shape) → is_quiet shape ≡ false → weight_if (is_unresolved shape) ≡ 4
 open_weight (leaf e origins) h = cc h
-open_weight (enclosed tag) h = cc h
+open_weight (enclosed tag origins) h = cc h
 open_weight plain h = cc h
 open_weight backslash_break h = cc h
 open_weight (unresolved b) h = refl
@@ -36,14 +36,14 @@ open_weight (unresolved b) h = refl
 -- cutting opens and closes nothing, and no run loses a character
 cut_open : (n : ℕ) (shape : Shape) → is_unresolved (cut_shape n shape) ≡ is_unresolved shape
 cut_open n (leaf e origins) = refl
-cut_open n (enclosed tag) = refl
+cut_open n (enclosed tag origins) = refl
 cut_open n plain = refl
 cut_open n backslash_break = refl
 cut_open n (unresolved b) = refl
 
 cut_counts : (n : ℕ) (shape : Shape) → counts_shape (cut_shape n shape) ≡ counts_shape shape
 cut_counts n (leaf e origins) = refl
-cut_counts n (enclosed tag) = refl
+cut_counts n (enclosed tag origins) = refl
 cut_counts n plain = refl
 cut_counts n backslash_break = refl
 cut_counts n (unresolved b) = refl

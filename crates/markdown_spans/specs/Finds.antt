@@ -117,7 +117,7 @@ address uri = record { kind = Autolink; destination = uri; title = []; label = [
 -- the trees of what begins at a `<`
 abbrev pub markup_trees : {A : Type 0} → Setting → (new : A) → TreeNode A → Markup → Forest (TreeNode A)
 markup_trees s new a (autolink end uri) =
-    node (node_over a.note (enclosed (link (address uri))) (start_of a) end)
+    node (node_over a.note (enclosed (link (address uri)) []) (start_of a) end)
     (node (text_node s new (end_of a) (end - 1)) nil nil) nil
 markup_trees s new a (html_markup end None) =
     node (node_over a.note (leaf (inline_html (slice_range s.text (start_of a) end)) (sliced ∷ [])) (start_of a) end)

@@ -6,20 +6,14 @@ use Rattle.std.proofs.lemmas.List.{append-nil}
 use Rattle.std.proofs.lemmas.Str.{IsCharBoundary-after_ascii}
 use Rattle.markdown_brackets.specs.TitleText.{so_far}
 use Rattle.markdown_brackets.proofs.TitleLemmas.{closes, goes_on, past_end, refused, slice_more, slice_empty, bare_is}
-use Rattle.markdown_brackets.proofs.TitleLemmas.{BorrowsTitle-closed, ReadsTitle-closed, ReadsTitle-none}
+use Rattle.markdown_brackets.proofs.TitleLemmas.{ReadsTitle-closed, ReadsTitle-none}
 use Rattle.markdown_brackets.proofs.link_title.scan_title_text.Goals as goal
 
 pub returns-then-is_bare-clause-value : goal.returns-then-is_bare-clause-value
 returns-then-is_bare-clause-value g c =
     ReadsTitle-closed c.args.in_table _ _ _ _ c.in_ok-finish.field-0
     (closes c.title.invariant.read c.title-test.true (sym c.is_bare.ensures ∙ c.if-is_bare.true))
-    c.in_ok-finish.ensures.text
-
-pub returns-then-is_bare-clause-borrowed : goal.returns-then-is_bare-clause-borrowed
-returns-then-is_bare-clause-borrowed g c =
-    BorrowsTitle-closed _ _ _ _ c.in_ok-finish.field-0
-    (closes c.title.invariant.read c.title-test.true (sym c.is_bare.ensures ∙ c.if-is_bare.true))
-    c.in_ok-finish.ensures.borrowed
+    c.in_ok-finish.ensures.text c.in_ok-finish.ensures.origin
 
 pub returns-then-is_bare-clause-within : goal.returns-then-is_bare-clause-within
 returns-then-is_bare-clause-within g c =

@@ -2,7 +2,7 @@
 use Rattle.std.proofs.Common.{sym, ap}
 use Rattle.markdown_base.specs.Event.{image}
 use Rattle.markdown_document.specs.Tables.{tables_of}
-use Rattle.markdown_inline.proofs.TakingLemmas.{leads_from, link_at-read}
+use Rattle.markdown_inline.proofs.TakingLemmas.{leads_from, link_at-read, titles_at-read}
 use Rattle.markdown_inline.proofs.bodies.image_tag.Goals as goal
 
 pub returns-clause-tag : goal.returns-clause-tag
@@ -15,3 +15,8 @@ returns-clause-from c source start end slices =
     leads_from source start end (tables_of c.args.tables.now) c.args.ix.0 c.take_link-link_type.result c.requires
     c.take_link-link_type.ensures.taken
     slices
+
+pub returns-clause-titles : goal.returns-clause-titles
+returns-clause-titles c =
+    sym (titles_at-read c.args.tables.now.links c.args.ix.0 c.take_link-link_type.result c.requires
+    c.take_link-link_type.ensures.taken)

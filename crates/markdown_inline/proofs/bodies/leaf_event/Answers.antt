@@ -99,7 +99,8 @@ returns-in-Math-clause-opens c =
             (rw c.in-Math.is at c.requires.can.slices),
         tt,
       );
-      start = no_start c.args.text.now c.args.item.start c.args.item.end c.math_event.result c.take_cow-in-Math.result
+      start = no_start c.args.text.now c.args.item.start c.args.item.end (origin_at cows ix ∷ []) c.math_event.result
+          c.take_cow-in-Math.result
           c.math_event.ensures.text;
     }
 

@@ -48,7 +48,7 @@ returns-in-Table-clause-taken c = rw c.in-Table.is
     c.take_alignment.ensures.left)
 
 pub returns-in-Link-clause-tag : goal.returns-in-Link-clause-tag
-returns-in-Link-clause-tag c over = rw c.in-Link.is (ap enclosed (sym c.link_tag.ensures.tag))
+returns-in-Link-clause-tag c over = rw (c.in-Link.is, c.link_tag.ensures.tag, c.link_tag.ensures.titles) refl
 
 pub returns-in-Link-clause-from : goal.returns-in-Link-clause-from
 returns-in-Link-clause-from c source start end slices = c.link_tag.ensures.from source start end
@@ -59,7 +59,7 @@ returns-in-Link-clause-taken c = rw c.in-Link.is (takes_link _ c.args.tables.now
     c.link_tag.ensures.left)
 
 pub returns-in-Image-clause-tag : goal.returns-in-Image-clause-tag
-returns-in-Image-clause-tag c over = rw c.in-Image.is (ap enclosed (sym c.image_tag.ensures.tag))
+returns-in-Image-clause-tag c over = rw (c.in-Image.is, c.image_tag.ensures.tag, c.image_tag.ensures.titles) refl
 
 pub returns-in-Image-clause-from : goal.returns-in-Image-clause-from
 returns-in-Image-clause-from c source start end slices = c.image_tag.ensures.from source start end
@@ -75,7 +75,7 @@ returns-in_default-clause-tag c over =
     container_shape (tables_of c.args.tables.now) over c.args.body _ (container_of c.args.body) refl
     (some_container c.args.body c.requires.start c.in_default.not-Heading c.in_default.not-FencedCodeBlock
     c.in_default.not-FootnoteDefinition c.in_default.not-Table c.in_default.not-Link c.in_default.not-Image)
-    c.container_tag.ensures.tag
+    c.container_tag.ensures.tag _ c.container_tag.ensures.titles
 
 pub returns-in_default-clause-from : goal.returns-in_default-clause-from
 returns-in_default-clause-from c source start end slices = c.container_tag.ensures.from source start end

@@ -6,7 +6,7 @@ use Rattle.markdown_brackets.specs.ChainAhead.{starts_from}
 use Rattle.markdown_brackets.specs.LinkTail.{link_tail}
 use Rattle.markdown_brackets.specs.LinkTailView.{ReadsTail}
 use Rattle.markdown_brackets.proofs.TailTitleLemmas.{has_title}
-use Rattle.markdown_brackets.proofs.WrittenLemmas.{ok_both, whole_range}
+use Rattle.markdown_brackets.proofs.WrittenLemmas.{ok_map, whole_range}
 use Rattle.markdown_brackets.proofs.bracket_reader.BracketReader.read_tail.Goals as goal
 
 pub returns-clause-value : goal.returns-clause-value
@@ -25,8 +25,8 @@ returns-clause-from g c =
     let place = at.place.now in
     let text = c.range-text.ensures.value ∙ whole_range place.text.now place.block_end in
     rw (c.item.ensures no_item) at
-    (ok_both c.scan_link_tail.result _ _ _ c.scan_link_tail.ensures.value c.scan_link_tail.ensures.borrowed
-    (λ found reads borrows.
+    (ok_map c.scan_link_tail.result _ _ c.scan_link_tail.ensures.value
+    (λ found reads.
     has_title c.rules.result.in_table (g.R.LineRule.skipped c.rules.result.rule.now)
     (starts_from at.tree.now.nodes c.next.result)
-    place.text.now c.range-text.result.now place.block_end c.item.result.now.end found text reads borrows))
+    place.text.now c.range-text.result.now place.block_end c.item.result.now.end found text reads))
