@@ -1,4 +1,6 @@
 mod BlockBeginningsLemmas
 mod BlockLawsLemmas
 mod IndentedLinesLemmas
+mod LineLawsLemmas
+mod ListLawsLemmas
 mod QuotedLinesLemmas

@@ -30,11 +30,11 @@ chosen : {A : Type 0} (test : Bool) (x y : A) → (if test then Some x else None
 chosen true x y is = (refl, same_Some x y is)
 chosen false x y is = absurd (true≢false (sym (ap is_some is)))
 
-both_left : (p q : Bool) → (p && q) ≡ true → p ≡ true
+pub both_left : (p q : Bool) → (p && q) ≡ true → p ≡ true
 both_left true q both = refl
 both_left false q both = both
 
-both_right : (p q : Bool) → (p && q) ≡ true → q ≡ true
+pub both_right : (p q : Bool) → (p && q) ≡ true → q ≡ true
 both_right true q both = both
 both_right false q both = absurd (true≢false (sym both))
 

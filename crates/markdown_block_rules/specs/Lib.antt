@@ -3,7 +3,9 @@ pub mod BlockGrowth
 pub mod LineContents
 pub mod BlockRules
 -- what CommonMark says of them, as laws
+pub mod LineLaws
 pub mod BlockLaws
+pub mod ListLaws
 -- CommonMark's examples
 pub mod ExampleTrees
 pub mod ExamplesOfLines

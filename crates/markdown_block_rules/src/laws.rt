@@ -5,6 +5,13 @@ ghost use Rattle.markdown_block_rules.specs.BlockLaws.{ItemMayBeginWithBlankLine
 ghost use Rattle.markdown_block_rules.specs.BlockLaws.{MarkedLineGoesIntoQuote};
 ghost use Rattle.markdown_block_rules.specs.BlockLaws.{MarkerBeforeTextMayBeLeftOut, OnlyParagraphsGoOnLazily};
 ghost use Rattle.markdown_block_rules.specs.BlockLaws.{QuotedLinesMakeQuote};
+ghost use Rattle.markdown_block_rules.specs.LineLaws.{LineIsItsContent};
+ghost use Rattle.markdown_block_rules.specs.ListLaws.{ListIsLooseAsSaid};
+
+/// States that bytes without line endings, and a line ending of any kind, are a line with these bytes (2.1).
+pub fn a_line_is_its_content()
+    ensures { LineIsItsContent }
+{}
 
 /// States that lines that all begin with a block quote marker make one block quote, and in it the blocks that they make
 /// without the marker (5.1, basic case).
@@ -57,4 +64,10 @@ pub fn the_indentation_before_text_may_be_left_out()
 /// States that one more line changes the last block alone: the blocks before it stay.
 pub fn a_line_changes_the_last_block_alone()
     ensures { LineChangesTheLastBlock }
+{}
+
+/// States that a list is loose exactly where two of its items are separated by a blank line, or one of them directly
+/// contains two blocks with a blank line between them (5.3).
+pub fn a_list_is_loose_as_said()
+    ensures { ListIsLooseAsSaid }
 {}
