@@ -1,5 +1,6 @@
 -- Lines and their endings.
-use Rattle.std.proofs.Common.{◌≡◌, ℕ, zero, suc, ◌+◌, Bool, true, false, List, [], ◌∷◌, ◌++◌, Option, Some, None, take, drop}
+use Rattle.std.proofs.Common.{◌≡◌, ℕ, zero, suc, ◌+◌, Bool, true, false, List, [], ◌∷◌, ◌++◌, Option, Some, None}
+use Rattle.std.proofs.Common.{take, drop}
 use Rattle.std.proofs.Common.{refl, sym, ap, ◌∙◌, arith, length, not, ◌&&◌, ◌||◌, ◌==◌}
 use Rattle.std.specs.Prelude.{if◌then◌else◌}
 use Rattle.std.specs.List.{list_all, prefix_len}
@@ -24,7 +25,8 @@ passed_all : (p : ℕ → Bool) (xs ys : List ℕ) → list_all p xs ≡ true �
     → prefix_len p (xs ++ ys) ≡ length xs
 passed_all p [] ys all none = none
 passed_all p (x ∷ xs) ys all none =
-    rw (head_true (p x) (list_all p xs) all, passed_all p xs ys (tail_true (p x) (list_all p xs) all) none) (omega arith)
+    rw (head_true (p x) (list_all p xs) all, passed_all p xs ys (tail_true (p x) (list_all p xs) all) none)
+    (omega arith)
 
 -- no byte of a line precedes a line ending
 ends_at_once : (bytes : List ℕ) (n : ℕ) → line_ending bytes ≡ Some n → prefix_len is_in_line bytes ≡ 0

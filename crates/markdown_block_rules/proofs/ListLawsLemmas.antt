@@ -3,7 +3,8 @@ use Rattle.std.proofs.Common.{◌≡◌, ℕ, Bool, true, false, refl, sym, ap, 
 use Rattle.std.proofs.lemmas.Bool.{true≢false}
 use Rattle.markdown_base.specs.Forest.{Forest, nil, node}
 use Rattle.markdown_block_rules.specs.BlockGrowth.{Block, followed_by}
-use Rattle.markdown_block_rules.specs.BlockRules.{are_separated, block_ends_blank, ends_blank, hold_separated, holds_block, is_loose}
+use Rattle.markdown_block_rules.specs.BlockRules.{are_separated, block_ends_blank, ends_blank, hold_separated}
+use Rattle.markdown_block_rules.specs.BlockRules.{holds_block, is_loose}
 use Rattle.markdown_block_rules.specs.ListLaws.{BlankLineBetween, IsLooseAsSaid, between_items, in_an_item}
 use Rattle.markdown_block_rules.specs.ListLaws.{ListIsLooseAsSaid}
 use Rattle.markdown_block_rules.proofs.QuotedLinesLemmas.{both_left, both_right}
@@ -63,8 +64,10 @@ separated_there nil block below after ends follows =
     left_or (block_ends_blank (ends_blank false below) block.kind && holds_block after) (are_separated after)
     (both_true (block_ends_blank (ends_blank false below) block.kind) (holds_block after) ends follows)
 separated_there (node c inside others) block below after ends follows =
-    right_or (block_ends_blank (ends_blank false inside) c.kind && holds_block (followed_by others (node block below after)))
-    (are_separated (followed_by others (node block below after))) (separated_there others block below after ends follows)
+    right_or (block_ends_blank (ends_blank false inside) c.kind && holds_block
+    (followed_by others (node block below after)))
+    (are_separated (followed_by others (node block below after)))
+    (separated_there others block below after ends follows)
 
 said_between : (blocks : Forest Block) → BlankLineBetween blocks → are_separated blocks ≡ true
 said_between blocks between =
