@@ -1,5 +1,6 @@
 //! The words of the command line.
-ghost use Rattle.std.specs.Prelude.{◌≡◌, ◌⊎◌, IfErr, OnOk};
+ghost use Rattle.std.specs.Prelude.{◌≡◌, ◌≢◌, ◌⊎◌, Ok, Err, IfErr, IfOk, OnOk};
+ghost use Rattle.std.specs.IoError.{error_kind};
 
 use std::env::{self, Env};
 use std::io::{self, ErrorKind, Write};
@@ -10,20 +11,25 @@ fn read_words(rt: &(impl Env + AllocGlobal)) -> io::Result<Vec<String>> {
     Ok(args.skip(1).collect(rt.alloc())?)
 }
 
-/// Returns the words of the command line, without the first, which names the program.
+/// Returns the words that were read.
 ///
 /// # Errors
 ///
-/// The exit status, where they cannot be had, and why is said on `err`, in one line: 1 where memory is refused, 2 where a
-/// word is not UTF-8.
-pub fn command_words<E: Write>(
-    rt: &(impl Env + AllocGlobal),
+/// The exit status, where they could not be read, and why is said on `err`, in one line: 1 where memory was refused, 2
+/// otherwise, since the only other reason is a word that is not UTF-8.
+pub fn words_or_status<E: Write>(
+    read: io::Result<Vec<String>>,
     err: &mut E,
 ) -> Result<Vec<String>, u8>
+    ensures words { IfOk read (λ words. result ≡ Ok words) }
+    ensures memory { IfErr read (λ error. error_kind error ≡ ErrorKind.OutOfMemory
+        → result ≡ Err 1) }
+    ensures not_text { IfErr read (λ error. error_kind error ≢ ErrorKind.OutOfMemory
+        → result ≡ Err 2) }
     ensures status { IfErr result (λ status. (status ≡ 1) ⊎ (status ≡ 2)) }
     ensures quiet { OnOk result (err.new ≡ err.old) }
 {
-    match read_words(rt) {
+    match read {
         Ok(words) => Ok(words),
         Err(error) if error.kind() == ErrorKind::OutOfMemory => {
             let _ = writeln!(err, "out of memory");
@@ -34,4 +40,19 @@ pub fn command_words<E: Write>(
             Err(2)
         }
     }
+}
+
+/// Returns the words of the command line, without the first, which names the program.
+///
+/// # Errors
+///
+/// The exit status, as `words_or_status` has it, where they cannot be read.
+pub fn command_words<E: Write>(
+    rt: &(impl Env + AllocGlobal),
+    err: &mut E,
+) -> Result<Vec<String>, u8>
+    ensures status { IfErr result (λ status. (status ≡ 1) ⊎ (status ≡ 2)) }
+    ensures quiet { OnOk result (err.new ≡ err.old) }
+{
+    words_or_status(read_words(rt), err)
 }
