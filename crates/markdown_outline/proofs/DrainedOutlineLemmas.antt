@@ -12,7 +12,7 @@ use Rattle.markdown_base.specs.declared.fault.Fault.TheVariants.{Memory}
 use Rattle.markdown_out.specs.Merge.{Item, PlacedText, text_item, text_of_item, Run, alone, texts, before_runs, runs}
 use Rattle.markdown_out.specs.Merge.{last_text}
 use Rattle.markdown_out.specs.Merge.{unless_empty, run_items, merged}
-use Rattle.markdown_out.specs.MergeNext.{MergeState, PassesOn, item_view}
+use Rattle.markdown_out.specs.MergeNext.{MergeState, PassesOn, Refuses, item_view}
 use Rattle.markdown_out.specs.OutLaws.{StaysEnded, IsNewMerge, merge_steps}
 use Rattle.markdown_out.specs.EventRanges.{with_range, through_ranges}
 use Rattle.markdown_out.proofs.DrainedMergeLemmas.{gives_the_merge}
@@ -106,11 +106,10 @@ module _ {S M : Type 0} (steps : S → Option Raw → S → Type 0) (can : S →
   goes-on : (m t : M) (r : Option Raw) → (r ≡ Some (Err Memory) → ⊥) → (state m).over ≡ false → calls m r t
       → (state t).over ≡ false
   goes-on m t r passes o c = by_kind (subst (λ (b : Bool). MatchBool b ((r ≡ None) × ((state t).over ≡ true))
-      (PassesOn through_ranges view steps (state m) r (state t) ⊎ ((r ≡ Some (Err Memory)) × ((state t).over ≡ true))))
+      (PassesOn through_ranges view steps (state m) r (state t) ⊎ Refuses steps (state m) r (state t)))
       o c.gives)
     where
-      by_kind : PassesOn through_ranges view steps (state m) r (state t) ⊎
-          ((r ≡ Some (Err Memory)) × ((state t).over ≡ true))
+      by_kind : PassesOn through_ranges view steps (state m) r (state t) ⊎ Refuses steps (state m) r (state t)
           → (state t).over ≡ false
       by_kind (inl p) = p.goes_on
       by_kind (inr q) = absurd (passes q.0)
