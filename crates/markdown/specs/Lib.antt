@@ -6,5 +6,6 @@ pub mod BlockWords
 pub mod DefsWords
 pub mod ReadingWords
 pub mod HtmlWords
+pub mod SafeWords
 pub mod MergeWords
 pub mod OutlineWords

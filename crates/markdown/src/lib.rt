@@ -40,6 +40,11 @@ pub mod html {
     pub use markdown_render::{merged_html, render};
 }
 
+/// Safe HTML of texts that strangers wrote: events made safe, and the HTML of a text's.
+pub mod safe {
+    pub use markdown_safe::{Safe, SafeWithOffset, safe_event, safe_html};
+}
+
 /// Tables of headings, of events with their source ranges and of block results.
 pub mod outline {
     pub use markdown_outline::{Entry, outline, outline_of};
@@ -69,6 +74,10 @@ pub mod laws {
     };
     pub use markdown_render::laws::html_of_a_parser_is_that_of_its_reading;
     pub use markdown_render::merged::{offsets_can_be_merged, parsers_can_be_merged};
+    pub use markdown_safe::laws::{
+        each_less_than_begins_a_tag, html_of_a_safe_iterator_is_safe,
+        html_of_nested_events_is_a_tree, html_of_safe_events_is_safe,
+    };
 }
 
 pub use defs::{
