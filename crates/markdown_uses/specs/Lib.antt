@@ -1,5 +1,6 @@
 -- definitions for each use, and the reading of a text, for three of them
 pub mod SiteGenerator
+pub mod Comments
 pub mod LinkRewriter
 pub mod TextReading
 pub mod LinkChecker

@@ -1,6 +1,7 @@
 //! Uses of the library, each run on a page of Markdown.
 #![tactic(auto)]
 
+mod comments;
 mod contents;
 mod link_checker;
 mod link_rewriter;
@@ -24,6 +25,11 @@ A <b>sourdough</b> takes longer.
 <hr>
 ";
 
+/// The comment of a stranger.
+const COMMENT: &str = "\
+Nice <b>loaf</b>, [mine](javascript:steal()) is *flat*.
+";
+
 /// The page of the link rewriter.
 const LINKS: &str = "\
 [Ovens](/ovens), [rye](rye.md \"A loaf\"), [host](//rye.example), ![a loaf](/loaf.png)
@@ -45,6 +51,8 @@ Glaze & fruit
 fn report(alloc: Global, source: &str) -> Result<String, Fault> {
     let mut notes = String::new(alloc);
     let html = site_generator::page_html(alloc, source, Options::empty())?;
+    notes.push_str(html.as_str())?;
+    let html = comments::comment_html(alloc, COMMENT, Options::empty())?;
     notes.push_str(html.as_str())?;
     let html = link_rewriter::html_at_site(alloc, LINKS, "https://bread.example")?;
     notes.push_str(html.as_str())?;
