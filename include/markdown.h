@@ -11,10 +11,11 @@
  * result in bytes, and writes the result to the caller's buffer if the whole fits. A caller tries with some buffer, and
  * if the number is greater than the length of the buffer, once more with a buffer of that length.
  *
- * ## Safety of the HTML
+ * ## Whose texts
  *
- * The HTML is not sanitised: raw HTML and destinations, `javascript:` among them, are as the author of the text wrote
- * them. It is unsafe for strangers' text.
+ * `markdown_to_safe_html` is for texts that strangers wrote: their authors have no markup of their own in the page.
+ * `markdown_to_html` is for trusted texts: raw HTML and destinations, `javascript:` among them, are as the author of the
+ * text wrote them. The JSON of both other calls has them too.
  *
  * ## Pointers and lengths
  *
@@ -95,7 +96,7 @@ extern "C" {
  * ## Calls
  */
 
-/** Renders `text` as HTML, which is not sanitised.
+/** Renders a trusted `text` as HTML, which is not sanitised.
  *
  * Returns the length of the HTML in bytes. If that is at most `out_length`, the HTML is written to the front of `out`,
  * and the bytes after it are unchanged; otherwise `out` is unchanged. Returns `MARKDOWN_NOT_UTF8`, `MARKDOWN_NO_MEMORY`
@@ -103,6 +104,17 @@ extern "C" {
  */
 int64_t markdown_to_html(const uint8_t *text, size_t text_length, uint32_t options, uint8_t *out,
                          size_t out_length);
+
+/** Renders a `text` that a stranger wrote as safe HTML.
+ *
+ * Raw HTML is shown as text, a link or an image has an empty destination unless its scheme is `http`, `https`, `mailto`
+ * or `tel`, or it has none, and the ids of footnotes begin with `user-content-`. Put the HTML into a `div` of a page that is
+ * declared to be in UTF-8, and not into a link or a paragraph. Images are loaded from where the text says.
+ *
+ * Returns, and writes to `out`, as `markdown_to_html` does, with the same errors.
+ */
+int64_t markdown_to_safe_html(const uint8_t *text, size_t text_length, uint32_t options, uint8_t *out,
+                              size_t out_length);
 
 /** Reads `text` as events, as JSON: a line for each event with its range, as `[{"Text":"a"},{"start":0,"end":1}]`. The
  * ranges are byte offsets in `text`. Each line ends with a line feed.

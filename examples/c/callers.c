@@ -124,10 +124,12 @@ int main(int count, char **words) {
     }
     for (int i = 2; i < count; i++) {
         try_text(markdown_to_html, words[1], words[i], "html");
+        try_text(markdown_to_safe_html, words[1], words[i], "safe");
         try_text(markdown_to_json, words[1], words[i], "jsonl");
         try_text(markdown_to_outline, words[1], words[i], "outline");
     }
     try_not_utf8(markdown_to_html);
+    try_not_utf8(markdown_to_safe_html);
     try_not_utf8(markdown_to_json);
     try_not_utf8(markdown_to_outline);
     printf("C: %d texts, as stored\n", count - 2);

@@ -29,9 +29,10 @@ def try_not_utf8(library, call):
 
 
 def try_text(library, folder, name):
-    kinds = ("md", "html", "jsonl", "outline")
-    text, html, lines, headings = ((folder / f"{name}.{kind}").read_bytes() for kind in kinds)
+    kinds = ("md", "html", "safe", "jsonl", "outline")
+    text, html, safe, lines, headings = ((folder / f"{name}.{kind}").read_bytes() for kind in kinds)
     assert library.to_html(text, STRIKETHROUGH) == html, name
+    assert library.to_safe_html(text, STRIKETHROUGH) == safe, name
     assert library.to_json(text, STRIKETHROUGH) == lines, name
     assert library.to_outline(text, STRIKETHROUGH) == headings, name
     for line in headings.splitlines():
@@ -40,6 +41,7 @@ def try_text(library, folder, name):
         event, range_ = json.loads(line)
         assert 0 <= range_["start"] <= range_["end"] <= len(text), name
     try_buffers(library, library.html, text, html)
+    try_buffers(library, library.safe_html, text, safe)
     try_buffers(library, library.json, text, lines)
     try_buffers(library, library.outline, text, headings)
 
@@ -49,6 +51,7 @@ def main(path, folder, *names):
     for name in names:
         try_text(library, Path(folder), name)
     try_not_utf8(library, library.html)
+    try_not_utf8(library, library.safe_html)
     try_not_utf8(library, library.json)
     try_not_utf8(library, library.outline)
     print(f"Python: {len(names)} texts, as stored")

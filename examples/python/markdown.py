@@ -1,5 +1,5 @@
-"""Calls of the library, over a shared object that is made of the static one. The HTML is not sanitised: raw HTML and
-destinations are as the author of the text wrote them, so it is unsafe for strangers' text.
+"""Calls of the library, over a shared object that is made of the static one. `to_safe_html` is for strangers' text. The
+HTML of `to_html` is not sanitised: raw HTML and destinations are as the author of the text wrote them.
 """
 import ctypes
 
@@ -16,9 +16,10 @@ REFUSALS = {-1: "not UTF-8", -2: "out of memory", -3: "image nested too deeply"}
 class Markdown:
     def __init__(self, path):
         library = ctypes.CDLL(path)
-        self.html, self.json, self.outline = library.markdown_to_html, library.markdown_to_json, library.markdown_to_outline
+        self.html, self.safe_html = library.markdown_to_html, library.markdown_to_safe_html
+        self.json, self.outline = library.markdown_to_json, library.markdown_to_outline
         # These fit include/markdown.h. Nothing compares the declarations.
-        for call in (self.html, self.json, self.outline):
+        for call in (self.html, self.safe_html, self.json, self.outline):
             call.argtypes = [ctypes.c_char_p, ctypes.c_size_t, ctypes.c_uint32, ctypes.c_char_p, ctypes.c_size_t]
             call.restype = ctypes.c_int64
 
@@ -39,8 +40,12 @@ class Markdown:
         return out.raw[:length]
 
     def to_html(self, text, options=0):
-        """Returns the HTML of a text, of bytes as of the text."""
+        """Returns the HTML of a trusted text, of bytes as of the text."""
         return self.whole(self.html, text, options)
+
+    def to_safe_html(self, text, options=0):
+        """Returns safe HTML of a text that a stranger wrote."""
+        return self.whole(self.safe_html, text, options)
 
     def to_json(self, text, options=0):
         """Returns the events of a text, as lines of JSON."""

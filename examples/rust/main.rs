@@ -3,7 +3,8 @@
 
 mod markdown;
 
-use markdown::{Refusal, STRIKETHROUGH, html_into, json_into, outline_into, to_html, to_json, to_outline};
+use markdown::{Refusal, STRIKETHROUGH, html_into, json_into, outline_into, safe_html_into};
+use markdown::{to_html, to_json, to_outline, to_safe_html};
 use std::{env, fs};
 
 type Whole = fn(&str, u32) -> Result<String, Refusal>;
@@ -27,8 +28,12 @@ fn try_buffers(into: Into, text: &str, stored: &str) {
 
 fn try_text(folder: &str, name: &str) {
     let text = read(folder, name, "md");
-    let calls: [(&str, Whole, Into); 3] =
-        [("html", to_html, html_into), ("jsonl", to_json, json_into), ("outline", to_outline, outline_into)];
+    let calls: [(&str, Whole, Into); 4] = [
+        ("html", to_html, html_into),
+        ("safe", to_safe_html, safe_html_into),
+        ("jsonl", to_json, json_into),
+        ("outline", to_outline, outline_into),
+    ];
     for (kind, whole, into) in calls {
         let stored = read(folder, name, kind);
         assert_eq!(whole(&text, STRIKETHROUGH).as_deref(), Ok(stored.as_str()), "{name}.{kind}");
@@ -49,6 +54,7 @@ fn main() {
         try_text(folder, name);
     }
     try_not_utf8(html_into);
+    try_not_utf8(safe_html_into);
     try_not_utf8(json_into);
     try_not_utf8(outline_into);
     println!("Rust: {} texts, as stored", names.len());

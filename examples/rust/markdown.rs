@@ -1,5 +1,5 @@
-//! Safe calls of the static library `libmarkdown_c.a`. The HTML is not sanitised: raw HTML and destinations are as the
-//! author of the text wrote them, so it is unsafe for strangers' text.
+//! Safe calls of the static library `libmarkdown_c.a`. `to_safe_html` is for strangers' text. The HTML of `to_html` is not
+//! sanitised: raw HTML and destinations are as the author of the text wrote them.
 
 /// Why there is nothing.
 #[derive(Clone, Copy, Debug, PartialEq, Eq)]
@@ -19,6 +19,7 @@ type Call = unsafe extern "C" fn(*const u8, usize, u32, *mut u8, usize) -> i64;
 // These fit include/markdown.h. Nothing compares the declarations.
 unsafe extern "C" {
     fn markdown_to_html(text: *const u8, text_length: usize, options: u32, out: *mut u8, out_length: usize) -> i64;
+    fn markdown_to_safe_html(text: *const u8, text_length: usize, options: u32, out: *mut u8, out_length: usize) -> i64;
     fn markdown_to_json(text: *const u8, text_length: usize, options: u32, out: *mut u8, out_length: usize) -> i64;
     fn markdown_to_outline(text: *const u8, text_length: usize, options: u32, out: *mut u8, out_length: usize) -> i64;
 }
@@ -47,9 +48,14 @@ fn whole(which: Call, text: &str, options: u32) -> Result<String, Refusal> {
     String::from_utf8(out).map_err(|_| Refusal::NotUtf8)
 }
 
-/// Returns the HTML of a text.
+/// Returns the HTML of a trusted text.
 pub fn to_html(text: &str, options: u32) -> Result<String, Refusal> {
     whole(markdown_to_html, text, options)
+}
+
+/// Returns safe HTML of a text that a stranger wrote.
+pub fn to_safe_html(text: &str, options: u32) -> Result<String, Refusal> {
+    whole(markdown_to_safe_html, text, options)
 }
 
 /// Returns the events of a text, as lines of JSON.
@@ -65,6 +71,11 @@ pub fn to_outline(text: &str, options: u32) -> Result<String, Refusal> {
 /// Writes the HTML of bytes to `out`, if it fits, and returns how many bytes it has.
 pub fn html_into(text: &[u8], options: u32, out: &mut [u8]) -> Result<usize, Refusal> {
     call(markdown_to_html, text, options, out)
+}
+
+/// Writes safe HTML of bytes to `out`, if it fits, and returns how many bytes it has.
+pub fn safe_html_into(text: &[u8], options: u32, out: &mut [u8]) -> Result<usize, Refusal> {
+    call(markdown_to_safe_html, text, options, out)
 }
 
 /// Writes the events of bytes to `out`, if they fit, and returns how many bytes they have.

@@ -6,6 +6,7 @@ use Rattle.markdown_base.specs.declared.fault.Fault.{Fault}
 use Rattle.markdown_base.specs.declared.fault.Fault.TheVariants as fault
 use Rattle.markdown_base.specs.declared.options.Options.{Options}
 use Rattle.markdown_render.specs.Rendering.{IsRenderingOf, IsTooDeepOf}
+use Rattle.markdown_safe.specs.SafeRendering.{IsSafeRenderingOf, IsSafeTooDeepOf}
 use Rattle.markdown_text_json.specs.TextJson.{IsJsonOf}
 use Rattle.markdown_text_json.specs.OutlineJson.{IsOutlineJsonOf}
 use Rattle.markdown_c.specs.declared.readings.Refusal.{Refusal}
@@ -28,6 +29,13 @@ IsHtmlOutcome text options (Ok html) = IsRenderingOf text options html
 IsHtmlOutcome text options (Err NotUtf8) = IsUtf8 text → ⊥
 IsHtmlOutcome text options (Err Memory) = Unit {0}
 IsHtmlOutcome text options (Err Depth) = IsTooDeepOf text options
+
+-- the safe HTML of a text, or why there is none
+abbrev pub IsSafeHtmlOutcome : (text : List ℕ) → Options → Result (List ℕ) Refusal → Type 0
+IsSafeHtmlOutcome text options (Ok html) = IsSafeRenderingOf text options html
+IsSafeHtmlOutcome text options (Err NotUtf8) = IsUtf8 text → ⊥
+IsSafeHtmlOutcome text options (Err Memory) = Unit {0}
+IsSafeHtmlOutcome text options (Err Depth) = IsSafeTooDeepOf text options
 
 -- the lines of a text, of one kind or another, or why there are none
 abbrev pub IsLinesOutcome : (AreLines : List ℕ → Options → List ℕ → Type 0) → (text : List ℕ) → Options

@@ -1,14 +1,15 @@
 //! The functions that C calls. A slice is passed as a pointer and a length, and the allocator is not passed.
 ghost use Rattle.std.specs.Prelude.{◌≡◌, ℕ, List, Result};
 ghost use Rattle.markdown_render.specs.Words.{of_bits};
-ghost use Rattle.markdown_c.specs.CallsFromC.{IsHtmlOutcome, IsJsonOutcome, IsOutlineOutcome, returned_number, buffer_after};
+ghost use Rattle.markdown_c.specs.CallsFromC.{IsHtmlOutcome, IsJsonOutcome, IsOutlineOutcome, IsSafeHtmlOutcome};
+ghost use Rattle.markdown_c.specs.CallsFromC.{returned_number, buffer_after};
 ghost use Rattle.markdown_c.specs.declared.readings.Refusal.{Refusal};
 
 use crate::buffer::answer;
-use crate::readings::{html_of, json_of, outline_of};
+use crate::readings::{html_of, json_of, outline_of, safe_html_of};
 use std::alloc::Global;
 
-/// Renders a text as HTML. Returns the length of the HTML in bytes, and writes the HTML to the front of `out`, if it
+/// Renders a trusted text as HTML, which is not sanitised. Returns the length of the HTML in bytes, and writes the HTML to the front of `out`, if it
 /// fits; otherwise `out` is unchanged. Each bit of `options` enables an extension, as in `Options`.
 ///
 /// # Errors
@@ -21,6 +22,27 @@ pub extern "C" fn markdown_to_html(alloc: Global, text: &[u8], options: u32, out
         × (result ≡ returned_number outcome) × (out.new ≡ buffer_after out.old outcome) }
 {
     answer(html_of(alloc, text, options), out)
+}
+
+/// Renders a text that a stranger wrote as safe HTML: raw HTML is shown as text, and a destination whose scheme could
+/// run a script is left out. Returns the length of the HTML in bytes, and writes the HTML to the front of `out`, if it
+/// fits; otherwise `out` is unchanged. Each bit of `options` enables an extension, as in `Options`.
+///
+/// # Errors
+///
+/// As those of `markdown_to_html`. `out` is then unchanged.
+#[unsafe(no_mangle)]
+pub extern "C" fn markdown_to_safe_html(
+    alloc: Global,
+    text: &[u8],
+    options: u32,
+    out: &mut [u8],
+) -> i64
+    ensures { (outcome : Result (List ℕ) Refusal)
+        × IsSafeHtmlOutcome text.now (of_bits options) outcome
+        × (result ≡ returned_number outcome) × (out.new ≡ buffer_after out.old outcome) }
+{
+    answer(safe_html_of(alloc, text, options), out)
 }
 
 /// Writes the events of a text as JSON: a line for each event, with its range of byte offsets in `text`. Returns the

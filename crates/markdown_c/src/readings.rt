@@ -2,7 +2,8 @@
 ghost use Rattle.std.specs.Prelude.{◌≡◌, IfOk, IfErr};
 ghost use Rattle.std.specs.Str.{IsUtf8};
 ghost use Rattle.markdown_render.specs.Words.{of_bits};
-ghost use Rattle.markdown_c.specs.CallsFromC.{IsHtmlOutcome, IsJsonOutcome, IsOutlineOutcome, bytes_of};
+ghost use Rattle.markdown_c.specs.CallsFromC.{IsHtmlOutcome, IsJsonOutcome, IsOutlineOutcome, IsSafeHtmlOutcome};
+ghost use Rattle.markdown_c.specs.CallsFromC.{bytes_of};
 ghost use Rattle.markdown_c.specs.declared.readings.Refusal.{Refusal};
 
 use bitflags::Flags;
@@ -10,6 +11,7 @@ use markdown_base::fault::Fault;
 use markdown_base::options::Options;
 use markdown_defs::DefaultBrokenLinkCallback;
 use markdown_render::render;
+use markdown_safe::safe_html;
 use markdown_text_json::{outline_json, text_json};
 use std::alloc::Global;
 use std::str;
@@ -66,6 +68,15 @@ pub(crate) fn html_of(alloc: Global, bytes: &[u8], bits: u32) -> Result<String, 
     let text = text_of(bytes)?;
     let nobody = None::<DefaultBrokenLinkCallback>;
     Ok(render(alloc, text, options_of(bits), nobody)?)
+}
+
+/// Returns the safe HTML of a text, without a callback.
+pub(crate) fn safe_html_of(alloc: Global, bytes: &[u8], bits: u32) -> Result<String, Refusal>
+    ensures { IsSafeHtmlOutcome bytes.now (of_bits bits) (bytes_of result) }
+{
+    let text = text_of(bytes)?;
+    let nobody = None::<DefaultBrokenLinkCallback>;
+    Ok(safe_html(alloc, text, options_of(bits), nobody)?)
 }
 
 /// Returns the lines of the events of a text.

@@ -1,0 +1,166 @@
+"""Texts that attack, each rendered for strangers' text and checked: `safe_attack.py SHARED_OBJECT [COUNT]`.
+
+SHARED_OBJECT is made as `.ci/callers` makes it. COUNT texts (20,000 by default) are made of shapes (links, images,
+definitions, titles, info strings, footnotes, wikilinks, math, raw HTML) with payloads (schemes in all spellings, tags,
+attributes, ends of values), from a fixed seed. Each is rendered with no extension and with all. The HTML is checked by
+Python's HTML parser, by a grammar, and by the URL standard's reading of schemes; all three are written apart from the
+definitions of the library. Prints how many texts come through, and how many do by `markdown_to_html`; exits with 1 where
+one comes through.
+"""
+import random
+import re
+import sys
+from html.parser import HTMLParser
+from pathlib import Path
+
+sys.path.insert(0, str(Path(__file__).resolve().parent.parent.parent / "examples/python"))
+from markdown import Markdown
+
+ATTRIBUTES = {
+    "a": {"href", "title"}, "img": {"src", "alt", "title"}, "code": {"class"}, "ol": {"start"}, "th": {"style"},
+    "td": {"style"}, "sup": {"class"}, "div": {"class", "id"}, "span": {"class"}, "blockquote": {"class"},
+    "input": {"disabled", "type", "checked"},
+}
+VOID = {"img", "br", "hr", "input"}
+TAGS = VOID | set(ATTRIBUTES) | set("p h1 h2 h3 h4 h5 h6 pre ul li dl dt dd table thead tbody tr em strong del sub".split())
+CLASSES = {"footnote-reference", "footnote-definition", "footnote-definition-label", "math math-inline", "math math-display"}
+CLASSES |= {f"markdown-alert-{kind}" for kind in ("note", "tip", "important", "warning", "caution")}
+VALUE = r'(?:[^&<>"]|&(?:amp|lt|gt|quot|#x27);)*'
+GRAMMAR = re.compile(rf'(?:[^&<>]|&(?:amp|lt|gt|quot|#x27);|<[a-z0-9]+(?: [a-z]+="{VALUE}")*(?: ?/)?>|</[a-z0-9]+>)*')
+ALL_OPTIONS = 1 << 1 | 1 << 2 | 1 << 3 | 1 << 4 | 1 << 5 | 1 << 6 | 1 << 7 | 1 << 8 | 1 << 9 | 1 << 10 | 1 << 11 | 1 << 12 | 1 << 13
+ALL_OPTIONS |= 1 << 14 | 1 << 15
+
+
+def has_safe_scheme(url):
+    """Reads the scheme as the URL standard does: ends stripped of controls and spaces, tabs and line ends dropped."""
+    url = re.sub("[\t\n\r]", "", url.strip("".join(map(chr, range(33)))))
+    scheme = re.match(r"([A-Za-z][A-Za-z0-9+.-]*):", url)
+    return not scheme or scheme[1].lower() in {"http", "https", "mailto", "tel"}
+
+
+def is_safe(name, value):
+    return {
+        "href": has_safe_scheme, "src": has_safe_scheme, "alt": lambda value: True, "title": lambda value: True,
+        "class": lambda value: value in CLASSES or re.fullmatch(r"language-[^ \t\n\f\r]*", value),
+        "id": lambda value: value.startswith("user-content-"), "start": str.isdigit,
+        "style": lambda value: re.fullmatch("text-align: (left|center|right)", value),
+        "type": lambda value: value == "checkbox", "disabled": lambda value: value == "", "checked": lambda value: value == "",
+    }[name](value)
+
+
+class Reader(HTMLParser):
+    """Collects what a page for strangers' text must not have."""
+
+    def __init__(self):
+        super().__init__(convert_charrefs=True)
+        self.found, self.open = [], []
+
+    def handle_starttag(self, tag, attributes):
+        names = [name for name, _ in attributes]
+        if tag not in TAGS or len(set(names)) < len(names):
+            self.found.append(("tag", tag, names))
+        for name, value in attributes:
+            if name not in ATTRIBUTES.get(tag, ()) or value is None or not is_safe(name, value):
+                self.found.append(("attribute", tag, name, value))
+        if tag not in VOID:
+            self.open.append(tag)
+        elif tag == "input" and not {"disabled", "type"} <= set(names):
+            self.found.append(("input", names))
+
+    def handle_startendtag(self, tag, attributes):
+        self.handle_starttag(tag, attributes)
+        if tag not in VOID:
+            self.found.append(("closed at once", tag))
+
+    def handle_endtag(self, tag):
+        if not self.open or self.open.pop() != tag:
+            self.found.append(("end", tag))
+
+    def handle_comment(self, data):
+        self.found.append(("comment", data))
+
+    handle_decl = handle_pi = unknown_decl = handle_comment
+
+
+def unsafe_parts(html):
+    reader = Reader()
+    reader.feed(html)
+    reader.close()
+    found = reader.found + [("left open", tag) for tag in reader.open]
+    return found if GRAMMAR.fullmatch(html) else [*found, ("grammar",)]
+
+
+SCHEMES = ["javascript:alert(1)", "vbscript:x", "data:text/html,<script>x</script>", "data:image/svg+xml;base64,PHN2Zz4=",
+           "view-source:javascript:x", "feed:javascript:x", "blob:https://a/b", "file:///etc/passwd", "jar:x!/", "ws://a",
+           "intent://a#Intent;end", "filesystem:http://a/b", "about:blank", "livescript:x", "mocha:x", "urn:x"]
+TAGS_OF_OTHERS = ["<script>x()</script>", "<img src=x onerror=x()>", "<svg/onload=x()>", "<iframe src=javascript:x></iframe>",
+                  "<math><mi xlink:href='javascript:x'>", "<style>@import 'a'</style>", "<base href=//a/>", "<form action=//a>",
+                  "<!--><script>x()</script>-->", "<![CDATA[<script>x()</script>]]>", "<?php x() ?>", "<!DOCTYPE x>",
+                  "<a href='javascript:x'>y</a>", "<b onclick=x()>", "</p></div></body>", "<textarea>", "<title>", "<noscript>",
+                  "<plaintext>", "<xmp>", "<template>", "<p style='position:fixed'>", "<input autofocus onfocus=x()>", "<object>",
+                  "<embed src=a>", "<link rel=stylesheet href=a>", "<meta http-equiv=refresh content='0;url=a'>", "<pre\n>",
+                  "<details open ontoggle=x()>", "<x\ny=z>", "<a\n href=\"javascript:x\"\n>", "</a\n>"]
+ENDS = ['" onmouseover="x()', "' onmouseover='x()", '"><script>x()</script>', "`onmouseover=x()`", "&quot; onclick=&quot;x()",
+        "&#34;&#62;&#60;script&#62;", "\\\" onclick=\\\"x()", "x\" style=\"a:b", "\\<script\\>", "&lt;script&gt;", "&amp;lt;b&amp;gt;",
+        "\u2028<b>", "\ufeff<b>", "\x00<b>", "\x0b<b>", "\x0c<b>", "\x7f\"", "\u00a0\"", "-->", "]]>", "<!--", "%22%3E", "&#x27;", "é\"ü"]
+
+
+def spelled(scheme, at):
+    """Returns a scheme in another spelling."""
+    name, _, rest = scheme.partition(":")
+    ways = [
+        lambda: scheme, lambda: name.upper() + ":" + rest, lambda: "".join(at.choice((c, c.upper())) for c in name) + ":" + rest,
+        lambda: "".join(f"&#{ord(c)};" for c in name) + ":" + rest, lambda: "".join(f"&#x{ord(c):x};" for c in name) + "&#58;" + rest,
+        lambda: name + "&colon;" + rest, lambda: name + "&#0000058;" + rest, lambda: name + "\\:" + rest, lambda: name + "%3A" + rest,
+        lambda: at.choice(["&#1;", "&#31;", " ", "&#9;", "&#10;", "&#32;", "\x01", "&#0;", "&#xfeff;", "&nbsp;", "\x0b"]) + scheme,
+        lambda: name[:2] + at.choice(["&#9;", "&#10;", "&#13;", "\t", "&#0;", "&#1;", "%0a", "&Tab;", "&NewLine;", "\x0b"]) + name[2:] + ":" + rest,
+        lambda: name + at.choice(["&#9;", "&#10;", " ", "\t", "&#0;"]) + ":" + rest, lambda: "//" + scheme, lambda: "\\\\" + scheme,
+        lambda: "https:" + scheme, lambda: ":" + scheme, lambda: "?" + scheme, lambda: name.replace("s", "ſ") + ":" + rest,
+    ]
+    return at.choice(ways)()
+
+
+def shaped(payload, at):
+    """Returns a text with a payload somewhere in it."""
+    scheme, end = spelled(at.choice(SCHEMES), at), at.choice(ENDS)
+    shapes = [
+        f"[a]({payload})", f"[a](<{payload}>)", f"![a]({payload})", f"![a {payload}](b)", f'[a](b "{payload}")', f"[a](b '{payload}')",
+        f"[a](b ({payload}))", f"<{payload}>", f"[a]: {payload}\n\n[a]", f"[a]: <{payload}> \"{end}\"\n\n[a] ![a]", f"[{payload}][]",
+        f"[{payload}]: b\n\n[{payload}]", f"```{payload}\nb\n```", f"~~~ {payload}\nb\n~~~", f"``` a\t{payload}\nb\n```", f"`{payload}`",
+        f"    {payload}", f"# {payload}", f"# a {{#{payload} .{end} onclick={end}}}", f"a[^{payload}]\n\n[^{payload}]: b", f"[^a]: {payload}\n\n[^a]",
+        f"[[{payload}]]", f"[[a|{payload}]]", f"[[{payload}|a]]", f"![[{payload}]]", f"${payload}$", f"$${payload}$$", f"^{payload}^", f"~{payload}~",
+        f"> {payload}", f"- {payload}\n- [x] {end}", f"1234567. {payload}", f"a | b\n--|:-:\n{payload} | {end}", f"---\na: {payload}\n---\n\nb",
+        f"+++\n{payload}\n+++", f"a\n: {payload}", f"> [!NOTE]\n> {payload}", f"*{payload}*_{end}_", f"![a](![b]({payload}))", f"[![a]({payload})]({scheme})",
+        f"![a ![b]({payload}) c]({scheme} \"{end}\")", f"[a <{payload}> b](c)", f"[a](b)[{payload}]({scheme})", f"{payload}{end}", f"a  \n{payload}",
+        f"<div>\n{payload}\n\n*b*</div>", f"<a href=\"\n{payload}\">", f"\\{payload}", f"&{payload};", f"'{payload}' \"{end}\"", payload,
+    ]
+    return at.choice(shapes)
+
+
+def texts(count):
+    at = random.Random(20261126)
+    for _ in range(count):
+        payload = at.choice([spelled(at.choice(SCHEMES), at), at.choice(TAGS_OF_OTHERS), at.choice(ENDS)])
+        text = shaped(payload, at)
+        for _ in range(at.choice([0, 0, 1, 2])):
+            other = at.choice([spelled(at.choice(SCHEMES), at), at.choice(TAGS_OF_OTHERS), at.choice(ENDS)])
+            text = at.choice([lambda: shaped(text, at), lambda: text + "\n\n" + shaped(other, at), lambda: text + shaped(other, at)])()
+        yield text
+
+
+def main(path, count="20000"):
+    library, through, through_raw = Markdown(path), 0, 0
+    for text in texts(int(count)):
+        raw = text.encode()
+        for options in (0, ALL_OPTIONS):
+            found = unsafe_parts(library.to_safe_html(raw, options).decode())
+            if found:
+                through += 1
+                print(options, repr(text), found)
+        through_raw += any(unsafe_parts(library.to_html(raw, options).decode()) for options in (0, ALL_OPTIONS))
+    print(f"{count} texts: {through} come through; by markdown_to_html {through_raw} do")
+    sys.exit(bool(through))
+
+
+if __name__ == "__main__":
+    main(*sys.argv[1:])
