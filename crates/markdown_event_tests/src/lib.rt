@@ -31,6 +31,8 @@ mod program;
 #[cfg(test)]
 mod runs;
 #[cfg(test)]
+mod safe;
+#[cfg(test)]
 mod signs;
 #[cfg(test)]
 mod whole_runs;

@@ -1,0 +1,112 @@
+//! Safe HTML: of events that no text is read as, and of texts.
+use crate::signs::{Sign, items_of};
+use markdown_base::fault::Fault;
+use markdown_base::options::Options;
+use markdown_base::tag::{Alignment, BlockQuoteKind, LinkType, MetadataBlockKind, TagEnd};
+use markdown_defs::DefaultBrokenLinkCallback;
+use markdown_out::html::push_html;
+use markdown_safe::{Safe, safe_html};
+use markdown_test_helpers::rows::gives;
+use std::alloc::Global;
+use std::test::Fail;
+
+/// Returns the HTML of the events of signs, each made safe.
+fn safe_html_of(alloc: Global, signs: &'static [Sign<'static>]) -> Result<String, Fault> {
+    let mut html = String::new(alloc);
+    push_html(alloc, &mut html, Safe::new(alloc, items_of(alloc, signs)))?;
+    Ok(html)
+}
+
+/// Checks the HTML of the events of each row.
+fn check(alloc: Global, rows: &[(&'static [Sign<'static>], &'static str)]) -> Result<(), Fail> {
+    for row in rows {
+        let html = safe_html_of(alloc, row.0).ok();
+        gives(row.1, html.as_deref(), Some(row.1))?;
+    }
+    Ok(())
+}
+
+const QUOTED_TABLE: &[Sign<'static>] = &[
+    Sign::Open(TagEnd::BlockQuote(Some(BlockQuoteKind::Note))),
+    Sign::Table(&[Alignment::Center]),
+    Sign::Open(TagEnd::TableHead),
+    Sign::Open(TagEnd::TableCell),
+    Sign::Html("<script>"),
+    Sign::Close(TagEnd::TableCell),
+    Sign::Close(TagEnd::TableHead),
+    Sign::Close(TagEnd::Table),
+    Sign::Close(TagEnd::BlockQuote(Some(BlockQuoteKind::Note))),
+    Sign::Open(TagEnd::MetadataBlock(MetadataBlockKind::YamlStyle)),
+    Sign::Html("<script>"),
+    Sign::Close(TagEnd::MetadataBlock(MetadataBlockKind::YamlStyle)),
+    Sign::Link(LinkType::Email, "a@b.example", ""),
+    Sign::Close(TagEnd::Link),
+    Sign::Task(true),
+];
+
+const UNBALANCED: &[Sign<'static>] = &[
+    Sign::Close(TagEnd::TableCell),
+    Sign::Fenced("a\tb \"c"),
+    Sign::Image("java\nscript:x", "\" onload=\""),
+    Sign::Html("\"><script>"),
+    Sign::Open(TagEnd::MetadataBlock(MetadataBlockKind::YamlStyle)),
+    Sign::InlineHtml("<b>"),
+];
+
+#[test]
+fn events_made_by_hand(rt: HostRuntime) -> Result<(), Fail> {
+    check(
+        rt.alloc(),
+        &[
+            (
+                &[Sign::FullHeading, Sign::InlineHtml("<svg onload=x>")],
+                "<h2>&lt;svg onload=x&gt;",
+            ),
+            (
+                QUOTED_TABLE,
+                "<blockquote class=\"markdown-alert-note\">\n<table><thead><tr><th style=\"text-align: center\">&lt;script&gt;</th></tr></thead><tbody>\n</tbody></table>\n</blockquote>\n<a href=\"mailto:a@b.example\"></a><input disabled=\"\" type=\"checkbox\" checked=\"\"/>\n",
+            ),
+            (
+                UNBALANCED,
+                "</th>\n<pre><code class=\"language-a\"><img src=\"\" alt=\"&quot;&gt;&lt;script&gt;&lt;b&gt;\" title=\"&quot; onload=&quot;\" />",
+            ),
+        ],
+    )
+}
+
+/// Checks the safe HTML of each text, with footnotes.
+fn check_texts(alloc: Global, rows: &[(&'static str, &'static str)]) -> Result<(), Fail> {
+    for row in rows {
+        let nobody = None::<DefaultBrokenLinkCallback>;
+        let html = safe_html(alloc, row.0, Options::ENABLE_FOOTNOTES, nobody).ok();
+        gives(row.0, html.as_deref(), Some(row.1))?;
+    }
+    Ok(())
+}
+
+#[test]
+fn texts_of_strangers(rt: HostRuntime) -> Result<(), Fail> {
+    check_texts(
+        rt.alloc(),
+        &[
+            ("[a](JaVa&#10;Script:x)", "<p><a href=\"\">a</a></p>\n"),
+            (
+                "[a](HTTPS://b \"c\")",
+                "<p><a href=\"HTTPS://b\" title=\"c\">a</a></p>\n",
+            ),
+            (
+                "[a](b?javascript:c)",
+                "<p><a href=\"b?javascript:c\">a</a></p>\n",
+            ),
+            (
+                "<tel:1> <data:2>",
+                "<p><a href=\"tel:1\">tel:1</a> <a href=\"\">data:2</a></p>\n",
+            ),
+            ("<b>*c*</b>", "<p>&lt;b&gt;<em>c</em>&lt;/b&gt;</p>\n"),
+            (
+                "[^a]\n\n[^a]: b",
+                "<p><sup class=\"footnote-reference\"><a href=\"#user-content-a\">1</a></sup></p>\n<div class=\"footnote-definition\" id=\"user-content-a\"><sup class=\"footnote-definition-label\">1</sup>\n<p>b</p>\n</div>\n",
+            ),
+        ],
+    )
+}
