@@ -267,10 +267,10 @@ question_at o r =
 abbrev pub looked_up : {A : Type 0} → Split A → LinkReference → LookedUp → Progress A → Decision A
 looked_up o r result p =
     to_be (unwrap_or (option_map (λ t. a_link o t [] r.end r.next) result.target) a_text) (record p {
-  spent = r.spends ++ p.spent;
-  asked = p.asked ++ result.questions;
-  state = record { limit = result.limit; answers = result.answers; uses = p.state.uses };
-})
+      spent = r.spends ++ p.spent;
+      asked = p.asked ++ result.questions;
+      state = record { limit = result.limit; answers = result.answers; uses = p.state.uses };
+    })
 
 -- what was found is carried out: a link label is looked up, and a use of a footnote is counted if it is defined
 abbrev pub carried_out : {A : Type 0} → BracketContext → Option (Written A) → Progress A → Decision A
