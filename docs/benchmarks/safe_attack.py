@@ -4,8 +4,9 @@ SHARED_OBJECT is made as `.ci/callers` makes it. COUNT texts (20,000 by default)
 definitions, titles, info strings, footnotes, wikilinks, math, raw HTML) with payloads (schemes in all spellings, tags,
 attributes, ends of values), from a fixed seed. Each is rendered with no extension and with all. The HTML is checked by
 Python's HTML parser, by a grammar, and by the URL standard's reading of schemes; all three are written apart from the
-definitions of the library. Prints how many texts come through, and how many do by `markdown_to_html`; exits with 1 where
-one comes through.
+definitions of the library. Where Python has `html5lib`, which builds trees as browsers do, a page with the HTML in an
+element is read too: nothing of the HTML stands outside that element. Prints how many texts come through, and how many do by
+`markdown_to_html`; exits with 1 where one comes through.
 """
 import random
 import re
@@ -15,6 +16,11 @@ from pathlib import Path
 
 sys.path.insert(0, str(Path(__file__).resolve().parent.parent.parent / "examples/python"))
 from markdown import Markdown
+
+try:
+    import html5lib
+except ImportError:
+    html5lib = None
 
 ATTRIBUTES = {
     "a": {"href", "title"}, "img": {"src", "alt", "title"}, "code": {"class"}, "ol": {"start"}, "th": {"style"},
@@ -82,11 +88,22 @@ class Reader(HTMLParser):
     handle_decl = handle_pi = unknown_decl = handle_comment
 
 
+def leaves_its_element(html):
+    """Whether a part of the HTML stands outside the element that it is put into, or what the page has after it there stands
+    elsewhere, as a browser reads the page."""
+    page = html5lib.parse(f"<!DOCTYPE html><body><div>{html}<u></u></div><i></i>", namespaceHTMLElements=False)
+    body = page.find("body")
+    is_whole = [(it.tag, it.tail) for it in body] == [("div", None), ("i", None)] and not body.text and not len(body[1])
+    return not is_whole or body[0].find("u") is None
+
+
 def unsafe_parts(html):
     reader = Reader()
     reader.feed(html)
     reader.close()
     found = reader.found + [("left open", tag) for tag in reader.open]
+    if html5lib and leaves_its_element(html):
+        found.append(("leaves its element",))
     return found if GRAMMAR.fullmatch(html) else [*found, ("grammar",)]
 
 
