@@ -165,10 +165,10 @@ fn forms_of_references(rt: HostRuntime) -> Result<(), Fail> {
 }
 
 /// A target's type, destination and title.
-type Wanted = (LinkType, &'static str, &'static str);
+type Wanted<'w> = (LinkType, &'w str, &'w str);
 
 /// Returns whether a target has this type, destination and title, or is None for None.
-fn is_target(found: &Option<Target<'_>>, wanted: Option<Wanted>) -> bool {
+fn is_target(found: &Option<Target<'_>>, wanted: Option<Wanted<'_>>) -> bool {
     match found {
         Some(target) => {
             let texts = (target.destination.as_str(), target.title.as_str());
@@ -184,7 +184,7 @@ fn finds<'a, F: BrokenLinkCallback<'a>>(
     alloc: Global,
     lookup: &mut LabelLookup<'a, F>,
     label: &'a str,
-    wanted: Option<Wanted>,
+    wanted: Option<Wanted<'_>>,
 ) -> Result<(bool, usize), Fault>
     requires { IfSome lookup.old.callback F.can_ask }
     ensures { IfSome lookup.new.callback F.can_ask }

@@ -19,12 +19,15 @@ fn broken_link() -> BrokenLink<'static> {
 }
 
 /// A destination and a title.
-type Target = (&'static str, &'static str);
+type Target<'t> = (&'t str, &'t str);
 
-const TARGET: Option<Target> = Some(("url", "title"));
+const TARGET: Option<Target<'static>> = Some(("url", "title"));
 
 /// Returns whether a callback answers a question with this destination and title, or with None where none are wanted.
-fn answers<'input, C: BrokenLinkCallback<'input>>(callback: &mut C, wanted: Option<Target>) -> bool
+fn answers<'input, C: BrokenLinkCallback<'input>>(
+    callback: &mut C,
+    wanted: Option<Target<'_>>,
+) -> bool
     requires { C.can_ask callback.old }
     ensures { C.can_ask callback.new }
 {
