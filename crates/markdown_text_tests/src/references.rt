@@ -303,7 +303,7 @@ fn is_given<'a, F: BrokenLinkCallback<'a>>(
     alloc: Global,
     source: &'a str,
     callback: F,
-    given: Given,
+    given: Given<'_>,
 ) -> Result<(), Fail>
     requires { F.can_ask callback }
 {
@@ -324,7 +324,7 @@ fn is_given<'a, F: BrokenLinkCallback<'a>>(
 }
 
 /// Two labels without a definition, and what is given for them where each answer has the number of its question.
-const NUMBERED: (&str, [Given; 2]) = (
+const NUMBERED: (&str, [Given<'static>; 2]) = (
     "[a] [b]",
     [
         Given::Html("<p><a href=\"/1\">a</a> <a href=\"/2\">b</a></p>\n"),
@@ -336,7 +336,7 @@ const NUMBERED: (&str, [Given; 2]) = (
 );
 
 /// Checks what is given for a text with a boxed callback that has these answers.
-fn is_given_with(alloc: Global, source: &str, reply: Reply, given: Given) -> Result<(), Fail> {
+fn is_given_with(alloc: Global, source: &str, reply: Reply, given: Given<'_>) -> Result<(), Fail> {
     let boxed: Box<dyn BoxedCallback> = Box::new(alloc, Replying::new(alloc, reply))?;
     is_given(alloc, source, boxed, given)
 }
@@ -360,7 +360,7 @@ fn boxed_callbacks(rt: HostRuntime) -> Result<(), Fail> {
 }
 
 /// Checks what is given with a closure that counts its questions, and that there are two.
-fn is_given_with_a_closure(alloc: Global, source: &str, given: Given) -> Result<(), Fail> {
+fn is_given_with_a_closure(alloc: Global, source: &str, given: Given<'_>) -> Result<(), Fail> {
     let mut asked = 0u64;
     let numbering = |link: BrokenLink| -> Option<(CowStr, CowStr)>
         ensures counted { asked.exit ≡ (asked.entry + 1) % 2 ^ 64 }

@@ -138,16 +138,21 @@ pub fn work_of(alloc: Global, source: &str) -> Result<Work, Fail> {
 
 /// What a tree made by hand gives.
 #[derive(Clone, Copy, Drop)]
-pub enum Given {
+pub enum Given<'g> {
     /// This HTML, merged and not.
-    Html(&'static str),
+    Html(&'g str),
     /// These events, each with its range.
-    Events(&'static str),
+    Events(&'g str),
 }
 
 /// A tree made by hand over a text, which may refer to one text, one list of alignments and the
 /// attributes of one heading: the text, the options, the items in preorder, and what it gives.
-pub type Made = (&'static str, &'static [Options], &'static [Placed], Given);
+pub type Made = (
+    &'static str,
+    &'static [Options],
+    &'static [Placed],
+    Given<'static>,
+);
 
 /// Returns the parser of a tree made by hand.
 fn made_parser<'a>(
