@@ -36,25 +36,36 @@ impl Noted for RangedItem<'_> {
     }
 }
 
-/// Calls `next` of an iterator `calls` times. Returns its results as a text: None as a dot.
+/// Appends the result of one call of `next` as a text: None as a dot.
+fn push_next<T: Noted, I: Iterator<Item = T>>(
+    alloc: Global,
+    merge: &mut I,
+    notes: &mut String,
+) -> Result<(), AllocError>
+    requires can { I.can_next merge.old }
+{
+    match merge.next() {
+        Some(item) => {
+            let done = item.push_to(alloc, notes);
+            drop(item);
+            done
+        }
+        None => notes.push_str("."),
+    }
+}
+
+/// Returns the results of this number of calls of `next` as a text.
 fn called<T: Noted, I: Iterator<Item = T> + Drop>(
     alloc: Global,
-    items: I,
+    merge: I,
     calls: usize,
 ) -> Result<String, AllocError>
     requires can { (left : I) → I.can_next left }
 {
-    let mut items = items;
+    let mut merge = merge;
     let mut notes = String::new(alloc);
-    'calling: for _ in 0..calls {
-        match items.next() {
-            Some(item) => {
-                let done = item.push_to(alloc, &mut notes);
-                drop(item);
-                done?;
-            }
-            None => notes.push_str(".")?,
-        }
+    for _ in 0..calls {
+        push_next(alloc, &mut merge, &mut notes)?;
     }
     Ok(notes)
 }
