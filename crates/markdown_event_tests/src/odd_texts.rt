@@ -54,7 +54,7 @@ static TEXTS: [(&str, &str); 24] = [
         "<ul>\n<li></li>\n</ul>\n<p>_&lt;<strong>*\n_&lt;</strong>*\n_&lt;_<em>*\n<em>&lt;</em></em></p>\n",
     ),
     ("_6**6*_*", "<p><em>6**6*</em>*</p>\n"),
-    ("*__#_#__*", "<p><em>__#_#__</em></p>\n"),
+    ("*__#_#__*", "<p><em><strong>#_#</strong></em></p>\n"),
     ("%\n:\u{301}\n\t:", "<p>%\n:\u{301}\n:</p>\n"),
     (
         "a|b|c\n--|--|--\na|  |c",
