@@ -101,8 +101,11 @@ pub fn count_undefined(alloc: Global, source: &str) -> Result<u64, Fault>
     }
 }
 
-/// Returns a line for each link and image, and then the number of undefined link labels.
-pub fn report(alloc: Global, source: &str) -> Result<String, Fault> {
+/// Returns a line for each link and image, and then the number of undefined link labels. The only error is
+/// `Fault::Memory`.
+pub fn report(alloc: Global, source: &str) -> Result<String, Fault>
+    ensures refused { IfErr result (λ fault. fault ≡ Fault.Memory) }
+{
     let mut lines = String::new(alloc);
     for link in &links(alloc, source)? {
         let line = format!(in alloc;

@@ -72,8 +72,10 @@ pub fn raw_html(alloc: Global, source: &str) -> Result<Vec<Position>, Fault>
     Ok(positions)
 }
 
-/// Returns a line for each piece of raw HTML.
-pub fn report(alloc: Global, source: &str) -> Result<String, Fault> {
+/// Returns a line for each piece of raw HTML. The only error is `Fault::Memory`.
+pub fn report(alloc: Global, source: &str) -> Result<String, Fault>
+    ensures refused { IfErr result (λ fault. fault ≡ Fault.Memory) }
+{
     let mut lines = String::new(alloc);
     for position in &raw_html(alloc, source)? {
         let line = format!(in alloc; "{}:{}: raw HTML\n", position.line, position.column)?;
