@@ -17,6 +17,7 @@ pub mod FaultText
 pub mod Bytes
 pub mod EnabledOptions
 pub mod MarkOptions
+pub mod ExtendedOptions
 -- facts about the representation
 pub mod InlineText
 pub mod ArenaBounds
