@@ -6,3 +6,4 @@ pub mod ArenaForestLemmas
 pub mod ForestLemmas
 pub mod WellFormedLemmas
 pub mod ArenaRulesLemmas
+pub mod ExtendedOptionsLemmas

@@ -18,6 +18,7 @@ pub mod Bytes
 pub mod EnabledOptions
 pub mod MarkOptions
 pub mod ExtendedOptions
+pub mod ExtendedOptionsLaws
 -- facts about the representation
 pub mod InlineText
 pub mod ArenaBounds

@@ -11,6 +11,7 @@ pub mod fault;
 pub mod index;
 pub mod inline_str;
 pub mod item;
+pub mod laws;
 pub mod node;
 pub mod options;
 mod stored_node;
