@@ -2,3 +2,4 @@ pub mod NamesLemmas
 pub mod RowsLemmas
 pub mod GroupsLemmas
 pub mod TableLemmas
+pub mod NamedEntityLemmas

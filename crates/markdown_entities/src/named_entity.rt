@@ -115,6 +115,7 @@ pub fn scan_named_entity(bytes: &[u8]) -> Option<(usize, &'static str)>
     ensures value { option_map (λ found. (found.0, found.1.now)) result
         ≡ option_map in_utf8 (named_entity bytes.now) }
     ensures within { IfSome result (λ found. found.0 ≤ length bytes.now) }
+    ensures few { IfSome result (λ found. length found.1.now ≤ 6) }
 {
     let name = written_name(bytes)?;
     let characters = characters_of(name)?;
