@@ -9,6 +9,7 @@ pub mod LineSpaceLemmas
 pub mod BeginsWithLemmas
 pub mod EmailLemmas
 pub mod EntityLemmas
+pub mod ReferenceLemmas
 pub mod UnescapeLemmas
 pub mod ScanLawsLemmas
 pub mod TogetherLemmas

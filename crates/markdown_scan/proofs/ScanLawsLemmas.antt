@@ -13,9 +13,10 @@ use Rattle.std.specs.List.{list_all, position_or_len, prefix_len}
 use Rattle.std.proofs.lemmas.List.Folds.{length-prefix_len}
 use Rattle.std.specs.Option.{option_map}
 use Rattle.markdown_scan.specs.Beginnings.{begins_with}
-use Rattle.markdown_scan.specs.Entity.{character_of, digits_of, entity, digits_value, numeric_reference}
-use Rattle.markdown_scan.proofs.BeginsWithLemmas.{begins_with-reads}
-use Rattle.std.proofs.lemmas.List.{get_or-drop}
+use Rattle.markdown_scan.specs.Entity.{entity}
+use Rattle.markdown_scan.specs.Together.{may_begin_reference}
+use Rattle.markdown_scan.specs.declared.entity.EntityNames.{EntityNames}
+use Rattle.markdown_scan.proofs.ReferenceLemmas.{IsEntity, IsEntity-entity}
 use Rattle.markdown_scan.specs.AsciiKinds.{is_control_or_space}
 use Rattle.markdown_base.specs.Bytes.{backslash}
 use Rattle.markdown_scan.specs.Backslash.{is_bare}
@@ -27,9 +28,9 @@ use Rattle.markdown_scan.specs.Label.{with_shown}
 use Rattle.markdown_scan.proofs.LabelTextLemmas.{neither}
 use Rattle.markdown_scan.proofs.LineStartLemmas.{no_space_from}
 use Rattle.markdown_scan.specs.ScanLaws.{holds_bare_bracket, is_in_bare, is_plain_byte, TabGoesToTheNextStop}
-use Rattle.markdown_scan.specs.ScanLaws.{StandsBetween}
+use Rattle.markdown_scan.specs.ScanLaws.{EntityBeginsAndEnds, StandsBetween}
 use Rattle.markdown_scan.specs.Unescape.{escape_or_entity, unescaped}
-use Rattle.markdown_scan.proofs.UnescapeLemmas.{step_byte, step_reference}
+use Rattle.markdown_scan.proofs.UnescapeLemmas.{no_reference, step_byte, step_reference}
 
 -- the elements before the first that fails a test pass it
 passing_first : (p : ℕ → Bool) (x : ℕ) (xs : List ℕ) (b : Bool) → p x ≡ b → list_all p (take (prefix_len p xs) xs)
@@ -57,40 +58,25 @@ pub if_found : (b : Bool) (at n : ℕ) (bytes : List ℕ) (p : ℕ → Bool) →
 if_found true at n bytes p all = all
 if_found false at n bytes p all = tt
 
--- no escape and no entity begins with another byte than a backslash or a `&`
-no_reference : (in_table : Bool) (b : ℕ) (bytes : List ℕ) → (b == 92) ≡ false
-    → (92 == b) ≡ false → (38 == b) ≡ false → escape_or_entity in_table (b ∷ bytes) ≡ None
-no_reference true b [] e f g = rw (f, g) refl
-no_reference true b (c ∷ bytes) e f g = rw (e, f, g) refl
-no_reference false b [] e f g = rw g refl
-no_reference false b (c ∷ bytes) e f g = rw (e, g) refl
-
 -- a plain text stands for itself
-pub plain_stands : (in_table : Bool) (text : List ℕ) → list_all is_plain_byte text ≡ true
-    → unescaped in_table text ≡ text
-plain_stands in_table [] h = refl
-plain_stands in_table (b ∷ text) h =
+pub plain_stands : (names : EntityNames) (in_table : Bool) (text : List ℕ) → list_all is_plain_byte text ≡ true
+    → unescaped names in_table text ≡ text
+plain_stands names in_table [] h = refl
+plain_stands names in_table (b ∷ text) h =
     let parts = and_parts (is_plain_byte b) (list_all is_plain_byte text) h in
-    let none = no_reference in_table b text (no_escape b parts.0) (no_escape_of b parts.0)
-    (no_entity_of b parts.0) in
-    step_byte in_table b text none ∙ ap (λ rest. b ∷ rest) (plain_stands in_table text parts.1)
+    step_byte names in_table b text (no_reference names in_table b text (begins_none b parts.0))
+    ∙ ap (λ rest. b ∷ rest) (plain_stands names in_table text parts.1)
   where
-    no_escape : (c : ℕ) → is_plain_byte c ≡ true → (c == 92) ≡ false
-    no_escape c e = grind (arith, nat_tests)
-
-    no_escape_of : (c : ℕ) → is_plain_byte c ≡ true → (92 == c) ≡ false
-    no_escape_of c e = grind (arith, nat_tests)
-
-    no_entity_of : (c : ℕ) → is_plain_byte c ≡ true → (38 == c) ≡ false
-    no_entity_of c e = grind (arith, nat_tests)
+    begins_none : (c : ℕ) → is_plain_byte c ≡ true → may_begin_reference c ≡ false
+    begins_none c e = grind (arith, nat_tests)
 
 -- a backslash and punctuation stand for the punctuation
-pub escape_stands : (mark : ℕ) (text : List ℕ) → is_ascii_punctuation mark ≡ true
-    → unescaped false (92 ∷ mark ∷ text) ≡ mark ∷ unescaped false text
-escape_stands mark text e =
-    let found : escape_or_entity false (92 ∷ mark ∷ text) ≡ Some (2, mark) = rw e refl in
-    step_reference false (92 ∷ mark ∷ text) 2 mark found
-    ∙ ap (λ bytes. bytes ++ unescaped false text) (encode_ascii mark (ascii mark e))
+pub escape_stands : (names : EntityNames) (mark : ℕ) (text : List ℕ) → is_ascii_punctuation mark ≡ true
+    → unescaped names false (92 ∷ mark ∷ text) ≡ mark ∷ unescaped names false text
+escape_stands names mark text e =
+    let found : escape_or_entity names false (92 ∷ mark ∷ text) ≡ Some (2, mark ∷ []) = rw e refl in
+    step_reference names false (92 ∷ mark ∷ text) 2 (mark ∷ []) found
+    ∙ ap (λ bytes. (bytes ++ []) ++ unescaped names false text) (encode_ascii mark (ascii mark e))
   where
     ascii : (c : ℕ) → is_ascii_punctuation c ≡ true → c < 128
     ascii c h = grind (arith, nat_tests)
@@ -109,56 +95,14 @@ pub before_first : (p : ℕ → Bool) (xs : List ℕ)
 before_first p [] = refl
 before_first p (x ∷ xs) = before_first_step p x xs (p x) refl (before_first p xs)
 
--- a text that begins and ends so
-between_text : (first last : ℕ) (text bytes : List ℕ) → begins_with text bytes ≡ true
-    → 1 ≤ length text → StandsBetween first last text (length text)
-    → StandsBetween first last bytes (length text)
-between_text first last text bytes e some is =
-    let inside : length text - 1 < length text = omega (arith, some) in (
-      begins_with-reads text bytes 0 e some ∙ is.0,
-      begins_with-reads text bytes (length text - 1) e inside ∙ is.1,
-    )
-
--- a numeric reference
-numbered_between : (start radix most : ℕ) (bytes : List ℕ) → get_or bytes 0 0 ≡ 38
-    → IfSome (numeric_reference start radix most bytes) (λ r. StandsBetween 38 59 bytes r.0)
-numbered_between start radix most bytes first =
-    let count = length (digits_of radix (drop start bytes)) in
-    let rest = drop (start + count) bytes in
-    cond_both ((nat_le 1 count && nat_le count most) && begins_with (codes ";") rest)
-    (Some (start + count + 1, character_of (digits_value radix (digits_of radix (drop start bytes)))))
-    None (λ r. IfSome r (λ r. StandsBetween 38 59 bytes r.0))
-    (λ e.
-    let close = (and_parts (nat_le 1 count && nat_le count most) (begins_with (codes ";") rest) e).1 in
-    let closing : get_or rest 0 0 ≡ 59 = begins_with-reads (codes ";") rest 0 close (lit< tt) in
-    let last : start + count + 1 - 1 ≡ start + count + 0 = omega arith in
-    let read : get_or bytes (start + count + 0) 0 ≡ 59 =
-    sym (get_or-drop (start + count) bytes 0 0) ∙ closing in
-    (first, rw last read))
-    (λ e. tt)
-
 -- an entity
-pub entity_between : (bytes : List ℕ)
-    → IfSome (entity bytes) (λ r. StandsBetween 38 59 bytes r.0)
-entity_between bytes =
-    let P = λ (o : Option (ℕ × ℕ)). IfSome o (λ r. StandsBetween 38 59 bytes r.0) in
-    cond_both _ _ _ P (λ e. between_text 38 59 (codes "&amp;") bytes e (lit≤ tt) (refl, refl))
-    (λ e. cond_both _ _ _ P (λ e. between_text 38 59 (codes "&lt;") bytes e (lit≤ tt) (refl, refl))
-    (λ e. cond_both _ _ _ P (λ e. between_text 38 59 (codes "&gt;") bytes e (lit≤ tt) (refl, refl))
-    (λ e. cond_both _ _ _ P (λ e. between_text 38 59 (codes "&quot;") bytes e (lit≤ tt) (refl, refl))
-    (λ e. cond_both (begins_with (codes "&#x") bytes || begins_with (codes "&#X") bytes)
-    (numeric_reference 3 16 6 bytes) (if begins_with (codes "&#") bytes then numeric_reference 2 10 7 bytes else None) P
-    (λ e. numbered_between 3 16 6 bytes (elim (or_cases _ _ e) [
-      | inl x ↦ begins_with-reads (codes "&#x") bytes 0 x (lit< tt)
-      | inr x ↦ begins_with-reads (codes "&#X") bytes 0 x (lit< tt)
-    ]))
-    (λ e. cond_both (begins_with (codes "&#") bytes) (numeric_reference 2 10 7 bytes) None P
-    (λ e. numbered_between 2 10 7 bytes (begins_with-reads (codes "&#") bytes 0 e (lit< tt)))
-    (λ e. tt))))))
+pub entity_between : (names : EntityNames) (bytes : List ℕ) → EntityBeginsAndEnds names bytes
+entity_between names bytes = by (entity names bytes) (IsEntity-entity names bytes)
   where
-    or_cases : (x y : Bool) → (x || y) ≡ true → (x ≡ true) ⊎ (y ≡ true)
-    or_cases true y e = inl refl
-    or_cases false y e = inr e
+    by : (found : Option (ℕ × List ℕ)) → IfSome found (λ r. IsEntity bytes r.0)
+        → IfSome found (λ r. StandsBetween 38 59 bytes r.0)
+    by None is = tt
+    by (Some r) is = (is.opens, is.closes)
 
 -- one byte more of a destination
 bare_more : (b : ℕ) (bytes : List ℕ) (found : Option ℕ) → is_control_or_space b ≡ false

@@ -1,10 +1,21 @@
--- Entities and numeric character references (CommonMark 2.5): `&amp;`, `&lt;`, `&gt;` and `&quot;` by name, and any
--- character by its number.
-use Rattle.std.specs.Prelude.{ℕ, ◌+◌, ◌*◌, Bool, ◌&&◌, ◌||◌, ◌==◌, nat_le, List, Option, Some, None, if◌then◌else◌}
-use Rattle.std.specs.Prelude.{length, drop, take_while, fold, codes}
+-- Entities and numeric character references (CommonMark 2.5): characters by name, and any character by its number.
+use Rattle.std.specs.Prelude.{ℕ, ◌+◌, ◌*◌, Bool, ◌&&◌, ◌||◌, ◌==◌, nat_le, List, [], ◌∷◌, Option, Some, None}
+use Rattle.std.specs.Prelude.{length, drop, take_while, fold, codes, encode_utf8, option_map, if◌then◌else◌}
 use Rattle.std.specs.Char.{digit_value, is_digit}
+use Rattle.std.specs.Option.{option_or}
 use Rattle.markdown_base.specs.Bytes.{ampersand, double_quote, greater_than, less_than}
+use Rattle.markdown_base.specs.ExtendedOptions.{is_extended}
+use Rattle.markdown_base.specs.declared.options.Options.{Options}
+use Rattle.markdown_entities.specs.NamedEntity.{named_entity}
 use Rattle.markdown_scan.specs.Beginnings.{begins_with}
+use Rattle.markdown_scan.specs.declared.entity.Characters.{Characters}
+use Rattle.markdown_scan.specs.declared.entity.Characters.TheVariants.{One, Named}
+use Rattle.markdown_scan.specs.declared.entity.EntityNames.{EntityNames}
+use Rattle.markdown_scan.specs.declared.entity.EntityNames.TheVariants.{Basic, Html}
+
+-- the names that count with these options: in the extended entry those of HTML
+abbrev pub entity_names : Options → EntityNames
+entity_names options = if is_extended options then Html else Basic
 
 -- no Unicode scalar value: a surrogate, or a number above U+10FFFF
 abbrev pub is_no_scalar : ℕ → Bool
@@ -32,14 +43,37 @@ numeric_reference start radix most bytes =
     then Some (start + length digits + 1, character_of (digits_value radix digits))
     else None
 
--- the length in bytes of the entity or reference that the bytes begin with, and its character
-abbrev pub entity : List ℕ → Option (ℕ × ℕ)
-entity bytes =
+-- the numeric reference that the bytes begin with
+abbrev pub numbered_entity : List ℕ → Option (ℕ × ℕ)
+numbered_entity bytes =
+    if begins_with (codes "&#x") bytes || begins_with (codes "&#X") bytes
+    then numeric_reference 3 16 6 bytes
+    else if begins_with (codes "&#") bytes then numeric_reference 2 10 7 bytes
+    else None
+
+-- the entity with one of the four basic names that the bytes begin with
+abbrev pub basic_entity : List ℕ → Option (ℕ × ℕ)
+basic_entity bytes =
     if begins_with (codes "&amp;") bytes then Some (5, ampersand)
     else if begins_with (codes "&lt;") bytes then Some (4, less_than)
     else if begins_with (codes "&gt;") bytes then Some (4, greater_than)
     else if begins_with (codes "&quot;") bytes then Some (6, double_quote)
-    else if begins_with (codes "&#x") bytes || begins_with (codes "&#X") bytes
-    then numeric_reference 3 16 6 bytes
-    else if begins_with (codes "&#") bytes then numeric_reference 2 10 7 bytes
     else None
+
+-- a length, and one character
+abbrev pub with_one : ℕ × ℕ → ℕ × List ℕ
+with_one found = (found.0, found.1 ∷ [])
+
+-- the entity with one of these names that the bytes begin with
+abbrev pub entity_by_name : EntityNames → List ℕ → Option (ℕ × List ℕ)
+entity_by_name Basic bytes = option_map with_one (basic_entity bytes)
+entity_by_name Html bytes = named_entity bytes
+
+-- the length in bytes of the entity or reference that the bytes begin with, and its one or two characters
+abbrev pub entity : EntityNames → List ℕ → Option (ℕ × List ℕ)
+entity names bytes = option_or (entity_by_name names bytes) (option_map with_one (numbered_entity bytes))
+
+-- characters in UTF-8
+abbrev pub text_in_utf8 : Characters → List ℕ
+text_in_utf8 (One character) = encode_utf8 character
+text_in_utf8 (Named characters) = characters.now

@@ -23,3 +23,4 @@ pub mod Together
 -- the definitions of a lower crate that clauses here cite
 pub use Rattle.markdown_base.specs.CowText
 pub use Rattle.markdown_base.specs.StoredTexts
+pub use Rattle.markdown_entities.specs.NamedEntity

@@ -12,6 +12,7 @@ use Rattle.markdown_scan.specs.Entity.{entity}
 use Rattle.markdown_scan.specs.Label.{LabelByte, dropped, is_bracket, kept, label_body, label_bytes, refused}
 use Rattle.markdown_scan.specs.LineStart.{LineLeft, leading_space, wider}
 use Rattle.markdown_scan.specs.Unescape.{unescaped}
+use Rattle.markdown_scan.specs.declared.entity.EntityNames.{EntityNames}
 use Rattle.markdown_scan.specs.WikilinkPipe.{wikilink_pipe}
 
 -- an autolink's text contains no space, no control character and no angle bracket
@@ -23,15 +24,15 @@ abbrev pub is_plain_byte : ℕ → Bool
 is_plain_byte b = not (b == backslash) && not (b == ampersand)
 
 -- `unescaped` leaves a text without backslashes and `&` unchanged
-abbrev pub UnescapingLeavesPlainText : Bool → List ℕ → Type 0
-UnescapingLeavesPlainText in_table text =
-    IsTrue (list_all is_plain_byte text) → unescaped in_table text ≡ text
+abbrev pub UnescapingLeavesPlainText : EntityNames → Bool → List ℕ → Type 0
+UnescapingLeavesPlainText names in_table text =
+    IsTrue (list_all is_plain_byte text) → unescaped names in_table text ≡ text
 
 -- a backslash and punctuation are replaced by the punctuation
-abbrev pub EscapedPunctuationStandsForItself : ℕ → List ℕ → Type 0
-EscapedPunctuationStandsForItself mark text =
+abbrev pub EscapedPunctuationStandsForItself : EntityNames → ℕ → List ℕ → Type 0
+EscapedPunctuationStandsForItself names mark text =
     IsTrue (is_ascii_punctuation mark)
-    → unescaped false (backslash ∷ mark ∷ text) ≡ mark ∷ unescaped false text
+    → unescaped names false (backslash ∷ mark ∷ text) ≡ mark ∷ unescaped names false text
 
 -- not a pipe
 abbrev pub is_no_pipe : ℕ → Bool
@@ -48,8 +49,8 @@ StandsBetween first last bytes n =
     (slice_index bytes 0 ≡ first) × (slice_index bytes (n - 1) ≡ last)
 
 -- an entity begins with `&` and ends with `;`
-abbrev pub EntityBeginsAndEnds : List ℕ → Type 0
-EntityBeginsAndEnds bytes = IfSome (entity bytes) (λ r. StandsBetween ampersand semicolon bytes r.0)
+abbrev pub EntityBeginsAndEnds : EntityNames → List ℕ → Type 0
+EntityBeginsAndEnds names bytes = IfSome (entity names bytes) (λ r. StandsBetween ampersand semicolon bytes r.0)
 
 -- neither a space nor a control character
 abbrev pub is_in_bare : ℕ → Bool

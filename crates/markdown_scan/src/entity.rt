@@ -1,7 +1,72 @@
 //! Entities and numeric character references (CommonMark 2.5).
-ghost use Rattle.std.specs.Prelude.{◌≡◌, ◌≤◌, IfSome, length, take_while};
+ghost use Rattle.std.specs.Prelude.{◌≡◌, ◌≤◌, IfSome, length, option_map, take_while};
 ghost use Rattle.std.specs.Char.{digit_value, is_digit};
-ghost use Rattle.markdown_scan.specs.Entity.{character_of, entity, digits_value, numeric_reference};
+ghost use Rattle.markdown_entities.specs.NamedEntity.{in_utf8};
+ghost use Rattle.markdown_scan.specs.Entity.{basic_entity, character_of, digits_value, entity, entity_by_name};
+ghost use Rattle.markdown_scan.specs.Entity.{entity_names, numbered_entity, numeric_reference, text_in_utf8};
+
+use markdown_base::cow_str::CowStr;
+use markdown_base::inline_str::InlineStr;
+use markdown_base::options::Options;
+use markdown_entities::named_entity::scan_named_entity;
+use std::alloc::AllocError;
+
+/// The names by which characters can be written.
+#[derive(Clone, Copy)]
+pub enum EntityNames {
+    /// `amp`, `lt`, `gt` and `quot`.
+    Basic,
+    /// The 2,125 names of HTML that end in `;`.
+    Html,
+}
+
+/// Returns the names that count with these options: in the extended entry those of HTML.
+pub fn entity_names(options: Options) -> EntityNames
+    ensures { result ≡ entity_names options }
+{
+    if options.is_extended() {
+        EntityNames::Html
+    } else {
+        EntityNames::Basic
+    }
+}
+
+/// The characters that an entity or a numeric reference stands for.
+#[derive(Clone, Copy)]
+pub enum Characters {
+    One(char),
+    /// Those of a named entity, one or two.
+    Named(&'static str),
+}
+
+impl Characters {
+    ghost use Rattle.std.specs.Prelude.{◌≡◌, ◌≤◌, ◌++◌, IfOk, length, string_bytes};
+    ghost use Rattle.markdown_base.specs.CowText.{text_of, IsInlined};
+    ghost use Rattle.markdown_scan.specs.Entity.{text_in_utf8};
+
+    /// Returns a copy of the characters that is stored inline.
+    pub fn inlined<'a>(self) -> CowStr<'a>
+        requires { length (text_in_utf8 self) ≤ 22 }
+        ensures text { text_of result ≡ text_in_utf8 self }
+        ensures inlined { IsInlined result }
+    {
+        match self {
+            Characters::One(character) => CowStr::from(character),
+            Characters::Named(text) => CowStr::Inlined(InlineStr::new(text).unwrap()),
+        }
+    }
+
+    /// Appends the characters to a text. The error is a refused allocation.
+    pub(crate) fn append_to(self, text: &mut String) -> Result<(), AllocError>
+        ensures { IfOk result (λ _. string_bytes text.new
+            ≡ string_bytes text.old ++ text_in_utf8 self) }
+    {
+        match self {
+            Characters::One(character) => text.push(character),
+            Characters::Named(characters) => text.push_str(characters),
+        }
+    }
+}
 
 /// Returns the value of an ASCII digit or letter, and 36 for any other byte.
 fn digit_value(byte: u8) -> u32
@@ -77,10 +142,10 @@ fn scan_numeric_reference(
     ))
 }
 
-/// Reads the entity or numeric character reference that the bytes begin with, from its `&` on, and returns its length
-/// in bytes and its character. The only named entities are `&amp;`, `&lt;`, `&gt;` and `&quot;`.
-pub fn scan_entity(bytes: &[u8]) -> Option<(usize, char)>
-    ensures value { result ≡ entity bytes.now }
+/// Reads the entity with one of the four basic names that the bytes begin with. Returns its length in bytes and its
+/// character.
+fn scan_basic_entity(bytes: &[u8]) -> Option<(usize, char)>
+    ensures value { result ≡ basic_entity bytes.now }
     ensures within { IfSome result (λ found. found.0 ≤ length bytes.now) }
 {
     if bytes.starts_with(b"&amp;") {
@@ -91,11 +156,57 @@ pub fn scan_entity(bytes: &[u8]) -> Option<(usize, char)>
         Some((4, '>'))
     } else if bytes.starts_with(b"&quot;") {
         Some((6, '"'))
-    } else if bytes.starts_with(b"&#x") || bytes.starts_with(b"&#X") {
+    } else {
+        None
+    }
+}
+
+/// Reads the numeric reference that the bytes begin with. Returns its length in bytes and its character.
+fn scan_numbered_entity(bytes: &[u8]) -> Option<(usize, char)>
+    ensures value { result ≡ numbered_entity bytes.now }
+    ensures within { IfSome result (λ found. found.0 ≤ length bytes.now) }
+{
+    if bytes.starts_with(b"&#x") || bytes.starts_with(b"&#X") {
         scan_numeric_reference(bytes, 3, 16, 6)
     } else if bytes.starts_with(b"&#") {
         scan_numeric_reference(bytes, 2, 10, 7)
     } else {
         None
+    }
+}
+
+/// Reads the entity with one of these names that the bytes begin with. Returns its length in bytes and its characters.
+fn scan_entity_by_name(bytes: &[u8], names: EntityNames) -> Option<(usize, Characters)>
+    ensures value { option_map (λ found. (found.0, text_in_utf8 found.1)) result
+        ≡ option_map in_utf8 (entity_by_name names bytes.now) }
+    ensures within { IfSome result (λ found. found.0 ≤ length bytes.now) }
+    ensures few { IfSome result (λ found. length (text_in_utf8 found.1) ≤ 6) }
+{
+    match names {
+        EntityNames::Basic => {
+            let (length, character) = scan_basic_entity(bytes)?;
+            Some((length, Characters::One(character)))
+        }
+        EntityNames::Html => {
+            let (length, characters) = scan_named_entity(bytes)?;
+            Some((length, Characters::Named(characters)))
+        }
+    }
+}
+
+/// Reads the entity with one of these names, or the numeric character reference, that the bytes begin with, from its
+/// `&` on. Returns its length in bytes and its characters.
+pub fn scan_entity(bytes: &[u8], names: EntityNames) -> Option<(usize, Characters)>
+    ensures value { option_map (λ found. (found.0, text_in_utf8 found.1)) result
+        ≡ option_map in_utf8 (entity names bytes.now) }
+    ensures within { IfSome result (λ found. found.0 ≤ length bytes.now) }
+    ensures few { IfSome result (λ found. length (text_in_utf8 found.1) ≤ 6) }
+{
+    match scan_entity_by_name(bytes, names) {
+        Some((length, characters)) => Some((length, characters)),
+        None => {
+            let (length, character) = scan_numbered_entity(bytes)?;
+            Some((length, Characters::One(character)))
+        }
     }
 }

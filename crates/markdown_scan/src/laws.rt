@@ -5,19 +5,21 @@ ghost use Rattle.markdown_scan.specs.ScanLaws.{LabelHoldsNoBareBracket};
 ghost use Rattle.markdown_scan.specs.ScanLaws.{LineSpaceIsCountedByColumns, TabGoesToTheNextStop};
 ghost use Rattle.markdown_scan.specs.ScanLaws.{UnescapingLeavesPlainText, WikilinkNameHoldsNoPipe};
 
+use crate::entity::EntityNames;
+
 /// States that an autolink's text contains no space, no control character and no angle bracket.
 pub fn autolink_is_plain(text: &[u8], at: usize)
     ensures { AutolinkIsPlain text.now at }
 {}
 
 /// States that `unescape` leaves a text without backslashes and `&` unchanged.
-pub fn unescaping_leaves_plain_text(in_table: bool, text: &[u8])
-    ensures { UnescapingLeavesPlainText in_table text.now }
+pub fn unescaping_leaves_plain_text(names: EntityNames, in_table: bool, text: &[u8])
+    ensures { UnescapingLeavesPlainText names in_table text.now }
 {}
 
 /// States that outside of tables a backslash before ASCII punctuation is replaced by that punctuation.
-pub fn escaped_punctuation_stands_for_itself(mark: u8, text: &[u8])
-    ensures { EscapedPunctuationStandsForItself mark text.now }
+pub fn escaped_punctuation_stands_for_itself(names: EntityNames, mark: u8, text: &[u8])
+    ensures { EscapedPunctuationStandsForItself names mark text.now }
 {}
 
 /// States that the name before a wikilink's pipe contains no pipe.
@@ -26,8 +28,8 @@ pub fn wikilink_name_holds_no_pipe(text: &[u8], start: usize, size: usize)
 {}
 
 /// States that the first byte of an entity is `&` and the last is `;`.
-pub fn entity_begins_and_ends(bytes: &[u8])
-    ensures { EntityBeginsAndEnds bytes.now }
+pub fn entity_begins_and_ends(names: EntityNames, bytes: &[u8])
+    ensures { EntityBeginsAndEnds names bytes.now }
 {}
 
 /// States that a link destination without angle brackets contains no space and no control character.

@@ -1,14 +1,16 @@
 //! Backslash escapes (CommonMark 2.4) and entities (2.5) in a text, replaced by their characters.
-ghost use Rattle.std.specs.Prelude.{◌≡◌, ◌≢◌, ◌<◌, ◌≤◌, ◌++◌, IfNone, IfOk, IfSome, IsOk, encode_utf8, length};
+ghost use Rattle.std.specs.Prelude.{◌≡◌, ◌≢◌, ◌<◌, ◌≤◌, ◌++◌, IfNone, IfOk, IfSome, IsOk, length, option_map};
 ghost use Rattle.std.specs.Prelude.{slice_index, string_bytes};
 ghost use Rattle.std.specs.List.{list_any};
 ghost use Rattle.markdown_base.specs.Bytes.{backslash};
 ghost use Rattle.markdown_base.specs.CowText.{text_of};
 ghost use Rattle.markdown_base.specs.StoredTexts.{IsBorrowed};
-ghost use Rattle.markdown_scan.specs.Unescape.{escape_or_entity, unescaped};
+ghost use Rattle.markdown_entities.specs.NamedEntity.{in_utf8};
+ghost use Rattle.markdown_scan.specs.Entity.{text_in_utf8};
+ghost use Rattle.markdown_scan.specs.Unescape.{escape, escape_or_entity, unescaped};
 ghost use Rattle.markdown_scan.specs.Together.{may_begin_reference, IsPast};
 
-use crate::entity::scan_entity;
+use crate::entity::{Characters, EntityNames, scan_entity};
 use markdown_base::byte_tests::holds;
 use markdown_base::cow_str::CowStr;
 use std::alloc::{AllocError, Global};
@@ -16,7 +18,7 @@ use std::alloc::{AllocError, Global};
 /// Reads the escape that the bytes begin with, and returns its length in bytes and its character.
 fn scan_escape(bytes: &[u8], in_table: bool) -> Option<(usize, char)>
     requires { slice_index bytes.now 0 ≡ backslash }
-    ensures value { result ≡ escape_or_entity in_table bytes.now }
+    ensures value { result ≡ escape in_table bytes.now }
     ensures within { IfSome result (λ found. found.0 ≤ length bytes.now) }
 {
     if in_table && bytes.starts_with(b"\\\\|") {
@@ -28,17 +30,25 @@ fn scan_escape(bytes: &[u8], in_table: bool) -> Option<(usize, char)>
     }
 }
 
-/// Reads the escape or entity that the bytes begin with, and returns its length in bytes and its character. The first
+/// Reads the escape or entity that the bytes begin with, and returns its length in bytes and its characters. The first
 /// byte tells that most bytes begin none.
 #[inline]
-fn scan_reference(bytes: &[u8], in_table: bool) -> Option<(usize, char)>
-    ensures value { result ≡ escape_or_entity in_table bytes.now }
+fn scan_reference(
+    bytes: &[u8],
+    in_table: bool,
+    names: EntityNames,
+) -> Option<(usize, Characters)>
+    ensures value { option_map (λ found. (found.0, text_in_utf8 found.1)) result
+        ≡ option_map in_utf8 (escape_or_entity names in_table bytes.now) }
     ensures within { IfSome result (λ found. found.0 ≤ length bytes.now) }
 {
-    match bytes {
-        [b'\\', ..] => scan_escape(bytes, in_table),
-        [b'&', ..] => scan_entity(bytes),
-        _ => None,
+    if bytes.starts_with(b"\\") {
+        let (length, character) = scan_escape(bytes, in_table)?;
+        Some((length, Characters::One(character)))
+    } else if bytes.starts_with(b"&") {
+        scan_entity(bytes, names)
+    } else {
+        None
     }
 }
 
@@ -73,34 +83,43 @@ fn past_plain(bytes: &[u8]) -> usize
     start
 }
 
-/// Returns the text before the first escape or entity, the character of that, and the text after it; `None` if there is
-/// none.
+/// Returns the text before the first escape or entity, the characters of that, and the text after it; `None` if there
+/// is none.
 #[inline(always)]
-fn split_at_reference<'t>(text: &'t str, in_table: bool) -> Option<(&'t str, char, &'t str)>
-    ensures none { IfNone result (unescaped in_table text.now ≡ text.now) }
-    ensures some { IfSome result (λ parts. unescaped in_table text.now
-        ≡ parts.0.now ++ (encode_utf8 parts.1 ++ unescaped in_table parts.2.now)) }
-    ensures changes { IfSome result (λ parts. unescaped in_table text.now ≢ text.now) }
+fn split_at_reference<'t>(
+    text: &'t str,
+    in_table: bool,
+    names: EntityNames,
+) -> Option<(&'t str, Characters, &'t str)>
+    ensures none { IfNone result (unescaped names in_table text.now ≡ text.now) }
+    ensures some { IfSome result (λ parts. unescaped names in_table text.now
+        ≡ parts.0.now ++ (text_in_utf8 parts.1 ++ unescaped names in_table parts.2.now)) }
+    ensures changes { IfSome result (λ parts. unescaped names in_table text.now ≢ text.now) }
     ensures shorter { IfSome result (λ parts. length parts.2.now < length text.now) }
 {
     let bytes = text.as_bytes();
     for at in past_plain(bytes)..bytes.len() {
-        if let Some((length, character)) = scan_reference(&bytes[at..], in_table) {
-            return Some((&text[..at], character, &text[at + length..]));
+        if let Some((length, characters)) = scan_reference(&bytes[at..], in_table, names) {
+            return Some((&text[..at], characters, &text[at + length..]));
         }
     }
     None
 }
 
 /// Returns a copy of the text with its escapes and entities replaced.
-fn unescaped_copy(alloc: Global, text: &str, in_table: bool) -> Result<String, AllocError>
-    ensures { IfOk result (λ made. string_bytes made ≡ unescaped in_table text.now) }
+fn unescaped_copy(
+    alloc: Global,
+    text: &str,
+    in_table: bool,
+    names: EntityNames,
+) -> Result<String, AllocError>
+    ensures { IfOk result (λ made. string_bytes made ≡ unescaped names in_table text.now) }
 {
     let mut made = String::new(alloc);
     let mut rest = text;
-    while let Some((before, character, after)) = split_at_reference(rest, in_table) {
+    while let Some((before, characters, after)) = split_at_reference(rest, in_table, names) {
         made.push_str(before)?;
-        made.push(character)?;
+        characters.append_to(&mut made)?;
         rest = after;
     }
     made.push_str(rest)?;
@@ -112,14 +131,19 @@ fn unescaped_copy(alloc: Global, text: &str, in_table: bool) -> Result<String, A
 /// without an allocation. The error is a refused allocation.
 // inlined: most texts are returned as they are, after one look
 #[inline(always)]
-pub fn unescape<'t>(alloc: Global, text: &'t str, in_table: bool) -> Result<CowStr<'t>, AllocError>
-    ensures value { IfOk result (λ made. text_of made ≡ unescaped in_table text.now) }
+pub fn unescape<'t>(
+    alloc: Global,
+    text: &'t str,
+    in_table: bool,
+    names: EntityNames,
+) -> Result<CowStr<'t>, AllocError>
+    ensures value { IfOk result (λ made. text_of made ≡ unescaped names in_table text.now) }
     ensures borrowed { IfOk result (λ made. text_of made ≡ text.now → IsBorrowed made) }
     ensures copied { IfOk result (λ made. IsBorrowed made → text_of made ≡ text.now) }
-    ensures unchanged { unescaped in_table text.now ≡ text.now → IsOk result }
+    ensures unchanged { unescaped names in_table text.now ≡ text.now → IsOk result }
 {
-    match split_at_reference(text, in_table) {
+    match split_at_reference(text, in_table, names) {
         None => Ok(CowStr::Borrowed(text)),
-        Some(_) => Ok(CowStr::from(unescaped_copy(alloc, text, in_table)?)),
+        Some(_) => Ok(CowStr::from(unescaped_copy(alloc, text, in_table, names)?)),
     }
 }

@@ -1,5 +1,5 @@
-//! Entities: the examples of CommonMark 2.5 that one reference decides, and the boundaries.
-use markdown_scan::entity::scan_entity;
+//! Entities: the examples of CommonMark 2.5 that one reference decides, and the boundaries; with either set of names.
+use markdown_scan::entity::{Characters, EntityNames, scan_entity};
 use markdown_test_helpers::rows::gives;
 use std::test::Fail;
 
@@ -72,10 +72,76 @@ static TEXTS: [(&str, Option<(usize, char)>); 60] = [
     ("&;", None),
 ];
 
+/// Texts, and the length of the entity with a name of HTML that each begins with, and its characters.
+static NAMES: [(&str, Option<(usize, &str)>); 22] = [
+    ("&amp;", Some((5, "&"))),
+    ("&AMP;", Some((5, "&"))),
+    ("&lt;b", Some((4, "<"))),
+    ("&quot; ", Some((6, "\""))),
+    ("&apos;", Some((6, "'"))),
+    ("&nbsp;", Some((6, "\u{a0}"))),
+    ("&copy;", Some((6, "©"))),
+    ("&auml;", Some((6, "ä"))),
+    ("&CounterClockwiseContourIntegral;", Some((33, "∳"))),
+    // two characters
+    ("&ngE;", Some((5, "≧\u{338}"))),
+    ("&NotEqualTilde;", Some((15, "≂\u{338}"))),
+    ("&fjlig;", Some((7, "fj"))),
+    // no such name, or no semicolon
+    ("&copy", None),
+    ("&bad;", None),
+    ("&Copy;", None),
+    ("& ", None),
+    ("&;", None),
+    ("&nbsp ;", None),
+    ("\\&copy;", None),
+    // a number
+    ("&#;", None),
+    ("&#x;", None),
+    ("&#87654321;", None),
+];
+
+/// Returns the character where what was read has one by its number or as one of the four names.
+fn one(found: Option<(usize, Characters)>) -> Option<(usize, char)> {
+    match found {
+        Some((length, Characters::One(character))) => Some((length, character)),
+        _ => None,
+    }
+}
+
+/// Returns the characters where what was read is a name of HTML.
+fn named(found: Option<(usize, Characters)>) -> Option<(usize, &'static str)> {
+    match found {
+        Some((length, Characters::Named(characters))) => Some((length, characters)),
+        _ => None,
+    }
+}
+
 #[test]
 fn references() -> Result<(), Fail> {
     for &(text, wanted) in &TEXTS {
-        gives(text, scan_entity(text.as_bytes()), wanted)?;
+        let found = scan_entity(text.as_bytes(), EntityNames::Basic);
+        gives(text, one(found), wanted)?;
+    }
+    Ok(())
+}
+
+#[test]
+fn names_of_html() -> Result<(), Fail> {
+    for &(text, wanted) in &NAMES {
+        let found = scan_entity(text.as_bytes(), EntityNames::Html);
+        gives(text, named(found), wanted)?;
+    }
+    Ok(())
+}
+
+#[test]
+fn numbers_beside_names_of_html() -> Result<(), Fail> {
+    for &(text, wanted) in &TEXTS {
+        if text.starts_with("&#") {
+            let found = scan_entity(text.as_bytes(), EntityNames::Html);
+            gives(text, one(found), wanted)?;
+        }
     }
     Ok(())
 }

@@ -1,5 +1,6 @@
 //! Escapes and entities: the examples of CommonMark 2.4 and 2.5 that a text alone decides.
 use markdown_base::cow_str::CowStr;
+use markdown_scan::entity::EntityNames;
 use markdown_scan::unescape::unescape;
 use markdown_test_helpers::rows::gives;
 use std::alloc::{AllocError, Global};
@@ -16,21 +17,25 @@ fn stands_for(
     alloc: Global,
     text: &str,
     in_table: bool,
+    names: EntityNames,
     expected: &str,
 ) -> Result<bool, AllocError> {
-    let made = unescape(alloc, text, in_table)?;
+    let made = unescape(alloc, text, in_table, names)?;
     let is_same = is_read(&made, text == expected, expected);
     drop(made);
     Ok(is_same)
 }
 
-// Checks that the text is unescaped to this one.
+// Checks that the text is unescaped to this one, with either set of names.
 fn reads(alloc: Global, text: &str, in_table: bool, expected: &str) -> Result<(), Fail> {
-    gives(
-        (text, in_table),
-        stands_for(alloc, text, in_table, expected)?,
-        true,
-    )
+    for names in [EntityNames::Basic, EntityNames::Html] {
+        gives(
+            (text, in_table),
+            stands_for(alloc, text, in_table, names, expected)?,
+            true,
+        )?;
+    }
+    Ok(())
 }
 
 #[test]
@@ -91,6 +96,43 @@ fn texts_that_stay(rt: HostRuntime) -> Result<(), Fail> {
     ] {
         reads(rt.alloc(), text, false, text)?;
         reads(rt.alloc(), text, true, text)?;
+    }
+    Ok(())
+}
+
+// Texts, and what each becomes with the names of HTML.
+static NAMED: [(&str, &str); 10] = [
+    ("/&auml;&ngE;", "/ä≧\u{338}"),
+    ("&hellip;", "…"),
+    ("&quot;&rarr;", "\"→"),
+    ("f&ouml;&ouml;", "föö"),
+    (
+        "&copy &bad; &Copy; & &; &nbsp ;",
+        "&copy &bad; &Copy; & &; &nbsp ;",
+    ),
+    ("\\&copy; &amp;copy; &#169; &#xA9;", "&copy; &copy; © ©"),
+    // what replaces a name can be longer than the name
+    ("&nGt;", "≫\u{20d2}"),
+    ("&amp;&nLt;", "&≪\u{20d2}"),
+    ("a&fjlig;b", "afjb"),
+    ("&AMP;lt;", "&lt;"),
+];
+
+#[test]
+fn names_of_html(rt: HostRuntime) -> Result<(), Fail> {
+    for &(text, expected) in &NAMED {
+        let read = stands_for(rt.alloc(), text, false, EntityNames::Html, expected)?;
+        gives(text, read, true)?;
+    }
+    Ok(())
+}
+
+// Texts that have no name but HTML's stay without these.
+#[test]
+fn other_names_stay(rt: HostRuntime) -> Result<(), Fail> {
+    for &text in &["&copy;", "/&auml;&ngE;", "&AMP;", "&apos;", "&nGt;"] {
+        let read = stands_for(rt.alloc(), text, false, EntityNames::Basic, text)?;
+        gives(text, read, true)?;
     }
     Ok(())
 }

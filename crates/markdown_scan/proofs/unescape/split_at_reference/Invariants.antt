@@ -5,4 +5,4 @@ use Rattle.markdown_scan.proofs.unescape.split_at_reference.Given as goal
 
 abbrev pub invariant-loop-at : goal.invariant-loop-at
 invariant-loop-at l =
-    unescaped l.in_table l.text ≡ take l.at l.text ++ unescaped l.in_table (drop l.at l.text)
+    unescaped l.names l.in_table l.text ≡ take l.at l.text ++ unescaped l.names l.in_table (drop l.at l.text)

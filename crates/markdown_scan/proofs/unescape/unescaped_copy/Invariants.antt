@@ -9,7 +9,7 @@ use Rattle.markdown_scan.proofs.unescape.unescaped_copy.Given as goal
 abbrev pub invariant-loop-before : goal.invariant-loop-before
 invariant-loop-before l = record {
   text : shadow (Utf8 l.rest);
-  same : unescaped l.in_table l.text ≡ string_bytes l.made ++ unescaped l.in_table l.rest;
+  same : unescaped l.names l.in_table l.text ≡ string_bytes l.made ++ unescaped l.names l.in_table l.rest;
 }
 
 abbrev pub decreases-loop-before : goal.decreases-loop-before
