@@ -46,7 +46,8 @@ found_few : (row : EntityRow) (others : Option EntityRow) (t : Bool) (characters
     → (Some characters ≡ characters_of others → length characters ≤ 6)
     → Some characters ≡ characters_of (cond t (Some row) others) → length characters ≤ 6
 found_few row others true characters small later e =
-    let few = leb-true (length (encode_utf8_all row.1)) 6 (and_parts (nat_le (length (encode_utf8_all row.1)) 6) _ small).0 in
+    let count = length (encode_utf8_all row.1) in
+    let few = leb-true count 6 (and_parts (nat_le count 6) _ small).0 in
     rw (same_Some characters (encode_utf8_all row.1) e) few
 found_few row others false characters small later e = later e
 

@@ -1,10 +1,11 @@
--- What escapes and entities are like: where they begin and end, and that fewer ASCII bytes are put for them than they have.
+-- What escapes and entities are like: where they begin and end, and that they have more ASCII bytes than what is put
+-- for them.
 use Rattle.std.proofs.Common.{◌≡◌, ℕ, suc, zero, ◌+◌, ◌-◌, ◌<◌, ◌≤◌, Bool, true, ◌&&◌, ◌||◌, ◌==◌, false, List, [], ◌∷◌}
-use Rattle.std.proofs.Common.{◌++◌, Option, Some, None, ◌⊎◌, inl, inr, ⊎_elim, nat_eq}
+use Rattle.std.proofs.Common.{◌++◌, Option, Some, None, ◌⊎◌, inl, inr, ⊎_elim}
 use Rattle.std.proofs.Common.{IfSome, length, get_or, take, drop, nat_le, nat_lt, codes, encode_utf8, encode_utf8_all}
-use Rattle.std.proofs.Common.{if◌then◌else◌, option_map, append-nil, refl, sym, ap, ◌∙◌, subst, lit<, lit≤, arith}
+use Rattle.std.proofs.Common.{if◌then◌else◌, option_map, append-nil, refl, sym, ap, ◌∙◌, lit<, lit≤, arith}
 use Rattle.std.proofs.Math.Seq.{take-append_seam}
-use Rattle.std.proofs.lemmas.Bool.{cond_both, and_parts, cases_lt, leb-true, ltb-true}
+use Rattle.std.proofs.lemmas.Bool.{cond_both, and_parts, cases_lt, ltb-true}
 use Rattle.std.proofs.lemmas.Bool.Decides.{nat_tests}
 use Rattle.std.proofs.lemmas.List.{get_or-drop, get_or_push, length-drop, length-append}
 use Rattle.std.proofs.lemmas.Str.{encode_ascii, inside_one}
@@ -13,7 +14,8 @@ use Rattle.std.specs.Option.{option_or}
 use Rattle.markdown_base.specs.Bytes.{backslash, pipe}
 use Rattle.markdown_entities.specs.EntityRow.{EntityRow}
 use Rattle.markdown_entities.specs.NamedEntity.{as_written, entity_rows, first_written, in_utf8}
-use Rattle.markdown_entities.proofs.NamedEntityLemmas.{count_ascii, IsSmallRow, none_written, nothing_written, small_written}
+use Rattle.markdown_entities.proofs.NamedEntityLemmas.{count_ascii, IsSmallRow, none_written, nothing_written}
+use Rattle.markdown_entities.proofs.NamedEntityLemmas.{small_written}
 use Rattle.markdown_scan.specs.Beginnings.{begins_with}
 use Rattle.markdown_scan.specs.Entity.{basic_entity, character_of, digits_of, digits_value, entity, entity_by_name}
 use Rattle.markdown_scan.specs.Entity.{numbered_entity, numeric_reference, with_one}
@@ -350,14 +352,16 @@ pub none_begins : (names : EntityNames) (in_table : Bool) (bytes : List ℕ) →
 none_begins names in_table [] backslash ampersand = rw (escape_nil in_table) (entity_nil names)
 none_begins names in_table (b ∷ bytes) backslash ampersand =
     let other = first_differs 92 b bytes backslash in
-    rw (no_escape in_table b bytes other (turned 92 b other)) (no_entity names b bytes (first_differs 38 b bytes ampersand))
+    rw (no_escape in_table b bytes other (turned 92 b other))
+    (no_entity names b bytes (first_differs 38 b bytes ampersand))
 
 -- those that begin with a backslash begin with an escape or with neither
 pub escape_only : (names : EntityNames) (in_table : Bool) (bytes : List ℕ) → begins_with (92 ∷ []) bytes ≡ true
     → escape_or_entity names in_table bytes ≡ option_map with_one (escape in_table bytes)
 escape_only names in_table bytes e =
-    ap (option_or (option_map with_one (escape in_table bytes))) (ap (entity names) (begins_with-split (92 ∷ []) bytes e)
-    ∙ no_entity names 92 (drop 1 bytes) refl) ∙ or_none (option_map with_one (escape in_table bytes))
+    ap (option_or (option_map with_one (escape in_table bytes)))
+    (ap (entity names) (begins_with-split (92 ∷ []) bytes e) ∙ no_entity names 92 (drop 1 bytes) refl)
+    ∙ or_none (option_map with_one (escape in_table bytes))
   where
     or_none : (found : Option (ℕ × List ℕ)) → option_or found None ≡ found
     or_none None = refl
@@ -387,3 +391,15 @@ pub number_next : (by_name : Option (ℕ × List ℕ)) (by_number : Option (ℕ 
     ≡ option_map in_utf8 (option_or by_name (option_map with_one by_number))
 number_next None by_number e = one_in_utf8 by_number
 number_next (Some s) by_number e = cc
+
+pub none_read : (by_name : Option (ℕ × List ℕ)) (by_number : Option (ℕ × ℕ)) → None ≡ option_map in_utf8 by_name
+    → None ≡ by_number → None ≡ option_map in_utf8 (option_or by_name (option_map with_one by_number))
+none_read None by_number named numbered = ap (λ found. option_map in_utf8 (option_map with_one found)) numbered
+none_read (Some s) by_number named numbered = cc
+
+-- after a backslash that escapes nothing
+pub escape_none : (names : EntityNames) (in_table : Bool) (bytes : List ℕ) → begins_with (92 ∷ []) bytes ≡ true
+    → None ≡ escape in_table bytes → None ≡ option_map in_utf8 (escape_or_entity names in_table bytes)
+escape_none names in_table bytes e none =
+    ap (λ found. option_map in_utf8 (option_map with_one found)) none
+    ∙ ap (option_map in_utf8) (sym (escape_only names in_table bytes e))

@@ -1,8 +1,8 @@
 -- Lemmas of the laws of what is scanned.
-use Rattle.std.proofs.Common.{◌++◌, zero, ◌-◌, ◌&&◌, ◌≤◌, ◌<◌, ◌||◌, ◌⊎◌, inl, inr, nat_le, codes, lit<, lit≤, sym, ◌≡◌}
+use Rattle.std.proofs.Common.{◌++◌, zero, ◌<◌, ◌≡◌}
 use Rattle.std.proofs.Common.{suc, arith, ℕ, ◌+◌}
 use Rattle.std.proofs.Common.{◌==◌, not, List, [], ◌∷◌, Bool, true, false, Option, Some, None, if◌then◌else◌, take}
-use Rattle.std.proofs.Common.{drop, length, get_or}
+use Rattle.std.proofs.Common.{length}
 use Rattle.std.proofs.Common.{refl, ap, ◌∙◌, option_and_then}
 use Rattle.std.proofs.lemmas.Bool.{and_parts, cond_both}
 use Rattle.std.proofs.lemmas.Bool.Decides.{nat_tests}
@@ -12,7 +12,6 @@ use Rattle.std.specs.Prelude.{IfSome, IsTrue, take_while}
 use Rattle.std.specs.List.{list_all, position_or_len, prefix_len}
 use Rattle.std.proofs.lemmas.List.Folds.{length-prefix_len}
 use Rattle.std.specs.Option.{option_map}
-use Rattle.markdown_scan.specs.Beginnings.{begins_with}
 use Rattle.markdown_scan.specs.Entity.{entity}
 use Rattle.markdown_scan.specs.Together.{may_begin_reference}
 use Rattle.markdown_scan.specs.declared.entity.EntityNames.{EntityNames}

@@ -25,7 +25,8 @@ past_is names in_table (suc n) [] = refl
 past_is names in_table (suc n) (b ∷ bytes) = past_is names in_table n bytes
 
 -- a byte that stands for itself
-pub step_byte : (names : EntityNames) (in_table : Bool) (b : ℕ) (bytes : List ℕ) → escape_or_entity names in_table (b ∷ bytes) ≡ None
+pub step_byte : (names : EntityNames) (in_table : Bool) (b : ℕ) (bytes : List ℕ)
+    → escape_or_entity names in_table (b ∷ bytes) ≡ None
     → unescaped names in_table (b ∷ bytes) ≡ b ∷ unescaped names in_table bytes
 step_byte names in_table b bytes e = rw e refl
 
@@ -97,7 +98,8 @@ unescaped_at_byte names in_table text at h none was =
     ∙ ap (λ x. x ++ unescaped names in_table (drop (at + 1) text)) (sym (take_more text at 0 h)))))
 
 -- the bytes up to a place stand for themselves
-pub unescaped_past_plain : (names : EntityNames) (in_table : Bool) (text : List ℕ) (n : ℕ) → IsPast may_begin_reference text n
+pub unescaped_past_plain : (names : EntityNames) (in_table : Bool) (text : List ℕ) (n : ℕ)
+    → IsPast may_begin_reference text n
     → unescaped names in_table text ≡ take n text ++ unescaped names in_table (drop n text)
 unescaped_past_plain names in_table text zero past = refl
 unescaped_past_plain names in_table text (suc n) past =
@@ -129,8 +131,8 @@ cut_before names in_table text at n cs h e =
     let ascii : get_or text at 0 < 128 = rw here at first in
     (omega (arith, h), λ more high. absurd (omega (arith, ascii, high)))
 
-pub cut_after : (names : EntityNames) (in_table : Bool) (text : List ℕ) (at n : ℕ) (cs : List ℕ) → IsUtf8 text → at < length text
-    → escape_or_entity names in_table (drop at text) ≡ Some (n, cs) → IsCharBoundary text (at + n)
+pub cut_after : (names : EntityNames) (in_table : Bool) (text : List ℕ) (at n : ℕ) (cs : List ℕ) → IsUtf8 text
+    → at < length text → escape_or_entity names in_table (drop at text) ≡ Some (n, cs) → IsCharBoundary text (at + n)
 cut_after names in_table text at n cs utf8 h e =
     let is = reference_is names in_table (drop at text) (n, cs) e in
     let within : at + (n - 1) < length text = omega (arith, is.within, is.some, length-drop at text) in

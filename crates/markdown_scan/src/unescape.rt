@@ -33,11 +33,7 @@ fn scan_escape(bytes: &[u8], in_table: bool) -> Option<(usize, char)>
 /// Reads the escape or entity that the bytes begin with, and returns its length in bytes and its characters. The first
 /// byte tells that most bytes begin none.
 #[inline]
-fn scan_reference(
-    bytes: &[u8],
-    in_table: bool,
-    names: EntityNames,
-) -> Option<(usize, Characters)>
+fn scan_reference(bytes: &[u8], in_table: bool, names: EntityNames) -> Option<(usize, Characters)>
     ensures value { option_map (λ found. (found.0, text_in_utf8 found.1)) result
         ≡ option_map in_utf8 (escape_or_entity names in_table bytes.now) }
     ensures within { IfSome result (λ found. found.0 ≤ length bytes.now) }

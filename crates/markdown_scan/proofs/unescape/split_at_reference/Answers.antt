@@ -1,8 +1,6 @@
 use Rattle.std.proofs.Common.{◌<◌, ◌+◌, length, arith, drop}
 use Rattle.std.proofs.Math.Nat.{sub-zero}
 use Rattle.std.proofs.lemmas.List.{take_rest, length-drop}
-use Rattle.markdown_scan.specs.Entity.{text_in_utf8}
-use Rattle.markdown_scan.specs.Unescape.{escape_or_entity}
 use Rattle.markdown_scan.proofs.UnescapeLemmas.{cut_after, cut_before, found_as, found_none, unescaped_changes}
 use Rattle.markdown_scan.proofs.UnescapeLemmas.{unescaped_at_byte, unescaped_at_reference, unescaped_past_plain}
 use Rattle.markdown_scan.proofs.ReferenceLemmas.{reference_is}
