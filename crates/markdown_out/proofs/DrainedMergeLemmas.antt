@@ -14,15 +14,15 @@ use Rattle.markdown_out.proofs.MergeNextLemmas.{gave-append, gave-more}
 -- ---- answers up to the first None
 
 -- every answer is None
-abbrev AreNone : {A : Type 0} → List (Option A) → Type 0
+abbrev pub AreNone : {A : Type 0} → List (Option A) → Type 0
 AreNone [] = Unit {0}
 AreNone (None ∷ rs) = AreNone rs
 AreNone (Some x ∷ rs) = ⊥
 
-cons-head : {A : Type 0} {x y : A} {xs ys : List A} → x ∷ xs ≡ y ∷ ys → x ≡ y
+pub cons-head : {A : Type 0} {x y : A} {xs ys : List A} → x ∷ xs ≡ y ∷ ys → x ≡ y
 cons-head {A} {x} {y} {xs} {ys} e = cc
 
-cons-tail : {A : Type 0} {x y : A} {xs ys : List A} → x ∷ xs ≡ y ∷ ys → xs ≡ ys
+pub cons-tail : {A : Type 0} {x y : A} {xs ys : List A} → x ∷ xs ≡ y ∷ ys → xs ≡ ys
 cons-tail {A} {x} {y} {xs} {ys} e = cc
 
 some-same : {A : Type 0} {x y : A} → Some x ≡ Some y → x ≡ y
@@ -46,17 +46,25 @@ same-prefixes (x ∷ a) (y ∷ b) q r n e =
     let head : x ≡ y = some-same (cons-head e) in
     ap (λ z. z ∷ a) head ∙ ap (λ zs. y ∷ zs) (same-prefixes a b q r n (cons-tail e))
 
+-- a list of items has no None
+pub none-missing : {A : Type 0} (a b : List A) (r : List (Option A)) → map (λ x. Some x) a
+    ≡ map (λ x. Some x) b ++ (None ∷ r) → ⊥
+none-missing [] [] r e = cc
+none-missing [] (y ∷ b) r e = cc
+none-missing (x ∷ a) [] r e = cc
+none-missing (x ∷ a) (y ∷ b) r e = none-missing a b r (cons-tail e)
+
 -- a list of answers, cut at its first None
-record IsCut {A : Type 0} (answers : List (Option A)) : Type 0 where
+pub record IsCut {A : Type 0} (answers : List (Option A)) : Type 0 where
   pub before : List A
   pub after : List (Option A)
   pub is : answers ≡ map (λ x. Some x) before ++ (None ∷ after)
 
-record HasNoNone {A : Type 0} (answers : List (Option A)) : Type 0 where
+pub record HasNoNone {A : Type 0} (answers : List (Option A)) : Type 0 where
   pub all : List A
   pub is : answers ≡ map (λ x. Some x) all
 
-cut : {A : Type 0} (answers : List (Option A)) → IsCut answers ⊎ HasNoNone answers
+pub cut : {A : Type 0} (answers : List (Option A)) → IsCut answers ⊎ HasNoNone answers
 cut [] = inr (record { all = []; is = refl })
 cut (None ∷ rest) = inl (record { before = []; after = rest; is = refl })
 cut (Some x ∷ rest) = more (cut rest)
@@ -84,24 +92,24 @@ prefix-of (x ∷ a) (y ∷ b) q r n e =
 
 module _ {P : Type 0} (through : P → P → P) where
   -- a stretch of items, and a None after it
-  abbrev stretch : List (Item P) → List (Option (Item P)) → List (Option (Item P))
+  abbrev pub stretch : List (Item P) → List (Option (Item P)) → List (Option (Item P))
   stretch [] later = None ∷ merge_answers through [] later
   stretch (x ∷ xs) later = map (λ i. Some i) (merged through (x ∷ xs)) ++ merge_answers through [] later
 
-  answers-stretch : (held xs : List (Item P)) (later : List (Option (Item P)))
+  pub answers-stretch : (held xs : List (Item P)) (later : List (Option (Item P)))
       → merge_answers through held (map (λ i. Some i) xs ++ (None ∷ later)) ≡ stretch (held ++ xs) later
   answers-stretch [] [] later = refl
   answers-stretch (y ∷ held) [] later = ap (λ zs. stretch (y ∷ zs) later) (sym (append-nil held))
   answers-stretch held (x ∷ xs) later = answers-stretch (held ++ x ∷ []) xs later
       ∙ ap (λ zs. stretch zs later) (append_assoc held (x ∷ []) xs)
 
-  answers-last : (held xs : List (Item P))
+  pub answers-last : (held xs : List (Item P))
       → merge_answers through held (map (λ i. Some i) xs) ≡ map (λ i. Some i) (merged through (held ++ xs))
   answers-last held [] = ap (λ zs. map (λ i. Some i) (merged through zs)) (sym (append-nil held))
   answers-last held (x ∷ xs) = answers-last (held ++ x ∷ []) xs
       ∙ ap (λ zs. map (λ i. Some i) (merged through zs)) (append_assoc held (x ∷ []) xs)
 
-  answers-nones : (rs : List (Option (Item P))) → AreNone rs → AreNone (merge_answers through [] rs)
+  pub answers-nones : (rs : List (Option (Item P))) → AreNone rs → AreNone (merge_answers through [] rs)
   answers-nones [] n = tt
   answers-nones (None ∷ rs) n = answers-nones rs n
   answers-nones (Some x ∷ rs) n = absurd n
@@ -123,7 +131,7 @@ module _ {P : Type 0} (through : P → P → P) where
       prefix-of (merged through (v ∷ vs)) its (merge_answers through [] later) rest (answers-nones later n) e
 
 module _ {A B : Type 0} (view : A → B) where
-  views-some : (xs : List A) → map (option_map view) (map (λ x. Some x) xs) ≡ map (λ i. Some i) (map view xs)
+  pub views-some : (xs : List A) → map (option_map view) (map (λ x. Some x) xs) ≡ map (λ i. Some i) (map view xs)
   views-some [] = refl
   views-some (x ∷ xs) = ap (λ ys. Some (view x) ∷ ys) (views-some xs)
 
@@ -131,7 +139,7 @@ module _ {A B : Type 0} (view : A → B) where
 
 module _ {S A : Type 0} (steps : S → Option A → S → Type 0) where
   -- an iterator that stays ended gives None and nothing else
-  ended-nones : {B : Type 0} (view : A → B) (it : S) → StaysEnded steps it → (so_far : List (Option A)) (s t u : S)
+  pub ended-nones : {B : Type 0} (view : A → B) (it : S) → StaysEnded steps it → (so_far : List (Option A)) (s t u : S)
       (rs : List (Option A)) → Gave steps it so_far s → steps s None t → Gave steps t rs u
       → AreNone (map (option_map view) rs)
   ended-nones view it ends so_far s t u [] b p g = tt
@@ -143,7 +151,7 @@ module _ {S A : Type 0} (steps : S → Option A → S → Type 0) where
       some-none {A} {x} e = cc
 
   -- the calls up to a None, and those after it
-  record IsEnded (s : S) (xs : List A) (later : List (Option A)) (u : S) : Type 0 where
+  pub record IsEnded (s : S) (xs : List A) (later : List (Option A)) (u : S) : Type 0 where
     pub last : S
     pub end : S
     pub yields : Yields steps s xs last
@@ -151,7 +159,7 @@ module _ {S A : Type 0} (steps : S → Option A → S → Type 0) where
     pub ends : steps last None end
     pub after : Gave steps end later u
 
-  ended : (s u : S) (xs : List A) (later : List (Option A))
+  pub ended : (s u : S) (xs : List A) (later : List (Option A))
       → Gave steps s (map (λ x. Some x) xs ++ (None ∷ later)) u → IsEnded s xs later u
   ended s u [] later g = record { last = s; end = g.0; yields = refl; before = refl; ends = g.1; after = g.2 }
   ended s u (x ∷ xs) later g =
@@ -258,13 +266,6 @@ module _ {M S T P : Type 0} (through : P → P → P) (view : Result T Fault →
       → merge_answers through [] (map answer run.answers) ≡ given ++ merge_answers through (state t).held []
   answered m t given h run = ap (λ k. merge_answers through k (map answer run.answers)) (sym h)
       ∙ (ap (merge_answers through (state m).held) (sym (append-nil (map answer run.answers))) ∙ run.leaves [])
-
-  none-missing : {A : Type 0} (a b : List A) (r : List (Option A)) → map (λ x. Some x) a
-      ≡ map (λ x. Some x) b ++ (None ∷ r) → ⊥
-  none-missing [] [] r e = cc
-  none-missing [] (y ∷ b) r e = cc
-  none-missing (x ∷ a) [] r e = cc
-  none-missing (x ∷ a) (y ∷ b) r e = none-missing a b r (cons-tail e)
 
   run-ended : (m t u : M) (xs : List (Result T Fault)) → (state m).over ≡ false → (state u).over ≡ false
       → Yields calls m xs t → calls t None u → IsRun (state m) (map (λ i. Some i) (map view xs) ++ (None ∷ []))

@@ -15,5 +15,6 @@ pub mod MergeLawsLemmas
 pub mod MergedRangesLemmas
 pub mod MergedHtmlLemmas
 pub mod DrainedMergeLemmas
+pub mod EndedMergeLemmas
 pub mod MappedMergeLemmas
 pub mod RenderedMergeLemmas

@@ -1,7 +1,7 @@
 //! Laws of the definitions that this crate's contracts cite. Each is a function without code, whose clauses state the
 //! law.
 ghost use Rattle.std.specs.Prelude.{◌≡◌, ◌⊎◌, ℕ, List};
-ghost use Rattle.std.specs.Iterator.{CallableOnAll};
+ghost use Rattle.std.specs.Iterator.{CallableOnAll, at_most};
 ghost use Rattle.std.specs.Iterator.Adapters.{map_source, map_callee, map_steps};
 ghost use Rattle.std.specs.declared.ops.Range.{Range};
 ghost use Rattle.markdown_base.specs.declared.fault.Fault.{Fault};
@@ -9,7 +9,7 @@ ghost use Rattle.markdown_base.specs.declared.fault.Fault.TheVariants.{Memory};
 ghost use Rattle.markdown_out.specs.HtmlCorrect.{GoesTooDeep, IsRendered, StopsAtError};
 ghost use Rattle.markdown_out.specs.ImageHtml.{ImagesHaveParts};
 ghost use Rattle.markdown_out.specs.Merge.{Item, merged};
-ghost use Rattle.markdown_out.specs.MergeNext.{CanMerge, item_view};
+ghost use Rattle.markdown_out.specs.MergeNext.{CanMerge, item_view, left_count};
 ghost use Rattle.markdown_out.specs.MergeState.{stream_state, offset_state};
 ghost use Rattle.markdown_out.specs.OutLaws.{HasNoNeighbours, MergingKeepsHtml, StaysEnded};
 ghost use Rattle.markdown_out.specs.OutLaws.{IsNewMerge, GivesTheMerge, merge_steps};
@@ -68,6 +68,34 @@ pub fn a_stream_with_offsets_gives_the_merge<
         → IsNewMerge (offset_state merge.now)
         → GivesTheMerge through_ranges (item_view with_range) I.next_gives I.can_next I.remaining
         offset_state merge.now }
+{}
+
+/// States that a merge can be merged again: over an iterator that stays ended it does so too, and where its iterator can
+/// be merged, so can it.
+pub fn a_stream_can_be_merged<'a, I: Iterator<Item = Result<Event<'a>, Fault>>>(
+    merge: &TextMergeStream<'a, I>,
+)
+    ensures stays_ended { StaysEnded I.next_gives (stream_state merge.now).iter
+        → StaysEnded (merge_steps nowhere (item_view bare) I.next_gives I.can_next I.remaining
+        stream_state) merge.now }
+    ensures merges { CanMerge I.next_gives I.can_next I.remaining (stream_state merge.now).iter
+        → CanMerge (merge_steps nowhere (item_view bare) I.next_gives I.can_next I.remaining
+        stream_state) (λ m. CanMerge I.next_gives I.can_next I.remaining (stream_state m).iter)
+        (λ m. at_most (left_count I.remaining (stream_state m))) merge.now }
+{}
+
+/// States for events with their ranges what `a_stream_can_be_merged` states for events.
+pub fn a_stream_with_offsets_can_be_merged<
+    'a,
+    I: Iterator<Item = Result<(Event<'a>, Range<usize>), Fault>>,
+>(merge: &TextMergeWithOffset<'a, I>)
+    ensures stays_ended { StaysEnded I.next_gives (offset_state merge.now).iter
+        → StaysEnded (merge_steps through_ranges (item_view with_range) I.next_gives I.can_next
+        I.remaining offset_state) merge.now }
+    ensures merges { CanMerge I.next_gives I.can_next I.remaining (offset_state merge.now).iter
+        → CanMerge (merge_steps through_ranges (item_view with_range) I.next_gives I.can_next
+        I.remaining offset_state) (λ m. CanMerge I.next_gives I.can_next I.remaining
+        (offset_state m).iter) (λ m. at_most (left_count I.remaining (offset_state m))) merge.now }
 {}
 
 /// States that a mapped iterator can be merged where its source stays ended and can be merged, and the closure may be
