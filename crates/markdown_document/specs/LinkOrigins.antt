@@ -10,10 +10,11 @@ pub record LinkOrigins : Type 0 where
   pub destination : Origin
   pub title : Origin
 
--- the origin that a link's type determines: the destination of an autolink is a slice of the source, and so is the name
--- of a wikilink; the destination of another link may have been made
+-- the origin that a link's type determines: the destination of an autolink, to a URI or to an address, is a slice of
+-- the source, and so is the name of a wikilink; the destination of another link may have been made
 abbrev pub destination_origin : LinkType → Origin
 destination_origin kind.Autolink = sliced
+destination_origin kind.Email = sliced
 destination_origin (kind.WikiLink has_pothole) = sliced
 destination_origin kind.Inline = made
 destination_origin kind.Reference = made
@@ -22,7 +23,6 @@ destination_origin kind.Collapsed = made
 destination_origin kind.CollapsedUnknown = made
 destination_origin kind.Shortcut = made
 destination_origin kind.ShortcutUnknown = made
-destination_origin kind.Email = made
 
 -- the origin says that the bytes are a slice of the source within these byte offsets, and they are
 abbrev pub IsSlice : List ℕ → (start end : ℕ) → Origin → List ℕ → Type 0
