@@ -2,12 +2,13 @@
 use Rattle.std.proofs.Common.{◌≡◌, ℕ, suc, zero, ◌+◌, ◌-◌, ◌<◌, ◌≤◌, Bool, true, false, ◌&&◌, ◌==◌, List, [], ◌∷◌, ◌++◌}
 use Rattle.std.proofs.Common.{Option, Some, None}
 use Rattle.std.proofs.Common.{length, get_or, take, drop, arith, refl, ap, IsUtf8, IsCharBoundary, encode_utf8, inl}
-use Rattle.std.proofs.Common.{inr, subst}
-use Rattle.std.specs.Prelude.{if◌then◌else◌, option_and_then}
+use Rattle.std.proofs.Common.{inr, subst, sym, ◌∙◌}
+use Rattle.std.specs.Prelude.{codes, if◌then◌else◌, nat_le, option_and_then}
 use Rattle.std.specs.Option.{option_map}
 use Rattle.std.specs.List.{list_all}
 use Rattle.std.specs.Char.{is_ascii}
 use Rattle.std.proofs.Math.Utf8.{scalar, scalars, encodes}
+use Rattle.std.proofs.lemmas.List.{get_or-drop, length-drop}
 use Rattle.std.proofs.lemmas.Option.{same_Some}
 use Rattle.std.proofs.lemmas.Bool.Decides.{nat_tests, leb_tells}
 use Rattle.std.proofs.lemmas.Str.{encode_ascii, IsUtf8-take, IsUtf8-drop, IsUtf8-nil, IsCharBoundary-after_ascii}
@@ -23,7 +24,10 @@ use Rattle.markdown_raw_html.proofs.RawHtmlLawsLemmas.{tag_between}
 use Rattle.markdown_raw_html.proofs.HtmlTagLemmas.{IsWithin-html_tag}
 use Rattle.markdown_scan.specs.ScanLaws.{StandsBetween}
 use Rattle.markdown_scan.specs.Autolink.{uri_autolink}
-use Rattle.markdown_spans.specs.AfterLess.{html_markup, html_at, markup_at}
+use Rattle.markdown_scan.specs.Beginnings.{begins_with}
+use Rattle.markdown_scan.specs.EmailAutolink.{are_labels, closed_address, domain_length, local_length}
+use Rattle.markdown_scan.proofs.BeginsWithLemmas.{begins_with-fits, begins_with-reads}
+use Rattle.markdown_spans.specs.AfterLess.{address_at, html_markup, html_at, markup_at}
 use Rattle.markdown_spans.specs.MarkupView.{is_unbroken}
 use Rattle.markdown_spans.specs.PrefixView.{length_by}
 use Rattle.markdown_spans.specs.declared.prefixes.ContainerPrefix.{ContainerPrefix}
@@ -162,11 +166,13 @@ tag_is_text prefix text start end bytes utf8 boundary e =
         (IsUtf8-drop text start utf8 boundary)) f)
 
 -- raw HTML that is found where there is no autolink, and that contains no line prefix
-pub unbroken_html : (skipped : List ℕ → Option ℕ) (text : List ℕ) (start at : ℕ) → uri_autolink text at ≡ None
-    → is_unbroken (markup_at skipped text start at) ≡ true
+pub unbroken_html : (skipped : List ℕ → Option ℕ) (addresses : Bool) (text : List ℕ) (start at : ℕ)
+    → uri_autolink text at ≡ None → address_at addresses text at ≡ None
+    → is_unbroken (markup_at skipped addresses text start at) ≡ true
     → option_and_then (λ tag. tag.1) (html_at skipped text start at) ≡ None
 unfolding markup_at
-unbroken_html skipped text start at none h = cases (html_at skipped text start at) (rw none at h)
+unbroken_html skipped addresses text start at no_uri no_address h = cases (html_at skipped text start at)
+    (rw (no_uri, no_address) at h)
   where
     cases : (found : Option (ℕ × Option (List ℕ))) → is_unbroken (option_map (λ tag. html_markup tag.0 tag.1) found)
         ≡ true
@@ -174,6 +180,32 @@ unbroken_html skipped text start at none h = cases (html_at skipped text start a
     cases None h = refl
     cases (Some (end, None)) h = refl
     cases (Some (end, Some bytes)) h = cc
+
+-- after an address there is a `>`
+closed_if : (a b c d : Bool) (k n : ℕ) → (if a && b && c && d then Some k else None) ≡ Some n
+    → (d ≡ true) × (k ≡ n)
+closed_if true true true true k n e = (refl, same_Some k n e)
+closed_if true true true false k n e = cc e
+closed_if true true false d k n e = cc e
+closed_if true false c d k n e = cc e
+closed_if false b c d k n e = cc e
+
+pub address_closed : (bytes : List ℕ) (n : ℕ) → closed_address bytes ≡ Some n
+    → (n < length bytes) × (get_or bytes n 0 ≡ 62)
+address_closed bytes n e =
+    let before = local_length bytes in
+    let after = drop (before + 1) bytes in
+    let size = domain_length after in
+    let h = closed_if (nat_le 1 before) (begins_with (codes "@") (drop before bytes)) (are_labels (take size after))
+    (begins_with (codes ">") (drop size after)) (before + 1 + size) n e in
+    let some : 1 ≤ length (drop size after) = begins_with-fits (codes ">") (drop size after) h.0 in
+    let first : get_or (drop size after) 0 0 ≡ 62 =
+    begins_with-reads (codes ">") (drop size after) 0 h.0 (omega arith) in
+    let place : before + 1 + (size + 0) ≡ n = omega (arith, h.1) in (
+      omega (arith, h.1, some, length-drop size after, length-drop (before + 1) bytes),
+      ap (λ i. get_or bytes i 0) (sym place)
+          ∙ (sym (get_or-drop (before + 1) bytes (size + 0) 0) ∙ (sym (get_or-drop size after 0 0) ∙ first)),
+    )
 
 -- what ends with `>` ends between two characters
 pub closed_boundary : (text : List ℕ) (end : ℕ) → IsUtf8 text → end ≤ length text → get_or text (end - 1) 0 ≡ 62

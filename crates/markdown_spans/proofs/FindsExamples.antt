@@ -14,6 +14,7 @@ use Rattle.markdown_raw_html.specs.HtmlTag.{all, both, either, nonempty, often, 
 use Rattle.markdown_spans.specs.AfterLess.{markup_at}
 use Rattle.markdown_document.specs.ChainRest.{begun_at, end_of, past}
 use Rattle.markdown_spans.specs.CodeText.{is_sliced, replaced_past}
+use Rattle.markdown_spans.specs.declared.after_less.AutolinkKind.TheVariants.{Uri}
 use Rattle.markdown_spans.specs.Finds.{address, node_over, read_tree, text_node}
 
 -- GFM footnotes are on, and nothing is defined
@@ -167,7 +168,7 @@ row_display = refl
 
 -- an autolink, and the text below it, which is made; the text that reaches past it is cut
 abbrev link_to : ℕ → List ℕ → ℕ → ℕ → TreeNode ℕ
-link_to n uri start end = node_over n (enclosed (link (address uri)) []) start end
+link_to n uri start end = node_over n (enclosed (link (address Uri uri)) []) start end
 
 abbrev linked : List ℕ
 linked = codes "<http://a.b> c"

@@ -56,7 +56,7 @@ module _ {A : Type 0} where
   closed_code s true a t closer = (refl, tt, (refl, tt, tt))
 
   closed_markup : (s : Setting) (new : A) (a : TreeNode A) (m : Markup) → AllClosed (markup_trees s new a m)
-  closed_markup s new a (autolink end uri) = (refl, (refl, tt, tt), tt)
+  closed_markup s new a (autolink kind end bytes) = (refl, (refl, tt, tt), tt)
   closed_markup s new a (html_markup end None) = (refl, tt, tt)
   closed_markup s new a (html_markup end (Some bytes)) = (refl, tt, tt)
 
@@ -72,7 +72,7 @@ module _ {A : Type 0} where
   weight_code s true a t closer = omega arith
 
   weight_markup : (s : Setting) (new : A) (a : TreeNode A) (m : Markup) → weight (markup_trees s new a m) ≤ 4
-  weight_markup s new a (autolink end uri) = omega arith
+  weight_markup s new a (autolink kind end bytes) = omega arith
   weight_markup s new a (html_markup end None) = omega arith
   weight_markup s new a (html_markup end (Some bytes)) = omega arith
 
@@ -124,7 +124,7 @@ module _ {A : Type 0} where
   begins_code s true a t closer = tt
 
   begins_markup : (s : Setting) (new : A) (a : TreeNode A) (m : Markup) → Begins (markup_trees s new a m)
-  begins_markup s new a (autolink end uri) = tt
+  begins_markup s new a (autolink kind end bytes) = tt
   begins_markup s new a (html_markup end None) = tt
   begins_markup s new a (html_markup end (Some bytes)) = tt
 
@@ -140,7 +140,7 @@ module _ {A : Type 0} where
   delimiters_code s true a t closer = refl
 
   delimiters_markup : (s : Setting) (new : A) (a : TreeNode A) (m : Markup) → delimiters_in (markup_trees s new a m) ≡ 0
-  delimiters_markup s new a (autolink end uri) = refl
+  delimiters_markup s new a (autolink kind end bytes) = refl
   delimiters_markup s new a (html_markup end None) = refl
   delimiters_markup s new a (html_markup end (Some bytes)) = refl
 
@@ -192,7 +192,7 @@ module _ {A : Type 0} where
   quiet_code s true a t closer = ((refl, refl), tt, ((refl, refl), tt, tt))
 
   quiet_markup : (s : Setting) (new : A) (a : TreeNode A) (m : Markup) → Each IsQuietNode (markup_trees s new a m)
-  quiet_markup s new a (autolink end uri) = ((refl, refl), ((refl, refl), tt, tt), tt)
+  quiet_markup s new a (autolink kind end bytes) = ((refl, refl), ((refl, refl), tt, tt), tt)
   quiet_markup s new a (html_markup end None) = ((refl, refl), tt, tt)
   quiet_markup s new a (html_markup end (Some bytes)) = ((refl, refl), tt, tt)
 

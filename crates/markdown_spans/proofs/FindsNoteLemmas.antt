@@ -12,6 +12,7 @@ use Rattle.markdown_document.specs.Document.{Notes, TreeNode}
 use Rattle.markdown_document.specs.TreeNodes.{annotate, annotated}
 use Rattle.markdown_document.specs.Setting.{Setting}
 use Rattle.markdown_document.specs.Waiting.{is_quiet}
+use Rattle.markdown_base.specs.ExtendedOptions.{is_extended}
 use Rattle.markdown_spans.specs.AfterLess.{Markup, autolink, html_markup, markup_at}
 use Rattle.markdown_document.specs.ChainRest.{as_item, begun_at, start_of, end_of, next_starts_at, open_body, past}
 use Rattle.markdown_document.specs.ChainRest.{past_byte}
@@ -204,9 +205,8 @@ module _ {A B : Type 0} (f : A → B) where
       ≡ annotate_find (markup_found s above a is_followed)
   markup_found_annotate s above a false = refl
   markup_found_annotate s above a true =
-      markup_or_annotate (markup_at (λ bytes. Some (prefix_below s above bytes)) (take above.block_end s.text)
-      (start_of a)
-      (end_of a))
+      markup_or_annotate (markup_at (λ bytes. Some (prefix_below s above bytes)) (is_extended s.rules.options)
+      (take above.block_end s.text) (start_of a) (end_of a))
 
   find_by_annotate : (s : Setting) (above : EnclosingBlocks) (b : ItemBody) (a : TreeNode A)
       (rest : Forest (TreeNode A))
@@ -239,7 +239,7 @@ module _ {A B : Type 0} (f : A → B) where
   markup_trees_annotate : (s : Setting) (new : A) (a : TreeNode A) (m : Markup) → markup_trees s (f new)
       (annotate f a) m
       ≡ annotated f (markup_trees s new a m)
-  markup_trees_annotate s new a (autolink end uri) = refl
+  markup_trees_annotate s new a (autolink kind end bytes) = refl
   markup_trees_annotate s new a (html_markup end None) = refl
   markup_trees_annotate s new a (html_markup end (Some bytes)) = refl
 
@@ -260,7 +260,7 @@ module _ {A B : Type 0} (f : A → B) where
   made_annotate : (found : Find A) → made_by (annotate_find found) ≡ made_by found
   made_annotate (code_span t closer) = refl
   made_annotate (math_span display t end) = refl
-  made_annotate (markup (autolink end uri)) = refl
+  made_annotate (markup (autolink kind end bytes)) = refl
   made_annotate (markup (html_markup end bytes)) = refl
   made_annotate nothing = refl
 

@@ -4,11 +4,13 @@ use Rattle.std.specs.Prelude.{ℕ, ◌+◌, ◌-◌, Bool, true, false, List, []
 use Rattle.std.specs.Prelude.{slice_range, take}
 use Rattle.std.specs.Option.{option_map_or}
 use Rattle.markdown_base.specs.EnabledOptions.{gfm_footnotes_on}
+use Rattle.markdown_base.specs.ExtendedOptions.{is_extended}
 use Rattle.markdown_base.specs.Event.{LinkView, code, inline_html, link}
 use Rattle.markdown_base.specs.Forest.{Forest, nil, node, roots}
 use Rattle.markdown_base.specs.declared.item.ItemBody.{ItemBody}
 use Rattle.markdown_base.specs.declared.item.ItemBody.TheVariants as body
-use Rattle.markdown_base.specs.declared.tag.LinkType.TheVariants.{Autolink}
+use Rattle.markdown_base.specs.declared.tag.LinkType.{LinkType}
+use Rattle.markdown_base.specs.declared.tag.LinkType.TheVariants as written
 use Rattle.markdown_document.specs.EnclosingBlocks.{EnclosingBlocks}
 use Rattle.markdown_document.specs.Document.{Origin, sliced, made, Shape, leaf, enclosed, TreeNode, Notes, math}
 use Rattle.markdown_document.specs.Document.{text_over}
@@ -20,6 +22,8 @@ use Rattle.markdown_document.specs.ChainRest.{start_of, end_of, open_body, as_it
 use Rattle.markdown_spans.specs.Closers.{MathClose, code_close, dollar_next, math_close_from}
 use Rattle.markdown_spans.specs.CodeText.{span_origin, span_text}
 use Rattle.markdown_spans.specs.ContainerPrefix.{prefix_length}
+use Rattle.markdown_spans.specs.declared.after_less.AutolinkKind.{AutolinkKind}
+use Rattle.markdown_spans.specs.declared.after_less.AutolinkKind.TheVariants.{Uri, Email}
 use Rattle.markdown_spans.specs.declared.span_text.SpanKind.{SpanKind}
 use Rattle.markdown_spans.specs.declared.span_text.SpanKind.TheVariants.{Code, Math}
 
@@ -65,12 +69,13 @@ math_found s above a after None = nothing
 math_found s above a after (Some m) =
     math_span m.display (span_between s above Math (math_text_start a after) (start_of m.closer)) (end_of m.last)
 
--- what begins at a `<`, up to the block's end, if the next item starts directly after the `<`
+-- what begins at a `<`, up to the block's end, if the next item starts directly after the `<`; the extended entry has
+-- addresses
 abbrev pub markup_found : {A : Type 0} → Setting → EnclosingBlocks → TreeNode A → (is_followed : Bool) → Find A
 markup_found s above a false = nothing
 markup_found s above a true = option_map_or markup
-    (markup_at (λ bytes. Some (prefix_below s above bytes)) (take above.block_end s.text) (start_of a) (end_of a))
-    nothing
+    (markup_at (λ bytes. Some (prefix_below s above bytes)) (is_extended s.rules.options) (take above.block_end s.text)
+    (start_of a) (end_of a)) nothing
 
 -- what is found at an item with this body, from the chain after it. Each body of kind `undecided_span` has its case:
 -- without one, it becomes a Text.
@@ -110,14 +115,19 @@ code_trees s true a t closer =
     node (text_node s a.note (start_of a) (start_of a + 1)) nil
     (node (node_over closer.note (leaf (code t.bytes) (t.origin ∷ [])) (start_of a + 1) (end_of closer)) nil nil)
 
+-- the type of the link that an autolink is
+abbrev pub link_type : AutolinkKind → LinkType
+link_type Uri = written.Autolink
+link_type Email = written.Email
+
 -- an autolink is a link to what is between `<` and `>`, which is also the text below it
-abbrev pub address : List ℕ → LinkView
-address uri = record { kind = Autolink; destination = uri; title = []; label = [] }
+abbrev pub address : AutolinkKind → List ℕ → LinkView
+address kind bytes = record { kind = link_type kind; destination = bytes; title = []; label = [] }
 
 -- the trees of what begins at a `<`
 abbrev pub markup_trees : {A : Type 0} → Setting → (new : A) → TreeNode A → Markup → Forest (TreeNode A)
-markup_trees s new a (autolink end uri) =
-    node (node_over a.note (enclosed (link (address uri)) []) (start_of a) end)
+markup_trees s new a (autolink kind end bytes) =
+    node (node_over a.note (enclosed (link (address kind bytes)) []) (start_of a) end)
     (node (text_node s new (end_of a) (end - 1)) nil nil) nil
 markup_trees s new a (html_markup end None) =
     node (node_over a.note (leaf (inline_html (slice_range s.text (start_of a) end)) (sliced ∷ [])) (start_of a) end)
@@ -135,7 +145,7 @@ trees_for s new a nothing = node (as_text s.text a) nil nil
 
 -- the byte offset where the markup ends
 abbrev pub end_of_markup : Markup → ℕ
-end_of_markup (autolink end uri) = end
+end_of_markup (autolink kind end bytes) = end
 end_of_markup (html_markup end bytes) = end
 
 -- the byte offset where what was found ends, if anything was
@@ -147,7 +157,7 @@ end_of_find nothing = None
 
 -- the number of additional trees that are made: one for the text of an autolink
 abbrev pub made_by : {A : Type 0} → Find A → ℕ
-made_by (markup (autolink end uri)) = 1
+made_by (markup (autolink kind end bytes)) = 1
 made_by other = 0
 
 -- what was read: the trees that replace it; if something was found, the byte offset where the chain continues; and the

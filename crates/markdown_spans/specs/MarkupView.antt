@@ -6,13 +6,13 @@ use Rattle.markdown_spans.specs.declared.after_less.MarkupFound.TheVariants.{Aut
 
 -- the markup, as `AfterLess` defines it
 abbrev pub markup_of : MarkupFound → Markup
-markup_of (Autolink end uri) = autolink end uri.now
+markup_of (Autolink found) = autolink found.kind found.end found.destination.now
 markup_of (Html end) = html_markup end None
 markup_of (OwnedHtml end text) = html_markup end (Some (string_bytes text))
 
 -- the byte offset after the markup
 abbrev pub markup_end : MarkupFound → ℕ
-markup_end (Autolink end uri) = end
+markup_end (Autolink found) = found.end
 markup_end (Html end) = end
 markup_end (OwnedHtml end text) = end
 

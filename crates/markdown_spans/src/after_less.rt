@@ -1,9 +1,9 @@
-//! What begins at a `<`: an autolink, raw HTML, or nothing.
+//! What begins at a `<`: an autolink to a URI or to an address, raw HTML, or nothing.
 ghost use Rattle.std.specs.Prelude.{◌≡◌, ◌≤◌, ◌+◌, ◌-◌, ℕ, List, slice_index, None, Some, length, IfOk, IfSome, IsOk};
 ghost use Rattle.std.specs.Prelude.{true, string_bytes, option_and_then};
 ghost use Rattle.std.specs.Option.{option_map};
 ghost use Rattle.std.specs.Str.{IsCharBoundary, IsUtf8};
-ghost use Rattle.markdown_spans.specs.AfterLess.{declared_end, html_at, markup_at, unbroken};
+ghost use Rattle.markdown_spans.specs.AfterLess.{address_at, declared_end, html_at, markup_at, unbroken};
 ghost use Rattle.markdown_spans.specs.MarkupView.{markup_end, markup_of, is_unbroken};
 ghost use Rattle.markdown_spans.specs.PrefixView.{length_by};
 ghost use Rattle.markdown_raw_html.specs.TagSource.{tag_at};
@@ -12,13 +12,45 @@ use crate::prefixes::ContainerPrefix;
 use markdown_raw_html::html_tag::{ScannedTag, scan_html_tag};
 use markdown_raw_html::raw_html::RawHtmlScanner;
 use markdown_scan::autolink::scan_uri_autolink;
+use markdown_scan::email::scan_email_autolink;
 use std::alloc::{AllocError, Global};
+
+/// A `<` in a text.
+#[derive(Clone, Copy, Drop)]
+pub struct LessThan<'t> {
+    /// The text, up to the end of the block.
+    pub text: &'t str,
+    /// The byte offset of the `<`.
+    pub start: usize,
+    /// The byte offset after it.
+    pub at: usize,
+    /// Whether there are autolinks to email addresses.
+    pub addresses: bool,
+}
+
+/// What an autolink leads to.
+#[derive(Clone, Copy, Drop)]
+pub enum AutolinkKind {
+    /// An absolute URI.
+    Uri,
+    /// An email address.
+    Email,
+}
+
+/// An autolink.
+#[derive(Drop)]
+pub struct Autolink<'t> {
+    pub kind: AutolinkKind,
+    /// The byte offset after its `>`.
+    pub end: usize,
+    /// The URI or the address.
+    pub destination: &'t str,
+}
 
 /// What was found at a `<`.
 #[derive(Drop)]
 pub enum MarkupFound<'t> {
-    /// An absolute-URI autolink: the byte offset after its `>`, and its URI.
-    Autolink(usize, &'t str),
+    Autolink(Autolink<'t>),
     /// Raw HTML that is a slice of the source: the byte offset after its `>`.
     Html(usize),
     /// A tag that contains line prefixes: the byte offset after its `>`, and the tag without them.
@@ -127,35 +159,59 @@ fn scan_html(
     }
 }
 
-/// Reads the autolink or else the raw HTML that begins at the `<` at the byte offset `start`. `text` ends at the
-/// block's end, `at` is the offset after the `<`, and `scanner` is a scanner of `text`. Returns `None` if neither
-/// begins there. The error is a refused allocation, which can only occur for a tag that contains line prefixes, since
-/// nothing else allocates memory.
+/// Reads the autolink to an address whose `<` is the byte before `at`, where addresses are on. Returns the byte offset
+/// after its `>`, and the address.
+fn scan_address(text: &str, at: usize, addresses: bool) -> Option<(usize, &str)>
+    requires { IsCharBoundary text.now at }
+    ensures value { option_map (λ found. (found.0, found.1.now)) result
+        ≡ address_at addresses text.now at }
+    ensures boundary { IfSome result (λ found. IsCharBoundary text.now found.0) }
+{
+    if !addresses {
+        return None;
+    }
+    scan_email_autolink(text, at)
+}
+
+/// Reads what begins at a `<`: the first that there is of an autolink to a URI, one to an address where addresses are
+/// on, and raw HTML; returns `None` if there is none of these. `scanner` has to be a scanner of the same text. The error
+/// is a refused allocation, which can only occur for a tag that contains line prefixes, since nothing else allocates
+/// memory.
 #[tactic(auto, unfolding(crate::specs::AfterLess::markup_at))]
 pub fn scan_after_less<'t>(
     alloc: Global,
-    text: &'t str,
-    start: usize,
-    at: usize,
+    less: &LessThan<'t>,
     scanner: &mut RawHtmlScanner<'_>,
     prefix: &ContainerPrefix<'_>,
 ) -> Result<Option<MarkupFound<'t>>, AllocError>
-    requires text { scanner.old.text.now ≡ text.now }
-    requires start { IsCharBoundary text.now start }
-    requires after { IsCharBoundary text.now at }
+    requires text { scanner.old.text.now ≡ less.now.text.now }
+    requires start { IsCharBoundary less.now.text.now less.now.start }
+    requires after { IsCharBoundary less.now.text.now less.now.at }
     ensures value { IfOk result (λ found. option_map markup_of found
-        ≡ markup_at (λ rest. Some (length_by prefix.now rest)) text.entry.now start at) }
+        ≡ markup_at (λ rest. Some (length_by prefix.now rest)) less.now.addresses
+        less.now.text.now less.now.start less.now.at) }
     ensures plain { is_unbroken
-        (markup_at (λ rest. Some (length_by prefix.now rest)) text.entry.now start at) ≡ true
-        → IsOk result }
+        (markup_at (λ rest. Some (length_by prefix.now rest)) less.now.addresses
+        less.now.text.now less.now.start less.now.at) ≡ true → IsOk result }
     ensures boundary { IfOk result (λ found. IfSome found (λ markup.
-        IsCharBoundary text.entry.now (markup_end markup))) }
+        IsCharBoundary less.now.text.now (markup_end markup))) }
     ensures same { scanner.new.text ≡ scanner.old.text }
 {
-    if let Some((end, uri)) = scan_uri_autolink(text, at) {
-        return Ok(Some(MarkupFound::Autolink(end, uri)));
+    if let Some((end, uri)) = scan_uri_autolink(less.text, less.at) {
+        return Ok(Some(MarkupFound::Autolink(Autolink {
+            kind: AutolinkKind::Uri,
+            end,
+            destination: uri,
+        })));
     }
-    match scan_html(alloc, text, start, at, scanner, prefix)? {
+    if let Some((end, address)) = scan_address(less.text, less.at, less.addresses) {
+        return Ok(Some(MarkupFound::Autolink(Autolink {
+            kind: AutolinkKind::Email,
+            end,
+            destination: address,
+        })));
+    }
+    match scan_html(alloc, less.text, less.start, less.at, scanner, prefix)? {
         None => Ok(None),
         Some((end, None)) => Ok(Some(MarkupFound::Html(end))),
         Some((end, Some(tag))) => Ok(Some(MarkupFound::OwnedHtml(end, tag))),
