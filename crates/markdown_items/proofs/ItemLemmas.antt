@@ -1,18 +1,22 @@
 -- Where the bytes that begin items end: between characters.
-use Rattle.std.proofs.Common.{◌≡◌, ◌≢◌, ℕ, zero, suc, ◌+◌, ◌-◌, ◌<◌, ◌≤◌, List, true, false, Option, Some, length}
+use Rattle.std.proofs.Common.{◌≡◌, ◌≢◌, ℕ, zero, suc, ◌+◌, ◌-◌, ◌<◌, ◌≤◌, List, true, false, Option, Some, None, length}
 use Rattle.std.proofs.Common.{get_or}
-use Rattle.std.proofs.Common.{sym, ap, subst, ◌∙◌, arith, slice_range, slice_index}
+use Rattle.std.proofs.Common.{refl, sym, ap, ◌∙◌, arith, slice_range, slice_index}
 use Rattle.std.proofs.lemmas.Bool.Decides.{nat_tests}
 use Rattle.std.proofs.lemmas.List.Sums.{prefix_len_is}
+use Rattle.std.proofs.lemmas.Option.{same_Some}
 use Rattle.std.proofs.lemmas.Str.{IsCharBoundary-after_ascii}
-use Rattle.std.specs.Prelude.{IfSome, ◌==◌}
+use Rattle.std.specs.Prelude.{IfSome, option_map, ◌==◌}
 use Rattle.std.specs.List.{prefix_len}
 use Rattle.std.specs.Str.{IsUtf8, IsCharBoundary}
 use Rattle.markdown_base.proofs.ByteListLemmas.{byte_of_part, part_length}
+use Rattle.markdown_scan.specs.NamedEntity.{in_utf8}
+use Rattle.markdown_items.specs.Found.{entity_found}
+use Rattle.markdown_items.specs.FoundView as view
 use Rattle.markdown_scan.specs.Entity.{entity}
+use Rattle.markdown_scan.specs.declared.entity.EntityNames.{EntityNames}
 use Rattle.markdown_scan.specs.ScanLaws.{EntityBeginsAndEnds, StandsBetween}
-use Rattle.markdown_items.specs.Found.{next_after}
-use Rattle.markdown_items.specs.FoundFits.{IsAtSpecial, FoundFits, LiesFurther}
+use Rattle.markdown_items.specs.FoundFits.{IsAtSpecial, FoundFits, LiesFurther, next_after}
 use Rattle.markdown_items.specs.LineItems.{is_special, IsWholeRun, run_end}
 use Rattle.markdown_items.specs.declared.found.Found.{Found}
 use Rattle.markdown_items.specs.declared.found.Found.TheVariants as found
@@ -63,21 +67,42 @@ past_entity text at end count u more within between le =
     (some, rw n at cut)
 
 -- an entity that was read fits the line's content
-pub entity_fits : (text : List ℕ) (line : Line) (at count character : ℕ) → IsUtf8 text → IsAtSpecial text line at
-    → EntityBeginsAndEnds (slice_range text at line.end)
-    → Some (count, character) ≡ entity (slice_range text at line.end)
+pub entity_fits : (names : EntityNames) (text : List ℕ) (line : Line) (at count : ℕ) (characters : List ℕ)
+    → IsUtf8 text → IsAtSpecial text line at → EntityBeginsAndEnds names (slice_range text at line.end)
+    → Some (count, characters) ≡ option_map in_utf8 (entity names (slice_range text at line.end))
     → count ≤ length (slice_range text at line.end)
     → LiesFurther line.end at (at + count) × IsCharBoundary text (at + count)
-entity_fits text line at count character u here law value le =
+entity_fits names text line at count characters u here law value le =
     let part = slice_range text at line.end in
     let end = here.end in
     let more = here.more in
-    let between : StandsBetween 38 59 part count =
-    subst (λ (o : Option (ℕ × ℕ)). IfSome o (λ r. StandsBetween 38 59 part r.0)) (sym value) law in
+    let between = stands (entity names part) law value in
     let few : count ≤ line.end - at = omega (arith, le, part_length text at line.end end.0) in
     let past = past_entity text at line.end count u more end.0 between few in
     let some = past.0 in
     (record { past = omega (arith, some); within = omega (arith, few, more) }, past.1)
+  where
+    stands : (found : Option (ℕ × List ℕ)) → IfSome found (λ r. StandsBetween 38 59 (slice_range text at line.end) r.0)
+        → Some (count, characters) ≡ option_map in_utf8 found
+        → StandsBetween 38 59 (slice_range text at line.end) count
+    stands None law e = cc
+    stands (Some r) law e =
+        let same : count ≡ r.0 = ap (λ (x : ℕ × List ℕ). x.0) (same_Some (count, characters) (in_utf8 r) e) in
+        rw same law
+
+-- what is read is the entity there, or text
+pub entity_found_is : (at : ℕ) (found : Option (ℕ × List ℕ)) (count : ℕ) (characters : List ℕ)
+    → Some (count, characters) ≡ option_map in_utf8 found
+    → view.Entity (at + count) characters ≡ entity_found at found
+entity_found_is at None count characters e = cc
+entity_found_is at (Some r) count characters e =
+    let same = same_Some (count, characters) (in_utf8 r) e in
+    ap (λ (x : ℕ × List ℕ). view.Entity (at + x.0) x.1) same
+
+pub entity_none_is : (at : ℕ) (found : Option (ℕ × List ℕ)) → None ≡ option_map in_utf8 found
+    → view.Text (at + 1) ≡ entity_found at found
+entity_none_is at None e = refl
+entity_none_is at (Some r) e = cc
 
 -- a number that equals itself
 same_eq : (a b : ℕ) → a ≡ b → (a == b) ≡ true

@@ -4,7 +4,7 @@ use Rattle.std.proofs.Common.{ap, ◌∙◌}
 use Rattle.std.proofs.Common.{arith, slice_range, slice_index, ⊎_elim, inl, inr}
 use Rattle.std.proofs.lemmas.Bool.{cases_lt}
 use Rattle.std.proofs.lemmas.Bool.Decides.{eqb_tells}
-use Rattle.std.specs.Prelude.{◌||◌, ◌&&◌, ◌==◌, not, codes, min}
+use Rattle.std.specs.Prelude.{◌||◌, ◌&&◌, ◌==◌, not, min}
 use Rattle.std.specs.List.{list_all, list_any}
 use Rattle.markdown_base.proofs.ByteListLemmas.{byte_of_part, part_length}
 use Rattle.markdown_items.specs.LineItems.{special_bytes, is_special, is_plain, IsFirstSpecial}

@@ -1,66 +1,56 @@
 -- What begins at a special byte of a line's content.
 use Rattle.std.specs.Prelude.{ℕ, ◌+◌, ◌-◌, true, not, ◌==◌, ◌&&◌, ◌||◌, List, Option, Some, None, slice_index}
-use Rattle.std.specs.Prelude.{slice_range, if◌then◌else◌}
+use Rattle.std.specs.Prelude.{slice_range, encode_utf8_all, if◌then◌else◌}
 use Rattle.std.specs.Char.{is_ascii_punctuation}
 use Rattle.markdown_base.specs.Bytes.{ampersand, apostrophe, backslash, backtick, close_bracket, dollar_sign}
 use Rattle.markdown_base.specs.Bytes.{double_quote, exclamation_mark, less_than, open_bracket}
 use Rattle.markdown_base.specs.WellFormed.{is_delimiter}
 use Rattle.markdown_base.specs.declared.item.ItemBody.TheVariants as body
 use Rattle.markdown_scan.specs.Entity.{entity}
+use Rattle.markdown_scan.specs.declared.entity.EntityNames.{EntityNames}
 use Rattle.markdown_items.specs.declared.flanking.Flags.{Flags}
-use Rattle.markdown_items.specs.declared.found.Found.{Found}
-use Rattle.markdown_items.specs.declared.found.Found.TheVariants as found
+use Rattle.markdown_items.specs.FoundView as found
+use Rattle.markdown_items.specs.FoundView.{FoundView}
 use Rattle.markdown_items.specs.declared.found.Line.{Line}
 use Rattle.markdown_items.specs.Flanking.{character_before, character_after}
 use Rattle.markdown_items.specs.LineItems.{run_end, run_flags, math_mark, quote_mark}
 
--- the offset at which to continue after what was found at an offset
-abbrev pub next_after : ℕ → Found → ℕ
-next_after at (found.Text next) = next
-next_after at found.Escape = at + 2
-next_after at (found.Mark mark) = at + 1
-next_after at found.Image = at + 2
-next_after at (found.Backticks stop) = stop
-next_after at (found.EscapedBackticks stop) = stop
-next_after at (found.Run stop flags) = stop
-next_after at (found.Entity stop character) = stop
-
 -- A backslash before ASCII punctuation is in no item, and a text begins with what it escapes (CommonMark 2.4);
 -- backticks after it are an item. Any other backslash is text.
-unfoldable pub escape_at : List ℕ → ℕ → ℕ → Found
+unfoldable pub escape_at : List ℕ → ℕ → ℕ → FoundView
 escape_at text end at =
     if (at + 1 == end) || not (is_ascii_punctuation (slice_index text (at + 1))) then found.Text (at + 1)
     else if slice_index text (at + 1) == backtick then found.EscapedBackticks (run_end text (at + 1) end)
     else found.Escape
 
 -- the entity read at an offset, if any, and otherwise text
-abbrev pub entity_found : ℕ → Option (ℕ × ℕ) → Found
+abbrev pub entity_found : ℕ → Option (ℕ × List ℕ) → FoundView
 entity_found at None = found.Text (at + 1)
-entity_found at (Some read) = found.Entity (at + read.0) read.1
+entity_found at (Some read) = found.Entity (at + read.0) (encode_utf8_all read.1)
 
--- an entity that ends within the line's content
-unfoldable pub entity_at : List ℕ → ℕ → ℕ → Found
-entity_at text end at = entity_found at (entity (slice_range text at end))
+-- an entity by one of these names, or by a number, that ends within the line's content
+unfoldable pub entity_at : EntityNames → List ℕ → ℕ → ℕ → FoundView
+entity_at names text end at = entity_found at (entity names (slice_range text at end))
 
 -- a `!` directly before a `[` begins an image, and is text otherwise
-unfoldable pub image_at : List ℕ → ℕ → ℕ → Found
+unfoldable pub image_at : List ℕ → ℕ → ℕ → FoundView
 image_at text end at =
     if (at + 1 == end) || not (slice_index text (at + 1) == open_bracket) then found.Text (at + 1) else found.Image
 
 -- a run up to an offset: a delimiter run with its flags if it has them, and otherwise text
-abbrev pub run_found : ℕ → Option Flags → Found
+abbrev pub run_found : ℕ → Option Flags → FoundView
 run_found stop None = found.Text stop
-run_found stop (Some flags) = found.Run stop flags
+run_found stop (Some flags) = found.DelimiterRun stop flags
 
 -- the whole run at an offset, a delimiter run or text
-unfoldable pub run_at : Line → List ℕ → ℕ → Found
+unfoldable pub run_at : Line → List ℕ → ℕ → FoundView
 run_at line text at =
     let stop = run_end text at line.end in
     run_found stop (run_flags line.extensions (slice_index text at) (stop - at)
     (character_before text line.start at) (character_after text stop))
 
 -- a `$` or a quotation mark, as a mark if its extension is enabled, and otherwise as text
-unfoldable pub mark_at : Line → List ℕ → ℕ → Found
+unfoldable pub mark_at : Line → List ℕ → ℕ → FoundView
 mark_at line text at =
     let byte = slice_index text at in
     let before = character_before text line.start at in
@@ -71,12 +61,12 @@ mark_at line text at =
     else found.Text (at + 1)
 
 -- what begins at an offset in a line's content, by its byte
-unfoldable pub found_at : Line → List ℕ → ℕ → Found
+unfoldable pub found_at : Line → List ℕ → ℕ → FoundView
 found_at line text at =
     let byte = slice_index text at in
     if byte == backslash then escape_at text line.end at
     else if byte == backtick then found.Backticks (run_end text at line.end)
-    else if byte == ampersand then entity_at text line.end at
+    else if byte == ampersand then entity_at line.extensions.names text line.end at
     else if byte == exclamation_mark then image_at text line.end at
     else if byte == less_than then found.Mark body.MaybeHtml
     else if byte == open_bracket then found.Mark body.MaybeLinkOpen

@@ -1,6 +1,6 @@
 -- For private clauses: what is found in a line's content fits it, and the builder after it is appended.
 use Rattle.std.specs.Prelude.{◌≡◌, ℕ, ◌+◌, ◌<◌, ◌≤◌, true, nat_lt, List, [], ◌∷◌, ◌++◌, Option, Some, None}
-use Rattle.std.specs.Prelude.{slice_index, encode_utf8, if◌then◌else◌}
+use Rattle.std.specs.Prelude.{length, slice_index, if◌then◌else◌}
 use Rattle.std.specs.Str.{IsCharBoundary}
 use Rattle.markdown_base.specs.Bytes.{backtick, exclamation_mark, open_bracket}
 use Rattle.markdown_base.specs.WellFormed.{is_delimiter}
@@ -10,6 +10,7 @@ use Rattle.markdown_items.specs.declared.found.Found.{Found}
 use Rattle.markdown_items.specs.declared.found.Found.TheVariants as found
 use Rattle.markdown_items.specs.declared.found.Line.{Line}
 use Rattle.markdown_items.specs.LineItems.{is_special}
+use Rattle.markdown_scan.specs.Entity.{text_in_utf8}
 
 -- there is a special byte at an offset in a line's content
 pub record IsAtSpecial (text : List ℕ) (line : Line) (at : ℕ) : Type 0 where
@@ -18,6 +19,17 @@ pub record IsAtSpecial (text : List ℕ) (line : Line) (at : ℕ) : Type 0 where
   pub more : at < line.end
   pub end : IsCharBoundary text line.end
   pub special : is_special (slice_index text at) ≡ true
+
+-- the offset at which to continue after what was found at an offset
+abbrev pub next_after : ℕ → Found → ℕ
+next_after at (found.Text next) = next
+next_after at found.Escape = at + 2
+next_after at (found.Mark mark) = at + 1
+next_after at found.Image = at + 2
+next_after at (found.Backticks stop) = stop
+next_after at (found.EscapedBackticks stop) = stop
+next_after at (found.Run stop flags) = stop
+next_after at (found.Entity stop character) = stop
 
 -- one offset is after another, in a line's content that ends at `end`
 pub record LiesFurther (end at next : ℕ) : Type 0 where
@@ -36,7 +48,8 @@ FoundFits text end at (found.EscapedBackticks stop) =
     LiesFurther end (at + 1) stop × IsRunOf backtick text (at + 1) stop × IsCharBoundary text (at + 1)
 FoundFits text end at (found.Run stop flags) =
     LiesFurther end at stop × IsRunOf (slice_index text at) text at stop × (is_delimiter (slice_index text at) ≡ true)
-FoundFits text end at (found.Entity stop character) = LiesFurther end at stop × IsCharBoundary text stop
+FoundFits text end at (found.Entity stop characters) =
+    LiesFurther end at stop × IsCharBoundary text stop × (length (text_in_utf8 characters) ≤ 6)
 
 -- the character of the run appended last, after the text up to an offset is appended: none if there is any such text
 abbrev pub run_after_text : BuilderView → ℕ → Option ℕ
@@ -54,5 +67,5 @@ view_after view at (found.EscapedBackticks stop) = record view { at = stop; run 
 view_after view at (found.Run stop flags) =
     if follows_run (run_after_text view at) (slice_index view.text at) then view
     else record view { at = stop; run = Some (slice_index view.text at) }
-view_after view at (found.Entity stop character) =
-    record view { at = stop; run = None; texts = view.texts ++ encode_utf8 character ∷ [] }
+view_after view at (found.Entity stop characters) =
+    record view { at = stop; run = None; texts = view.texts ++ text_in_utf8 characters ∷ [] }

@@ -9,18 +9,20 @@ use Rattle.markdown_base.specs.Bytes.{asterisk, backslash, caret, less_than, plu
 use Rattle.markdown_base.specs.declared.item.ItemBody.{ItemBody}
 use Rattle.markdown_base.specs.declared.item.ItemBody.TheVariants as body
 use Rattle.markdown_builder.specs.BuilderView.{IsRunOf}
+use Rattle.markdown_scan.specs.Entity.{entity_names}
 use Rattle.markdown_items.specs.declared.extensions.Extensions.{Extensions}
 use Rattle.markdown_items.specs.declared.flanking.Flags.{Flags}
 use Rattle.markdown_items.specs.Flanking.{is_white, flags_of}
 
 -- what the options enable: `~` with strikethrough or subscript, `^` with superscript, quotation marks with smart
--- punctuation, `$` with math
+-- punctuation, `$` with math; and the names of entities that count
 abbrev pub extensions_of : Options → Extensions
 extensions_of options = record {
   tildes = strikethrough_on options || subscript_on options;
   carets = superscript_on options;
   quotes = smart_punctuation_on options;
   math = math_on options;
+  names = entity_names options;
 }
 
 -- a backslash precedes an offset at which a text begins, in a line's content that begins at `start`

@@ -3,6 +3,7 @@ ghost use Rattle.std.specs.Prelude.{◌≡◌};
 ghost use Rattle.markdown_items.specs.LineItems.{extensions_of};
 
 use markdown_base::options::Options;
+use markdown_scan::entity::{EntityNames, entity_names};
 
 /// The extensions of CommonMark that are read.
 #[derive(Clone, Copy)]
@@ -15,11 +16,13 @@ pub struct Extensions {
     pub quotes: bool,
     /// `$` delimits math.
     pub math: bool,
+    /// The names by which entities are read.
+    pub names: EntityNames,
 }
 
 impl Extensions {
     /// Returns what a set of options enables: `~` with strikethrough or subscript, `^` with superscript, quotation
-    /// marks with smart punctuation, `$` with math.
+    /// marks with smart punctuation, `$` with math; and the names of entities that count.
     pub fn of(options: Options) -> Extensions
         ensures { result ≡ extensions_of options }
     {
@@ -29,6 +32,7 @@ impl Extensions {
             carets: options.contains(Options::ENABLE_SUPERSCRIPT),
             quotes: options.contains(Options::ENABLE_SMART_PUNCTUATION),
             math: options.contains(Options::ENABLE_MATH),
+            names: entity_names(options),
         }
     }
 }

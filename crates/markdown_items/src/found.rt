@@ -1,8 +1,9 @@
 //! What begins at a special byte of a line's content.
 ghost use Rattle.std.specs.Prelude.{◌≡◌, ◌<◌, ◌^◌, true, slice_index};
 ghost use Rattle.markdown_base.specs.WellFormed.{is_delimiter};
-ghost use Rattle.markdown_items.specs.Found.{next_after, escape_at, entity_at, image_at, run_at, mark_at, found_at};
-ghost use Rattle.markdown_items.specs.FoundFits.{IsAtSpecial, FoundFits};
+ghost use Rattle.markdown_items.specs.Found.{escape_at, entity_at, image_at, run_at, mark_at, found_at};
+ghost use Rattle.markdown_items.specs.FoundFits.{IsAtSpecial, FoundFits, next_after};
+ghost use Rattle.markdown_items.specs.FoundView.{found_view};
 
 use crate::around::{character_after, character_before};
 use crate::delimiter_run::{run_end, run_flags};
@@ -10,7 +11,7 @@ use crate::extensions::Extensions;
 use crate::flanking::Flags;
 use crate::marks::{math_mark, quote_mark};
 use markdown_base::item::ItemBody;
-use markdown_scan::entity::scan_entity;
+use markdown_scan::entity::{Characters, scan_entity};
 use markdown_scan::laws::entity_begins_and_ends;
 
 /// A line's content, the bytes from `start` up to, but not including, `end`, with the extensions that are read in it.
@@ -38,8 +39,8 @@ pub enum Found {
     EscapedBackticks(usize),
     /// A delimiter run up to this offset, and its flags.
     Run(usize, Flags),
-    /// An entity up to this offset, and its character (CommonMark 2.5).
-    Entity(usize, char),
+    /// An entity up to this offset, and its characters (CommonMark 2.5).
+    Entity(usize, Characters),
 }
 
 impl Found {
@@ -64,7 +65,7 @@ impl Found {
 #[tactic(auto, unfolding(crate::specs::Found::escape_at))]
 fn find_escape(text: &str, line: Line, at: usize) -> Found
     requires { IsAtSpecial text.now line at }
-    ensures value { result ≡ escape_at text.now line.end at }
+    ensures value { found_view result ≡ escape_at text.now line.end at }
     ensures fits { FoundFits text.now line.end at result }
 {
     let bytes = text.as_bytes();
@@ -81,13 +82,14 @@ fn find_escape(text: &str, line: Line, at: usize) -> Found
 #[tactic(auto, unfolding(crate::specs::Found::entity_at))]
 fn find_entity(text: &str, line: Line, at: usize) -> Found
     requires { IsAtSpecial text.now line at }
-    ensures value { result ≡ entity_at text.now line.end at }
+    ensures value { found_view result ≡ entity_at line.extensions.names text.now line.end at }
     ensures fits { FoundFits text.now line.end at result }
 {
     let bytes = &text.as_bytes()[at..line.end];
-    entity_begins_and_ends(bytes);
-    match scan_entity(bytes) {
-        Some((length, character)) => Found::Entity(at + length, character),
+    let names = line.extensions.names;
+    entity_begins_and_ends(names, bytes);
+    match scan_entity(bytes, names) {
+        Some((length, characters)) => Found::Entity(at + length, characters),
         None => Found::Text(at + 1),
     }
 }
@@ -97,7 +99,7 @@ fn find_entity(text: &str, line: Line, at: usize) -> Found
 fn find_image(text: &str, line: Line, at: usize) -> Found
     requires here { IsAtSpecial text.now line at }
     requires byte { slice_index text.now at ≡ 33 }
-    ensures value { result ≡ image_at text.now line.end at }
+    ensures value { found_view result ≡ image_at text.now line.end at }
     ensures fits { FoundFits text.now line.end at result }
 {
     if at + 1 == line.end || text.as_bytes()[at + 1] != b'[' {
@@ -112,7 +114,7 @@ fn find_image(text: &str, line: Line, at: usize) -> Found
 fn find_run(text: &str, line: Line, at: usize) -> Found
     requires here { IsAtSpecial text.now line at }
     requires byte { is_delimiter (slice_index text.now at) ≡ true }
-    ensures value { result ≡ run_at line text.now at }
+    ensures value { found_view result ≡ run_at line text.now at }
     ensures fits { FoundFits text.now line.end at result }
 {
     let stop = run_end(text, at, line.end);
@@ -129,7 +131,7 @@ fn find_run(text: &str, line: Line, at: usize) -> Found
 #[tactic(auto, using(crate::proofs::ItemLemmas::past_special), unfolding(crate::specs::Found::mark_at))]
 fn find_mark(text: &str, line: Line, at: usize) -> Found
     requires { IsAtSpecial text.now line at }
-    ensures value { result ≡ mark_at line text.now at }
+    ensures value { found_view result ≡ mark_at line text.now at }
     ensures fits { FoundFits text.now line.end at result }
 {
     let byte = text.as_bytes()[at];
@@ -146,7 +148,7 @@ fn find_mark(text: &str, line: Line, at: usize) -> Found
 #[tactic(auto, unfolding(crate::specs::Found::found_at))]
 pub fn find(text: &str, line: Line, at: usize) -> Found
     requires { IsAtSpecial text.now line at }
-    ensures value { result ≡ found_at line text.now at }
+    ensures value { found_view result ≡ found_at line text.now at }
     ensures fits { FoundFits text.now line.end at result }
 {
     match text.as_bytes()[at] {

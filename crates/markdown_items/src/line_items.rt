@@ -8,7 +8,6 @@ use crate::extensions::Extensions;
 use crate::flanking::Flags;
 use crate::found::{Found, Line, find};
 use crate::special::first_special;
-use markdown_base::cow_str::CowStr;
 use markdown_base::item::ItemBody;
 use markdown_base::options::Options;
 use markdown_builder::builder::Builder;
@@ -95,7 +94,7 @@ fn append_found(
             builder.skip(at + 1);
             builder.backticks(stop, true)
         }
-        Found::Entity(stop, character) => builder.synthesize(CowStr::from(character), stop),
+        Found::Entity(stop, characters) => builder.synthesize(characters.inlined(), stop),
         Found::Text(_) | Found::Run(_, _) => Ok(()),
     }
 }
