@@ -1,7 +1,7 @@
 -- What a line begins (CommonMark, chapter 4, 5.1 and 5.2), from the bytes that are left of it inside the containers
 -- that go on in it, and from whether a paragraph is open that it may go on with.
 use Rattle.std.specs.Prelude.{ℕ, ◌+◌, ◌%◌, Bool, true, false, not, ◌==◌, ◌&&◌, ◌||◌, nat_lt, List, [], ◌∷◌, Option}
-use Rattle.std.specs.Prelude.{Some, None, length, drop, slice_get, slice_index, codes, if◌then◌else◌}
+use Rattle.std.specs.Prelude.{Some, None, length, drop, slice_index, codes, if◌then◌else◌}
 use Rattle.std.specs.Option.{option_map}
 use Rattle.markdown_base.specs.Bytes.{backtick, colon, tilde}
 use Rattle.markdown_base.specs.EnabledOptions.{footnotes_on}
@@ -18,7 +18,7 @@ use Rattle.markdown_lines.specs.HtmlBeginnings.{html_kind_of, in_one_line}
 use Rattle.markdown_scan.specs.Label.{link_label}
 use Rattle.markdown_scan.specs.LineStart.{LineLeft, Space, leading_space, past_marker}
 use Rattle.markdown_lines.specs.ListMarkers.{list_marker_at}
-use Rattle.markdown_lines.specs.SourceLines.{SourceLine, stop_of}
+use Rattle.markdown_lines.specs.SourceLines.{SourceLine}
 use Rattle.markdown_lines.specs.ThematicBreaks.{is_thematic_break, setext_level}
 
 -- a text and its options

@@ -1,8 +1,8 @@
 -- Link reference definitions (CommonMark 4.7) at the beginning of a paragraph. The lines are read as one text, without
 -- what precedes the content of each.
-use Rattle.std.specs.Prelude.{ℕ, zero, suc, ◌+◌, ◌-◌, Bool, true, false, not, ◌==◌, ◌&&◌, ◌||◌, nat_le, nat_lt}
+use Rattle.std.specs.Prelude.{ℕ, zero, suc, ◌+◌, ◌-◌, Bool, false, ◌==◌, ◌&&◌, ◌||◌, nat_le, nat_lt}
 use Rattle.std.specs.Prelude.{List, []}
-use Rattle.std.specs.Prelude.{◌∷◌, ◌++◌, Option, Some, None, length, take, drop, slice_get, slice_range, codes}
+use Rattle.std.specs.Prelude.{◌∷◌, ◌++◌, Option, Some, None, length, take, drop, slice_range, codes}
 use Rattle.std.specs.Prelude.{option_and_then, unwrap_or, if◌then◌else◌}
 use Rattle.std.specs.List.{prefix_len}
 use Rattle.std.specs.Option.{option_map, option_or}
@@ -16,6 +16,7 @@ use Rattle.markdown_scan.specs.LineStart.{is_line_over}
 use Rattle.markdown_lines.specs.Lines.{is_space_or_tab}
 use Rattle.markdown_lines.specs.SourceLines.{SourceLine}
 use Rattle.markdown_scan.specs.Unescape.{unescaped}
+use Rattle.markdown_scan.specs.declared.entity.EntityNames.{EntityNames}
 
 -- the text of a paragraph's lines, without what precedes their content
 abbrev pub text_of_lines : List ℕ → List SourceLine → List ℕ
@@ -97,34 +98,34 @@ pub record Defined : Type 0 where
   pub length : ℕ
 
 -- what follows a label, a colon and a destination of a length
-abbrev pub with_tail : List ℕ → ℕ → List ℕ → List ℕ → Option Defined
-with_tail label before target bytes =
+abbrev pub with_tail : EntityNames → List ℕ → ℕ → List ℕ → List ℕ → Option Defined
+with_tail names label before target bytes =
     option_map (λ tail. record {
       label = label;
-      destination = unescaped false target;
-      title = option_map (unescaped false) tail.title;
+      destination = unescaped names false target;
+      title = option_map (unescaped names false) tail.title;
       length = before + tail.length;
     }) (tail_of bytes)
 
 -- a destination after `before` bytes, if it is not empty
-abbrev pub with_destination : List ℕ → ℕ → List ℕ → Option Defined
-with_destination label before bytes =
+abbrev pub with_destination : EntityNames → List ℕ → ℕ → List ℕ → Option Defined
+with_destination names label before bytes =
     option_and_then (λ found. if found.0 == 0 then None
-    else with_tail label (before + found.0) found.1 (drop found.0 bytes)) (destination 32 bytes)
+    else with_tail names label (before + found.0) found.1 (drop found.0 bytes)) (destination 32 bytes)
 
 -- what follows a label of a length after its `[`: a colon, and a destination after white space
-abbrev pub with_label : List ℕ → ℕ × List ℕ → Option Defined
-with_label bytes label =
+abbrev pub with_label : EntityNames → List ℕ → ℕ × List ℕ → Option Defined
+with_label names bytes label =
     let rest = drop (label.0 + 1) bytes in
     let before = 1 + separation (drop 1 rest) in
     if begins_with (codes ":") rest
-    then with_destination label.1 (label.0 + 1 + before) (drop before rest) else None
+    then with_destination names label.1 (label.0 + 1 + before) (drop before rest) else None
 
 -- the definition that bytes begin with
-abbrev pub definition_in : List ℕ → Option Defined
-definition_in bytes =
+abbrev pub definition_in : EntityNames → List ℕ → Option Defined
+definition_in names bytes =
     if begins_with (codes "[") bytes
-    then option_and_then (with_label bytes) (link_label no_prefix false (drop 1 bytes)) else None
+    then option_and_then (with_label names bytes) (link_label no_prefix false (drop 1 bytes)) else None
 
 -- a definition in a text, with the byte offsets at which it begins and ends
 pub record Definition : Type 0 where
@@ -155,11 +156,11 @@ more_definitions rest lines (Some d) =
     record { definitions = definition_at lines d ∷ others.definitions; lines = others.lines }
 
 -- at most `n` definitions
-unfoldable pub divided_in : ℕ → List ℕ → List SourceLine → Divided
-divided_in zero text lines = record { definitions = []; lines = lines }
-divided_in (suc n) text lines =
-    more_definitions (divided_in n text) lines (definition_in (text_of_lines text lines))
+unfoldable pub divided_in : EntityNames → ℕ → List ℕ → List SourceLine → Divided
+divided_in names zero text lines = record { definitions = []; lines = lines }
+divided_in names (suc n) text lines =
+    more_definitions (divided_in names n text) lines (definition_in names (text_of_lines text lines))
 
 -- all definitions at the beginning of a paragraph, and the lines after them
-abbrev pub divided : List ℕ → List SourceLine → Divided
-divided text lines = divided_in (length lines) text lines
+abbrev pub divided : EntityNames → List ℕ → List SourceLine → Divided
+divided names text lines = divided_in names (length lines) text lines

@@ -5,6 +5,7 @@ use crate::bytes::{byte_at, bytes_of, content_start, is_white, part_of};
 use crate::held_line::HeldLine;
 use markdown_base::cow_str::CowStr;
 use markdown_scan::destination::scan_link_destination;
+use markdown_scan::entity::EntityNames;
 use markdown_scan::label::scan_link_label;
 use markdown_scan::line_rule::{NoPrefix, OneLine};
 use markdown_scan::unescape::unescape;
@@ -25,6 +26,13 @@ pub struct Definition<'a> {
 struct Spot {
     line: usize,
     at: usize,
+}
+
+/// Where a title is: at its opening mark, and up to the spot after its closing mark.
+#[derive(Clone, Copy, Drop)]
+struct TitlePlace {
+    opening: Spot,
+    end: Spot,
 }
 
 /// What follows a destination: the end of the definition, and the opening mark of its title, if it has one.
@@ -288,18 +296,18 @@ fn tail_after(text: &str, lines: &[HeldLine], after: Spot) -> Option<Tail> {
 }
 
 /// Returns the part of a title between its marks that is in the line with this number.
-fn title_part<'a>(text: &'a str, number: usize, line: HeldLine, title: Spot, end: Spot) -> &'a str {
-    let from = if number == title.line {
-        title.at.saturating_add(1)
+fn title_part<'a>(text: &'a str, number: usize, line: HeldLine, title: TitlePlace) -> &'a str {
+    let from = if number == title.opening.line {
+        title.opening.at.saturating_add(1)
     } else {
         line.start
     };
-    let to = if number == end.line {
-        end.at.saturating_sub(1)
+    let to = if number == title.end.line {
+        title.end.at.saturating_sub(1)
     } else {
         line.next
     };
-    if number < title.line || number > end.line {
+    if number < title.opening.line || number > title.end.line {
         ""
     } else {
         part_of(text, from, to)
@@ -311,17 +319,17 @@ fn joined_title(
     alloc: Global,
     text: &str,
     lines: &[HeldLine],
-    title: Spot,
-    end: Spot,
+    title: TitlePlace,
+    names: EntityNames,
 ) -> Result<CowStr<'static>, AllocError> {
     let mut joined = String::new(alloc);
     for (number, line) in lines.iter().enumerate() {
-        joined.push_str(title_part(text, number, *line, title, end))?;
-        if number >= end.line {
+        joined.push_str(title_part(text, number, *line, title))?;
+        if number >= title.end.line {
             break;
         }
     }
-    unescape(alloc, joined.as_str(), false)?.into_static(alloc)
+    unescape(alloc, joined.as_str(), false, names)?.into_static(alloc)
 }
 
 /// Returns the text between the marks of a title, unescaped.
@@ -329,14 +337,15 @@ fn title_text<'a>(
     alloc: Global,
     text: &'a str,
     lines: &[HeldLine],
-    title: Spot,
-    end: Spot,
+    title: TitlePlace,
+    names: EntityNames,
 ) -> Result<CowStr<'a>, AllocError> {
-    if title.line == end.line {
-        let inner = part_of(text, title.at.saturating_add(1), end.at.saturating_sub(1));
-        return unescape(alloc, inner, false);
+    if title.opening.line == title.end.line {
+        let start = title.opening.at.saturating_add(1);
+        let inner = part_of(text, start, title.end.at.saturating_sub(1));
+        return unescape(alloc, inner, false, names);
     }
-    joined_title(alloc, text, lines, title, end)
+    joined_title(alloc, text, lines, title, names)
 }
 
 /// Returns the destination at a spot, and the spot after it.
@@ -370,12 +379,14 @@ fn after_label<'a>(
 }
 
 /// Returns the link reference definition whose `[` is at byte offset `at`, in the first of the lines, or `None` where
-/// there is none. Escapes and entities are replaced in its destination and title, and stay in its label.
+/// there is none. Escapes, and entities by these names, are replaced in its destination and title, and stay in its
+/// label.
 pub fn read_definition<'a>(
     alloc: Global,
     text: &'a str,
     lines: &[HeldLine],
     at: usize,
+    names: EntityNames,
 ) -> Result<Option<Definition<'a>>, AllocError> {
     let Some(label) = any_label(alloc, text, lines, at)? else {
         return Ok(None);
@@ -384,9 +395,15 @@ pub fn read_definition<'a>(
         drop(label);
         return Ok(None);
     };
-    let destination = unescape(alloc, destination, false)?;
+    let destination = unescape(alloc, destination, false, names)?;
     let title = match tail.title {
-        Some(spot) => Some(title_text(alloc, text, lines, spot, tail.end)?),
+        Some(opening) => {
+            let place = TitlePlace {
+                opening,
+                end: tail.end,
+            };
+            Some(title_text(alloc, text, lines, place, names)?)
+        }
         None => None,
     };
     Ok(Some(Definition {
