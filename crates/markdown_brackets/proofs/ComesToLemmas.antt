@@ -25,6 +25,7 @@ use Rattle.markdown_brackets.specs.BracketDecision.{BracketContext, Becomes, Wri
 use Rattle.markdown_brackets.specs.BracketDecision.{a_link}
 use Rattle.markdown_brackets.specs.BracketDecision.{a_footnote, carried_out, footnote_label, footnote_written}
 use Rattle.markdown_brackets.specs.BracketDecision.{inline_link, inline_target, inline_title, link_reference, looked_up}
+use Rattle.markdown_brackets.specs.BracketDecision.{names_read}
 use Rattle.markdown_brackets.specs.BracketDecision.{question_at, to_be, uses_once_more}
 use Rattle.markdown_brackets.specs.BracketOptions.{footnote_style}
 use Rattle.markdown_brackets.specs.DecisionView.{IsBecome, knowing}
@@ -116,8 +117,8 @@ module _ {C : Type 0} (step : C → Question → Option Answer → C → Type 0)
 
   -- an inline link
   pub comes_to_tail : (o : Split ℕ) (other : Option (Written ℕ)) (t : Option scanned.LinkTail) (tail : LinkTail)
-      (found : ClosedBracket) → ReadsTail w.above.in_table t (Some tail)
-      → ((t : scanned.LinkTail) → IsTail w.above.in_table t tail
+      (found : ClosedBracket) → ReadsTail (names_read w) w.above.in_table t (Some tail)
+      → ((t : scanned.LinkTail) → IsTail (names_read w) w.above.in_table t tail
       → IsBecome w (a_link o (inline_target w t) (inline_title w t ∷ []) t.ends t.ends) found)
       → ComesTo step w (option_or (option_map (inline_link o) t) other) old old spent spent found
   comes_to_tail o other None tail found reads is = absurd reads

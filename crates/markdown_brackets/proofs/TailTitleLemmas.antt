@@ -11,6 +11,7 @@ use Rattle.markdown_base.specs.Bytes.{backslash, line_feed}
 use Rattle.markdown_base.specs.declared.tag.LinkType.TheVariants as kind
 use Rattle.markdown_scan.specs.Backslash.{is_bare}
 use Rattle.markdown_scan.specs.Unescape.{unescaped}
+use Rattle.markdown_scan.specs.declared.entity.EntityNames.{EntityNames}
 use Rattle.markdown_document.specs.LinkTitle.{Title, closer_of, joined_lines, next_line, title_at, title_in}
 use Rattle.markdown_document.specs.LinkTitle.{title_origin}
 use Rattle.markdown_document.specs.Origins.{IsSlicedOf, IsSliceWithin, made, origin_of, sliced}
@@ -93,14 +94,17 @@ title_is_at starts text i = by (closer_of (slice_index text i))
         (at (title_in closer false bytes) (is_from starts closer (i + 1) (i + 1) false (drop (i + 1) text)))
 
 -- a title is a slice only where no lines are joined in it and nothing is replaced
-sliced_unchanged : (in_table : Bool) (written : List ℕ) (joined : Bool) → title_origin in_table written joined ≡ sliced
-    → (joined ≡ false) × (unescaped in_table written ≡ written)
-sliced_unchanged in_table written true is = cc is
-sliced_unchanged in_table written false is = (refl, by (pointwise nat_eq (unescaped in_table written) written) refl is)
+sliced_unchanged : (names : EntityNames) (in_table : Bool) (written : List ℕ) (joined : Bool)
+    → title_origin names in_table written joined ≡ sliced
+    → (joined ≡ false) × (unescaped names in_table written ≡ written)
+sliced_unchanged names in_table written true is = cc is
+sliced_unchanged names in_table written false is =
+    (refl, by (pointwise nat_eq (unescaped names in_table written) written) refl is)
   where
-    by : (b : Bool) → pointwise nat_eq (unescaped in_table written) written ≡ b → (if b then sliced else made) ≡ sliced
-        → unescaped in_table written ≡ written
-    by true e is = same_text (unescaped in_table written) written (sym e)
+    by : (b : Bool) → pointwise nat_eq (unescaped names in_table written) written ≡ b
+        → (if b then sliced else made) ≡ sliced
+        → unescaped names in_table written ≡ written
+    by true e is = same_text (unescaped names in_table written) written (sym e)
     by false e is = cc is
 
 -- an empty slice
@@ -136,8 +140,8 @@ slice_of_take source end from to =
     ap (λ (l : List ℕ). take (to - from) l) (drop_of_take from end source)
     ∙ take_of_take (to - from) (end - from) (drop from source) ∙ ap (λ (n : ℕ). take n (drop from source)) both
 
-module _ (in_table : Bool) (skipped : List ℕ → Option ℕ) (starts : ℕ → Option ℕ) (source : List ℕ) (block_end at : ℕ)
-    (found : LinkTail) where
+module _ (names : EntityNames) (in_table : Bool) (skipped : List ℕ → Option ℕ) (starts : ℕ → Option ℕ)
+    (source : List ℕ) (block_end at : ℕ) (found : LinkTail) where
   abbrev text : List ℕ
   text = take block_end source
 
@@ -147,7 +151,7 @@ module _ (in_table : Bool) (skipped : List ℕ → Option ℕ) (starts : ℕ →
 
   -- it is, where that is this tail
   abbrev Titled : Option tail.LinkTail → Type 0
-  Titled t = ReadsTail in_table t (Some found) → IsWritten
+  Titled t = ReadsTail names in_table t (Some found) → IsWritten
 
   closed : (i : ℕ) (written title : List ℕ) (joined : Bool)
       → (found.end ≡ i + 1 → joined ≡ false → text_of found.title ≡ title
@@ -158,7 +162,7 @@ module _ (in_table : Bool) (skipped : List ℕ → Option ℕ) (starts : ℕ →
           → Titled (if b then Some (record { ends = i + 1; destination = written; title = title; is_joined = joined })
           else None)
       by true reads is =
-          let as_written = sliced_unchanged in_table title joined (sym reads.title_origin ∙ is) in
+          let as_written = sliced_unchanged names in_table title joined (sym reads.title_origin ∙ is) in
           h reads.ends as_written.0 (reads.title ∙ as_written.1)
       by false reads is = absurd reads
 
@@ -196,13 +200,12 @@ module _ (in_table : Bool) (skipped : List ℕ → Option ℕ) (starts : ℕ →
       by false = λ reads. absurd reads
 
 -- the title of a tail that was read up to a block's end
-pub has_title : (in_table : Bool) (skipped : List ℕ → Option ℕ) (starts : ℕ → Option ℕ) (source bytes : List ℕ)
-    (block_end at : ℕ)
-    (read : Option LinkTail) → bytes ≡ take block_end source
-    → ReadsTail in_table (link_tail skipped starts bytes at) read → IfSome read (IsTailFrom source at)
-has_title in_table skipped starts source bytes block_end at None e reads = tt
-has_title in_table skipped starts source bytes block_end at (Some found) e reads =
-    tail_titled in_table skipped starts source block_end at found (rw e at reads)
+pub has_title : (names : EntityNames) (in_table : Bool) (skipped : List ℕ → Option ℕ) (starts : ℕ → Option ℕ)
+    (source bytes : List ℕ) (block_end at : ℕ) (read : Option LinkTail) → bytes ≡ take block_end source
+    → ReadsTail names in_table (link_tail skipped starts bytes at) read → IfSome read (IsTailFrom source at)
+has_title names in_table skipped starts source bytes block_end at None e reads = tt
+has_title names in_table skipped starts source bytes block_end at (Some found) e reads =
+    tail_titled names in_table skipped starts source block_end at found (rw e at reads)
 
 -- what comes from a range comes from a wider one
 pub tail_wider : (source : List ℕ) (start start' : ℕ) (found : LinkTail) → start' ≤ start

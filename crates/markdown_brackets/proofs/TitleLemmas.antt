@@ -11,6 +11,7 @@ use Rattle.markdown_base.specs.declared.cow_str.CowStr.{CowStr}
 use Rattle.markdown_base.specs.Bytes.{backslash, carriage_return, close_parenthesis, line_feed, open_parenthesis}
 use Rattle.markdown_scan.specs.Backslash.{is_bare}
 use Rattle.markdown_scan.specs.Unescape.{unescaped}
+use Rattle.markdown_scan.specs.declared.entity.EntityNames.{EntityNames}
 use Rattle.markdown_document.specs.LinkTitle.{Title, joined_lines, next_line, title_in, title_origin}
 use Rattle.markdown_document.specs.Origins.{origin_of}
 use Rattle.markdown_brackets.specs.TitleView.{ReadsTitle}
@@ -153,8 +154,9 @@ module _ {starts : ℕ → Option ℕ} {bytes : List ℕ} {closer : ℕ} {whole 
         by (Some t) = rw (append_assoc so (shown line byte ∷ []) t.text, or_assoc is_joined (is_some line) t.is_joined)
             refl
 
-pub ReadsTitle-none : (in_table : Bool) (whole : Option Title) → whole ≡ None → ReadsTitle in_table whole None
-ReadsTitle-none in_table whole e = rw e tt
+pub ReadsTitle-none : (names : EntityNames) (in_table : Bool) (whole : Option Title) → whole ≡ None
+    → ReadsTitle names in_table whole None
+ReadsTitle-none names in_table whole e = rw e tt
 
 -- a slice with one byte more
 pub slice_more : (text : List ℕ) (start at : ℕ) → start ≤ at → at < length text
@@ -175,7 +177,8 @@ pub bare_is : (escaped : Bool) (b what : ℕ) → is_bare escaped b what ≡ tru
 bare_is escaped b what e = grind (arith, nat_tests)
 
 -- what is returned at the closing mark
-pub ReadsTitle-closed : (in_table : Bool) (whole : Option Title) (so : List ℕ) (joined : Bool) (at : ℕ) (found : CowStr)
-    → whole ≡ Some (record { ends = at + 1; text = so; is_joined = joined }) → text_of found ≡ unescaped in_table so
-    → origin_of found ≡ title_origin in_table so joined → ReadsTitle in_table whole (Some (at + 1, found))
-ReadsTitle-closed in_table whole so joined at found is text origin = rw is (refl, text, origin)
+pub ReadsTitle-closed : (names : EntityNames) (in_table : Bool) (whole : Option Title) (so : List ℕ) (joined : Bool)
+    (at : ℕ) (found : CowStr) → whole ≡ Some (record { ends = at + 1; text = so; is_joined = joined })
+    → text_of found ≡ unescaped names in_table so
+    → origin_of found ≡ title_origin names in_table so joined → ReadsTitle names in_table whole (Some (at + 1, found))
+ReadsTitle-closed names in_table whole so joined at found is text origin = rw is (refl, text, origin)

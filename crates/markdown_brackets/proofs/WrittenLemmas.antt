@@ -17,16 +17,17 @@ use Rattle.markdown_brackets.specs.LinkTail as scanned
 use Rattle.markdown_brackets.specs.LinkTailView.{ReadsTail}
 use Rattle.markdown_brackets.specs.Reference.{collapsed, shortcut, is_closing_bracket, is_opener, stands_at}
 use Rattle.markdown_brackets.specs.WrittenView.{written_at}
+use Rattle.markdown_scan.specs.declared.entity.EntityNames.{EntityNames}
 use Rattle.markdown_brackets.proofs.LabelLengthLemmas.{no_label_past_block}
 use Rattle.markdown_brackets.proofs.LinkTailLemmas.{tail_past_end}
 use Rattle.markdown_brackets.proofs.ReferenceLemmas.{form_past}
 
 -- where there is no tail, a reference is written
-pub other_written : (in_table : Bool) (o : Split ℕ) (other : Option (Written ℕ)) (t : Option scanned.LinkTail)
-    → ReadsTail in_table t None
+pub other_written : (names : EntityNames) (in_table : Bool) (o : Split ℕ) (other : Option (Written ℕ))
+    (t : Option scanned.LinkTail) → ReadsTail names in_table t None
     → other ≡ option_or (option_map (inline_link o) t) other
-other_written in_table o other None h = refl
-other_written in_table o other (Some t) h = absurd h
+other_written names in_table o other None h = refl
+other_written names in_table o other (Some t) h = absurd h
 
 pub whole_range : (text : List ℕ) (end : ℕ) → slice_range text 0 end ≡ take end text
 whole_range text end = search rules

@@ -16,7 +16,9 @@ use Rattle.markdown_document.specs.ChainRest.{start_of, end_of, open_body, as_it
 use Rattle.markdown_document.specs.Document.{Origin, Shape, TreeNode, text_over}
 use Rattle.markdown_document.specs.LinkTitle.{title_origin}
 use Rattle.markdown_document.specs.Setting.{Setting, ReferenceState}
+use Rattle.markdown_scan.specs.Entity.{entity_names}
 use Rattle.markdown_scan.specs.Unescape.{unescaped}
+use Rattle.markdown_scan.specs.declared.entity.EntityNames.{EntityNames}
 use Rattle.markdown_brackets.specs.BracketOptions.{footnote_style}
 use Rattle.markdown_brackets.specs.FootnoteUse.{is_reference}
 use Rattle.markdown_brackets.specs.LeftList.{Entry, Split, inside, is_live, nearest, opens_bracket, opens_wikilink}
@@ -241,18 +243,22 @@ found w c second left =
     (λ end. option_and_then (wikilink_found w c end) (nearest opens_wikilink (bracket_taken left))) second)
     (option_and_then (bracket_found w c) (nearest opens_bracket (left_for_one second left)))
 
+-- the names by which entities are read
+abbrev pub names_read : BracketContext → EntityNames
+names_read w = entity_names w.setting.rules.options
+
 -- the target of an inline link
 abbrev pub inline_target : BracketContext → LinkTail → LinkView
 inline_target w t = record {
   kind = kind.Inline;
-  destination = unescaped w.above.in_table t.destination;
-  title = unescaped w.above.in_table t.title;
+  destination = unescaped (names_read w) w.above.in_table t.destination;
+  title = unescaped (names_read w) w.above.in_table t.title;
   label = [];
 }
 
 -- the origin of its title
 abbrev pub inline_title : BracketContext → LinkTail → Origin
-inline_title w t = title_origin w.above.in_table t.title t.is_joined
+inline_title w t = title_origin (names_read w) w.above.in_table t.title t.is_joined
 
 -- the number of uses of each footnote, after one more use of this one
 abbrev pub uses_once_more : List ℕ → (List ℕ → ℕ) → (List ℕ → ℕ)

@@ -10,6 +10,7 @@ ghost use Rattle.markdown_brackets.specs.ReferenceView.{form_view, label_view};
 ghost use Rattle.markdown_brackets.specs.SpentEnds.{is_spent};
 ghost use Rattle.markdown_brackets.specs.WrittenView.{IsTailFrom, form_ahead, tail_ahead};
 ghost use Rattle.markdown_brackets.specs.Decides.{CanRead};
+ghost use Rattle.markdown_scan.specs.Entity.{entity_names};
 
 use crate::block_rules::BlockRules;
 use crate::items_ahead::{ItemsAhead, link_after, linked_item};
@@ -20,6 +21,7 @@ use crate::spent_ends::SpentEnds;
 use markdown_base::item::Item;
 use markdown_base::tree::Tree;
 use markdown_document::chain_place::ChainPlace;
+use markdown_scan::entity::entity_names;
 use markdown_scan::line_rule::LineRule;
 use std::alloc::{AllocError, Global};
 
@@ -40,12 +42,14 @@ impl<'r, 'a, R: LineRule> BracketReader<'r, 'a, R> {
     fn rules(&self) -> BlockRules<'r, R>
         ensures rule { result.rule.now ≡ self.now.rule.now }
         ensures in_table { result.in_table ≡ self.now.place.now.in_table }
+        ensures names { result.names ≡ entity_names self.now.place.now.options }
         ensures style { result.style ≡ footnote_style self.now.place.now.options }
     {
         BlockRules {
             alloc: self.alloc,
             rule: self.rule,
             in_table: self.place.in_table,
+            names: entity_names(self.place.options),
             style: footnote_style(self.place.options),
         }
     }
@@ -66,7 +70,8 @@ impl<'r, 'a, R: LineRule> BracketReader<'r, 'a, R> {
             × CanRead self.now.tree.now.nodes self.now.place.now self.now.node start }
         requires inside { (item_at self.now.tree.now.nodes self.now.node).end
             ≤ self.now.place.now.block_end }
-        ensures value { IfOk result (ReadsTail self.now.place.now.in_table
+        ensures value { IfOk result (ReadsTail (entity_names self.now.place.now.options)
+            self.now.place.now.in_table
             (tail_ahead self.now.tree.now.nodes self.now.place.now (R.skipped self.now.rule.now)
             self.now.node)) }
         ensures from { IfOk result (λ found. IfSome found (IsTailFrom self.now.place.now.text.now

@@ -7,7 +7,7 @@ ghost use Rattle.markdown_brackets.specs.LinkTailView.{ReadsTail, BorrowsTail};
 ghost use Rattle.markdown_document.specs.LinkTitle.{title_at};
 ghost use Rattle.markdown_brackets.specs.TitlePart.{IsTitlePart};
 
-use crate::block_rules::BlockRules;
+use crate::block_rules::{BlockRules, Replacing};
 use crate::byte_at::stands_at;
 use crate::items_after::ItemsAfter;
 use crate::link_title::scan_link_title;
@@ -70,11 +70,15 @@ fn scan_title_part<'t, R: LineRule, I: ItemsAfter>(
     requires items { (n s : ℕ) → I.starts items.old n ≡ Some s → s ≤ length text.now
         → IsCharBoundary text.now s }
     ensures value { IfOk result (λ part.
-        IsTitlePart (R.skipped rules.now.rule.now) rules.now.in_table text.now at
+        IsTitlePart (R.skipped rules.now.rule.now) rules.now.names rules.now.in_table text.now at
         (title_at (I.starts items.old) text.now at)
         part.0 part.1) }
 {
-    match scan_link_title(rules.alloc, text, at, rules.in_table, items)? {
+    let replacing = Replacing {
+        in_table: rules.in_table,
+        names: rules.names,
+    };
+    match scan_link_title(rules.alloc, text, at, replacing, items)? {
         None => Ok((at, CowStr::Borrowed(""))),
         Some((end, title)) => Ok((past_separator(text, end, rules.rule), title)),
     }
@@ -94,7 +98,7 @@ pub fn scan_link_tail<'t, R: LineRule, I: ItemsAfter>(
     requires items { (n s : ℕ) → I.starts items.old n ≡ Some s → s ≤ length text.now
         → IsCharBoundary text.now s }
     ensures value { IfOk result
-        (ReadsTail rules.now.in_table
+        (ReadsTail rules.now.names rules.now.in_table
         (link_tail (R.skipped rules.now.rule.now) (I.starts items.old) text.now at)) }
     ensures borrowed { IfOk result
         (BorrowsTail (link_tail (R.skipped rules.now.rule.now) (I.starts items.old) text.now at)) }
@@ -112,7 +116,7 @@ pub fn scan_link_tail<'t, R: LineRule, I: ItemsAfter>(
         drop(title);
         return Ok(None);
     }
-    let destination = unescape(rules.alloc, written, rules.in_table)?;
+    let destination = unescape(rules.alloc, written, rules.in_table, rules.names)?;
     Ok(Some(LinkTail {
         end: close + 1,
         destination,

@@ -8,6 +8,7 @@ ghost use Rattle.markdown_document.specs.LinkTitle as title;
 ghost use Rattle.markdown_document.specs.LinkTitle.{joined_lines, title_at, title_in};
 ghost use Rattle.markdown_brackets.specs.TitleView.{ReadsTitle};
 
+use crate::block_rules::Replacing;
 use crate::items_after::ItemsAfter;
 use crate::title_text::TitleText;
 use markdown_base::cow_str::CowStr;
@@ -83,7 +84,7 @@ fn scan_title_text<'t, I: ItemsAfter>(
     alloc: Global,
     text: &'t str,
     from: TitleStart,
-    in_table: bool,
+    replacing: Replacing,
     items: &mut I,
 ) -> Result<Option<(usize, CowStr<'t>)>, AllocError>
     requires start { IsCharBoundary text.now from.start }
@@ -91,7 +92,7 @@ fn scan_title_text<'t, I: ItemsAfter>(
     requires items { (n s : ℕ) → I.starts items.old n ≡ Some s → s ≤ length text.now
         → IsCharBoundary text.now s }
     ensures value { IfOk result (
-        ReadsTitle in_table
+        ReadsTitle replacing.names replacing.in_table
         (title_in from.closer false (joined_lines (I.starts items.old) from.start 0 text.now))) }
     ensures within { IfOk result (λ found. IfSome found (λ t. IsCharBoundary text.now t.0)) }
 {
@@ -102,7 +103,7 @@ fn scan_title_text<'t, I: ItemsAfter>(
     'title: while at < bytes.len() {
         let byte = bytes[at];
         if is_bare(escaped, byte, from.closer) {
-            return Ok(Some((at + 1, title.finish(alloc, at, in_table)?)));
+            return Ok(Some((at + 1, title.finish(alloc, at, replacing)?)));
         }
         if refuses(from.closer, escaped, byte) {
             return Ok(None);
@@ -131,13 +132,14 @@ pub fn scan_link_title<'t, I: ItemsAfter>(
     alloc: Global,
     text: &'t str,
     at: usize,
-    in_table: bool,
+    replacing: Replacing,
     items: &mut I,
 ) -> Result<Option<(usize, CowStr<'t>)>, AllocError>
     requires at { IsCharBoundary text.now at }
     requires items { (n s : ℕ) → I.starts items.old n ≡ Some s → s ≤ length text.now
         → IsCharBoundary text.now s }
-    ensures value { IfOk result (ReadsTitle in_table (title_at (I.starts items.old) text.now at)) }
+    ensures value { IfOk result (ReadsTitle replacing.names replacing.in_table
+        (title_at (I.starts items.old) text.now at)) }
     ensures within { IfOk result (λ found. IfSome found (λ t. IsCharBoundary text.now t.0)) }
 {
     match closer_at(text, at) {
@@ -146,7 +148,7 @@ pub fn scan_link_title<'t, I: ItemsAfter>(
                 start: at + 1,
                 closer,
             };
-            scan_title_text(alloc, text, from, in_table, items)
+            scan_title_text(alloc, text, from, replacing, items)
         }
         None => Ok(None),
     }

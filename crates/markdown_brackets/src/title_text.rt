@@ -2,6 +2,7 @@
 ghost use Rattle.std.specs.Prelude.{◌≡◌, [], false, string_bytes};
 ghost use Rattle.std.specs.Str.{IsCharBoundary};
 
+use crate::block_rules::Replacing;
 use markdown_base::cow_str::CowStr;
 use markdown_scan::unescape::unescape;
 use std::alloc::{AllocError, Global};
@@ -70,22 +71,23 @@ impl<'t> TitleText<'t> {
         self,
         alloc: Global,
         at: usize,
-        in_table: bool,
+        replacing: Replacing,
     ) -> Result<CowStr<'t>, AllocError>
         requires order { self.from ≤ at }
         requires here { IsCharBoundary self.text.now at }
         ensures text { IfOk result (λ made. text_of made
-            ≡ unescaped in_table (so_far self.entry at)) }
+            ≡ unescaped replacing.names replacing.in_table (so_far self.entry at)) }
         ensures origin { IfOk result (λ made. origin_of made
-            ≡ title_origin in_table (so_far self.entry at) self.entry.is_joined) }
+            ≡ title_origin replacing.names replacing.in_table (so_far self.entry at)
+            self.entry.is_joined) }
     {
         let last = &self.text[self.from..at];
         if !self.is_joined {
-            return unescape(alloc, last, in_table);
+            return unescape(alloc, last, replacing.in_table, replacing.names);
         }
         let mut joined = self.joined;
         joined.push_str(last)?;
-        let made = unescape(alloc, joined.as_str(), in_table)?;
+        let made = unescape(alloc, joined.as_str(), replacing.in_table, replacing.names)?;
         made.into_static(alloc)
     }
 }

@@ -10,7 +10,7 @@ ghost use Rattle.markdown_base.specs.declared.fault.Fault.{Fault};
 ghost use Rattle.markdown_base.specs.declared.item.ItemBody.{ItemBody};
 ghost use Rattle.markdown_document.specs.ChainRest.{start_of};
 ghost use Rattle.markdown_brackets.specs.BracketDecision.{BracketContext, Closing, a_link, bracket_found};
-ghost use Rattle.markdown_brackets.specs.BracketDecision.{footnote_written, full, inline_target, inline_title};
+ghost use Rattle.markdown_brackets.specs.BracketDecision.{footnote_written, full, inline_target, inline_title, names_read};
 ghost use Rattle.markdown_brackets.specs.BracketDecision.{link_reference, own_written};
 ghost use Rattle.markdown_brackets.specs.ChainAhead.{reaches_closer};
 ghost use Rattle.markdown_brackets.specs.Decides.{CanTry};
@@ -43,7 +43,7 @@ use markdown_scan::line_rule::LineRule;
 // Returns the inline link or image with this tail.
 fn inline_link(opener: Opener, tail: LinkTail<'_>) -> ClosedBracket<'_>
     ensures { (w : BracketContext) (o : Split ℕ) (t : scanned.LinkTail) → opener ≡ opener_of o
-        → IsTail w.above.in_table t tail.entry
+        → IsTail (names_read w) w.above.in_table t tail.entry
         → IsTailFrom w.setting.text (start_of o.opener) tail.entry
         → IsBecome w (a_link o (inline_target w t) (inline_title w t ∷ []) t.ends t.ends) result }
 {

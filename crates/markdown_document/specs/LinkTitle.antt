@@ -8,6 +8,7 @@ use Rattle.markdown_base.specs.Bytes.{apostrophe, backslash, carriage_return, cl
 use Rattle.markdown_base.specs.Bytes.{line_feed, open_parenthesis}
 use Rattle.markdown_scan.specs.Backslash.{is_bare}
 use Rattle.markdown_scan.specs.Unescape.{unescaped}
+use Rattle.markdown_scan.specs.declared.entity.EntityNames.{EntityNames}
 use Rattle.markdown_document.specs.Origins.{Origin, sliced, made}
 
 -- a title: the byte offset after its closing mark, its text as written, with lines joined, and whether any were
@@ -44,9 +45,9 @@ title_in closer escaped ((i, b, is_line) ∷ bytes) =
 
 -- the origin of a title in an event, from its text as written: it is the slice of the source between its marks, if no
 -- lines are joined in it and nothing in it is replaced
-abbrev pub title_origin : (in_table : Bool) → List ℕ → (is_joined : Bool) → Origin
-title_origin in_table written is_joined =
-    if not is_joined && pointwise nat_eq (unescaped in_table written) written then sliced else made
+abbrev pub title_origin : EntityNames → (in_table : Bool) → List ℕ → (is_joined : Bool) → Origin
+title_origin names in_table written is_joined =
+    if not is_joined && pointwise nat_eq (unescaped names in_table written) written then sliced else made
 
 -- the mark that closes a title which this byte opens, if it opens one
 abbrev pub closer_of : ℕ → Option ℕ

@@ -17,7 +17,9 @@ returns-then-not-stands_at g c =
     c.args.text.now c.args.at
     (sym c.stands_at.ensures.value ∙ c.if-not-stands_at.true) in
     record {
-      value = subst (λ (t : Option tail.LinkTail). ReadsTail c.args.rules.now.in_table t None) (sym none) tt;
+      value = subst
+          (λ (t : Option tail.LinkTail). ReadsTail c.args.rules.now.names c.args.rules.now.in_table t None)
+          (sym none) tt;
       borrowed = subst (λ (t : Option tail.LinkTail). BorrowsTail t None) (sym none) tt;
     }
 
@@ -25,14 +27,16 @@ pub returns-then-not-stands_at-2 : goal.returns-then-not-stands_at-2
 returns-then-not-stands_at-2 g c =
     let start = c.past_separator-start.ensures.value in
     let next = c.past_separator-next.ensures.value in
-    let none = tail_open _ _ _ _ _ _ _ _ _
-    (tail_closes c.args.rules.now.in_table (g.R.LineRule.skipped c.args.rules.now.rule.now)
+    let none = tail_open _ _ _ _ _ _ _ _ _ _
+    (tail_closes c.args.rules.now.names c.args.rules.now.in_table (g.R.LineRule.skipped c.args.rules.now.rule.now)
     (g.I.ItemsAfter.starts c.args.items.now) c.args.text.now c.args.at c.in_ok-close.close c.in-Some.written.now
     c.in_ok-close.title c.in-Some.length (sym c.stands_at.ensures.value ∙ c.if-not-stands_at.false)
     (rw start at (sym c.in-Some.ensures.value)) (rw start at (rw next at c.in_ok-close.ensures.value)))
     (sym c.stands_at-2.ensures.value ∙ c.if-not-stands_at-2.true) in
     record {
-      value = subst (λ (t : Option tail.LinkTail). ReadsTail c.args.rules.now.in_table t None) (sym none) tt;
+      value = subst
+          (λ (t : Option tail.LinkTail). ReadsTail c.args.rules.now.names c.args.rules.now.in_table t None)
+          (sym none) tt;
       borrowed = subst (λ (t : Option tail.LinkTail). BorrowsTail t None) (sym none) tt;
     }
 
@@ -40,10 +44,10 @@ pub returns : goal.returns
 returns g c =
     let start = c.past_separator-start.ensures.value in
     let next = c.past_separator-next.ensures.value in
-    let there = tail_reads _ _ _ _ _ _ _ _ c.in_ok-destination.destination
+    let there = tail_reads _ _ _ _ _ _ _ _ _ c.in_ok-destination.destination
     (sym c.stands_at-2.ensures.value ∙ c.if-not-stands_at-2.false) c.in_ok-destination.ensures.value
     c.in_ok-destination.ensures.borrowed _
-    (tail_closes c.args.rules.now.in_table (g.R.LineRule.skipped c.args.rules.now.rule.now)
+    (tail_closes c.args.rules.now.names c.args.rules.now.in_table (g.R.LineRule.skipped c.args.rules.now.rule.now)
     (g.I.ItemsAfter.starts c.args.items.now) c.args.text.now c.args.at c.in_ok-close.close c.in-Some.written.now
     c.in_ok-close.title c.in-Some.length (sym c.stands_at.ensures.value ∙ c.if-not-stands_at.false)
     (rw start at (sym c.in-Some.ensures.value)) (rw start at (rw next at c.in_ok-close.ensures.value))) in

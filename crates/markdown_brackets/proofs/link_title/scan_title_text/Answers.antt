@@ -11,7 +11,7 @@ use Rattle.markdown_brackets.proofs.link_title.scan_title_text.Goals as goal
 
 pub returns-then-is_bare-clause-value : goal.returns-then-is_bare-clause-value
 returns-then-is_bare-clause-value g c =
-    ReadsTitle-closed c.args.in_table _ _ _ _ c.in_ok-finish.field-0
+    ReadsTitle-closed c.args.replacing.names c.args.replacing.in_table _ _ _ _ c.in_ok-finish.field-0
     (closes c.title.invariant.read c.title-test.true (sym c.is_bare.ensures ∙ c.if-is_bare.true))
     c.in_ok-finish.ensures.text c.in_ok-finish.ensures.origin
 
@@ -27,7 +27,7 @@ returns-then-is_bare-clause-within g c =
 
 pub returns-then-refuses-clause-value : goal.returns-then-refuses-clause-value
 returns-then-refuses-clause-value g c =
-    ReadsTitle-none c.args.in_table _
+    ReadsTitle-none c.args.replacing.names c.args.replacing.in_table _
     (refused c.title.invariant.read c.title-test.true (sym c.is_bare.ensures ∙ c.if-is_bare.false)
     (sym c.refuses.ensures ∙ c.if-refuses.true))
 
@@ -46,7 +46,8 @@ returns-then-line-bytes-clause-value g c =
     (sym c.is_bare.ensures ∙ c.if-is_bare.false) (sym c.refuses.ensures ∙ c.if-refuses.false)
     (invariant.later (c.title.at + 1) (omega arith))
     c.in-Some.ensures.value refl c.in-Some.ensures.past.0 refl refl refl in
-    ReadsTitle-none c.args.in_table _ (past_end on (omega (arith, c.if-line-bytes.true)))
+    ReadsTitle-none c.args.replacing.names c.args.replacing.in_table _
+    (past_end on (omega (arith, c.if-line-bytes.true)))
 
 pub title-preserved-in-Some : goal.title-preserved-in-Some
 title-preserved-in-Some g c =
@@ -102,4 +103,6 @@ title-preserved g c =
     }
 
 pub returns-clause-value : goal.returns-clause-value
-returns-clause-value g c = ReadsTitle-none c.args.in_table _ (past_end c.title.invariant.read c.title-test.false)
+returns-clause-value g c =
+    ReadsTitle-none c.args.replacing.names c.args.replacing.in_table _
+    (past_end c.title.invariant.read c.title-test.false)

@@ -14,10 +14,12 @@ returns-clause-value g c =
     let at = c.args.self.now in
     let rules = c.rules.result in
     let text = c.range-text.ensures.value ∙ whole_range at.place.now.text.now at.place.now.block_end in
-    let read : IfOk c.scan_link_tail.result (ReadsTail rules.in_table (link_tail (g.R.LineRule.skipped rules.rule.now)
-    (starts_from at.tree.now.nodes c.next.result) c.range-text.result.now c.item.result.now.end))
+    let read : IfOk c.scan_link_tail.result (ReadsTail rules.names rules.in_table
+    (link_tail (g.R.LineRule.skipped rules.rule.now) (starts_from at.tree.now.nodes c.next.result)
+    c.range-text.result.now c.item.result.now.end))
     = c.scan_link_tail.ensures.value in
-    rw (c.rules.ensures.in_table, c.rules.ensures.rule, c.next.ensures.value, text, c.item.ensures no_item) at read
+    rw (c.rules.ensures.names, c.rules.ensures.in_table, c.rules.ensures.rule, c.next.ensures.value, text)
+    at (rw (c.item.ensures no_item) at read)
 
 pub returns-clause-from : goal.returns-clause-from
 returns-clause-from g c =
@@ -27,6 +29,6 @@ returns-clause-from g c =
     rw (c.item.ensures no_item) at
     (ok_map c.scan_link_tail.result _ _ c.scan_link_tail.ensures.value
     (λ found reads.
-    has_title c.rules.result.in_table (g.R.LineRule.skipped c.rules.result.rule.now)
+    has_title c.rules.result.names c.rules.result.in_table (g.R.LineRule.skipped c.rules.result.rule.now)
     (starts_from at.tree.now.nodes c.next.result)
     place.text.now c.range-text.result.now place.block_end c.item.result.now.end found text reads))
