@@ -2,6 +2,7 @@
 //! that return a `Result` fail only where memory is refused.
 ghost use Rattle.std.specs.Prelude.{◌≡◌, ◌++◌, ◌∷◌, [], true, false, ℕ, List, IfOk};
 ghost use Rattle.markdown_base.specs.declared.item.ItemBody.TheVariants as body;
+ghost use Rattle.markdown_scan.specs.Entity.{entity_names};
 ghost use Rattle.markdown_scan.specs.Unescape.{unescaped};
 ghost use Rattle.markdown_lines.specs.LineBytes.{IsPartOf};
 ghost use Rattle.markdown_plain.specs.declared.pass.LeafKind.TheVariants as leaf_kind;
@@ -20,6 +21,7 @@ use markdown_lines::html_kind::HtmlKind;
 use markdown_lines::line::Line;
 use markdown_lines::position::Position;
 use markdown_lines::space::read_space;
+use markdown_scan::entity::entity_names;
 use markdown_scan::unescape::unescape;
 use std::alloc::AllocError;
 
@@ -108,14 +110,14 @@ impl<'a> Pass<'a> {
             × IsPartOf self.old.placing.builder.text opening.from opening.to info
             × IfFitted self.old.placing self.new.placing
             (OpensFenced self.old.placing.builder self.new.placing.builder
-            at line.next (unescaped false info))) }
+            at line.next (unescaped (entity_names self.old.options) false info))) }
         ensures kind { IfOk result (λ _. self.new.leaf ≡ leaf_kind.Fenced opening.fence) }
         ensures same { self.new
             ≡ record self.old { placing = self.new.placing; leaf = self.new.leaf } }
     {
         self.placing.step_to(at);
         let source = part_of(self.placing.text(), opening.from, opening.to);
-        let info = unescape(self.alloc, source, false)?;
+        let info = unescape(self.alloc, source, false, entity_names(self.options))?;
         self.placing.open_code(info)?;
         self.placing.step_to(line.next);
         self.leaf = LeafKind::Fenced(opening.fence);

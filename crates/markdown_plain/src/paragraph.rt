@@ -19,6 +19,7 @@ use markdown_lines::definition::read_definition;
 use markdown_lines::held_line::HeldLine;
 use markdown_lines::line::Line;
 use markdown_lines::line_break::line_break;
+use markdown_scan::entity::{EntityNames, entity_names};
 use std::alloc::{AllocError, Global};
 
 /// Takes the definition at the beginning of a paragraph's lines, up to the end of its last line, and returns its number
@@ -27,6 +28,7 @@ fn take_definition<'a>(
     alloc: Global,
     placing: &mut Placing<'a>,
     lines: &[HeldLine],
+    names: EntityNames,
 ) -> Result<usize, AllocError>
     ensures text { IfOk result (λ _. placing.new.builder.text ≡ placing.old.builder.text) }
     ensures steps { IfOk result (λ _. IfFitted placing.old placing.new
@@ -43,7 +45,7 @@ fn take_definition<'a>(
     if byte_at(text, first.start) != Some(b'[') {
         return Ok(0);
     }
-    let Some(found) = read_definition(alloc, text, lines, first.start)? else {
+    let Some(found) = read_definition(alloc, text, lines, first.start, names)? else {
         return Ok(0);
     };
     let taken = found.lines.max(1).min(lines.len());
@@ -59,6 +61,7 @@ fn take_definitions<'a>(
     alloc: Global,
     placing: &mut Placing<'a>,
     lines: &[HeldLine],
+    names: EntityNames,
 ) -> Result<usize, AllocError>
     ensures text { IfOk result (λ _. placing.new.builder.text ≡ placing.old.builder.text) }
     ensures steps { IfOk result (λ _. IfFitted placing.old placing.new
@@ -72,7 +75,7 @@ fn take_definitions<'a>(
         if taken >= lines.len() {
             break;
         }
-        let more = take_definition(alloc, placing, &lines[taken..])?;
+        let more = take_definition(alloc, placing, &lines[taken..], names)?;
         if more == 0 {
             break;
         }
@@ -233,7 +236,8 @@ impl<'a> Pass<'a> {
         ensures same { self.new
             ≡ record self.old { placing = self.new.placing; lines = self.new.lines } }
     {
-        let taken = take_definitions(self.alloc, &mut self.placing, &self.lines)?;
+        let names = entity_names(self.options);
+        let taken = take_definitions(self.alloc, &mut self.placing, &self.lines, names)?;
         let left = taken < self.lines.len();
         if left {
             place_paragraph(&mut self.placing, &self.lines, taken, heading, self.options)?;
