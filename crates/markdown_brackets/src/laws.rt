@@ -59,7 +59,8 @@ pub fn no_two_questions_end_together()
 {}
 
 /// States that no link contains a link other than an autolink once a chain is read, if the chain contains no links
-/// other than autolinks and the rule for items other than brackets adds none.
+/// other than autolinks and the rule for items other than brackets adds none. Those to addresses count as autolinks
+/// where addresses are on.
 pub fn no_link_stands_in_a_link()
     ensures { NoLinkLaw ℕ × NoLinkLaw ⊤ }
 {}
