@@ -17,9 +17,14 @@ use Rattle.markdown_document.specs.Origins.{IsSliceWithin}
 use Rattle.markdown_document.specs.Places.{trees_from}
 use Rattle.markdown_document.specs.PlacedNodes.{IsPlaced}
 use Rattle.markdown_document.specs.Tables.{Tables}
-use Rattle.markdown_spans.specs.AfterLess.{Markup, autolink, html_markup, declared_end, html_at, markup_at, unbroken}
+use Rattle.markdown_spans.specs.AfterLess.{Markup, address_at, autolink, html_markup, declared_end, html_at, markup_at}
+use Rattle.markdown_spans.specs.AfterLess.{unbroken}
 use Rattle.markdown_spans.specs.Autolink.{begins_scheme, closed_uri, uri_length, uri_autolink}
+use Rattle.markdown_spans.specs.EmailAutolink.{closed_address}
 use Rattle.markdown_spans.specs.Finds.{end_of_markup}
+use Rattle.markdown_spans.specs.declared.after_less.AutolinkKind.{AutolinkKind}
+use Rattle.markdown_spans.specs.declared.after_less.AutolinkKind.TheVariants.{Uri, Email}
+use Rattle.markdown_spans.proofs.AfterLessLemmas.{address_closed}
 use Rattle.markdown_spans.proofs.SliceLemmas.{slice_between}
 use Rattle.markdown_document.proofs.OriginLemmas.{slice_wider}
 use Rattle.markdown_raw_html.specs.HtmlTag.{html_tag}
@@ -200,21 +205,47 @@ uri_ends text at = by_byte (begins_scheme (drop at text)) (slice_index (drop at 
         }
 
 -- the URI of an autolink is a slice of the text, before its end
-uri_slice : (text : List ℕ) (at : ℕ) → IfSome (uri_autolink text at) (λ found. IsSliceWithin text at found.0 found.1)
-uri_slice text at = by (closed_uri (drop at text))
-  where
-    by : (size : Option ℕ) → IfSome {T = ℕ × List ℕ} (option_map (λ n. (at + n + 1, take n (drop at text))) size)
-        (λ found. IsSliceWithin text at found.0 found.1)
-    by None = tt
-    by (Some n) =
-        let size : n ≡ at + n - at = omega arith in
-        let bytes = take n (drop at text) in
-        slice_wider text at (at + n) at (at + n + 1) bytes (omega arith) (omega arith)
-        (slice_between text at (at + n) bytes (ap (λ k. take k (drop at text)) size))
+slice_before : (text : List ℕ) (at : ℕ) (size : Option ℕ)
+    → IfSome {T = ℕ × List ℕ} (option_map (λ n. (at + n + 1, take n (drop at text))) size)
+    (λ found. IsSliceWithin text at found.0 found.1)
+slice_before text at None = tt
+slice_before text at (Some n) =
+    let size : n ≡ at + n - at = omega arith in
+    let bytes = take n (drop at text) in
+    slice_wider text at (at + n) at (at + n + 1) bytes (omega arith) (omega arith)
+    (slice_between text at (at + n) bytes (ap (λ k. take k (drop at text)) size))
 
--- an autolink has bytes after its `<`, of which its URI is a slice
+uri_slice : (text : List ℕ) (at : ℕ) → IfSome (uri_autolink text at) (λ found. IsSliceWithin text at found.0 found.1)
+uri_slice text at = slice_before text at (closed_uri (drop at text))
+
+-- an autolink to an address
+address_ends : (addresses : Bool) (text : List ℕ) (at : ℕ)
+    → IfSome (address_at addresses text at) (λ found. EndsClosed text at found.0)
+address_ends false text at = tt
+address_ends true text at = by (closed_address (drop at text)) refl
+  where
+    by : (size : Option ℕ) → closed_address (drop at text) ≡ size
+        → IfSome {T = ℕ × List ℕ} (option_map (λ n. (at + n + 1, take n (drop at text))) size)
+        (λ found. EndsClosed text at found.0)
+    by None e = tt
+    by (Some n) e =
+        let place : at + n ≡ at + n + 1 - 1 = omega arith in
+        let closed = address_closed (drop at text) n e in
+        record {
+          after = omega arith;
+          within = omega (arith, closed.0, length-drop at text);
+          closed = ap (λ i. get_or text i 0) (sym place) ∙ (sym (get_or-drop at text n 0) ∙ closed.1);
+        }
+
+-- its address is a slice of the text, before its end
+address_slice : (addresses : Bool) (text : List ℕ) (at : ℕ)
+    → IfSome (address_at addresses text at) (λ found. IsSliceWithin text at found.0 found.1)
+address_slice false text at = tt
+address_slice true text at = slice_before text at (closed_address (drop at text))
+
+-- an autolink has bytes after its `<`, of which its URI or its address is a slice
 abbrev pub EndsPast : List ℕ → ℕ → Markup → Type 0
-EndsPast text at (autolink end uri) = (at < end) × IsSliceWithin text at end uri
+EndsPast text at (autolink kind end bytes) = (at < end) × IsSliceWithin text at end bytes
 EndsPast text at (html_markup end bytes) = Unit {0}
 
 pub record MarkupEnds (text : List ℕ) (start at : ℕ) (m : Markup) : Type 0 where
@@ -222,25 +253,33 @@ pub record MarkupEnds (text : List ℕ) (start at : ℕ) (m : Markup) : Type 0 w
   pub address : EndsPast text at m
 
 -- what is found from a `<` on ends so
-pub markup_ends : (skipped : List ℕ → Option ℕ) (text : List ℕ) (start at : ℕ) (m : Markup) → start < at
-    → at ≤ length text → markup_at skipped text start at ≡ Some m → MarkupEnds text start at m
+pub markup_ends : (skipped : List ℕ → Option ℕ) (addresses : Bool) (text : List ℕ) (start at : ℕ) (m : Markup)
+    → start < at → at ≤ length text → markup_at skipped addresses text start at ≡ Some m → MarkupEnds text start at m
 unfolding markup_at
-markup_ends skipped text start at m later within e =
+markup_ends skipped addresses text start at m later within e =
     subst (λ (o : Option Markup). IfSome o (MarkupEnds text start at)) e
-    (first_of (uri_autolink text at) (html_at skipped text start at) (uri_ends text at) (uri_slice text at)
+    (first_of (uri_autolink text at) (address_at addresses text at) (html_at skipped text start at) (uri_ends text at)
+    (uri_slice text at) (address_ends addresses text at) (address_slice addresses text at)
     (html_ends skipped text start at later within))
   where
-    first_of : (uri : Option (ℕ × List ℕ)) (tag : Option (ℕ × Option (List ℕ)))
+    link_ends : (kind : AutolinkKind) (found : ℕ × List ℕ) → EndsClosed text at found.0
+        → IsSliceWithin text at found.0 found.1 → MarkupEnds text start at (autolink kind found.0 found.1)
+    link_ends kind found h u = record {
+      ends = record { after = omega (arith, h.after, later); within = h.within; closed = h.closed };
+      address = (h.after, u);
+    }
+
+    first_of : (uri address : Option (ℕ × List ℕ)) (tag : Option (ℕ × Option (List ℕ)))
         → IfSome uri (λ found. EndsClosed text at found.0) → IfSome uri (λ found. IsSliceWithin text at found.0 found.1)
-        → EndsAt text start tag → IfSome (option_or (option_map (λ found. autolink found.0 found.1) uri)
-        (option_map (λ found. html_markup found.0 found.1) tag)) (MarkupEnds text start at)
-    first_of (Some found) tag h u k =
-        record {
-          ends = record { after = omega (arith, h.after, later); within = h.within; closed = h.closed };
-          address = (h.after, u);
-        }
-    first_of None (Some found) h u k = record { ends = k; address = tt }
-    first_of None None h u k = tt
+        → IfSome address (λ found. EndsClosed text at found.0)
+        → IfSome address (λ found. IsSliceWithin text at found.0 found.1)
+        → EndsAt text start tag → IfSome (option_or (option_map (λ found. autolink Uri found.0 found.1) uri)
+        (option_or (option_map (λ found. autolink Email found.0 found.1) address)
+        (option_map (λ found. html_markup found.0 found.1) tag))) (MarkupEnds text start at)
+    first_of (Some found) address tag h u i v k = link_ends Uri found h u
+    first_of None (Some found) tag h u i v k = link_ends Email found i v
+    first_of None None (Some found) h u i v k = record { ends = k; address = tt }
+    first_of None None None h u i v k = tt
 
 -- the node of a `<`, at which something was found that ends with `>`
 pub found_at : (source : List ℕ) (tables : Tables) (nodes : List (Node Item)) (ix end : ℕ)

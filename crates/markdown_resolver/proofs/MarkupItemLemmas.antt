@@ -19,10 +19,11 @@ use Rattle.markdown_base.specs.declared.index.CowIndex.{CowIndex}
 use Rattle.markdown_base.specs.declared.index.LinkIndex.{LinkIndex}
 use Rattle.markdown_base.specs.declared.item.Item.{Item}
 use Rattle.markdown_base.specs.declared.node.Node.{Node}
+use Rattle.markdown_base.specs.declared.tag.LinkType.{LinkType}
 use Rattle.markdown_base.proofs.ArenaForestLemmas.{opens}
 use Rattle.markdown_document.specs.ChainRest.{joined_chains, past}
 use Rattle.markdown_document.specs.Document.{Plain}
-use Rattle.markdown_document.specs.LinkOrigins.{IsLinkFrom, titles_for}
+use Rattle.markdown_document.specs.LinkOrigins.{IsLinkFrom, IsTitleFrom, titles_for}
 use Rattle.markdown_document.specs.Origins.{IsSliceWithin, Origin, origin_of, sliced}
 use Rattle.markdown_document.specs.Places.{tree_node_at, trees_from}
 use Rattle.markdown_document.specs.PlacedNodes.{HasSliceLink, IsPlaced}
@@ -30,8 +31,10 @@ use Rattle.markdown_document.specs.Setting.{Rules, setting_of}
 use Rattle.markdown_document.specs.Tables.{Tables, link_at, link_origins, tables_of, titles_at}
 use Rattle.markdown_document.specs.NamedEntries.{HasGrown, Named, link_origins_at, number_of, size_for, some_link}
 use Rattle.markdown_document.specs.NamedEntries.{some_text, times_named}
-use Rattle.markdown_spans.specs.AfterLess.{Markup, autolink, html_markup, markup_at}
-use Rattle.markdown_spans.specs.Finds.{address, markup_trees}
+use Rattle.markdown_spans.specs.AfterLess.{Markup, address_at, autolink, html_markup, markup_at}
+use Rattle.markdown_spans.specs.Finds.{address, link_type, markup_trees}
+use Rattle.markdown_spans.specs.declared.after_less.AutolinkKind.{AutolinkKind}
+use Rattle.markdown_spans.specs.declared.after_less.AutolinkKind.TheVariants.{Uri, Email}
 use Rattle.markdown_raw_html.specs.HtmlTag.{html_tag}
 use Rattle.markdown_raw_html.specs.TagSource.{tag_at, tag_lengths, tag_of}
 use Rattle.markdown_raw_html.proofs.RawHtmlLemmas.{EndsWith}
@@ -110,14 +113,18 @@ no_tag skipped text start past = rw (drop_all start text past) (cases (html_tag 
     cases None h = refl
     cases (Some n) h = absurd (omega (arith, h.some, h.within))
 
-pub none_past_end : (skipped : List ℕ → Option ℕ) (text : List ℕ) (start at : ℕ) → length text ≤ start → start < at
-    → markup_at skipped text start at ≡ None
+no_address : (addresses : Bool) (text : List ℕ) (at : ℕ) → length text ≤ at → address_at addresses text at ≡ None
+no_address true text at past = rw (drop_all at text past) refl
+no_address false text at past = refl
+
+pub none_past_end : (skipped : List ℕ → Option ℕ) (addresses : Bool) (text : List ℕ) (start at : ℕ)
+    → length text ≤ start → start < at → markup_at skipped addresses text start at ≡ None
 unfolding markup_at
-none_past_end skipped text start at past later =
+none_past_end skipped addresses text start at past later =
     let beyond : length text ≤ at = omega (arith, past, later) in
     let byte : slice_index text at ≡ 0 = get_or_past text at 0 beyond in
     let tag = no_tag skipped text start past in
-    rw (drop_all at text beyond, byte, tag) refl
+    rw (no_address addresses text at beyond, drop_all at text beyond, byte, tag) refl
 
 -- a link that was put into its table is found there
 link_pushed : (links : List LinkParts) (link : LinkParts) (n : ℕ) → n ≡ length links → link_at (links ++ link ∷ []) n
@@ -163,14 +170,22 @@ link_put source start end held held' link number view put last from same = rw pu
   slices = from_pushed source start end held.links link number.0 view last same from;
 })
 
--- the entry of an autolink leads to its URI in the source
-pub address_from : (source : List ℕ) (start end : ℕ) (title : Origin) (uri : List ℕ)
-    → IsSliceWithin source start end uri
-    → IsLinkFrom source start end (record { destination = sliced; title = title }) (address uri)
-address_from source start end title uri slice = record {
+-- the entry of an autolink leads to its URI or its address in the source
+pub address_from : (source : List ℕ) (start end : ℕ) (title : Origin) (kind : AutolinkKind) (bytes : List ℕ)
+    → IsSliceWithin source start end bytes
+    → IsLinkFrom source start end (record { destination = sliced; title = title }) (address kind bytes)
+address_from source start end title kind bytes slice = record {
   leads = λ e. record { destination = slice; no_title = refl; no_label = refl };
-  title = tt;
+  title = no_title kind;
 }
+  where
+    no_title : (kind : AutolinkKind) → IsTitleFrom source start end (link_type kind) title []
+    no_title Uri = tt
+    no_title Email = tt
+
+pub address_is : (written : LinkType) (kind : AutolinkKind) (bytes : List ℕ) → written ≡ link_type kind
+    → record { kind = written; destination = bytes; title = []; label = [] } ≡ address kind bytes
+address_is written kind bytes e = rw e refl
 
 -- a link or an image with an entry and a range
 abbrev pub link_over : (is_image : Bool) → LinkIndex → (start end : ℕ) → Item
@@ -243,14 +258,14 @@ can_put_owned source tables tables' number bytes nodes ix end put lies = record 
     none other h = refl
 
 -- an autolink, with its text below it
-pub can_put_autolink : (source : List ℕ) (tables tables' : Tables) (number : LinkIndex) (uri : List ℕ)
-    (nodes : List (Node Item))
-    (ix end : ℕ) → PutsLink source (item_at nodes ix).start end tables tables' number (address uri)
-    → LiesIn source (item_to nodes ix end (body.Text false)) → IsAddress source nodes ix end uri
+pub can_put_autolink : (source : List ℕ) (tables tables' : Tables) (number : LinkIndex) (kind : AutolinkKind)
+    (bytes : List ℕ) (nodes : List (Node Item))
+    (ix end : ℕ) → PutsLink source (item_at nodes ix).start end tables tables' number (address kind bytes)
+    → LiesIn source (item_to nodes ix end (body.Text false)) → IsAddress source nodes ix end bytes
     → CanPutParent source tables tables' nodes ix (item_to nodes ix end (body.Link number)) (address_to nodes ix end)
-can_put_autolink source tables tables' number uri nodes ix end put lies there = record {
-  puts = can_put_link source tables tables' false number (address uri) (item_at nodes ix).start end put lies.ordered
-      lies.start lies.end;
+can_put_autolink source tables tables' number kind bytes nodes ix end put lies there = record {
+  puts = can_put_link source tables tables' false number (address kind bytes) (item_at nodes ix).start end put
+      lies.ordered lies.start lies.end;
   puts_inside = can_put_text source tables tables' _ _ there.lies.ordered there.lies.start there.lies.end;
   names_nothing = names_nothing;
   starts = refl;
@@ -276,16 +291,23 @@ owned_trees source rules tables tables' number bytes nodes ix end put =
     ap (λ (xs : List ℕ). markup_trees (setting_of source rules) tt (tree_node_at source tables nodes ix)
     (html_markup end (Some xs))) put.found
 
-pub autolink_trees : (source : List ℕ) (rules : Rules) (tables tables' : Tables) (number : LinkIndex) (uri : List ℕ)
-    (nodes : List (Node Item)) (ix end : ℕ) → PutsLink source (item_at nodes ix).start end tables tables' number
-    (address uri) → ReadsFor source rules tables nodes ix
-    (parent source tables' (item_to nodes ix end (body.Link number)) (address_to nodes ix end)) (autolink end uri)
-autolink_trees source rules tables tables' number uri nodes ix end put = rw put.found refl
+no_titles : (kind : AutolinkKind) (origin : Origin) → titles_for (link_type kind) origin ≡ []
+no_titles Uri origin = refl
+no_titles Email origin = refl
+
+pub autolink_trees : (source : List ℕ) (rules : Rules) (tables tables' : Tables) (number : LinkIndex)
+    (kind : AutolinkKind) (bytes : List ℕ) (nodes : List (Node Item)) (ix end : ℕ)
+    → PutsLink source (item_at nodes ix).start end tables tables' number (address kind bytes)
+    → ReadsFor source rules tables nodes ix
+    (parent source tables' (item_to nodes ix end (body.Link number)) (address_to nodes ix end))
+    (autolink kind end bytes)
+autolink_trees source rules tables tables' number kind bytes nodes ix end put =
+    rw (put.found, no_titles kind (link_origins_at tables'.links number.0).title) refl
 
 -- one tree replaces it
 one_markup : (source : List ℕ) (rules : Rules) (m : Markup) (a : Plain) (below : Forest Plain)
     → length (roots (standing_for source rules m a below)) ≡ 1
-one_markup source rules (autolink end uri) a below = refl
+one_markup source rules (autolink kind end bytes) a below = refl
 one_markup source rules (html_markup end None) a below = refl
 one_markup source rules (html_markup end (Some bytes)) a below = refl
 

@@ -26,6 +26,8 @@ use Rattle.markdown_document.specs.Setting.{Rules, Setting, setting_of}
 use Rattle.markdown_document.specs.Tables.{Tables, tables_of}
 use Rattle.markdown_spans.specs.AfterLess.{Markup, autolink, html_markup, markup_at}
 use Rattle.markdown_base.specs.EnabledOptions.{gfm_footnotes_on}
+use Rattle.markdown_base.specs.ExtendedOptions.{is_extended}
+use Rattle.markdown_base.specs.declared.options.Options.{Options}
 use Rattle.markdown_spans.specs.Finds.{Find, Passed, end_of_markup, markup, markup_found, nothing, passed, prefix_below}
 use Rattle.markdown_spans.specs.PrefixView.{length_by}
 use Rattle.markdown_spans.specs.declared.prefixes.ContainerPrefix.{ContainerPrefix}
@@ -93,23 +95,26 @@ next_starts source tables nodes i ix ready =
 -- what was scanned with the prefix of all nodes that were entered is what is found below the blocks
 pub scanned_is : (place : ChainPlace) (prefix : ContainerPrefix) (tree : Arena Item) (rules : Rules) (start at : ℕ)
     (found : Option Markup) → prefix.tree.now ≡ tree
-    → prefix.gfm_footnotes ≡ gfm_footnotes_on place.options → gfm_footnotes_on rules.options
-    ≡ gfm_footnotes_on place.options → IsPlaceOf place tree
-    → found ≡ markup_at (λ rest. Some (length_by prefix rest)) (take place.block_end place.text.now) start at
+    → prefix.gfm_footnotes ≡ gfm_footnotes_on place.options → rules.options ≡ place.options → IsPlaceOf place tree
+    → found ≡ markup_at (λ rest. Some (length_by prefix rest)) (is_extended place.options)
+    (take place.block_end place.text.now) start at
     → markup_at (λ bytes. Some
     (prefix_below (setting_of place.text.now rules) (above_cursor place.text.now tree) bytes))
-    (take (above_cursor place.text.now tree).block_end place.text.now) start at ≡ found
+    (is_extended rules.options) (take (above_cursor place.text.now tree).block_end place.text.now) start at ≡ found
 scanned_is place prefix tree rules start at found here gfm same stands is =
     let s = setting_of place.text.now rules in
     let above = above_cursor place.text.now tree in
     let by : (bytes : List ℕ) → length_by prefix bytes ≡ prefix_below s above bytes = λ bytes.
-    prefix_is prefix s (gfm ∙ sym same) bytes
+    prefix_is prefix s (gfm ∙ sym (ap gfm_footnotes_on same)) bytes
     ∙ ap (λ (t : Arena Item). prefix_below s (above_cursor place.text.now t) bytes) here in
     let rule : (λ rest. Some (length_by prefix rest)) ≡ (λ rest. Some (prefix_below s above rest)) =
     fun_ext (λ bytes. ap (λ (n : ℕ). Some n) (by bytes)) in
-    sym (is ∙ (ap (λ (skipped : List ℕ → Option ℕ). markup_at skipped (take place.block_end place.text.now) start at)
-    rule ∙ ap (λ (end : ℕ). markup_at (λ bytes. Some (prefix_below s above bytes)) (take end place.text.now) start at)
-    stands.block_end))
+    sym (is ∙ (ap (λ (skipped : List ℕ → Option ℕ). markup_at skipped (is_extended place.options)
+    (take place.block_end place.text.now) start at) rule
+    ∙ (ap (λ (options : Options). markup_at (λ bytes. Some (prefix_below s above bytes)) (is_extended options)
+    (take place.block_end place.text.now) start at) (sym same)
+    ∙ ap (λ (end : ℕ). markup_at (λ bytes. Some (prefix_below s above bytes)) (is_extended rules.options)
+    (take end place.text.now) start at) stands.block_end)))
 
 -- a `<` before the block's end that the next item follows was scanned, and this was found
 pub record IsScanned (place : ChainPlace) (tree : Arena Item) (held : Allocated) (ix : ℕ) (prefix : ContainerPrefix)
@@ -123,21 +128,21 @@ pub record IsScanned (place : ChainPlace) (tree : Arena Item) (held : Allocated)
   pub here : prefix.tree.now ≡ tree
   pub gfm : prefix.gfm_footnotes ≡ gfm_footnotes_on place.options
   pub utf8 : IsUtf8 (take place.block_end place.text.now)
-  pub value : found ≡ markup_at (λ rest. Some (length_by prefix rest)) (take place.block_end place.text.now)
-      (item_at tree.nodes ix).start (item_at tree.nodes ix).end
+  pub value : found ≡ markup_at (λ rest. Some (length_by prefix rest)) (is_extended place.options)
+      (take place.block_end place.text.now) (item_at tree.nodes ix).start (item_at tree.nodes ix).end
 
 -- so it is where the item was copied, and the text cut
 pub is_scanned : {place : ChainPlace} {tree : Arena Item} {held : Allocated} {ix : ℕ} {found : Option Markup}
-    {item : Item} {next : Option ℕ} {text : List ℕ} (prefix : ContainerPrefix)
+    {item : Item} {next : Option ℕ} {text : List ℕ} {addresses : Bool} (prefix : ContainerPrefix)
     → CanReadItem place tree held ix → (item_at tree.nodes ix).body ≡ body.MaybeHtml → item ≡ item_at tree.nodes ix
     → item.end ≤ place.block_end
     → next ≡ sibling_of tree.nodes ix → true ≡ option_map_or (λ n. (item_at tree.nodes n).start == item.end) next false
     → prefix.tree.now ≡ tree → prefix.gfm_footnotes ≡ gfm_footnotes_on place.options → text
-    ≡ slice_range place.text.now 0 place.block_end → IsUtf8 text
-    → found ≡ markup_at (λ rest. Some (length_by prefix rest)) text item.start item.end
+    ≡ slice_range place.text.now 0 place.block_end → IsUtf8 text → addresses ≡ is_extended place.options
+    → found ≡ markup_at (λ rest. Some (length_by prefix rest)) addresses text item.start item.end
     → IsScanned place tree held ix prefix found
-is_scanned {place} {tree} {held} {ix} {found} {item} {next} {text} prefix can opener same inside after follows here gfm
-    cut utf8 value =
+is_scanned {place} {tree} {held} {ix} {found} {item} {next} {text} {addresses} prefix can opener same inside after
+    follows here gfm cut utf8 on value =
     let whole : text ≡ take place.block_end place.text.now = cut ∙ whole_range place.text.now place.block_end in
     record {
       can = can;
@@ -151,10 +156,12 @@ is_scanned {place} {tree} {held} {ix} {found} {item} {next} {text} prefix can op
       here = here;
       gfm = gfm;
       utf8 = subst IsUtf8 whole utf8;
-      value = value ∙ (ap (λ (xs : List ℕ). markup_at (λ rest. Some (length_by prefix rest)) xs item.start item.end)
-          whole
-          ∙ ap (λ (i : Item). markup_at (λ rest. Some (length_by prefix rest)) (take place.block_end place.text.now)
-          i.start i.end) same);
+      value = value
+          ∙ (ap (λ (b : Bool). markup_at (λ rest. Some (length_by prefix rest)) b text item.start item.end) on
+          ∙ (ap (λ (xs : List ℕ). markup_at (λ rest. Some (length_by prefix rest)) (is_extended place.options) xs
+          item.start item.end) whole
+          ∙ ap (λ (i : Item). markup_at (λ rest. Some (length_by prefix rest)) (is_extended place.options)
+          (take place.block_end place.text.now) i.start i.end) same));
     }
 
 -- the markup that was found, or nothing
@@ -171,15 +178,14 @@ found_by place tree held ix rules =
 -- it is what was scanned
 pub scan_finds : (place : ChainPlace) (tree : Arena Item) (held : Allocated) (ix : ℕ) (prefix : ContainerPrefix)
     (found : Option Markup) (rules : Rules) → IsScanned place tree held ix prefix found
-    → gfm_footnotes_on rules.options ≡ gfm_footnotes_on place.options → found_by place tree held ix rules
-    ≡ markup_or_nothing found
-scan_finds place tree held ix prefix found rules is gfm =
+    → rules.options ≡ place.options → found_by place tree held ix rules ≡ markup_or_nothing found
+scan_finds place tree held ix prefix found rules is same =
     let s = setting_of place.text.now rules in
     let item = item_at tree.nodes ix in
     let after = sym (next_starts place.text.now (tables_of held) tree.nodes item.end ix is.can.ready) ∙ is.follows in
     ap (markup_found s (above_cursor place.text.now tree) (tree_node_at place.text.now (tables_of held) tree.nodes ix))
     after ∙ ap markup_or_nothing
-    (scanned_is place prefix tree rules item.start item.end found is.here is.gfm gfm is.can.stands is.value)
+    (scanned_is place prefix tree rules item.start item.end found is.here is.gfm same is.can.stands is.value)
 
 -- nothing is found where no item follows directly
 pub none_follows : (place : ChainPlace) (tree : Arena Item) (held : Allocated) (ix : ℕ) (rules : Rules) (item : Item)
@@ -210,7 +216,8 @@ none_past_block place tree held ix rules item can opener same past =
 
     none : markup_at (λ bytes. Some
         (prefix_below (setting_of place.text.now rules) (above_cursor place.text.now tree) bytes))
-        (take (above_cursor place.text.now tree).block_end place.text.now) start (item_at tree.nodes ix).end ≡ None
+        (is_extended rules.options) (take (above_cursor place.text.now tree).block_end place.text.now) start
+        (item_at tree.nodes ix).end ≡ None
     none =
         let last = can.stands.block_end in
         let long = one_byte_long place.text.now (tables_of held) tree.nodes ix can.ready opener in
@@ -219,8 +226,8 @@ none_past_block place tree held ix rules item can opener same past =
         omega (arith, length-take (above_cursor place.text.now tree).block_end place.text.now, last, long, end, past) in
         none_past_end (λ bytes. Some
         (prefix_below (setting_of place.text.now rules) (above_cursor place.text.now tree) bytes))
-        (take (above_cursor place.text.now tree).block_end place.text.now) start (item_at tree.nodes ix).end beyond
-        (omega (arith, long))
+        (is_extended rules.options) (take (above_cursor place.text.now tree).block_end place.text.now) start
+        (item_at tree.nodes ix).end beyond (omega (arith, long))
 
     by_next : (follows : Bool) → markup_found (setting_of place.text.now rules) (above_cursor place.text.now tree)
         (tree_node_at place.text.now (tables_of held) tree.nodes ix) follows ≡ nothing
@@ -237,8 +244,8 @@ scan_ends place tree held ix prefix m is =
     let lies = lies_at is.can.ready in
     let before : item.end ≤ length (take place.block_end place.text.now)
     = (boundary_before place.text.now place.block_end item.end lies.end is.inside).0 in
-    markup_ends (λ rest. Some (length_by prefix rest)) (take place.block_end place.text.now) item.start item.end m
-    (omega (arith, long)) before (sym is.value)
+    markup_ends (λ rest. Some (length_by prefix rest)) (is_extended place.options)
+    (take place.block_end place.text.now) item.start item.end m (omega (arith, long)) before (sym is.value)
 
 -- so it can be put in place
 has_address : (place : ChainPlace) (tree : Arena Item) (held : Allocated) (ix : ℕ) (m : Markup)
@@ -246,16 +253,17 @@ has_address : (place : ChainPlace) (tree : Arena Item) (held : Allocated) (ix : 
     → MarkupEnds (take place.block_end place.text.now) (item_at tree.nodes ix).start (item_at tree.nodes ix).end m
     → HasAddress place.text.now tree.nodes ix m
 has_address place tree held ix (html_markup end bytes) can ends = tt
-has_address place tree held ix (autolink end uri) can ends = record {
+has_address place tree held ix (autolink kind end bytes) can ends = record {
   some = ends.address.0;
   lies = address_lies place.text.now (tables_of held) tree.nodes ix place.block_end end can.ready
       (record { after = ends.address.0; within = ends.ends.within; closed = ends.ends.closed });
   slice =
       let item = item_at tree.nodes ix in
-      slice_wider place.text.now (0 + item.end) (0 + end) item.start end uri
+      slice_wider place.text.now (0 + item.end) (0 + end) item.start end bytes
       (omega (arith, (opens_chain can.ready).placed.lies.ordered))
-      (omega arith) (slice_of_slice place.text.now 0 place.block_end item.end end uri
-      (subst (λ (text : List ℕ). IsSliceWithin text item.end end uri) (sym (whole_range place.text.now place.block_end))
+      (omega arith) (slice_of_slice place.text.now 0 place.block_end item.end end bytes
+      (subst (λ (text : List ℕ). IsSliceWithin text item.end end bytes) (sym (whole_range place.text.now
+      place.block_end))
       ends.address.1));
 }
 
@@ -290,15 +298,15 @@ reads_text {place} {tree} {held} {ix} {rules} {rest} {new} can opener none p =
 -- where markup is found, the item is read as the trees that replace it
 pub reads_found : (place : ChainPlace) (tree : Arena Item) (held : Allocated) (ix : ℕ) (prefix : ContainerPrefix)
     (m : Markup) (rules : Rules) (rest : Continuation) (new : List (Node Item)) (tables' : Tables)
-    → IsScanned place tree held ix prefix (Some m) → gfm_footnotes_on rules.options ≡ gfm_footnotes_on place.options
+    → IsScanned place tree held ix prefix (Some m) → rules.options ≡ place.options
     → Puts place.text.now ix (standing_for place.text.now rules m) (Some (end_of_markup m)) rest tree.nodes new
     (tables_of held) tables'
     → ReadsItem (setting_of place.text.now rules) (above_cursor place.text.now tree) ix rest tree.nodes new
     (tables_of held) tables'
-reads_found place tree held ix prefix m rules rest new tables' is gfm p =
+reads_found place tree held ix prefix m rules rest new tables' is same p =
     let s = setting_of place.text.now rules in
     let above = above_cursor place.text.now tree in
-    let found = scan_finds place tree held ix prefix (Some m) rules is gfm in
+    let found = scan_finds place tree held ix prefix (Some m) rules is same in
     reads_item is.can.ready (found_reads s above (tables_of held) tree.nodes ix m is.opener found) p
 
 -- what is true of a result where another fact is

@@ -23,7 +23,6 @@ use Rattle.markdown_document.specs.ResolverStates.{items_from, above_cursor}
 use Rattle.markdown_document.specs.Tables.{Tables}
 use Rattle.markdown_document.specs.Waiting.{is_quiet}
 use Rattle.markdown_document.proofs.PlaceLemmas.{shape-open}
-use Rattle.markdown_base.specs.EnabledOptions.{gfm_footnotes_on}
 use Rattle.markdown_spans.specs.Finds.{nothing, Passed, find, find_by, read_tree}
 use Rattle.markdown_spans.specs.SpanClosers.{HoldsFrom, Learned}
 use Rattle.markdown_spans.specs.declared.span_text.SpanKind.{SpanKind}
@@ -167,19 +166,19 @@ reads_alone (Err fault) s above ix old new tables tables' ready reads = record {
   looks = λ failed visits. tt;
 }
 
--- so it is by the rules of a setting, where it is so by any rules with its footnotes
+-- so it is by the rules of a setting, where it is so by any rules with its options
 pub reads_by_rules : {E : Type 0} (r : Result Continuation E) (place : ChainPlace) (source : List ℕ) (rules : Rules)
     (tree : Arena Item)
     (ix : ℕ) (new : List (Node Item)) (tables tables' : Tables) → CanResolve place.text.now tables tree.nodes (Some ix)
-    → place.text.now ≡ source → gfm_footnotes_on place.options ≡ gfm_footnotes_on rules.options
-    → IfOk r (λ rest. (rules : Rules) → gfm_footnotes_on rules.options ≡ gfm_footnotes_on place.options
+    → place.text.now ≡ source → place.options ≡ rules.options
+    → IfOk r (λ rest. (rules : Rules) → rules.options ≡ place.options
     → ReadsItem (setting_of place.text.now rules) (above_cursor place.text.now tree) ix rest tree.nodes new tables
     tables') → ReadsAlone r (setting_of source rules) (above_cursor source tree) ix tree.nodes new tables tables'
-reads_by_rules r place source rules tree ix new tables tables' ready same gfm reads =
+reads_by_rules r place source rules tree ix new tables tables' ready same options reads =
     subst (λ (t : List ℕ). ReadsAlone r (setting_of t rules) (above_cursor t tree) ix tree.nodes new tables tables')
     same
     (reads_alone r (setting_of place.text.now rules) (above_cursor place.text.now tree) ix tree.nodes new tables tables'
-    ready (IfOk-weaker r _ _ (λ rest by_any. by_any rules (sym gfm)) reads))
+    ready (IfOk-weaker r _ _ (λ rest by_any. by_any rules (sym options)) reads))
 
 -- searches have examined some items of a chain, of which some are left: none of those, unless one has failed
 pub record LookedUpTo (failed : Bool) (old now all rest : ℕ) : Type 0 where

@@ -46,7 +46,7 @@ quiet_code s false a t closer = (refl, refl, tt, tt)
 quiet_code s true a t closer = (refl, refl, tt, (refl, refl, tt, tt))
 
 quiet_markup : (s : Setting) (a : Plain) (m : Markup) → IsQuiet (markup_trees s tt a m)
-quiet_markup s a (autolink end uri) = (refl, refl, (refl, refl, tt, tt), tt)
+quiet_markup s a (autolink kind end bytes) = (refl, refl, (refl, refl, tt, tt), tt)
 quiet_markup s a (html_markup end None) = (refl, refl, tt, tt)
 quiet_markup s a (html_markup end (Some bytes)) = (refl, refl, tt, tt)
 

@@ -2,6 +2,7 @@
 -- images of brackets and leaves what waits for pairing, and then that is paired.
 use Rattle.std.proofs.Common.{◌≡◌, ℕ, ◌+◌, Bool, true, false, List, [], ◌∷◌, Some, None, length, refl}
 use Rattle.std.specs.Prelude.{codes, slice_range}
+use Rattle.markdown_base.specs.ExtendedOptions.{extended_bit}
 use Rattle.markdown_base.specs.Event.{EventView, LinkView, code, inline_math, inline_html, emphasis, image, link}
 use Rattle.markdown_base.specs.Forest.{Forest, nil, node}
 use Rattle.markdown_base.specs.declared.item.Item.{Item}
@@ -18,7 +19,9 @@ use Rattle.markdown_document.specs.Setting.{Setting, ReferenceState, setting_of}
 use Rattle.markdown_document.specs.Tables.{no_tables}
 use Rattle.markdown_spans.specs.AfterLess.{markup_at}
 use Rattle.markdown_spans.specs.CodeText.{replaced_past, is_sliced}
+use Rattle.markdown_spans.specs.EmailAutolink.{cut_at_periods}
 use Rattle.markdown_spans.specs.Finds.{address, read_tree}
+use Rattle.markdown_spans.specs.declared.after_less.AutolinkKind.TheVariants.{Uri, Email}
 use Rattle.markdown_delims.specs.Pairing.{closed_by, reads_from, runs_paired, paired}
 use Rattle.markdown_delims.specs.Quotes.{with_quotes}
 use Rattle.markdown_resolver.specs.Laws.{RunsStandWhole}
@@ -136,10 +139,25 @@ row_two_finds state = refl
 -- an autolink, with its address as a text below it; the text that reaches past it is cut
 row_autolink : (state : ReferenceState) → left_by_pass_one (codes "<http://a.b> c") (less 0 ∷ plain_text 1 14
     ∷ []) state
-    ≡ node (over 0 12 (enclosed (link (address (codes "http://a.b"))) []))
+    ≡ node (over 0 12 (enclosed (link (address Uri (codes "http://a.b"))) []))
     (node (over 1 11 (text_over (codes "http://a.b"))) nil nil) (node (over 12 14 (text_over (codes " c"))) nil nil)
 unfolding pass_one read_chain read_tree markup_at all both either nonempty often often_past one optional
 row_autolink state = refl
+
+-- an address, with the extended entry; a link round it stays one
+abbrev address_in_link : List ℕ
+address_in_link = codes "[a <b@c.d>](u)"
+
+row_address : (state : ReferenceState)
+    → (pass_one (setting_by extended_bit false address_in_link) no_notes (in_paragraph address_in_link)
+    (chain_of address_in_link (opener 0 ∷ plain_text 1 3 ∷ less 3 ∷ plain_text 4 10 ∷ closer 10 ∷ plain_text 11 14
+    ∷ [])) state).forest
+    ≡ node (over 0 14 (enclosed (link (inline_to (codes "u"))) (sliced ∷ [])))
+    (node (text_at address_in_link 1 3) nil
+    (node (over 3 10 (enclosed (link (address Email (codes "b@c.d"))) []))
+    (node (text_at address_in_link 4 9) nil nil) nil)) nil
+unfolding pass_one read_chain read_tree markup_at cut_at_periods closed decided
+row_address state = refl
 
 -- raw HTML that ends inside a text, of which the rest is left; backticks in it open nothing
 row_tag : (state : ReferenceState)

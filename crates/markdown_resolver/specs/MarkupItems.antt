@@ -21,15 +21,15 @@ item_to nodes ix end b = record { start = (item_at nodes ix).start; end = end; b
 abbrev pub address_to : List (Node Item) → (ix end : ℕ) → Item
 address_to nodes ix end = record { start = (item_at nodes ix).end; end = end - 1; body = body.Text false }
 
--- the text of an autolink is not empty and lies in the source, and the URI is a slice of its range there
-pub record IsAddress (source : List ℕ) (nodes : List (Node Item)) (ix end : ℕ) (uri : List ℕ) : Type 0 where
+-- the text of an autolink is not empty and lies in the source, and the URI or the address is a slice of its range there
+pub record IsAddress (source : List ℕ) (nodes : List (Node Item)) (ix end : ℕ) (bytes : List ℕ) : Type 0 where
   pub some : (item_at nodes ix).end < end
   pub lies : LiesIn source (address_to nodes ix end)
-  pub slice : IsSliceWithin source (item_at nodes ix).start end uri
+  pub slice : IsSliceWithin source (item_at nodes ix).start end bytes
 
 -- where an autolink was found, it has such a text
 abbrev pub HasAddress : List ℕ → List (Node Item) → ℕ → Markup → Type 0
-HasAddress source nodes ix (autolink end uri) = IsAddress source nodes ix end uri
+HasAddress source nodes ix (autolink kind end bytes) = IsAddress source nodes ix end bytes
 HasAddress source nodes ix (html_markup end bytes) = Unit {0}
 
 -- this was found at a node, and can be put in place

@@ -7,7 +7,7 @@ ghost use Rattle.markdown_document.specs.Setting.{Rules};
 ghost use Rattle.markdown_document.specs.Tables.{Tables, tables_of};
 ghost use Rattle.markdown_document.specs.NamedEntries.{HasGrown};
 ghost use Rattle.markdown_spans.specs.AfterLess.{autolink};
-ghost use Rattle.markdown_spans.specs.Finds.{end_of_markup};
+ghost use Rattle.markdown_spans.specs.Finds.{end_of_markup, link_type};
 ghost use Rattle.markdown_spans.specs.MarkupView.{markup_of};
 ghost use Rattle.markdown_resolver.specs.MarkupItems.{IsMarkupAt, item_to, standing_for};
 ghost use Rattle.markdown_resolver.specs.Rewritten.{CanPut, IsFoundAt, IsRefused, Puts, one_item};
@@ -23,15 +23,16 @@ use markdown_base::tree::Tree;
 use markdown_defs::{Allocations, BrokenLinkCallback};
 use markdown_document::chain_place::ChainPlace;
 use markdown_raw_html::raw_html::RawHtmlScanner;
-use markdown_spans::after_less::{MarkupFound, scan_after_less};
+use markdown_spans::after_less::{Autolink, AutolinkKind, LessThan, MarkupFound, scan_after_less};
 use markdown_spans::prefixes::ContainerPrefix;
 
 impl<'a, F: BrokenLinkCallback<'a>> Resolver<'a, F> {
     ghost use Rattle.markdown_resolver.specs.ReadsBracket.{CanReadOther, ChangesForOther, ReadsOther, StopsLooking};
 
-    /// Reads a `<`: an absolute-URI autolink (CommonMark 6.5) or raw HTML (6.6), if there is one and the next item
-    /// starts directly after the `<`; otherwise the `<` becomes a Text, as it does where it is not before the block's
-    /// end. The scanner has to be one of the text up to that end. Returns the rest of the chain.
+    /// Reads a `<`: an autolink (CommonMark 6.5), to an absolute URI or, with the extended entry, to an address, or
+    /// raw HTML (6.6), if there is one and the next item starts directly after the `<`; otherwise the `<` becomes a
+    /// Text, as it does where it is not before the block's end. The scanner has to be one of the text up to that end.
+    /// Returns the rest of the chain.
     pub(crate) fn read_markup(
         &mut self,
         tree: &mut Tree<Item>,
@@ -57,7 +58,13 @@ impl<'a, F: BrokenLinkCallback<'a>> Resolver<'a, F> {
         }
         let prefix = ContainerPrefix::new(tree, place.gfm_footnotes());
         let text = &place.text[..place.block_end];
-        match scan_after_less(self.alloc, text, item.start, item.end, scanner, &prefix)? {
+        let less = LessThan {
+            text,
+            start: item.start,
+            at: item.end,
+            addresses: place.options.is_extended(),
+        };
+        match scan_after_less(self.alloc, &less, scanner, &prefix)? {
             None => Ok(make_literal(tree, ix)),
             Some(found) => put_markup(tree, &mut self.lookup.tables, ix, found),
         }
@@ -97,7 +104,7 @@ fn put_markup<'a>(
     ensures refused { IfErr result (IsRefused tree.old tree.new) }
 {
     match found {
-        MarkupFound::Autolink(end, uri) => put_autolink(tree, tables, ix, end, uri),
+        MarkupFound::Autolink(link) => put_autolink(tree, tables, ix, link),
         MarkupFound::Html(end) => Ok(put_html(tree, ix, end, ItemBody::InlineHtml)),
         MarkupFound::OwnedHtml(end, tag) => {
             let number = tables.allocate_cow(CowStr::from(tag))?;
@@ -123,21 +130,34 @@ fn put_html(tree: &mut Tree<Item>, ix: usize, end: usize, body: ItemBody) -> Con
     put_found(tree, ix, Item { start, end, body })
 }
 
-/// Puts an autolink that ends at byte offset `end` into the node of its `<`, with its URI as a Text below it. Returns
-/// the rest of the chain.
+/// Returns the type of the link that an autolink is.
+fn link_type(kind: AutolinkKind) -> LinkType
+    ensures { result ≡ link_type kind }
+{
+    match kind {
+        AutolinkKind::Uri => LinkType::Autolink,
+        AutolinkKind::Email => LinkType::Email,
+    }
+}
+
+/// Puts an autolink into the node of its `<`, with its URI or address as a Text below it. Returns the rest of the
+/// chain.
 fn put_autolink<'a>(
     tree: &mut Tree<Item>,
     tables: &mut Allocations<'a>,
     ix: usize,
-    end: usize,
-    uri: &'a str,
+    found: Autolink<'a>,
 ) -> Result<Continuation, Fault>
     requires { (source : List ℕ)
-        × IsMarkupAt source (tables_of tables.old) tree.old.nodes ix (autolink end uri.now) }
+        × IsMarkupAt source (tables_of tables.old) tree.old.nodes ix
+        (autolink found.kind found.end found.destination.now) }
     ensures puts { IfOk result (λ rest. (source : List ℕ) (rules : Rules)
-        → IsMarkupAt source (tables_of tables.old) tree.old.nodes ix (autolink end uri.now)
-        → Puts source ix (standing_for source rules (autolink end uri.now)) (Some end) rest
-        tree.old.nodes tree.new.nodes (tables_of tables.old) (tables_of tables.new)) }
+        → IsMarkupAt source (tables_of tables.old) tree.old.nodes ix
+        (autolink found.entry.kind found.entry.end found.entry.destination.now)
+        → Puts source ix (standing_for source rules
+        (autolink found.entry.kind found.entry.end found.entry.destination.now))
+        (Some found.entry.end) rest tree.old.nodes tree.new.nodes (tables_of tables.old)
+        (tables_of tables.new)) }
     ensures place { IfOk result (λ _. tree.new ≡ record tree.old { nodes = tree.new.nodes }) }
 
     // on success and on error
@@ -146,22 +166,22 @@ fn put_autolink<'a>(
 {
     let item = *tree.item(ix);
     let link = tables.allocate_link(
-        LinkType::Autolink,
-        CowStr::Borrowed(uri),
+        link_type(found.kind),
+        CowStr::Borrowed(found.destination),
         CowStr::Borrowed(""),
         CowStr::Borrowed(""),
     )?;
-    let found = Item {
+    let outside = Item {
         start: item.start,
-        end,
+        end: found.end,
         body: ItemBody::Link(link),
     };
     let inside = Item {
         start: item.end,
-        end: end - 1,
+        end: found.end - 1,
         body: ItemBody::Text {
             backslash_escaped: false,
         },
     };
-    Ok(put_parent(tree, ix, found, inside)?)
+    Ok(put_parent(tree, ix, outside, inside)?)
 }

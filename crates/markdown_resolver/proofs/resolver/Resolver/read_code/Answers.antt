@@ -44,8 +44,8 @@ returns-in_default-clause-reads g c =
     let read = reads_by_rules result place s.text.now (rules_from s.options s.lookup.tables (is_some s.lookup.callback))
     tree ix
     c.make_literal.new.tree.nodes tables tables ready c.requires.ready.text
-    (ap gfm_footnotes_on c.requires.ready.options)
-    (λ rules gfm. let set : Setting = setting_of place.text.now rules in
+    c.requires.ready.options
+    (λ rules same. let set : Setting = setting_of place.text.now rules in
     reads_item ready (nothing_reads set (above_cursor set.text tree) tables nodes ix o.0 o.1 ready o.2 closes) puts) in
     record {
       item = read.reads;
@@ -106,10 +106,10 @@ returns-clause-reads g c =
     let origin = rw (c.item.ensures no_item, c.item-2.ensures no_item) at c.in_ok-cow.ensures.stored.origin_is in
     let read = reads_by_rules result place s.text.now (rules_from s.options s.lookup.tables (is_some s.lookup.callback))
     tree ix
-    c.put_code.new.tree.nodes tables tables' ready c.requires.ready.text (ap gfm_footnotes_on c.requires.ready.options)
-    (λ rules gfm. let set : Setting = setting_of place.text.now rules in
+    c.put_code.new.tree.nodes tables tables' ready c.requires.ready.text c.requires.ready.options
+    (λ rules same. let set : Setting = setting_of place.text.now rules in
     reads_item ready (code_reads set (above_cursor set.text tree) tables tables' nodes ix x o.0 o.1 c.in_ok-cow.cow
-    ready o.2 here.closes (text rules gfm) origin) was_put) in
+    ready o.2 here.closes (text rules (ap gfm_footnotes_on same)) origin) was_put) in
     record {
       item = read.reads;
       learned = rw c.store_text.ensures.kept (record {

@@ -20,7 +20,6 @@ use Rattle.markdown_resolver.proofs.resolver.Resolver.read_markup.Goals.{
 use Rattle.std.specs.Prelude.{Result, Ok}
 use Rattle.markdown_document.specs.Setting.{Rules, setting_of}
 use Rattle.markdown_document.specs.ResolverStates.{above_cursor}
-use Rattle.markdown_base.specs.EnabledOptions.{gfm_footnotes_on}
 use Rattle.markdown_base.specs.declared.fault.Fault.{Fault}
 use Rattle.markdown_spans.specs.SpanClosers.{has_failed}
 use Rattle.markdown_resolver.specs.ReadsItem.{ReadsItem}
@@ -37,10 +36,10 @@ returns-then-item-place-clause-reads g c =
     let held = s.lookup.tables in
     let same = c.item-item.ensures no_item in
     let puts = c.make_literal.ensures.puts place.text.now (tables_of held) c.requires.ready.chain.ready in
-    let reads : (rules : Rules) → gfm_footnotes_on rules.options ≡ gfm_footnotes_on place.options
+    let reads : (rules : Rules) → rules.options ≡ place.options
     → ReadsItem (setting_of place.text.now rules) (above_cursor place.text.now tree) c.args.ix c.make_literal.result
     tree.nodes c.make_literal.new.tree.nodes (tables_of held)
-    (tables_of held) = λ rules gfm. elim c.then-item-place.branch [
+    (tables_of held) = λ rules options. elim c.then-item-place.branch [
       | then-item-place-via-then-item-place w ↦ reads_text c.requires.ready.chain c.requires.opener
           (none_past_block place tree held c.args.ix rules c.item-item.result.now c.requires.ready.chain
           c.requires.opener same w.if-item-place.true) puts
@@ -89,7 +88,8 @@ put_markup-requires g c =
     let scanned = is_scanned prefix c.requires.ready.chain c.requires.opener
     (c.item-item.ensures no_item) c.if-item-place.false c.next.ensures.value c.if-not-starts_at.ensures
     c.new-prefix.ensures.tree
-    (c.new-prefix.ensures.footnotes ∙ c.gfm_footnotes.ensures) c.range-text.ensures.value c.range-text.utf8 value in
+    (c.new-prefix.ensures.footnotes ∙ c.gfm_footnotes.ensures) c.range-text.ensures.value c.range-text.utf8
+    c.is_extended.ensures value in
     (place.text.now, markup_stands scanned)
 
 pub returns-in-None-clause-reads : goal.returns-in-None-clause-reads
@@ -103,12 +103,13 @@ returns-in-None-clause-reads g c =
     let scanned = is_scanned prefix c.requires.ready.chain c.requires.opener
     (c.item-item.ensures no_item) c.if-item-place.false c.next.ensures.value c.if-not-starts_at.ensures
     c.new-prefix.ensures.tree
-    (c.new-prefix.ensures.footnotes ∙ c.gfm_footnotes.ensures) c.range-text.ensures.value c.range-text.utf8 value in
+    (c.new-prefix.ensures.footnotes ∙ c.gfm_footnotes.ensures) c.range-text.ensures.value c.range-text.utf8
+    c.is_extended.ensures value in
     let result : Result Continuation Fault = Ok c.make_literal-in-None.result in
     only_reads result place tree s s c.args.ix c.make_literal-in-None.new.tree c.requires.ready
     c.make_literal-in-None.ensures.place
-    (λ rules gfm. reads_text
-    c.requires.ready.chain c.requires.opener (scan_finds place tree held c.args.ix prefix None rules scanned gfm)
+    (λ rules options. reads_text
+    c.requires.ready.chain c.requires.opener (scan_finds place tree held c.args.ix prefix None rules scanned options)
     (c.make_literal-in-None.ensures.puts place.text.now (tables_of held) c.requires.ready.chain.ready)) refl refl refl
 
 pub returns-in-Some-clause-reads : goal.returns-in-Some-clause-reads
@@ -123,12 +124,13 @@ returns-in-Some-clause-reads g c =
     let scanned = is_scanned prefix c.requires.ready.chain c.requires.opener
     (c.item-item.ensures no_item) c.if-item-place.false c.next.ensures.value c.if-not-starts_at.ensures
     c.new-prefix.ensures.tree
-    (c.new-prefix.ensures.footnotes ∙ c.gfm_footnotes.ensures) c.range-text.ensures.value c.range-text.utf8 value in
+    (c.new-prefix.ensures.footnotes ∙ c.gfm_footnotes.ensures) c.range-text.ensures.value c.range-text.utf8
+    c.is_extended.ensures value in
     let new : Resolver g.row.F.Denot = record s { lookup = record s.lookup { tables = c.put_markup.new.tables } } in
     only_reads c.put_markup.result place tree s new c.args.ix c.put_markup.new.tree c.requires.ready
-    c.put_markup.ensures.place (if_ok c.put_markup.result _ _ (λ next puts. λ rules gfm.
+    c.put_markup.ensures.place (if_ok c.put_markup.result _ _ (λ next puts. λ rules options.
     reads_found place tree held c.args.ix prefix m rules next c.put_markup.new.tree.nodes
-    (tables_of c.put_markup.new.tables) scanned gfm
+    (tables_of c.put_markup.new.tables) scanned options
     (puts place.text.now rules (markup_stands scanned))) c.put_markup.ensures.puts) refl refl refl
 
 pub returns-in-Some-clause-stops : goal.returns-in-Some-clause-stops
