@@ -1,5 +1,5 @@
 -- What contracts see of a `Blocks`, and what it means that it is the block result of a text.
-use Rattle.std.specs.Prelude.{◌≡◌, ℕ, List}
+use Rattle.std.specs.Prelude.{◌≡◌, ℕ, Bool, true, false, List}
 use Rattle.markdown_base.specs.declared.block_parts.BlockParts.{BlockParts}
 use Rattle.markdown_base.specs.declared.item.Item.{Item}
 use Rattle.markdown_base.specs.declared.options.Options.{Options}
@@ -18,6 +18,10 @@ text_of_blocks b = b.text.now
 abbrev pub block_options : Blocks → Options
 block_options b = b.options
 
+-- whether it is the block result of the extended entry, or of the present one
+abbrev pub block_extended : Blocks → Bool
+block_extended b = b.extended
+
 -- the tree
 abbrev pub block_tree : Blocks → Arena Item
 block_tree b = b.tree
@@ -26,11 +30,19 @@ block_tree b = b.tree
 abbrev pub block_parts : Blocks → BlockParts
 block_parts b = b.parts
 
--- b has this text and these options, and is a well-formed block result that covers the text and whose headings hold
--- inline items alone
-pub record IsOfText (text : List ℕ) (options : Options) (b : Blocks) : Type 0 where
+-- b has this text and these options, is of the extended entry or of the present one, and is a well-formed block result
+-- that covers the text and whose headings hold inline items alone
+pub record IsOfEntry (extended : Bool) (text : List ℕ) (options : Options) (b : Blocks) : Type 0 where
   pub holds_text : text_of_blocks b ≡ text
   pub holds_options : block_options b ≡ options
+  pub holds_entry : block_extended b ≡ extended
   pub well_formed : IsWellFormed (text_of_blocks b) (block_tree b).nodes (block_parts b)
   pub covers : Covers (text_of_blocks b) (block_tree b).nodes (block_parts b)
   pub headings_hold_inline : HeadingsHoldInline (tree_of (block_tree b).nodes)
+
+-- the same of the present entry, and of the extended one
+abbrev pub IsOfText : (text : List ℕ) → Options → Blocks → Type 0
+IsOfText text options b = IsOfEntry false text options b
+
+abbrev pub IsOfExtended : (text : List ℕ) → Options → Blocks → Type 0
+IsOfExtended text options b = IsOfEntry true text options b

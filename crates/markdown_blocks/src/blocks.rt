@@ -1,5 +1,5 @@
 //! Well-formed block results: a text with its tree of items, and the parts that the items refer to.
-ghost use Rattle.std.specs.Prelude.{◌≡◌, ◌≢◌, IfOk, IfErr, MatchResult};
+ghost use Rattle.std.specs.Prelude.{◌≡◌, ◌≢◌, true, false, IfOk, IfErr, MatchResult};
 ghost use Rattle.markdown_base.specs.declared.fault.Fault.{Fault};
 ghost use Rattle.markdown_base.specs.OneWay.{IsWellFormed-prop};
 ghost use Rattle.markdown_base.specs.WellFormed.{IsWellFormed};
@@ -14,11 +14,15 @@ use markdown_base::tree::Tree;
 use std::alloc::Global;
 use std::fmt;
 
-/// A well-formed block result: a text with its options, its tree of items, and the parts that the items refer to.
+/// A well-formed block result: a text with its options, its tree of items, and the parts that the items refer to. It is
+/// that of one of two entries, whose rules also decide how a parser resolves its chains of inline items.
 #[derive(Drop)]
 pub struct Blocks<'a> {
     text: &'a str,
+    /// As the caller gave them.
     options: Options,
+    /// Whether this is of the extended entry.
+    extended: bool,
     tree: Tree<Item>,
     parts: BlockParts<'a>,
     pub ghost well_formed: { IsWellFormed text.now tree.nodes parts } by { IsWellFormed-prop
@@ -26,9 +30,10 @@ pub struct Blocks<'a> {
 }
 
 impl<'a> Blocks<'a> {
-    ghost use Rattle.markdown_blocks.specs.Blocks.{text_of_blocks, block_options, block_tree, block_parts, IsOfText};
+    ghost use Rattle.markdown_blocks.specs.Blocks.{text_of_blocks, block_options, block_extended, block_tree, block_parts};
+    ghost use Rattle.markdown_blocks.specs.Blocks.{IsOfEntry, IsOfText, IsOfExtended};
 
-    /// Returns the block result that is passed in, if it is well formed: if it keeps nine rules.
+    /// Returns the block result that is passed in, for the present entry, if it is well formed: if it keeps nine rules.
     ///
     /// 1. Reached once: the tree below the root is finite, and no node is reached twice.
     /// 2. Ranges lie in: each range lies in the text, and its ends are character boundaries.
@@ -61,6 +66,7 @@ impl<'a> Blocks<'a> {
         ensures holds { IfOk result (λ b.
             (text_of_blocks b ≡ text.now) × (block_options b ≡ options)
             × (block_tree b ≡ tree) × (block_parts b ≡ parts.entry)) }
+        ensures entry { IfOk result (λ b. block_extended b ≡ false) }
         ensures rules { IfOk result (λ b.
             IsWellFormed (text_of_blocks b) (block_tree b).nodes (block_parts b)) }
 
@@ -75,6 +81,7 @@ impl<'a> Blocks<'a> {
                     Ok(Blocks {
                         text,
                         options,
+                        extended: false,
                         tree,
                         parts,
                     })
@@ -83,6 +90,47 @@ impl<'a> Blocks<'a> {
                 }
             }
         }
+    }
+
+    /// Returns the block result that is passed in, for the extended entry, if it is well formed, as `checked` tests it.
+    ///
+    /// # Errors
+    ///
+    /// As those of `checked`.
+    pub fn checked_extended(
+        alloc: Global,
+        text: &'a str,
+        options: Options,
+        tree: Tree<Item>,
+        parts: BlockParts<'a>,
+    ) -> Result<Blocks<'a>, Fault>
+        ensures holds { IfOk result (λ b.
+            (text_of_blocks b ≡ text.now) × (block_options b ≡ options)
+            × (block_tree b ≡ tree) × (block_parts b ≡ parts.entry)) }
+        ensures entry { IfOk result (λ b. block_extended b ≡ true) }
+        ensures rules { IfOk result (λ b.
+            IsWellFormed (text_of_blocks b) (block_tree b).nodes (block_parts b)) }
+
+        ensures refused { IfErr result (λ fault.
+            fault ≡ Fault.Blocks → IsWellFormed text.now tree.nodes parts.entry → ⊥) }
+        ensures faults { IfErr result (λ fault. fault ≢ Fault.Depth) }
+    {
+        let checked = Blocks::checked(alloc, text, options, tree, parts)?;
+        let (text, options, tree, parts) = checked.into_parts();
+        Ok(Blocks {
+            text,
+            options,
+            extended: true,
+            tree,
+            parts,
+        })
+    }
+
+    /// Returns whether this is a block result of the extended entry.
+    pub fn is_extended(&self) -> bool
+        ensures { result ≡ block_extended self.now }
+    {
+        self.extended
     }
 
     /// Returns the text, the options, the tree and the parts. Allocates nothing.
@@ -104,11 +152,37 @@ impl<'a> Blocks<'a> {
     pub fn of_text(alloc: Global, text: &'a str, options: Options) -> Result<Blocks<'a>, Fault>
         ensures { MatchResult result (IsOfText text.now options) (λ fault. fault ≡ Fault.Memory) }
     {
+        Blocks::of_entry(alloc, text, options, false)
+    }
+
+    /// Returns the block result of a text that is read by the extended entry: the same is true of it.
+    ///
+    /// # Errors
+    ///
+    /// `Fault::Memory` where an allocation is refused.
+    pub fn of_extended(alloc: Global, text: &'a str, options: Options) -> Result<Blocks<'a>, Fault>
+        ensures { MatchResult result (IsOfExtended text.now options) (λ fault. fault
+            ≡ Fault.Memory) }
+    {
+        Blocks::of_entry(alloc, text, options, true)
+    }
+
+    /// Returns the block result of a text for one of the entries.
+    fn of_entry(
+        alloc: Global,
+        text: &'a str,
+        options: Options,
+        extended: bool,
+    ) -> Result<Blocks<'a>, Fault>
+        ensures { MatchResult result (IsOfEntry extended text.now options) (λ fault. fault
+            ≡ Fault.Memory) }
+    {
         // well formed by the contract of the block pass, so that nothing is left to check
-        let (tree, parts) = markdown_plain::blocks(alloc, text, options)?;
+        let (tree, parts) = markdown_plain::blocks(alloc, text, options.with_extended(extended))?;
         Ok(Blocks {
             text,
             options,
+            extended,
             tree,
             parts,
         })

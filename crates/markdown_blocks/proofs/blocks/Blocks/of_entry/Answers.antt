@@ -1,11 +1,12 @@
 -- What is held is what the block pass made of the text.
 use Rattle.std.proofs.Common.{refl}
-use Rattle.markdown_blocks.proofs.blocks.Blocks.of_text.Goals as goal
+use Rattle.markdown_blocks.proofs.blocks.Blocks.of_entry.Goals as goal
 
 pub returns : goal.returns
 returns c = record {
   holds_text = refl;
   holds_options = refl;
+  holds_entry = refl;
   well_formed = c.in_ok-tree.ensures.formed;
   covers = c.in_ok-tree.ensures.covered;
   headings_hold_inline = c.in_ok-tree.ensures.headings;
