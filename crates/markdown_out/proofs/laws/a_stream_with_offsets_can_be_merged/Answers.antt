@@ -6,12 +6,12 @@ use Rattle.markdown_out.proofs.laws.a_stream_with_offsets_can_be_merged.Goals as
 
 pub returns-clause-stays_ended : goal.returns-clause-stays_ended
 returns-clause-stays_ended g c ends =
-    merge_stays_ended through_ranges (item_view with_range) g.I.Iterator.next_gives g.I.Iterator.can_next g.I.Iterator.remaining
-    offset_state
+    merge_stays_ended through_ranges (item_view with_range) g.I.Iterator.next_gives g.I.Iterator.can_next
+    g.I.Iterator.remaining offset_state
     c.args.merge.now ends
 
 pub returns-clause-merges : goal.returns-clause-merges
 returns-clause-merges g c can =
-    merge_can_merge through_ranges (item_view with_range) g.I.Iterator.next_gives g.I.Iterator.can_next g.I.Iterator.remaining
-    offset_state
+    merge_can_merge through_ranges (item_view with_range) g.I.Iterator.next_gives g.I.Iterator.can_next
+    g.I.Iterator.remaining offset_state
     c.args.merge.now can
