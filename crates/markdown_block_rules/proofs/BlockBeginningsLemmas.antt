@@ -18,12 +18,14 @@ use Rattle.markdown_lines.specs.CodeFences.{opening_fence_at}
 use Rattle.markdown_lines.specs.ThematicBreaks.{is_thematic_break, setext_level}
 use Rattle.markdown_base.specs.Forest.{Forest}
 use Rattle.markdown_block_rules.specs.BlockGrowth.{Block, begun_in, inside_of, new_blocks}
+use Rattle.markdown_lines.specs.declared.block_start.Before.{Before}
+use Rattle.markdown_lines.specs.declared.block_start.Before.TheVariants as paragraph
 use Rattle.markdown_lines.specs.BlockBeginnings as line
-use Rattle.markdown_lines.specs.BlockBeginnings.{Source, Before, Beginning, begins, begins_after, first_found}
+use Rattle.markdown_lines.specs.BlockBeginnings.{Source, Beginning, begins, begins_after, first_found}
 use Rattle.markdown_lines.specs.BlockBeginnings.{past_bytes}
 use Rattle.markdown_lines.specs.BlockBeginnings.{quote_in_line, heading_in_line, fence_in_line, html_in_line}
 use Rattle.markdown_lines.specs.BlockBeginnings.{footnote_in_line}
-use Rattle.markdown_lines.specs.BlockBeginnings.{footnote_marker, underline_in_line, break_in_line}
+use Rattle.markdown_lines.specs.BlockBeginnings.{footnote_marker, label_before_colon, underline_in_line, break_in_line}
 use Rattle.markdown_lines.specs.BlockBeginnings.{is_paragraph, is_reached, item_in_line, item_of, item_space}
 use Rattle.markdown_lines.specs.ListMarkers.{decimal, ends_number, is_bullet, marker_of, ordered_marker}
 use Rattle.markdown_lines.specs.ListMarkers.{stands_before, ordered_marker_of, if_it_stands, list_marker_at}
@@ -114,32 +116,38 @@ quote_less scanned owed column (b ∷ bytes) =
 dropped_less : (n : ℕ) (b : ℕ) (bytes : List ℕ) → 0 < n → length (drop n (b ∷ bytes)) < suc (length bytes)
 dropped_less n b bytes some = omega (arith, some, length-drop n (b ∷ bytes))
 
-marker_less : (here : LineLeft) (n : ℕ) (label : Option (ℕ × List ℕ)) (bytes : List ℕ)
+label_less : (here : LineLeft) (n : ℕ) (label : Option (ℕ × List ℕ)) (bytes : List ℕ)
     → ((k : ℕ) → 0 < k → length (drop k here.bytes) < n)
     → IfHoldsLess n
-    (option_map (λ marker. line.begins_footnote marker.0 (past_bytes marker.1 here)) (footnote_marker bytes label))
-marker_less here n None bytes less = tt
-marker_less here n (Some label) bytes less =
+    (option_map (λ marker. line.begins_footnote marker.0 (past_bytes marker.1 here)) (label_before_colon bytes label))
+label_less here n None bytes less = tt
+label_less here n (Some label) bytes less =
     either (λ (found : Option (List ℕ × ℕ)).
     IfHoldsLess n (option_map (λ marker. line.begins_footnote marker.0 (past_bytes marker.1 here)) found))
     (slice_index bytes (label.0 + 2) == 58) (Some (label.1, label.0 + 3)) None (less (label.0 + 3) (omega arith)) tt
+
+marker_less : (here : LineLeft) (n : ℕ) (bytes : List ℕ) → ((k : ℕ) → 0 < k → length (drop k here.bytes) < n)
+    → IfHoldsLess n
+    (option_map (λ marker. line.begins_footnote marker.0 (past_bytes marker.1 here)) (footnote_marker bytes))
+marker_less here n bytes less =
+    let label = link_label in_one_line false (drop 2 bytes) in
+    either (λ (found : Option (List ℕ × ℕ)).
+    IfHoldsLess n (option_map (λ marker. line.begins_footnote marker.0 (past_bytes marker.1 here)) found))
+    (begins_with (codes "[^") bytes) (label_before_colon bytes label) None (label_less here n label bytes less) tt
 
 footnote_less : (s : Source) (scanned owed column : ℕ) (bytes : List ℕ)
     → IfHoldsLess (length bytes)
     (footnote_in_line s.options (record { scanned = scanned; owed = owed; column = column; bytes = bytes }))
 footnote_less s scanned owed column [] = no_footnote (footnotes_on s.options)
   where
-    no_footnote : (test : Bool) → IfHoldsLess 0 (if test && false then None else None)
+    no_footnote : (test : Bool) → IfHoldsLess 0 (if test then None else None)
     no_footnote true = tt
     no_footnote false = tt
 footnote_less s scanned owed column (b ∷ bytes) =
     let here : LineLeft = record { scanned = scanned; owed = owed; column = column; bytes = b ∷ bytes } in
-    either (IfHoldsLess (suc (length bytes))) (footnotes_on s.options && begins_with (codes "[^") (b ∷ bytes))
-    (option_map (λ marker. line.begins_footnote marker.0 (past_bytes marker.1 here))
-    (footnote_marker here.bytes (link_label in_one_line false (drop 2 here.bytes))))
-    None
-    (marker_less here (suc (length bytes)) (link_label in_one_line false (drop 2 here.bytes)) (b ∷ bytes)
-    (λ k some. dropped_less k b bytes some)) tt
+    either (IfHoldsLess (suc (length bytes))) (footnotes_on s.options)
+    (option_map (λ marker. line.begins_footnote marker.0 (past_bytes marker.1 here)) (footnote_marker here.bytes)) None
+    (marker_less here (suc (length bytes)) (b ∷ bytes) (λ k some. dropped_less k b bytes some)) tt
 
 -- a list marker has at least one byte
 abbrev HasByte : Option ListMarker → Type 0
@@ -307,9 +315,9 @@ unfolding begun_in
 begun_same zero m s l low high = let no : ⊥ = omega (arith, low) in absurd no
 begun_same (suc n) zero s l low high = let no : ⊥ = omega (arith, high) in absurd no
 begun_same (suc n) (suc m) s l low high =
-    new_same l (begins s line.no_paragraph l) (inside_of (begun_in n s) l) (inside_of (begun_in m s) l)
+    new_same l (begins s paragraph.NoParagraph l) (inside_of (begun_in n s) l) (inside_of (begun_in m s) l)
     (length l.left.bytes)
-    (begins_less s line.no_paragraph l)
+    (begins_less s paragraph.NoParagraph l)
     (λ rest less. inside_same rest
     (begun_same n m s (record l { left = rest }) (omega (arith, less, low)) (omega (arith, less, high))))
   where

@@ -6,6 +6,7 @@ use Rattle.std.proofs.lemmas.Iterator.Adapters.{option_map_id}
 use Rattle.std.specs.Prelude.{unwrap_or, if◌then◌else◌}
 use Rattle.std.specs.Option.{option_map}
 use Rattle.markdown_base.specs.Forest.{Forest, nil, node}
+use Rattle.markdown_lines.specs.declared.block_start.Before.TheVariants as paragraph
 use Rattle.markdown_lines.specs.BlockBeginnings as line
 use Rattle.markdown_lines.specs.BlockBeginnings.{Source, begins}
 use Rattle.markdown_block_rules.specs.BlockGrowth.{Block, Kind, block_with, goes_on, is_nil, is_text}
@@ -97,7 +98,7 @@ no_paragraph l (node b below (node c inside after)) none = rw (no_paragraph l (n
 lazily_none : (s : Source) (l : SourceLine) (below : Forest Block) → end_with_paragraph below ≡ false
     → lazily s l below ≡ None
 lazily_none s l below none =
-    rw (no_paragraph l below none) (both_none (not (is_blank_rest l) && is_text (begins s line.lazy l)))
+    rw (no_paragraph l below none) (both_none (not (is_blank_rest l) && is_text (begins s paragraph.Lazy l)))
   where
     unchosen : Bool → Option (Forest Block)
     unchosen test = if test then None else None

@@ -4,6 +4,7 @@ use Rattle.std.proofs.Common.{subst, refl, ap, ◌∙◌, arith, length, ◌&&�
 use Rattle.std.specs.Prelude.{⊤, unwrap_or}
 use Rattle.std.specs.Option.{option_map, option_or}
 use Rattle.markdown_base.specs.Forest.{Forest, nil, node}
+use Rattle.markdown_lines.specs.declared.block_start.Before.TheVariants as paragraph
 use Rattle.markdown_lines.specs.BlockBeginnings as line
 use Rattle.markdown_lines.specs.BlockBeginnings.{Source, begins}
 use Rattle.markdown_block_rules.specs.BlockGrowth.{Block, begun_in, block_with, container_with}
@@ -69,7 +70,7 @@ line_there s l = decided (is_blank_rest l) refl
     decided true is = rw is refl
     decided false is =
         rw is
-        (begun_there (inside_of (begun_in (length l.left.bytes) s) l) l (begins s line.no_paragraph l))
+        (begun_there (inside_of (begun_in (length l.left.bytes) s) l) l (begins s paragraph.NoParagraph l))
 
 both_there : (blocks new : Forest Block) → is_nil new ≡ false → is_nil (followed_by blocks new) ≡ false
 both_there nil new there = there
@@ -106,12 +107,13 @@ indented_lines s indent marker list b below _ _ lists is there (one_indented l r
     lists is (with_line_there s below (rest_of l rest)) more
 
 holds_less : (s : Source) (l : SourceLine) (marker : ListMarker) (indent : ℕ) (rest : LineLeft)
-    → begins s line.no_paragraph l ≡ line.begins_item marker indent rest → length rest.bytes < length l.left.bytes
-holds_less s l marker indent rest is = subst (HoldsLess (length l.left.bytes)) is (begins_less s line.no_paragraph l)
+    → begins s paragraph.NoParagraph l ≡ line.begins_item marker indent rest → length rest.bytes < length l.left.bytes
+holds_less s l marker indent rest is = subst (HoldsLess (length l.left.bytes)) is (begins_less s
+    paragraph.NoParagraph l)
 
 -- the first line of an item
 item_begins : (s : Source) (l : SourceLine) (marker : ListMarker) (indent : ℕ) (rest : LineLeft)
-    → is_blank_rest l ≡ false → begins s line.no_paragraph l ≡ line.begins_item marker indent rest → is_blank_rest
+    → is_blank_rest l ≡ false → begins s paragraph.NoParagraph l ≡ line.begins_item marker indent rest → is_blank_rest
     (rest_of l rest) ≡ false
     → line_block s l ≡ one_item_list marker indent l [] (line_block s (rest_of l rest))
 unfolding begun_in
@@ -121,7 +123,7 @@ item_begins s l marker indent rest line_full is full =
     rw (line_full, is, full, same) refl
 
 empty_item_begins : (s : Source) (l : SourceLine) (marker : ListMarker) (indent : ℕ) (rest : LineLeft)
-    → is_blank_rest l ≡ false → begins s line.no_paragraph l ≡ line.begins_item marker indent rest → is_blank_rest
+    → is_blank_rest l ≡ false → begins s paragraph.NoParagraph l ≡ line.begins_item marker indent rest → is_blank_rest
     (rest_of l rest) ≡ true
     → line_block s l ≡ one_item_list marker indent l [] nil
 unfolding begun_in

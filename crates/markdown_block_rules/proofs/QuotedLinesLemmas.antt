@@ -12,8 +12,10 @@ use Rattle.std.proofs.lemmas.Bool.Decides.{Decides-eqb, nat_tests}
 use Rattle.std.proofs.lemmas.Slice.Eq.{starts_is}
 use Rattle.markdown_scan.specs.Beginnings.{begins_with}
 use Rattle.markdown_base.specs.Forest.{Forest}
+use Rattle.markdown_lines.specs.declared.block_start.Before.{Before}
+use Rattle.markdown_lines.specs.declared.block_start.Before.TheVariants as paragraph
 use Rattle.markdown_lines.specs.BlockBeginnings as line
-use Rattle.markdown_lines.specs.BlockBeginnings.{Source, Before, Beginning, begins, begins_after, quote_in_line}
+use Rattle.markdown_lines.specs.BlockBeginnings.{Source, Beginning, begins, begins_after, quote_in_line}
 use Rattle.markdown_block_rules.specs.BlockGrowth.{Block, begun_in, goes_on, line_block}
 use Rattle.markdown_block_rules.specs.BlockGrowth.{past_quote}
 use Rattle.markdown_block_rules.specs.BlockLaws.{QuotedLinesMakeQuote, lone, quote_from, rest_of}
@@ -113,13 +115,14 @@ first_line_quoted : (s : Source) (l : SourceLine) (rest : LineLeft) → past_quo
     → line_block s l ≡ lone (quote_from l) (line_block s (rest_of l rest))
 unfolding begun_in
 first_line_quoted s l rest marker full =
-    let less : length rest.bytes < length l.left.bytes = holds_less (begins_less s line.no_paragraph l) in
+    let less : length rest.bytes < length l.left.bytes = holds_less (begins_less s paragraph.NoParagraph l) in
     let same = begun_same (length l.left.bytes) (suc (length rest.bytes)) s (rest_of l rest) less (omega arith) in
-    rw (quote_not_blank l rest marker, quote_begins s line.no_paragraph l rest marker, full, same) refl
+    rw (quote_not_blank l rest marker, quote_begins s paragraph.NoParagraph l rest marker, full, same) refl
   where
-    holds_less : HoldsLess (length l.left.bytes) (begins s line.no_paragraph l)
+    holds_less : HoldsLess (length l.left.bytes) (begins s paragraph.NoParagraph l)
         → length rest.bytes < length l.left.bytes
-    holds_less holds = subst (HoldsLess (length l.left.bytes)) (quote_begins s line.no_paragraph l rest marker) holds
+    holds_less holds =
+        subst (HoldsLess (length l.left.bytes)) (quote_begins s paragraph.NoParagraph l rest marker) holds
 
 pub quoted_lines : QuotedLinesMakeQuote
 unfolding goes_on

@@ -14,8 +14,9 @@ use Rattle.markdown_lines.specs.declared.html_kind.HtmlKind.{HtmlKind}
 use Rattle.markdown_lines.specs.declared.list_marker.ListMarker.{ListMarker}
 use Rattle.markdown_base.specs.declared.tag.HeadingLevel.{HeadingLevel}
 use Rattle.markdown_scan.specs.Beginnings.{begins_with}
+use Rattle.markdown_lines.specs.declared.block_start.Before.TheVariants as paragraph
 use Rattle.markdown_lines.specs.BlockBeginnings as line
-use Rattle.markdown_lines.specs.BlockBeginnings.{Source, Before, Beginning, begins}
+use Rattle.markdown_lines.specs.BlockBeginnings.{Source, Beginning, begins}
 use Rattle.markdown_lines.specs.CodeFences.{closes_fence}
 use Rattle.markdown_lines.specs.DefinitionRules.{divided}
 use Rattle.markdown_lines.specs.HtmlKinds.{ends_at_blank, ends_in}
@@ -96,7 +97,7 @@ inside_of begun l rest =
 -- the blocks that begin with a line that is not blank, containers in containers at most `n` deep
 unfoldable pub begun_in : ℕ → Source → SourceLine → Forest Block
 begun_in zero s l = nil
-begun_in (suc n) s l = new_blocks (inside_of (begun_in n s) l) l (begins s line.no_paragraph l)
+begun_in (suc n) s l = new_blocks (inside_of (begun_in n s) l) l (begins s paragraph.NoParagraph l)
 
 -- the blocks that begin with a line that is not blank: each container takes at least one byte
 abbrev pub begun_by : Source → SourceLine → Forest Block
@@ -123,7 +124,7 @@ paragraph_with s l lines other = None
 -- a leaf with one more line, where it goes on in it
 abbrev pub leaf_with : Source → SourceLine → Kind → Option Kind
 leaf_with s l (paragraph_leaf lines) =
-    if is_blank_rest l then None else paragraph_with s l lines (begins s line.reached l)
+    if is_blank_rest l then None else paragraph_with s l lines (begins s paragraph.Reached l)
 leaf_with s l (indented_leaf lines) =
     if is_blank_rest l || ((leading_space 4 l.left).columns == 4) then Some (indented_leaf (lines ++ cut 4 l ∷ []))
     else None
@@ -174,7 +175,7 @@ is_text other = false
 -- what is in a container, with a line that lacks the container's prefix
 abbrev pub lazily : Source → SourceLine → Forest Block → Option (Forest Block)
 lazily s l below =
-    if not (is_blank_rest l) && is_text (begins s line.lazy l) then with_lazy l below else None
+    if not (is_blank_rest l) && is_text (begins s paragraph.Lazy l) then with_lazy l below else None
 
 -- What is in a container, with one more line, from the rest of the line inside it; `inside` is what is in it where its
 -- last block goes on.
@@ -194,7 +195,7 @@ another_item s l marker other = None
 -- the items of a list with a line in which the last item does not go on; a blank line is after an empty item
 abbrev pub next_item : Source → SourceLine → ListMarker → Option (Forest Block)
 next_item s l marker =
-    if is_blank_rest l then Some (line_block s l) else another_item s l marker (begins s line.lazy l)
+    if is_blank_rest l then Some (line_block s l) else another_item s l marker (begins s paragraph.Lazy l)
 
 -- what is in a container, with one more line, where the container goes on in it
 abbrev pub container_with : Source → SourceLine → Forest Block → (SourceLine → Option (Forest Block)) → Kind

@@ -2,6 +2,7 @@
 use Rattle.std.specs.Prelude.{◌≡◌, ℕ, Bool, true, false, ◌&&◌, ◌||◌, List, [], ◌∷◌, Some, None, if◌then◌else◌}
 use Rattle.std.specs.List.{fold}
 use Rattle.markdown_base.specs.Forest.{Forest, nil, node}
+use Rattle.markdown_lines.specs.declared.block_start.Before.TheVariants as paragraph
 use Rattle.markdown_lines.specs.BlockBeginnings as line
 use Rattle.markdown_lines.specs.BlockBeginnings.{Source, begins}
 use Rattle.markdown_block_rules.specs.BlockGrowth.{Block, Kind, content_of, goes_on, is_nil, is_text, item_container}
@@ -80,7 +81,7 @@ MarkerBeforeTextMayBeLeftOut =
     → b.kind ≡ quote_container → past_quote marked.left ≡ Some rest → past_quote bare.left ≡ None
     → text_line (rest_of marked rest) ≡ text_line bare
     → goes_on s below (rest_of marked rest) ≡ Some grown → with_lazy (rest_of marked rest) below ≡ Some grown
-    → is_blank_rest bare ≡ false → is_text (begins s line.lazy bare) ≡ true
+    → is_blank_rest bare ≡ false → is_text (begins s paragraph.Lazy bare) ≡ true
     → with_line s (lone b below) bare ≡ with_line s (lone b below) marked
 
 -- 5.2, the other lines of an item. A list with a line more that has the indentation of its last item is the list of the
@@ -118,7 +119,7 @@ one_item_list marker indent l lines below =
 abbrev pub IndentedLinesMakeItem : Type 0
 IndentedLinesMakeItem =
     (s : Source) (l : SourceLine) (marker : ListMarker) (indent : ℕ) (rest : LineLeft) (lines rests : List SourceLine)
-    → is_blank_rest l ≡ false → begins s line.no_paragraph l ≡ line.begins_item marker indent rest
+    → is_blank_rest l ≡ false → begins s paragraph.NoParagraph l ≡ line.begins_item marker indent rest
     → is_blank_rest (rest_of l rest) ≡ false → AreIndented indent lines rests
     → with_lines s nil (l ∷ lines) ≡ one_item_list marker indent l lines (with_lines s nil (rest_of l rest ∷ rests))
 
@@ -127,7 +128,7 @@ IndentedLinesMakeItem =
 abbrev pub ItemMayBeginWithBlankLine : Type 0
 ItemMayBeginWithBlankLine =
     (s : Source) (l m : SourceLine) (marker : ListMarker) (indent : ℕ) (rest : LineLeft) (lines rests : List SourceLine)
-    → is_blank_rest l ≡ false → begins s line.no_paragraph l ≡ line.begins_item marker indent rest
+    → is_blank_rest l ≡ false → begins s paragraph.NoParagraph l ≡ line.begins_item marker indent rest
     → is_blank_rest (rest_of l rest) ≡ true → is_blank_rest m ≡ false → AreIndented indent (m ∷ lines) rests
     → with_lines s nil (l ∷ m ∷ lines) ≡ one_item_list marker indent l (m ∷ lines) (with_lines s nil rests)
 
@@ -140,7 +141,7 @@ IndentationBeforeTextMayBeLeftOut =
     → past_indentation indent deep ≡ Some rest → past_indentation indent bare ≡ None
     → text_line (rest_of deep rest) ≡ text_line bare
     → goes_on s below (rest_of deep rest) ≡ Some grown → with_lazy (rest_of deep rest) below ≡ Some grown
-    → is_blank_rest deep ≡ false → is_blank_rest bare ≡ false → is_text (begins s line.lazy bare) ≡ true
+    → is_blank_rest deep ≡ false → is_blank_rest bare ≡ false → is_text (begins s paragraph.Lazy bare) ≡ true
     → with_line s (lone list (lone b below)) bare ≡ with_line s (lone list (lone b below)) deep
 
 -- a block is a paragraph

@@ -6,3 +6,5 @@ pub mod CodeFencesLemmas
 pub mod ListMarkersLemmas
 pub mod ThematicBreaksLemmas
 pub mod HtmlKindsLemmas
+pub mod BlockStartsLemmas
+pub mod UnbrokenLinesLemmas

@@ -1,17 +1,19 @@
 -- Steps over the white space of a line, from a place in its middle on.
-use Rattle.std.proofs.Common.{◌≡◌, ℕ, zero, suc, ◌+◌, ◌-◌, ◌<◌, List, ◌∷◌, true, false, ◌==◌, length, get_or, take}
-use Rattle.std.proofs.Common.{drop, drop-cons}
+use Rattle.std.proofs.Common.{◌≡◌, ℕ, zero, suc, ◌+◌, ◌-◌, ◌<◌, ◌≤◌, ◌%◌, ◌^◌, List, [], ◌∷◌, true, false, ◌==◌}
+use Rattle.std.proofs.Common.{length, get_or, take, drop, drop-cons}
 use Rattle.std.proofs.Common.{slice_range, length-drop, refl, sym, ◌∙◌, ap, arith}
 use Rattle.std.proofs.lemmas.Bool.Decides.{nat_tests}
-use Rattle.std.proofs.lemmas.List.{length-take}
+use Rattle.std.proofs.Math.Seq.{take-nil}
+use Rattle.std.proofs.lemmas.List.{drop-drop, length-take}
 use Rattle.markdown_base.proofs.ByteListLemmas.{neither, byte_of_part}
 use Rattle.markdown_scan.specs.LineStart.{LineLeft, space_width, column_after, leading_space, space_from, wider}
-use Rattle.markdown_scan.specs.LineStart.{no_space}
+use Rattle.markdown_scan.specs.LineStart.{next_column, no_space, past_marker, past_one_byte}
 use Rattle.markdown_scan.specs.LineStart as scan
 use Rattle.markdown_scan.specs.LineSteps.{width_next, past_white}
 use Rattle.markdown_scan.proofs.LineStartLemmas.{eq_test_false, space_zero, space_unowed}
 use Rattle.markdown_lines.specs.declared.position.Position.{Position}
 use Rattle.markdown_lines.specs.declared.space.Space.{Space}
+use Rattle.markdown_lines.specs.BlockBeginnings.{past_bytes}
 use Rattle.markdown_lines.specs.Lines.{is_space_or_tab}
 use Rattle.markdown_lines.specs.Positions.{left_from, IsSpaceAt}
 
@@ -150,3 +152,56 @@ pub other_next : (text : List ℕ) (position : Position) (stop most byte : ℕ) 
 other_next text position stop most byte found before within is other none value =
     all_read text position stop most found (leading_space (most - found.columns) (left_from text found.after stop))
     (quiet text stop (most - found.columns) byte found.after before within is other none) value
+
+-- a part of a text without its first bytes
+drop_take : (count size : ℕ) (bytes : List ℕ) → drop count (take size bytes) ≡ take (size - count) (drop count bytes)
+drop_take zero size bytes =
+    let all : size ≡ size - 0 = omega arith in ap (λ n. take n bytes) all
+drop_take (suc count) zero bytes =
+    let none : 0 ≡ 0 - suc count = omega arith in ap (λ n. take n (drop (suc count) bytes)) none
+drop_take (suc count) (suc size) [] =
+    sym (take-nil {A = ℕ} (suc size - suc count))
+drop_take (suc count) (suc size) (b ∷ bytes) =
+    let less : size - count ≡ suc size - suc count = omega arith in
+    drop_take count size bytes ∙ ap (λ n. take n (drop count bytes)) less
+
+pub rest_of_part : (text : List ℕ) (at stop count : ℕ)
+    → drop count (slice_range text at stop) ≡ slice_range text (at + count) stop
+rest_of_part text at stop count =
+    let size : stop - at - count ≡ stop - (at + count) = omega arith in
+    drop_take count (stop - at) (drop at text)
+    ∙ (ap (λ n. take n (drop count (drop at text))) size
+    ∙ ap (λ (bytes : List ℕ). take (stop - (at + count)) bytes) (drop-drop count at text))
+
+column_is : (column : ℕ) → column < 4 → (column + 1) % 4 ≡ next_column column
+column_is column low = grind (arith, nat_tests)
+
+-- the rest after bytes of one column each, from a place on
+pub past_bytes_is : (text : List ℕ) (position after : Position) (stop count : ℕ)
+    → after.at ≡ position.at + count → after.column ≡ (position.column + count) % 4 → after.owed ≡ 0
+    → left_from text after stop ≡ past_bytes count (left_from text position stop)
+past_bytes_is text position after stop count at column owed =
+    let bytes = ap (λ n. slice_range text n stop) at ∙ sym (rest_of_part text position.at stop count) in
+    cc
+
+-- the rest after one byte
+pub past_byte_is : (text : List ℕ) (position after : Position) (stop : ℕ) → after.at ≡ position.at + 1
+    → after.column ≡ (position.column + 1) % 4 → after.owed ≡ 0
+    → left_from text after stop ≡ past_one_byte (left_from text position stop)
+past_byte_is text position after stop at column owed =
+    let bytes = ap (λ n. slice_range text n stop) at ∙ sym (rest_of_part text position.at stop 1) in
+    let columns = column ∙ column_is position.column position.before_stop in
+    cc
+
+-- the rest after that and a column of space
+pub past_marker_is : (text : List ℕ) (here after : Position) (stop : ℕ) (read : Space)
+    → left_from text after stop ≡ past_one_byte (left_from text here stop) → IsSpaceAt text after stop 1 read
+    → left_from text read.after stop ≡ past_marker (left_from text here stop)
+past_marker_is text here after stop read past space =
+    space.after ∙ ap (λ (l : LineLeft). (leading_space 1 l).after) past
+
+-- the place after some bytes of a part of a text
+pub place_fits : (text : List ℕ) (at stop count : ℕ) → count ≤ length (slice_range text at stop)
+    → at < 2 ^ 64 → length text < 2 ^ 64 → at + count < 2 ^ 64
+place_fits text at stop count within low fits =
+    omega (arith, within, low, fits, length-take (stop - at) (drop at text), length-drop at text)

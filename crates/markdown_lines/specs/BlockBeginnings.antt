@@ -6,6 +6,8 @@ use Rattle.std.specs.Option.{option_map}
 use Rattle.markdown_base.specs.Bytes.{backtick, colon, tilde}
 use Rattle.markdown_base.specs.EnabledOptions.{footnotes_on}
 use Rattle.markdown_lines.specs.declared.atx_heading.AtxHeading.{AtxHeading}
+use Rattle.markdown_lines.specs.declared.block_start.Before.{Before}
+use Rattle.markdown_lines.specs.declared.block_start.Before.TheVariants as paragraph
 use Rattle.markdown_lines.specs.declared.fence.OpeningFence.{OpeningFence}
 use Rattle.markdown_lines.specs.declared.html_kind.HtmlKind.{HtmlKind}
 use Rattle.markdown_lines.specs.declared.list_marker.ListMarker.{ListMarker}
@@ -26,20 +28,17 @@ pub record Source : Type 0 where
   pub text : List ℕ
   pub options : Options
 
--- the paragraph that a line may go on with: none; one in containers whose prefix the line lacks, so that it may be a
--- lazy continuation line; or one that the line reaches
-pub data Before : Type 0 where
-  no_paragraph : Before
-  lazy : Before
-  reached : Before
-
+-- the line may go on with a paragraph: one that it reaches, or one that it could continue lazily
 abbrev pub is_paragraph : Before → Bool
-is_paragraph no_paragraph = false
-is_paragraph other = true
+is_paragraph paragraph.NoParagraph = false
+is_paragraph paragraph.Lazy = true
+is_paragraph paragraph.Reached = true
 
+-- the line reaches a paragraph
 abbrev pub is_reached : Before → Bool
-is_reached reached = true
-is_reached other = false
+is_reached paragraph.NoParagraph = false
+is_reached paragraph.Lazy = false
+is_reached paragraph.Reached = true
 
 -- What a line begins. Containers have the rest of the line inside them; an item has the columns of its indentation,
 -- too.
@@ -87,18 +86,23 @@ html_in_line before here =
     if begins_with (codes "<") here.bytes then option_map begins_html (html_kind_of here.bytes (is_paragraph before))
     else None
 
--- the label of `[^label]:`, and its length
-abbrev pub footnote_marker : List ℕ → Option (ℕ × List ℕ) → Option (List ℕ × ℕ)
-footnote_marker bytes None = None
-footnote_marker bytes (Some label) =
+-- the label of `[^label]:` and the length of that, from the label that was read after the `[^`
+abbrev pub label_before_colon : List ℕ → Option (ℕ × List ℕ) → Option (List ℕ × ℕ)
+label_before_colon bytes None = None
+label_before_colon bytes (Some label) =
     if slice_index bytes (label.0 + 2) == colon then Some (label.1, label.0 + 3) else None
 
--- a footnote definition, where footnotes are enabled: a label in this line, and a colon
+-- the same, of the marker that bytes begin with: its label is in one line
+abbrev pub footnote_marker : List ℕ → Option (List ℕ × ℕ)
+footnote_marker bytes =
+    if begins_with (codes "[^") bytes then label_before_colon bytes (link_label in_one_line false (drop 2 bytes))
+    else None
+
+-- a footnote definition, where footnotes are enabled
 abbrev pub footnote_in_line : Options → LineLeft → Option Beginning
 footnote_in_line options here =
-    if footnotes_on options && begins_with (codes "[^") here.bytes
-    then option_map (λ marker. begins_footnote marker.0 (past_bytes marker.1 here))
-    (footnote_marker here.bytes (link_label in_one_line false (drop 2 here.bytes)))
+    if footnotes_on options
+    then option_map (λ marker. begins_footnote marker.0 (past_bytes marker.1 here)) (footnote_marker here.bytes)
     else None
 
 -- 4.3: the underline of a paragraph that the line reaches

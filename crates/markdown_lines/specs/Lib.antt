@@ -14,3 +14,6 @@ pub mod ThematicBreaks
 pub mod SourceLines
 pub mod BlockBeginnings
 pub mod DefinitionRules
+-- what a reader of lines finds
+pub mod UnbrokenLines
+pub mod BlockStarts

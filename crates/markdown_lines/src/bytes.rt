@@ -1,5 +1,5 @@
 //! The bytes of a text, by byte offset. There are none outside the text.
-ghost use Rattle.std.specs.Prelude.{◌≡◌, ◌≤◌, ◌+◌, ◌==◌, length, drop, slice_get, slice_range};
+ghost use Rattle.std.specs.Prelude.{◌≡◌, ◌≤◌, ◌+◌, ◌==◌, length, drop, slice_get, slice_index, slice_range};
 ghost use Rattle.std.specs.List.{list_all, prefix_len};
 ghost use Rattle.markdown_lines.specs.LineBytes.{IsPartOf, is_parted};
 ghost use Rattle.markdown_lines.specs.Lines.{is_space_or_tab};
@@ -14,6 +14,13 @@ pub fn byte_at(text: &str, at: usize) -> Option<u8>
         Some(byte) => Some(*byte),
         None => None,
     }
+}
+
+/// Returns the byte at an index, or 0 where there is none.
+pub fn byte_or_zero(bytes: &[u8], at: usize) -> u8
+    ensures { result ≡ slice_index bytes.now at }
+{
+    if at < bytes.len() { bytes[at] } else { 0 }
 }
 
 /// Returns the bytes from one offset up to another; none where these are out of order.

@@ -3,6 +3,7 @@
 #![tactic(auto)]
 
 pub mod atx_heading;
+pub mod block_start;
 pub mod bytes;
 pub mod definition;
 pub mod fence;
@@ -10,6 +11,7 @@ pub mod held_line;
 pub mod html_kind;
 pub mod line;
 pub mod line_break;
+pub mod line_reader;
 pub mod list_marker;
 pub mod position;
 pub mod space;

@@ -1,5 +1,5 @@
 //! List markers (CommonMark 5.2).
-ghost use Rattle.std.specs.Prelude.{◌≡◌, ◌≤◌, true, length, IfSome};
+ghost use Rattle.std.specs.Prelude.{◌≡◌, ◌≤◌, true, length, slice_range, IfSome};
 ghost use Rattle.std.specs.Char.{is_ascii_digit};
 ghost use Rattle.std.specs.List.{list_all, prefix_len};
 ghost use Rattle.markdown_lines.specs.ListMarkers.{decimal, ends_number, list_marker_at, marker_of, may_interrupt};
@@ -70,6 +70,7 @@ fn digit_count(bytes: &[u8]) -> usize
 fn ordered_marker(bytes: &[u8]) -> Option<ListMarker>
     ensures value { result ≡ ordered_marker bytes.now }
     ensures within { IfSome result (λ marker. marker.width ≤ length bytes.now) }
+    ensures few { IfSome result (λ marker. marker.width ≤ 10) }
 {
     let count = digit_count(bytes);
     let (digits, rest) = bytes.split_at(count);
@@ -90,6 +91,7 @@ fn ordered_marker(bytes: &[u8]) -> Option<ListMarker>
 fn any_marker(bytes: &[u8]) -> Option<ListMarker>
     ensures value { result ≡ marker_of bytes.now }
     ensures within { IfSome result (λ marker. marker.width ≤ length bytes.now) }
+    ensures few { IfSome result (λ marker. marker.width ≤ 10) }
 {
     match bytes.first() {
         Some(byte) if *byte == b'-' || *byte == b'+' || *byte == b'*' => Some(ListMarker {
@@ -105,7 +107,10 @@ fn any_marker(bytes: &[u8]) -> Option<ListMarker>
 /// the content has to follow it. An item that interrupts a paragraph must not be blank, and in an ordered list its
 /// number has to be 1.
 pub fn list_marker(text: &str, at: usize, stop: usize, interrupts: bool) -> Option<ListMarker>
-    ensures { result ≡ list_marker_at text.now at stop interrupts }
+    ensures value { result ≡ list_marker_at text.now at stop interrupts }
+    ensures within { IfSome result (λ marker. marker.width
+        ≤ length (slice_range text.now at stop)) }
+    ensures few { IfSome result (λ marker. marker.width ≤ 10) }
 {
     let content = bytes_of(text, at, stop);
     let marker = any_marker(content)?;

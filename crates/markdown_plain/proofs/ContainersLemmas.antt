@@ -1,10 +1,10 @@
 -- How containers continue, by places in a text and by the rest of the line there.
-use Rattle.std.proofs.Common.{◌≡◌, ℕ, ◌+◌, ◌-◌, ◌<◌, ◌≤◌, ◌%◌, List, Some, true, ◌==◌, length, take, drop, slice_range}
+use Rattle.std.proofs.Common.{◌≡◌, ℕ, ◌+◌, ◌<◌, ◌≤◌, List, Some, true, ◌==◌, length, drop, slice_range}
 use Rattle.std.proofs.Common.{codes, nat_lt}
 use Rattle.std.proofs.Common.{refl, sym, ◌∙◌, ap, arith, Bool, false, ◌&&◌, None, [], ◌∷◌, zero, suc, nat_le, get_or}
 use Rattle.std.proofs.Common.{drop-cons}
 use Rattle.std.proofs.lemmas.Bool.Decides.{nat_tests}
-use Rattle.std.proofs.lemmas.List.{drop_all, drop-drop, drop-take}
+use Rattle.std.proofs.lemmas.List.{drop_all}
 use Rattle.markdown_scan.specs.Beginnings.{begins_with}
 use Rattle.markdown_scan.specs.LineStart.{LineLeft, next_column, past_one_byte, past_marker, leading_space}
 use Rattle.markdown_scan.specs.LineStart as scan
@@ -12,61 +12,8 @@ use Rattle.markdown_lines.specs.declared.position.Position.{Position}
 use Rattle.markdown_lines.specs.declared.space.Space.{Space}
 use Rattle.markdown_lines.specs.Positions.{left_from, IsSpaceAt}
 use Rattle.markdown_builder.specs.declared.open_block.OpenBlock.{OpenBlock}
-use Rattle.markdown_plain.specs.NewContainers.{item_space, past_bytes}
 use Rattle.markdown_plain.specs.Containers.{Reach, is_container, is_innermost, marker_after, past_container}
 use Rattle.markdown_plain.specs.Containers.{reach_after, reach_from}
-
--- a part of a text without its first bytes
-rest_of_part : (text : List ℕ) (at stop count : ℕ) → at + count ≤ stop
-    → drop count (slice_range text at stop) ≡ slice_range text (at + count) stop
-rest_of_part text at stop count within =
-    let size : stop - at ≡ count + (stop - (at + count)) = omega (arith, within) in
-    ap (λ n. drop count (take n (drop at text))) size
-    ∙ (drop-take count (stop - (at + count)) (drop at text)
-    ∙ ap (λ (xs : List ℕ). take (stop - (at + count)) xs) (drop-drop count at text))
-
-column_is : (column : ℕ) → column < 4 → (column + 1) % 4 ≡ next_column column
-column_is column low = grind (arith, nat_tests)
-
--- the rest after bytes of one column each, from a place on
-pub past_bytes_is : (text : List ℕ) (position after : Position) (stop count : ℕ) → position.at + count ≤ stop
-    → after.at ≡ position.at + count → after.column ≡ (position.column + count) % 4 → after.owed ≡ 0
-    → left_from text after stop ≡ past_bytes count (left_from text position stop)
-past_bytes_is text position after stop count within at column owed =
-    let bytes = ap (λ n. slice_range text n stop) at ∙ sym (rest_of_part text position.at stop count within) in
-    cc
-
--- the rest after one byte
-pub past_byte_is : (text : List ℕ) (position after : Position) (stop : ℕ) → position.at < stop
-    → after.at ≡ position.at + 1
-    → after.column ≡ (position.column + 1) % 4 → after.owed ≡ 0
-    → left_from text after stop ≡ past_one_byte (left_from text position stop)
-past_byte_is text position after stop more at column owed =
-    let bytes = ap (λ n. slice_range text n stop) at ∙ sym (rest_of_part text position.at stop 1 (omega
-    (arith, more))) in
-    let columns = column ∙ column_is position.column position.before_stop in
-    cc
-
--- the rest after that and a column of space
-pub past_marker_is : (text read_in : List ℕ) (here after : Position) (stop : ℕ) (read : Space) → read_in ≡ text
-    → left_from text after stop ≡ past_one_byte (left_from text here stop) → IsSpaceAt read_in after stop 1 read
-    → left_from text read.after stop ≡ past_marker (left_from text here stop)
-past_marker_is text read_in here after stop read same past leading_space =
-    ap (λ (t : List ℕ). left_from t read.after stop) (sym same)
-    ∙ (leading_space.after
-    ∙ (ap (λ (t : List ℕ). (scan.leading_space 1 (left_from t after stop)).after) same
-    ∙ ap (λ (l : LineLeft). (scan.leading_space 1 l).after) past))
-
--- the rest after the space that follows a marker of a list
-pub past_item_is : (text read_in : List ℕ) (position after inside : Position) (stop count : ℕ) → read_in ≡ text
-    → left_from text after stop ≡ past_bytes count (left_from text position stop)
-    → left_from read_in inside stop ≡ (item_space stop (left_from read_in after stop)).after
-    → left_from text inside stop ≡ (item_space stop (past_bytes count (left_from text position stop))).after
-past_item_is text read_in position after inside stop count same past content =
-    ap (λ (t : List ℕ). left_from t inside stop) (sym same)
-    ∙ (content
-    ∙ (ap (λ (t : List ℕ). (item_space stop (left_from t after stop)).after) same
-    ∙ ap (λ (l : LineLeft). (item_space stop l).after) past))
 
 -- the rest after the marker of a block quote and the space that is a part of it
 pub marker_after_is : (text : List ℕ) (before : scan.Space) (columns : ℕ) (position after : Position) (stop : ℕ)

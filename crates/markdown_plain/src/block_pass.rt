@@ -2,6 +2,7 @@
 //! continues (CommonMark, appendix on parsing). Functions that return a `Result` fail only where memory is refused;
 //! what was built by then is not used.
 ghost use Rattle.std.specs.Prelude.{◌≡◌, [], length, IfOk};
+ghost use Rattle.std.specs.Str.{IsCharBoundary};
 ghost use Rattle.markdown_base.specs.BlockTree.{tree_of};
 ghost use Rattle.markdown_base.specs.Coverage.{Covers};
 ghost use Rattle.markdown_base.specs.WellFormed.{IsWellFormed};
@@ -12,32 +13,33 @@ use crate::containers::{Reached, reach};
 use crate::pass::{LeafKind, Pass};
 use crate::placing::Placing;
 use markdown_base::block_parts::BlockParts;
+use markdown_base::cow_str::CowStr;
 use markdown_base::item::Item;
 use markdown_base::options::Options;
+use markdown_base::tag::HeadingLevel;
 use markdown_base::tree::Tree;
-use markdown_lines::atx_heading::atx_heading;
-use markdown_lines::bytes::{byte_at, bytes_of, content_start, is_white, part_of};
-use markdown_lines::fence::opening_fence;
-use markdown_lines::html_kind::html_kind;
+use markdown_lines::atx_heading::AtxHeading;
+use markdown_lines::block_start::{Before, BlockStart, ItemStart};
+use markdown_lines::bytes::{byte_at, bytes_of, is_white};
+use markdown_lines::fence::OpeningFence;
+use markdown_lines::html_kind::HtmlKind;
 use markdown_lines::line::{Line, is_space_or_tab, line_from};
-use markdown_lines::list_marker::list_marker;
+use markdown_lines::line_reader::LineReader;
 use markdown_lines::position::Position;
-use markdown_lines::space::{Space, read_space};
-use markdown_lines::thematic_break::{setext_underline, thematic_break};
+use markdown_lines::space::read_space;
 use std::alloc::{AllocError, Global};
 
 /// The rest of a line.
 #[derive(Clone, Copy, Drop)]
-struct LineRest {
+struct LineRest<'a> {
     line: Line,
+    reader: LineReader<'a>,
     /// where it begins
     position: Position,
     /// the number of open blocks that continue, or were opened in this line
     depth: usize,
-    /// no thematic break begins in this line before this byte offset
-    unbroken: usize,
-    /// whether a paragraph continues here unless a block begins
-    in_paragraph: bool,
+    /// the paragraph that it may go on with
+    before: Before,
 }
 
 /// Returns whether a line with this first byte after white space may begin a block other than a paragraph.
@@ -63,6 +65,7 @@ fn begins_text(text: &str, at: usize, stop: usize) -> bool {
 impl<'a> Pass<'a> {
     /// Reads a line. Where no block is open, the first byte of most lines shows that they are text.
     fn read_line(&mut self, line: Line) -> Result<(), AllocError>
+        requires { IsCharBoundary self.old.placing.builder.text line.stop }
         ensures { IfOk result (λ _. self.new.placing.builder.text ≡ self.old.placing.builder.text) }
     {
         if !self.placing.open_blocks().is_empty()
@@ -86,6 +89,7 @@ impl<'a> Pass<'a> {
     /// Reads a line, whatever blocks continue or begin in it.
     #[inline(never)]
     fn read_any_line(&mut self, line: Line) -> Result<(), AllocError>
+        requires { IsCharBoundary self.old.placing.builder.text line.stop }
         ensures { IfOk result (λ _. self.new.placing.builder.text ≡ self.old.placing.builder.text) }
     {
         let reached = reach(self, line);
@@ -96,13 +100,15 @@ impl<'a> Pass<'a> {
         if reached.content >= line.stop {
             return self.read_blank(line, reached);
         }
-        self.read_rest(LineRest {
+        let text = self.placing.text();
+        let rest = LineRest {
             line,
+            reader: LineReader::new(self.alloc, text, self.options, line.stop),
             position: reached.position,
             depth: reached.depth,
-            unbroken: 0,
-            in_paragraph: reached.all && self.has_paragraph(),
-        })?;
+            before: self.paragraph_before(reached.all),
+        };
+        self.read_rest(rest)?;
         self.see_content(line);
         Ok(())
     }
@@ -151,13 +157,25 @@ impl<'a> Pass<'a> {
         Ok(())
     }
 
+    /// Returns the paragraph that a line may go on with, where all open containers continue in it, or not.
+    fn paragraph_before(&self, all: bool) -> Before {
+        if !self.has_paragraph() {
+            Before::NoParagraph
+        } else if all {
+            Before::Reached
+        } else {
+            Before::Lazy
+        }
+    }
+
     /// Reads what the open containers left of a line: opens blocks as long as some begin.
-    fn read_rest(&mut self, rest: LineRest) -> Result<(), AllocError>
+    fn read_rest(&mut self, rest: LineRest<'a>) -> Result<(), AllocError>
         ensures { IfOk result (λ _. self.new.placing.builder.text ≡ self.old.placing.builder.text) }
     {
         let mut here = rest;
-        // each container takes at least one byte of the line, and what is left after the last one is read too
-        'blocks: for _ in rest.line.start..rest.line.next.saturating_add(1) {
+        // each container takes at least one byte of the line; what is left after the last one is read too, and a line
+        // that underlines definitions is read twice
+        'blocks: for _ in rest.line.start..rest.line.next.saturating_add(2) {
             if here.position.owed == 0
                 && begins_text(self.placing.text(), here.position.at, here.line.stop)
             {
@@ -170,179 +188,162 @@ impl<'a> Pass<'a> {
         Ok(())
     }
 
-    /// Reads the block that begins here. Returns whether it is a container, inside which the rest of the line is still
-    /// to be read.
-    fn read_block(&mut self, rest: &mut LineRest) -> Result<bool, AllocError>
+    /// Reads the block that begins here. Returns whether the rest of the line is still to be read: inside a container,
+    /// or once more.
+    fn read_block(&mut self, rest: &mut LineRest<'a>) -> Result<bool, AllocError>
         ensures { IfOk result (λ _. self.new.placing.builder.text ≡ self.old.placing.builder.text) }
     {
-        let text = self.placing.text();
-        let stop = rest.line.stop;
-        let before = read_space(text, rest.position, stop, 4);
-        let at = before.after.at;
-        if content_start(text, at, stop) == stop {
-            self.placing.step_to(rest.line.next);
-            return Ok(false);
-        }
-        if before.columns == 4 {
-            self.read_indented(*rest, before)?;
-            return Ok(false);
-        }
-        match byte_at(text, at).unwrap_or(0) {
-            b'>' => self.read_quote(rest, before),
-            b'#' => self.read_atx(*rest, at),
-            b'`' | b'~' => self.read_fence(*rest, before),
-            b'<' => self.read_html(*rest, before),
-            b'[' => self.read_bracket(rest, before),
-            b'=' | b'-' | b'_' | b'*' | b'+' => self.read_line_of_marks(rest, before),
-            b'0'..=b'9' => self.read_item(rest, before),
-            _ => self.read_text(*rest, at),
+        let begun = rest.reader.beginning(rest.position, rest.before)?;
+        let at = begun.at;
+        match begun.start {
+            BlockStart::Nothing => self.skip_blank(rest.line),
+            BlockStart::Text => self.read_text(rest, at),
+            BlockStart::IndentedCode(code) => self.read_indented(rest, code),
+            BlockStart::Quote(inside) => self.read_quote(rest, at, inside),
+            BlockStart::Heading(heading) => self.read_heading(rest, at, heading),
+            BlockStart::Fence(opening) => self.read_fence(rest, at, opening),
+            BlockStart::Html(kind) => self.read_html(rest, kind),
+            BlockStart::Footnote(label, inside) => self.read_footnote(rest, at, label, inside),
+            BlockStart::Underline(level) => self.read_underline(rest, level),
+            BlockStart::ThematicBreak => self.read_break(rest, at),
+            BlockStart::Item(item) => self.read_item(rest, at, item),
         }
     }
 
-    /// Reads a line that begins no other block. Returns false, as for all blocks that are not containers.
-    fn read_text(&mut self, rest: LineRest, at: usize) -> Result<bool, AllocError>
+    /// Passes over the rest of a line that is blank. Returns false, as for all blocks that are not containers.
+    fn skip_blank(&mut self, line: Line) -> Result<bool, AllocError>
+        ensures { IfOk result (λ _. self.new.placing.builder.text ≡ self.old.placing.builder.text) }
+    {
+        self.placing.step_to(line.next);
+        Ok(false)
+    }
+
+    /// Reads text, from its first byte on. Returns false.
+    fn read_text(&mut self, rest: &LineRest<'a>, at: usize) -> Result<bool, AllocError>
         ensures { IfOk result (λ _. self.new.placing.builder.text ≡ self.old.placing.builder.text) }
     {
         self.add_text(rest.line, at, rest.depth)?;
         Ok(false)
     }
 
-    /// Reads an indented line: as code, or as text where a paragraph is open.
-    fn read_indented(&mut self, rest: LineRest, before: Space) -> Result<(), AllocError>
+    /// Reads the first line of indented code, from a place on. Returns false.
+    fn read_indented(&mut self, rest: &LineRest<'a>, code: Position) -> Result<bool, AllocError>
         ensures { IfOk result (λ _. self.new.placing.builder.text ≡ self.old.placing.builder.text) }
     {
-        if self.has_paragraph() {
-            let content = content_start(self.placing.text(), before.after.at, rest.line.stop);
-            return self.add_text(rest.line, content, rest.depth);
-        }
         self.make_room(rest.depth)?;
-        self.open_indented(rest.line, before.after)
+        self.open_indented(rest.line, code)?;
+        Ok(false)
     }
 
-    /// Moves to a place inside the container that was opened last.
-    fn go_inside(&self, rest: &mut LineRest, position: Position) {
-        rest.position = position;
+    /// Moves to a place inside the container that was opened last, and returns true.
+    fn go_inside(&self, rest: &mut LineRest<'a>, inside: Position) -> bool {
+        rest.position = inside;
         rest.depth = self.depth();
-        rest.in_paragraph = false;
+        rest.before = Before::NoParagraph;
+        true
     }
 
-    /// Reads the marker of a block quote, and returns true.
-    fn read_quote(&mut self, rest: &mut LineRest, before: Space) -> Result<bool, AllocError>
+    /// Reads the marker of a block quote. Returns true.
+    fn read_quote(
+        &mut self,
+        rest: &mut LineRest<'a>,
+        at: usize,
+        inside: Position,
+    ) -> Result<bool, AllocError>
         ensures { IfOk result (λ _. self.new.placing.builder.text ≡ self.old.placing.builder.text) }
     {
         self.make_room(rest.depth)?;
-        let position = self.open_quote(rest.line, before.after)?;
-        self.go_inside(rest, position);
-        Ok(true)
+        self.open_quote(at)?;
+        Ok(self.go_inside(rest, inside))
     }
 
-    /// Reads a line that begins with a `#`: an ATX heading or text. Returns false.
-    fn read_atx(&mut self, rest: LineRest, at: usize) -> Result<bool, AllocError>
+    /// Reads an ATX heading. Returns false.
+    fn read_heading(
+        &mut self,
+        rest: &LineRest<'a>,
+        at: usize,
+        heading: AtxHeading,
+    ) -> Result<bool, AllocError>
         ensures { IfOk result (λ _. self.new.placing.builder.text ≡ self.old.placing.builder.text) }
     {
-        let Some(heading) = atx_heading(self.placing.text(), at, rest.line.stop) else {
-            return self.read_text(rest, at);
-        };
         self.make_room(rest.depth)?;
         self.placing.step_to(at);
         self.add_heading(rest.line, heading)?;
         Ok(false)
     }
 
-    /// Reads a line that begins with a backtick or a tilde: an opening code fence or text. Returns false.
-    fn read_fence(&mut self, rest: LineRest, before: Space) -> Result<bool, AllocError>
+    /// Reads an opening code fence. Returns false.
+    fn read_fence(
+        &mut self,
+        rest: &LineRest<'a>,
+        at: usize,
+        opening: OpeningFence,
+    ) -> Result<bool, AllocError>
         ensures { IfOk result (λ _. self.new.placing.builder.text ≡ self.old.placing.builder.text) }
     {
-        let text = self.placing.text();
-        let at = before.after.at;
-        let byte = byte_at(text, at).unwrap_or(0);
-        let found = opening_fence(text, at, rest.line.stop, byte, before.columns);
-        let Some(opening) = found else {
-            return self.read_text(rest, at);
-        };
         self.make_room(rest.depth)?;
         self.open_fenced(rest.line, at, opening)?;
         Ok(false)
     }
 
-    /// Reads a line that begins with a `<`: the first line of an HTML block, or text. Returns false.
-    fn read_html(&mut self, rest: LineRest, before: Space) -> Result<bool, AllocError>
+    /// Reads the first line of an HTML block. Returns false.
+    fn read_html(&mut self, rest: &LineRest<'a>, kind: HtmlKind) -> Result<bool, AllocError>
         ensures { IfOk result (λ _. self.new.placing.builder.text ≡ self.old.placing.builder.text) }
     {
-        let at = before.after.at;
-        let content = part_of(self.placing.text(), at, rest.line.stop);
-        // also where the line would be a lazy continuation line of the paragraph
-        let in_paragraph = self.has_paragraph();
-        let Some(kind) = html_kind(self.alloc, content, in_paragraph)? else {
-            return self.read_text(rest, at);
-        };
         self.make_room(rest.depth)?;
         self.open_html(rest.line, rest.position, kind)?;
         Ok(false)
     }
 
-    /// Reads a line that begins with a `[`: text, unless it begins a footnote definition. Returns whether it does.
-    fn read_bracket(&mut self, rest: &mut LineRest, before: Space) -> Result<bool, AllocError>
+    /// Reads the marker of a footnote definition. Returns true.
+    fn read_footnote(
+        &mut self,
+        rest: &mut LineRest<'a>,
+        at: usize,
+        label: CowStr<'a>,
+        inside: Position,
+    ) -> Result<bool, AllocError>
         ensures { IfOk result (λ _. self.new.placing.builder.text ≡ self.old.placing.builder.text) }
     {
-        let here = before.after;
-        match self.open_footnote(rest.line, here, rest.depth)? {
-            Some(position) => {
-                self.go_inside(rest, position);
-                Ok(true)
-            }
-            None => self.read_text(*rest, here.at),
-        }
+        self.open_footnote(at, label, rest.depth)?;
+        Ok(self.go_inside(rest, inside))
     }
 
-    /// Reads a line that begins with a character of setext heading underlines, thematic breaks or bullet list markers.
-    /// Returns whether a list item begins.
-    fn read_line_of_marks(&mut self, rest: &mut LineRest, before: Space) -> Result<bool, AllocError>
+    /// Reads the underline of the open paragraph, and returns false. Where the paragraph holds definitions alone, it
+    /// ends, and the line, which underlines nothing, is still to be read: then it returns true.
+    fn read_underline(
+        &mut self,
+        rest: &mut LineRest<'a>,
+        level: HeadingLevel,
+    ) -> Result<bool, AllocError>
         ensures { IfOk result (λ _. self.new.placing.builder.text ≡ self.old.placing.builder.text) }
     {
-        if rest.in_paragraph {
-            let content = bytes_of(self.placing.text(), before.after.at, rest.line.stop);
-            if let Some(level) = setext_underline(content) {
-                if self.end_paragraph(Some((level, rest.line)))? {
-                    return Ok(false);
-                }
-                rest.in_paragraph = false;
-            }
-        }
-        self.read_break(rest, before)
+        rest.before = Before::NoParagraph;
+        let is_heading = self.end_paragraph(Some((level, rest.line)))?;
+        Ok(!is_heading)
     }
 
-    /// Reads a line that may be a thematic break, or begin with a list marker. Returns whether a list item begins.
-    fn read_break(&mut self, rest: &mut LineRest, before: Space) -> Result<bool, AllocError>
+    /// Reads a thematic break. Returns false.
+    fn read_break(&mut self, rest: &LineRest<'a>, at: usize) -> Result<bool, AllocError>
         ensures { IfOk result (λ _. self.new.placing.builder.text ≡ self.old.placing.builder.text) }
     {
-        let at = before.after.at;
-        if at >= rest.unbroken {
-            match thematic_break(bytes_of(self.placing.text(), at, rest.line.stop)) {
-                Ok(()) => {
-                    self.make_room(rest.depth)?;
-                    self.placing.step_to(at);
-                    self.add_thematic_break(rest.line)?;
-                    return Ok(false);
-                }
-                Err(length) => rest.unbroken = at.saturating_add(length),
-            }
-        }
-        self.read_item(rest, before)
+        self.make_room(rest.depth)?;
+        self.placing.step_to(at);
+        self.add_thematic_break(rest.line)?;
+        Ok(false)
     }
 
-    /// Reads a line that may begin with a list marker, and is text otherwise. Returns whether a list item begins.
-    fn read_item(&mut self, rest: &mut LineRest, before: Space) -> Result<bool, AllocError>
+    /// Reads the marker of a list item. Returns true.
+    fn read_item(
+        &mut self,
+        rest: &mut LineRest<'a>,
+        at: usize,
+        item: ItemStart,
+    ) -> Result<bool, AllocError>
         ensures { IfOk result (λ _. self.new.placing.builder.text ≡ self.old.placing.builder.text) }
     {
-        let at = before.after.at;
-        let found = list_marker(self.placing.text(), at, rest.line.stop, rest.in_paragraph);
-        let Some(marker) = found else {
-            return self.read_text(*rest, at);
-        };
-        let position = self.open_item(rest.line, before, marker, rest.depth)?;
-        self.go_inside(rest, position);
-        Ok(true)
+        self.open_item(item, at, rest.depth)?;
+        Ok(self.go_inside(rest, item.inside))
     }
 
     /// Reads all lines of the text, and closes all blocks.

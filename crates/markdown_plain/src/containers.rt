@@ -1,13 +1,8 @@
 //! Block quotes (CommonMark 5.1), list items (5.2), and footnote definitions: how they continue in a line, and how they
 //! are opened. Functions that return a `Result` fail only where memory is refused.
-ghost use Rattle.std.specs.Prelude.{◌≡◌, ℕ, ◌+◌, ◌<◌, ◌≤◌, ◌^◌, ◌++◌, ◌∷◌, [], true, false, None, List};
-ghost use Rattle.std.specs.Prelude.{nat_le, take, IfOk, IfSome, MatchOption};
-ghost use Rattle.std.specs.Option.{option_map};
-ghost use Rattle.markdown_base.specs.CowText.{text_of};
-ghost use Rattle.markdown_base.specs.EnabledOptions.{footnotes_on, old_footnotes_on};
-ghost use Rattle.markdown_lines.specs.LineBytes.{IsPartOf};
+ghost use Rattle.std.specs.Prelude.{◌≡◌, ℕ, ◌+◌, ◌<◌, ◌^◌, ◌++◌, ◌∷◌, [], true, None, List, nat_le, take, IfOk};
+ghost use Rattle.markdown_base.specs.EnabledOptions.{old_footnotes_on};
 ghost use Rattle.markdown_lines.specs.Positions.{left_from};
-ghost use Rattle.markdown_scan.specs.LineStart.{past_marker};
 ghost use Rattle.markdown_plain.specs.Containers as spec;
 ghost use Rattle.markdown_plain.specs.NewContainers as opening;
 ghost use Rattle.markdown_plain.specs.Fitting.{IfFitted, opened};
@@ -21,14 +16,13 @@ use markdown_base::cow_str::CowStr;
 use markdown_base::item::ItemBody;
 use markdown_base::options::Options;
 use markdown_builder::open_block::OpenBlock;
-use markdown_lines::bytes::{byte_at, bytes_of, content_start, part_of};
+use markdown_lines::block_start::ItemStart;
+use markdown_lines::bytes::{bytes_of, content_start};
 use markdown_lines::line::Line;
 use markdown_lines::list_marker::ListMarker;
 use markdown_lines::position::Position;
-use markdown_lines::space::{Space, read_space};
-use markdown_scan::label::scan_link_label;
-use markdown_scan::line_rule::OneLine;
-use std::alloc::{AllocError, Global};
+use markdown_lines::space::read_space;
+use std::alloc::AllocError;
 
 /// How far the open containers continue in a line.
 #[derive(Clone, Copy, Drop)]
@@ -261,87 +255,31 @@ pub fn reach(pass: &Pass<'_>, line: Line) -> Reached
     )
 }
 
-/// Returns the space between an item's marker, which ends at the place `after`, and its content: one to four columns,
-/// or one column where the item begins with a blank line or with indented code.
-fn item_content(text: &str, after: Position, stop: usize) -> Space
-    ensures columns { result.columns
-        ≡ (opening.item_space stop (left_from text.now after stop)).columns }
-    ensures after { left_from text.now result.after stop
-        ≡ (opening.item_space stop (left_from text.now after stop)).after }
-    ensures few { result.columns ≤ 5 }
-{
-    let padding = read_space(text, after, stop, 5);
-    if padding.after.at < stop && 0 < padding.columns && padding.columns < 5 {
-        return padding;
-    }
-    Space {
-        columns: 1,
-        after: read_space(text, after, stop, 1).after,
-    }
-}
-
-/// Returns the label of the footnote definition with which a line's content begins, and the length of its marker in
-/// bytes; `None` where it begins with none.
-fn footnote_label<'a>(
-    alloc: Global,
-    content: &'a str,
-) -> Result<Option<(CowStr<'a>, usize)>, AllocError>
-    ensures { IfOk result (λ found. option_map (λ marker. (text_of marker.0, marker.1)) found
-        ≡ opening.note_of content.now) }
-{
-    let Some(rest) = content.strip_prefix("[^") else {
-        return Ok(None);
-    };
-    let Some((length, label)) = scan_link_label(alloc, rest, &OneLine, false)? else {
-        return Ok(None);
-    };
-    let colon = length.saturating_add(2);
-    if byte_at(content, colon) != Some(b':') {
-        drop(label);
-        return Ok(None);
-    }
-    Ok(Some((label, colon.saturating_add(1))))
-}
-
 impl<'a> Pass<'a> {
-    /// Opens a block quote whose marker is at the place `here`, and returns the place after the marker.
-    pub fn open_quote(&mut self, line: Line, here: Position) -> Result<Position, AllocError>
+    /// Opens a block quote whose marker is at the byte offset `at`.
+    pub fn open_quote(&mut self, at: usize) -> Result<(), AllocError>
         ensures text { IfOk result (λ _. self.new.placing.builder.text
             ≡ self.old.placing.builder.text) }
         ensures opens { IfOk result (λ _.
             IfFitted self.old.placing self.new.placing (self.new.placing.builder
-            ≡ opened self.old.placing.builder here.at (body.BlockQuote None))) }
-        ensures inside { IfOk result (λ inside. here.at < line.stop
-            → left_from self.old.placing.builder.text inside line.stop
-            ≡ past_marker (left_from self.old.placing.builder.text here line.stop)) }
+            ≡ opened self.old.placing.builder at (body.BlockQuote None))) }
         ensures same { self.new ≡ record self.old { placing = self.new.placing } }
     {
-        self.placing.step_to(here.at);
-        self.placing.open_block(ItemBody::BlockQuote(None))?;
-        Ok(read_space(self.placing.text(), here.past(1), line.stop, 1).after)
+        self.placing.step_to(at);
+        self.placing.open_block(ItemBody::BlockQuote(None))
     }
 
-    /// Opens an item whose marker follows the space `before`, and a list unless one continues. Returns the place where
-    /// the item's content begins.
-    pub fn open_item(
-        &mut self,
-        line: Line,
-        before: Space,
-        marker: ListMarker,
-        depth: usize,
-    ) -> Result<Position, AllocError>
+    /// Opens an item whose marker is at the byte offset `at`, and a list unless one continues, inside the outermost
+    /// `depth` of the open blocks.
+    pub fn open_item(&mut self, item: ItemStart, at: usize, depth: usize) -> Result<(), AllocError>
         ensures text { IfOk result (λ _. self.new.placing.builder.text
             ≡ self.old.placing.builder.text) }
-        ensures around { IfOk result (λ _. IfFitted self.old.placing self.new.placing ((indent : ℕ)
-            × (self.new.placing.builder.blocks ≡ opening.around_item before.after.at marker
+        ensures around { IfOk result (λ _. IfFitted self.old.placing self.new.placing
+            (self.new.placing.builder.blocks ≡ opening.around_item at item.marker
             (take depth (without_leaf self.old.placing.builder))
-            ++ record { start = before.after.at; body = body.ListItem indent } ∷ []))) }
+            ++ record { start = at; body = body.ListItem item.indent } ∷ [])) }
         ensures here { IfOk result (λ _. IfFitted self.old.placing self.new.placing
-            (self.new.placing.builder.at ≡ before.after.at)) }
-        ensures inside { IfOk result (λ inside. before.after.at + marker.width ≤ line.stop
-            → left_from self.old.placing.builder.text inside line.stop
-            ≡ (opening.item_space line.stop (opening.past_bytes marker.width
-            (left_from self.old.placing.builder.text before.after line.stop))).after) }
+            (self.new.placing.builder.at ≡ at)) }
         ensures ended { IfOk result (λ _. self.new.lines.items ≡ []) }
         ensures empty { IfOk result (λ _. self.new.looseness.item_is_empty ≡ true) }
         ensures same { self.new ≡ record self.old {
@@ -351,16 +289,9 @@ impl<'a> Pass<'a> {
         } }
     {
         self.close_down(depth)?;
-        self.open_list(marker, before.after.at)?;
-        let after = before.after.past(marker.width);
-        let content = item_content(self.placing.text(), after, line.stop);
-        let indent = before
-            .columns
-            .saturating_add(marker.width)
-            .saturating_add(content.columns);
-        self.placing.step_to(before.after.at);
-        self.placing.open_block(ItemBody::ListItem(indent))?;
-        Ok(content.after)
+        self.open_list(item.marker, at)?;
+        self.placing.step_to(at);
+        self.placing.open_block(ItemBody::ListItem(item.indent))
     }
 
     /// Adds an item to the innermost open block, if that is a list with this character, and otherwise opens a list. The
@@ -391,47 +322,33 @@ impl<'a> Pass<'a> {
         self.looseness.open_list()
     }
 
-    /// Opens the footnote definition that begins here, if one does, and returns the place where its content begins.
+    /// Opens a footnote definition whose marker is at the byte offset `at`, inside the outermost `depth` of the open
+    /// blocks.
     pub fn open_footnote(
         &mut self,
-        line: Line,
-        here: Position,
+        at: usize,
+        label: CowStr<'a>,
         depth: usize,
-    ) -> Result<Option<Position>, AllocError>
+    ) -> Result<(), AllocError>
         ensures text { IfOk result (λ _. self.new.placing.builder.text
             ≡ self.old.placing.builder.text) }
-        ensures off { IfOk result (λ found. footnotes_on self.old.options ≡ false → found ≡ None) }
-        ensures on { IfOk result (λ found. footnotes_on self.old.options ≡ true → (content : List ℕ)
-            × IsPartOf self.old.placing.builder.text here.at line.stop content
-            × MatchOption found (opening.note_of content ≡ None)
-            (opening.InsideNote self.old.placing.builder.text here line.stop content)) }
-        ensures none { IfOk result (λ found. found ≡ None → self.new ≡ self.old) }
-        ensures opens { IfOk result (λ found. IfSome found (λ _.
+        ensures opens { IfOk result (λ _.
             IfFitted self.old.placing self.new.placing ((ix : _)
             × (self.new.placing.builder.blocks
             ≡ room_in depth (without_leaf self.old.placing.builder)
-            ++ record { start = here.at; body = body.FootnoteDefinition ix } ∷ [])))) }
-        ensures here { IfOk result (λ found. IfSome found (λ _.
-            IfFitted self.old.placing self.new.placing
-            (self.new.placing.builder.at ≡ here.at))) }
-        ensures ended { IfOk result (λ found. IfSome found (λ _. self.new.lines.items ≡ [])) }
+            ++ record { start = at; body = body.FootnoteDefinition ix } ∷ []))) }
+        ensures here { IfOk result (λ _. IfFitted self.old.placing self.new.placing
+            (self.new.placing.builder.at ≡ at)) }
+        ensures ended { IfOk result (λ _. self.new.lines.items ≡ []) }
         ensures same { self.new ≡ record self.old {
           placing = self.new.placing;
           lines = self.new.lines;
           looseness = self.new.looseness;
         } }
     {
-        if !self.options.contains(Options::ENABLE_FOOTNOTES) {
-            return Ok(None);
-        }
-        let content = part_of(self.placing.text(), here.at, line.stop);
-        let Some((label, width)) = footnote_label(self.alloc, content)? else {
-            return Ok(None);
-        };
         self.make_room(depth)?;
-        self.placing.step_to(here.at);
+        self.placing.step_to(at);
         let listed = label.try_clone(self.alloc)?;
-        self.placing.open_note(label, listed)?;
-        Ok(Some(here.past(width)))
+        self.placing.open_note(label, listed)
     }
 }

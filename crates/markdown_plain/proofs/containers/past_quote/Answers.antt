@@ -3,8 +3,8 @@ use Rattle.std.proofs.Common.{◌≡◌, ℕ, ◌<◌, List, true, length, slice
 use Rattle.markdown_scan.specs.Beginnings.{begins_with}
 use Rattle.markdown_scan.specs.LineStart.{leading_space}
 use Rattle.markdown_lines.specs.Positions.{left_from}
-use Rattle.markdown_lines.proofs.PositionsLemmas.{in_part}
-use Rattle.markdown_plain.proofs.ContainersLemmas.{marker_after_is, past_byte_is}
+use Rattle.markdown_lines.proofs.PositionsLemmas.{in_part, past_byte_is}
+use Rattle.markdown_plain.proofs.ContainersLemmas.{marker_after_is}
 use Rattle.markdown_plain.proofs.containers.past_quote.Goals as goal
 
 pub returns-then-starts_with : goal.returns-then-starts_with
@@ -19,7 +19,7 @@ returns-then-starts_with c =
     ap (λ (bytes : List ℕ). begins_with (codes ">") bytes) (sym c.bytes_of.ensures)
     ∙ (sym c.starts_with.ensures.value ∙ c.if-starts_with.true) in
     let after =
-    past_byte_is text here c.past.result stop more (c.past.ensures.at (omega (arith, more, c.ranges.stop.fits)))
+    past_byte_is text here c.past.result stop (c.past.ensures.at (omega (arith, more, c.ranges.stop.fits)))
     c.past.ensures.column c.past.ensures.owed in
     marker_after_is text (leading_space 4 (left_from text c.args.position stop)) c.read_space-before.result.columns here
     c.past.result

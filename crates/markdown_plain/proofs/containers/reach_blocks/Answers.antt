@@ -2,8 +2,7 @@
 use Rattle.std.proofs.Common.{◌≡◌, ◌+◌, ◌∙◌, drop, refl, sym, ap, arith}
 use Rattle.markdown_lines.specs.Positions.{left_from}
 use Rattle.markdown_plain.specs.Containers.{Reach, reach_from, reach_of}
-use Rattle.markdown_plain.specs.OpenBlocks.{outer_of}
-use Rattle.markdown_plain.specs.Stretches.{starts, starts_after}
+use Rattle.markdown_plain.specs.Stretches.{starts_after}
 use Rattle.markdown_plain.proofs.ContainersLemmas.{none_left, next_is_leaf, next_ends, next_goes_on}
 use Rattle.markdown_plain.proofs.StretchesLemmas.{AtNextStretch, ahead_deep, past_stretch_at, starts_ahead}
 use Rattle.markdown_plain.proofs.StretchesLemmas.{starts_at_first, starts_past_any}
