@@ -19,6 +19,7 @@ use Rattle.markdown_lines.specs.BlockBeginnings as line
 use Rattle.markdown_lines.specs.BlockBeginnings.{Source, Beginning, begins}
 use Rattle.markdown_lines.specs.CodeFences.{closes_fence}
 use Rattle.markdown_lines.specs.DefinitionRules.{divided}
+use Rattle.markdown_scan.specs.Entity.{entity_names}
 use Rattle.markdown_lines.specs.HtmlKinds.{ends_at_blank, ends_in}
 use Rattle.markdown_scan.specs.LineStart.{LineLeft, leading_space, past_marker}
 use Rattle.markdown_lines.specs.SourceLines.{SourceLine, cut, is_blank_rest, lines_of_text, past_white, stop_of}
@@ -118,7 +119,8 @@ closes s l opening =
 abbrev pub paragraph_with : Source → SourceLine → List SourceLine → Beginning → Option Kind
 paragraph_with s l lines line.begins_text = Some (paragraph_leaf (lines ++ text_line l ∷ []))
 paragraph_with s l lines (line.begins_underline level) =
-    if length (divided s.text lines).lines == 0 then None else Some (underlined_leaf level lines)
+    if length (divided (entity_names s.options) s.text lines).lines == 0
+    then None else Some (underlined_leaf level lines)
 paragraph_with s l lines other = None
 
 -- a leaf with one more line, where it goes on in it

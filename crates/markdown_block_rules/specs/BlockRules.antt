@@ -13,6 +13,7 @@ use Rattle.markdown_lines.specs.DefinitionRules.{Definition, divided}
 use Rattle.markdown_block_rules.specs.LineContents.{Shown, content_items, lines_items, source_lines}
 use Rattle.markdown_items.specs.LineItems.{extensions_of}
 use Rattle.markdown_lines.specs.SourceLines.{SourceLine, is_blank_rest}
+use Rattle.markdown_scan.specs.Entity.{entity_names}
 use Rattle.markdown_scan.specs.Unescape.{unescaped}
 
 -- a line before others, unless it is blank and there are no others
@@ -109,16 +110,17 @@ paragraph_body tight = if tight then body.TightParagraph else body.Paragraph
 
 -- an info string, with escapes and entities replaced (4.5)
 abbrev pub info_of : Source → OpeningFence → List ℕ
-info_of s opening = unescaped false (slice_range s.text opening.from opening.to)
+info_of s opening =
+    unescaped (entity_names s.options) false (slice_range s.text opening.from opening.to)
 
 -- One block; `below` are the blocks in it, `inside` what they become where they are directly in an item of a tight list
 -- or not, `end` where it ends, and `tight` whether it is directly in such an item, or is one.
 abbrev pub shown_block : Source → Bool → Block → ℕ → Forest Block → (Bool → Forest Shown) → Kind → Forest Shown
 shown_block s tight b end below inside was.blank_line = nil
 shown_block s tight b end below inside (was.paragraph_leaf lines) =
-    shown_text s b (paragraph_body tight) (divided s.text lines).lines
+    shown_text s b (paragraph_body tight) (divided (entity_names s.options) s.text lines).lines
 shown_block s tight b end below inside (was.underlined_leaf level lines) =
-    shown_text s b (body.Heading level None) (divided s.text lines).lines
+    shown_text s b (body.Heading level None) (divided (entity_names s.options) s.text lines).lines
 shown_block s tight b end below inside (was.heading_leaf found) =
     shown_over b.start end (body.Heading found.level None) None
     (chain_of (content_items s.text (extensions_of s.options) found.from found.to))
@@ -157,7 +159,8 @@ paragraph_lines other = []
 unfoldable pub definitions_in : Source → Forest Block → List Definition
 definitions_in s nil = []
 definitions_in s (node b below after) =
-    (divided s.text (paragraph_lines b.kind)).definitions ++ (definitions_in s below ++ definitions_in s after)
+    (divided (entity_names s.options) s.text (paragraph_lines b.kind)).definitions
+    ++ (definitions_in s below ++ definitions_in s after)
 
 abbrev pub label_of : Kind → List (List ℕ)
 label_of (was.footnote_container label) = label ∷ []

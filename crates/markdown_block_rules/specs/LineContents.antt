@@ -1,17 +1,17 @@
 -- What the content of lines consists of: inline items, open or settled, and the breaks between lines.
 use Rattle.std.specs.Prelude.{ℕ, zero, suc, ◌+◌, ◌-◌, true, false, not, ◌==◌, nat_le, nat_lt, List, [], ◌∷◌}
-use Rattle.std.specs.Prelude.{◌++◌, Option, Some, None, length, slice_index, encode_utf8, replicate}
+use Rattle.std.specs.Prelude.{◌++◌, Option, Some, None, length, slice_index, replicate}
 use Rattle.std.specs.Prelude.{if◌then◌else◌}
 use Rattle.markdown_base.specs.Bytes.{backslash, space}
 use Rattle.markdown_items.specs.declared.extensions.Extensions.{Extensions}
 use Rattle.markdown_items.specs.declared.flanking.Flags.{Flags}
-use Rattle.markdown_items.specs.declared.found.Found.{Found}
-use Rattle.markdown_items.specs.declared.found.Found.TheVariants as found
 use Rattle.markdown_items.specs.declared.found.Line.{Line}
 use Rattle.markdown_base.specs.declared.item.Item.{Item}
 use Rattle.markdown_base.specs.declared.item.ItemBody.{ItemBody}
 use Rattle.markdown_base.specs.declared.item.ItemBody.TheVariants as body
 use Rattle.markdown_items.specs.Found.{found_at}
+use Rattle.markdown_items.specs.FoundView as found
+use Rattle.markdown_items.specs.FoundView.{FoundView}
 use Rattle.markdown_items.specs.LineItems.{is_escaped, is_special}
 use Rattle.markdown_lines.specs.declared.line_break.LineBreak.{LineBreak}
 use Rattle.markdown_lines.specs.LineBreaks.{break_after}
@@ -49,7 +49,7 @@ run_items stop flags (suc count) =
 
 -- What is found at a byte offset, after the text that began at `from`; `more` is what follows, from where its text
 -- begins and from where it is read on. A backslash that escapes is in no item.
-abbrev pub put_found : List ℕ → Line → (ℕ → ℕ → List Shown) → (from at : ℕ) → Found → List Shown
+abbrev pub put_found : List ℕ → Line → (ℕ → ℕ → List Shown) → (from at : ℕ) → FoundView → List Shown
 put_found text line more from at (found.Text next) = more from next
 put_found text line more from at found.Escape = text_between text line from at ++ more (at + 1) (at + 2)
 put_found text line more from at (found.Mark mark) =
@@ -61,10 +61,10 @@ put_found text line more from at (found.Backticks stop) =
 put_found text line more from at (found.EscapedBackticks stop) =
     text_between text line from at
     ++ plain_item (at + 1) stop (body.MaybeCode (stop - (at + 1)) true) ∷ more stop stop
-put_found text line more from at (found.Run stop flags) =
+put_found text line more from at (found.DelimiterRun stop flags) =
     text_between text line from at ++ run_items stop flags (stop - at) ++ more stop stop
-put_found text line more from at (found.Entity stop character) =
-    text_between text line from at ++ synthesized_item at stop (encode_utf8 character) ∷ more stop stop
+put_found text line more from at (found.Entity stop characters) =
+    text_between text line from at ++ synthesized_item at stop characters ∷ more stop stop
 
 -- the items of a line's content from byte offset `at` on, in at most `n` steps, where a text began at `from`
 unfoldable pub items_read_from : ℕ → List ℕ → Line → (from at : ℕ) → List Shown
