@@ -1,7 +1,7 @@
 //! Scans at each offset of a text where they may begin, and where nothing is found.
 use markdown_raw_html::html_tag::scan_html_tag;
 use markdown_raw_html::raw_html::RawHtmlScanner;
-use markdown_scan::entity::scan_entity;
+use markdown_scan::entity::{EntityNames, scan_entity};
 use markdown_scan::label::scan_link_label;
 use markdown_scan::line_rule::NoPrefix;
 use std::alloc::Global;
@@ -69,7 +69,7 @@ fn is_found(
             Ok(found) => found.is_some(),
             Err(_) => false,
         },
-        Beginning::Entity => scan_entity(rest.as_bytes()).is_some(),
+        Beginning::Entity => scan_entity(rest.as_bytes(), EntityNames::Basic).is_some(),
     }
 }
 

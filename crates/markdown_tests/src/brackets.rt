@@ -19,6 +19,7 @@ use markdown_brackets::wikilink::{Shown, scan_wikilink_body};
 use markdown_defs::{
     Allocations, BrokenLink, BrokenLinkCallback, Closure, DefaultBrokenLinkCallback,
 };
+use markdown_scan::entity::EntityNames;
 use markdown_scan::line_rule::NoPrefix;
 use markdown_test_helpers::lists::is_nothing;
 use markdown_test_helpers::parts::{defining, no_parts};
@@ -33,6 +34,7 @@ fn rules(alloc: Global, in_table: bool) -> BlockRules<'static, NoPrefix> {
         alloc,
         rule: &NoPrefix,
         in_table,
+        names: EntityNames::Basic,
         style: FootnoteStyle::Gfm,
     }
 }

@@ -233,6 +233,36 @@ fn brackets_and_entities(rt: HostRuntime) -> Result<(), Fail> {
     )
 }
 
+/// Texts, and their items with the options of the extended entry.
+static NAMES_OF_HTML: [(&str, &str); 5] = [
+    (
+        "&auml;&ngE;&NotEqualTilde;&fjlig;&AMP;",
+        "SynthesizeText(CowIndex(0)) 0..6;SynthesizeText(CowIndex(1)) 6..11;SynthesizeText(CowIndex(2)) 11..26;\
+        SynthesizeText(CowIndex(3)) 26..33;SynthesizeText(CowIndex(4)) 33..38;ä;≧\u{338};≂\u{338};fj;&;",
+    ),
+    ("&copy &bad; &Copy; &;", "Text 0..21;"),
+    ("\\&copy;", "Escaped 1..7;"),
+    (
+        "a&#65;",
+        "Text 0..1;SynthesizeText(CowIndex(0)) 1..6;A;",
+    ),
+    // the flags are those of the source
+    (
+        "*&nbsp;a*",
+        "MaybeEmphasis(1, true, false) 0..1;SynthesizeText(CowIndex(0)) 1..7;Text 7..8;\
+        MaybeEmphasis(1, false, true) 8..9;\u{a0};",
+    ),
+];
+
+#[test]
+fn names_of_html(rt: HostRuntime) -> Result<(), Fail> {
+    let options = Options::ENABLE_GFM.with_extended(true);
+    for &(text, want) in &NAMES_OF_HTML {
+        has_items(rt.alloc(), text, options, want)?;
+    }
+    Ok(())
+}
+
 #[test]
 fn options_add_items(rt: HostRuntime) -> Result<(), Fail> {
     for &(text, options, want) in &[
